@@ -1,0 +1,49 @@
+use Rattle.std.proofs.Common.{◌≡◌, ℕ, ◌%◌, ◌≤◌, false, Option, None, List, length, count_by, sym, ap, subst, ◌∙◌}
+use Rattle.std.proofs.lemmas.Bool.{false≢true}
+use Rattle.grid.specs.declared.cell.Cell.{Cell}
+use Rattle.grid.specs.declared.fault.LevelFault.{LevelFault}
+use Rattle.grid.specs.Board.{Board, box_cell, is_wall, start, start_player}
+use Rattle.grid.specs.Lawful.{cell_fault, player_count}
+use Rattle.grid.proofs.Levels.{counts_of, start_is_scene_with}
+use Rattle.grid.proofs.level.Level.from_cells.Goals as goal
+
+-- what the answer that no cell is at fault says of the board
+lawful_of : (board : Board) (cols : ℕ) (xs ys : List Cell) (r : Option LevelFault) → board ≡ record { cols = cols; cells = xs } → r ≡ cell_fault (record { cols = cols; cells = ys }) → ys ≡ xs → r ≡ None → cell_fault board ≡ None
+lawful_of board cols xs ys r is said same none =
+    ap cell_fault is ∙ (ap (λ (zs : List Cell). cell_fault (record { cols = cols; cells = zs })) (sym same) ∙ (sym said ∙ none))
+
+start_on_floor : (board : Board) → player_count board ≡ 1 → is_wall board (start_player board) ≡ false
+unfolding start
+start_on_floor board one = (start_is_scene_with board one).player.0
+
+player_of : (board : Board) (cols p : ℕ) (xs ys : List Cell) → board ≡ record { cols = cols; cells = xs } → ys ≡ xs → p ≡ start_player (record { cols = cols; cells = ys }) → p ≡ start_player board
+player_of board cols p xs ys is same said =
+    said ∙ (ap (λ (zs : List Cell). start_player (record { cols = cols; cells = zs })) same ∙ ap start_player (sym is))
+
+pub room_of-requires-clause-start : goal.room_of-requires-clause-start
+room_of-requires-clause-start c =
+    player_of c.in_ok-plan.plan c.args.cols _ c.args.cells.items _ c.in_ok-plan.ensures c.as_slice-3.ensures.value (c.player_of-player.ensures c.args.cols)
+
+pub room_of-requires-clause-floor : goal.room_of-requires-clause-floor
+room_of-requires-clause-floor c =
+    let plan = c.in_ok-plan.plan in
+    let lawful = lawful_of plan c.args.cols c.args.cells.items _ _ c.in_ok-plan.ensures c.cell_fault.ensures c.as_slice.ensures.value c.in_default.is in
+    let player = player_of plan c.args.cols _ c.args.cells.items _ c.in_ok-plan.ensures c.as_slice-3.ensures.value (c.player_of-player.ensures c.args.cols) in
+    subst (λ (q : ℕ). is_wall plan q ≡ false) (sym player) (start_on_floor plan (counts_of plan lawful).player)
+
+pub invariant_of-result : goal.invariant_of-result
+invariant_of-result c =
+    let plan = c.in_ok-plan.plan in
+    record {
+      level = record {
+        columns = subst (λ (b : Board). 1 ≤ b.cols) (sym c.in_ok-plan.ensures) c.requires.columns;
+        whole = subst (λ (b : Board). length b.cells % b.cols ≡ 0) (sym c.in_ok-plan.ensures) c.requires.whole;
+        lawful = record {
+          cells = lawful_of plan c.args.cols c.args.cells.items _ _ c.in_ok-plan.ensures c.cell_fault.ensures c.as_slice.ensures.value c.in_default.is;
+          closed = λ gap. false≢true (sym c.if-is_open.false ∙ c.is_open.ensures.1 gap);
+        };
+      };
+      boxes = c.boxes_of-boxes.ensures ∙ (ap (count_by box_cell) c.as_slice-2.ensures.value ∙ ap (λ (b : Board). count_by box_cell b.cells) (sym c.in_ok-plan.ensures));
+      player = player_of plan c.args.cols _ c.args.cells.items _ c.in_ok-plan.ensures c.as_slice-3.ensures.value (c.player_of-player.ensures c.args.cols);
+      room = c.in_ok-room.ensures.marked;
+    }

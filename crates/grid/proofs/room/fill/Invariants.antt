@@ -1,0 +1,9 @@
+use Rattle.grid.specs.Filling.{work}
+use Rattle.grid.proofs.Filling.{IsFilling}
+use Rattle.grid.proofs.room.fill.Given as goal
+
+abbrev pub invariant-loop-square : goal.invariant-loop-square
+invariant-loop-square l = IsFilling l.plan l.room l.pending.items
+
+abbrev pub decreases-loop-square : goal.decreases-loop-square
+decreases-loop-square l = work l.room l.pending.items

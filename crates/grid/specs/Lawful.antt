@@ -1,0 +1,66 @@
+-- When cells make a lawful level, and which fault is the first.
+use Rattle.std.specs.Prelude.{◌≡◌, ℕ, ◌/◌, ◌%◌, ◌≤◌, false, cond, ◌==◌, nat_lt, length, count_by, Option, None, Some, ◌⊎◌}
+use Rattle.std.specs.Option.{option_or}
+use Rattle.grid.specs.declared.fault.LevelFault.{LevelFault}
+use Rattle.grid.specs.declared.fault.LevelFault.TheVariants.{TooTall, TooWide, NoPlayer, TwoPlayers, NoBox, Counts, Open}
+use Rattle.grid.specs.declared.limits.TheConstants.{MAX_ROWS, MAX_COLS}
+use Rattle.grid.specs.declared.dir.Dir.{Dir}
+use Rattle.grid.specs.Board.{Board, Scene, IsScene, box_cell, goal_cell, player_cell, is_wall, next, start_player}
+
+abbrev pub row_count : Board → ℕ
+row_count board = length board.cells / board.cols
+
+abbrev pub box_count : Board → ℕ
+box_count board = count_by box_cell board.cells
+
+abbrev pub goal_count : Board → ℕ
+goal_count board = count_by goal_cell board.cells
+
+abbrev pub player_count : Board → ℕ
+player_count board = count_by player_cell board.cells
+
+-- what is wrong with the size of a board
+abbrev pub size_fault : ℕ → ℕ → Option LevelFault
+size_fault rows cols =
+    cond (nat_lt MAX_ROWS rows) (Some TooTall) (cond (nat_lt MAX_COLS cols) (Some TooWide) None)
+
+-- what is wrong with the number of players, boxes and goals
+abbrev pub count_fault : Board → Option LevelFault
+count_fault board =
+    cond (player_count board == 0) (Some NoPlayer)
+    (cond (nat_lt 1 (player_count board)) (Some TwoPlayers)
+    (cond (box_count board == 0) (Some NoBox)
+    (cond (box_count board == goal_count board) None (Some (Counts (box_count board) (goal_count board))))))
+
+-- the player's room: what four-way steps over squares that are no wall reach from the player, boxes ignored
+pub data InRoom (board : Board) : ℕ → Type 0 where
+  here : InRoom board (start_player board)
+  beside : {q : ℕ} (d : Dir) → InRoom board q → is_wall board (next board q d) ≡ false → InRoom board (next board q d)
+
+-- a square of the player's room lies at the grid's edge
+abbrev pub IsOpen : Board → Type 0
+IsOpen board = (q : ℕ) × (d : Dir) × InRoom board q × (next board q d ≡ length board.cells)
+
+-- the faults that looking at the cells alone finds, in the order of their numbers
+abbrev pub cell_fault : Board → Option LevelFault
+cell_fault board = option_or (size_fault (row_count board) board.cols) (count_fault board)
+
+-- f is the first fault of the board, in the order of their numbers
+abbrev pub HasFault : Board → LevelFault → Type 0
+HasFault board f = (cell_fault board ≡ Some f) ⊎ ((cell_fault board ≡ None) × IsOpen board × (f ≡ Open))
+
+-- the board is a lawful level: it has none of the faults
+pub record IsLawful (board : Board) : Type 0 where
+  pub cells : cell_fault board ≡ None
+  pub closed : ¬ (IsOpen board)
+
+-- what is true of every level: its cells fill rows of one length, and they are lawful
+pub record IsLevel (board : Board) : Type 0 where
+  pub columns : 1 ≤ board.cols
+  pub whole : length board.cells % board.cols ≡ 0
+  pub lawful : IsLawful board
+
+-- a position that may be played on the level: a state of it with as many boxes as the level
+pub record FitsLevel (board : Board) (s : Scene) : Type 0 where
+  pub scene : IsScene board s
+  pub boxes : length s.boxes ≡ box_count board

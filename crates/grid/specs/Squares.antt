@@ -1,0 +1,44 @@
+-- Sets of squares, and the marks that a program keeps of them.
+use Rattle.std.specs.Prelude.{ℕ, suc, Bool, true, cond, ◌==◌, ◌&&◌, nat_lt, nat_le, List, [], ◌∷◌}
+use Rattle.std.specs.List.{list_any}
+
+-- a set of squares is the rising list of their numbers, so that equal sets are equal lists
+abbrev pub Squares : Type 0
+Squares = List ℕ
+
+-- each number is at least k and less than those after it
+abbrev pub rises_from : ℕ → List ℕ → Bool
+rises_from k [] = true
+rises_from k (x ∷ xs) = nat_le k x && rises_from (suc x) xs
+
+-- each number is less than those after it
+abbrev pub is_rising : List ℕ → Bool
+is_rising xs = rises_from 0 xs
+
+-- the square is in the set
+abbrev pub contains : Squares → ℕ → Bool
+contains xs q = list_any (λ x. x == q) xs
+
+-- the set without the square
+abbrev pub remove : Squares → ℕ → Squares
+remove [] q = []
+remove (x ∷ xs) q = cond (x == q) (remove xs q) (x ∷ remove xs q)
+
+-- the set with the square
+abbrev pub insert : Squares → ℕ → Squares
+insert [] q = q ∷ []
+insert (x ∷ xs) q = cond (nat_lt q x) (q ∷ x ∷ xs) (cond (x == q) (x ∷ xs) (x ∷ insert xs q))
+
+-- the places, counted from k, at which a list passes a test
+abbrev pub places_from : {A : Type 0} → (A → Bool) → ℕ → List A → Squares
+places_from test k [] = []
+places_from test k (c ∷ cs) = cond (test c) (k ∷ places_from test (suc k) cs) (places_from test (suc k) cs)
+
+-- the squares that a list of flags marks
+unfoldable pub marked : List Bool → Squares
+marked flags = places_from (λ b. b) 0 flags
+
+-- the first number of a list, or 0
+abbrev pub first_or_0 : List ℕ → ℕ
+first_or_0 [] = 0
+first_or_0 (x ∷ xs) = x

@@ -1,0 +1,272 @@
+ghost use Rattle.std.specs.Prelude.{◌≡◌, ℕ, ◌+◌, ◌%◌, ◌<◌, ◌≤◌, ◌⊎◌, ◌↔◌, IsTrue, IfOk, IfErr, length, count_by};
+ghost use Rattle.grid.specs.Board.{Board, box_cell, goal_cell, player_cell, is_wall, is_goal, has_box, next, start, start_player};
+ghost use Rattle.grid.specs.Lawful.{row_count, box_count, cell_fault, count_fault, HasFault, InRoom, IsLevel, FitsLevel};
+
+use crate::cell::Cell;
+use crate::dir::Dir;
+use crate::fault::LevelFault;
+use crate::limits::{MAX_COLS, MAX_ROWS, MAX_SQUARES};
+use crate::plan::Plan;
+use crate::room::{is_open, room_of};
+use crate::square::Square;
+use std::alloc::{AllocError, Global};
+use std::marker::Model;
+
+/// A lawful level: one player, at least one box, as many boxes as goals, and no way from the player to the edge of
+/// the grid.
+#[derive(Drop)]
+pub struct Level {
+    plan: Plan,
+    room: Vec<bool>,
+    player: Square,
+    boxes: usize,
+}
+
+impl Model for Level {
+    ghost use Rattle.grid.specs.Board.{Board};
+
+    ghost Value = { Board };
+
+    ghost use Rattle.grid.specs.LevelView.{view_of, IsSound};
+
+    ghost view = { view_of };
+
+    ghost invariant = { IsSound };
+}
+
+impl Level {
+    /// The level of these cells, row by row, or its first fault.
+    pub fn from_cells(alloc: Global, cols: usize, cells: Vec<Cell>) -> Result<Level, LevelFault>
+        requires columns { 1 ≤ cols }
+        requires whole { length cells.items % cols ≡ 0 }
+        ensures ok { IfOk result (λ level. level ≡ record { cols = cols; cells = cells.items }) }
+        ensures lawful { IfOk result (λ level. IsLevel level) }
+        ensures err { IfErr result (λ f. (f ≡ LevelFault.OutOfMemory) ⊎ HasFault (record { cols = cols; cells = cells.items }) f) }
+    {
+        if let Some(fault) = cell_fault(cols, cells.as_slice()) {
+            return Err(fault);
+        }
+        let boxes = boxes_of(cells.as_slice());
+        let player = player_of(cells.as_slice());
+        let plan = Plan::new(alloc, cols, cells)?;
+        let room = room_of(alloc, &plan, player)?;
+        if is_open(&plan, room.as_slice()) {
+            return Err(LevelFault::Open);
+        }
+        Ok(Level {
+            plan,
+            room,
+            player,
+            boxes,
+        })
+    }
+
+    /// Tells what is true of every level.
+    pub fn tell(&self)
+        ensures { IsLevel self.now }
+    {
+        let _ = &self.plan;
+    }
+
+    /// Tells that the level begins in a state of it, with as many boxes as the level has.
+    pub fn tell_start(&self)
+        ensures { FitsLevel self.now (start self.now) }
+    {
+        self.tell();
+    }
+
+    /// The number of rows.
+    pub fn rows(&self) -> usize
+        ensures { result ≡ row_count self.now }
+    {
+        self.plan.rows()
+    }
+
+    /// The number of columns.
+    pub fn cols(&self) -> usize
+        ensures { result ≡ self.now.cols }
+    {
+        self.plan.cols()
+    }
+
+    /// The number of squares, which is the rows times the columns.
+    pub fn squares(&self) -> usize
+        ensures { result ≡ length self.now.cells }
+    {
+        self.plan.cells().len()
+    }
+
+    // The cells, row by row.
+    pub(crate) fn cells(&self) -> &[Cell]
+        ensures value { result.now ≡ self.now.cells }
+        ensures bound { length result.now ≤ MAX_SQUARES }
+    {
+        self.plan.cells()
+    }
+
+    /// Whether the square is a wall; everything outside the grid is.
+    pub fn is_wall(&self, square: Square) -> bool
+        ensures { result ≡ is_wall self.now square }
+    {
+        self.plan.is_wall(square)
+    }
+
+    /// Whether the square has a goal.
+    pub fn is_goal(&self, square: Square) -> bool
+        ensures { result ≡ is_goal self.now square }
+    {
+        self.plan.is_goal(square)
+    }
+
+    /// Whether a box stands on the square at the start.
+    pub fn has_box(&self, square: Square) -> bool
+        ensures { result ≡ has_box self.now square }
+    {
+        self.plan.has_box(square)
+    }
+
+    /// The number of boxes.
+    pub fn boxes(&self) -> usize
+        ensures { result ≡ box_count self.now }
+    {
+        self.boxes
+    }
+
+    /// The player's square at the start.
+    pub fn player(&self) -> Square
+        ensures { result ≡ start_player self.now }
+    {
+        self.player
+    }
+
+    /// The square next to a square in a direction; the number of squares, which is no square, where the grid ends
+    /// there.
+    pub fn next(&self, square: Square, dir: Dir) -> Square
+        requires { square < length self.now.cells }
+        ensures { result ≡ next self.now square dir }
+    {
+        let around = self.plan.around(square);
+        match dir {
+            Dir::D => around.d,
+            Dir::L => around.l,
+            Dir::R => around.r,
+            Dir::U => around.u,
+        }
+    }
+
+    /// Whether the square is of the player's room: what four-way steps over squares that are no wall reach from the
+    /// player, boxes ignored.
+    pub fn in_room(&self, square: Square) -> bool
+        ensures { IsTrue result ↔ InRoom self.now square }
+    {
+        self.room.get(square.0 as usize).map_or(false, |flag| *flag)
+    }
+
+    /// Whether the levels are of one size and have the same cells. So answers `==`, too.
+    pub fn is(&self, other: &Level) -> bool
+        ensures { IsTrue result ↔ (self.now ≡ other.now) }
+    {
+        self.cols() == other.cols() && self.cells() == other.cells()
+    }
+
+    /// An equal level.
+    pub fn copy(&self, alloc: Global) -> Result<Level, AllocError>
+        ensures { IfOk result (λ level. level ≡ self.now) }
+    {
+        Ok(Level {
+            plan: self.plan.copy(alloc)?,
+            room: Vec::from_slice(alloc, self.room.as_slice())?,
+            player: self.player,
+            boxes: self.boxes,
+        })
+    }
+}
+
+impl PartialEq for Level {
+    ghost use Rattle.std.proofs.Common.{rules};
+    ghost use Rattle.std.specs.Cmp.Rules.{comparing};
+    ghost use Rattle.grid.specs.Equality.{same_board};
+
+    ghost eq = { same_board };
+
+    ghost laws = { Prim.search (comparing, rules) };
+
+    fn eq(&self, other: &Level) -> bool {
+        self.is(other)
+    }
+}
+
+impl Eq for Level {
+    ghost use Rattle.std.proofs.Common.{rules};
+    ghost use Rattle.std.specs.Cmp.Rules.{comparing};
+
+    ghost laws = { Prim.search (comparing, rules) };
+}
+
+// The first fault that looking at the cells alone finds.
+fn cell_fault(cols: usize, cells: &[Cell]) -> Option<LevelFault>
+    requires { 1 ≤ cols }
+    ensures { result ≡ cell_fault (record { cols = cols; cells = cells.now }) }
+{
+    if cells.len() / cols > MAX_ROWS {
+        return Some(LevelFault::TooTall);
+    }
+    if cols > MAX_COLS {
+        return Some(LevelFault::TooWide);
+    }
+    count_fault(cells)
+}
+
+// What is wrong with the numbers of players, boxes and goals.
+fn count_fault(cells: &[Cell]) -> Option<LevelFault>
+    ensures { (cols : ℕ) → result ≡ count_fault (record { cols = cols; cells = cells.now }) }
+{
+    let players = players_of(cells);
+    if players == 0 {
+        return Some(LevelFault::NoPlayer);
+    }
+    if players > 1 {
+        return Some(LevelFault::TwoPlayers);
+    }
+    let boxes = boxes_of(cells);
+    let goals = goals_of(cells);
+    if boxes == 0 {
+        return Some(LevelFault::NoBox);
+    }
+    if boxes != goals {
+        return Some(LevelFault::Counts { boxes, goals });
+    }
+    None
+}
+
+fn players_of(cells: &[Cell]) -> usize
+    ensures { result ≡ count_by player_cell cells.now }
+{
+    cells.iter().filter(|cell| cell.has_player()).count()
+}
+
+fn boxes_of(cells: &[Cell]) -> usize
+    ensures { result ≡ count_by box_cell cells.now }
+{
+    cells.iter().filter(|cell| cell.has_box()).count()
+}
+
+fn goals_of(cells: &[Cell]) -> usize
+    ensures { result ≡ count_by goal_cell cells.now }
+{
+    cells.iter().filter(|cell| cell.has_goal()).count()
+}
+
+// The square of the one player.
+fn player_of(cells: &[Cell]) -> Square
+    requires one { count_by player_cell cells.now ≡ 1 }
+    requires bound { length cells.now ≤ MAX_SQUARES }
+    ensures { (cols : ℕ) → result ≡ start_player (record { cols = cols; cells = cells.now }) }
+{
+    for (i, cell) in cells.iter().enumerate() {
+        if cell.has_player() {
+            return Square(i as u16);
+        }
+    }
+    Square(0)
+}

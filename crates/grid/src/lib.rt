@@ -1,0 +1,26 @@
+//! Squares, lawful levels, states, steps and positions of Sokoban.
+#![tactic(auto)]
+
+mod around;
+mod cell;
+mod dir;
+mod fault;
+pub mod laws;
+mod level;
+mod limits;
+mod moves;
+mod plan;
+mod position;
+mod room;
+mod square;
+mod state;
+
+pub use cell::Cell;
+pub use dir::Dir;
+pub use fault::LevelFault;
+pub use level::Level;
+pub use limits::{MAX_BOXES, MAX_COLS, MAX_ROWS, MAX_SQUARES};
+pub use moves::{Letter, Moves};
+pub use position::Position;
+pub use square::{Push, Square};
+pub use state::{State, Step};

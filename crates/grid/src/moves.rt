@@ -1,0 +1,75 @@
+ghost use Rattle.std.specs.Prelude.{◌≡◌, [], ◌∷◌, ◌++◌, OnOk, OnErr, length, take, IsTrue, ◌↔◌};
+
+use crate::dir::Dir;
+use std::alloc::{AllocError, Global};
+use std::marker::Model;
+
+/// A letter of a solution: the direction of a step, and whether it pushes a box.
+#[derive(Clone, Copy, PartialEq, Eq, Debug)]
+pub struct Letter {
+    pub dir: Dir,
+    pub push: bool,
+}
+
+/// A list of letters.
+#[derive(Drop)]
+pub struct Moves {
+    letters: Vec<Letter>,
+}
+
+impl Model for Moves {
+    ghost use Rattle.std.specs.Prelude.{List};
+    ghost use Rattle.grid.specs.declared.moves.Letter.{Letter};
+
+    ghost Value = { List Letter };
+
+    ghost view = { λ a. a.letters.items };
+}
+
+impl Moves {
+    /// No letters.
+    pub fn new(alloc: Global) -> Self
+        ensures { result ≡ [] }
+    {
+        Moves {
+            letters: Vec::new(alloc),
+        }
+    }
+
+    /// Appends a letter; where memory is refused the list stays as it was.
+    pub fn push(&mut self, letter: Letter) -> Result<(), AllocError>
+        ensures ok { OnOk result (self.new ≡ self.old ++ letter ∷ []) }
+        ensures err { OnErr result (self.new ≡ self.old) }
+    {
+        self.letters.push(letter)?;
+        Ok(())
+    }
+
+    /// Cuts the list off after `len` letters; a shorter list stays as it is.
+    pub fn truncate(&mut self, len: usize)
+        ensures { self.new ≡ take len self.old }
+    {
+        self.letters.truncate(len);
+    }
+
+    /// The number of letters.
+    pub fn len(&self) -> usize
+        ensures { result ≡ length self.now }
+    {
+        self.letters.len()
+    }
+
+    /// Whether there is no letter.
+    pub fn is_empty(&self) -> bool
+        ensures { IsTrue result ↔ (self.now ≡ []) }
+    {
+        self.letters.is_empty()
+    }
+
+    /// The letters, in order.
+    pub fn as_slice(&self) -> &[Letter]
+        ensures { result.now ≡ self.now }
+    {
+        self.letters.as_slice()
+    }
+}

@@ -1,0 +1,246 @@
+ghost use Rattle.std.specs.Prelude.{⊤, ◌≡◌, ℕ, ◌+◌, ◌-◌, ◌<◌, ◌≤◌, ◌↔◌, IsTrue, true, false, IfSome, IsSome, length, slice_index, nat_lt};
+ghost use Rattle.std.specs.List.{prefix_len, list_any, remove as remove_at};
+ghost use Rattle.grid.specs.Board.{Board, Scene, is_wall, start, start_boxes};
+ghost use Rattle.grid.specs.Lawful.{box_count, FitsLevel};
+ghost use Rattle.grid.specs.Squares.{is_rising, contains, insert, remove};
+
+use crate::level::Level;
+use crate::limits::MAX_BOXES;
+use crate::square::Square;
+use arrayvec::ArrayVec;
+use std::alloc::AllocError;
+use std::marker::Model;
+
+/// Where the boxes stand, in rising order, and the player's square. Compared by the boxes first.
+#[derive(PartialEq, Eq, PartialOrd, Ord, Hash, Debug, Drop)]
+pub struct Position {
+    boxes: ArrayVec<Square, MAX_BOXES>,
+    player: Square,
+}
+
+impl Model for Position {
+    ghost use Rattle.std.specs.Prelude.{◌≡◌, true, length};
+    ghost use Rattle.grid.specs.Board.{Scene};
+    ghost use Rattle.grid.specs.Squares.{is_rising};
+
+    ghost Value = { Scene };
+
+    ghost view = { λ a. record { boxes = a.boxes.items; player = a.player } };
+
+    ghost inverse = { λ s. record { boxes = record { items = s.boxes }; player = s.player } };
+
+    ghost invariant = { λ a. is_rising a.boxes.items ≡ true };
+}
+
+impl Position {
+    /// The position in which the level begins; `None` exactly where it has more boxes than [`MAX_BOXES`].
+    pub fn start(level: &Level) -> Option<Position>
+        ensures start { IfSome result (λ p. p ≡ start level.now) }
+        ensures some { IsSome result ↔ (box_count level.now ≤ MAX_BOXES) }
+    {
+        if level.boxes() > MAX_BOXES {
+            return None;
+        }
+        Some(Position {
+            boxes: first_boxes(level),
+            player: level.player(),
+        })
+    }
+
+    /// The position with these boxes and this player; `None` exactly where the boxes don't rise or are more than
+    /// [`MAX_BOXES`].
+    pub fn of(boxes: &[Square], player: Square) -> Option<Position>
+        ensures value { IfSome result (λ p. p ≡ record { boxes = boxes.now; player = player }) }
+        ensures some { IsSome result ↔ ((is_rising boxes.now ≡ true) × (length boxes.now ≤ MAX_BOXES)) }
+    {
+        if !rises(boxes) {
+            return None;
+        }
+        let mut kept = ArrayVec::new();
+        if kept.try_extend_from_slice(boxes).is_err() {
+            return None;
+        }
+        Some(Position {
+            boxes: kept,
+            player,
+        })
+    }
+
+    /// An equal position.
+    pub fn copy(&self) -> Position
+        ensures { result ≡ self.now }
+    {
+        let mut boxes = ArrayVec::new();
+        let _ = boxes.try_extend_from_slice(self.boxes.as_slice());
+        Position {
+            boxes,
+            player: self.player,
+        }
+    }
+
+    /// Whether the position may be played on the level: as many boxes as the level has, no box and not the player
+    /// on a wall or outside the grid, and the player on no box.
+    pub fn fits(&self, level: &Level) -> bool
+        ensures { IsTrue result ↔ FitsLevel level.now self.now }
+    {
+        if self.boxes.len() != level.boxes() || level.is_wall(self.player) {
+            return false;
+        }
+        if meets_wall(self.boxes.as_slice(), level) {
+            return false;
+        }
+        !self.contains(self.player)
+    }
+
+    /// The boxes' squares, in rising order.
+    pub fn boxes(&self) -> &[Square]
+        ensures squares { result.now ≡ self.now.boxes }
+        ensures rising { is_rising result.now ≡ true }
+        ensures bound { length result.now ≤ MAX_BOXES }
+    {
+        self.boxes.as_slice()
+    }
+
+    /// Whether a box stands on the square.
+    pub fn contains(&self, square: Square) -> bool
+        ensures { result ≡ contains self.now.boxes square }
+    {
+        self.boxes.iter().any(|other| *other == square)
+    }
+
+    /// The player's square.
+    pub fn player(&self) -> Square
+        ensures { result ≡ self.now.player }
+    {
+        self.player
+    }
+
+    /// Sets the player's square.
+    pub fn set_player(&mut self, player: Square)
+        ensures { self.new ≡ record { boxes = self.old.boxes; player = player } }
+    {
+        self.player = player;
+    }
+
+    /// Moves the box on `from` to `to`, and the player to where the box was.
+    pub fn push(&mut self, from: Square, to: Square)
+        requires box_there { contains self.old.boxes from ≡ true }
+        requires free { contains self.old.boxes to ≡ false }
+        ensures { self.new ≡ record { boxes = insert (remove self.old.boxes from) to; player = from } }
+    {
+        let left = place_of(self.boxes.as_slice(), from);
+        settle(self.boxes.as_mut_slice(), left, to);
+        self.player = from;
+    }
+}
+
+impl Clone for Position {
+    ghost is_clone = { λ position copied. copied ≡ position };
+
+    ghost is_infallible = { λ _. ⊤ };
+
+    fn clone(&self) -> Result<Position, AllocError> {
+        Ok(self.copy())
+    }
+}
+
+impl Default for Position {
+    /// No boxes, and the player on square 0.
+    fn default() -> Self {
+        Position {
+            boxes: ArrayVec::new(),
+            player: Square(0),
+        }
+    }
+}
+
+// The squares of the level's first boxes.
+fn first_boxes(level: &Level) -> ArrayVec<Square, MAX_BOXES>
+    requires { box_count level.now ≤ MAX_BOXES }
+    ensures { result.items ≡ start_boxes level.now }
+{
+    let mut boxes = ArrayVec::new();
+    let cells = level.cells();
+    for (i, cell) in cells.iter().enumerate() {
+        if cell.has_box() {
+            boxes.push(Square(i as u16));
+        }
+    }
+    boxes
+}
+
+// Whether some square is a wall.
+fn meets_wall(squares: &[Square], level: &Level) -> bool
+    ensures { result ≡ list_any (is_wall level.now) squares.now }
+{
+    squares.iter().any(|square| level.is_wall(*square))
+}
+
+// Whether each square is less than the next.
+fn rises(squares: &[Square]) -> bool
+    ensures { result ≡ is_rising squares.now }
+{
+    let mut least = 0;
+    for square in squares {
+        let number = u32::from(square.0);
+        if number < least {
+            return false;
+        }
+        least = number + 1;
+    }
+    true
+}
+
+// How many of the squares are less than this one.
+fn place_of(squares: &[Square], square: Square) -> usize
+    ensures { result ≡ prefix_len (λ x. nat_lt x square) squares.now }
+{
+    for (place, other) in squares.iter().enumerate() {
+        if *other >= square {
+            return place;
+        }
+    }
+    squares.len()
+}
+
+// Takes out the square at a place, and puts another in where the list rises.
+fn settle(squares: &mut [Square], place: usize, square: Square)
+    requires inside { place < length squares.old }
+    requires rising { is_rising (remove_at squares.old place) ≡ true }
+    requires free { contains (remove_at squares.old place) square ≡ false }
+    ensures { squares.new ≡ insert (remove_at squares.old place) square }
+{
+    let hole = lesser_down(squares, place, square);
+    let hole = greater_up(squares, hole, square);
+    squares[hole] = square;
+}
+
+// Moves the lesser squares after a hole one place down, and tells where the hole is then.
+fn lesser_down(squares: &mut [Square], mut hole: usize, square: Square) -> usize
+    requires { hole < length squares.old }
+    ensures inside { result < length squares.new }
+    ensures others { remove_at squares.new result ≡ remove_at squares.old hole }
+    ensures after { result + 1 < length squares.new → square ≤ slice_index squares.new (result + 1) }
+{
+    while hole + 1 < squares.len() && squares[hole + 1] < square {
+        squares[hole] = squares[hole + 1];
+        hole += 1;
+    }
+    hole
+}
+
+// Moves the greater squares before a hole one place up, and tells where the hole is then.
+fn greater_up(squares: &mut [Square], mut hole: usize, square: Square) -> usize
+    requires inside { hole < length squares.old }
+    requires after { hole + 1 < length squares.old → square ≤ slice_index squares.old (hole + 1) }
+    ensures inside { result < length squares.new }
+    ensures others { remove_at squares.new result ≡ remove_at squares.old hole }
+    ensures before { 0 < result → slice_index squares.new (result - 1) ≤ square }
+    ensures after { result + 1 < length squares.new → square ≤ slice_index squares.new (result + 1) }
+{
+    while hole > 0 && squares[hole - 1] > square {
+        squares[hole] = squares[hole - 1];
+        hole -= 1;
+    }
+    hole
+}

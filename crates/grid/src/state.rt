@@ -1,0 +1,131 @@
+ghost use Rattle.std.specs.Prelude.{◌≡◌, ℕ, ◌↔◌, IsTrue, IfOk, map};
+ghost use Rattle.grid.specs.Board.{Board, Scene, IsFree, IsScene, IsSolved, Steps, start, box_cell};
+ghost use Rattle.grid.specs.Squares.{contains};
+
+use crate::cell::Cell;
+use crate::dir::Dir;
+use crate::level::Level;
+use crate::limits::MAX_SQUARES;
+use crate::square::Square;
+use std::alloc::{AllocError, Global};
+use std::marker::Model;
+
+/// What a step did.
+#[derive(Clone, Copy, PartialEq, Eq, Debug)]
+pub enum Step {
+    /// No step is possible in that direction; nothing changed.
+    Blocked,
+    /// The player went one square on.
+    Walked,
+    /// The player went one square on and pushed a box.
+    Pushed,
+}
+
+/// A state of a level, with any number of boxes: where they stand, and the player's square.
+#[derive(Drop)]
+pub struct State {
+    flags: Vec<bool>,
+    player: Square,
+}
+
+impl Model for State {
+    ghost use Rattle.std.specs.Prelude.{◌≡◌, length};
+    ghost use Rattle.grid.specs.Board.{Scene};
+    ghost use Rattle.grid.specs.Squares.{marked};
+    ghost use Rattle.grid.specs.declared.limits.TheConstants.{MAX_SQUARES};
+
+    ghost Value = { Scene };
+
+    ghost view = { λ a. record { boxes = marked a.flags.items; player = a.player } };
+
+    ghost invariant = { λ a. length a.flags.items ≡ MAX_SQUARES };
+}
+
+impl State {
+    /// The state in which the level begins.
+    pub fn start(alloc: Global, level: &Level) -> Result<State, AllocError>
+        ensures start { IfOk result (λ s. s ≡ start level.now) }
+        ensures scene { IfOk result (λ s. IsScene level.now s) }
+    {
+        level.tell();
+        let mut flags = box_flags(alloc, level.cells())?;
+        flags.resize(MAX_SQUARES, false)?;
+        Ok(State {
+            flags,
+            player: level.player(),
+        })
+    }
+
+    /// Goes one step in a direction, where the rules allow it.
+    pub fn step(&mut self, level: &Level, dir: Dir) -> Step
+        requires { IsScene level.now self.old }
+        ensures steps { Steps level.now self.old dir result self.new }
+        ensures scene { IsScene level.now self.new }
+    {
+        level.tell();
+        let ahead = level.next(self.player, dir);
+        if level.is_wall(ahead) {
+            return Step::Blocked;
+        }
+        if !self.has_box(ahead) {
+            self.player = ahead;
+            return Step::Walked;
+        }
+        let beyond = level.next(ahead, dir);
+        if level.is_wall(beyond) || self.has_box(beyond) {
+            return Step::Blocked;
+        }
+        self.flags[ahead.0 as usize] = false;
+        self.flags[beyond.0 as usize] = true;
+        self.player = ahead;
+        Step::Pushed
+    }
+
+    /// Whether every box stands on a goal.
+    pub fn is_solved(&self, level: &Level) -> bool
+        requires { IsScene level.now self.now }
+        ensures { IsTrue result ↔ IsSolved level.now self.now }
+    {
+        let flags = self.flags.as_slice();
+        let cells = level.cells();
+        for (i, cell) in cells.iter().enumerate() {
+            if flags[i] && !cell.has_goal() {
+                return false;
+            }
+        }
+        true
+    }
+
+    /// Whether a box stands on the square.
+    pub fn has_box(&self, square: Square) -> bool
+        ensures { result ≡ contains self.now.boxes square }
+    {
+        self.flags
+            .get(square.0 as usize)
+            .map_or(false, |flag| *flag)
+    }
+
+    /// Sets the player down on a square that has neither wall nor box.
+    pub fn set_player(&mut self, level: &Level, square: Square)
+        requires scene { IsScene level.now self.old }
+        requires free { IsFree level.now self.old.boxes square }
+        ensures state { self.new ≡ record { boxes = self.old.boxes; player = square } }
+        ensures scene { IsScene level.now self.new }
+    {
+        self.player = square;
+    }
+
+    /// The player's square.
+    pub fn player(&self) -> Square
+        ensures { result ≡ self.now.player }
+    {
+        self.player
+    }
+}
+
+// A flag for each cell: whether it has a box.
+fn box_flags(alloc: Global, cells: &[Cell]) -> Result<Vec<bool>, AllocError>
+    ensures { IfOk result (λ flags. flags.items ≡ map box_cell cells.now) }
+{
+    cells.iter().map(|cell| cell.has_box()).collect(alloc)
+}
