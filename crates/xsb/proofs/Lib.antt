@@ -1,0 +1,15 @@
+pub mod ItemLaws
+pub mod EndLaws
+pub mod RowLaws
+pub mod LineLaws
+pub mod LinesLaws
+pub mod NameLaws
+pub mod StretchLaws
+pub mod CellLaws
+pub mod WallLaws
+pub mod JudgeLaws
+pub mod ReadLaws
+pub mod DecideLaws
+pub mod CollectionLaws
+pub mod WriteLaws
+pub mod AgainLaws

@@ -1,0 +1,8 @@
+use Rattle.xsb.proofs.AgainLaws.{written-again}
+use Rattle.xsb.proofs.writer.write.Goals as goal
+
+pub returns-in-Ok-clause-again : goal.returns-in-Ok-clause-again
+returns-in-Ok-clause-again c = written-again c.args.level.now c.tell.ensures
+
+pub returns-in-Err-clause-again : goal.returns-in-Err-clause-again
+returns-in-Err-clause-again c = written-again c.args.level.now c.tell.ensures

@@ -1,0 +1,58 @@
+-- The boards of a collection: a relation between bytes and what stands in them.
+use Rattle.std.specs.Prelude.{◌≡◌, ℕ, suc, ◌+◌, ◌<◌, ⊤, List, [], ◌∷◌, ◌++◌, length, flat_map}
+use Rattle.std.specs.List.{AllZip, AllByRecursion}
+use Rattle.grid.specs.declared.cell.Cell.{Cell}
+use Rattle.grid.specs.Board.{Board}
+use Rattle.xsb.specs.Lines.{lines_of_text}
+use Rattle.xsb.specs.Rows.{IsRowLine, IsTextLine}
+use Rattle.xsb.specs.Boards.{board_of}
+use Rattle.xsb.specs.Names.{name_of}
+
+-- what stands in a collection: a board with its name and the number of its first line, counted from 1
+pub record Found : Type 0 where
+  pub name : List ℕ
+  pub first_line : ℕ
+  pub board : Board
+
+-- the lines of a board, and the lines of the gap after it
+pub record Part : Type 0 where
+  pub board : List (List ℕ)
+  pub gap : List (List ℕ)
+
+-- a board is made of row lines, at least one, and a gap of text lines
+pub record IsPart (part : Part) : Type 0 where
+  pub some : 0 < length part.board
+  pub board : AllByRecursion (λ line. (rows : List (List Cell)) × IsRowLine line rows) part.board
+  pub gap : AllByRecursion IsTextLine part.gap
+
+-- between two boards stands a text line, so that each board is a longest run of row lines
+abbrev pub AreApart : List Part → Type 0
+AreApart [] = ⊤
+AreApart (part ∷ []) = ⊤
+AreApart (part ∷ next ∷ parts) = (0 < length part.gap) × AreApart (next ∷ parts)
+
+-- the lines are a gap, and then boards, each with the gap after it
+pub record AreParts (lines gap : List (List ℕ)) (parts : List Part) : Type 0 where
+  pub whole : lines ≡ gap ++ flat_map (λ part. part.board ++ part.gap) parts
+  pub texts : AllByRecursion IsTextLine gap
+  pub boards : AllByRecursion IsPart parts
+  pub apart : AreApart parts
+
+-- what stands in a part whose first line has a number, after a gap: the rows of the board are those of its lines, in order
+pub record IsFound (line : ℕ) (before : List (List ℕ)) (part : Part) (found : Found) : Type 0 where
+  pub name : found.name ≡ name_of before part.gap
+  pub first_line : found.first_line ≡ line
+  pub board : (rows : List (List (List Cell))) × AllZip IsRowLine part.board rows × (found.board ≡ board_of (flat_map (λ r. r) rows))
+
+-- what stands in the parts, in order, the first of which begins at a line and after a gap
+abbrev pub AreFound : ℕ → List (List ℕ) → List Part → List Found → Type 0
+AreFound line before [] [] = ⊤
+AreFound line before [] (found ∷ founds) = ⊥
+AreFound line before (part ∷ parts) [] = ⊥
+AreFound line before (part ∷ parts) (found ∷ founds) =
+    IsFound line before part found × AreFound (line + length (part.board ++ part.gap)) part.gap parts founds
+
+-- the bytes are a collection of these boards: its lines are cut into gaps and boards, and these are what is found
+unfoldable pub IsCollection : List ℕ → List Found → Type 0
+IsCollection bytes founds =
+    (gap : List (List ℕ)) × (parts : List Part) × AreParts (lines_of_text bytes) gap parts × AreFound (suc (length gap)) gap parts founds

@@ -1,0 +1,10 @@
+pub mod Lines
+pub mod Rows
+pub mod Boards
+pub mod Names
+pub mod Collection
+pub mod Entries
+pub mod Written
+pub mod Reading
+pub mod Gaps
+pub mod Stretches

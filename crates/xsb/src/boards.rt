@@ -1,0 +1,98 @@
+//! Boards: longest runs of row lines, and the levels that they make.
+ghost use Rattle.std.specs.Prelude.{◌≡◌, ◌≢◌, ◌≤◌, List, flat_map, MatchOption, MatchBool, IfOk};
+ghost use Rattle.grid.specs.declared.cell.Cell.{Cell};
+ghost use Rattle.xsb.specs.Boards.{board_of, cols_of, padded};
+ghost use Rattle.xsb.specs.Entries.{IsJudged};
+ghost use Rattle.xsb.specs.Stretches.{HasRows, ReadsBoard, ReadsNoBoard};
+
+use crate::lines::{Lines, cut_line};
+use crate::sizes::{Size, line_size, push_line};
+use bstr::LinesWithTerminator;
+use grid::{Cell, Level, LevelFault, MAX_COLS, MAX_ROWS};
+use std::alloc::{AllocError, Global};
+
+/// The lines of a board, which are still to be made into cells.
+#[derive(Drop)]
+pub(crate) struct Stretch<'a> {
+    /// The number of the first line.
+    pub(crate) first_line: u32,
+    /// The lines of the board, and those after it.
+    pub(crate) lines: LinesWithTerminator<'a>,
+    /// The number of lines.
+    pub(crate) count: u32,
+    /// The size of the rows.
+    pub(crate) size: Size,
+}
+
+/// Reads the row lines that come next, up to a text line or the end. `None` where none comes next.
+pub(crate) fn read_board<'a>(lines: &mut Lines<'a>) -> Option<Stretch<'a>>
+    ensures { MatchOption result (ReadsNoBoard lines.old lines.new) (λ board. ReadsBoard lines.old lines.new board) }
+{
+    let first_line = lines.number;
+    let first = lines.rest.clone().unwrap();
+    let mut size = Size { rows: 0, cols: 0 };
+    'rows: while let Some(line) = lines.peek() {
+        let Some(more) = line_size(line) else {
+            break;
+        };
+        size = size.with(more);
+        lines.skip();
+    }
+    let count = lines.number - first_line;
+    if count == 0 {
+        return None;
+    }
+    Some(Stretch {
+        first_line,
+        lines: first,
+        count,
+        size,
+    })
+}
+
+impl Stretch<'_> {
+    /// The cells of the board by rows, all rows as long as the longest.
+    fn cells(&self, alloc: Global) -> Result<Vec<Cell>, AllocError>
+        ensures { (rows : List (List Cell)) → HasRows self.now rows → cols_of rows ≤ self.now.size.cols → IfOk result (λ cells. cells.items ≡ flat_map (padded self.now.size.cols) rows) }
+    {
+        let mut cells = Vec::new(alloc);
+        let mut lines = self.lines.clone().unwrap();
+        'lines: for _ in 0..self.count {
+            let Some(raw) = lines.next() else {
+                break;
+            };
+            push_line(cut_line(raw), self.size.cols, &mut cells)?;
+        }
+        Ok(cells)
+    }
+
+    /// The level that the board makes, or its first fault. No cells are made of a board that is too tall or too wide.
+    pub(crate) fn level(&self, alloc: Global) -> Result<Result<Level, LevelFault>, AllocError>
+        requires { (rows : List (List Cell)) × HasRows self.now rows }
+        ensures { (rows : List (List Cell)) → HasRows self.now rows → IfOk result (IsJudged (board_of rows)) }
+    {
+        if self.size.rows > MAX_ROWS {
+            return Ok(Err(LevelFault::TooTall));
+        }
+        if self.size.cols > MAX_COLS {
+            return Ok(Err(LevelFault::TooWide));
+        }
+        let cells = self.cells(alloc)?;
+        match Level::from_cells(alloc, self.size.cols, cells) {
+            Ok(level) => Ok(Ok(level)),
+            Err(fault) => {
+                if is_want_of_memory(fault) {
+                    return Err(AllocError);
+                }
+                Ok(Err(fault))
+            }
+        }
+    }
+}
+
+/// Whether a level was not made for want of memory alone.
+fn is_want_of_memory(fault: LevelFault) -> bool
+    ensures { MatchBool result (fault ≡ LevelFault.OutOfMemory) (fault ≢ LevelFault.OutOfMemory) }
+{
+    matches!(fault, LevelFault::OutOfMemory)
+}

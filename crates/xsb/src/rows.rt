@@ -1,0 +1,55 @@
+//! Rows: items one after the other.
+ghost use Rattle.std.specs.Prelude.{◌≡◌, ◌≤◌, ◌++◌, length, List, MatchOption, OnOk, replicate};
+ghost use Rattle.grid.specs.declared.cell.Cell.{Cell};
+ghost use Rattle.xsb.specs.Rows.{IsRow};
+ghost use Rattle.xsb.specs.Boards.{cut_row, padded};
+ghost use Rattle.xsb.specs.Reading.{capped};
+
+use crate::cells::is_floor;
+use crate::items::first_item;
+use grid::Cell;
+use std::alloc::AllocError;
+
+/// The length of the row that a piece is, without the floor at its end. `None` where it is no row.
+pub(crate) fn row_length(piece: &[u8]) -> Option<usize>
+    ensures { MatchOption result ((row : List Cell) → ¬ (IsRow piece.now row)) (λ n. (row : List Cell) × IsRow piece.now row × (n ≡ capped (length (cut_row row)))) }
+{
+    let mut rest = piece;
+    let mut length: usize = 0;
+    let mut kept = 0;
+    while !rest.is_empty() {
+        let (run, after) = first_item(rest)?;
+        length = length.saturating_add(run.count);
+        if !is_floor(run.cell) {
+            kept = length;
+        }
+        rest = after;
+    }
+    Some(kept)
+}
+
+/// Appends the cells of a row, with floor on the right up to a number of columns that is no less than its length
+/// without the floor at its end.
+pub(crate) fn push_row(piece: &[u8], cols: usize, cells: &mut Vec<Cell>) -> Result<(), AllocError>
+    ensures { (row : List Cell) → IsRow piece.now row → length (cut_row row) ≤ cols → OnOk result (cells.new.items ≡ cells.old.items ++ padded cols row) }
+{
+    let mut rest = piece;
+    let mut room = cols;
+    while let Some((run, after)) = first_item(rest) {
+        let count = run.count.min(room);
+        push_cells(run.cell, count, cells)?;
+        room -= count;
+        rest = after;
+    }
+    push_cells(Cell::Floor, room, cells)
+}
+
+/// Appends a cell a number of times.
+fn push_cells(cell: Cell, count: usize, cells: &mut Vec<Cell>) -> Result<(), AllocError>
+    ensures { OnOk result (cells.new.items ≡ cells.old.items ++ replicate count cell) }
+{
+    for made in 0..count {
+        cells.push(cell)?;
+    }
+    Ok(())
+}

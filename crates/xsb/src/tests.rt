@@ -1,0 +1,163 @@
+use crate::{Entry, read, write};
+use grid::LevelFault;
+use std::alloc::Global;
+use std::test::Fail;
+
+// The rows, columns and boxes of a level, or its fault.
+type Shape = Result<(usize, usize, usize), LevelFault>;
+
+fn shape(entry: &Entry) -> Shape {
+    match &entry.board {
+        Ok(level) => Ok((level.rows(), level.cols(), level.boxes())),
+        Err(fault) => Err(*fault),
+    }
+}
+
+// The entry of a collection of one board.
+fn only(alloc: Global, text: &[u8]) -> Result<Entry, Fail> {
+    let mut entries = read(alloc, text)?;
+    let entry = entries.pop().ok_or("no board")?;
+    if !entries.is_empty() {
+        return Err(Fail::from("more than one board"));
+    }
+    Ok(entry)
+}
+
+fn only_shape(alloc: Global, text: &[u8]) -> Result<Shape, Fail> {
+    Ok(shape(&only(alloc, text)?))
+}
+
+// A line a number of times.
+fn repeated(alloc: Global, times: usize, line: &[u8]) -> Result<Vec<u8>, Fail> {
+    let mut text = Vec::new(alloc);
+    for _ in 0..times {
+        text.extend_from_slice(line)?;
+    }
+    Ok(text)
+}
+
+#[test]
+fn counts_and_bars(rt: HostRuntime) -> Result<(), Fail> {
+    let alloc = rt.alloc();
+    assert_eq!(rt; only_shape(alloc, b"5#|#@$.#|5#")?, Ok((3, 5, 1)));
+    assert_eq!(rt; only_shape(alloc, b"5#|#@$.#|5#|")?, Ok((3, 5, 1)));
+    assert_eq!(rt; only_shape(alloc, b"||05#\n#@$.#||0005#")?, Ok((3, 5, 1)));
+    assert_eq!(rt; only_shape(alloc, b"||3#|")?, Err(LevelFault::NoPlayer));
+    Ok(())
+}
+
+#[test]
+fn text_lines(rt: HostRuntime) -> Result<(), Fail> {
+    let alloc = rt.alloc();
+    assert_eq!(rt; read(alloc, b"#1\n0#\n12#3\n")?.len(), 0);
+    assert_eq!(rt; read(alloc, b"00005#\n#2|#\n--  __\n#x\n")?.len(), 0);
+    assert_eq!(rt; read(alloc, b"")?.len(), 0);
+    Ok(())
+}
+
+#[test]
+fn sizes(rt: HostRuntime) -> Result<(), Fail> {
+    let alloc = rt.alloc();
+    assert_eq!(rt; only_shape(alloc, b"64#|#@$.59-#|64#")?, Ok((3, 64, 1)));
+    assert_eq!(rt;
+        only_shape(alloc, b"65#|#@$.60-#|65#")?,
+        Err(LevelFault::TooWide)
+    );
+    assert_eq!(rt; only_shape(alloc, b"36#|#@33*#|36#")?, Ok((3, 36, 33)));
+    let tall = repeated(alloc, 65, b"#\n")?;
+    assert_eq!(rt; only_shape(alloc, &tall)?, Err(LevelFault::TooTall));
+    let high = repeated(alloc, 64, b"#\n")?;
+    assert_eq!(rt; only_shape(alloc, &high)?, Err(LevelFault::NoPlayer));
+    let wide = repeated(alloc, 1000, b"9999#|")?;
+    assert_eq!(rt; only_shape(alloc, &wide)?, Err(LevelFault::TooTall));
+    Ok(())
+}
+
+#[test]
+fn first_faults(rt: HostRuntime) -> Result<(), Fail> {
+    let alloc = rt.alloc();
+    assert_eq!(rt;
+        only_shape(alloc, b"######\n#@@$.#\n######")?,
+        Err(LevelFault::TwoPlayers)
+    );
+    assert_eq!(rt;
+        only_shape(alloc, b"#####\n# $.#\n#####")?,
+        Err(LevelFault::NoPlayer)
+    );
+    let counts = LevelFault::Counts { boxes: 2, goals: 1 };
+    assert_eq!(rt; only_shape(alloc, b"######\n#@$$.#\n######")?, Err(counts));
+    assert_eq!(rt;
+        only_shape(alloc, b"####\n#@.#\n####")?,
+        Err(LevelFault::NoBox)
+    );
+    assert_eq!(rt;
+        only_shape(alloc, b"####\n# .#\n####")?,
+        Err(LevelFault::NoPlayer)
+    );
+    assert_eq!(rt;
+        only_shape(alloc, b"####\n#@$.\n####")?,
+        Err(LevelFault::Open)
+    );
+    assert_eq!(rt;
+        only_shape(alloc, b"#####\n#@$.#\n###")?,
+        Err(LevelFault::Open)
+    );
+    assert_eq!(rt;
+        only_shape(alloc, b"5#|#@$.#\n00005#")?,
+        Err(LevelFault::Open)
+    );
+    Ok(())
+}
+
+#[test]
+fn names(rt: HostRuntime) -> Result<(), Fail> {
+    let alloc = rt.alloc();
+    let marked = only(alloc, b"\xEF\xBB\xBF;  a \r\n4#|#@*#|4#\r\n")?;
+    assert_eq!(rt; marked.name.as_slice(), b"a".as_slice());
+    assert_eq!(rt; marked.first_line, 2);
+    let nameless = only(alloc, b";\n4#|#@*#|4#\nTitle: x\n")?;
+    assert_eq!(rt; nameless.name.as_slice(), b"".as_slice());
+    let last = only(alloc, b";one\n; two\t\nother\n4#|#@*#|4#\nTitle: x\n")?;
+    assert_eq!(rt; last.name.as_slice(), b"two".as_slice());
+    let first = only(alloc, b"4#|#@*#|4#\nTitle: x\r\r\nTitle: y")?;
+    assert_eq!(rt; first.name.as_slice(), b"x\r".as_slice());
+    Ok(())
+}
+
+#[test]
+fn two_boards(rt: HostRuntime) -> Result<(), Fail> {
+    let alloc = rt.alloc();
+    let text = b"; one\n#####\n#@$.#\n#####\n\n####\n#@$.\n####\nTitle: two\n";
+    let entries = read(alloc, text)?;
+    assert_eq!(rt; entries.len(), 2);
+    let first = &entries[0];
+    let second = &entries[1];
+    assert_eq!(rt; shape(first), Ok((3, 5, 1)));
+    assert_eq!(rt; first.first_line, 2);
+    assert_eq!(rt; first.name.as_slice(), b"one".as_slice());
+    assert_eq!(rt; shape(second), Err(LevelFault::Open));
+    assert_eq!(rt; second.first_line, 6);
+    assert_eq!(rt; second.name.as_slice(), b"two".as_slice());
+    Ok(())
+}
+
+#[test]
+fn a_gap_names_both_neighbours(rt: HostRuntime) -> Result<(), Fail> {
+    let alloc = rt.alloc();
+    let entries = read(alloc, b"4#|#@*#|4#\nTitle: before\n;after\n4#|#@*#|4#")?;
+    assert_eq!(rt; entries.len(), 2);
+    assert_eq!(rt; entries[0].name.as_slice(), b"before".as_slice());
+    assert_eq!(rt; entries[1].name.as_slice(), b"after".as_slice());
+    Ok(())
+}
+
+#[test]
+fn levels_are_written(rt: HostRuntime) -> Result<(), Fail> {
+    let alloc = rt.alloc();
+    let entry = only(alloc, b"5#|#@$.#|5#|")?;
+    let level = entry.board?;
+    let mut out = b">".to_vec(alloc)?;
+    write(&level, &mut out)?;
+    assert_eq!(rt; out.as_slice(), b">#####\n#@$.#\n#####\n".as_slice());
+    Ok(())
+}
