@@ -1,0 +1,4 @@
+pub mod One
+pub mod Text
+pub mod Verdict
+pub mod Item

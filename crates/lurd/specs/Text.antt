@@ -1,0 +1,147 @@
+-- LURD text: which bytes are a text, which letters it stands for, and which fault is the first.
+use Rattle.std.specs.Prelude.{◌≡◌, ℕ, ◌+◌, ◌-◌, ◌<◌, ◌≤◌, Bool, true, false, ◌||◌, ◌==◌, ◌⊎◌, List, [], ◌∷◌, ◌++◌, length, replicate, map, Result, Ok, Err}
+use Rattle.std.specs.Char.{is_ascii_digit}
+use Rattle.std.specs.Int.Digits.{number_from_digits}
+use Rattle.std.specs.List.{AllByRecursion, flat_map}
+use Rattle.grid.specs.declared.dir.Dir.{Dir}
+use Rattle.grid.specs.declared.dir.Dir.TheVariants.{D, L, R, U}
+use Rattle.grid.specs.declared.moves.Letter.{Letter}
+use Rattle.lurd.specs.declared.fault.LurdFault.{LurdFault}
+use Rattle.lurd.specs.declared.fault.LurdFault.TheVariants.{BadByte, BadCount, TooManyMoves, OutOfMemory}
+use Rattle.lurd.specs.declared.limits.TheConstants.{MAX_MOVES, COUNT_DIGITS}
+
+-- the byte of a letter in lower case: d, l, r or u
+abbrev pub lower_byte : Dir → ℕ
+lower_byte D = 100
+lower_byte L = 108
+lower_byte R = 114
+lower_byte U = 117
+
+-- the byte of a letter in upper case: D, L, R or U
+abbrev pub upper_byte : Dir → ℕ
+upper_byte D = 68
+upper_byte L = 76
+upper_byte R = 82
+upper_byte U = 85
+
+-- a step that pushes is written in upper case, any other in lower case
+abbrev pub byte_by_case : Bool → Dir → ℕ
+byte_by_case true dir = upper_byte dir
+byte_by_case false dir = lower_byte dir
+
+-- the byte that writes a letter
+abbrev pub byte_of : Letter → ℕ
+byte_of letter = byte_by_case letter.push letter.dir
+
+-- the bytes that write letters: one each, without counts or blanks
+abbrev pub bytes_of : List Letter → List ℕ
+bytes_of letters = map byte_of letters
+
+-- space, tab, CR and LF stand for nothing
+abbrev pub is_blank : ℕ → Bool
+is_blank b = b == 32 || b == 9 || b == 13 || b == 10
+
+-- the number that decimal digits write
+abbrev pub decimal : List ℕ → ℕ
+decimal digits = number_from_digits 10 (map (λ b. b - 48) digits)
+
+-- digits that may stand before a letter: no more than a count may have, and not zero; leading zeros are allowed
+pub record IsCount (digits : List ℕ) : Type 0 where
+  pub all : AllByRecursion (λ b. is_ascii_digit b ≡ true) digits
+  pub short : length digits ≤ COUNT_DIGITS
+  pub positive : 1 ≤ decimal digits
+
+-- how often a letter with these digits before it is meant: once where there are none
+abbrev pub repeats : List ℕ → ℕ
+repeats [] = 1
+repeats (b ∷ bs) = decimal (b ∷ bs)
+
+-- what a text is made of: a blank, or a letter with the digits of its count right before it, if it has one
+pub data Piece : Type 0 where
+  blank : ℕ → Piece
+  item : List ℕ → Letter → Piece
+
+abbrev pub IsPiece : Piece → Type 0
+IsPiece (blank b) = is_blank b ≡ true
+IsPiece (item digits letter) = (digits ≡ []) ⊎ IsCount digits
+
+-- the bytes of a piece
+abbrev pub spelling : Piece → List ℕ
+spelling (blank b) = b ∷ []
+spelling (item digits letter) = digits ++ byte_of letter ∷ []
+
+-- the letters that a piece stands for
+abbrev pub meaning : Piece → List Letter
+meaning (blank b) = []
+meaning (item digits letter) = replicate (repeats digits) letter
+
+-- the bytes are pieces one after the other, which stand for these letters, and these are not too many
+pub record IsText (bytes : List ℕ) (letters : List Letter) : Type 0 where
+  pub pieces : List Piece
+  pub each : AllByRecursion IsPiece pieces
+  pub spelled : bytes ≡ flat_map spelling pieces
+  pub meant : letters ≡ flat_map meaning pieces
+  pub few : length letters ≤ MAX_MOVES
+
+-- the byte writes a letter
+abbrev pub IsLetterByte : ℕ → Type 0
+IsLetterByte b = (letter : Letter) × (byte_of letter ≡ b)
+
+-- the bytes begin with a letter
+abbrev pub BeginsWithLetter : List ℕ → Type 0
+BeginsWithLetter bytes = (letter : Letter) × (more : List ℕ) × (bytes ≡ byte_of letter ∷ more)
+
+-- the bytes begin with a digit
+abbrev pub begins_with_digit : List ℕ → Bool
+begins_with_digit [] = false
+begins_with_digit (b ∷ bs) = is_ascii_digit b
+
+-- the bytes begin with one that is no letter, no digit and no blank
+pub record BeginsBadly (bytes : List ℕ) : Type 0 where
+  pub byte : ℕ
+  pub more : List ℕ
+  pub cut : bytes ≡ byte ∷ more
+  pub no_letter : ¬ (IsLetterByte byte)
+  pub no_digit : is_ascii_digit byte ≡ false
+  pub no_blank : is_blank byte ≡ false
+
+-- the bytes begin with digits, as many as stand there together, that are too many, or zero, or have no letter
+-- right after them
+pub record BeginsWithBadCount (bytes : List ℕ) : Type 0 where
+  pub digits : List ℕ
+  pub more : List ℕ
+  pub cut : bytes ≡ digits ++ more
+  pub some : 1 ≤ length digits
+  pub all : AllByRecursion (λ b. is_ascii_digit b ≡ true) digits
+  pub whole : begins_with_digit more ≡ false
+  pub bad : (COUNT_DIGITS < length digits) ⊎ ((decimal digits ≡ 0) ⊎ (¬ (BeginsWithLetter more)))
+
+-- the bytes begin with a letter, with its count if it has one, that brings this many moves above the greatest number
+pub record BeginsWithTooMany (moves : ℕ) (bytes : List ℕ) : Type 0 where
+  pub digits : List ℕ
+  pub letter : Letter
+  pub more : List ℕ
+  pub cut : bytes ≡ spelling (item digits letter) ++ more
+  pub lawful : IsPiece (item digits letter)
+  pub above : MAX_MOVES < moves + repeats digits
+
+-- after this many moves, what comes at this place, counted from 1, has the fault
+abbrev pub FaultsAt : ℕ → ℕ → List ℕ → LurdFault → Type 0
+FaultsAt place moves bytes (BadByte at) = (at ≡ place) × BeginsBadly bytes
+FaultsAt place moves bytes (BadCount at) = (at ≡ place) × BeginsWithBadCount bytes
+FaultsAt place moves bytes TooManyMoves = BeginsWithTooMany moves bytes
+FaultsAt place moves bytes OutOfMemory = ⊥
+
+-- the fault is the first in the bytes: what stands before it is a text
+pub record HasTextFault (bytes : List ℕ) (fault : LurdFault) : Type 0 where
+  pub front : List ℕ
+  pub letters : List Letter
+  pub rest : List ℕ
+  pub cut : bytes ≡ front ++ rest
+  pub text : IsText front letters
+  pub stands : FaultsAt (length front + 1) (length letters) rest fault
+
+-- what reading the bytes gives: the letters of a text, or the first fault
+abbrev pub Reads : List ℕ → Result (List Letter) LurdFault → Type 0
+Reads bytes (Ok letters) = IsText bytes letters
+Reads bytes (Err fault) = HasTextFault bytes fault

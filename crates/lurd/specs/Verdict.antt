@@ -1,0 +1,73 @@
+-- What the rules say of letters that are played on a level.
+use Rattle.std.specs.Prelude.{◌≡◌, ℕ, ◌+◌, Bool, true, false, List, [], ◌∷◌, ◌++◌, length, count_by}
+use Rattle.grid.specs.declared.dir.Dir.{Dir}
+use Rattle.grid.specs.declared.square.Push.{Push}
+use Rattle.grid.specs.declared.moves.Letter.{Letter}
+use Rattle.grid.specs.Board.{Board, Scene, Walks, Pushes, IsSolved, start}
+use Rattle.grid.specs.Plays.{Play, stay, walk, push, Any, IsSolution, dirs_of}
+use Rattle.lurd.specs.declared.verdict.Verdict.{Verdict}
+use Rattle.lurd.specs.declared.verdict.Verdict.TheVariants.{Solved, Unsolved, Blocked, WrongCase}
+
+-- the letters that write a play: the direction of each step, in upper case where it pushes
+abbrev pub letters_of : {board : Board} {ok : Scene → Type 0} {s t : Scene} {ds : List Dir} {ps : List Push} → Play board ok s ds ps t → List Letter
+letters_of (stay here) = []
+letters_of (walk {d = d} here step rest) = record { dir = d; push = false } ∷ letters_of rest
+letters_of (push {d = d} here step rest) = record { dir = d; push = true } ∷ letters_of rest
+
+-- the letters write a play from s to t
+pub record Leads (board : Board) (s : Scene) (letters : List Letter) (t : Scene) : Type 0 where
+  pub dirs : List Dir
+  pub pushes : List Push
+  pub play : Play board Any s dirs pushes t
+  pub written : letters_of play ≡ letters
+
+-- no step is possible in the letter's direction
+abbrev pub IsBlocked : Board → Scene → Letter → Type 0
+IsBlocked board s letter = ((t : Scene) → ¬ (Walks board s letter.dir t)) × ((t : Scene) → ¬ (Pushes board s letter.dir t))
+
+-- t is the state after a step that is not as the case says: it doesn't push and the letter is in upper case, or it
+-- pushes and the letter is in lower case
+abbrev pub StepsAgainstCase : Board → Scene → Dir → Bool → Scene → Type 0
+StepsAgainstCase board s dir true t = Walks board s dir t
+StepsAgainstCase board s dir false t = Pushes board s dir t
+
+-- a step is possible in the letter's direction, and is not as the letter's case says
+abbrev pub HasWrongCase : Board → Scene → Letter → Type 0
+HasWrongCase board s letter = (t : Scene) × StepsAgainstCase board s letter.dir letter.push t
+
+-- the letter at this place, counted from 1, is the first that is wrong: those before it write a play from the start
+pub record StopsAt (board : Board) (letters : List Letter) (at : ℕ) (Wrong : Scene → Letter → Type 0) : Type 0 where
+  pub front : List Letter
+  pub letter : Letter
+  pub rest : List Letter
+  pub state : Scene
+  pub cut : letters ≡ front ++ letter ∷ rest
+  pub place : at ≡ length front + 1
+  pub leads : Leads board (start board) front state
+  pub wrong : Wrong state letter
+
+-- the letters write a play from the start to a state that is as Is says
+pub record EndsAs (board : Board) (letters : List Letter) (Is : Scene → Type 0) : Type 0 where
+  pub state : Scene
+  pub leads : Leads board (start board) letters state
+  pub end : Is state
+
+-- the number of letters in upper case, which push
+abbrev pub upper_count : List Letter → ℕ
+upper_count letters = count_by (λ letter. letter.push) letters
+
+-- the verdict on the letters, played from the level's start
+abbrev pub IsVerdict : Board → List Letter → Verdict → Type 0
+IsVerdict board letters (Solved pushes moves) =
+    EndsAs board letters (IsSolved board) × (pushes ≡ upper_count letters) × (moves ≡ length letters)
+IsVerdict board letters (Unsolved pushes moves) =
+    EndsAs board letters (λ s. ¬ (IsSolved board s)) × (pushes ≡ upper_count letters) × (moves ≡ length letters)
+IsVerdict board letters (Blocked at) = StopsAt board letters at (IsBlocked board)
+IsVerdict board letters (WrongCase at) = StopsAt board letters at (HasWrongCase board)
+
+-- the letters write a solution, with so many pushes and so many moves
+pub record WritesSolution (board : Board) (letters : List Letter) (pushes moves : ℕ) : Type 0 where
+  pub list : List Push
+  pub solution : IsSolution board (dirs_of letters) list
+  pub pushes_are : length list ≡ pushes
+  pub moves_are : length letters ≡ moves

@@ -1,0 +1,37 @@
+//! Laws of texts and verdicts, as the clauses of functions that do nothing.
+ghost use Rattle.std.specs.Prelude.{◌≡◌, ◌≤◌, ℕ, List, length};
+ghost use Rattle.grid.specs.Board.{Board};
+ghost use Rattle.grid.specs.Plays.{IsSolution, dirs_of};
+ghost use Rattle.grid.specs.declared.dir.Dir.{Dir};
+ghost use Rattle.grid.specs.declared.moves.Letter.{Letter};
+ghost use Rattle.grid.specs.declared.square.Push.{Push};
+ghost use Rattle.lurd.specs.One.{ExactlyOne};
+ghost use Rattle.lurd.specs.Text.{IsText, Reads, bytes_of};
+ghost use Rattle.lurd.specs.Verdict.{IsVerdict, WritesSolution};
+
+use crate::limits::MAX_MOVES;
+use crate::verdict::Verdict;
+
+/// Any bytes are a text of one list of letters and of no other, or have one first fault and no other, and never both.
+pub fn one_reading()
+    ensures { (bytes : List ℕ) → ExactlyOne (λ r. Reads bytes r) }
+{}
+
+/// What `write` appends for letters that a text may stand for is a text of these letters.
+pub fn written_text()
+    ensures { (letters : List Letter) → length letters ≤ MAX_MOVES → IsText (bytes_of letters) letters }
+{}
+
+/// For each level and letters there is one verdict and no other.
+pub fn one_verdict()
+    ensures { (board : Board) (letters : List Letter) → ExactlyOne (λ v. IsVerdict board letters v) }
+{}
+
+/// Letters that are judged solved write a solution with that many pushes and moves, and each solution is written by
+/// letters that are judged solved.
+pub fn solved_is_solution()
+    ensures there { (board : Board) (letters : List Letter) (pushes moves : ℕ) →
+        IsVerdict board letters (Verdict.Solved pushes moves) → WritesSolution board letters pushes moves }
+    ensures back { (board : Board) (ds : List Dir) (ps : List Push) → IsSolution board ds ps →
+        (letters : List Letter) × (dirs_of letters ≡ ds) × IsVerdict board letters (Verdict.Solved (length ps) (length ds)) }
+{}

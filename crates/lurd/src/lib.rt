@@ -1,0 +1,17 @@
+//! Solutions as text in LURD notation, and what the rules say of them on a level.
+#![tactic(auto)]
+
+mod fault;
+mod item;
+mod laws;
+mod limits;
+#[cfg(test)]
+mod tests;
+mod text;
+mod verdict;
+
+pub use fault::LurdFault;
+pub use laws::{one_reading, one_verdict, solved_is_solution, written_text};
+pub use limits::{COUNT_DIGITS, MAX_MOVES};
+pub use text::{parse, write};
+pub use verdict::{Verdict, replay};
