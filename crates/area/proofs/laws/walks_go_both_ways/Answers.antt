@@ -1,0 +1,5 @@
+use Rattle.area.proofs.Norms.{area_back}
+use Rattle.area.proofs.laws.walks_go_both_ways.Goals as goal
+
+pub returns : goal.returns
+returns c = area_back

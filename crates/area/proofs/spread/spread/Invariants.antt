@@ -1,0 +1,9 @@
+use Rattle.std.proofs.Common.{◌-◌, length}
+use Rattle.area.specs.Spread.{IsUnderWay}
+use Rattle.area.proofs.spread.spread.Given as goal
+
+abbrev pub invariant-loop-head : goal.invariant-loop-head
+invariant-loop-head l = IsUnderWay l.level l.base l.fn.from l.fn.marks l.marks l.queue l.head 0 l.tail
+
+abbrev pub decreases-loop-head : goal.decreases-loop-head
+decreases-loop-head l = length l.queue - l.head

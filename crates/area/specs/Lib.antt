@@ -1,0 +1,5 @@
+pub mod Area
+pub mod Descent
+pub mod Reach
+pub mod ScratchView
+pub mod Spread

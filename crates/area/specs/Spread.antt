@@ -1,0 +1,75 @@
+-- How a search spreads over the squares: each square that it comes upon is marked with the steps that lead there.
+use Rattle.std.specs.Prelude.{◌≡◌, ◌≢◌, ℕ, suc, ◌+◌, ◌<◌, ◌≤◌, Bool, true, false, ◌⊎◌, ◌↔◌, List, length, slice_index, nat_lt, sum_by, cond}
+use Rattle.grid.specs.declared.dir.Dir.{Dir}
+use Rattle.grid.specs.Board.{Board, is_wall, next, dir_number}
+use Rattle.grid.specs.Squares.{Squares, contains}
+
+-- A mark of `base` says that a box stands on the square, a lesser mark that the search did not come upon it, and
+-- the mark `base + 1 + n` that it is reached, n steps from the square where the search began.
+
+-- before a search: the boxes have the mark `base`, and every other square has a lesser one
+abbrev pub AreBlocked : ℕ → Squares → List ℕ → Type 0
+AreBlocked base boxes marks =
+    (q : ℕ) → (contains boxes q ≡ true → slice_index marks q ≡ base) × (contains boxes q ≡ false → slice_index marks q < base)
+
+-- the square next to q in a direction, where it is neither a wall nor a box's, is reached, with one step more at most
+abbrev pub IsClosed : Board → ℕ → (ℕ → ℕ) → ℕ → Dir → Type 0
+IsClosed board base mark q d =
+    is_wall board (next board q d) ≡ false → mark (next board q d) ≢ base → (base < mark (next board q d)) × (mark (next board q d) ≤ suc (mark q))
+
+-- a square was reached from a square beside it that is reached with one step less
+abbrev pub HasCome : Board → ℕ → (ℕ → ℕ) → ℕ → Type 0
+HasCome board base mark q =
+    (m : ℕ) × (d : Dir) × (base < mark m) × (next board m d ≡ q) × (mark q ≡ suc (mark m))
+
+-- after a search that began at a square: its mark says no step, each other reached square came from one beside it,
+-- and the search stopped nowhere early
+pub record IsSpread (board : Board) (base from : ℕ) (mark : ℕ → ℕ) : Type 0 where
+  pub start : mark from ≡ suc base
+  pub free : (q : ℕ) → base < mark q → is_wall board q ≡ false
+  pub came : (q : ℕ) → base < mark q → (q ≡ from) ⊎ HasCome board base mark q
+  pub closed : (q : ℕ) → base < mark q → (d : Dir) → IsClosed board base mark q d
+
+-- after a search round boxes: they have the mark `base` and nothing else has, and all that walks reach is marked
+pub record IsSearched (board : Board) (boxes : Squares) (base from : ℕ) (marks : List ℕ) : Type 0 where
+  pub spread : IsSpread board base from (λ q. slice_index marks q)
+  pub blocked : (q : ℕ) → (contains boxes q ≡ true → slice_index marks q ≡ base) × (contains boxes q ≡ false → slice_index marks q ≢ base)
+
+-- which squares have a box's mark stays
+abbrev pub KeepsBlocked : ℕ → List ℕ → List ℕ → Type 0
+KeepsBlocked base old new = (q : ℕ) → (slice_index old q ≡ base) ↔ (slice_index new q ≡ base)
+
+-- no mark is more than `most` above `base`
+abbrev pub AreWithin : ℕ → ℕ → List ℕ → Type 0
+AreWithin base most marks = (q : ℕ) → slice_index marks q ≤ base + most
+
+-- In the midst of a search the reached squares stand in a queue, in the order in which they were reached: those
+-- before `head` were looked round from, of the one at `head` the directions whose number is less than `seen`.
+pub record IsSpreading (board : Board) (base from : ℕ) (mark place : ℕ → ℕ) (head seen tail : ℕ) : Type 0 where
+  pub start : mark from ≡ suc base
+  pub free : (q : ℕ) → base < mark q → is_wall board q ≡ false
+  pub came : (q : ℕ) → base < mark q → (q ≡ from) ⊎ HasCome board base mark q
+  pub listed : (q : ℕ) → base < mark q → (i : ℕ) × (i < tail) × (place i ≡ q)
+  pub queued : (i : ℕ) → i < tail → base < mark (place i)
+  pub bound : (i : ℕ) → i < tail → mark (place i) ≤ suc base + i
+  pub sorted : (i j : ℕ) → i ≤ j → j < tail → mark (place i) ≤ mark (place j)
+  pub close : (i j : ℕ) → head ≤ i → i < tail → j < tail → mark (place j) ≤ suc (mark (place i))
+  pub done : (i : ℕ) → i < head → i < tail → (d : Dir) → IsClosed board base mark (place i) d
+  pub now : (d : Dir) → dir_number d < seen → IsClosed board base mark (place head) d
+  pub order : head ≤ tail
+
+-- how many squares the search did not come upon yet
+abbrev pub untouched : ℕ → List ℕ → ℕ
+untouched base marks = sum_by (λ m. cond (nat_lt m base) 1 0) marks
+
+-- the square is no wall, and the search did not come upon it yet
+abbrev pub is_new : Board → ℕ → List ℕ → ℕ → Bool
+is_new board base marks q = cond (is_wall board q) false (nat_lt (slice_index marks q) base)
+
+-- in the midst of a search: what is in the memory, with room in the queue for each square that was not come upon yet
+pub record IsUnderWay (board : Board) (base from : ℕ) (old marks queue : List ℕ) (head seen tail : ℕ) : Type 0 where
+  pub room : length marks ≡ length board.cells
+  pub places : length queue ≡ length board.cells
+  pub spreading : IsSpreading board base from (λ q. slice_index marks q) (λ i. slice_index queue i) head seen tail
+  pub count : tail + untouched base marks ≤ length marks
+  pub blocked : KeepsBlocked base old marks

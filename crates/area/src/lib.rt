@@ -1,0 +1,17 @@
+//! Where the player walks without a push: flooding an area, normal positions, least walks.
+#![tactic(auto)]
+
+mod laws;
+mod route;
+mod scratch;
+mod spread;
+#[cfg(test)]
+mod tests;
+
+pub use laws::{
+    an_area_has_one_normal_form, each_state_has_one_normal_form, walks_go_both_ways,
+    what_boxes_decide_lasts,
+};
+pub use route::walk;
+pub use scratch::Scratch;
+pub use spread::{flood, normal};

@@ -1,0 +1,149 @@
+ghost use Rattle.std.specs.Prelude.{◌≡◌, ℕ, suc, ◌+◌, ◌<◌, ◌≤◌, ◌↔◌, ◌++◌, List, true, false, IsTrue, IfOk, OnOk, OnErr, length, slice_index};
+ghost use Rattle.grid.specs.declared.dir.Dir.{Dir};
+ghost use Rattle.grid.specs.declared.moves.Letter.{Letter};
+ghost use Rattle.grid.specs.Board.{IsFree, IsScene, next};
+ghost use Rattle.grid.specs.Squares.{contains};
+ghost use Rattle.area.specs.Area.{WalkAnswer, walk_letters};
+ghost use Rattle.area.specs.Descent.{IsDown, IsFirstDown, IsDescent};
+ghost use Rattle.area.specs.Spread.{AreBlocked, AreWithin, IsSearched, IsSpread};
+
+use crate::scratch::{GREATEST_BASE, Scratch, renewed};
+use crate::spread::spread;
+use grid::{Dir, Letter, Level, MAX_SQUARES, Moves, Square, State};
+use std::alloc::AllocError;
+
+/// Appends the shortest walk without a push from the state to the square, of those the least text in the order `d`,
+/// `l`, `r`, `u`, and says `true`; says `false` exactly where there is no walk to it, and then appends nothing.
+///
+/// Where memory for the letters is refused the list stays as it was.
+pub fn walk(
+    level: &Level,
+    state: &State,
+    square: Square,
+    scratch: &mut Scratch,
+    moves: &mut Moves,
+) -> Result<bool, AllocError>
+    requires scene { IsScene level.now state.now }
+    requires room { scratch.old.size ≡ length level.now.cells }
+    ensures walk { IfOk result (λ found. WalkAnswer level.now state.now square moves.old moves.new found) }
+    ensures err { OnErr result (moves.new ≡ moves.old) }
+    ensures size { scratch.new.size ≡ scratch.old.size }
+{
+    if level.is_wall(square) || state.has_box(square) {
+        return Ok(false);
+    }
+    let base = search_from(
+        level,
+        state,
+        square,
+        scratch.base,
+        &mut scratch.marks,
+        &mut scratch.queue,
+    );
+    scratch.base = base;
+    if !scratch.reaches(state.player()) {
+        return Ok(false);
+    }
+    let len = moves.len();
+    let outcome = descend(level, state.player(), square, base, &scratch.marks, moves);
+    if outcome.is_err() {
+        moves.truncate(len);
+        return Err(AllocError);
+    }
+    Ok(true)
+}
+
+// Marks every square that walks from a square reach, round the boxes' marks; gives the boxes' mark.
+fn search_from(
+    level: &Level,
+    state: &State,
+    from: Square,
+    base: u32,
+    marks: &mut [u32],
+    queue: &mut [Square],
+) -> u32
+    requires scene { IsScene level.now state.now }
+    requires free { IsFree level.now state.now.boxes from }
+    requires room { length marks.old ≡ length level.now.cells }
+    requires places { length queue.old ≡ length level.now.cells }
+    requires small { length marks.old ≤ MAX_SQUARES }
+    requires base { base ≤ GREATEST_BASE }
+    requires within { AreWithin base (length marks.old) marks.old }
+    ensures searched { IsSearched level.now state.now.boxes result from marks.new }
+    ensures base { result ≤ GREATEST_BASE }
+    ensures within { AreWithin result (length marks.old) marks.new }
+{
+    let base = renewed(base, marks);
+    block_boxes(state, base, marks);
+    spread(level, from, base, marks, queue);
+    base
+}
+
+// Marks the squares on which the state has a box.
+fn block_boxes(state: &State, base: u32, marks: &mut [u32])
+    requires inside { (q : ℕ) → contains state.now.boxes q ≡ true → q < length marks.old }
+    requires small { length marks.old ≤ MAX_SQUARES }
+    requires low { (q : ℕ) → slice_index marks.old q < base }
+    ensures { AreBlocked base state.now.boxes marks.new }
+{
+    for i in 0..marks.len() {
+        if state.has_box(Square(i as u16)) {
+            marks[i] = base;
+        }
+    }
+}
+
+// Appends the steps down the marks from one square to another, at each square the first direction that goes down.
+fn descend(
+    level: &Level,
+    from: Square,
+    to: Square,
+    base: u32,
+    marks: &[u32],
+    moves: &mut Moves,
+) -> Result<(), AllocError>
+    requires room { length marks.now ≡ length level.now.cells }
+    requires spread { IsSpread level.now base to (λ q. slice_index marks.now q) }
+    requires reached { base < slice_index marks.now from }
+    ensures ok { OnOk result ((ds : List Dir) × IsDescent level.now base to (λ q. slice_index marks.now q) from ds × (moves.new ≡ moves.old ++ walk_letters ds)) }
+    ensures err { OnErr result ((xs : List Letter) × (moves.new ≡ moves.old ++ xs)) }
+{
+    let mut square = from;
+    while square != to {
+        let dir = first_down(level, square, marks);
+        moves.push(Letter { dir, push: false })?;
+        square = level.next(square, dir);
+    }
+    Ok(())
+}
+
+// The first direction in which the next square has a mark one less.
+fn first_down(level: &Level, square: Square, marks: &[u32]) -> Dir
+    requires inside { square < length level.now.cells }
+    requires room { length marks.now ≡ length level.now.cells }
+    requires more { 1 < slice_index marks.now square }
+    requires some { (d : Dir) × IsDown level.now (λ q. slice_index marks.now q) square d }
+    ensures { IsFirstDown level.now (λ q. slice_index marks.now q) square result }
+{
+    let mark = marks[square.0 as usize] - 1;
+    if leads_to(level, square, Dir::D, mark, marks) {
+        return Dir::D;
+    }
+    if leads_to(level, square, Dir::L, mark, marks) {
+        return Dir::L;
+    }
+    if leads_to(level, square, Dir::R, mark, marks) {
+        return Dir::R;
+    }
+    Dir::U
+}
+
+// Whether the next square in a direction has this mark.
+fn leads_to(level: &Level, square: Square, dir: Dir, mark: u32, marks: &[u32]) -> bool
+    requires inside { square < length level.now.cells }
+    requires mark { 0 < mark }
+    ensures { IsTrue result ↔ (slice_index marks.now (next level.now square dir) ≡ mark) }
+{
+    let place = level.next(square, dir).0 as usize;
+    place < marks.len() && marks[place] == mark
+}

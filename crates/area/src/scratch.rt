@@ -1,0 +1,87 @@
+ghost use Rattle.std.specs.Prelude.{◌≡◌, ℕ, ◌<◌, ◌≤◌, true, IfOk, length, slice_index};
+ghost use Rattle.grid.specs.Squares.{contains};
+ghost use Rattle.area.specs.Spread.{AreWithin};
+
+use grid::{Level, MAX_SQUARES, Square};
+use std::alloc::{AllocError, Global};
+use std::marker::Model;
+
+/// The greatest mark of a box; beyond it the marks are cleared and begin anew.
+pub(crate) const GREATEST_BASE: u32 = 1 << 31;
+
+/// The memory that floods and searches for walks work in, made once for all levels of the same rows and columns.
+///
+/// Each square has a mark. In one search the boxes have the mark `base`, the squares that it reaches have greater
+/// marks, and all others lesser ones; the next search takes a greater `base`, so nothing needs to be cleared.
+#[derive(Drop)]
+pub struct Scratch {
+    pub(crate) marks: Vec<u32>,
+    pub(crate) base: u32,
+    pub(crate) queue: Vec<Square>,
+}
+
+impl Model for Scratch {
+    ghost use Rattle.area.specs.Reach.{Reach};
+
+    ghost Value = { Reach };
+
+    ghost use Rattle.area.specs.ScratchView.{view_of, IsReady};
+
+    ghost view = { view_of };
+
+    ghost invariant = { IsReady };
+}
+
+impl Scratch {
+    /// All the memory that later calls need, for levels of the same rows and columns as this one.
+    pub fn new(alloc: Global, level: &Level) -> Result<Scratch, AllocError>
+        ensures { IfOk result (λ s. s.size ≡ length level.now.cells) }
+    {
+        level.tell();
+        Ok(Scratch {
+            marks: vec![in alloc; 0; level.squares()]?,
+            base: 0,
+            queue: vec![in alloc; Square(0); level.squares()]?,
+        })
+    }
+
+    /// Whether the last flood reached the square. Nothing is said of it once the memory was lent to another call.
+    pub fn reaches(&self, square: Square) -> bool
+        ensures { result ≡ contains self.now.reached square }
+    {
+        let place = square.0 as usize;
+        place < self.marks.len() && self.marks[place] > self.base
+    }
+
+    // The least square that the last flood reached.
+    pub(crate) fn least(&self) -> Square
+        requires { (q : ℕ) × (contains self.now.reached q ≡ true) }
+        ensures reached { contains self.now.reached result ≡ true }
+        ensures least { (q : ℕ) → contains self.now.reached q ≡ true → result ≤ q }
+    {
+        for (i, mark) in self.marks.iter().enumerate() {
+            if *mark > self.base {
+                return Square(i as u16);
+            }
+        }
+        unreachable!()
+    }
+}
+
+// The mark of the boxes in the next search: greater than all marks, which are cleared where it would grow too great.
+pub(crate) fn renewed(base: u32, marks: &mut [u32]) -> u32
+    requires small { length marks.old ≤ MAX_SQUARES }
+    requires base { base ≤ GREATEST_BASE }
+    requires within { AreWithin base (length marks.old) marks.old }
+    ensures low { (q : ℕ) → slice_index marks.new q < result }
+    ensures base { result ≤ GREATEST_BASE }
+{
+    let next = base + marks.len() as u32 + 1;
+    if next <= GREATEST_BASE {
+        return next;
+    }
+    for mark in marks.iter_mut() {
+        *mark = 0;
+    }
+    1
+}

@@ -1,0 +1,138 @@
+ghost use Rattle.std.specs.Prelude.{◌≡◌, ℕ, ◌+◌, ◌^◌, ◌<◌, ◌≤◌, ◌↔◌, true, false, length, slice_index, slice_set, if◌then◌else◌};
+ghost use Rattle.grid.specs.Board.{is_wall};
+ghost use Rattle.grid.specs.Lawful.{FitsLevel};
+ghost use Rattle.grid.specs.Squares.{contains};
+ghost use Rattle.area.specs.Area.{Area, IsNorm};
+ghost use Rattle.area.specs.Spread.{AreBlocked, IsSearched, IsSpread, KeepsBlocked, AreWithin, is_new};
+
+use crate::scratch::{GREATEST_BASE, Scratch, renewed};
+use grid::{Dir, Level, MAX_SQUARES, Position, Square};
+
+/// Finds the squares that the player reaches without a push.
+pub fn flood(level: &Level, position: &Position, scratch: &mut Scratch)
+    requires fits { FitsLevel level.now position.now }
+    requires room { scratch.old.size ≡ length level.now.cells }
+    ensures reached { (q : ℕ) → (contains scratch.new.reached q ≡ true) ↔ Area level.now position.now q }
+    ensures size { scratch.new.size ≡ scratch.old.size }
+{
+    let base = search(
+        level,
+        position,
+        scratch.base,
+        &mut scratch.marks,
+        &mut scratch.queue,
+    );
+    scratch.base = base;
+}
+
+/// The normal position: the same boxes, and the player on the least square that it reaches without a push.
+pub fn normal(level: &Level, position: &Position, scratch: &mut Scratch) -> Position
+    requires fits { FitsLevel level.now position.now }
+    requires room { scratch.old.size ≡ length level.now.cells }
+    ensures norm { IsNorm level.now position.now result }
+    ensures fits { FitsLevel level.now result }
+    ensures size { scratch.new.size ≡ scratch.old.size }
+{
+    flood(level, position, scratch);
+    let mut normal = position.copy();
+    normal.set_player(scratch.least());
+    normal
+}
+
+// Marks every square that the player reaches, round the boxes' marks; gives the boxes' mark.
+fn search(
+    level: &Level,
+    position: &Position,
+    base: u32,
+    marks: &mut [u32],
+    queue: &mut [Square],
+) -> u32
+    requires fits { FitsLevel level.now position.now }
+    requires room { length marks.old ≡ length level.now.cells }
+    requires places { length queue.old ≡ length level.now.cells }
+    requires small { length marks.old ≤ MAX_SQUARES }
+    requires base { base ≤ GREATEST_BASE }
+    requires within { AreWithin base (length marks.old) marks.old }
+    ensures searched { IsSearched level.now position.now.boxes result position.now.player marks.new }
+    ensures base { result ≤ GREATEST_BASE }
+    ensures within { AreWithin result (length marks.old) marks.new }
+{
+    let base = renewed(base, marks);
+    block(position.boxes(), base, marks);
+    spread(level, position.player(), base, marks, queue);
+    base
+}
+
+// Marks the boxes' squares.
+fn block(boxes: &[Square], base: u32, marks: &mut [u32])
+    requires inside { (q : ℕ) → contains boxes.now q ≡ true → q < length marks.old }
+    requires low { (q : ℕ) → slice_index marks.old q < base }
+    ensures { AreBlocked base boxes.now marks.new }
+{
+    for square in boxes {
+        marks[square.0 as usize] = base;
+    }
+}
+
+// Marks every square that walks from a square reach with the steps that lead there, round the boxes' marks.
+pub(crate) fn spread(
+    level: &Level,
+    from: Square,
+    base: u32,
+    marks: &mut [u32],
+    queue: &mut [Square],
+)
+    requires room { length marks.old ≡ length level.now.cells }
+    requires places { length queue.old ≡ length level.now.cells }
+    requires small { base + length level.now.cells + 1 < 2 ^ 32 }
+    requires fresh { (q : ℕ) → slice_index marks.old q ≤ base }
+    requires clear { is_wall level.now from ≡ false }
+    requires open { slice_index marks.old from < base }
+    ensures spread { IsSpread level.now base from (λ q. slice_index marks.new q) }
+    ensures blocked { KeepsBlocked base marks.old marks.new }
+    ensures within { AreWithin base (length level.now.cells) marks.new }
+{
+    marks[from.0 as usize] = base + 1;
+    queue[0] = from;
+    let mut head = 0;
+    let mut tail = 1;
+    while head < tail {
+        let square = queue[head];
+        let mark = marks[square.0 as usize] + 1;
+        let below = level.next(square, Dir::D);
+        tail = visit(level, below, mark, base, marks, queue, tail);
+        let left = level.next(square, Dir::L);
+        tail = visit(level, left, mark, base, marks, queue, tail);
+        let right = level.next(square, Dir::R);
+        tail = visit(level, right, mark, base, marks, queue, tail);
+        let above = level.next(square, Dir::U);
+        tail = visit(level, above, mark, base, marks, queue, tail);
+        head += 1;
+    }
+}
+
+// Marks a square and puts it at the queue's end, where it is no wall and was not come upon yet; gives where the queue
+// then ends.
+#[inline(always)]
+fn visit(
+    level: &Level,
+    square: Square,
+    mark: u32,
+    base: u32,
+    marks: &mut [u32],
+    queue: &mut [Square],
+    tail: usize,
+) -> usize
+    requires room { length marks.old ≡ length level.now.cells }
+    requires space { is_new level.now base marks.old square ≡ true → tail < length queue.old }
+    ensures tail { result ≡ (if is_new level.now base marks.old square then tail + 1 else tail) }
+    ensures marks { marks.new ≡ (if is_new level.now base marks.old square then slice_set marks.old square mark else marks.old) }
+    ensures queue { queue.new ≡ (if is_new level.now base marks.old square then slice_set queue.old tail square else queue.old) }
+{
+    if level.is_wall(square) || marks[square.0 as usize] >= base {
+        return tail;
+    }
+    marks[square.0 as usize] = mark;
+    queue[tail] = square;
+    tail + 1
+}
