@@ -1,0 +1,4 @@
+pub mod Soundness
+pub mod Peeling
+pub mod Search
+pub mod Pulling

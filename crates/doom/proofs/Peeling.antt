@@ -1,0 +1,160 @@
+-- Boxes that nothing blocks are in no frozen set, and what no peeling shrinks is frozen.
+use Rattle.std.proofs.Common.{◌≡◌, ◌↔◌, ◌<◌, ◌≤◌, ◌+◌, ◌==◌, ◌||◌, ◌++◌, ℕ, Bool, true, false, eqb, [], ◌∷◌, length, get_or, take, refl, sym, ap, subst, ◌∙◌, ◌⊎◌, inl, inr, arith, length-append, eq-eqb}
+use Rattle.std.proofs.Math.Seq.{take-length}
+use Rattle.std.proofs.lemmas.List.Folds.{list_any-append, list_any_at}
+use Rattle.std.proofs.lemmas.List.{take_more}
+use Rattle.std.proofs.lemmas.Bool.{false≢true, eqb-true}
+use Rattle.grid.specs.declared.dir.Dir.{Dir}
+use Rattle.grid.specs.declared.dir.Dir.TheVariants.{D, L, R, U}
+use Rattle.grid.specs.Squares.{Squares, contains}
+use Rattle.grid.specs.Board.{Board, is_goal}
+use Rattle.doom.specs.Deadlocks.{IsDead, IsHeld, IsBlocked, Doomed}
+use Rattle.doom.specs.Peeling.{IsWithin, AreBlocked, IsPeeled, IsLargestBlocked}
+
+-- what blocks a square among some blocks it among more
+pub held_by_more : (board : Board) (few more : Squares) (q : ℕ) (d : Dir) → IsWithin few more → IsHeld board few q d → IsHeld board more q d
+held_by_more board few more q d within (inl (inl wall)) = inl (inl wall)
+held_by_more board few more q d within (inl (inr ahead)) = inl (inr (within _ ahead))
+held_by_more board few more q d within (inr (inl (inl wall))) = inr (inl (inl wall))
+held_by_more board few more q d within (inr (inl (inr behind))) = inr (inl (inr (within _ behind)))
+held_by_more board few more q d within (inr (inr dead)) = inr (inr dead)
+
+-- a square is held on an axis, whichever way one looks along it
+held_back : {A B C D : Type 0} → A ⊎ (B ⊎ (C × D)) → B ⊎ (A ⊎ (D × C))
+held_back (inl a) = inr (inl a)
+held_back (inr (inl b)) = inl b
+held_back (inr (inr (c, d))) = inr (inr (d, c))
+
+-- both axes make all directions
+pub blocked_by_axes : (board : Board) (members : Squares) (q : ℕ) → IsHeld board members q R → IsHeld board members q D → IsBlocked board members q
+blocked_by_axes board members q across along D = along
+blocked_by_axes board members q across along L = held_back across
+blocked_by_axes board members q across along R = across
+blocked_by_axes board members q across along U = held_back along
+
+-- a set that blocks itself loses no member when the others are peeled
+pub peeled_keeps : (board : Board) (members kept others : Squares) → IsPeeled board members kept → AreBlocked board others → IsWithin others members → IsWithin others kept
+peeled_keeps board members kept others peeled blocked within q other =
+    (peeled q).1 (within q other, λ d. held_by_more board others members q d within (blocked q other d))
+
+-- what no peeling shrinks blocks itself
+pub peeled_same : (board : Board) (members kept : Squares) → IsPeeled board members kept → IsWithin members kept → AreBlocked board members
+peeled_same board members kept peeled within q member = ((peeled q).0 (within q member)).1
+
+-- boxes of which none is dead are doomed exactly where the largest blocked set has a member off goal
+pub doomed_by_largest : (board : Board) (boxes members : Squares) → IsLargestBlocked board boxes members → ¬ ((q : ℕ) × (contains boxes q ≡ true) × IsDead board q) → Doomed board boxes ↔ ((q : ℕ) × (contains members q ≡ true) × (is_goal board q ≡ false))
+doomed_by_largest board boxes members largest alive = (to, λ off. inr (members, record { some = largest.some; off_goal = off; blocked = largest.blocked }))
+  where
+    to : Doomed board boxes → (q : ℕ) × (contains members q ≡ true) × (is_goal board q ≡ false)
+    to (inl dead) = absurd (alive dead)
+    to (inr (others, frozen)) =
+        let (q, other, off) = frozen.off_goal in
+        (q, largest.largest others frozen.some frozen.blocked q other, off)
+
+-- the first members have been looked at, and those that are blocked were kept
+pub record IsPeeledUpTo (board : Board) (members : Squares) (i : ℕ) (kept : Squares) : Type 0 where
+  pub peeled : (q : ℕ) → (contains kept q ≡ true) ↔ ((contains (take i members) q ≡ true) × IsBlocked board members q)
+  pub fewer : length kept ≤ i
+  pub same : length kept ≡ i → kept ≡ take i members
+
+-- a square is in a list with one more where it is in the list or is the one more
+contains-push : (xs : Squares) (x q : ℕ) → contains (xs ++ x ∷ []) q ≡ (contains xs q || eqb x q)
+contains-push xs x q = list_any-append (λ y. y == q) xs (x ∷ []) ∙ ap (λ b. contains xs q || b) (or_false (eqb x q))
+  where
+    or_false : (b : Bool) → (b || false) ≡ b
+    or_false true = refl
+    or_false false = refl
+
+pub contains-push_cases : (xs : Squares) (x q : ℕ) → contains (xs ++ x ∷ []) q ≡ true → (contains xs q ≡ true) ⊎ (x ≡ q)
+contains-push_cases xs x q there = cases (contains xs q) (eqb x q) refl refl (sym (contains-push xs x q) ∙ there)
+  where
+    cases : (a b : Bool) → contains xs q ≡ a → eqb x q ≡ b → (a || b) ≡ true → (contains xs q ≡ true) ⊎ (x ≡ q)
+    cases true b ea eb h = inl ea
+    cases false true ea eb h = inr (eqb-true x q eb)
+    cases false false ea eb h = absurd (false≢true h)
+
+pub contains-push_kept : (xs : Squares) (x q : ℕ) → contains xs q ≡ true → contains (xs ++ x ∷ []) q ≡ true
+contains-push_kept xs x q there = contains-push xs x q ∙ ap (λ b. b || eqb x q) there
+
+pub contains-push_last : (xs : Squares) (x : ℕ) → contains (xs ++ x ∷ []) x ≡ true
+contains-push_last xs x = contains-push xs x x ∙ ap (λ b. contains xs x || b) (eq-eqb x x refl) ∙ or_true (contains xs x)
+  where
+    or_true : (b : Bool) → (b || true) ≡ true
+    or_true true = refl
+    or_true false = refl
+
+-- at the start nothing was looked at
+pub peeled_none : (board : Board) (members : Squares) → IsPeeledUpTo board members 0 []
+peeled_none board members = record {
+  peeled = λ q. (λ there. absurd (false≢true there), λ (there, blocked). absurd (false≢true there));
+  fewer = omega arith;
+  same = λ _. refl;
+}
+
+-- one more member was looked at and kept
+pub peeled_more : (board : Board) (members : Squares) (i x : ℕ) (kept : Squares) → take (i + 1) members ≡ take i members ++ x ∷ [] → IsBlocked board members x → IsPeeledUpTo board members i kept → IsPeeledUpTo board members (i + 1) (kept ++ x ∷ [])
+peeled_more board members i x kept more blocked p = record {
+  peeled = λ q. (
+    λ there. elim (contains-push_cases kept x q there) [
+      | inl before ↦ let (early, held) = (p.peeled q).0 before in (ap (λ xs. contains xs q) more ∙ contains-push_kept (take i members) x q early, held)
+      | inr e ↦ subst (λ z. (contains (take (i + 1) members) z ≡ true) × IsBlocked board members z) e (ap (λ xs. contains xs x) more ∙ contains-push_last (take i members) x, blocked)
+    ],
+    λ (there, held). elim (contains-push_cases (take i members) x q (sym (ap (λ xs. contains xs q) more) ∙ there)) [
+      | inl early ↦ contains-push_kept kept x q ((p.peeled q).1 (early, held))
+      | inr e ↦ subst (λ z. contains (kept ++ x ∷ []) z ≡ true) e (contains-push_last kept x)
+    ],
+  );
+  fewer = omega (arith, p.fewer, length-append kept (x ∷ []));
+  same = λ e. ap (λ ys. ys ++ x ∷ []) (p.same (omega (arith, length-append kept (x ∷ [])))) ∙ sym more;
+}
+
+-- one more member was looked at and let go
+pub peeled_less : (board : Board) (members : Squares) (i x : ℕ) (kept : Squares) → take (i + 1) members ≡ take i members ++ x ∷ [] → ¬ (IsBlocked board members x) → IsPeeledUpTo board members i kept → IsPeeledUpTo board members (i + 1) kept
+peeled_less board members i x kept more free p = record {
+  peeled = λ q. (
+    λ there. let (early, held) = (p.peeled q).0 there in (ap (λ xs. contains xs q) more ∙ contains-push_kept (take i members) x q early, held),
+    λ (there, held). elim (contains-push_cases (take i members) x q (sym (ap (λ xs. contains xs q) more) ∙ there)) [
+      | inl early ↦ (p.peeled q).1 (early, held)
+      | inr e ↦ absurd (free (subst (IsBlocked board members) (sym e) held))
+    ],
+  );
+  fewer = omega (arith, p.fewer);
+  same = λ e. absurd (omega (arith, p.fewer));
+}
+
+-- all members were looked at
+pub peeled_all : (board : Board) (members kept : Squares) → IsPeeledUpTo board members (length members) kept → IsPeeled board members kept
+peeled_all board members kept p q = (
+  λ there. let (early, held) = (p.peeled q).0 there in (sym (ap (λ xs. contains xs q) (take-length members)) ∙ early, held),
+  λ (there, held). (p.peeled q).1 (ap (λ xs. contains xs q) (take-length members) ∙ there, held),
+)
+
+-- what is read from a list is in it, and is the next of its first elements
+pub contains-read : (xs : Squares) (i x : ℕ) → i < length xs → x ≡ get_or xs i x → contains xs x ≡ true
+contains-read xs i x lt read = list_any_at (λ y. y == x) xs i x lt (eq-eqb (get_or xs i x) x (sym read))
+
+pub take_read : (xs : Squares) (i x : ℕ) → i < length xs → x ≡ get_or xs i x → take (i + 1) xs ≡ take i xs ++ x ∷ []
+take_read xs i x lt read = take_more xs i x lt ∙ ap (λ z. take i xs ++ z ∷ []) (sym read)
+
+-- some of the boxes, which every set of boxes that blocks itself is within
+pub record IsPeeling (board : Board) (boxes members : Squares) : Type 0 where
+  pub some : IsWithin members boxes
+  pub fewer : length members ≤ length boxes
+  pub largest : (others : Squares) → IsWithin others boxes → AreBlocked board others → IsWithin others members
+
+pub peeling_all : (board : Board) (boxes : Squares) → IsPeeling board boxes boxes
+peeling_all board boxes = record { some = λ q there. there; fewer = omega arith; largest = λ others within blocked. within }
+
+pub peeling_more : (board : Board) (boxes members kept : Squares) → IsPeeled board members kept → length kept ≤ length members → IsPeeling board boxes members → IsPeeling board boxes kept
+peeling_more board boxes members kept peeled fewer p = record {
+  some = λ q there. p.some q ((peeled q).0 there).0;
+  fewer = omega (arith, p.fewer);
+  largest = λ others within blocked. peeled_keeps board members kept others peeled blocked (p.largest others within blocked);
+}
+
+pub peeling_done : (board : Board) (boxes members kept : Squares) → IsPeeled board members kept → kept ≡ members → IsPeeling board boxes members → IsLargestBlocked board boxes members
+peeling_done board boxes members kept peeled same p = record {
+  some = p.some;
+  blocked = peeled_same board members kept peeled (λ q member. subst (λ xs. contains xs q ≡ true) (sym same) member);
+  largest = p.largest;
+}

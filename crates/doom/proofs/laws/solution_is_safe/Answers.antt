@@ -1,0 +1,5 @@
+use Rattle.doom.proofs.Soundness.{solution_safe}
+use Rattle.doom.proofs.laws.solution_is_safe.Goals as goal
+
+pub returns : goal.returns
+returns c = solution_safe c.args.level.now

@@ -1,0 +1,3 @@
+pub mod Deadlocks
+pub mod Peeling
+pub mod Pulling

@@ -1,0 +1,14 @@
+ghost use Rattle.grid.specs.Squares.{Squares};
+ghost use Rattle.doom.specs.Deadlocks.{Doomed, AreLost, SolvesSafely};
+
+use grid::Level;
+
+/// The law that from no state with doomed boxes does a play end solved.
+pub fn doomed_are_lost(level: &Level)
+    ensures { (boxes : Squares) → Doomed level.now boxes → AreLost level.now boxes }
+{}
+
+/// The law that each state along a play that ends solved has undoomed boxes.
+pub fn solution_is_safe(level: &Level)
+    ensures { SolvesSafely level.now }
+{}

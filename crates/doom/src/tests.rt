@@ -1,0 +1,112 @@
+use crate::{Dead, doomed, doomed_are_lost, solution_is_safe};
+use area::Scratch;
+use grid::{Cell, Level, Position, Square};
+use std::alloc::Global;
+use std::process::Abort;
+use std::test::Fail;
+
+const PUSH_RIGHT: (usize, &[u8]) = (5, b"######@$.######");
+
+const SOLVED: (usize, &[u8]) = (4, b"#####@*#####");
+
+const CORNER: (usize, &[u8]) = (5, b"######.  ## $ ##  @######");
+
+const TWO_ENDS: (usize, &[u8]) = (7, b"########.$@$.########");
+
+const PAIR_AT_WALL: (usize, &[u8]) = (6, b"#######.$$.##  @ #######");
+
+const NO_PUSH: (usize, &[u8]) = (8, b"#########@ # $.#########");
+
+const BETWEEN_DEAD: (usize, &[u8]) = (5, b"#######.####$### $ ## @.######");
+
+const DEAD_ROWS: (usize, &[u8]) = (6, b"#######    ## @$.#######");
+
+const THERE_AND_BACK: (usize, &[u8]) = (8, b"############   ##.@$   #####   #########");
+
+const ALL_HOME: (usize, &[u8]) = (
+    35,
+    b"####################################@********************************####################################",
+);
+
+fn cell_of(byte: u8) -> Cell {
+    match byte {
+        b'#' => Cell::Wall,
+        b'.' => Cell::Goal,
+        b'$' => Cell::Box,
+        b'*' => Cell::BoxOnGoal,
+        b'@' => Cell::Player,
+        b'+' => Cell::PlayerOnGoal,
+        _ => Cell::Floor,
+    }
+}
+
+fn level_of(rt: &impl Abort, alloc: Global, board: (usize, &[u8])) -> Result<Level, Fail> {
+    let (cols, bytes) = board;
+    let mut cells = Vec::new(alloc);
+    for byte in bytes {
+        cells.push(cell_of(*byte))?;
+    }
+    assert!(rt; cols >= 1);
+    assert!(rt; cells.len() % cols == 0);
+    Ok(Level::from_cells(alloc, cols, cells)?)
+}
+
+#[test]
+fn live_squares_are_those_that_reach_a_goal(rt: HostRuntime) -> Result<(), Fail> {
+    let rows: [((usize, &[u8]), &[u16]); 6] = [
+        (PUSH_RIGHT, &[7, 8]),
+        (CORNER, &[6, 7, 11, 12]),
+        (TWO_ENDS, &[8, 9, 10, 11, 12]),
+        (BETWEEN_DEAD, &[7, 12, 17, 22, 23]),
+        (DEAD_ROWS, &[14, 15, 16]),
+        (THERE_AND_BACK, &[17, 18, 19, 20, 21]),
+    ];
+    for (board, live) in rows {
+        let level = level_of(&rt, rt.alloc(), board)?;
+        let dead = Dead::of(rt.alloc(), &level)?;
+        for index in 0..64 {
+            assert_eq!(rt;
+                !dead.is_dead(Square(index)),
+                live.contains(&index),
+                "square {index}"
+            );
+        }
+    }
+    Ok(())
+}
+
+#[test]
+fn starts_are_doomed_or_not(rt: HostRuntime) -> Result<(), Fail> {
+    let rows = [
+        (PAIR_AT_WALL, true),
+        (BETWEEN_DEAD, true),
+        (PUSH_RIGHT, false),
+        (SOLVED, false),
+        (CORNER, false),
+        (TWO_ENDS, false),
+        (NO_PUSH, false),
+        (THERE_AND_BACK, false),
+        (ALL_HOME, false),
+    ];
+    for (row, (board, want)) in rows.into_iter().enumerate() {
+        let level = level_of(&rt, rt.alloc(), board)?;
+        let dead = Dead::of(rt.alloc(), &level)?;
+        let mut scratch = Scratch::new(rt.alloc(), &level)?;
+        let position = Position::start(&level).ok_or("too many boxes")?;
+        assert!(rt; position.fits(&level));
+        assert_eq!(rt;
+            doomed(&level, &dead, &position, &mut scratch),
+            want,
+            "row {row}"
+        );
+    }
+    Ok(())
+}
+
+#[test]
+fn laws_can_be_called(rt: HostRuntime) -> Result<(), Fail> {
+    let level = level_of(&rt, rt.alloc(), PUSH_RIGHT)?;
+    doomed_are_lost(&level);
+    solution_is_safe(&level);
+    Ok(())
+}
