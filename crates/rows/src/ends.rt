@@ -1,0 +1,79 @@
+//! A reader and a writer over memory that move few bytes at a time, and fail when they are told to.
+use std::alloc::Global;
+use std::io;
+use std::io::{ErrorKind, Read, Write};
+
+/// A reader of some bytes.
+#[derive(Drop)]
+pub struct Pieces<'a> {
+    rest: &'a [u8],
+    most: usize,
+    fails_at: usize,
+    /// How many reads there were.
+    pub reads: usize,
+}
+
+impl<'a> Pieces<'a> {
+    /// A reader that gives at most `most` bytes a read, and fails at the read of this number, from 1; never for 0.
+    pub fn new(bytes: &'a [u8], most: usize, fails_at: usize) -> Pieces<'a> {
+        Pieces {
+            rest: bytes,
+            most,
+            fails_at,
+            reads: 0,
+        }
+    }
+}
+
+impl Read for Pieces<'_> {
+    fn read(&mut self, buffer: &mut [u8]) -> io::Result<usize> {
+        self.reads = self.reads.saturating_add(1);
+        if self.reads == self.fails_at {
+            return Err(io::Error::from(ErrorKind::Other));
+        }
+        let count = self.rest.len().min(buffer.len()).min(self.most);
+        let (given, rest) = self.rest.split_at(count);
+        buffer[..count].copy_from_slice(given);
+        self.rest = rest;
+        Ok(count)
+    }
+}
+
+/// A writer that keeps what it takes.
+#[derive(Drop)]
+pub struct Paper {
+    /// What it took.
+    pub text: Vec<u8>,
+    most: usize,
+    fails_at: usize,
+    /// How many writes there were.
+    pub writes: usize,
+}
+
+impl Paper {
+    /// A writer that takes at most `most` bytes a write, and fails at the write of this number, from 1; never for 0.
+    pub fn new(alloc: Global, most: usize, fails_at: usize) -> Paper {
+        Paper {
+            text: Vec::new(alloc),
+            most,
+            fails_at,
+            writes: 0,
+        }
+    }
+}
+
+impl Write for Paper {
+    fn write(&mut self, bytes: &[u8]) -> io::Result<usize> {
+        self.writes = self.writes.saturating_add(1);
+        if self.writes == self.fails_at {
+            return Err(io::Error::from(ErrorKind::Other));
+        }
+        let count = bytes.len().min(self.most);
+        self.text.extend_from_slice(&bytes[..count])?;
+        Ok(count)
+    }
+
+    fn flush(&mut self) -> io::Result<()> {
+        Ok(())
+    }
+}

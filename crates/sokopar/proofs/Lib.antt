@@ -1,0 +1,4 @@
+mod Listings
+mod Lists
+mod Maps
+mod Walks

@@ -1,0 +1,59 @@
+-- The marks of squares, and rows of them.
+use Rattle.std.proofs.Common.{◌≡◌, ℕ, zero, suc, ◌+◌, ◌-◌, ◌<◌, ◌≤◌, min, Bool, true, false, ◌⊎◌, subst, ◌==◌, List, [], ◌∷◌, ◌++◌, length, take, drop, flat_map, slice_index, refl, sym, ◌∙◌, ap, arith, rules, inl, inr, length-append, append_assoc}
+use Rattle.std.proofs.lemmas.List.{get_or_append_left, take_min, drop_min}
+use Rattle.std.proofs.Math.Seq.{get_or-append_seam}
+use Rattle.std.proofs.lemmas.Bool.{cases_lt}
+use Rattle.grid.specs.Board.{Board}
+use Rattle.xsb.specs.Boards.{cut_end, before_rest}
+use Rattle.sokopar.specs.DeadMap.{IsMark, AreMarks, rows_of, marked_row}
+
+-- the first squares have their marks
+abbrev pub HaveMarks : Board → List ℕ → Type 0
+HaveMarks board marks = (q : ℕ) → q < length marks → IsMark board q (slice_index marks q)
+
+-- the list of marks grows by the mark of the next square
+pub marks_grow : (board : Board) (marks : List ℕ) (mark : ℕ) → HaveMarks board marks → IsMark board (length marks) mark → HaveMarks board (marks ++ mark ∷ [])
+marks_grow board marks mark have next q below = by_place (cases_lt q (length marks)) where
+  by_place : (q < length marks) ⊎ (length marks ≤ q) → IsMark board q (slice_index (marks ++ mark ∷ []) q)
+  by_place (inl before) = let e = get_or_append_left marks (mark ∷ []) 0 q before in rw e (have q before)
+  by_place (inr after) =
+      let here : q ≡ length marks = omega (arith, length-append marks (mark ∷ [])) in
+      let P : ℕ → Type 0 = λ p. IsMark board p (slice_index (marks ++ mark ∷ []) p) in
+      let e = get_or-append_seam marks mark [] 0 in
+      subst P (sym here) (rw e next)
+
+-- all squares have their marks
+pub marks_all : (board : Board) (marks : List ℕ) → length marks ≡ length board.cells → HaveMarks board marks → AreMarks board marks
+marks_all board marks count have = record { count = count; each = λ q below. have q (omega arith) }
+
+-- a space at the end is cut off
+pub cut_space : (row : List ℕ) (last : ℕ) → last ≡ 32 → cut_end (λ b. b == 32) (row ++ last ∷ []) ≡ cut_end (λ b. b == 32) row
+cut_space [] last is = rw is refl
+cut_space (b ∷ row) last is = ap (before_rest (b == 32) b) (cut_space row last is)
+
+-- nothing is cut off before what stays
+before_some : (cut : Bool) (b : ℕ) (row : List ℕ) (last : ℕ) → before_rest cut b (row ++ last ∷ []) ≡ b ∷ (row ++ last ∷ [])
+before_some true b [] last = refl
+before_some true b (c ∷ row) last = refl
+before_some false b row last = refl
+
+-- any other byte stays
+pub cut_other : (row : List ℕ) (last : ℕ) → (last == 32) ≡ false → cut_end (λ b. b == 32) (row ++ last ∷ []) ≡ row ++ last ∷ []
+cut_other [] last is = rw is refl
+cut_other (b ∷ row) last is = ap (before_rest (b == 32) b) (cut_other row last is) ∙ before_some (b == 32) b row last
+
+-- the rows that are left are one and those after it
+map_step : (rows i cols : ℕ) (rest : List ℕ) → i < rows
+    → flat_map marked_row (rows_of (rows - i) cols rest) ≡ marked_row (take (min cols (length rest)) rest) ++ flat_map marked_row (rows_of (rows - (i + 1)) cols (drop (min cols (length rest)) rest))
+map_step rows i cols rest below =
+    let left : rows - i ≡ suc (rows - (i + 1)) = omega arith in
+    let t = take_min cols rest in
+    let d = drop_min cols rest in
+    rw left (rw t (rw d refl))
+
+-- after the next row the text with the rows that are left is as before
+pub map_goes_on : (rows i cols : ℕ) (rest row later text new : List ℕ) → i < rows → row ≡ take (min cols (length rest)) rest → later ≡ drop (min cols (length rest)) rest
+    → new ≡ text ++ marked_row row → new ++ flat_map marked_row (rows_of (rows - (i + 1)) cols later) ≡ text ++ flat_map marked_row (rows_of (rows - i) cols rest)
+map_goes_on rows i cols rest row later text new below is_row is_later is_new =
+    let step = map_step rows i cols rest below in
+    rw (is_new, is_later, is_row, step) (append_assoc text (marked_row (take (min cols (length rest)) rest)) _)

@@ -1,0 +1,5 @@
+pub mod DeadMap
+pub mod Ends
+pub mod Listing
+pub mod Report
+pub mod Runs

@@ -1,0 +1,40 @@
+-- The levels of a collection, each judged.
+use Rattle.std.specs.Prelude.{◌≡◌, ℕ, ◌-◌, Bool, true, false, List, Result, Ok, Err, Option, Some, None, option_map, slice_get, is_ok}
+use Rattle.std.specs.List.{AllZip}
+use Rattle.grid.specs.Board.{Board}
+use Rattle.grid.specs.declared.fault.LevelFault.{LevelFault}
+use Rattle.xsb.specs.Collection.{Found, IsCollection}
+use Rattle.xsb.specs.Entries.{IsJudged}
+use Rattle.xsb.specs.declared.entry.Entry.{Entry}
+
+-- a board of a collection: its name, the number of its first line, and the level or the first fault of its cells
+pub record Listed : Type 0 where
+  pub name : List ℕ
+  pub first_line : ℕ
+  pub board : Result Board LevelFault
+
+-- what stands in the collection, judged
+pub record IsListed (listed : Listed) (found : Found) : Type 0 where
+  pub name : listed.name ≡ found.name
+  pub first_line : listed.first_line ≡ found.first_line
+  pub board : IsJudged found.board listed.board
+
+-- the bytes are a collection of these levels, in order
+abbrev pub IsListing : List ℕ → List Listed → Type 0
+IsListing bytes listing = (founds : List Found) × IsCollection bytes founds × AllZip IsListed listing founds
+
+-- an entry of the reader without its memory
+abbrev pub listed_of : Entry → Listed
+listed_of entry = record { name = entry.name.items; first_line = entry.first_line; board = entry.board }
+
+-- the board is a lawful level
+abbrev pub is_good : Listed → Bool
+is_good listed = is_ok listed.board
+
+-- level N of a listing, counted from 1; none where there are fewer
+abbrev pub level_at : List Listed → ℕ → Option (Result Board LevelFault)
+level_at listing n = option_map (λ listed. listed.board) (slice_get listing (n - 1))
+
+-- level N of the collection is lawful, and its board is this
+abbrev pub IsLevelOf : List ℕ → ℕ → Board → Type 0
+IsLevelOf bytes n board = (listing : List Listed) × IsListing bytes listing × (level_at listing n ≡ Some (Ok board))

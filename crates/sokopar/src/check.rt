@@ -1,0 +1,100 @@
+ghost use Rattle.std.specs.Prelude.{◌≡◌, ◌++◌, OnOk, IfOk, map};
+ghost use Rattle.sokopar.specs.Listing.{listed_of};
+ghost use Rattle.sokopar.specs.Report.{fault_name, fault_words, level_words, named, check_line, check_report};
+
+use crate::report::Report;
+use crate::text::Text;
+use grid::{Level, LevelFault};
+use std::alloc::{AllocError, Global};
+use xsb::Entry;
+
+/// The number and the name of a fault.
+fn fault_name(fault: LevelFault) -> &'static [u8]
+    ensures { result.now ≡ fault_name fault }
+{
+    match fault {
+        LevelFault::TooTall => b"1 TooTall",
+        LevelFault::TooWide => b"2 TooWide",
+        LevelFault::NoPlayer => b"3 NoPlayer",
+        LevelFault::TwoPlayers => b"4 TwoPlayers",
+        LevelFault::NoBox => b"5 NoBox",
+        LevelFault::Counts { .. } => b"6 Counts",
+        LevelFault::Open => b"7 Open",
+        LevelFault::OutOfMemory => b"8 OutOfMemory",
+    }
+}
+
+/// Appends how a fault is told.
+pub(crate) fn put_fault(text: &mut Text, fault: LevelFault) -> Result<(), AllocError>
+    ensures { OnOk result (text.new ≡ text.old ++ fault_words fault) }
+{
+    text.put(b"fault ")?;
+    text.put(fault_name(fault))?;
+    if let LevelFault::Counts { boxes, goals } = fault {
+        text.put(b" ")?;
+        text.put_number(boxes)?;
+        text.put(b" ")?;
+        text.put_number(goals)?;
+    }
+    Ok(())
+}
+
+/// Appends how a lawful level is told.
+fn put_level(text: &mut Text, level: &Level) -> Result<(), AllocError>
+    ensures { OnOk result (text.new ≡ text.old ++ level_words level.now) }
+{
+    text.put(b"ok ")?;
+    text.put_number(level.rows())?;
+    text.put(b"x")?;
+    text.put_number(level.cols())?;
+    text.put(b" ")?;
+    text.put_number(level.boxes())?;
+    text.put(b" boxes")
+}
+
+/// Appends a name after a space; nothing for the empty name.
+fn put_name(text: &mut Text, name: &[u8]) -> Result<(), AllocError>
+    ensures { OnOk result (text.new ≡ text.old ++ named name.now) }
+{
+    if name.is_empty() {
+        return Ok(());
+    }
+    text.put(b" ")?;
+    text.put(name)
+}
+
+/// Appends the line of a level.
+fn put_line(text: &mut Text, number: usize, entry: &Entry) -> Result<(), AllocError>
+    ensures { OnOk result (text.new ≡ text.old ++ check_line number (listed_of entry.now)) }
+{
+    text.put_number(number)?;
+    text.put(b" line ")?;
+    text.put_number(entry.first_line as usize)?;
+    text.put(b" ")?;
+    match &entry.board {
+        Ok(level) => put_level(text, level)?,
+        Err(fault) => put_fault(text, *fault)?,
+    }
+    put_name(text, entry.name.as_slice())?;
+    text.put(b"\n")
+}
+
+/// The report of checking these levels.
+pub(crate) fn check_report(alloc: Global, entries: &[Entry]) -> Result<Report, AllocError>
+    ensures { IfOk result (λ report. report ≡ check_report (map listed_of entries.now)) }
+{
+    let mut text = Text::new(alloc);
+    let mut good = 0;
+    for (place, entry) in entries.iter().enumerate() {
+        put_line(&mut text, place + 1, entry)?;
+        if entry.board.is_ok() {
+            good += 1;
+        }
+    }
+    text.put_number(entries.len())?;
+    text.put(b" levels, ")?;
+    text.put_number(good)?;
+    text.put(b" good\n")?;
+    let status = if good == entries.len() { 0 } else { 1 };
+    Ok(Report::new(text, status))
+}

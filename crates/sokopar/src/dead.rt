@@ -1,0 +1,105 @@
+ghost use Rattle.std.specs.Prelude.{◌≡◌, ◌==◌, ◌++◌, ◌<◌, ◌≤◌, OnOk, IfOk, length, map, flat_map};
+ghost use Rattle.grid.specs.Lawful.{row_count};
+ghost use Rattle.sokopar.specs.DeadMap.{IsMark, AreMarks, IsMapOf, MapsOn, marked_row, rows_of};
+ghost use Rattle.xsb.specs.Boards.{cut_end};
+ghost use Rattle.sokopar.specs.Listing.{listed_of, level_at};
+
+use crate::listing::level_of;
+use crate::report::Report;
+use crate::show::{fault_report, no_level};
+use crate::text::Text;
+use doom::Dead;
+use grid::{Level, Square};
+use std::alloc::{AllocError, Global};
+use xsb::Entry;
+
+/// The byte for a square: a wall, a goal, a dead square of the player's room, or any other.
+fn mark_of(level: &Level, dead: &Dead, square: Square) -> u8
+    requires { dead.now ≡ level.now }
+    ensures { IsMark level.now square result }
+{
+    if level.is_wall(square) {
+        b'#'
+    } else if level.is_goal(square) {
+        b'.'
+    } else if level.in_room(square) && dead.is_dead(square) {
+        b'x'
+    } else {
+        b' '
+    }
+}
+
+#[tactic(auto, using(crate::proofs::Maps::marks_all))]
+/// The bytes for the squares of a level, in order.
+fn marks_of(alloc: Global, level: &Level) -> Result<Vec<u8>, AllocError>
+    ensures { IfOk result (λ marks. AreMarks level.now marks.items) }
+{
+    let dead = Dead::of(alloc, level)?;
+    let mut marks = Vec::new(alloc);
+    for number in 0..level.squares() {
+        marks.push(mark_of(level, &dead, Square(number as u16)))?;
+    }
+    Ok(marks)
+}
+
+/// A row without the spaces at its end.
+#[tactic(auto, using(crate::proofs::Maps::cut_space, crate::proofs::Maps::cut_other))]
+fn kept_of(row: &[u8]) -> &[u8]
+    ensures { result.now ≡ cut_end (λ b. b == 32) row.now }
+{
+    let mut kept = row;
+    while let Some((last, front)) = kept.split_last() {
+        if *last != b' ' {
+            return kept;
+        }
+        kept = front;
+    }
+    kept
+}
+
+/// Appends a row, without the spaces at its end.
+fn put_row(text: &mut Text, row: &[u8]) -> Result<(), AllocError>
+    ensures { OnOk result (text.new ≡ text.old ++ marked_row row.now) }
+{
+    text.put(kept_of(row))?;
+    text.put(b"\n")
+}
+
+/// Appends rows of a length, as many as `rows` says.
+fn put_map(text: &mut Text, rows: usize, cols: usize, marks: &[u8]) -> Result<(), AllocError>
+    ensures { OnOk result (text.new ≡ text.old ++ flat_map marked_row (rows_of rows cols marks.now)) }
+{
+    let mut rest = marks;
+    for _ in 0..rows {
+        let (row, later) = rest.split_at(cols.min(rest.len()));
+        put_row(text, row)?;
+        rest = later;
+    }
+    Ok(())
+}
+
+/// The report of a level's dead squares.
+fn map_of(alloc: Global, level: &Level) -> Result<Report, AllocError>
+    ensures { IfOk result (λ report. IsMapOf level.now report) }
+{
+    let marks = marks_of(alloc, level)?;
+    let mut text = Text::new(alloc);
+    put_map(&mut text, level.rows(), level.cols(), marks.as_slice())?;
+    Ok(Report::new(text, 0))
+}
+
+/// The report of the dead squares of level N of these.
+pub(crate) fn dead_report(
+    alloc: Global,
+    entries: &[Entry],
+    number: u32,
+) -> Result<Report, AllocError>
+    requires { 1 ≤ number }
+    ensures { IfOk result (λ report. MapsOn number (level_at (map listed_of entries.now) number) report) }
+{
+    match level_of(entries, number) {
+        None => no_level(alloc, number),
+        Some(Err(fault)) => fault_report(alloc, *fault),
+        Some(Ok(level)) => map_of(alloc, level),
+    }
+}

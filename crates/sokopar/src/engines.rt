@@ -1,0 +1,79 @@
+ghost use Rattle.std.specs.Prelude.{◌≤◌};
+ghost use Rattle.sokopar.specs.DeadMap.{IsDeadReport};
+ghost use Rattle.sokopar.specs.Report.{IsCheckReport, IsShowReport};
+ghost use Rattle.sokopar.specs.Runs.{Runs, Replays};
+
+use crate::check::check_report;
+use crate::dead::dead_report;
+use crate::fault::RunFault;
+use crate::listing::read_listing;
+use crate::replay::replay_level;
+use crate::show::show_report;
+use crate::sink::Sink;
+use crate::source::Source;
+use std::alloc::Global;
+
+/// Checks a collection: writes a line for each level, and the totals. Gives the exit status, 0 where each level is
+/// lawful, else 1.
+///
+/// [`RunFault::Read`] where a read failed, [`RunFault::TooLong`] where there are more bytes than
+/// [`MAX_FILE`](xsb::MAX_FILE), [`RunFault::OutOfMemory`] where memory was refused: then nothing was written.
+/// [`RunFault::Write`] where a write failed, after a beginning of the report.
+pub fn run_check<S: Source, K: Sink>(
+    alloc: Global,
+    source: &mut S,
+    sink: &mut K,
+) -> Result<u8, RunFault>
+    ensures { Runs IsCheckReport (S.seen source.old) (S.seen source.new) (K.seen sink.old) (K.seen sink.new) result }
+{
+    let report = check_report(alloc, read_listing(alloc, source)?.as_slice())?;
+    report.send(sink)
+}
+
+/// Shows a level of a collection, counted from 1, in plain rows. Gives the exit status, 0 where there is such a level
+/// and it is lawful, else 1. The faults are those of [`run_check`].
+pub fn run_show<S: Source, K: Sink>(
+    alloc: Global,
+    source: &mut S,
+    number: u32,
+    sink: &mut K,
+) -> Result<u8, RunFault>
+    requires { 1 ≤ number }
+    ensures { Runs (IsShowReport number) (S.seen source.old) (S.seen source.new) (K.seen sink.old) (K.seen sink.new) result }
+{
+    let report = show_report(alloc, read_listing(alloc, source)?.as_slice(), number)?;
+    report.send(sink)
+}
+
+/// Shows walls, goals and dead squares of a level of a collection, counted from 1. Gives the exit status, 0 where there
+/// is such a level and it is lawful, else 1. The faults are those of [`run_check`].
+pub fn run_dead<S: Source, K: Sink>(
+    alloc: Global,
+    source: &mut S,
+    number: u32,
+    sink: &mut K,
+) -> Result<u8, RunFault>
+    requires { 1 ≤ number }
+    ensures { Runs (IsDeadReport number) (S.seen source.old) (S.seen source.new) (K.seen sink.old) (K.seen sink.new) result }
+{
+    let report = dead_report(alloc, read_listing(alloc, source)?.as_slice(), number)?;
+    report.send(sink)
+}
+
+/// Replays a solution, which is LURD text, on a level of a collection, counted from 1. Gives the exit status, 0 where
+/// the solution solves the level, else 1. The collection is read first; the solution is read only where the level is
+/// lawful. The faults are those of [`run_check`].
+pub fn run_replay<S: Source, T: Source, K: Sink>(
+    alloc: Global,
+    source: &mut S,
+    number: u32,
+    solution: &mut T,
+    sink: &mut K,
+) -> Result<u8, RunFault>
+    requires { 1 ≤ number }
+    ensures { Replays number (S.seen source.old) (S.seen source.new) (T.seen solution.old) (T.seen solution.new) (K.seen sink.old) (K.seen sink.new) result }
+{
+    let entries = read_listing(alloc, source)?;
+    let report = replay_level(alloc, entries.as_slice(), number, solution)?;
+    report.send(sink)
+}

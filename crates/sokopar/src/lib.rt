@@ -1,0 +1,23 @@
+//! The engines of the program: each reads its files to their end, makes a whole report and writes it.
+#![tactic(auto)]
+
+mod check;
+mod dead;
+mod engines;
+mod fault;
+mod listing;
+mod reads;
+mod replay;
+mod report;
+mod show;
+mod sink;
+mod source;
+mod text;
+mod trail;
+mod writes;
+
+pub use engines::{run_check, run_dead, run_replay, run_show};
+pub use fault::RunFault;
+pub use sink::{Sink, Writer};
+pub use source::{Reader, Source};
+pub use trail::Failed;

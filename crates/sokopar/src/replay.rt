@@ -1,0 +1,117 @@
+ghost use Rattle.std.specs.Prelude.{◌≡◌, ◌≢◌, ◌++◌, ◌⊎◌, ◌≤◌, ℕ, List, Option, map, OnOk, IfOk, IfErr};
+ghost use Rattle.sokopar.specs.Report.{counts_words, verdict_report, text_fault_report, IsReplayOf, ReplaysOn};
+ghost use Rattle.sokopar.specs.Runs.{ReadsIfSome, Stops};
+ghost use Rattle.sokopar.specs.Listing.{listed_of, level_at};
+ghost use Rattle.grid.specs.Board.{Board};
+
+use crate::fault::RunFault;
+use crate::listing::level_of;
+use crate::reads::read_whole;
+use crate::report::Report;
+use crate::show::{fault_report, no_level};
+use crate::source::Source;
+use crate::text::Text;
+use grid::Level;
+use lurd::{LurdFault, Verdict, parse, replay};
+use std::alloc::{AllocError, Global};
+use xsb::Entry;
+
+/// Appends numbers of pushes and of moves.
+fn put_counts(text: &mut Text, pushes: usize, moves: usize) -> Result<(), AllocError>
+    ensures { OnOk result (text.new ≡ text.old ++ counts_words pushes moves) }
+{
+    text.put_number(pushes)?;
+    text.put(b" pushes, ")?;
+    text.put_number(moves)?;
+    text.put(b" moves")
+}
+
+/// The report of a verdict.
+fn verdict_report(alloc: Global, verdict: Verdict) -> Result<Report, AllocError>
+    ensures { IfOk result (λ report. report ≡ verdict_report verdict) }
+{
+    let mut text = Text::new(alloc);
+    let status = match verdict {
+        Verdict::Solved { pushes, moves } => {
+            text.put(b"solved ")?;
+            put_counts(&mut text, pushes, moves)?;
+            0
+        }
+        Verdict::Unsolved { pushes, moves } => {
+            text.put(b"unsolved ")?;
+            put_counts(&mut text, pushes, moves)?;
+            1
+        }
+        Verdict::Blocked { at } => {
+            text.put(b"blocked at ")?;
+            text.put_number(at)?;
+            1
+        }
+        Verdict::WrongCase { at } => {
+            text.put(b"wrong case at ")?;
+            text.put_number(at)?;
+            1
+        }
+    };
+    text.put(b"\n")?;
+    Ok(Report::new(text, status))
+}
+
+/// The report of a fault in the text of a solution.
+fn text_fault_report(alloc: Global, fault: LurdFault) -> Result<Report, AllocError>
+    ensures report { IfOk result (λ report. report ≡ text_fault_report fault) }
+    ensures memory { OnOk result (fault ≢ LurdFault.OutOfMemory) }
+{
+    let mut text = Text::new(alloc);
+    match fault {
+        LurdFault::BadByte { at } => {
+            text.put(b"bad byte at ")?;
+            text.put_number(at)?;
+        }
+        LurdFault::BadCount { at } => {
+            text.put(b"bad count at ")?;
+            text.put_number(at)?;
+        }
+        LurdFault::TooManyMoves => text.put(b"too many moves")?,
+        LurdFault::OutOfMemory => return Err(AllocError),
+    }
+    text.put(b"\n")?;
+    Ok(Report::new(text, 1))
+}
+
+/// The report of replaying a text on a level.
+pub(crate) fn replay_report(
+    alloc: Global,
+    level: &Level,
+    solution: &[u8],
+) -> Result<Report, AllocError>
+    ensures { IfOk result (λ report. IsReplayOf level.now solution.now report) }
+{
+    match parse(alloc, solution) {
+        Ok(moves) => verdict_report(alloc, replay(alloc, level, &moves)?),
+        Err(fault) => text_fault_report(alloc, fault),
+    }
+}
+
+/// The report of replaying on level N of these; the solution is read to its end exactly where the level is lawful.
+pub(crate) fn replay_level<T: Source>(
+    alloc: Global,
+    entries: &[Entry],
+    number: u32,
+    solution: &mut T,
+) -> Result<Report, RunFault>
+    requires { 1 ≤ number }
+    ensures ok { IfOk result (λ report. (text : Option (List ℕ)) × ReadsIfSome (T.seen solution.old) (T.seen solution.new) text
+        × ReplaysOn number (level_at (map listed_of entries.now) number) text report) }
+    ensures err { IfErr result (λ fault. ((fault ≡ RunFault.OutOfMemory) × (T.seen solution.new ≡ T.seen solution.old))
+        ⊎ ((board : Board) × (level_at (map listed_of entries.now) number ≡ Some (Ok board)) × Stops (T.seen solution.old) (T.seen solution.new) fault)) }
+{
+    match level_of(entries, number) {
+        None => Ok(no_level(alloc, number)?),
+        Some(Err(fault)) => Ok(fault_report(alloc, *fault)?),
+        Some(Ok(level)) => {
+            let text = read_whole(alloc, solution)?;
+            Ok(replay_report(alloc, level, text.as_slice())?)
+        }
+    }
+}

@@ -1,0 +1,57 @@
+ghost use Rattle.std.specs.Prelude.{◌≡◌, ◌≤◌, IfOk, map};
+ghost use Rattle.sokopar.specs.Listing.{listed_of, level_at};
+ghost use Rattle.sokopar.specs.Report.{no_level, fault_report, shown, show_report};
+
+use crate::check::put_fault;
+use crate::listing::level_of;
+use crate::report::Report;
+use crate::text::Text;
+use grid::{Level, LevelFault};
+use std::alloc::{AllocError, Global};
+use xsb::Entry;
+
+/// The report where there is no level N.
+pub(crate) fn no_level(alloc: Global, number: u32) -> Result<Report, AllocError>
+    ensures { IfOk result (λ report. report ≡ no_level number) }
+{
+    let mut text = Text::new(alloc);
+    text.put(b"no level ")?;
+    text.put_number(number as usize)?;
+    text.put(b"\n")?;
+    Ok(Report::new(text, 1))
+}
+
+/// The report where level N has a fault.
+pub(crate) fn fault_report(alloc: Global, fault: LevelFault) -> Result<Report, AllocError>
+    ensures { IfOk result (λ report. report ≡ fault_report fault) }
+{
+    let mut text = Text::new(alloc);
+    put_fault(&mut text, fault)?;
+    text.put(b"\n")?;
+    Ok(Report::new(text, 1))
+}
+
+/// The report of showing a level.
+fn shown(alloc: Global, level: &Level) -> Result<Report, AllocError>
+    ensures { IfOk result (λ report. report ≡ shown level.now) }
+{
+    let mut text = Text::new(alloc);
+    text.put_rows(level)?;
+    Ok(Report::new(text, 0))
+}
+
+/// The report of showing level N of these.
+pub(crate) fn show_report(
+    alloc: Global,
+    entries: &[Entry],
+    number: u32,
+) -> Result<Report, AllocError>
+    requires { 1 ≤ number }
+    ensures { IfOk result (λ report. report ≡ show_report number (level_at (map listed_of entries.now) number)) }
+{
+    match level_of(entries, number) {
+        None => no_level(alloc, number),
+        Some(Err(fault)) => fault_report(alloc, *fault),
+        Some(Ok(level)) => shown(alloc, level),
+    }
+}

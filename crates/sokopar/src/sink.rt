@@ -1,0 +1,54 @@
+ghost use Rattle.std.specs.Prelude.{◌≡◌, ℕ, ◌≤◌, length, take, IfOk, OnErr};
+ghost use Rattle.sokopar.specs.Ends.{Seen, moved, failed, untouched};
+
+use crate::trail::{Event, Failed, Trail};
+use std::io::Write;
+
+/// Where a report goes.
+pub trait Sink {
+    // what it took so far, and how many writes failed
+    ghost seen: { Self → Seen };
+
+    /// Takes bytes from the front of the text, at least one, and gives their number.
+    fn write(&mut self, text: &[u8]) -> Result<usize, Failed>
+        requires some { 1 ≤ length text.now }
+        ensures bound { IfOk result (λ n. (1 ≤ n) × (n ≤ length text.now)) }
+        ensures ok { IfOk result (λ n. seen self.new ≡ moved (seen self.old) (take n text.now)) }
+        ensures err { OnErr result (seen self.new ≡ failed (seen self.old)) };
+}
+
+/// A writer of std as a sink. A write that takes no byte counts as a failure.
+#[derive(Drop)]
+pub struct Writer<W: Write> {
+    writer: W,
+    trail: Trail,
+}
+
+impl<W: Write + Drop> Writer<W> {
+    /// The sink that hands on to the writer.
+    pub fn new(writer: W) -> Writer<W>
+        ensures { ⟦<Writer<W> as Sink>⟧.seen result ≡ untouched }
+    {
+        Writer {
+            writer,
+            trail: Trail::new(),
+        }
+    }
+}
+
+impl<W: Write + Drop> Sink for Writer<W> {
+    ghost seen = { λ it. it.trail.seen };
+
+    fn write(&mut self, text: &[u8]) -> Result<usize, Failed> {
+        match self.writer.write(text) {
+            Ok(count) if count > 0 => {
+                self.trail = self.trail.then(&Event::Moved(&text[..count]));
+                Ok(count)
+            }
+            _ => {
+                self.trail = self.trail.then(&Event::Failed);
+                Err(Failed)
+            }
+        }
+    }
+}

@@ -1,0 +1,54 @@
+ghost use Rattle.std.specs.Prelude.{◌≡◌, ℕ, ◌≤◌, length, take, IfOk, OnErr};
+ghost use Rattle.sokopar.specs.Ends.{Seen, moved, failed, untouched};
+
+use crate::trail::{Event, Failed, Trail};
+use std::io::Read;
+
+/// Where a file's bytes come from.
+pub trait Source {
+    // what it gave so far, whether its end came, and how many reads failed
+    ghost seen: { Self → Seen };
+
+    /// Reads bytes into the front of the buffer, and gives their number; none is the source's end.
+    fn read(&mut self, buffer: &mut [u8]) -> Result<usize, Failed>
+        requires room { 1 ≤ length buffer.old }
+        ensures bound { IfOk result (λ n. n ≤ length buffer.new) }
+        ensures ok { IfOk result (λ n. seen self.new ≡ moved (seen self.old) (take n buffer.new)) }
+        ensures err { OnErr result (seen self.new ≡ failed (seen self.old)) };
+}
+
+/// A reader of std as a source.
+#[derive(Drop)]
+pub struct Reader<R: Read> {
+    reader: R,
+    trail: Trail,
+}
+
+impl<R: Read + Drop> Reader<R> {
+    /// The source of what the reader has left.
+    pub fn new(reader: R) -> Reader<R>
+        ensures { ⟦<Reader<R> as Source>⟧.seen result ≡ untouched }
+    {
+        Reader {
+            reader,
+            trail: Trail::new(),
+        }
+    }
+}
+
+impl<R: Read + Drop> Source for Reader<R> {
+    ghost seen = { λ it. it.trail.seen };
+
+    fn read(&mut self, buffer: &mut [u8]) -> Result<usize, Failed> {
+        match self.reader.read(buffer) {
+            Ok(count) => {
+                self.trail = self.trail.then(&Event::Moved(&buffer[..count]));
+                Ok(count)
+            }
+            Err(_) => {
+                self.trail = self.trail.then(&Event::Failed);
+                Err(Failed)
+            }
+        }
+    }
+}

@@ -1,0 +1,65 @@
+ghost use Rattle.std.specs.Prelude.{◌≡◌, [], ◌++◌, OnOk, OnErr, decimal};
+ghost use Rattle.xsb.specs.Written.{written};
+
+use grid::Level;
+use itoa::Buffer;
+use std::alloc::{AllocError, Global};
+use std::marker::Model;
+use xsb::write;
+
+/// A text as it is made.
+#[derive(Drop)]
+pub(crate) struct Text {
+    bytes: Vec<u8>,
+}
+
+impl Model for Text {
+    ghost use Rattle.std.specs.Prelude.{ℕ, List};
+
+    ghost Value = { List ℕ };
+
+    ghost view = { λ a. a.bytes.items };
+}
+
+impl Text {
+    /// No text.
+    pub(crate) fn new(alloc: Global) -> Text
+        ensures { result ≡ [] }
+    {
+        Text {
+            bytes: Vec::new(alloc),
+        }
+    }
+
+    /// Appends words; where memory is refused the text stays as it was.
+    pub(crate) fn put(&mut self, words: &[u8]) -> Result<(), AllocError>
+        ensures ok { OnOk result (self.new ≡ self.old ++ words.now) }
+        ensures err { OnErr result (self.new ≡ self.old) }
+    {
+        self.bytes.extend_from_slice(words)?;
+        Ok(())
+    }
+
+    /// Appends a number in decimal digits; where memory is refused the text stays as it was.
+    pub(crate) fn put_number(&mut self, number: usize) -> Result<(), AllocError>
+        ensures ok { OnOk result (self.new ≡ self.old ++ decimal number) }
+        ensures err { OnErr result (self.new ≡ self.old) }
+    {
+        self.put(Buffer::new().format(number).as_bytes())
+    }
+
+    /// Appends the rows of a level; where memory is refused the text stays as it was.
+    pub(crate) fn put_rows(&mut self, level: &Level) -> Result<(), AllocError>
+        ensures ok { OnOk result (self.new ≡ self.old ++ written level.now) }
+        ensures err { OnErr result (self.new ≡ self.old) }
+    {
+        write(level, &mut self.bytes)
+    }
+
+    /// The text's bytes.
+    pub(crate) fn as_slice(&self) -> &[u8]
+        ensures { result.now ≡ self.now }
+    {
+        self.bytes.as_slice()
+    }
+}
