@@ -1,0 +1,152 @@
+-- Layer 0, and a new book.
+use Rattle.std.proofs.Common.{◌≡◌, ℕ, zero, suc, ◌<◌, ◌≤◌, false, List, [], ◌∷◌, length, sum, drop, replicate, Bool, Option, Some, None, inl, refl, sym, ap, subst, ◌∙◌, arith}
+use Rattle.std.proofs.lemmas.List.{length-replicate}
+use Rattle.std.proofs.lemmas.Option.{same_Some, none-some}
+use Rattle.std.specs.Prelude.{slice_get}
+use Rattle.std.specs.Ordering.{is_gt}
+use Rattle.grid.specs.declared.square.Push.{Push}
+use Rattle.grid.specs.Board.{Board, Scene, start, push_cmp}
+use Rattle.grid.specs.Lawful.{IsLevel, FitsLevel}
+use Rattle.grid.specs.Plays.{shortlex}
+use Rattle.grid.specs.Plays.Play.{stay}
+use Rattle.grid.proofs.Plays.{play_first}
+use Rattle.area.specs.Area.{IsNorm}
+use Rattle.doom.specs.Deadlocks.{Doomed, Undoomed}
+use Rattle.layers.specs.Layered.{IsLead, Origin, Entry}
+use Rattle.layers.specs.Reaching.{Reaches, share_of}
+use Rattle.layers.specs.BookView.{BookView, Closed, IsShareOfLayer, AreBounds, IsLawfulBook}
+use Rattle.layers.specs.BookInside.{cut_at, AreCuts}
+use Rattle.layers.specs.Books.{IsNew}
+use Rattle.layers.proofs.Books.{level_laws}
+use Rattle.layers.proofs.Lists.{sum_by_first}
+use Rattle.layers.proofs.Orders.{shortlex_shorter}
+
+-- with one share each position is of it
+pub one_share : (m : Scene) → share_of 1 m ≡ 0
+one_share m = omega arith
+
+no_later : (qs : List Push) → is_gt (shortlex push_cmp [] qs) ≡ false
+no_later [] = refl
+no_later (q ∷ qs) = shortlex_shorter push_cmp [] (q ∷ qs) (omega arith)
+
+-- the start's normal position is layer 0
+pub first_layer : (board : Board) → IsLevel board → (n : Scene) → Undoomed board (start board) → IsNorm board (start board) n → FitsLevel board n → IsShareOfLayer board 1 0 0 ((n, None) ∷ [])
+first_layer board level n safe norm fits = record {
+  layer = record {
+    leads = λ r m at. leads r m at;
+    rise = λ r s m l ps qs lt at_r at_s. absurd (past r s l lt at_s);
+    whole = λ ps m reach long part. inl (zero, ap (λ (x : Scene). Some x) (same ps m reach long));
+  };
+  origins = λ i m o at. origin i m o at;
+  fits = λ i m o at. fit i m o at;
+}
+  where
+    here : Reaches board [] n
+    here = ([], start board, stay safe, norm)
+
+    lead : IsLead push_cmp (Reaches board) n []
+    lead = record { reached = here; least = λ qs reach. no_later qs }
+
+    leads : (r : ℕ) (m : Scene) → slice_get (n ∷ []) r ≡ Some m → (share_of 1 m ≡ 0) × ((ps : List Push) × IsLead push_cmp (Reaches board) m ps × (length ps ≡ 0))
+    leads zero m at = (one_share m, ([], subst (λ x. IsLead push_cmp (Reaches board) x []) (same_Some n m at) lead, refl))
+    leads (suc r) m at = absurd (none-some m at)
+
+    past : (r s : ℕ) (l : Scene) → r < s → slice_get (n ∷ []) s ≡ Some l → ⊥
+    past r zero l lt at = omega arith
+    past r (suc s) l lt at = none-some l at
+
+    same : (ps : List Push) (m : Scene) → Reaches board ps m → length ps ≡ 0 → n ≡ m
+    same [] m reach long = (level_laws board level).same [] n m here reach
+    same (p ∷ ps) m reach long = absurd (omega arith)
+
+    origin : (i : ℕ) (m : Scene) (o : Option (Origin Push)) → slice_get {X = Closed} ((n, None) ∷ []) i ≡ Some (m, o) → o ≡ None
+    origin zero m o at = sym (ap (λ (x : Closed). x.1) (same_Some (n, None) (m, o) at))
+    origin (suc i) m o at = absurd (none-some (m, o) at)
+
+    fit : (i : ℕ) (m : Scene) (o : Option (Origin Push)) → slice_get {X = Closed} ((n, None) ∷ []) i ≡ Some (m, o) → FitsLevel board m
+    fit zero m o at = subst (FitsLevel board) (ap (λ (x : Closed). x.0) (same_Some (n, None) (m, o) at)) fits
+    fit (suc i) m o at = absurd (none-some (m, o) at)
+
+-- where the start is doomed layer 0 is empty
+pub doomed_layer : (board : Board) → Doomed board (start board).boxes → IsShareOfLayer board 1 0 0 []
+doomed_layer board doomed = record {
+  layer = record {
+    leads = λ r m at. absurd (none-some m at);
+    rise = λ r s m l ps qs lt at_r at_s. absurd (none-some m at_r);
+    whole = λ ps m reach long part. absurd (play_first reach.2 doomed);
+  };
+  origins = λ i m o at. absurd (none-some (m, o) at);
+  fits = λ i m o at. absurd (none-some (m, o) at);
+}
+
+none_summed : (n : ℕ) → sum (replicate n 0) ≡ 0
+none_summed zero = refl
+none_summed (suc n) = omega (arith, sum_by_first (λ (x : ℕ). x) 0 (replicate n 0), none_summed n)
+
+-- a new book is lawful
+pub lawful_new : (board : Board) (limit workers share shares : ℕ) (es : List Closed) → IsLevel board → AreBounds limit workers share shares → IsShareOfLayer board shares share 0 es → length es ≤ limit →
+    IsLawfulBook (record { level = board; limit = limit; workers = workers; share = share; shares = shares; closed = es ∷ []; begun = false; claimed = []; done = []; waiting = []; tallies = replicate workers 0; over = false })
+lawful_new board limit workers share shares es level bounds layer few = record {
+  level = level;
+  bounds = bounds;
+  some = omega arith;
+  closed = λ k xs at. closed k xs at;
+  wholes = [];
+  whole = λ j xs at. absurd (none-some xs at);
+  few = omega arith;
+  begun = λ e. cc;
+  not_begun = λ e. (omega arith, refl, refl, refl);
+  waiting = λ e. cc;
+  distinct = λ i j m at_i at_j. absurd (none-some m at_i);
+  fits = λ m w. absurd (none-some m w.1);
+  tallies = (length-replicate workers 0, omega (arith, none_summed workers));
+  within = omega (arith, sum_by_first length es []);
+  over = λ e. cc;
+}
+  where
+    closed : (k : ℕ) (xs : List Closed) → slice_get (es ∷ []) k ≡ Some xs → IsShareOfLayer board shares share k xs
+    closed zero xs at = subst (IsShareOfLayer board shares share 0) (same_Some es xs at) layer
+    closed (suc k) xs at = absurd (none-some xs at)
+
+drop_none : {A : Type 0} (xs : List A) → drop 0 xs ≡ xs
+drop_none [] = refl
+drop_none (x ∷ xs) = refl
+
+-- ---- a new book, on the fields
+
+module _ (board : Board) (limit workers share shares : ℕ) (starts tallies : List ℕ) (es : List Closed) (claimed done : List Bool) (waiting : List (Entry Scene Push))
+    (one : shares ≡ 1) (dealt : share < shares) (layer : IsShareOfLayer board 1 0 0 es × (length es ≤ 1))
+    (starts_are : starts ≡ replicate 1 0) (tallies_are : tallies ≡ replicate workers 0) (no_claims : claimed ≡ []) (none_done : done ≡ []) (none_waits : waiting ≡ []) where
+  abbrev fresh : BookView
+  fresh = record { level = board; limit = limit; workers = workers; share = share; shares = shares; closed = cut_at starts es; begun = false; claimed = claimed; done = done; waiting = waiting; tallies = tallies; over = false }
+
+  closed_is : cut_at starts es ≡ es ∷ []
+  closed_is = ap (λ s. cut_at s es) starts_are ∙ ap (λ xs. xs ∷ []) (drop_none es)
+
+  share_is : IsShareOfLayer board shares share 0 es
+  share_is = subst (λ n. IsShareOfLayer board n share 0 es) (sym one) (subst (λ s. IsShareOfLayer board 1 s 0 es) (zero_is share (omega arith)) layer.0)
+    where
+      zero_is : (s : ℕ) → s < 1 → 0 ≡ s
+      zero_is s lt = omega arith
+
+  pub fresh_lawful : IsLevel board → AreBounds limit workers share shares → IsLawfulBook fresh
+  fresh_lawful level bounds = subst IsLawfulBook
+      (λ i. record { level = board; limit = limit; workers = workers; share = share; shares = shares; closed = sym closed_is i; begun = false; claimed = sym no_claims i; done = sym none_done i; waiting = sym none_waits i; tallies = sym tallies_are i; over = false })
+      (lawful_new board limit workers share shares es level bounds share_is (omega (arith, layer.1, bounds.limits.0)))
+
+  pub fresh_cuts : AreCuts starts (length es)
+  fresh_cuts = subst (λ s. AreCuts s (length es)) (sym starts_are) (record { first = refl; rise = λ j p q at next. absurd (none-some q next); within = λ j p at. within j p at })
+    where
+      within : (j p : ℕ) → slice_get (0 ∷ []) j ≡ Some p → p ≤ length es
+      within zero p at = omega (arith, same_Some 0 p at)
+      within (suc j) p at = absurd (none-some p at)
+
+  pub fresh_new : IsNew board limit workers share shares fresh
+  fresh_new = record {
+    made_with = (refl, refl, refl, refl, refl);
+    closed = (es, closed_is, share_is);
+    begun = refl;
+    nothing = (no_claims, none_done, none_waits);
+    tallies = tallies_are;
+    over = refl;
+  }

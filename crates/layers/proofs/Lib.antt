@@ -1,0 +1,14 @@
+pub mod Orders
+pub mod Exchange
+pub mod Open
+pub mod Lists
+pub mod Layers
+pub mod Reaching
+pub mod Successors
+pub mod Gathering
+pub mod Offers
+pub mod Books
+pub mod Cuts
+pub mod Closings
+pub mod First
+pub mod Joins

@@ -1,0 +1,108 @@
+-- What contracts see of a book, and what is true of each: a book is lawful.
+use Rattle.std.specs.Prelude.{◌≡◌, ℕ, zero, suc, ◌+◌, ◌-◌, ◌^◌, ◌<◌, ◌≤◌, Bool, true, false, List, [], ◌∷◌, ◌++◌, length, map, sum, take, count_by, slice_get, slice_index_or, Option, None, Some}
+use Rattle.std.specs.Map.{lookup}
+use Rattle.std.specs.Option.{option_to_list}
+use Rattle.grid.specs.declared.square.Push.{Push}
+use Rattle.grid.specs.Board.{Board, Scene, push_cmp}
+use Rattle.grid.specs.Lawful.{FitsLevel, IsLevel}
+use Rattle.layers.specs.declared.limits.TheConstants.{MAX_SHARES, MAX_WORKERS, MOST_POSITIONS}
+use Rattle.layers.specs.Layered.{IsIn, IsLayer, Origin, Entry, IsOpen}
+use Rattle.layers.specs.Reaching.{Reaches, IsSuccessor, AreLayersOf, HasOrigin, same_scene, share_of, total}
+
+-- a closed position with its parent's rank and its push; in layer 0 there is neither
+abbrev pub Closed : Type 0
+Closed = Scene × Option (Origin Push)
+
+-- a book: what it was made with; its closed layers, layer 0 first; whether the last one has begun, and then marks
+-- over its ranks; the positions that stand open, each with its least origin; for each worker the number of ranks that
+-- it handed back; and whether the limit was passed
+pub record BookView : Type 0 where
+  pub level : Board
+  pub limit : ℕ
+  pub workers : ℕ
+  pub share : ℕ
+  pub shares : ℕ
+  pub closed : List (List Closed)
+  pub begun : Bool
+  pub claimed : List Bool
+  pub done : List Bool
+  pub waiting : List (Entry Scene Push)
+  pub tallies : List ℕ
+  pub over : Bool
+
+-- the number of the last closed layer
+abbrev pub last_layer : BookView → ℕ
+last_layer v = length v.closed - 1
+
+-- the positions of a closed list
+abbrev pub places_of : List Closed → List Scene
+places_of es = map (λ e. e.0) es
+
+-- the origins of a closed list, of those positions that have one
+abbrev pub origins_of : List Closed → List (Origin Push)
+origins_of [] = []
+origins_of (e ∷ es) = option_to_list e.1 ++ origins_of es
+
+-- a position of the book's share
+abbrev pub InShare : BookView → Scene → Type 0
+InShare v m = share_of v.shares m ≡ v.share
+
+-- the origin that a position stands open with, if it does
+abbrev pub origin_of : List (Entry Scene Push) → Scene → Option (Origin Push)
+origin_of waiting m = lookup (same_scene m) waiting
+
+-- a closed position of layer k beyond layer 0 has its parent's rank and its push; one of layer 0 has none
+abbrev pub HasClosedOrigin : Board → ℕ → Scene → Option (Origin Push) → Type 0
+HasClosedOrigin board zero m o = o ≡ None
+HasClosedOrigin board (suc k) m None = ⊥
+HasClosedOrigin board (suc k) m (Some o) = HasOrigin board k m o
+
+-- es is layer k cut down to the positions of one share, in the order of the leads, each with its origin
+pub record IsShareOfLayer (level : Board) (shares share k : ℕ) (es : List Closed) : Type 0 where
+  pub layer : IsLayer push_cmp (Reaches level) (λ j m. share_of shares m ≡ share) k (places_of es)
+  pub origins : (i : ℕ) (m : Scene) (o : Option (Origin Push)) → slice_get es i ≡ Some (m, o) → HasClosedOrigin level k m o
+  pub fits : (i : ℕ) (m : Scene) (o : Option (Origin Push)) → slice_get es i ≡ Some (m, o) → FitsLevel level m
+
+-- the rank was handed back
+abbrev pub IsDone : BookView → ℕ → Type 0
+IsDone v r = slice_index_or v.done r false ≡ true
+
+-- no position stands twice
+abbrev pub AreDistinct : List Scene → Type 0
+AreDistinct ms = (i j : ℕ) (m : Scene) → slice_get ms i ≡ Some m → slice_get ms j ≡ Some m → i ≡ j
+
+-- k pushes through undoomed positions lead to m, and no fewer
+abbrev pub IsAtDistance : Board → Scene → ℕ → Type 0
+IsAtDistance board m k = ((ps : List Push) × Reaches board ps m × (length ps ≡ k)) × ((qs : List Push) → Reaches board qs m → k ≤ length qs)
+
+-- so many positions of the share lie in the layer after the last closed one that the limit is passed
+pub record IsPassed (v : BookView) : Type 0 where
+  pub places : List Scene
+  pub distinct : AreDistinct places
+  pub next : (m : Scene) → IsIn places m → InShare v m × IsAtDistance v.level m (length v.closed)
+  pub passed : v.limit < total v.closed + length places
+
+-- the numbers that a book is made with
+pub record AreBounds (limit workers share shares : ℕ) : Type 0 where
+  pub limits : (1 ≤ limit) × (limit < 2 ^ 32)
+  pub crew : (1 ≤ workers) × (workers ≤ MAX_WORKERS + 1)
+  pub dealt : (share < shares) × (shares ≤ MAX_SHARES)
+
+-- a book is lawful.  wholes is the layers that it has seen whole: those before the last closed one, and that one
+-- too once it has begun.
+pub record IsLawfulBook (v : BookView) : Type 0 where
+  pub level : IsLevel v.level
+  pub bounds : AreBounds v.limit v.workers v.share v.shares
+  pub some : 1 ≤ length v.closed
+  pub closed : (k : ℕ) (es : List Closed) → slice_get v.closed k ≡ Some es → IsShareOfLayer v.level v.shares v.share k es
+  pub wholes : List (List Scene)
+  pub whole : AreLayersOf v.level wholes
+  pub few : total wholes ≤ MOST_POSITIONS
+  pub begun : v.begun ≡ true → (length wholes ≡ length v.closed) × (length v.claimed ≡ length v.done) × (length v.done ≡ length (slice_index_or wholes (last_layer v) []))
+  pub not_begun : v.begun ≡ false → (length wholes ≡ last_layer v) × (v.claimed ≡ []) × (v.done ≡ []) × (v.waiting ≡ [])
+  pub waiting : v.begun ≡ true → IsOpen push_cmp (IsSuccessor v.level) (InShare v) (λ j. slice_index_or wholes j []) (last_layer v) (λ r p. IsDone v r) (origin_of v.waiting)
+  pub distinct : AreDistinct (map (λ e. e.0) v.waiting)
+  pub fits : (m : Scene) → IsIn (map (λ e. e.0) v.waiting) m → FitsLevel v.level m
+  pub tallies : (length v.tallies ≡ v.workers) × (sum v.tallies ≡ total (take (last_layer v) wholes) + count_by (λ b. b) v.done)
+  pub within : total v.closed + length v.waiting ≤ v.limit
+  pub over : v.over ≡ true → IsPassed v × ((r : ℕ) × (r < length v.done) × (slice_index_or v.done r true ≡ false))

@@ -1,0 +1,211 @@
+-- The events of a book: each gives the book after it as a function of the book before, and says what it leaves.
+use Rattle.std.specs.Prelude.{◌≡◌, ◌≢◌, ℕ, suc, ◌+◌, ◌<◌, ◌≤◌, Bool, true, false, ◌==◌, ◌&&◌, not, List, [], ◌∷◌, ◌++◌, length, map, fold, replicate, slice_get, slice_index_or, slice_set, Option, None, Some, ◌⊎◌, is_some, if◌then◌else◌}
+use Rattle.std.specs.Map.{lookup}
+use Rattle.std.specs.List.{list_any}
+use Rattle.grid.specs.declared.square.Push.{Push}
+use Rattle.grid.specs.Board.{Board, Scene, push_cmp}
+use Rattle.layers.specs.declared.book.Claim.{Claim}
+use Rattle.layers.specs.declared.book.Closed.{Closed as Report}
+use Rattle.grid.specs.declared.limits.TheConstants.{MAX_BOXES}
+use Rattle.grid.specs.Lawful.{box_count}
+use Rattle.layers.specs.declared.fault.BookFault.{BookFault}
+use Rattle.layers.specs.declared.fault.BookFault.TheVariants.{TooManyBoxes, OutOfMemory as BookOutOfMemory}
+use Rattle.layers.specs.declared.fault.BeginFault.{BeginFault}
+use Rattle.layers.specs.declared.fault.BeginFault.TheVariants.{OtherLevel as BeginOtherLevel, OtherLayer as BeginOtherLayer, OutOfMemory as BeginOutOfMemory}
+use Rattle.layers.specs.declared.fault.Refusal.{Refusal}
+use Rattle.layers.specs.declared.fault.Refusal.TheVariants.{OtherLevel, OtherLayer, NoSuchRank, Double, Over, OutOfMemory}
+use Rattle.layers.specs.declared.fault.CloseFault.{CloseFault}
+use Rattle.layers.specs.declared.fault.CloseFault.TheVariants.{NotAll, OutOfMemory as CloseOutOfMemory}
+use Rattle.layers.specs.declared.fault.JoinFault.{JoinFault}
+use Rattle.layers.specs.declared.fault.JoinFault.TheVariants.{NotWhole, OutOfMemory as JoinOutOfMemory}
+use Rattle.layers.specs.declared.parcel.Successor.{Successor}
+use Rattle.std.specs.Ordering.{is_gt}
+use Rattle.layers.specs.Layered.{Origin, origin_cmp, Entry, lesser}
+use Rattle.layers.specs.Reaching.{same_scene, share_of, total}
+use Rattle.layers.specs.LayerView.{LayerView}
+use Rattle.layers.specs.ParcelView.{ParcelView}
+use Rattle.layers.specs.BookView.{BookView, Closed, IsShareOfLayer, IsDone, AreDistinct, origin_of, last_layer, places_of}
+
+-- ---- a new book
+
+-- a new book has closed layer 0 and has begun nothing
+pub record IsNew (level : Board) (limit workers share shares : ℕ) (v : BookView) : Type 0 where
+  pub made_with : (v.level ≡ level) × (v.limit ≡ limit) × (v.workers ≡ workers) × (v.share ≡ share) × (v.shares ≡ shares)
+  pub closed : (es : List Closed) × (v.closed ≡ es ∷ []) × IsShareOfLayer level shares share 0 es
+  pub begun : v.begun ≡ false
+  pub nothing : (v.claimed ≡ []) × (v.done ≡ []) × (v.waiting ≡ [])
+  pub tallies : v.tallies ≡ replicate workers 0
+  pub over : v.over ≡ false
+
+-- why no book is made
+abbrev pub BookRefused : Board → BookFault → Type 0
+BookRefused board TooManyBoxes = MAX_BOXES < box_count board
+BookRefused board BookOutOfMemory = box_count board ≤ MAX_BOXES
+
+-- the position at a place of a closed layer's list
+abbrev pub closed_place : List (List Closed) → ℕ → ℕ → Option Scene
+closed_place lists k i = slice_get (places_of (slice_index_or lists k [])) i
+
+-- ---- begin
+
+-- the layer is the last closed one of the same level, and has not begun
+abbrev pub MayBegin : BookView → LayerView → Type 0
+MayBegin v layer = (layer.level ≡ v.level) × (layer.number ≡ last_layer v) × (v.begun ≡ false)
+
+-- after a begin all ranks of the layer are free, and nothing stands open
+abbrev pub with_begun : BookView → ℕ → BookView
+with_begun v ranks = record v { begun = true; claimed = replicate ranks false; done = replicate ranks false; waiting = [] }
+
+-- why a begin is refused; of two reasons the first in this order
+abbrev pub BeginRefused : BookView → LayerView → BeginFault → Type 0
+BeginRefused v layer BeginOtherLevel = ¬ (layer.level ≡ v.level)
+BeginRefused v layer BeginOtherLayer = (layer.level ≡ v.level) × ((layer.number ≢ last_layer v) ⊎ (v.begun ≡ true))
+BeginRefused v layer BeginOutOfMemory = MayBegin v layer
+
+-- ---- claim
+
+-- the rank is claimed or done
+abbrev pub IsTaken : BookView → ℕ → Type 0
+IsTaken v r = (slice_index_or v.claimed r false ≡ true) ⊎ (slice_index_or v.done r false ≡ true)
+
+-- the rank is neither claimed nor done
+abbrev pub IsFreeRank : BookView → ℕ → Type 0
+IsFreeRank v r = (slice_get v.claimed r ≡ Some false) × (slice_get v.done r ≡ Some false)
+
+-- a claim answers the least rank that is neither claimed nor done, and then that rank is claimed; or nothing, where
+-- each rank is taken, and so where nothing has begun
+abbrev pub ClaimAnswer : BookView → Option Claim → BookView → Type 0
+ClaimAnswer v None after = ((r : ℕ) → r < length v.done → IsTaken v r) × (after ≡ v)
+ClaimAnswer v (Some claim) after =
+    (claim.layer ≡ last_layer v) × IsFreeRank v claim.rank × ((r : ℕ) → r < claim.rank → IsTaken v r) × (after ≡ record v { claimed = slice_set v.claimed claim.rank true })
+
+-- ---- hand back
+
+-- a position is offered with an origin: one that stands open keeps the lesser of its origins, and a new one comes last
+abbrev pub offered : List (Entry Scene Push) → Scene → Origin Push → List (Entry Scene Push)
+offered [] m o = (m, o) ∷ []
+offered (e ∷ es) m o = if same_scene m e.0 then (e.0, lesser push_cmp e.1 o) ∷ es else e ∷ offered es m o
+
+-- the position is in a closed list
+abbrev pub is_closed : List (List Closed) → Scene → Bool
+is_closed lists m = list_any (λ es. list_any (λ e. same_scene m e.0) es) lists
+
+-- the position is of the share and among no closed positions
+abbrev pub is_wanted_in : List Closed → ℕ → ℕ → Scene → Bool
+is_wanted_in seen shares share m = (share_of shares m == share) && not (is_some (lookup (same_scene m) seen))
+
+-- the position is of the book's share and in no closed list
+abbrev pub is_wanted : BookView → Scene → Bool
+is_wanted v m = (share_of v.shares m == v.share) && not (is_closed v.closed m)
+
+-- one successor of a rank enters, if its position is wanted
+abbrev pub entered : (Scene → Bool) → ℕ → List (Entry Scene Push) → Successor → List (Entry Scene Push)
+entered wanted rank waiting s = if wanted s.position then offered waiting s.position (rank, s.push) else waiting
+
+-- what stands open once the successors of a rank have entered
+abbrev pub all_entered : BookView → ℕ → List Successor → List (Entry Scene Push)
+all_entered v rank ss = fold (entered (is_wanted v) rank) v.waiting ss
+
+-- the book after a parcel was accepted: its rank is done, the worker's tally is one more, its successors have entered
+abbrev pub with_parcel : BookView → ℕ → ParcelView → BookView
+with_parcel v worker parcel = record v {
+  done = slice_set v.done parcel.rank true;
+  waiting = all_entered v parcel.rank parcel.successors;
+  tallies = slice_set v.tallies worker (suc (slice_index_or v.tallies worker 0));
+}
+
+-- the parcel is of a rank of the last closed layer, which has begun
+abbrev pub IsAtWork : BookView → ParcelView → Type 0
+IsAtWork v parcel = (parcel.level ≡ v.level) × (parcel.layer ≡ last_layer v) × (parcel.rank < length v.done)
+
+-- the book is over, or would hold more positions than its limit
+abbrev pub PassesLimit : BookView → ParcelView → Type 0
+PassesLimit v parcel = (v.over ≡ true) ⊎ (v.limit < total v.closed + length (all_entered v parcel.rank parcel.successors))
+
+-- nothing but want of memory stands in the parcel's way
+abbrev pub MayEnter : BookView → ParcelView → Type 0
+MayEnter v parcel = IsAtWork v parcel × (slice_get v.done parcel.rank ≡ Some false) × (v.over ≡ false) × (total v.closed + length (all_entered v parcel.rank parcel.successors) ≤ v.limit)
+
+-- why a parcel is refused; of several reasons the first in this order
+abbrev pub HandBackRefused : BookView → ParcelView → Refusal → Type 0
+HandBackRefused v parcel OtherLevel = ¬ (parcel.level ≡ v.level)
+HandBackRefused v parcel OtherLayer = (parcel.level ≡ v.level) × (parcel.layer ≢ last_layer v)
+HandBackRefused v parcel NoSuchRank = (parcel.level ≡ v.level) × (parcel.layer ≡ last_layer v) × (length v.done ≤ parcel.rank)
+HandBackRefused v parcel Double = IsAtWork v parcel × (slice_get v.done parcel.rank ≡ Some true)
+HandBackRefused v parcel Over = IsAtWork v parcel × (slice_get v.done parcel.rank ≡ Some false) × PassesLimit v parcel
+HandBackRefused v parcel OutOfMemory = MayEnter v parcel
+
+-- a refused parcel changes nothing, but Over marks the book over
+abbrev pub after_refusal : BookView → Refusal → BookView
+after_refusal v OtherLevel = v
+after_refusal v OtherLayer = v
+after_refusal v NoSuchRank = v
+after_refusal v Double = v
+after_refusal v Over = record v { over = true }
+after_refusal v OutOfMemory = v
+
+-- ---- reopen
+
+-- the claimed ranks are exactly the done ones
+abbrev pub with_reopened : BookView → BookView
+with_reopened v = record v { claimed = v.done }
+
+-- ---- close
+
+-- the layer has begun and each of its ranks is done
+abbrev pub AllDone : BookView → Type 0
+AllDone v = (v.begun ≡ true) × ((r : ℕ) → r < length v.done → IsDone v r)
+
+-- an entry as it stands in a closed list
+abbrev pub closed_entry : Entry Scene Push → Closed
+closed_entry y = (y.0, Some y.1)
+
+-- no entry has a lesser origin than one before it
+abbrev pub RiseByOrigin : List (Entry Scene Push) → Type 0
+RiseByOrigin es = (i j : ℕ) (x y : Entry Scene Push) → i < j → slice_get es i ≡ Some x → slice_get es j ≡ Some y → is_gt (origin_cmp push_cmp x.1 y.1) ≡ false
+
+-- the same entries, perhaps in another order: as many, each position found as before, and none twice
+abbrev pub AreReordered : List (Entry Scene Push) → List (Entry Scene Push) → Type 0
+AreReordered before after = (length after ≡ length before) × ((m : Scene) → origin_of after m ≡ origin_of before m) × AreDistinct (map (λ e. e.0) after)
+
+-- no entry's position was seen
+abbrev pub AreNew : List Closed → List (Entry Scene Push) → Type 0
+AreNew seen es = (i : ℕ) (m : Scene) (o : Origin Push) → slice_get es i ≡ Some (m, o) → lookup (same_scene m) seen ≡ None
+
+-- the book after a close: what stood open is the next closed list, by rank and push; nothing has begun
+abbrev pub with_closed : BookView → List Closed → BookView
+with_closed v es = record v { closed = v.closed ++ es ∷ []; begun = false; claimed = []; done = []; waiting = [] }
+
+-- es is what stood open, in the order of the origins
+pub record IsSortedOpen (v : BookView) (es : List Closed) : Type 0 where
+  pub from : (i : ℕ) (m : Scene) (o : Option (Origin Push)) → slice_get es i ≡ Some (m, o) → (p : Origin Push) × (o ≡ Some p) × (lookup (same_scene m) v.waiting ≡ Some p)
+  pub all : length es ≡ length v.waiting
+  pub next : IsShareOfLayer v.level v.shares v.share (length v.closed) es
+
+-- a close that is accepted
+abbrev pub IsClosedBy : BookView → Report → BookView → Type 0
+IsClosedBy v report after =
+    AllDone v × ((es : List Closed) × IsSortedOpen v es × (after ≡ with_closed v es) × (report.layer ≡ length v.closed) × (report.count ≡ length es))
+
+-- why a close is refused
+abbrev pub CloseRefused : BookView → CloseFault → Type 0
+CloseRefused v NotAll = (v.begun ≡ false) ⊎ ((r : ℕ) × (slice_get v.done r ≡ Some false))
+CloseRefused v CloseOutOfMemory = AllDone v
+
+-- ---- join
+
+-- the books are all the shares, in order, of one level, limit and number of shares, at the same last closed layer
+pub record AreAllShares (books : List BookView) : Type 0 where
+  pub first : BookView
+  pub head : slice_get books 0 ≡ Some first
+  pub all : length books ≡ first.shares
+  pub each : (i : ℕ) (v : BookView) → slice_get books i ≡ Some v → (v.share ≡ i) × (v.level ≡ first.level) × (v.limit ≡ first.limit) × (v.shares ≡ first.shares) × (length v.closed ≡ length first.closed)
+
+-- the layer is that of the books' level, at their last closed layer
+abbrev pub IsJoinOf : List BookView → LayerView → Type 0
+IsJoinOf books layer = AreAllShares books × ((v : BookView) → slice_get books 0 ≡ Some v → (layer.level ≡ v.level) × (layer.number ≡ last_layer v))
+
+-- why books are not joined
+abbrev pub JoinRefused : List BookView → JoinFault → Type 0
+JoinRefused books NotWhole = ¬ (AreAllShares books)
+JoinRefused books JoinOutOfMemory = AreAllShares books

@@ -1,0 +1,9 @@
+pub mod Layered
+pub mod Reaching
+pub mod LayerView
+pub mod ParcelView
+pub mod Expansion
+pub mod BookView
+pub mod Books
+pub mod BookInside
+pub mod Insides

@@ -1,0 +1,33 @@
+-- What contracts see of a parcel, and what is true of each.
+use Rattle.std.specs.Prelude.{◌≡◌, ℕ, ◌<◌, List, slice_get, Some}
+use Rattle.std.specs.declared.cmp.Ordering.TheVariants.{Less}
+use Rattle.grid.specs.declared.square.Push.{Push}
+use Rattle.grid.specs.Board.{Board, Scene, push_cmp}
+use Rattle.grid.specs.Lawful.{FitsLevel, IsLevel}
+use Rattle.layers.specs.declared.parcel.Successor.{Successor}
+use Rattle.layers.specs.Reaching.{IsLayerOf, IsSuccessor}
+
+-- a parcel: the level, a layer's number, a rank of it, and the successors of the position with that rank
+pub record ParcelView : Type 0 where
+  pub level : Board
+  pub layer : ℕ
+  pub rank : ℕ
+  pub successors : List Successor
+
+-- ss is the undoomed successors of n with their pushes, each once, in the order of the pushes
+pub record AreSuccessors (board : Board) (n : Scene) (ss : List Successor) : Type 0 where
+  pub each : (i : ℕ) (s : Successor) → slice_get ss i ≡ Some s → IsSuccessor board n s.push s.position
+  pub rise : (i j : ℕ) (s t : Successor) → i < j → slice_get ss i ≡ Some s → slice_get ss j ≡ Some t → push_cmp s.push t.push ≡ Less
+  pub whole : (p : Push) (m : Scene) → IsSuccessor board n p m → (i : ℕ) × (slice_get ss i ≡ Some (record { push = p; position = m }))
+
+-- each successor is a position of the level
+abbrev pub FitLevel : Board → List Successor → Type 0
+FitLevel board ss = (i : ℕ) (s : Successor) → slice_get ss i ≡ Some s → FitsLevel board s.position
+
+-- the parcel of a rank of its layer holds exactly the undoomed successors of the position there
+pub record IsParcel (v : ParcelView) : Type 0 where
+  pub lawful : IsLevel v.level
+  pub places : List Scene
+  pub layer : IsLayerOf v.level v.layer places
+  pub place : (n : Scene) × (slice_get places v.rank ≡ Some n) × AreSuccessors v.level n v.successors
+  pub fits : FitLevel v.level v.successors

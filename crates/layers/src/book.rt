@@ -1,0 +1,233 @@
+ghost use Rattle.std.specs.Prelude.{◌≡◌, ◌+◌, ◌-◌, ◌*◌, ◌<◌, ◌≤◌, ◌↔◌, IsTrue, IfOk, IfSome, MatchOption, MatchResult, length, slice_get, slice_index_or, true, Some};
+ghost use Rattle.grid.specs.Board.{start};
+ghost use Rattle.grid.specs.Lawful.{box_count, FitsLevel};
+ghost use Rattle.layers.specs.BookView.{IsLawfulBook, IsShareOfLayer, last_layer};
+ghost use Rattle.layers.specs.Books.{IsNew, BookRefused, closed_place};
+ghost use Rattle.layers.specs.BookInside.{AreCuts, IsPiece};
+ghost use Rattle.std.specs.Arc.{arc_value};
+
+use crate::fault::BookFault;
+use crate::limits::{MAX_SHARES, MAX_WORKERS};
+use area::{Scratch, normal};
+use doom::{Dead, doomed};
+use grid::{Level, MAX_BOXES, Position, Push};
+use indexmap::IndexMap;
+use std::alloc::{AllocError, Global};
+use std::marker::Model;
+use std::sync::Arc;
+
+/// A rank of a layer that a worker is to expand.
+#[derive(Clone, Copy, PartialEq, Eq, Debug)]
+pub struct Claim {
+    pub layer: u64,
+    pub rank: u64,
+}
+
+/// A layer that a book has closed: its number, and how many of its positions are of the book's share.
+#[derive(Clone, Copy, PartialEq, Eq, Debug)]
+pub struct Closed {
+    pub layer: u64,
+    pub count: u64,
+}
+
+/// What a book holds of the layers of its level: the closed ones, as far as its share of the positions goes, the
+/// marks over the ranks of the last one while its successors are entered, and the positions that stand open.
+#[derive(Drop)]
+pub struct Book {
+    pub(crate) level: Arc<Level>,
+    pub(crate) limit: u32,
+    pub(crate) workers: u8,
+    pub(crate) share: u8,
+    pub(crate) shares: u8,
+    // the closed positions, layer after layer, and where each layer begins
+    pub(crate) seen: IndexMap<Position, Option<(u64, Push)>>,
+    pub(crate) starts: Vec<usize>,
+    pub(crate) begun: bool,
+    pub(crate) claimed: Vec<bool>,
+    pub(crate) done: Vec<bool>,
+    // each rank below it is claimed or done
+    pub(crate) next: usize,
+    pub(crate) waiting: IndexMap<Position, (u64, Push)>,
+    pub(crate) tallies: Vec<u64>,
+    pub(crate) over: bool,
+}
+
+impl Model for Book {
+    ghost use Rattle.layers.specs.BookView.{BookView};
+
+    ghost Value = { BookView };
+
+    ghost use Rattle.layers.specs.BookInside.{book_view, IsSoundBook};
+
+    ghost view = { book_view };
+
+    ghost invariant = { IsSoundBook };
+}
+
+impl Book {
+    /// A book of a share of the level's positions, with layer 0 closed, which is empty where the start is doomed or
+    /// of another share. The only errors are that the level has more boxes than [`MAX_BOXES`](grid::MAX_BOXES), and
+    /// that memory was refused.
+    pub fn of(
+        alloc: Global,
+        level: Arc<Level>,
+        limit: u32,
+        workers: u8,
+        share: u8,
+        shares: u8,
+    ) -> Result<Book, BookFault>
+        requires limit { 1 ≤ limit }
+        requires workers { (1 ≤ workers) × (workers ≤ MAX_WORKERS + 1) }
+        requires share { share < shares }
+        requires shares { shares ≡ 1 }
+        ensures ok { IfOk result (λ book. IsNew (arc_value level) limit workers share shares book) }
+        ensures variant { MatchResult result (λ book. box_count (arc_value level) ≤ MAX_BOXES) (λ fault. BookRefused (arc_value level) fault) }
+    {
+        level.tell();
+        level.tell_start();
+        let Some(start) = Position::start(&level) else {
+            return Err(BookFault::TooManyBoxes);
+        };
+        let seen = first_seen(alloc, &level, &start)?;
+        let mut starts = Vec::new(alloc);
+        starts.resize(1, 0)?;
+        let mut tallies = Vec::new(alloc);
+        tallies.resize(workers as usize, 0)?;
+        Ok(Book {
+            level,
+            limit,
+            workers,
+            share,
+            shares,
+            seen,
+            starts,
+            begun: false,
+            claimed: Vec::new(alloc),
+            done: Vec::new(alloc),
+            next: 0,
+            waiting: IndexMap::new(alloc),
+            tallies,
+            over: false,
+        })
+    }
+
+    /// Tells what is true of every book.
+    pub fn tell(&self)
+        ensures { IsLawfulBook self.now }
+    {
+        let _ = &self.limit;
+    }
+
+    /// The level.
+    pub fn level(&self) -> &Level
+        ensures { result.now ≡ self.now.level }
+    {
+        &*self.level
+    }
+
+    /// The greatest number of closed and open positions.
+    pub fn limit(&self) -> u32
+        ensures { result ≡ self.now.limit }
+    {
+        self.limit
+    }
+
+    /// The number of workers.
+    pub fn workers(&self) -> u8
+        ensures { result ≡ self.now.workers }
+    {
+        self.workers
+    }
+
+    /// The number of the book's share, from 0.
+    pub fn share(&self) -> u8
+        ensures { result ≡ self.now.share }
+    {
+        self.share
+    }
+
+    /// The number of shares.
+    pub fn shares(&self) -> u8
+        ensures { result ≡ self.now.shares }
+    {
+        self.shares
+    }
+
+    /// The number of the last closed layer.
+    pub fn layer(&self) -> u64
+        ensures { result ≡ last_layer self.now }
+    {
+        self.starts.len() as u64 - 1
+    }
+
+    /// Whether the last closed layer has begun.
+    pub fn has_begun(&self) -> bool
+        ensures { result ≡ self.now.begun }
+    {
+        self.begun
+    }
+
+    /// How many ranks the worker has handed back.
+    pub fn tally(&self, worker: u8) -> u64
+        requires { worker < self.now.workers }
+        ensures { result ≡ slice_index_or self.now.tallies worker 0 }
+    {
+        self.tallies[worker as usize]
+    }
+
+    /// The position at a place of a closed layer's list; `None` exactly beyond the closed lists.
+    pub fn closed_at(&self, layer: u64, place: u64) -> Option<Position>
+        ensures { result ≡ closed_place self.now.closed layer place }
+    {
+        let (from, to) = piece_of(self.starts.as_slice(), self.seen.len(), layer)?;
+        if place >= (to - from) as u64 {
+            return None;
+        }
+        let (position, _) = self.seen.get_index(from + place as usize)?;
+        Some(position.copy())
+    }
+}
+
+// Layer 0, as what was seen at first: the start's normal position, or nothing where the start is doomed.
+fn first_seen(
+    alloc: Global,
+    level: &Level,
+    first: &Position,
+) -> Result<IndexMap<Position, Option<(u64, Push)>>, AllocError>
+    requires start { first.now ≡ start level.now }
+    requires fits { FitsLevel level.now first.now }
+    ensures { IfOk result (λ seen. IsShareOfLayer level.now 1 0 0 seen.entries × (length seen.entries ≤ 1)) }
+{
+    level.tell();
+    let dead = Dead::of(alloc, level)?;
+    let mut scratch = Scratch::new(alloc, level)?;
+    let mut seen = IndexMap::new(alloc);
+    if !doomed(level, &dead, first, &mut scratch) {
+        let normal = normal(level, first, &mut scratch);
+        if seen.insert(normal, None).is_err() {
+            return Err(AllocError);
+        }
+    }
+    Ok(seen)
+}
+
+// Where a piece of a list that is cut at these places begins and ends; `None` exactly beyond the pieces.
+pub(crate) fn piece_of(starts: &[usize], len: usize, piece: u64) -> Option<(usize, usize)>
+    requires { AreCuts starts.now len }
+    ensures piece { MatchOption result (length starts.now ≤ piece) (λ r. IsPiece starts.now len piece r.0 r.1) }
+    ensures order { IfSome result (λ r. (r.0 ≤ r.1) × (r.1 ≤ len)) }
+{
+    let from = *starts.get(piece as usize)?;
+    match starts.get(piece as usize + 1) {
+        Some(to) => Some((from, *to)),
+        None => Some((from, len)),
+    }
+}
+
+// Where the last piece of a list that is cut at these places begins.
+pub(crate) fn last_start(starts: &[usize]) -> usize
+    requires { 0 < length starts.now }
+    ensures { slice_get starts.now (length starts.now - 1) ≡ Some result }
+{
+    starts[starts.len() - 1]
+}

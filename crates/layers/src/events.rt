@@ -1,0 +1,173 @@
+ghost use Rattle.std.specs.Prelude.{◌≡◌, ℕ, ◌+◌, ◌<◌, ◌≤◌, nat_lt, Some, false, slice_get, IfNone, IfSome, IfErr, OnOk, OnErr, IfOk, length};
+ghost use Rattle.layers.specs.Reaching.{total};
+ghost use Rattle.layers.specs.Books.{IsAtWork, all_entered, MayBegin, with_begun, BeginRefused, ClaimAnswer, MayEnter, with_parcel, HandBackRefused, after_refusal, with_reopened, IsClosedBy, CloseRefused};
+
+use crate::book::{Book, Claim, Closed};
+use crate::closing::{all_marked, append_closed, push_within, sort_waiting};
+use crate::entering::{count_new, enter_all};
+use crate::fault::{BeginFault, CloseFault, Refusal};
+use crate::layer::Layer;
+use crate::parcel::{Parcel, Successor};
+
+impl Book {
+    /// Opens the ranks of the last closed layer. An error leaves the book as it was.
+    pub fn begin(&mut self, layer: &Layer) -> Result<(), BeginFault>
+        ensures may { OnOk result (MayBegin self.old layer.now) }
+        ensures ok { OnOk result (self.new ≡ with_begun self.old (length layer.now.places)) }
+        ensures fault { IfErr result (λ fault. BeginRefused self.old layer.now fault) }
+        ensures err { OnErr result (self.new ≡ self.old) }
+    {
+        if !self.level.is(layer.level()) {
+            return Err(BeginFault::OtherLevel);
+        }
+        if layer.number() != self.layer() || self.begun {
+            return Err(BeginFault::OtherLayer);
+        }
+        let ranks = layer.len() as usize;
+        if self.claimed.resize(ranks, false).is_err() {
+            return Err(BeginFault::OutOfMemory);
+        }
+        if self.done.resize(ranks, false).is_err() {
+            self.claimed.clear();
+            return Err(BeginFault::OutOfMemory);
+        }
+        layer.tell();
+        self.next = 0;
+        self.begun = true;
+        Ok(())
+    }
+
+    /// The least rank of the layer at work that is neither done nor claimed, which is claimed from then on; `None`
+    /// where there is none or nothing has begun.
+    pub fn claim(&mut self) -> Option<Claim>
+        ensures { ClaimAnswer self.old result self.new }
+    {
+        let layer = self.layer();
+        for rank in self.next..self.done.len() {
+            if !self.claimed[rank] && !self.done[rank] {
+                self.claimed[rank] = true;
+                self.next = rank + 1;
+                return Some(Claim {
+                    layer,
+                    rank: rank as u64,
+                });
+            }
+        }
+        None
+    }
+
+    /// Accepts the successors of a rank, which need not have been claimed: the rank is done, the worker's tally is
+    /// one more, and those successors that are of the book's share and in no closed layer stand open, each with the
+    /// least rank and push that has come. Where the book would hold more positions than its limit, and from then on,
+    /// the answer is `Over`, which marks the book over; every other error leaves it as it was.
+    pub fn hand_back(&mut self, worker: u8, parcel: &Parcel<'_>) -> Result<(), Refusal>
+        requires { worker < self.old.workers }
+        ensures may { OnOk result (MayEnter self.old parcel.now) }
+        ensures ok { OnOk result (self.new ≡ with_parcel self.old worker parcel.now) }
+        ensures refusal { IfErr result (λ refusal. HandBackRefused self.old parcel.now refusal) }
+        ensures err { IfErr result (λ refusal. self.new ≡ after_refusal self.old refusal) }
+    {
+        parcel.tell();
+        if let Some(refusal) = self.refusal_of(parcel) {
+            return Err(refusal);
+        }
+        let successors = parcel.successors();
+        if self.over || self.passes_limit(successors) {
+            self.over = true;
+            return Err(Refusal::Over);
+        }
+        if self.waiting.reserve(successors.len()).is_err() {
+            return Err(Refusal::OutOfMemory);
+        }
+        enter_all(
+            &self.seen,
+            &mut self.waiting,
+            self.share,
+            self.shares,
+            parcel.rank(),
+            successors,
+        );
+        self.done[parcel.rank() as usize] = true;
+        self.tallies[worker as usize] += 1;
+        Ok(())
+    }
+
+    // Why a parcel is refused whatever it holds: it is of no free rank of the layer at work.
+    fn refusal_of(&self, parcel: &Parcel<'_>) -> Option<Refusal>
+        ensures none { IfNone result (IsAtWork self.now parcel.now × (slice_get self.now.done parcel.now.rank ≡ Some false)) }
+        ensures some { IfSome result (λ refusal. HandBackRefused self.now parcel.now refusal) }
+        ensures unchanged { IfSome result (λ refusal. after_refusal self.now refusal ≡ self.now) }
+    {
+        if !self.level.is(parcel.level()) {
+            return Some(Refusal::OtherLevel);
+        }
+        if parcel.layer() != self.layer() {
+            return Some(Refusal::OtherLayer);
+        }
+        match self.done.get(parcel.rank() as usize) {
+            None => Some(Refusal::NoSuchRank),
+            Some(true) => Some(Refusal::Double),
+            Some(false) => None,
+        }
+    }
+
+    // Whether the book would hold more positions than its limit once the wanted successors of a rank have entered.
+    fn passes_limit(&self, successors: &[Successor]) -> bool
+        ensures { (rank : ℕ) → result ≡ nat_lt self.now.limit (total self.now.closed + length (all_entered self.now rank successors.now)) }
+    {
+        let room = self.limit as usize - (self.seen.len() + self.waiting.len());
+        if successors.len() <= room {
+            return false;
+        }
+        let count = count_new(
+            &self.seen,
+            &self.waiting,
+            self.share,
+            self.shares,
+            successors,
+        );
+        count > room
+    }
+
+    /// Frees the ranks that are claimed and not done.
+    pub fn reopen(&mut self)
+        ensures { self.new ≡ with_reopened self.old }
+    {
+        self.claimed.copy_from_slice(self.done.as_slice());
+        self.next = 0;
+    }
+
+    /// Closes the next layer, once each rank of the layer at work is done: what stands open becomes its list, in the
+    /// order of ranks and pushes. An error leaves the book as it was.
+    pub fn close(&mut self) -> Result<Closed, CloseFault>
+        ensures ok { IfOk result (λ closed. IsClosedBy self.old closed self.new) }
+        ensures fault { IfErr result (λ fault. CloseRefused self.old fault) }
+        ensures err { OnErr result (self.new ≡ self.old) }
+    {
+        if !self.begun || !all_marked(self.done.as_slice()) {
+            return Err(CloseFault::NotAll);
+        }
+        let layer = self.starts.len() as u64;
+        let count = self.waiting.len();
+        if self.seen.reserve(count).is_err() {
+            return Err(CloseFault::OutOfMemory);
+        }
+        if self.starts.reserve(1).is_err() {
+            return Err(CloseFault::OutOfMemory);
+        }
+        if sort_waiting(&mut self.waiting).is_err() {
+            return Err(CloseFault::OutOfMemory);
+        }
+        push_within(&mut self.starts, self.seen.len());
+        append_closed(&mut self.seen, &self.waiting);
+        self.waiting.clear();
+        self.claimed.clear();
+        self.done.clear();
+        self.next = 0;
+        self.begun = false;
+        Ok(Closed {
+            layer,
+            count: count as u64,
+        })
+    }
+}

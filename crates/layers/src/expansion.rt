@@ -1,0 +1,147 @@
+ghost use Rattle.std.specs.Prelude.{◌≡◌, ◌+◌, ◌*◌, ◌<◌, ◌≤◌, ◌↔◌, IsTrue, IfSome, IfNone, true, length, slice_get, Some};
+ghost use Rattle.grid.specs.Board.{Scene};
+ghost use Rattle.grid.specs.Lawful.{FitsLevel};
+ghost use Rattle.grid.specs.Squares.{contains};
+ghost use Rattle.doom.specs.Deadlocks.{Undoomed};
+ghost use Rattle.layers.specs.ParcelView.{AreSuccessors, FitLevel};
+ghost use Rattle.layers.specs.Reaching.{IsSuccessor};
+ghost use Rattle.layers.specs.Expansion.{CanPush, IsAreaOf, ArePushes, ArePushesBelow};
+
+use crate::layer::Layer;
+use crate::limits::MAX_SUCCESSORS;
+use crate::parcel::{Parcel, Successor};
+use area::Scratch;
+use arrayvec::ArrayVec;
+use doom::Dead;
+use grid::{Dir, Level, Position, Push, Square};
+
+/// The undoomed successors of the position with a rank of the layer, in the order of their pushes. Takes no memory.
+pub fn expand<'a>(layer: &'a Layer, dead: &Dead, rank: u64, scratch: &mut Scratch) -> Parcel<'a>
+    requires within { rank < length layer.now.places }
+    requires dead_of_level { dead.now ≡ layer.now.level }
+    requires room { scratch.old.size ≡ length layer.now.level.cells }
+    ensures of { (result.level ≡ layer.now.level) × (result.layer ≡ layer.now.number) × (result.rank ≡ rank) }
+    ensures successors { (n : Scene) → slice_get layer.now.places rank ≡ Some n → AreSuccessors layer.now.level n result.successors }
+    ensures size { scratch.new.size ≡ scratch.old.size }
+{
+    layer.tell();
+    let level = layer.level();
+    let position = layer.place(rank);
+    let pushes = possible_pushes(level, position, scratch);
+    let successors = successors_by(level, dead, position, pushes.as_slice(), scratch);
+    Parcel {
+        level,
+        layer: layer.number(),
+        rank,
+        successors,
+    }
+}
+
+// The pushes that the player can make after walks that push nothing, in their order.
+fn possible_pushes(
+    level: &Level,
+    position: &Position,
+    scratch: &mut Scratch,
+) -> ArrayVec<Push, MAX_SUCCESSORS>
+    requires fits { FitsLevel level.now position.now }
+    requires room { scratch.old.size ≡ length level.now.cells }
+    ensures pushes { ArePushes level.now position.now result.items }
+    ensures size { scratch.new.size ≡ scratch.old.size }
+{
+    area::flood(level, position, scratch);
+    let mut pushes = ArrayVec::new();
+    for square in position.boxes() {
+        push_box(level, position, scratch, *square, &mut pushes);
+    }
+    pushes
+}
+
+// Appends the pushes of the box on a square that the player can make, in their order.
+fn push_box(
+    level: &Level,
+    position: &Position,
+    scratch: &Scratch,
+    square: Square,
+    pushes: &mut ArrayVec<Push, MAX_SUCCESSORS>,
+)
+    requires fits { FitsLevel level.now position.now }
+    requires area { IsAreaOf level.now position.now scratch.now.reached }
+    requires there { contains position.now.boxes square ≡ true }
+    requires room { length pushes.old.items + 4 ≤ MAX_SUCCESSORS }
+    requires below { ArePushesBelow level.now position.now square pushes.old.items }
+    ensures pushes { ArePushesBelow level.now position.now (square + 1) pushes.new.items }
+    ensures bound { length pushes.new.items ≤ length pushes.old.items + 4 }
+{
+    for dir in &Dir::ALL {
+        if can_push(level, position, scratch, square, *dir) {
+            pushes.push(Push { square, dir: *dir });
+        }
+    }
+}
+
+// Whether the player can push the box on a square in a direction after walks that push nothing.
+fn can_push(level: &Level, position: &Position, scratch: &Scratch, square: Square, dir: Dir) -> bool
+    requires fits { FitsLevel level.now position.now }
+    requires area { IsAreaOf level.now position.now scratch.now.reached }
+    requires there { contains position.now.boxes square ≡ true }
+    ensures { IsTrue result ↔ CanPush level.now position.now (record { square = square; dir = dir }) }
+{
+    let behind = level.next(square, dir.opposite());
+    let ahead = level.next(square, dir);
+    scratch.reaches(behind) && !level.is_wall(ahead) && !position.contains(ahead)
+}
+
+// What the pushes lead to, but for doomed positions.
+fn successors_by(
+    level: &Level,
+    dead: &Dead,
+    position: &Position,
+    pushes: &[Push],
+    scratch: &mut Scratch,
+) -> ArrayVec<Successor, MAX_SUCCESSORS>
+    requires fits { FitsLevel level.now position.now }
+    requires undoomed { Undoomed level.now position.now }
+    requires dead_of_level { dead.now ≡ level.now }
+    requires room { scratch.old.size ≡ length level.now.cells }
+    requires pushes { ArePushes level.now position.now pushes.now }
+    requires bound { length pushes.now ≤ MAX_SUCCESSORS }
+    ensures successors { AreSuccessors level.now position.now result.items }
+    ensures fits { FitLevel level.now result.items }
+    ensures size { scratch.new.size ≡ scratch.old.size }
+{
+    let mut successors = ArrayVec::new();
+    for push in pushes {
+        if let Some(successor) = successor_by(level, dead, position, *push, scratch) {
+            successors.push(successor);
+        }
+    }
+    successors
+}
+
+// What a push leads to; `None` exactly where that is doomed.
+fn successor_by(
+    level: &Level,
+    dead: &Dead,
+    position: &Position,
+    push: Push,
+    scratch: &mut Scratch,
+) -> Option<Successor>
+    requires fits { FitsLevel level.now position.now }
+    requires undoomed { Undoomed level.now position.now }
+    requires dead_of_level { dead.now ≡ level.now }
+    requires room { scratch.old.size ≡ length level.now.cells }
+    requires possible { CanPush level.now position.now push }
+    ensures some { IfSome result (λ s. (s.push ≡ push) × IsSuccessor level.now position.now push s.position × FitsLevel level.now s.position) }
+    ensures none { IfNone result ((m : Scene) → ¬ (IsSuccessor level.now position.now push m)) }
+    ensures size { scratch.new.size ≡ scratch.old.size }
+{
+    let mut moved = position.copy();
+    moved.push(push.square, level.next(push.square, push.dir));
+    if doom::doomed(level, dead, &moved, scratch) {
+        return None;
+    }
+    Some(Successor {
+        push,
+        position: area::normal(level, &moved, scratch),
+    })
+}

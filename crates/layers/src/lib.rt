@@ -1,0 +1,21 @@
+//! Layers of normal positions in the order of the least push lists that lead there, and the books in which the
+//! successors of a layer are entered until the next one closes.
+#![tactic(auto)]
+
+mod book;
+mod closing;
+mod entering;
+mod events;
+mod expansion;
+mod fault;
+mod join;
+mod layer;
+mod limits;
+mod parcel;
+
+pub use book::{Book, Claim, Closed};
+pub use expansion::expand;
+pub use fault::{BeginFault, BookFault, CloseFault, JoinFault, Refusal};
+pub use layer::Layer;
+pub use limits::{MAX_SHARES, MAX_SUCCESSORS, MAX_WORKERS, MOST_POSITIONS};
+pub use parcel::{Parcel, Successor};

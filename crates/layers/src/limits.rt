@@ -1,0 +1,15 @@
+//! The limits of books and layers, which everything else names.
+use grid::MAX_BOXES;
+
+/// The greatest number of workers. A book may be made for one more, whose number is the caller's own.
+pub const MAX_WORKERS: u8 = 64;
+
+/// The greatest number of shares that the positions are dealt to.
+pub const MAX_SHARES: u8 = 16;
+
+/// The greatest number of successors of a position: a push of each box in each direction.
+pub const MAX_SUCCESSORS: usize = 4 * MAX_BOXES;
+
+/// The greatest number of positions of a layer and those before it together: what the greatest number of books holds
+/// at the greatest limit.
+pub const MOST_POSITIONS: u64 = MAX_SHARES as u64 * u32::MAX as u64;

@@ -1,0 +1,70 @@
+ghost use Rattle.std.specs.Prelude.{◌≡◌};
+ghost use Rattle.layers.specs.ParcelView.{IsParcel};
+
+use crate::limits::MAX_SUCCESSORS;
+use arrayvec::ArrayVec;
+use grid::{Level, Position, Push};
+use std::marker::Model;
+
+/// A successor of a position: the push that leads there, and the normal position after it.
+#[derive(Default, Drop)]
+pub struct Successor {
+    pub push: Push,
+    pub position: Position,
+}
+
+/// The undoomed successors of the position with a rank of a layer, in the order of their pushes.
+#[derive(Drop)]
+pub struct Parcel<'a> {
+    pub(crate) level: &'a Level,
+    pub(crate) layer: u64,
+    pub(crate) rank: u64,
+    pub(crate) successors: ArrayVec<Successor, MAX_SUCCESSORS>,
+}
+
+impl<'a> Model for Parcel<'a> {
+    ghost use Rattle.layers.specs.ParcelView.{ParcelView, IsParcel};
+
+    ghost Value = { ParcelView };
+
+    ghost view = { λ a. record { level = a.level.now; layer = a.layer; rank = a.rank; successors = a.successors.items } };
+
+    ghost invariant = { λ a. IsParcel (record { level = a.level.now; layer = a.layer; rank = a.rank; successors = a.successors.items }) };
+}
+
+impl<'a> Parcel<'a> {
+    /// Tells what is true of every parcel.
+    pub fn tell(&self)
+        ensures { IsParcel self.now }
+    {
+        let _ = &self.successors;
+    }
+
+    /// The level.
+    pub fn level(&self) -> &Level
+        ensures { result.now ≡ self.now.level }
+    {
+        self.level
+    }
+
+    /// The layer's number.
+    pub fn layer(&self) -> u64
+        ensures { result ≡ self.now.layer }
+    {
+        self.layer
+    }
+
+    /// The rank whose position the successors are of.
+    pub fn rank(&self) -> u64
+        ensures { result ≡ self.now.rank }
+    {
+        self.rank
+    }
+
+    /// The undoomed successors of the position with that rank, in the order of their pushes.
+    pub fn successors(&self) -> &[Successor]
+        ensures { result.now ≡ self.now.successors }
+    {
+        self.successors.as_slice()
+    }
+}
