@@ -20,7 +20,7 @@ cell_of b =
     (cond (b == FLOOR_DASH) (Some Floor)
     (cond (b == FLOOR_LOW_LINE) (Some Floor) None))))))))
 
--- the number that decimal digits write
+-- the number that decimal digits write; the byte of the digit 0 is 48
 abbrev pub number_of : List ℕ → ℕ
 number_of digits = fold (λ n d. 10 * n + (d - 48)) 0 digits
 
