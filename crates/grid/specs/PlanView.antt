@@ -1,10 +1,11 @@
 -- What contracts see of a plan, and what its fields keep.
-use Rattle.std.specs.Prelude.{◌≡◌, ℕ, ◌<◌, ◌≤◌, length, slice_index_or}
+use Rattle.std.specs.Prelude.{◌≡◌, ℕ, ◌<◌, ◌≤◌, cond, length, slice_index_or}
+use Rattle.grid.specs.declared.dir.Dir.{Dir}
 use Rattle.grid.specs.declared.dir.Dir.TheVariants.{D, L, R, U}
 use Rattle.grid.specs.declared.around.Around.{Around}
 use Rattle.grid.specs.declared.limits.TheConstants.{MAX_SQUARES}
 use Rattle.grid.specs.declared.plan.Plan.TheInside.{Inside}
-use Rattle.grid.specs.Board.{Board, next}
+use Rattle.grid.specs.Board.{Board, is_wall, next}
 use Rattle.grid.specs.Lawful.{row_count}
 
 -- a plan is seen as its columns and cells
@@ -15,9 +16,19 @@ plan_of a = record { cols = a.cols; cells = a.cells.items }
 abbrev pub around_of : Board → ℕ → Around
 around_of board q = record { d = next board q D; l = next board q L; r = next board q R; u = next board q U }
 
+-- the square next to q in a direction where that is no wall, and else q itself: where a step of the player ends, boxes ignored
+abbrev pub way : Board → ℕ → Dir → ℕ
+way board q d = cond (is_wall board (next board q d)) q (next board q d)
+
+-- the four ways from a square
+abbrev pub ways_of : Board → ℕ → Around
+ways_of board q = record { d = way board q D; l = way board q L; r = way board q R; u = way board q U }
+
 -- the fields of a plan agree with its cells
 pub record IsPlan (a : Inside) : Type 0 where
   pub rows : a.rows ≡ row_count (plan_of a)
   pub bound : length a.cells.items ≤ MAX_SQUARES
   pub places : length a.around.items ≡ length a.cells.items
   pub around : (q : ℕ) (e : Around) → q < length a.cells.items → slice_index_or a.around.items q e ≡ around_of (plan_of a) q
+  pub exits : length a.ways.items ≡ length a.cells.items
+  pub ways : (q : ℕ) (e : Around) → q < length a.cells.items → slice_index_or a.ways.items q e ≡ ways_of (plan_of a) q

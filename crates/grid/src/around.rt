@@ -1,10 +1,10 @@
 use crate::square::Square;
 
-/// The four squares next to a square.
+/// A square for each direction.
 #[derive(Clone, Copy)]
-pub(crate) struct Around {
-    pub(crate) d: Square,
-    pub(crate) l: Square,
-    pub(crate) r: Square,
-    pub(crate) u: Square,
+pub struct Around {
+    pub d: Square,
+    pub l: Square,
+    pub r: Square,
+    pub u: Square,
 }

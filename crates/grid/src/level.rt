@@ -1,7 +1,9 @@
 ghost use Rattle.std.specs.Prelude.{◌≡◌, ℕ, ◌+◌, ◌%◌, ◌<◌, ◌≤◌, ◌⊎◌, ◌↔◌, IsTrue, IfOk, IfErr, length, count_by};
 ghost use Rattle.grid.specs.Board.{Board, box_cell, goal_cell, player_cell, is_wall, is_goal, has_box, next, start, start_player};
 ghost use Rattle.grid.specs.Lawful.{row_count, box_count, cell_fault, count_fault, HasFault, InRoom, IsLevel, FitsLevel};
+ghost use Rattle.grid.specs.PlanView.{ways_of};
 
+use crate::around::Around;
 use crate::cell::Cell;
 use crate::dir::Dir;
 use crate::fault::LevelFault;
@@ -152,6 +154,15 @@ impl Level {
             Dir::R => around.r,
             Dir::U => around.u,
         }
+    }
+
+    /// The ways from a square: for each direction the square next to it, and the square itself where that is a wall or
+    /// the grid ends there.
+    pub fn ways(&self, square: Square) -> &Around
+        requires { square < length self.now.cells }
+        ensures { result.now ≡ ways_of self.now square }
+    {
+        self.plan.ways(square)
     }
 
     /// Whether the square is of the player's room: what four-way steps over squares that are no wall reach from the

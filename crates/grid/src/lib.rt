@@ -15,6 +15,7 @@ mod room;
 mod square;
 mod state;
 
+pub use around::Around;
 pub use cell::Cell;
 pub use dir::Dir;
 pub use fault::LevelFault;

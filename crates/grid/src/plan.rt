@@ -1,8 +1,8 @@
-ghost use Rattle.std.specs.Prelude.{◌≡◌, ℕ, ◌<◌, ◌≤◌, IsTrue, ◌↔◌, IfOk, length, slice_index_or};
+ghost use Rattle.std.specs.Prelude.{◌≡◌, ℕ, ◌<◌, ◌≤◌, IsTrue, ◌↔◌, IfOk, length, slice_index_or, if◌then◌else◌};
 ghost use Rattle.grid.specs.declared.dir.Dir.{Dir};
 ghost use Rattle.grid.specs.Board.{Board, is_wall, is_goal, has_box, next};
 ghost use Rattle.grid.specs.Lawful.{row_count};
-ghost use Rattle.grid.specs.PlanView.{around_of};
+ghost use Rattle.grid.specs.PlanView.{around_of, ways_of};
 
 use crate::around::Around;
 use crate::cell::Cell;
@@ -11,13 +11,15 @@ use crate::square::Square;
 use std::alloc::{AllocError, Global};
 use std::marker::Model;
 
-/// The cells of a board, with the neighbours of each square, so that a step needs no division.
+/// The cells of a board, with the neighbours of each square, so that a step needs no division, and the ways from each
+/// square, so that a walk needs no look at the cells.
 #[derive(Drop)]
 pub(crate) struct Plan {
     cols: usize,
     rows: usize,
     cells: Vec<Cell>,
     around: Vec<Around>,
+    ways: Vec<Around>,
 }
 
 impl Model for Plan {
@@ -41,11 +43,13 @@ impl Plan {
         ensures { IfOk result (λ plan. plan ≡ record { cols = cols; cells = cells.items }) }
     {
         let around = neighbours(alloc, cols, cells.as_slice())?;
+        let ways = ways(alloc, cols, cells.as_slice())?;
         Ok(Plan {
             cols,
             rows: cells.len() / cols,
             cells,
             around,
+            ways,
         })
     }
 
@@ -109,6 +113,14 @@ impl Plan {
         self.around[square.0 as usize]
     }
 
+    /// The four squares next to a square; in place of each that is a wall, the square itself.
+    pub(crate) fn ways(&self, square: Square) -> &Around
+        requires { square < length self.now.cells }
+        ensures { result.now ≡ ways_of self.now square }
+    {
+        &self.ways[square.0 as usize]
+    }
+
     /// Whether the square lies at the grid's edge.
     pub(crate) fn at_edge(&self, square: Square) -> bool
         requires { square < length self.now.cells }
@@ -128,6 +140,7 @@ impl Plan {
             rows: self.rows,
             cells: Vec::from_slice(alloc, self.cells.as_slice())?,
             around: Vec::from_slice(alloc, self.around.as_slice())?,
+            ways: Vec::from_slice(alloc, self.ways.as_slice())?,
         })
     }
 }
@@ -173,5 +186,49 @@ fn neighbours_of(cols: usize, cells: &[Cell], square: usize) -> Around
         l: Square(l as u16),
         r: Square(r as u16),
         u: Square(u as u16),
+    }
+}
+
+// The ways from each square.
+fn ways(alloc: Global, cols: usize, cells: &[Cell]) -> Result<Vec<Around>, AllocError>
+    requires columns { 1 ≤ cols }
+    requires wide { cols ≤ MAX_COLS }
+    requires bound { length cells.now ≤ MAX_SQUARES }
+    ensures size { IfOk result (λ v. length v.items ≡ length cells.now) }
+    ensures each { IfOk result (λ v. (q : ℕ) (e : Around) → q < length cells.now → slice_index_or v.items q e ≡ ways_of (record { cols = cols; cells = cells.now }) q) }
+{
+    let mut ways = Vec::with_capacity(alloc, cells.len())?;
+    for square in 0..cells.len() {
+        ways.push(ways_from(cols, cells, square))?;
+    }
+    Ok(ways)
+}
+
+// The ways from a square.
+fn ways_from(cols: usize, cells: &[Cell], square: usize) -> Around
+    requires columns { 1 ≤ cols }
+    requires wide { cols ≤ MAX_COLS }
+    requires bound { length cells.now ≤ MAX_SQUARES }
+    requires inside { square < length cells.now }
+    ensures { result ≡ ways_of (record { cols = cols; cells = cells.now }) square }
+{
+    let next = neighbours_of(cols, cells, square);
+    let here = Square(square as u16);
+    Around {
+        d: way(cells, here, next.d),
+        l: way(cells, here, next.l),
+        r: way(cells, here, next.r),
+        u: way(cells, here, next.u),
+    }
+}
+
+// The next square where that is no wall, and else the square itself.
+#[tactic(auto, unfolding(crate::specs::Board::is_wall))]
+fn way(cells: &[Cell], square: Square, next: Square) -> Square
+    ensures { (cols : ℕ) → result ≡ (if is_wall (record { cols = cols; cells = cells.now }) next then square else next) }
+{
+    match cells.get(next.0 as usize) {
+        Some(cell) if !cell.is_wall() => next,
+        _ => square,
     }
 }

@@ -1,0 +1,10 @@
+use Rattle.std.proofs.Common.{◌≡◌, ℕ, ◌<◌, length, get_or}
+use Rattle.grid.specs.declared.around.Around.{Around}
+use Rattle.grid.specs.PlanView.{ways_of}
+use Rattle.grid.proofs.plan.ways.Given as goal
+
+abbrev pub invariant-loop-square : goal.invariant-loop-square
+invariant-loop-square l = record {
+  size : length l.ways.items ≡ l.square;
+  each : (q : ℕ) (e : Around) → q < l.square → get_or l.ways.items q e ≡ ways_of (record { cols = l.cols; cells = l.cells }) q;
+}
