@@ -5,8 +5,8 @@ use Rattle.grid.specs.declared.dir.Dir.{Dir}
 use Rattle.grid.specs.declared.square.Push.{Push}
 use Rattle.grid.specs.declared.moves.Letter.{Letter}
 use Rattle.grid.specs.Board.{Board, Scene, Walks, Pushes, start}
-use Rattle.grid.specs.Plays.{Play, stay, walk, push, Any}
-use Rattle.lurd.specs.Verdict.{letters_of, Leads, StepsAgainstCase, HasWrongCase, StopsAt}
+use Rattle.grid.specs.Plays.{Play, stay, walk, push, Any, letters_of}
+use Rattle.lurd.specs.Verdict.{Leads, StepsAgainstCase, HasWrongCase, StopsAt}
 
 -- no letters lead from a state to itself
 pub leads_nowhere : {board : Board} {s t : Scene} → t ≡ s → Leads board s [] t

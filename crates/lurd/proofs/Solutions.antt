@@ -5,9 +5,9 @@ use Rattle.grid.specs.declared.dir.Dir.{Dir}
 use Rattle.grid.specs.declared.square.Push.{Push}
 use Rattle.grid.specs.declared.moves.Letter.{Letter}
 use Rattle.grid.specs.Board.{Board, Scene, start}
-use Rattle.grid.specs.Plays.{Play, stay, walk, push, Any, IsSolution, dirs_of}
+use Rattle.grid.specs.Plays.{Play, stay, walk, push, Any, IsSolution, dirs_of, letters_of}
 use Rattle.lurd.specs.declared.verdict.Verdict.TheVariants.{Solved}
-use Rattle.lurd.specs.Verdict.{letters_of, IsVerdict, upper_count, WritesSolution}
+use Rattle.lurd.specs.Verdict.{IsVerdict, upper_count, WritesSolution}
 
 -- the directions of the letters of a play are its directions
 pub dirs_of_play : {board : Board} {ok : Scene → Type 0} {s t : Scene} {ds : List Dir} {ps : List Push} (play : Play board ok s ds ps t) → dirs_of (letters_of play) ≡ ds

@@ -7,10 +7,10 @@ use Rattle.grid.specs.declared.square.Push.{Push}
 use Rattle.grid.specs.declared.moves.Letter.{Letter}
 use Rattle.grid.specs.Squares.{contains}
 use Rattle.grid.specs.Board.{Board, Scene, Walks, Pushes, IsSolved, start, next, is_wall, is_goal}
-use Rattle.grid.specs.Plays.{Play, stay, walk, push, Any}
+use Rattle.grid.specs.Plays.{Play, stay, walk, push, Any, letters_of}
 use Rattle.lurd.specs.declared.verdict.Verdict.{Verdict}
 use Rattle.lurd.specs.declared.verdict.Verdict.TheVariants.{Solved, Unsolved, Blocked, WrongCase}
-use Rattle.lurd.specs.Verdict.{letters_of, Leads, IsBlocked, StepsAgainstCase, HasWrongCase, StopsAt, EndsAs, IsVerdict, upper_count}
+use Rattle.lurd.specs.Verdict.{Leads, IsBlocked, StepsAgainstCase, HasWrongCase, StopsAt, EndsAs, IsVerdict, upper_count}
 use Rattle.lurd.specs.One.{ExactlyOne}
 use Rattle.lurd.proofs.Leading.{letter_by, leads_nowhere, leads_on_by_walk, leads_on_by_push}
 

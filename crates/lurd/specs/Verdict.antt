@@ -1,18 +1,12 @@
 -- What the rules say of letters that are played on a level.
-use Rattle.std.specs.Prelude.{◌≡◌, ℕ, ◌+◌, Bool, true, false, List, [], ◌∷◌, ◌++◌, length, count_by}
+use Rattle.std.specs.Prelude.{◌≡◌, ℕ, ◌+◌, Bool, true, false, List, ◌∷◌, ◌++◌, length, count_by}
 use Rattle.grid.specs.declared.dir.Dir.{Dir}
 use Rattle.grid.specs.declared.square.Push.{Push}
 use Rattle.grid.specs.declared.moves.Letter.{Letter}
 use Rattle.grid.specs.Board.{Board, Scene, Walks, Pushes, IsSolved, start}
-use Rattle.grid.specs.Plays.{Play, stay, walk, push, Any, IsSolution, dirs_of}
+use Rattle.grid.specs.Plays.{Play, Any, IsSolution, dirs_of, letters_of}
 use Rattle.lurd.specs.declared.verdict.Verdict.{Verdict}
 use Rattle.lurd.specs.declared.verdict.Verdict.TheVariants.{Solved, Unsolved, Blocked, WrongCase}
-
--- the letters that write a play: the direction of each step, in upper case where it pushes
-abbrev pub letters_of : {board : Board} {ok : Scene → Type 0} {s t : Scene} {ds : List Dir} {ps : List Push} → Play board ok s ds ps t → List Letter
-letters_of (stay here) = []
-letters_of (walk {d = d} here step rest) = record { dir = d; push = false } ∷ letters_of rest
-letters_of (push {d = d} here step rest) = record { dir = d; push = true } ∷ letters_of rest
 
 -- the letters write a play from s to t
 pub record Leads (board : Board) (s : Scene) (letters : List Letter) (t : Scene) : Type 0 where
