@@ -1,4 +1,6 @@
 pub mod Descents
+pub mod Detours
+pub mod Leasts
 pub mod Marks
 pub mod Nearness
 pub mod Norms

@@ -197,6 +197,28 @@ module _ (board : Board) (base from : ℕ) (mark place : ℕ → ℕ) (head seen
         closed : IsClosed board base mark' (place' head) d
         closed = subst (λ (x : ℕ). IsClosed board base mark' x d) (sym (stays head here)) closed_here
 
+-- what stands past the queue's end is of no account
+pub past_end : (board : Board) (base from : ℕ) (mark place place' : ℕ → ℕ) (head seen tail : ℕ) → IsSpreading board base from mark place head seen tail → head < tail → ((i : ℕ) → i < tail → place' i ≡ place i) → IsSpreading board base from mark place' head seen tail
+past_end board base from mark place place' head seen tail s here stays = record {
+  start = s.start;
+  free = s.free;
+  came = s.came;
+  listed = λ q lt. (let l = s.listed q lt in (l.0, l.1, stays l.0 l.1 ∙ l.2));
+  queued = λ i lt. subst (λ (x : ℕ). base < mark x) (sym (stays i lt)) (s.queued i lt);
+  bound = λ i lt. subst (λ (x : ℕ). mark x ≤ suc base + i) (sym (stays i lt)) (s.bound i lt);
+  sorted = λ i j le lt. (let e : mark (place' i) ≡ mark (place i) = ap mark (stays i (omega arith)) in
+      let f : mark (place' j) ≡ mark (place j) = ap mark (stays j lt) in
+      let h : mark (place i) ≤ mark (place j) = s.sorted i j le lt in
+      omega (arith, e, f, h));
+  close = λ i j low lt lt'. (let e : mark (place' i) ≡ mark (place i) = ap mark (stays i lt) in
+      let f : mark (place' j) ≡ mark (place j) = ap mark (stays j lt') in
+      let h : mark (place j) ≤ suc (mark (place i)) = s.close i j low lt lt' in
+      omega (arith, e, f, h));
+  done = λ i before lt d. subst (λ (x : ℕ). IsClosed board base mark x d) (sym (stays i lt)) (s.done i before lt d);
+  now = λ d lt. subst (λ (x : ℕ). IsClosed board base mark x d) (sym (stays head here)) (s.now d lt);
+  order = s.order;
+}
+
 -- the square at the head was looked round from: the next is at the head
 pub turned : (board : Board) (base from : ℕ) (mark place : ℕ → ℕ) (head tail : ℕ) → IsSpreading board base from mark place head 4 tail → head < tail → IsSpreading board base from mark place (suc head) 0 tail
 turned board base from mark place head tail s here = record {

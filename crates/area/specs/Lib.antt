@@ -1,3 +1,4 @@
+pub mod After
 pub mod Area
 pub mod Descent
 pub mod Reach

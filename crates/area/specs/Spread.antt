@@ -1,5 +1,5 @@
 -- How a search spreads over the squares: each square that it comes upon is marked with the steps that lead there.
-use Rattle.std.specs.Prelude.{◌≡◌, ◌≢◌, ℕ, suc, ◌+◌, ◌<◌, ◌≤◌, Bool, true, false, ◌⊎◌, ◌↔◌, List, length, slice_index, nat_lt, sum_by, cond}
+use Rattle.std.specs.Prelude.{◌≡◌, ◌≢◌, ℕ, suc, ◌+◌, ◌<◌, ◌≤◌, true, false, ◌⊎◌, ◌↔◌, List, length, slice_index, nat_lt, sum_by, cond}
 use Rattle.grid.specs.declared.dir.Dir.{Dir}
 use Rattle.grid.specs.Board.{Board, is_wall, next, dir_number}
 use Rattle.grid.specs.Squares.{Squares, contains}
@@ -61,10 +61,6 @@ pub record IsSpreading (board : Board) (base from : ℕ) (mark place : ℕ → �
 -- how many squares the search did not come upon yet
 abbrev pub untouched : ℕ → List ℕ → ℕ
 untouched base marks = sum_by (λ m. cond (nat_lt m base) 1 0) marks
-
--- the square is no wall, and the search did not come upon it yet
-abbrev pub is_new : Board → ℕ → List ℕ → ℕ → Bool
-is_new board base marks q = cond (is_wall board q) false (nat_lt (slice_index marks q) base)
 
 -- in the midst of a search: what is in the memory, with room in the queue for each square that was not come upon yet
 pub record IsUnderWay (board : Board) (base from : ℕ) (old marks queue : List ℕ) (head seen tail : ℕ) : Type 0 where

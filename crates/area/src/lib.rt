@@ -1,6 +1,7 @@
 //! Where the player walks without a push: flooding an area, normal positions, least walks.
 #![tactic(auto)]
 
+mod after;
 mod laws;
 mod route;
 mod scratch;
@@ -8,6 +9,7 @@ mod spread;
 #[cfg(test)]
 mod tests;
 
+pub use after::normal_after;
 pub use laws::{
     an_area_has_one_normal_form, each_state_has_one_normal_form, walks_go_both_ways,
     what_boxes_decide_lasts,

@@ -1,5 +1,6 @@
 ghost use Rattle.std.specs.Prelude.{◌≡◌, ℕ, ◌<◌, ◌≤◌, true, IfOk, length, slice_index};
 ghost use Rattle.grid.specs.Squares.{contains};
+ghost use Rattle.area.specs.After.{IsLeastWith};
 ghost use Rattle.area.specs.Spread.{AreWithin};
 
 use grid::{Level, MAX_SQUARES, Square};
@@ -12,12 +13,15 @@ pub(crate) const GREATEST_BASE: u32 = 1 << 31;
 /// The memory that floods and searches for walks work in, made once for all levels of the same rows and columns.
 ///
 /// Each square has a mark. In one search the boxes have the mark `base`, the squares that it reaches have greater
-/// marks, and all others lesser ones; the next search takes a greater `base`, so nothing needs to be cleared.
+/// marks, and all others lesser ones; the next search takes a greater `base`, so nothing needs to be cleared. The spare
+/// marks are for a flood that leaves what the last one reached.
 #[derive(Drop)]
 pub struct Scratch {
     pub(crate) marks: Vec<u32>,
     pub(crate) base: u32,
     pub(crate) queue: Vec<Square>,
+    pub(crate) spare: Vec<u32>,
+    pub(crate) spare_base: u32,
 }
 
 impl Model for Scratch {
@@ -39,9 +43,11 @@ impl Scratch {
     {
         level.tell();
         Ok(Scratch {
-            marks: vec![in alloc; 0; level.squares()]?,
+            marks: zeros(alloc, level.squares())?,
             base: 0,
             queue: vec![in alloc; Square(0); level.squares()]?,
+            spare: zeros(alloc, level.squares())?,
+            spare_base: 0,
         })
     }
 
@@ -66,6 +72,44 @@ impl Scratch {
         }
         unreachable!()
     }
+
+    // The least of the squares that the last flood reached but for `but`, and of the square `more`.
+    pub(crate) fn least_with(&self, but: Square, more: Square) -> Square
+        ensures { IsLeastWith self.now.reached but more result }
+    {
+        for (i, mark) in self.marks.iter().enumerate() {
+            if i >= more.0 as usize {
+                return more;
+            }
+            if *mark > self.base && i != but.0 as usize {
+                return Square(i as u16);
+            }
+        }
+        more
+    }
+}
+
+// A mark of 0 for each of so many squares.
+fn zeros(alloc: Global, squares: usize) -> Result<Vec<u32>, AllocError>
+    ensures size { IfOk result (λ v. length v.items ≡ squares) }
+    ensures low { IfOk result (λ v. (q : ℕ) → slice_index v.items q ≡ 0) }
+{
+    Ok(vec![in alloc; 0; squares]?)
+}
+
+// The least square with a mark above the base.
+pub(crate) fn least_above(base: u32, marks: &[u32]) -> Square
+    requires some { (q : ℕ) × (base < slice_index marks.now q) }
+    requires small { length marks.now ≤ MAX_SQUARES }
+    ensures above { base < slice_index marks.now result }
+    ensures least { (q : ℕ) → base < slice_index marks.now q → result ≤ q }
+{
+    for (i, mark) in marks.iter().enumerate() {
+        if *mark > base {
+            return Square(i as u16);
+        }
+    }
+    unreachable!()
 }
 
 // The mark of the boxes in the next search: greater than all marks, which are cleared where it would grow too great.

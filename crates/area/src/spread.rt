@@ -1,12 +1,12 @@
-ghost use Rattle.std.specs.Prelude.{◌≡◌, ℕ, ◌+◌, ◌^◌, ◌<◌, ◌≤◌, ◌↔◌, true, false, length, slice_index, slice_set, if◌then◌else◌};
+ghost use Rattle.std.specs.Prelude.{◌≡◌, ℕ, ◌+◌, ◌^◌, ◌<◌, ◌≤◌, ◌↔◌, true, false, length, slice_index, slice_set, nat_lt, if◌then◌else◌};
 ghost use Rattle.grid.specs.Board.{is_wall};
 ghost use Rattle.grid.specs.Lawful.{FitsLevel};
 ghost use Rattle.grid.specs.Squares.{contains};
 ghost use Rattle.area.specs.Area.{Area, IsNorm};
-ghost use Rattle.area.specs.Spread.{AreBlocked, IsSearched, IsSpread, KeepsBlocked, AreWithin, is_new};
+ghost use Rattle.area.specs.Spread.{AreBlocked, IsSearched, IsSpread, KeepsBlocked, AreWithin};
 
 use crate::scratch::{GREATEST_BASE, Scratch, renewed};
-use grid::{Dir, Level, MAX_SQUARES, Position, Square};
+use grid::{Level, MAX_SQUARES, Position, Square};
 
 /// Finds the squares that the player reaches without a push.
 pub fn flood(level: &Level, position: &Position, scratch: &mut Scratch)
@@ -40,7 +40,7 @@ pub fn normal(level: &Level, position: &Position, scratch: &mut Scratch) -> Posi
 }
 
 // Marks every square that the player reaches, round the boxes' marks; gives the boxes' mark.
-fn search(
+pub(crate) fn search(
     level: &Level,
     position: &Position,
     base: u32,
@@ -99,23 +99,20 @@ pub(crate) fn spread(
     while head < tail {
         let square = queue[head];
         let mark = marks[square.0 as usize] + 1;
-        let below = level.next(square, Dir::D);
-        tail = visit(level, below, mark, base, marks, queue, tail);
-        let left = level.next(square, Dir::L);
-        tail = visit(level, left, mark, base, marks, queue, tail);
-        let right = level.next(square, Dir::R);
-        tail = visit(level, right, mark, base, marks, queue, tail);
-        let above = level.next(square, Dir::U);
-        tail = visit(level, above, mark, base, marks, queue, tail);
+        let ways = level.ways(square);
+        tail = visit(ways.d, mark, base, marks, queue, tail);
+        tail = visit(ways.l, mark, base, marks, queue, tail);
+        tail = visit(ways.r, mark, base, marks, queue, tail);
+        tail = visit(ways.u, mark, base, marks, queue, tail);
         head += 1;
     }
 }
 
-// Marks a square and puts it at the queue's end, where it is no wall and was not come upon yet; gives where the queue
-// then ends.
+// Marks a square and puts it at the queue's end, where it was not come upon yet; gives where the queue then ends. A way
+// that a wall bars leads to the square that it comes from, which has a mark. It writes in any case, since no processor
+// foresees which squares are new: what was not new keeps its mark, and the queue ends before it.
 #[inline(always)]
 fn visit(
-    level: &Level,
     square: Square,
     mark: u32,
     base: u32,
@@ -123,16 +120,17 @@ fn visit(
     queue: &mut [Square],
     tail: usize,
 ) -> usize
-    requires room { length marks.old ≡ length level.now.cells }
-    requires space { is_new level.now base marks.old square ≡ true → tail < length queue.old }
-    ensures tail { result ≡ (if is_new level.now base marks.old square then tail + 1 else tail) }
-    ensures marks { marks.new ≡ (if is_new level.now base marks.old square then slice_set marks.old square mark else marks.old) }
-    ensures queue { queue.new ≡ (if is_new level.now base marks.old square then slice_set queue.old tail square else queue.old) }
+    requires inside { square < length marks.old }
+    requires space { slice_index marks.old square < base → tail < length queue.old }
+    ensures tail { result ≡ (if nat_lt (slice_index marks.old square) base then tail + 1 else tail) }
+    ensures marks { marks.new ≡ slice_set marks.old square (if nat_lt (slice_index marks.old square) base then mark else slice_index marks.old square) }
+    ensures queue { queue.new ≡ (if nat_lt tail (length queue.old) then slice_set queue.old tail square else queue.old) }
 {
-    if level.is_wall(square) || marks[square.0 as usize] >= base {
-        return tail;
+    if tail < queue.len() {
+        queue[tail] = square;
     }
-    marks[square.0 as usize] = mark;
-    queue[tail] = square;
-    tail + 1
+    let old = marks[square.0 as usize];
+    let is_new = old < base;
+    marks[square.0 as usize] = if is_new { mark } else { old };
+    if is_new { tail + 1 } else { tail }
 }

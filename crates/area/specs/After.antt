@@ -1,0 +1,47 @@
+-- A push from somewhere in an area, and what it leaves of the area.
+use Rattle.std.specs.Prelude.{◌≡◌, ◌≢◌, ℕ, ◌≤◌, true, ◌⊎◌, ◌↔◌}
+use Rattle.grid.specs.declared.dir.Dir.{Dir}
+use Rattle.grid.specs.declared.square.Push.{Push}
+use Rattle.grid.specs.Squares.{Squares, contains, insert, remove}
+use Rattle.grid.specs.Board.{Board, Scene, IsFree, is_wall, next, opposite}
+use Rattle.area.specs.Area.{Area}
+
+-- the squares are those that the player walks to
+abbrev pub IsAreaOf : Board → Scene → Squares → Type 0
+IsAreaOf board s reached = (q : ℕ) → (contains reached q ≡ true) ↔ Area board s q
+
+-- t is s after a walk and the push: the player walks to the square behind the box, and the box goes one square on, where
+-- there is neither wall nor box
+pub record IsPushed (board : Board) (s : Scene) (p : Push) (t : Scene) : Type 0 where
+  pub there : contains s.boxes p.square ≡ true
+  pub behind : Area board s (next board p.square (opposite p.dir))
+  pub ahead : IsFree board s.boxes (next board p.square p.dir)
+  pub after : t ≡ record { boxes = insert (remove s.boxes p.square) (next board p.square p.dir); player = p.square }
+
+-- from the square `from` one comes to a square by steps onto squares of a set, round the square `but`
+pub data Skirts (board : Board) (set : Squares) (but from : ℕ) : ℕ → Type 0 where
+  here : Skirts board set but from from
+  onward : {q : ℕ} (d : Dir) → Skirts board set but from q → contains set (next board q d) ≡ true → next board q d ≢ but → Skirts board set but from (next board q d)
+
+-- on the square beside `q` in a direction there is the square `but`, a wall, one of the boxes, or a square of the set
+abbrev pub IsKnown : Board → Squares → Squares → ℕ → ℕ → Dir → Type 0
+IsKnown board boxes set but q d = let r = next board q d in
+    ((r ≡ but) ⊎ (is_wall board r ≡ true)) ⊎ ((contains boxes r ≡ true) ⊎ (contains set r ≡ true))
+
+-- nothing free is beside `q` that is not in the set
+abbrev pub GainsNothing : Board → Squares → Squares → ℕ → ℕ → Type 0
+GainsNothing board boxes set but q = (d : Dir) → IsKnown board boxes set but q d
+
+-- the square beside `but` in a direction, where it is of the set, is come to from `from` round `but`
+abbrev pub IsJoined : Board → Squares → ℕ → ℕ → Dir → Type 0
+IsJoined board set but from d = contains set (next board but d) ≡ true → Skirts board set but from (next board but d)
+
+-- where `but` is of the set, so is each square beside it
+abbrev pub StaysJoined : Board → Squares → ℕ → ℕ → Type 0
+StaysJoined board set but from = contains set but ≡ true → (d : Dir) → IsJoined board set but from d
+
+-- q is the least of the squares of the set but for `but`, and of the square `more`
+pub record IsLeastWith (set : Squares) (but more q : ℕ) : Type 0 where
+  pub one : (q ≡ more) ⊎ ((contains set q ≡ true) × (q ≢ but))
+  pub most : q ≤ more
+  pub least : (r : ℕ) → contains set r ≡ true → r ≢ but → q ≤ r
