@@ -1,4 +1,8 @@
 pub mod Soundness
 pub mod Peeling
+pub mod Shrinking
 pub mod Search
 pub mod Pulling
+pub mod Holding
+pub mod Beside
+pub mod Loose

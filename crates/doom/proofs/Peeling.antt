@@ -1,13 +1,13 @@
--- Boxes that nothing blocks are in no frozen set, and what no peeling shrinks is frozen.
+-- Boxes that nothing blocks are in no frozen set.
 use Rattle.std.proofs.Common.{◌≡◌, ◌↔◌, ◌<◌, ◌≤◌, ◌+◌, ◌==◌, ◌||◌, ◌++◌, ℕ, Bool, true, false, eqb, [], ◌∷◌, length, get_or, take, refl, sym, ap, subst, ◌∙◌, ◌⊎◌, inl, inr, arith, length-append, eq-eqb}
-use Rattle.std.proofs.Math.Seq.{take-length}
-use Rattle.std.proofs.lemmas.List.Folds.{list_any-append, list_any_at}
-use Rattle.std.proofs.lemmas.List.{take_more}
+use Rattle.std.proofs.lemmas.List.Folds.{list_any-append}
+use Rattle.std.proofs.lemmas.List.{take_more, length-take, get_or-take}
 use Rattle.std.proofs.lemmas.Bool.{false≢true, eqb-true}
 use Rattle.grid.specs.declared.dir.Dir.{Dir}
 use Rattle.grid.specs.declared.dir.Dir.TheVariants.{D, L, R, U}
-use Rattle.grid.specs.Squares.{Squares, contains}
+use Rattle.grid.specs.Squares.{Squares, is_rising, contains}
 use Rattle.grid.specs.Board.{Board, is_goal}
+use Rattle.grid.proofs.Squares.{place_of_member, rising_places, is_rising-push}
 use Rattle.doom.specs.Deadlocks.{IsDead, IsHeld, IsBlocked, Doomed}
 use Rattle.doom.specs.Peeling.{IsWithin, AreBlocked, IsPeeled, IsLargestBlocked}
 
@@ -37,10 +37,6 @@ pub peeled_keeps : (board : Board) (members kept others : Squares) → IsPeeled 
 peeled_keeps board members kept others peeled blocked within q other =
     (peeled q).1 (within q other, λ d. held_by_more board others members q d within (blocked q other d))
 
--- what no peeling shrinks blocks itself
-pub peeled_same : (board : Board) (members kept : Squares) → IsPeeled board members kept → IsWithin members kept → AreBlocked board members
-peeled_same board members kept peeled within q member = ((peeled q).0 (within q member)).1
-
 -- boxes of which none is dead are doomed exactly where the largest blocked set has a member off goal
 pub doomed_by_largest : (board : Board) (boxes members : Squares) → IsLargestBlocked board boxes members → ¬ ((q : ℕ) × (contains boxes q ≡ true) × IsDead board q) → Doomed board boxes ↔ ((q : ℕ) × (contains members q ≡ true) × (is_goal board q ≡ false))
 doomed_by_largest board boxes members largest alive = (to, λ off. inr (members, record { some = largest.some; off_goal = off; blocked = largest.blocked }))
@@ -55,7 +51,7 @@ doomed_by_largest board boxes members largest alive = (to, λ off. inr (members,
 pub record IsPeeledUpTo (board : Board) (members : Squares) (i : ℕ) (kept : Squares) : Type 0 where
   pub peeled : (q : ℕ) → (contains kept q ≡ true) ↔ ((contains (take i members) q ≡ true) × IsBlocked board members q)
   pub fewer : length kept ≤ i
-  pub same : length kept ≡ i → kept ≡ take i members
+  pub rising : is_rising kept ≡ true
 
 -- a square is in a list with one more where it is in the list or is the one more
 contains-push : (xs : Squares) (x q : ℕ) → contains (xs ++ x ∷ []) q ≡ (contains xs q || eqb x q)
@@ -83,17 +79,19 @@ contains-push_last xs x = contains-push xs x x ∙ ap (λ b. contains xs x || b)
     or_true true = refl
     or_true false = refl
 
--- at the start nothing was looked at
-pub peeled_none : (board : Board) (members : Squares) → IsPeeledUpTo board members 0 []
-peeled_none board members = record {
-  peeled = λ q. (λ there. absurd (false≢true there), λ (there, blocked). absurd (false≢true there));
-  fewer = omega arith;
-  same = λ _. refl;
-}
+-- the first members are less than the next
+take_less : (xs : Squares) (i x q : ℕ) → is_rising xs ≡ true → i < length xs → x ≡ get_or xs i 0 → contains (take i xs) q ≡ true → q < x
+take_less xs i x q rising inside read there =
+    let found = place_of_member (take i xs) q 0 there in
+    let size = length-take i xs in
+    let early : found.0 < i = omega (arith, found.1, size) in
+    let same : get_or xs found.0 0 ≡ q = sym (get_or-take i xs found.0 0 early) ∙ found.2 in
+    let less = rising_places xs found.0 i 0 rising early inside in
+    omega (arith, same, less, read)
 
 -- one more member was looked at and kept
-pub peeled_more : (board : Board) (members : Squares) (i x : ℕ) (kept : Squares) → take (i + 1) members ≡ take i members ++ x ∷ [] → IsBlocked board members x → IsPeeledUpTo board members i kept → IsPeeledUpTo board members (i + 1) (kept ++ x ∷ [])
-peeled_more board members i x kept more blocked p = record {
+more_kept : (board : Board) (members : Squares) (i x : ℕ) (kept : Squares) → ((q : ℕ) → contains (take i members) q ≡ true → q < x) → take (i + 1) members ≡ take i members ++ x ∷ [] → IsBlocked board members x → IsPeeledUpTo board members i kept → IsPeeledUpTo board members (i + 1) (kept ++ x ∷ [])
+more_kept board members i x kept above more blocked p = record {
   peeled = λ q. (
     λ there. elim (contains-push_cases kept x q there) [
       | inl before ↦ let (early, held) = (p.peeled q).0 before in (ap (λ xs. contains xs q) more ∙ contains-push_kept (take i members) x q early, held)
@@ -105,12 +103,19 @@ peeled_more board members i x kept more blocked p = record {
     ],
   );
   fewer = omega (arith, p.fewer, length-append kept (x ∷ []));
-  same = λ e. ap (λ ys. ys ++ x ∷ []) (p.same (omega (arith, length-append kept (x ∷ [])))) ∙ sym more;
+  rising = is_rising-push kept x p.rising (λ q there. above q ((p.peeled q).0 there).0);
 }
 
+pub peeled_more : (board : Board) (members : Squares) (i x : ℕ) (kept kept' : Squares) → is_rising members ≡ true → i < length members → x ≡ get_or members i 0 → kept' ≡ kept ++ x ∷ [] → IsBlocked board members (get_or members i 0) → IsPeeledUpTo board members i kept → IsPeeledUpTo board members (i + 1) kept'
+peeled_more board members i x kept kept' rising inside read push blocked p =
+    subst (IsPeeledUpTo board members (i + 1)) (sym push)
+    (more_kept board members i x kept (λ q there. take_less members i x q rising inside read there)
+    (take_more members i 0 inside ∙ ap (λ z. take i members ++ z ∷ []) (sym read))
+    (subst (IsBlocked board members) (sym read) blocked) p)
+
 -- one more member was looked at and let go
-pub peeled_less : (board : Board) (members : Squares) (i x : ℕ) (kept : Squares) → take (i + 1) members ≡ take i members ++ x ∷ [] → ¬ (IsBlocked board members x) → IsPeeledUpTo board members i kept → IsPeeledUpTo board members (i + 1) kept
-peeled_less board members i x kept more free p = record {
+less_kept : (board : Board) (members : Squares) (i x : ℕ) (kept : Squares) → take (i + 1) members ≡ take i members ++ x ∷ [] → ¬ (IsBlocked board members x) → IsPeeledUpTo board members i kept → IsPeeledUpTo board members (i + 1) kept
+less_kept board members i x kept more free p = record {
   peeled = λ q. (
     λ there. let (early, held) = (p.peeled q).0 there in (ap (λ xs. contains xs q) more ∙ contains-push_kept (take i members) x q early, held),
     λ (there, held). elim (contains-push_cases (take i members) x q (sym (ap (λ xs. contains xs q) more) ∙ there)) [
@@ -119,42 +124,23 @@ peeled_less board members i x kept more free p = record {
     ],
   );
   fewer = omega (arith, p.fewer);
-  same = λ e. absurd (omega (arith, p.fewer));
+  rising = p.rising;
 }
 
--- all members were looked at
-pub peeled_all : (board : Board) (members kept : Squares) → IsPeeledUpTo board members (length members) kept → IsPeeled board members kept
-peeled_all board members kept p q = (
-  λ there. let (early, held) = (p.peeled q).0 there in (sym (ap (λ xs. contains xs q) (take-length members)) ∙ early, held),
-  λ (there, held). (p.peeled q).1 (ap (λ xs. contains xs q) (take-length members) ∙ there, held),
-)
-
--- what is read from a list is in it, and is the next of its first elements
-pub contains-read : (xs : Squares) (i x : ℕ) → i < length xs → x ≡ get_or xs i x → contains xs x ≡ true
-contains-read xs i x lt read = list_any_at (λ y. y == x) xs i x lt (eq-eqb (get_or xs i x) x (sym read))
-
-pub take_read : (xs : Squares) (i x : ℕ) → i < length xs → x ≡ get_or xs i x → take (i + 1) xs ≡ take i xs ++ x ∷ []
-take_read xs i x lt read = take_more xs i x lt ∙ ap (λ z. take i xs ++ z ∷ []) (sym read)
+pub peeled_less : (board : Board) (members : Squares) (i : ℕ) (kept kept' : Squares) → i < length members → kept' ≡ kept → ¬ (IsBlocked board members (get_or members i 0)) → IsPeeledUpTo board members i kept → IsPeeledUpTo board members (i + 1) kept'
+peeled_less board members i kept kept' inside same free p =
+    subst (IsPeeledUpTo board members (i + 1)) (sym same) (less_kept board members i (get_or members i 0) kept (take_more members i 0 inside) free p)
 
 -- some of the boxes, which every set of boxes that blocks itself is within
 pub record IsPeeling (board : Board) (boxes members : Squares) : Type 0 where
   pub some : IsWithin members boxes
-  pub fewer : length members ≤ length boxes
   pub largest : (others : Squares) → IsWithin others boxes → AreBlocked board others → IsWithin others members
 
 pub peeling_all : (board : Board) (boxes : Squares) → IsPeeling board boxes boxes
-peeling_all board boxes = record { some = λ q there. there; fewer = omega arith; largest = λ others within blocked. within }
+peeling_all board boxes = record { some = λ q there. there; largest = λ others within blocked. within }
 
-pub peeling_more : (board : Board) (boxes members kept : Squares) → IsPeeled board members kept → length kept ≤ length members → IsPeeling board boxes members → IsPeeling board boxes kept
-peeling_more board boxes members kept peeled fewer p = record {
+pub peeling_more : (board : Board) (boxes members kept : Squares) → IsPeeled board members kept → IsPeeling board boxes members → IsPeeling board boxes kept
+peeling_more board boxes members kept peeled p = record {
   some = λ q there. p.some q ((peeled q).0 there).0;
-  fewer = omega (arith, p.fewer);
   largest = λ others within blocked. peeled_keeps board members kept others peeled blocked (p.largest others within blocked);
-}
-
-pub peeling_done : (board : Board) (boxes members kept : Squares) → IsPeeled board members kept → kept ≡ members → IsPeeling board boxes members → IsLargestBlocked board boxes members
-peeling_done board boxes members kept peeled same p = record {
-  some = p.some;
-  blocked = peeled_same board members kept peeled (λ q member. subst (λ xs. contains xs q ≡ true) (sym same) member);
-  largest = p.largest;
 }

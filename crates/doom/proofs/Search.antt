@@ -1,9 +1,10 @@
 -- What `any` says of the squares of a list.
-use Rattle.std.proofs.Common.{◌≡◌, ◌↔◌, ◌==◌, ◌<◌, ℕ, Bool, true, false, MatchBool, IsTrue, length, get_or, refl, sym, subst, ◌∙◌, eq-eqb, arith}
+use Rattle.std.proofs.Common.{◌≡◌, ◌↔◌, ◌==◌, ◌<◌, ℕ, Bool, true, false, MatchBool, Option, None, Some, MatchOption, IfNone, IsTrue, length, get_or, inl, inr, refl, sym, subst, ◌∙◌, eq-eqb, arith}
 use Rattle.std.specs.List.{HoldsAt, AllWithin}
 use Rattle.std.proofs.lemmas.List.Folds.{list_any_at, Any-from_list_any}
-use Rattle.std.proofs.lemmas.Bool.{false≢true, eqb-true}
+use Rattle.std.proofs.lemmas.Bool.{false≢true, eqb-true, cases_Bool}
 use Rattle.grid.specs.Squares.{Squares, contains}
+use Rattle.grid.proofs.Squares.{place_of_member}
 
 -- `any` is true exactly where a square of the list has the property
 pub any_tells : (P Q : ℕ → Type 0) (r : Bool) (xs : Squares) → ((q : ℕ) → Q q → ¬ (P q)) → MatchBool r ((k : ℕ) × (k < length xs) × HoldsAt P xs k) (AllWithin Q xs 0 (length xs)) → IsTrue r ↔ ((q : ℕ) × (contains xs q ≡ true) × P q)
@@ -14,3 +15,12 @@ any_tells P Q false xs apart none = (
   λ (q, there, p). let (k, x, lt, at, e) = Any-from_list_any (λ y. y == q) xs there in
       absurd (apart (get_or xs k x) (none k x (omega arith) lt) (subst P (sym (at ∙ eqb-true x q e)) p)),
 )
+
+-- where `position` finds a square nowhere in the list, it is none of the list
+pub nowhere_in : (q : ℕ) (Found : ℕ → Type 0) (r : Option ℕ) (xs : Squares) → MatchOption r (AllWithin (λ x. ¬ (x ≡ q)) xs 0 (length xs)) Found → IfNone r (contains xs q ≡ false)
+nowhere_in q Found None xs none = elim (cases_Bool (contains xs q)) [
+  | inl there ↦ let (i, inside, same) = place_of_member xs q 0 there in
+      absurd (none i 0 (omega arith) inside same)
+  | inr out ↦ out
+]
+nowhere_in q Found (Some i) xs found = tt

@@ -1,8 +1,10 @@
-ghost use Rattle.std.specs.Prelude.{◌≡◌, ◌↔◌, IsTrue, IfOk};
+ghost use Rattle.std.specs.Prelude.{◌≡◌, ◌<◌, ◌↔◌, IsTrue, IfOk, length};
 ghost use Rattle.doom.specs.Deadlocks.{IsDead, LosesBox};
+ghost use Rattle.doom.specs.Holding.{IsFast};
 
+use crate::holds::{Hold, holds};
 use crate::pulls::live_flags;
-use grid::{Level, Square};
+use grid::{Dir, Level, Square};
 use std::alloc::{AllocError, Global};
 use std::marker::Model;
 
@@ -12,17 +14,19 @@ use std::marker::Model;
 pub struct Dead {
     level: Level,
     live: Vec<bool>,
+    holds: Vec<Hold>,
 }
 
 impl Model for Dead {
     ghost use Rattle.grid.specs.Board.{Board};
     ghost use Rattle.doom.specs.Pulling.{AreLiveFlags};
+    ghost use Rattle.doom.specs.Holding.{AreHolds};
 
     ghost Value = { Board };
 
     ghost view = { λ a. a.level };
 
-    ghost invariant = { λ a. AreLiveFlags a.level a.live.items };
+    ghost invariant = { λ a. AreLiveFlags a.level a.live.items × AreHolds a.level a.holds.items };
 }
 
 impl Dead {
@@ -31,9 +35,11 @@ impl Dead {
         ensures { IfOk result (λ dead. dead ≡ level.now) }
     {
         let live = live_flags(alloc, level)?;
+        let holds = holds(alloc, level, live.as_slice())?;
         Ok(Dead {
             level: level.copy(alloc)?,
             live,
+            holds,
         })
     }
 
@@ -43,5 +49,21 @@ impl Dead {
         ensures lost { IsTrue result → LosesBox self.now square }
     {
         !self.live.get(square.0 as usize).copied().unwrap_or(false)
+    }
+
+    /// Whether walls or dead squares alone hold a box on the square on the axis across.
+    pub(crate) fn holds_across(&self, square: Square) -> bool
+        requires { square < length self.now.cells }
+        ensures { IsTrue result ↔ IsFast self.now square Dir.R }
+    {
+        self.holds[square.0 as usize].across
+    }
+
+    /// Whether walls or dead squares alone hold a box on the square on the axis along.
+    pub(crate) fn holds_along(&self, square: Square) -> bool
+        requires { square < length self.now.cells }
+        ensures { IsTrue result ↔ IsFast self.now square Dir.D }
+    {
+        self.holds[square.0 as usize].along
     }
 }

@@ -1,11 +1,13 @@
-ghost use Rattle.std.specs.Prelude.{◌≡◌, ℕ, ◌<◌, ◌≤◌, ◌↔◌, ◌⊎◌, IsTrue, true, false, length};
-ghost use Rattle.grid.specs.Board.{is_wall, is_goal};
-ghost use Rattle.grid.specs.Squares.{contains};
+ghost use Rattle.std.specs.Prelude.{◌≡◌, ℕ, ◌<◌, ◌≤◌, ◌↔◌, IsTrue, IfSome, IfNone, true, false, length, slice_index};
+ghost use Rattle.grid.specs.Board.{is_goal};
+ghost use Rattle.grid.specs.Squares.{contains, is_rising};
 ghost use Rattle.grid.specs.Lawful.{FitsLevel};
 ghost use Rattle.doom.specs.Deadlocks.{IsDead, Doomed, AreLost, IsHeld, IsBlocked};
+ghost use Rattle.doom.specs.Loose.{IsLoose};
 ghost use Rattle.doom.specs.Peeling.{StandInside, IsPeeled, IsLargestBlocked};
 
 use crate::dead::Dead;
+use crate::neighbours::{has_beside, has_in_column};
 use area::Scratch;
 use arrayvec::ArrayVec;
 use grid::{Dir, Level, MAX_BOXES, Position, Square};
@@ -26,6 +28,29 @@ pub fn doomed(level: &Level, dead: &Dead, position: &Position, scratch: &mut Scr
     any_dead(dead, boxes) || any_off_goal(level, largest_blocked(level, dead, boxes).as_slice())
 }
 
+/// Whether a box of the position stands on the square, which is not dead, and on some axis neither a wall nor a box nor
+/// two dead squares hold it. A push that brings a box there from an undoomed position leaves an undoomed one. Takes no
+/// memory.
+pub fn is_loose(level: &Level, dead: &Dead, position: &Position, square: Square) -> bool
+    requires fits { FitsLevel level.now position.now }
+    requires dead_of_level { dead.now ≡ level.now }
+    ensures { IsTrue result ↔ IsLoose level.now position.now.boxes square }
+{
+    let boxes = position.boxes();
+    let Some(place) = place_of(boxes, square) else {
+        return false;
+    };
+    !dead.is_dead(square) && !is_blocked(level, dead, boxes, place)
+}
+
+/// The place of a box's square among the boxes.
+fn place_of(boxes: &[Square], square: Square) -> Option<usize>
+    ensures some { IfSome result (λ place. (place < length boxes.now) × (slice_index boxes.now place ≡ square)) }
+    ensures none { IfNone result (contains boxes.now square ≡ false) }
+{
+    boxes.iter().position(|other| *other == square)
+}
+
 /// Whether one of the boxes stands on a dead square.
 fn any_dead(dead: &Dead, boxes: &[Square]) -> bool
     ensures { IsTrue result ↔ ((q : ℕ) × (contains boxes.now q ≡ true) × IsDead dead.now q) }
@@ -42,64 +67,73 @@ fn any_off_goal(level: &Level, squares: &[Square]) -> bool
 
 /// The largest set of the boxes each of which is blocked by walls, by other members or by dead squares.
 fn largest_blocked(level: &Level, dead: &Dead, boxes: &[Square]) -> ArrayVec<Square, MAX_BOXES>
+    requires rising { is_rising boxes.now ≡ true }
     requires inside { StandInside level.now boxes.now }
     requires dead_of_level { dead.now ≡ level.now }
     requires bound { length boxes.now ≤ MAX_BOXES }
     ensures { IsLargestBlocked level.now boxes.now result.items }
 {
     let mut members = peeled(level, dead, boxes);
-    loop {
-        let kept = peeled(level, dead, members.as_slice());
-        if kept.len() == members.len() {
-            return members;
+    let mut place = 0;
+    while place < members.len() {
+        if is_blocked(level, dead, members.as_slice(), place) {
+            place += 1;
+        } else {
+            members.remove(place);
+            place = 0;
         }
-        members = kept;
     }
+    members
 }
 
-/// The members that walls, the other members or dead squares block.
-fn peeled(level: &Level, dead: &Dead, members: &[Square]) -> ArrayVec<Square, MAX_BOXES>
-    requires inside { StandInside level.now members.now }
+/// The boxes that walls, the other boxes or dead squares block.
+fn peeled(level: &Level, dead: &Dead, boxes: &[Square]) -> ArrayVec<Square, MAX_BOXES>
+    requires rising { is_rising boxes.now ≡ true }
+    requires inside { StandInside level.now boxes.now }
     requires dead_of_level { dead.now ≡ level.now }
-    requires bound { length members.now ≤ MAX_BOXES }
-    ensures peeled { IsPeeled level.now members.now result.items }
-    ensures fewer { length result.items ≤ length members.now }
-    ensures same { length result.items ≡ length members.now → result.items ≡ members.now }
+    requires bound { length boxes.now ≤ MAX_BOXES }
+    ensures peeled { IsPeeled level.now boxes.now result.items }
+    ensures rising { is_rising result.items ≡ true }
+    ensures fewer { length result.items ≤ length boxes.now }
 {
     let mut kept = ArrayVec::new();
-    for square in members {
-        if is_blocked(level, dead, members, *square) {
-            kept.push(*square);
+    for place in 0..boxes.len() {
+        if is_blocked(level, dead, boxes, place) {
+            kept.push(boxes[place]);
         }
     }
     kept
 }
 
-/// Whether walls, members or dead squares block the square on both axes.
-fn is_blocked(level: &Level, dead: &Dead, members: &[Square], square: Square) -> bool
-    requires inside { square < length level.now.cells }
+/// Whether walls, other members or dead squares block the member at a place on both axes.
+fn is_blocked(level: &Level, dead: &Dead, members: &[Square], place: usize) -> bool
+    requires rising { is_rising members.now ≡ true }
+    requires place { place < length members.now }
+    requires inside { slice_index members.now place < length level.now.cells }
     requires dead_of_level { dead.now ≡ level.now }
-    ensures { IsTrue result ↔ IsBlocked level.now members.now square }
+    ensures { IsTrue result ↔ IsBlocked level.now members.now (slice_index members.now place) }
 {
-    is_held(level, dead, members, square, Dir::R) && is_held(level, dead, members, square, Dir::D)
+    is_held_across(dead, members, place) && is_held_along(level, dead, members, place)
 }
 
-/// Whether the square has, on the axis of the direction, a wall or a member beside it, or two dead squares.
-fn is_held(level: &Level, dead: &Dead, members: &[Square], square: Square, dir: Dir) -> bool
-    requires inside { square < length level.now.cells }
-    requires dead_of_level { dead.now ≡ level.now }
-    ensures { IsTrue result ↔ IsHeld level.now members.now square dir }
+/// Whether walls, another member or dead squares hold the member at a place on the axis across.
+fn is_held_across(dead: &Dead, members: &[Square], place: usize) -> bool
+    requires rising { is_rising members.now ≡ true }
+    requires place { place < length members.now }
+    requires inside { slice_index members.now place < length dead.now.cells }
+    ensures { IsTrue result ↔ IsHeld dead.now members.now (slice_index members.now place) Dir.R }
 {
-    let ahead = level.next(square, dir);
-    let behind = level.next(square, dir.opposite());
-    is_support(level, members, ahead)
-        || is_support(level, members, behind)
-        || (dead.is_dead(ahead) && dead.is_dead(behind))
+    dead.holds_across(members[place]) || has_beside(members, place)
 }
 
-/// Whether the square is a wall or a member.
-fn is_support(level: &Level, members: &[Square], square: Square) -> bool
-    ensures { IsTrue result ↔ ((is_wall level.now square ≡ true) ⊎ (contains members.now square ≡ true)) }
+/// Whether walls, another member or dead squares hold the member at a place on the axis along.
+fn is_held_along(level: &Level, dead: &Dead, members: &[Square], place: usize) -> bool
+    requires rising { is_rising members.now ≡ true }
+    requires place { place < length members.now }
+    requires inside { slice_index members.now place < length level.now.cells }
+    requires dead_of_level { dead.now ≡ level.now }
+    ensures { IsTrue result ↔ IsHeld level.now members.now (slice_index members.now place) Dir.D }
 {
-    level.is_wall(square) || members.contains(&square)
+    level.tell();
+    dead.holds_along(members[place]) || has_in_column(level, members, place)
 }

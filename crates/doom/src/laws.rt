@@ -1,5 +1,6 @@
 ghost use Rattle.grid.specs.Squares.{Squares};
 ghost use Rattle.doom.specs.Deadlocks.{Doomed, AreLost, SolvesSafely};
+ghost use Rattle.doom.specs.Loose.{LooseDoomsNothing};
 
 use grid::Level;
 
@@ -11,4 +12,9 @@ pub fn doomed_are_lost(level: &Level)
 /// The law that each state along a play that ends solved has undoomed boxes.
 pub fn solution_is_safe(level: &Level)
     ensures { SolvesSafely level.now }
+{}
+
+/// The law that a push from an undoomed position dooms nothing where the pushed box is loose on its new square.
+pub fn a_loose_box_dooms_nothing(level: &Level)
+    ensures { LooseDoomsNothing level.now }
 {}

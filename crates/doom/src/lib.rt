@@ -3,11 +3,13 @@
 
 mod dead;
 mod freeze;
+mod holds;
 mod laws;
+mod neighbours;
 mod pulls;
 #[cfg(test)]
 mod tests;
 
 pub use dead::Dead;
-pub use freeze::doomed;
-pub use laws::{doomed_are_lost, solution_is_safe};
+pub use freeze::{doomed, is_loose};
+pub use laws::{a_loose_box_dooms_nothing, doomed_are_lost, solution_is_safe};

@@ -1,4 +1,4 @@
-use crate::{Dead, doomed, doomed_are_lost, solution_is_safe};
+use crate::{Dead, a_loose_box_dooms_nothing, doomed, doomed_are_lost, is_loose, solution_is_safe};
 use area::Scratch;
 use grid::{Cell, Level, Position, Square};
 use std::alloc::Global;
@@ -14,6 +14,8 @@ const CORNER: (usize, &[u8]) = (5, b"######.  ## $ ##  @######");
 const TWO_ENDS: (usize, &[u8]) = (7, b"########.$@$.########");
 
 const PAIR_AT_WALL: (usize, &[u8]) = (6, b"#######.$$.##  @ #######");
+
+const COLUMN_AT_WALL: (usize, &[u8]) = (5, b"######.  ##$  ##$ @##.  ######");
 
 const NO_PUSH: (usize, &[u8]) = (8, b"#########@ # $.#########");
 
@@ -79,6 +81,7 @@ fn live_squares_are_those_that_reach_a_goal(rt: HostRuntime) -> Result<(), Fail>
 fn starts_are_doomed_or_not(rt: HostRuntime) -> Result<(), Fail> {
     let rows = [
         (PAIR_AT_WALL, true),
+        (COLUMN_AT_WALL, true),
         (BETWEEN_DEAD, true),
         (PUSH_RIGHT, false),
         (SOLVED, false),
@@ -104,9 +107,36 @@ fn starts_are_doomed_or_not(rt: HostRuntime) -> Result<(), Fail> {
 }
 
 #[test]
+fn boxes_are_loose_or_not(rt: HostRuntime) -> Result<(), Fail> {
+    let rows = [
+        (PUSH_RIGHT, 7, true),
+        (PUSH_RIGHT, 8, false),
+        (PAIR_AT_WALL, 8, false),
+        (COLUMN_AT_WALL, 11, false),
+        (CORNER, 12, true),
+        (BETWEEN_DEAD, 17, false),
+        (TWO_ENDS, 9, true),
+        (TWO_ENDS, 10, false),
+    ];
+    for (row, (board, square, want)) in rows.into_iter().enumerate() {
+        let level = level_of(&rt, rt.alloc(), board)?;
+        let dead = Dead::of(rt.alloc(), &level)?;
+        let position = Position::start(&level).ok_or("too many boxes")?;
+        assert!(rt; position.fits(&level));
+        assert_eq!(rt;
+            is_loose(&level, &dead, &position, Square(square)),
+            want,
+            "row {row}"
+        );
+    }
+    Ok(())
+}
+
+#[test]
 fn laws_can_be_called(rt: HostRuntime) -> Result<(), Fail> {
     let level = level_of(&rt, rt.alloc(), PUSH_RIGHT)?;
     doomed_are_lost(&level);
     solution_is_safe(&level);
+    a_loose_box_dooms_nothing(&level);
     Ok(())
 }

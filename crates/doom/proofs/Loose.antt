@@ -1,0 +1,39 @@
+-- A push that brings a box to where it is loose dooms nothing.
+use Rattle.std.proofs.Common.{◌≡◌, ◌↔◌, ℕ, Bool, true, false, not, IsTrue, refl, sym, subst, inl, inr}
+use Rattle.std.proofs.lemmas.Bool.{false≢true}
+use Rattle.grid.specs.Squares.{Squares, contains, insert, remove}
+use Rattle.grid.specs.Board.{Board}
+use Rattle.grid.proofs.Squares.{contains-insert_cases, contains-remove_parts}
+use Rattle.doom.specs.Deadlocks.{IsDead, IsBlocked, IsFrozen}
+use Rattle.doom.specs.Loose.{IsLoose, LooseDoomsNothing}
+use Rattle.doom.proofs.Peeling.{held_by_more}
+
+-- a box that came to rest where it is loose is in no frozen set
+free_of_frozen : (board : Board) (boxes members : Squares) (q r : ℕ) → IsLoose board boxes q → IsFrozen board boxes members → q ≡ r → ¬ (IsBlocked board members r)
+free_of_frozen board boxes members q r loose frozen same blocked =
+    loose.free (λ d. held_by_more board members boxes q d frozen.some (subst (IsBlocked board members) (sym same) blocked d))
+
+-- so what dooms the boxes then doomed them before
+pub loose_dooms_nothing : (board : Board) → LooseDoomsNothing board
+loose_dooms_nothing board boxes from to safe loose (inl (q, there, dead)) = elim (contains-insert_cases (remove boxes from) to q there) [
+  | inl same ↦ loose.live (subst (IsDead board) (sym same) dead)
+  | inr left ↦ safe (inl (q, (contains-remove_parts boxes from q left).1, dead))
+]
+loose_dooms_nothing board boxes from to safe loose (inr (members, frozen)) =
+    safe (inr (
+      members,
+      record {
+        some = λ q member. elim (contains-insert_cases (remove boxes from) to q (frozen.some q member)) [
+          | inl same ↦ absurd (free_of_frozen board (insert (remove boxes from) to) members to q loose frozen same (frozen.blocked q member))
+          | inr left ↦ (contains-remove_parts boxes from q left).1
+        ];
+        off_goal = frozen.off_goal;
+        blocked = frozen.blocked;
+      },
+    ))
+
+-- a box that is not dead is loose exactly where it is told that nothing blocks it
+pub loose_by : (board : Board) (boxes : Squares) (q : ℕ) (told : Bool) → contains boxes q ≡ true → ¬ (IsDead board q) → IsTrue told ↔ IsBlocked board boxes q → IsTrue (not told) ↔ IsLoose board boxes q
+loose_by board boxes q true there live is = (λ no. absurd (false≢true no), λ loose. absurd (loose.free (is.0 refl)))
+loose_by board boxes q false there live is =
+    (λ yes. record { there = there; live = live; free = λ blocked. false≢true (is.1 blocked) }, λ loose. refl)
