@@ -242,7 +242,7 @@ read_push (ys ∷ xss) xs = read_push xss xs
 -- ---- begin
 
 -- lists of one length that agree at each place are equal
-same_places : {A : Type 0} (xs ys : List A) → length xs ≡ length ys → ((i : ℕ) (a b : A) → slice_get xs i ≡ Some a → slice_get ys i ≡ Some b → a ≡ b) → xs ≡ ys
+pub same_places : {A : Type 0} (xs ys : List A) → length xs ≡ length ys → ((i : ℕ) (a b : A) → slice_get xs i ≡ Some a → slice_get ys i ≡ Some b → a ≡ b) → xs ≡ ys
 same_places [] [] long same = refl
 same_places [] (y ∷ ys) long same = absurd (omega arith)
 same_places (x ∷ xs) [] long same = absurd (omega arith)

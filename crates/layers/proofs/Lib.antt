@@ -12,3 +12,4 @@ pub mod Cuts
 pub mod Closings
 pub mod First
 pub mod Joins
+pub mod Histories

@@ -7,3 +7,4 @@ pub mod BookView
 pub mod Books
 pub mod BookInside
 pub mod Insides
+pub mod Events

@@ -1,4 +1,4 @@
-ghost use Rattle.std.specs.Prelude.{◌≡◌, ◌+◌, ◌*◌, ◌<◌, ◌≤◌, ◌↔◌, IsTrue, IfSome, IfNone, true, length, slice_get, Some};
+ghost use Rattle.std.specs.Prelude.{◌≡◌, ◌+◌, ◌*◌, ◌<◌, ◌≤◌, ◌↔◌, IsTrue, IfSome, IfNone, true, [], length, slice_get, Some};
 ghost use Rattle.grid.specs.Board.{Scene};
 ghost use Rattle.grid.specs.Lawful.{FitsLevel};
 ghost use Rattle.grid.specs.Squares.{contains};
@@ -28,7 +28,15 @@ pub fn expand<'a>(layer: &'a Layer, dead: &Dead, rank: u64, scratch: &mut Scratc
     let level = layer.level();
     let position = layer.place(rank);
     let pushes = possible_pushes(level, position, scratch);
-    let successors = successors_by(level, dead, position, pushes.as_slice(), scratch);
+    let mut successors = ArrayVec::new();
+    successors_by(
+        level,
+        dead,
+        position,
+        pushes.as_slice(),
+        scratch,
+        &mut successors,
+    );
     Parcel {
         level,
         layer: layer.number(),
@@ -46,6 +54,7 @@ fn possible_pushes(
     requires fits { FitsLevel level.now position.now }
     requires room { scratch.old.size ≡ length level.now.cells }
     ensures pushes { ArePushes level.now position.now result.items }
+    ensures flooded { IsAreaOf level.now position.now scratch.new.reached }
     ensures size { scratch.new.size ≡ scratch.old.size }
 {
     area::flood(level, position, scratch);
@@ -91,34 +100,36 @@ fn can_push(level: &Level, position: &Position, scratch: &Scratch, square: Squar
     scratch.reaches(behind) && !level.is_wall(ahead) && !position.contains(ahead)
 }
 
-// What the pushes lead to, but for doomed positions.
+// Fills an empty list with what the pushes lead to, but for doomed positions, where the last flood was that of the
+// position.
 fn successors_by(
     level: &Level,
     dead: &Dead,
     position: &Position,
     pushes: &[Push],
     scratch: &mut Scratch,
-) -> ArrayVec<Successor, MAX_SUCCESSORS>
+    successors: &mut ArrayVec<Successor, MAX_SUCCESSORS>,
+)
     requires fits { FitsLevel level.now position.now }
     requires undoomed { Undoomed level.now position.now }
     requires dead_of_level { dead.now ≡ level.now }
     requires room { scratch.old.size ≡ length level.now.cells }
+    requires flooded { IsAreaOf level.now position.now scratch.old.reached }
     requires pushes { ArePushes level.now position.now pushes.now }
     requires bound { length pushes.now ≤ MAX_SUCCESSORS }
-    ensures successors { AreSuccessors level.now position.now result.items }
-    ensures fits { FitLevel level.now result.items }
-    ensures size { scratch.new.size ≡ scratch.old.size }
+    requires empty { successors.old.items ≡ [] }
+    ensures successors { AreSuccessors level.now position.now successors.new.items }
+    ensures fits { FitLevel level.now successors.new.items }
+    ensures kept { scratch.new ≡ scratch.old }
 {
-    let mut successors = ArrayVec::new();
     for push in pushes {
         if let Some(successor) = successor_by(level, dead, position, *push, scratch) {
             successors.push(successor);
         }
     }
-    successors
 }
 
-// What a push leads to; `None` exactly where that is doomed.
+// What a push leads to, where the last flood was that of the position before it; `None` exactly where that is doomed.
 fn successor_by(
     level: &Level,
     dead: &Dead,
@@ -130,18 +141,21 @@ fn successor_by(
     requires undoomed { Undoomed level.now position.now }
     requires dead_of_level { dead.now ≡ level.now }
     requires room { scratch.old.size ≡ length level.now.cells }
+    requires flooded { IsAreaOf level.now position.now scratch.old.reached }
     requires possible { CanPush level.now position.now push }
     ensures some { IfSome result (λ s. (s.push ≡ push) × IsSuccessor level.now position.now push s.position × FitsLevel level.now s.position) }
     ensures none { IfNone result ((m : Scene) → ¬ (IsSuccessor level.now position.now push m)) }
-    ensures size { scratch.new.size ≡ scratch.old.size }
+    ensures kept { scratch.new ≡ scratch.old }
 {
+    let Push { square, dir } = push;
+    let ahead = level.next(square, dir);
     let mut moved = position.copy();
-    moved.push(push.square, level.next(push.square, push.dir));
-    if doom::doomed(level, dead, &moved, scratch) {
+    moved.push(square, ahead);
+    if !doom::is_loose(level, dead, &moved, ahead) && doom::doomed(level, dead, &moved, scratch) {
         return None;
     }
     Some(Successor {
         push,
-        position: area::normal(level, &moved, scratch),
+        position: area::normal_after(level, position, Push { square, dir }, moved, scratch),
     })
 }

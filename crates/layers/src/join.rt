@@ -58,8 +58,9 @@ fn copy_from(
     ensures places { IfOk result (λ r. r.0.items ≡ map (λ e. e.0) (drop from seen.now.entries)) }
     ensures origins { IfOk result (λ r. r.1.items ≡ origins_of (drop from seen.now.entries)) }
 {
-    let mut places = Vec::new(alloc);
-    let mut origins = Vec::new(alloc);
+    let count = seen.len() - from;
+    let mut places = Vec::with_capacity(alloc, count)?;
+    let mut origins = Vec::with_capacity(alloc, count)?;
     for place in from..seen.len() {
         if let Some((position, origin)) = seen.get_index(place) {
             places.push(position.copy())?;

@@ -9,6 +9,7 @@ mod events;
 mod expansion;
 mod fault;
 mod join;
+pub mod laws;
 mod layer;
 mod limits;
 mod parcel;

@@ -1,5 +1,7 @@
 use Rattle.std.proofs.Common.{◌≡◌, ◌+◌, length, refl, sym, ap, subst, ◌∙◌, arith}
 use Rattle.std.proofs.lemmas.Option.{slice_get_read}
+use Rattle.area.specs.Reach.{Reach}
+use Rattle.layers.specs.Expansion.{IsAreaOf}
 use Rattle.layers.specs.ParcelView.{FitLevel}
 use Rattle.layers.proofs.Successors.{come_by}
 use Rattle.layers.proofs.Gathering.{AreSuccessorsBy, by_same, by_more, by_all, fit_more}
@@ -24,7 +26,7 @@ loop-push-preserved c =
             subst (AreSuccessorsBy c.args.level.now c.args.position.now (c.loop-push.push-index + 1) c.args.pushes.now) (sym grown) more,
             subst (FitLevel c.args.level.now) (sym grown) fit,
             omega (arith, c.loop-push.invariant.2, w.push.ensures.len, ap (λ xs. length xs) e),
-            c.successor_by.ensures.size ∙ c.loop-push.invariant.3,
+            c.successor_by.ensures.kept ∙ c.loop-push.invariant.3,
           ))
       | in_default w ↦
           (let e : c.match-successor_by.successors.items ≡ c.loop-push.successors.items = ap (λ v. v.items) w.successors-is in
@@ -32,7 +34,7 @@ loop-push-preserved c =
             subst (AreSuccessorsBy c.args.level.now c.args.position.now (c.loop-push.push-index + 1) c.args.pushes.now) (sym e) same,
             subst (FitLevel c.args.level.now) (sym e) c.loop-push.invariant.1,
             omega (arith, c.loop-push.invariant.2, ap (λ xs. length xs) e),
-            c.successor_by.ensures.size ∙ c.loop-push.invariant.3,
+            c.successor_by.ensures.kept ∙ c.loop-push.invariant.3,
           ))
     ]
 
@@ -40,3 +42,7 @@ pub returns-clause-successors : goal.returns-clause-successors
 returns-clause-successors c =
     by_all c.args.level.now c.args.position.now c.requires.fits.scene c.args.pushes.now c.loop-push.push-index c.loop-push.successors.items c.loop-push-test.false c.requires.pushes
     (λ p m come. (come_by c.args.level.now c.args.position.now c.requires.fits.scene p m come).can) c.loop-push.invariant.0
+
+pub successor_by-requires-clause-flooded : goal.successor_by-requires-clause-flooded
+successor_by-requires-clause-flooded c =
+    subst (λ (s : Reach). IsAreaOf c.args.level.now c.args.position.now s.reached) (sym c.loop-push.invariant.3) c.requires.flooded
