@@ -1,0 +1,267 @@
+-- What a search has behind it, and what answers follow from where it ends.
+use Rattle.std.proofs.Common.{◌≡◌, ℕ, zero, suc, ◌+◌, ◌-◌, ◌<◌, ◌≤◌, false, true, List, [], ◌∷◌, ◌++◌, length, map, get_or, Some, inl, inr, refl, sym, ap, subst, ◌∙◌, arith}
+use Rattle.std.proofs.lemmas.Bool.{cases_lt}
+use Rattle.std.proofs.lemmas.List.{length-append, length-map}
+use Rattle.std.proofs.lemmas.Option.{same_Some, none-some}
+use Rattle.std.specs.Prelude.{slice_get}
+use Rattle.std.specs.declared.cmp.Ordering.{Ordering}
+use Rattle.std.specs.declared.cmp.Ordering.TheVariants.{Less, Equal, Greater}
+use Rattle.std.specs.Ordering.{ordering_then, is_gt}
+use Rattle.grid.specs.declared.dir.Dir.{Dir}
+use Rattle.grid.specs.declared.square.Push.{Push}
+use Rattle.grid.specs.declared.moves.Letter.{Letter}
+use Rattle.grid.specs.Squares.{Squares, contains}
+use Rattle.grid.specs.Board.{Board, Scene, IsSolved, start, dir_cmp, push_cmp}
+use Rattle.grid.specs.Lawful.{IsLevel}
+use Rattle.grid.specs.Plays.{Play, Any, IsSolution, shortlex, solution_cmp, dirs_of}
+use Rattle.grid.proofs.Levels.{start_is_scene}
+use Rattle.grid.proofs.Orders.{push_cmp_total, push_cmp_exact, shortlex_total, shortlex_exact}
+use Rattle.grid.proofs.Plays.{play_scene, play_boxes}
+use Rattle.area.proofs.Norms.{norm_exists}
+use Rattle.doom.proofs.Soundness.{solution_safe}
+use Rattle.layers.specs.Layered.{IsIn}
+use Rattle.layers.specs.Reaching.{Reaches, IsLeadOf, IsLayerOf, AreLayersOf, total}
+use Rattle.layers.specs.BookView.{BookView, Closed, places_of, IsAtDistance, IsLawfulBook}
+use Rattle.layers.proofs.Exchange.{at_map, lead-length, lead_unique, found}
+use Rattle.layers.proofs.Layers.{place_unique}
+use Rattle.layers.proofs.Lists.{at-push, at_seam, sum_by_first}
+use Rattle.layers.proofs.Orders.{shortlex_shorter, shortlex_same, less_upto, upto-less}
+use Rattle.layers.proofs.Books.{level_laws, read_at, layers_same}
+use Rattle.layers.proofs.Joins.{layer_of_all}
+use Rattle.solo.specs.declared.answer.Answer.TheVariants.{Solved, Unsolvable, Limit}
+use Rattle.solo.specs.Leads.{AreUnsolved, IsFirstSolved, WritesLead}
+use Rattle.solo.specs.Answers.{WritesLeastSolution, HaveTotal, HasInAll, PassesLimit, IsAnswer}
+use Rattle.solo.specs.Searched.{AreSearched}
+
+-- ---- one more layer
+
+-- the elements of one more list come on top
+pub total-push : {A : Type 0} (xss : List (List A)) (xs : List A) → total (xss ++ xs ∷ []) ≡ total xss + length xs
+total-push [] xs = omega arith
+total-push (ys ∷ xss) xs = omega (arith, sum_by_first length ys (xss ++ xs ∷ []), sum_by_first length ys xss, total-push xss xs)
+
+-- the first layers with the next one are the first layers
+pub layers_more : (board : Board) (layers : List (List Scene)) (xs : List Scene) → AreLayersOf board layers → IsLayerOf board (length layers) xs → AreLayersOf board (layers ++ xs ∷ [])
+layers_more board layers xs are layer j ys at_j = elim (at-push layers xs j ys at_j) [
+  | inl old ↦ are j ys old
+  | inr last ↦ subst (λ zs. IsLayerOf board j zs) (sym last.1) (subst (λ i. IsLayerOf board i xs) (sym last.0) layer)
+]
+
+-- before a search no layer was searched
+pub none_searched : (board : Board) → AreSearched board []
+none_searched board = record {
+  are = λ j xs at_j. absurd (none-some xs at_j);
+  filled = λ j xs at_j. absurd (none-some xs at_j);
+  unsolved = λ j xs at_j. absurd (none-some xs at_j);
+}
+
+-- a layer that is neither empty nor has a solved position is searched too
+pub searched_more : (board : Board) (layers : List (List Scene)) (xs : List Scene) → AreSearched board layers → IsLayerOf board (length layers) xs → 1 ≤ length xs → AreUnsolved board xs → AreSearched board (layers ++ xs ∷ [])
+searched_more board layers xs searched layer some unsolved = record {
+  are = layers_more board layers xs searched.are layer;
+  filled = λ j ys at_j. elim (at-push layers xs j ys at_j) [
+    | inl old ↦ searched.filled j ys old
+    | inr last ↦ omega (arith, ap length last.1)
+  ];
+  unsolved = λ j ys at_j. elim (at-push layers xs j ys at_j) [
+    | inl old ↦ searched.unsolved j ys old
+    | inr last ↦ subst (AreUnsolved board) (sym last.1) unsolved
+  ];
+}
+
+-- ---- solutions and layers
+
+-- whether all boxes are on goals depends on the boxes alone
+pub solved_boxes : (board : Board) (s t : Scene) → s.boxes ≡ t.boxes → IsSolved board s → IsSolved board t
+solved_boxes board s t same solved q there = solved q (subst (λ (boxes : Squares). contains boxes q ≡ true) (sym same) there)
+
+-- the pushes of a solution lead through undoomed positions to a solved normal form
+pub solution_reaches : (board : Board) → IsLevel board → (ds : List Dir) (ps : List Push) → IsSolution board ds ps → (n : Scene) × Reaches board ps n × IsSolved board n
+solution_reaches board level ds ps (t, play, solved) =
+    let scene = start_is_scene board level in
+    let n = norm_exists board t (play_scene scene play) in
+    (n.0, (ds, t, solution_safe board (start board) t ds ps scene play solved, n.1), solved_boxes board t n.0 (sym n.1.boxes) solved)
+
+-- no fewer pushes than there are layers that were searched lead to a solved position
+pub solved_bound : (board : Board) (layers : List (List Scene)) → IsLevel board → AreSearched board layers → (ps : List Push) (n : Scene) → Reaches board ps n → IsSolved board n → length layers ≤ length ps
+solved_bound board layers level searched ps n reach solved = elim (cases_lt (length ps) (length layers)) [
+  | inl lt ↦ (let w = found (level_laws board level) (λ j. get_or layers j []) (length ps) (λ j le. searched.are j (get_or layers j []) (read_at layers j (omega arith))) (length ps) ps n (omega arith) (omega arith) reach tt in
+      absurd (searched.unsolved w.0 (get_or layers w.0 []) (read_at layers w.0 (omega (arith, w.1))) w.2.0 n w.2.1 solved))
+  | inr ge ↦ omega arith
+]
+
+-- so no solution has fewer
+pub searched_bound : (board : Board) (layers : List (List Scene)) → IsLevel board → AreSearched board layers → (ds : List Dir) (ps : List Push) → IsSolution board ds ps → length layers ≤ length ps
+searched_bound board layers level searched ds ps solution =
+    let r = solution_reaches board level ds ps solution in
+    solved_bound board layers level searched ps r.0 r.1 r.2
+
+-- ---- solved
+
+-- the lead of the first solved position of the first layer that has one comes after no push list that leads to a
+-- solved position
+pub first_lead_least : (board : Board) (layers : List (List Scene)) (xs : List Scene) (rank : ℕ) (n : Scene) (ps : List Push) →
+    IsLevel board → AreSearched board layers → IsLayerOf board (length layers) xs → IsFirstSolved board xs rank → slice_get xs rank ≡ Some n → IsLeadOf board n ps → length ps ≡ length layers →
+    (qs : List Push) (m : Scene) → Reaches board qs m → IsSolved board m → is_gt (shortlex push_cmp ps qs) ≡ false
+first_lead_least board layers xs rank n ps level searched layer first at_rank lead long qs m reach solved = elim (cases_lt (length layers) (length qs)) [
+  | inl lt ↦ shortlex_shorter push_cmp ps qs (omega arith)
+  | inr ge ↦ elim (layer.whole qs m reach (omega (arith, solved_bound board layers level searched qs m reach solved)) tt) [
+    | inl i ↦ within i.0 i.1
+    | inr w ↦ absurd (omega (arith, w.2, solved_bound board layers level searched w.0 m w.1 solved))
+  ]
+]
+  where
+    within : (r : ℕ) → slice_get xs r ≡ Some m → is_gt (shortlex push_cmp ps qs) ≡ false
+    within r at_r = elim (cases_lt rank r) [
+      | inl lt ↦ (let l = (layer.leads r m at_r).1 in
+          let less = layer.rise rank r n m ps l.0 lt at_rank at_r lead l.1 in
+          upto-less (shortlex push_cmp ps qs) (less_upto (shortlex_total push_cmp_total) ps l.0 qs (shortlex_same push_cmp ps l.0 (omega (arith, l.2)) ∙ less) (l.1.least qs reach)))
+      | inr le ↦ elim (cases_lt r rank) [
+        | inl lt ↦ absurd (first.first r m lt at_r solved)
+        | inr ge ↦ (let e : r ≡ rank = omega arith in
+            let same : m ≡ n = same_Some m n (sym at_r ∙ ap (slice_get xs) e ∙ at_rank) in
+            lead.least qs (subst (Reaches board qs) same reach))
+      ]
+    ]
+
+-- of two orders, the second decides where the first does not
+then_tied : (a b : Ordering) → is_gt a ≡ false → (a ≡ Equal → is_gt b ≡ false) → is_gt (ordering_then a b) ≡ false
+then_tied Less b e f = refl
+then_tied Equal b e f = f refl
+then_tied Greater b e f = e
+
+-- the letters for the first solved position write the least solution
+pub writes_least : (board : Board) (layers : List (List Scene)) (xs : List Scene) (rank : ℕ) (n : Scene) (letters : List Letter) →
+    IsLevel board → AreSearched board layers → IsLayerOf board (length layers) xs → IsFirstSolved board xs rank → slice_get xs rank ≡ Some n → WritesLead board n letters → WritesLeastSolution board letters (length layers)
+writes_least board layers xs rank n letters level searched layer first at_rank writes = record {
+  list = writes.pushes;
+  end = writes.end;
+  play = writes.play;
+  written = writes.written;
+  solved = solved;
+  least = ((writes.end, writes.play, solved), λ es qs solution. no_later es qs solution);
+  count = long;
+}
+  where
+    long : length writes.pushes ≡ length layers
+    long = let l = (layer.leads rank n at_rank).1 in ap length (lead_unique (level_laws board level) n writes.pushes l.0 writes.lead l.1) ∙ l.2
+
+    -- the play of the lead and that of the letters end with the same boxes
+    same_end : n.boxes ≡ writes.end.boxes
+    same_end = let reach = writes.lead.reached in reach.3.boxes ∙ (play_boxes reach.2 ∙ sym (play_boxes writes.play))
+
+    solved : IsSolved board writes.end
+    solved = solved_boxes board n writes.end same_end (subst (IsSolved board) (same_Some first.place n (sym first.there ∙ at_rank)) first.solved)
+
+    no_later : (es : List Dir) (qs : List Push) → IsSolution board es qs → is_gt (solution_cmp (dirs_of letters) writes.pushes es qs) ≡ false
+    no_later es qs solution =
+        let r = solution_reaches board level es qs solution in
+        then_tied (shortlex push_cmp writes.pushes qs) (shortlex dir_cmp (dirs_of letters) es)
+        (first_lead_least board layers xs rank n writes.pushes level searched layer first at_rank writes.lead long qs r.0 r.1 r.2)
+        (λ tied. (let same = shortlex_exact push_cmp_exact writes.pushes qs tied in
+        writes.least es solution.0 (subst (λ ps. Play board Any (start board) es ps solution.0) (sym same) solution.1)))
+
+-- the layers that were searched and the next one have their positions together
+pub have_total : (board : Board) (layers : List (List Scene)) (xs : List Scene) → AreLayersOf board layers → IsLayerOf board (length layers) xs → HaveTotal board (suc (length layers)) (total layers + length xs)
+have_total board layers xs are layer = (layers ++ xs ∷ [], layers_more board layers xs are layer, omega (arith, length-append layers (xs ∷ [])), total-push layers xs)
+
+-- the level is solved by the first solved position of the next layer
+pub solved_answer : (board : Board) (limit : ℕ) (layers : List (List Scene)) (xs : List Scene) (rank : ℕ) (n : Scene) (letters : List Letter) →
+    IsLevel board → AreSearched board layers → IsLayerOf board (length layers) xs → IsFirstSolved board xs rank → slice_get xs rank ≡ Some n → WritesLead board n letters → total layers + length xs ≤ limit →
+    IsAnswer board limit (Solved letters (length layers) (total layers + length xs))
+solved_answer board limit layers xs rank n letters level searched layer first at_rank writes few =
+    (writes_least board layers xs rank n letters level searched layer first at_rank writes, have_total board layers xs searched.are layer, few)
+
+-- ---- unsolvable
+
+-- where layer k is empty, what is reached is reached by fewer than k pushes
+module _ (board : Board) (level : IsLevel board) (k : ℕ) (empty : IsLayerOf board k []) where
+  sooner_here : (ps : List Push) (n : Scene) → Reaches board ps n → length ps ≤ k → (qs : List Push) × Reaches board qs n × (length qs < k)
+  sooner_here ps n reach short = elim (cases_lt (length ps) k) [
+    | inl lt ↦ (ps, reach, lt)
+    | inr ge ↦ elim (empty.whole ps n reach (omega arith) tt) [ inl i ↦ absurd (none-some n i.1) | inr w ↦ w ]
+  ]
+
+  sooner_by : (b : ℕ) (ps : List Push) (n : Scene) → Reaches board ps n → length ps ≡ b → (qs : List Push) × Reaches board qs n × (length qs < k)
+  sooner_by zero ps n reach long = sooner_here ps n reach (omega arith)
+  sooner_by (suc b) ps n reach long =
+      let cut = (level_laws board level).split ps n b reach long in
+      let early = sooner_by b cut.0 cut.2 cut.4 (omega (arith, ap length cut.3, length-append cut.0 (cut.1 ∷ []))) in
+      sooner_here (early.0 ++ cut.1 ∷ []) n ((level_laws board level).grow early.0 cut.2 cut.1 n early.1 cut.5) (omega (arith, early.2, length-append early.0 (cut.1 ∷ [])))
+
+  pub sooner : (ps : List Push) (n : Scene) → Reaches board ps n → (qs : List Push) × Reaches board qs n × (length qs < k)
+  sooner ps n reach = sooner_by (length ps) ps n reach refl
+
+-- where the next layer is empty the level is unsolvable
+pub unsolvable_answer : (board : Board) (limit : ℕ) (layers : List (List Scene)) → IsLevel board → AreSearched board layers → IsLayerOf board (length layers) [] → total layers ≤ limit → IsAnswer board limit (Unsolvable (total layers))
+unsolvable_answer board limit layers level searched empty few = (none, all, few)
+  where
+    none : (ds : List Dir) (ps : List Push) → ¬ (IsSolution board ds ps)
+    none ds ps solution =
+        let r = solution_reaches board level ds ps solution in
+        let w = sooner board level (length layers) empty ps r.0 r.1 in
+        omega (arith, w.2, solved_bound board layers level searched w.0 r.0 w.1 r.2)
+
+    last : length (layers ++ [] ∷ []) - 1 ≡ length layers
+    last = omega (arith, length-append layers ([] ∷ []))
+
+    all : HasInAll board (total layers)
+    all = record {
+      layers = layers ++ [] ∷ [];
+      are = layers_more board layers [] searched.are empty;
+      last = ap (slice_get (layers ++ [] ∷ [])) last ∙ at_seam layers [];
+      first = λ j at_j. elim (at-push layers [] j [] at_j) [
+        | inl old ↦ absurd (omega (arith, searched.filled j [] old))
+        | inr end ↦ end.0 ∙ sym last
+      ];
+      total = omega (arith, total-push layers []);
+    }
+
+-- ---- the limit
+
+-- a position of layer k is k pushes away
+pub layer_distance : (board : Board) → IsLevel board → (k : ℕ) (xs : List Scene) → IsLayerOf board k xs → (n : Scene) → IsIn xs n → IsAtDistance board n k
+layer_distance board level k xs layer n i =
+    let l = (layer.leads i.0 n i.1).1 in
+    ((l.0, l.1.reached, l.2), λ qs reach. omega (arith, l.2, lead-length (level_laws board level) n l.0 qs l.1 reach))
+
+-- where the positions of the next layer pass the limit, the answer is the limit
+pub limit_answer : (board : Board) (limit : ℕ) (layers : List (List Scene)) (xs : List Scene) → IsLevel board → AreSearched board layers → IsLayerOf board (length layers) xs → limit < total layers + length xs → IsAnswer board limit Limit
+limit_answer board limit layers xs level searched layer passed = record {
+  layers = layers;
+  are = searched.are;
+  more = xs;
+  distinct = place_unique (level_laws board level) (length layers) xs layer;
+  next = layer_distance board level (length layers) xs layer;
+  passed = passed;
+  unsolved = searched_bound board layers level searched;
+}
+
+total-places : (ess : List (List Closed)) → total (map places_of ess) ≡ total ess
+total-places [] = refl
+total-places (es ∷ ess) = omega (arith, sum_by_first length (places_of es) (map places_of ess), sum_by_first length es ess, total-places ess, length-map es (λ (e : Closed). e.0))
+
+-- the closed lists of a book that holds all positions are the first layers of its level
+pub closed_layers : (v : BookView) → IsLawfulBook v → v.shares ≡ 1 → AreLayersOf v.level (map places_of v.closed)
+closed_layers v book one j xs at_j =
+    let x = at_map places_of v.closed j xs at_j in
+    subst (IsLayerOf v.level j) x.2 (layer_of_all v.level v.shares v.share j x.0 one book.bounds.dealt.0 (book.closed j x.0 x.1))
+
+passes : (v : BookView) (layers : List (List Scene)) → IsLawfulBook v → v.shares ≡ 1 → v.over ≡ true → AreSearched v.level layers → length layers ≡ length v.closed → PassesLimit v.level v.limit
+passes v layers book one over searched long =
+    let p = (book.over over).0 in
+    let same = layers_same v.level book.level layers (map places_of v.closed) searched.are (closed_layers v book one) (long ∙ sym (length-map v.closed places_of)) in
+    record {
+      layers = layers;
+      are = searched.are;
+      more = p.places;
+      distinct = p.distinct;
+      next = λ n i. subst (IsAtDistance v.level n) (sym long) (p.next n i).1;
+      passed = omega (arith, p.passed, ap total same, total-places v.closed);
+      unsolved = searched_bound v.level layers book.level searched;
+    }
+
+-- where a book that holds all positions passed the limit over the layers that were searched, the answer is the limit
+pub passed_answer : (board : Board) (limit : ℕ) (layers : List (List Scene)) (v : BookView) → IsLawfulBook v → v.level ≡ board → v.limit ≡ limit → v.shares ≡ 1 → v.over ≡ true → AreSearched board layers → length layers ≡ length v.closed → IsAnswer board limit Limit
+passed_answer board limit layers v book level same one over searched long =
+    subst (λ l. PassesLimit board l) same (subst (λ b. PassesLimit b v.limit) level (passes v layers book one over (subst (λ b. AreSearched b layers) (sym level) searched) long))

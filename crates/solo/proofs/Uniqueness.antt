@@ -1,0 +1,177 @@
+-- An answer is the only one.
+use Rattle.std.proofs.Common.{◌≡◌, ℕ, zero, suc, ◌+◌, ◌-◌, ◌<◌, ◌≤◌, false, true, List, [], ◌∷◌, length, take, get_or, Some, inl, inr, refl, sym, ap, subst, ◌∙◌, arith}
+use Rattle.std.proofs.lemmas.Bool.{cases_lt}
+use Rattle.std.proofs.lemmas.List.{length-take-le}
+use Rattle.std.proofs.lemmas.Option.{slice_get_within}
+use Rattle.grid.specs.declared.dir.Dir.{Dir}
+use Rattle.grid.specs.declared.square.Push.{Push}
+use Rattle.grid.specs.declared.moves.Letter.{Letter}
+use Rattle.grid.specs.Board.{Board, Scene, Walks, Pushes}
+use Rattle.grid.specs.Lawful.{IsLevel}
+use Rattle.grid.specs.Plays.{Play, stay, walk, push, dirs_of, letters_of}
+use Rattle.grid.proofs.Orders.{least_solution_same}
+use Rattle.grid.proofs.Steps.{walk_same, push_same, not_both}
+use Rattle.layers.specs.Layered.{IsIn}
+use Rattle.layers.specs.Reaching.{IsLayerOf, AreLayersOf, total}
+use Rattle.layers.specs.BookView.{AreDistinct, IsAtDistance}
+use Rattle.layers.proofs.Exchange.{lead-length}
+use Rattle.layers.proofs.Layers.{layer_unique}
+use Rattle.layers.proofs.Closings.{take_at}
+use Rattle.layers.proofs.Books.{level_laws, read_at, layers_same, total-take_more}
+use Rattle.solo.specs.declared.answer.Answer.{Answer}
+use Rattle.solo.specs.declared.answer.Answer.TheVariants.{Solved, Unsolvable, Limit}
+use Rattle.solo.specs.Answers.{WritesLeastSolution, HaveTotal, HasInAll, PassesLimit, IsAnswer}
+use Rattle.solo.proofs.Counting.{length-distinct, total-take, total-front}
+use Rattle.solo.proofs.Solving.{sooner}
+
+-- ---- letters
+
+-- plays from one state with the same directions are written by the same letters
+pub letters_same : {board : Board} {ok other : Scene → Type 0} {s t u v : Scene} {ds es : List Dir} {ps qs : List Push} (one : Play board ok s ds ps t) (two : Play board other u es qs v) → s ≡ u → ds ≡ es → letters_of one ≡ letters_of two
+letters_same (stay o) (stay o') from dirs = refl
+letters_same (stay o) (walk o' k q) from dirs = absurd (cc)
+letters_same (stay o) (push o' k q) from dirs = absurd (cc)
+letters_same (walk o h p) (stay o') from dirs = absurd (cc)
+letters_same (push o h p) (stay o') from dirs = absurd (cc)
+letters_same {board = board} (walk {s = s} {m = m} {d = d} {ds = ds} o h p) (walk {s = u} {m = n} {d = e} {ds = es} o' k q) from dirs =
+    let dir : d ≡ e = cc in
+    let rest : ds ≡ es = cc in
+    let step : Walks board s d n = subst (λ (x : Dir). Walks board s x n) (sym dir) (subst (λ (x : Scene). Walks board x e n) (sym from) k) in
+    let later = letters_same p q (walk_same board s d m n h step) rest in
+    λ i. record { dir = dir i; push = false } ∷ later i
+letters_same {board = board} (walk {s = s} {m = m} {d = d} o h p) (push {s = u} {m = n} {d = e} o' k q) from dirs =
+    let dir : d ≡ e = cc in
+    absurd (not_both board s d m n h (subst (λ (x : Dir). Pushes board s x n) (sym dir) (subst (λ (x : Scene). Pushes board x e n) (sym from) k)))
+letters_same {board = board} (push {s = s} {m = m} {d = d} o h p) (walk {s = u} {m = n} {d = e} o' k q) from dirs =
+    let dir : d ≡ e = cc in
+    absurd (not_both board s d n m (subst (λ (x : Dir). Walks board s x n) (sym dir) (subst (λ (x : Scene). Walks board x e n) (sym from) k)) h)
+letters_same {board = board} (push {s = s} {m = m} {d = d} {ds = ds} o h p) (push {s = u} {m = n} {d = e} {ds = es} o' k q) from dirs =
+    let dir : d ≡ e = cc in
+    let rest : ds ≡ es = cc in
+    let step : Pushes board s d n = subst (λ (x : Dir). Pushes board s x n) (sym dir) (subst (λ (x : Scene). Pushes board x e n) (sym from) k) in
+    let later = letters_same p q (push_same board s d m n h step) rest in
+    λ i. record { dir = dir i; push = true } ∷ later i
+
+-- the least solution is written by one list of letters, and has one number of pushes
+pub writing_same : (board : Board) (xs ys : List Letter) (k l : ℕ) → WritesLeastSolution board xs k → WritesLeastSolution board ys l → (xs ≡ ys) × (k ≡ l)
+writing_same board xs ys k l a b =
+    let same = least_solution_same board (dirs_of xs) (dirs_of ys) a.list b.list a.least b.least in
+    (sym a.written ∙ (letters_same a.play b.play refl same.0 ∙ b.written), sym a.count ∙ (ap length same.1 ∙ b.count))
+
+-- ---- the first layers
+
+-- layers that are as many have as many positions
+pub totals_same : (board : Board) → IsLevel board → (m n s t : ℕ) → HaveTotal board m s → HaveTotal board n t → m ≡ n → s ≡ t
+totals_same board level m n s t a b long =
+    sym a.3 ∙ (ap total (layers_same board level a.0 b.0 a.1 b.1 (a.2 ∙ (long ∙ sym b.2))) ∙ b.3)
+
+-- some of the first layers are the first layers
+front_are : (board : Board) (n : ℕ) (xss : List (List Scene)) → AreLayersOf board xss → AreLayersOf board (take n xss)
+front_are board n xss are j xs at_j = are j xs (take_at xss n j xs at_j).0
+
+-- fewer of the first layers are the first of them
+front_same : (board : Board) → IsLevel board → (xss yss : List (List Scene)) → AreLayersOf board xss → AreLayersOf board yss → length xss ≤ length yss → take (length xss) yss ≡ xss
+front_same board level xss yss a b short = layers_same board level (take (length xss) yss) xss (front_are board (length xss) yss b) a (length-take-le (length xss) yss short)
+
+-- what is k pushes away is in layer k
+distant_in : (board : Board) (k : ℕ) (xs : List Scene) → IsLayerOf board k xs → (n : Scene) → IsAtDistance board n k → IsIn xs n
+distant_in board k xs layer n far = elim (layer.whole far.0.0 n far.0.1 far.0.2 tt) [
+  | inl i ↦ i
+  | inr w ↦ absurd (omega (arith, w.2, far.1 w.0 w.1))
+]
+
+-- the first layers and distinct positions of the next one are no more than more layers have
+pub next_within : (board : Board) → IsLevel board → (layers : List (List Scene)) (more : List Scene) (yss : List (List Scene)) →
+    AreLayersOf board layers → AreDistinct more → ((n : Scene) → IsIn more n → IsAtDistance board n (length layers)) → AreLayersOf board yss → length layers < length yss →
+    total layers + length more ≤ total yss
+next_within board level layers more yss are distinct next b lt =
+    omega (
+      arith,
+      ap total (front_same board level layers yss are b (omega arith)),
+      length-distinct more (get_or yss (length layers) []) distinct (λ n i. distant_in board (length layers) (get_or yss (length layers) []) (b (length layers) (get_or yss (length layers) []) (read_at yss (length layers) lt)) n (next n i)),
+      total-take_more yss (length layers) lt,
+      total-take (suc (length layers)) yss,
+    )
+
+-- ---- all layers
+
+-- the number of the first empty layer
+abbrev empty_layer : {board : Board} {positions : ℕ} → HasInAll board positions → ℕ
+empty_layer all = length all.layers - 1
+
+some_layers : {board : Board} {positions : ℕ} (all : HasInAll board positions) → empty_layer all < length all.layers
+some_layers all = slice_get_within all.layers (empty_layer all) [] all.last
+
+-- no list of all layers is longer than another
+in_all_short : (board : Board) → IsLevel board → (s t : ℕ) (a : HasInAll board s) (b : HasInAll board t) → length a.layers ≤ length b.layers
+in_all_short board level s t a b = elim (cases_lt (length b.layers) (length a.layers)) [
+  | inl lt ↦ (let k = empty_layer b in
+      let here = read_at a.layers k (omega (arith, some_layers b)) in
+      let same = layer_unique (level_laws board level) k (get_or a.layers k []) [] (a.are k (get_or a.layers k []) here) (b.are k [] b.last) in
+      absurd (omega (arith, a.first k (here ∙ ap (λ xs. Some xs) same), some_layers a, some_layers b)))
+  | inr ge ↦ omega arith
+]
+
+pub in_all_same : (board : Board) → IsLevel board → (s t : ℕ) → HasInAll board s → HasInAll board t → s ≡ t
+in_all_same board level s t a b =
+    sym a.total ∙ (ap total (layers_same board level a.layers b.layers a.are b.are (omega (arith, in_all_short board level s t a b, in_all_short board level t s b a))) ∙ b.total)
+
+-- nothing is in a layer after the first empty one
+past_empty : (board : Board) → IsLevel board → (s : ℕ) (all : HasInAll board s) (j : ℕ) (xs : List Scene) → length all.layers ≤ j → IsLayerOf board j xs → length xs ≡ 0
+past_empty board level s all j [] past layer = refl
+past_empty board level s all j (n ∷ xs) past layer =
+    let l = (layer.leads zero n refl).1 in
+    let w = sooner board level (empty_layer all) (all.are (empty_layer all) [] all.last) l.0 n l.1.reached in
+    absurd (omega (arith, w.2, l.2, some_layers all, lead-length (level_laws board level) n l.0 w.0 l.1 w.1))
+
+-- nor is anything that many pushes away
+none_distant : (board : Board) → IsLevel board → (s : ℕ) (all : HasInAll board s) (k : ℕ) (more : List Scene) → length all.layers ≤ k → ((n : Scene) → IsIn more n → IsAtDistance board n k) → length more ≡ 0
+none_distant board level s all k [] past next = refl
+none_distant board level s all k (n ∷ more) past next =
+    let far = next n (zero, refl) in
+    let w = sooner board level (empty_layer all) (all.are (empty_layer all) [] all.last) far.0.0 n far.0.1 in
+    absurd (omega (arith, w.2, some_layers all, far.1 w.0 w.1))
+
+-- the first layers and distinct positions of the next one are no more than all positions
+pub within_all : (board : Board) → IsLevel board → (s : ℕ) → HasInAll board s → (limit : ℕ) (p : PassesLimit board limit) → total p.layers + length p.more ≤ s
+within_all board level s all limit p = elim (cases_lt (length p.layers) (length all.layers)) [
+  | inl lt ↦ omega (arith, all.total, next_within board level p.layers p.more all.layers p.are p.distinct p.next all.are lt)
+  | inr ge ↦ omega (
+    arith,
+    all.total,
+    none_distant board level s all (length p.layers) p.more (omega arith) p.next,
+    total-front (length all.layers) p.layers (λ j xs le at_j. past_empty board level s all j xs le (p.are j xs at_j)),
+    ap total (front_same board level all.layers p.layers all.are p.are (omega arith)),
+  )
+]
+
+-- ---- answers
+
+-- a solution within the limit and a limit that is passed exclude each other
+solved_or_limit : (board : Board) → IsLevel board → (limit : ℕ) (letters : List Letter) (k t : ℕ) → IsAnswer board limit (Solved letters k t) → PassesLimit board limit → ⊥
+solved_or_limit board level limit letters k t (writes, have, few) p =
+    omega (
+      arith,
+      few,
+      have.3,
+      p.passed,
+      next_within board level p.layers p.more have.0 p.are p.distinct p.next have.1 (omega (arith, have.2, writes.count, p.unsolved (dirs_of letters) writes.list writes.least.0)),
+    )
+
+unsolvable_or_limit : (board : Board) → IsLevel board → (limit t : ℕ) → IsAnswer board limit (Unsolvable t) → PassesLimit board limit → ⊥
+unsolvable_or_limit board level limit t (none, all, few) p = omega (arith, few, p.passed, within_all board level t all limit p)
+
+-- two answers are the same
+pub answer_same : (board : Board) (limit : ℕ) (a b : Answer) → IsLevel board → IsAnswer board limit a → IsAnswer board limit b → a ≡ b
+answer_same board limit (Solved xs k s) (Solved ys l t) level (writes, have, few) (writes', have', few') =
+    let same = writing_same board xs ys k l writes writes' in
+    let positions = totals_same board level (suc k) (suc l) s t have have' (ap suc same.1) in
+    λ i. Solved (same.0 i) (same.1 i) (positions i)
+answer_same board limit (Solved xs k s) (Unsolvable t) level (writes, have, few) (none, all, few') = absurd (none (dirs_of xs) writes.list writes.least.0)
+answer_same board limit (Solved xs k s) Limit level a p = absurd (solved_or_limit board level limit xs k s a p)
+answer_same board limit (Unsolvable s) (Solved ys l t) level (none, all, few) (writes, have, few') = absurd (none (dirs_of ys) writes.list writes.least.0)
+answer_same board limit (Unsolvable s) (Unsolvable t) level (none, all, few) (none', all', few') = ap (λ n. Unsolvable n) (in_all_same board level s t all all')
+answer_same board limit (Unsolvable s) Limit level a p = absurd (unsolvable_or_limit board level limit s a p)
+answer_same board limit Limit (Solved ys l t) level p b = absurd (solved_or_limit board level limit ys l t b p)
+answer_same board limit Limit (Unsolvable t) level p b = absurd (unsolvable_or_limit board level limit t b p)
+answer_same board limit Limit Limit level p q = refl

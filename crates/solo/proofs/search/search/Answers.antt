@@ -1,0 +1,9 @@
+use Rattle.std.proofs.Common.{IfOk, subst}
+use Rattle.solo.specs.Answers.{IsAnswer}
+use Rattle.solo.proofs.search.search.Goals as goal
+
+pub returns : goal.returns
+returns c =
+    let made = c.in_ok-book.ensures.made_with in
+    subst (λ board. IfOk c.all_turns.result (λ answer. IsAnswer board c.args.limit answer)) made.0
+    (subst (λ limit. IfOk c.all_turns.result (λ answer. IsAnswer c.in_ok-book.book.level limit answer)) made.1 c.all_turns.ensures)

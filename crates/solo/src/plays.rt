@@ -1,0 +1,54 @@
+ghost use Rattle.std.specs.Prelude.{◌≡◌, IfOk, OnOk, length};
+ghost use Rattle.grid.specs.Board.{Scene, IsScene};
+ghost use Rattle.layers.specs.Expansion.{CanPush, after_push};
+ghost use Rattle.solo.specs.LeastPlays.{ArePlayed, WritesLeastPlay, WritesPush};
+
+use area::{Scratch, walk};
+use grid::{Letter, Level, Moves, Push, State};
+use std::alloc::{AllocError, Global};
+
+// The least play with these pushes: the least walk before each of them.
+pub(crate) fn play_pushes(
+    alloc: Global,
+    level: &Level,
+    pushes: &[Push],
+    scratch: &mut Scratch,
+) -> Result<Moves, AllocError>
+    requires played { ArePlayed level.now pushes.now }
+    requires room { scratch.old.size ≡ length level.now.cells }
+    ensures least { IfOk result (λ moves. (t : Scene) × WritesLeastPlay level.now pushes.now t moves) }
+    ensures size { scratch.new.size ≡ scratch.old.size }
+{
+    let mut state = State::start(alloc, level)?;
+    let mut moves = Moves::new(alloc);
+    for push in pushes {
+        make_push(level, &mut state, *push, scratch, &mut moves)?;
+    }
+    Ok(moves)
+}
+
+// Walks behind the box by the least walk and pushes it, and appends the letters.
+fn make_push(
+    level: &Level,
+    state: &mut State,
+    push: Push,
+    scratch: &mut Scratch,
+    moves: &mut Moves,
+) -> Result<(), AllocError>
+    requires scene { IsScene level.now state.old }
+    requires possible { CanPush level.now state.old push }
+    requires room { scratch.old.size ≡ length level.now.cells }
+    ensures state { OnOk result (state.new ≡ after_push level.now state.old push) }
+    ensures written { OnOk result (WritesPush level.now state.old push moves.old moves.new) }
+    ensures size { scratch.new.size ≡ scratch.old.size }
+{
+    let behind = level.next(push.square, push.dir.opposite());
+    let found = walk(level, state, behind, scratch, moves)?;
+    prove!(found);
+    state.set_player(level, behind);
+    state.step(level, push.dir);
+    moves.push(Letter {
+        dir: push.dir,
+        push: true,
+    })
+}

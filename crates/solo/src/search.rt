@@ -1,0 +1,159 @@
+ghost use Rattle.std.specs.Prelude.{◌≡◌, ℕ, ◌+◌, ◌<◌, ◌≤◌, IfNone, IfOk, IfSome, MatchResult, [], length};
+ghost use Rattle.std.specs.Arc.{arc_value};
+ghost use Rattle.grid.specs.Lawful.{box_count};
+ghost use Rattle.grid.specs.declared.limits.TheConstants.{MAX_BOXES};
+ghost use Rattle.layers.specs.Books.{IsNew};
+ghost use Rattle.layers.specs.Reaching.{total};
+ghost use Rattle.solo.specs.Answers.{IsAnswer, SolveRefused};
+ghost use Rattle.solo.specs.Leads.{IsFirstSolved};
+ghost use Rattle.solo.specs.Turns.{AreKept, IsBetweenTurns, IsSameSearch, places_of};
+
+use crate::answer::{Answer, SolveFault};
+use crate::lead::{first_solved, moves_to};
+use crate::turn::{Worked, last_layer, work_through};
+use area::Scratch;
+use doom::Dead;
+use grid::{Level, MAX_BOXES};
+use layers::{Book, BookFault, Layer};
+use std::alloc::{AllocError, Global};
+use std::sync::Arc;
+
+/// The solution of the level with the fewest pushes, or that it has none, or that more than `limit` positions are
+/// needed to say so.
+///
+/// A solution that is given is the least one: the fewest pushes, then the least push list, then the fewest moves, then
+/// the least text. The errors are that the level has more boxes than [`MAX_BOXES`](grid::MAX_BOXES), and that memory
+/// was refused.
+pub fn solve_alone(alloc: Global, level: &Arc<Level>, limit: u32) -> Result<Answer, SolveFault>
+    requires { 1 ≤ limit }
+    ensures answer { IfOk result (λ answer. IsAnswer (arc_value level.now) limit answer) }
+    ensures boxes { MatchResult result (λ answer. box_count (arc_value level.now) ≤ MAX_BOXES) (λ fault. SolveRefused (arc_value level.now) fault) }
+{
+    if level.boxes() > MAX_BOXES {
+        return Err(SolveFault::TooManyBoxes);
+    }
+    match search(alloc, level, limit) {
+        Ok(answer) => Ok(answer),
+        Err(_) => Err(SolveFault::OutOfMemory),
+    }
+}
+
+// The answer that the layers of a level give. The only error is that memory was refused.
+fn search(alloc: Global, level: &Arc<Level>, limit: u32) -> Result<Answer, AllocError>
+    requires limit { 1 ≤ limit }
+    requires boxes { box_count (arc_value level.now) ≤ MAX_BOXES }
+    ensures { IfOk result (λ answer. IsAnswer (arc_value level.now) limit answer) }
+{
+    let mut book = new_book(alloc, level, limit)?;
+    let dead = Dead::of(alloc, level)?;
+    let mut scratch = Scratch::new(alloc, level)?;
+    all_turns(alloc, &mut book, &dead, &mut scratch)
+}
+
+// Looks at layer after layer until there is an answer. The only error is that memory was refused.
+fn all_turns(
+    alloc: Global,
+    book: &mut Book,
+    dead: &Dead,
+    scratch: &mut Scratch,
+) -> Result<Answer, AllocError>
+    requires first { IsBetweenTurns book.old [] 0 }
+    requires dead_of_level { dead.now ≡ book.old.level }
+    requires room { scratch.old.size ≡ length book.old.level.cells }
+    ensures { IfOk result (λ answer. IsAnswer book.old.level book.old.limit answer) }
+{
+    let mut layers = Vec::new(alloc);
+    let mut positions = 0;
+    loop {
+        let found = turn(alloc, book, &mut layers, &mut positions, dead, scratch)?;
+        if let Some(answer) = found {
+            return Ok(answer);
+        }
+    }
+}
+
+// A book for all positions and one worker. The only error is that memory was refused.
+fn new_book(alloc: Global, level: &Arc<Level>, limit: u32) -> Result<Book, AllocError>
+    requires limit { 1 ≤ limit }
+    requires boxes { box_count (arc_value level.now) ≤ MAX_BOXES }
+    ensures { IfOk result (λ book. IsNew (arc_value level.now) limit 1 0 1 book) }
+{
+    match Book::of(alloc, Arc::try_clone(level)?, limit, 1, 0, 1) {
+        Ok(book) => Ok(book),
+        Err(BookFault::TooManyBoxes) => unreachable!(),
+        Err(BookFault::OutOfMemory) => Err(AllocError),
+    }
+}
+
+// Looks at the last layer that the book closed, and works through it where it gives no answer. The only error is that
+// memory was refused.
+fn turn(
+    alloc: Global,
+    book: &mut Book,
+    layers: &mut Vec<Layer>,
+    positions: &mut u64,
+    dead: &Dead,
+    scratch: &mut Scratch,
+) -> Result<Option<Answer>, AllocError>
+    requires turn { IsBetweenTurns book.old layers.old.items positions.old }
+    requires dead_of_level { dead.now ≡ book.old.level }
+    requires room { scratch.old.size ≡ length book.old.level.cells }
+    ensures answer { IfOk result (λ found. IfSome found (λ answer. IsAnswer book.old.level book.old.limit answer)) }
+    ensures onward { IfOk result (λ found. IfNone found (IsSameSearch book.old book.new × IsBetweenTurns book.new layers.new.items positions.new × (positions.old < positions.new))) }
+    ensures size { scratch.new.size ≡ scratch.old.size }
+{
+    let layer = last_layer(alloc, book)?;
+    book.tell();
+    layer.tell();
+    *positions += layer.len();
+    if *positions > book.limit() as u64 {
+        return Ok(Some(Answer::Limit));
+    }
+    if let Some(rank) = first_solved(&layer) {
+        let answer = solved(alloc, layers, layer, rank, *positions, scratch)?;
+        return Ok(Some(answer));
+    }
+    if layer.is_empty() {
+        return Ok(Some(Answer::Unsolvable {
+            positions: *positions,
+        }));
+    }
+    let worked = work_through(book, &layer, dead, scratch)?;
+    book.tell();
+    match worked {
+        Worked::Over => Ok(Some(Answer::Limit)),
+        Worked::Through => {
+            layers.push(layer)?;
+            Ok(None)
+        }
+    }
+}
+
+// The answer where the position with a rank is the first solved one of the layer after those that were kept. The only
+// error is that memory was refused.
+fn solved(
+    alloc: Global,
+    layers: &mut Vec<Layer>,
+    layer: Layer,
+    rank: u64,
+    positions: u64,
+    scratch: &mut Scratch,
+) -> Result<Answer, AllocError>
+    requires kept { AreKept layer.level layers.old.items }
+    requires next { layer.number ≡ length layers.old.items }
+    requires first { IsFirstSolved layer.level layer.places rank }
+    requires count { positions ≡ total (places_of layers.old.items) + length layer.places }
+    requires room { scratch.old.size ≡ length layer.level.cells }
+    ensures answer { IfOk result (λ answer. (limit : ℕ) → positions ≤ limit → IsAnswer layer.level limit answer) }
+    ensures size { scratch.new.size ≡ scratch.old.size }
+{
+    layer.tell();
+    let pushes = layer.number();
+    layers.push(layer)?;
+    let moves = moves_to(alloc, layers.as_slice(), rank, scratch)?;
+    Ok(Answer::Solved {
+        moves,
+        pushes,
+        positions,
+    })
+}
