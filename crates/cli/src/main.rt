@@ -6,7 +6,7 @@ mod trouble;
 
 use clap::error::ErrorKind;
 use request::Request;
-use sokopar::{Reader, RunFault, Writer, run_check, run_dead, run_replay, run_show};
+use sokopar::{Reader, RunFault, Writer, run_check, run_dead, run_replay, run_show, run_solve};
 use std::alloc::Global;
 use std::env::Env;
 use std::process::ExitCode;
@@ -56,6 +56,14 @@ fn perform<'a, R: Files + Print>(
             let mut source = open(rt, file)?;
             let mut solution = open(rt, solution)?;
             run_replay(alloc, &mut source, number.get(), &mut solution, &mut sink)
+        }
+        Request::Solve {
+            file,
+            number,
+            limit,
+        } => {
+            let mut source = open(rt, file)?;
+            run_solve(alloc, &mut source, number.get(), limit.get(), &mut sink)
         }
     };
     Ok(status?)

@@ -26,7 +26,16 @@ pub enum Request<'a> {
         number: NonZeroU32,
         solution: &'a str,
     },
+    /// Solve level N of a collection under a limit of positions.
+    Solve {
+        file: &'a str,
+        number: NonZeroU32,
+        limit: NonZeroU32,
+    },
 }
+
+/// The limit of positions where none is given.
+const DEFAULT_LIMIT: &str = "1000000";
 
 /// The operand FILE.
 fn file_operand<'a>(alloc: Global) -> Arg<'a> {
@@ -40,6 +49,16 @@ fn number_operand<'a>(alloc: Global) -> Arg<'a> {
     Arg::new(alloc, "N")
         .help("The number of a level, counted from 1")
         .required(true)
+        .value_parser(value_parser!(u32).range(1..))
+}
+
+/// The option `--limit L`.
+fn limit_option<'a>(alloc: Global) -> Arg<'a> {
+    Arg::new(alloc, "limit")
+        .long("limit")
+        .value_name("L")
+        .help("Gives up where more positions are needed")
+        .default_value(DEFAULT_LIMIT)
         .value_parser(value_parser!(u32).range(1..))
 }
 
@@ -64,17 +83,23 @@ fn command<'a>(alloc: Global) -> Result<Command<'a>, AllocError> {
         .arg(file_operand(alloc))?
         .arg(number_operand(alloc))?
         .arg(solution)?;
+    let solve = Command::new(alloc, "solve")
+        .about("Solves a level with the fewest pushes")
+        .arg(file_operand(alloc))?
+        .arg(number_operand(alloc))?
+        .arg(limit_option(alloc))?;
     Command::new(alloc, "sokopar")
         .bin_name("sokopar")?
-        .about("Checks, shows and replays Sokoban levels")
+        .about("Checks, shows, replays and solves Sokoban levels")
         .subcommand_required(true)
         .subcommand(check)?
         .subcommand(show)?
         .subcommand(dead)?
-        .subcommand(replay)
+        .subcommand(replay)?
+        .subcommand(solve)
 }
 
-/// The number of a level: decimal digits alone, from 1 to the greatest `u32`.
+/// A number of the command line: decimal digits alone, from 1 to the greatest `u32`.
 fn number_from(text: &str) -> Option<NonZeroU32> {
     if !text.bytes().all(|byte| byte.is_ascii_digit()) {
         return None;
@@ -82,7 +107,7 @@ fn number_from(text: &str) -> Option<NonZeroU32> {
     text.parse::<NonZeroU32>().ok()
 }
 
-/// What the matches of a subcommand ask for; `None` where the number of a level is not written in digits alone.
+/// What the matches of a subcommand ask for; `None` where a number is not written in digits alone.
 fn request_of<'a>(name: &str, matches: &ArgMatches<'a>) -> Option<Request<'a>> {
     let file = matches.get_str("FILE")?;
     if name == "check" {
@@ -94,6 +119,14 @@ fn request_of<'a>(name: &str, matches: &ArgMatches<'a>) -> Option<Request<'a>> {
     }
     if name == "dead" {
         return Some(Request::Dead { file, number });
+    }
+    if name == "solve" {
+        let limit = number_from(matches.get_str("limit")?)?;
+        return Some(Request::Solve {
+            file,
+            number,
+            limit,
+        });
     }
     let solution = matches.get_str("SOLUTION")?;
     Some(Request::Replay {
@@ -114,7 +147,7 @@ pub fn parse<'a>(alloc: Global, words: &'a [String]) -> Result<Request<'a>, Erro
         Some(request) => Ok(request),
         None => Err(command(alloc)?.error(
             ErrorKind::ValueValidation,
-            "the number of a level is written in decimal digits alone",
+            "numbers are written in decimal digits alone",
         )?),
     }
 }

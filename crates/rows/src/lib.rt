@@ -1,6 +1,8 @@
 //! Worked examples over the public calls of all crates, run over memory.
 #![tactic(auto)]
 
+#[cfg(test)]
+mod books;
 mod ends;
 #[cfg(test)]
 mod tests;

@@ -1,12 +1,16 @@
 mod checked;
+mod compared;
 mod failing;
 mod large;
 mod mapped;
+mod plain;
 mod replayed;
+mod rooms;
 mod shown;
+mod solved;
 
 use crate::{Paper, Pieces};
-use sokopar::{Reader, RunFault, Writer, run_check, run_dead, run_replay, run_show};
+use sokopar::{Reader, RunFault, Writer, run_check, run_dead, run_replay, run_show, run_solve};
 use std::alloc::Global;
 
 /// What a run answered and wrote, and how often it read and wrote.
@@ -116,6 +120,26 @@ pub(crate) fn replay(
         answer,
         reads: pieces.reads,
         solution_reads: letters.reads,
+        writes: paper.writes,
+        text: paper.text,
+    }
+}
+
+/// Solves a level of a collection under a limit of positions, over these ends.
+pub(crate) fn solve(alloc: Global, file: &[u8], number: u32, limit: u32, ends: Ends) -> Outcome {
+    let mut pieces = Pieces::new(file, ends.read_most, ends.read_fails);
+    let mut paper = Paper::new(alloc, ends.write_most, ends.write_fails);
+    let answer = run_solve(
+        alloc,
+        &mut Reader::new(&mut pieces),
+        number.max(1),
+        limit.max(1),
+        &mut Writer::new(&mut paper),
+    );
+    Outcome {
+        answer,
+        reads: pieces.reads,
+        solution_reads: 0,
         writes: paper.writes,
         text: paper.text,
     }

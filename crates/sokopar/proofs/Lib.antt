@@ -1,4 +1,5 @@
 mod Listings
 mod Lists
 mod Maps
+mod Solutions
 mod Walks

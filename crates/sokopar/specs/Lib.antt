@@ -3,3 +3,4 @@ pub mod Ends
 pub mod Listing
 pub mod Report
 pub mod Runs
+pub mod Solving

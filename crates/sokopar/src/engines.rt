@@ -2,6 +2,7 @@ ghost use Rattle.std.specs.Prelude.{◌≤◌};
 ghost use Rattle.sokopar.specs.DeadMap.{IsDeadReport};
 ghost use Rattle.sokopar.specs.Report.{IsCheckReport, IsShowReport};
 ghost use Rattle.sokopar.specs.Runs.{Runs, Replays};
+ghost use Rattle.sokopar.specs.Solving.{IsSolveReport};
 
 use crate::check::check_report;
 use crate::dead::dead_report;
@@ -10,6 +11,7 @@ use crate::listing::read_listing;
 use crate::replay::replay_level;
 use crate::show::show_report;
 use crate::sink::Sink;
+use crate::solve::solve_report;
 use crate::source::Source;
 use std::alloc::Global;
 
@@ -75,5 +77,25 @@ pub fn run_replay<S: Source, T: Source, K: Sink>(
 {
     let entries = read_listing(alloc, source)?;
     let report = replay_level(alloc, entries.as_slice(), number, solution)?;
+    report.send(sink)
+}
+
+/// Solves a level of a collection, counted from 1, with the fewest pushes: writes the numbers of its least solution and
+/// the solution as LURD text, or that there is none, or that more positions than the limit are needed to say so. Gives
+/// the exit status, 0 where the level is solved, 4 where the limit was reached, else 1. The faults are those of
+/// [`run_check`].
+pub fn run_solve<S: Source, K: Sink>(
+    alloc: Global,
+    source: &mut S,
+    number: u32,
+    limit: u32,
+    sink: &mut K,
+) -> Result<u8, RunFault>
+    requires number { 1 ≤ number }
+    requires limit { 1 ≤ limit }
+    ensures { Runs (IsSolveReport limit number) (S.seen source.old) (S.seen source.new) (K.seen sink.old) (K.seen sink.new) result }
+{
+    let entries = read_listing(alloc, source)?;
+    let report = solve_report(alloc, entries.as_slice(), number, limit)?;
     report.send(sink)
 }

@@ -17,7 +17,7 @@ use std::alloc::{AllocError, Global};
 use xsb::Entry;
 
 /// Appends numbers of pushes and of moves.
-fn put_counts(text: &mut Text, pushes: usize, moves: usize) -> Result<(), AllocError>
+pub(crate) fn put_counts(text: &mut Text, pushes: usize, moves: usize) -> Result<(), AllocError>
     ensures { OnOk result (text.new ≡ text.old ++ counts_words pushes moves) }
 {
     text.put_number(pushes)?;

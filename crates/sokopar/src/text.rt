@@ -1,7 +1,8 @@
 ghost use Rattle.std.specs.Prelude.{◌≡◌, [], ◌++◌, OnOk, OnErr, decimal};
+ghost use Rattle.lurd.specs.Text.{bytes_of};
 ghost use Rattle.xsb.specs.Written.{written};
 
-use grid::Level;
+use grid::{Level, Moves};
 use itoa::Buffer;
 use std::alloc::{AllocError, Global};
 use std::marker::Model;
@@ -54,6 +55,14 @@ impl Text {
         ensures err { OnErr result (self.new ≡ self.old) }
     {
         write(level, &mut self.bytes)
+    }
+
+    /// Appends the letters of moves; where memory is refused the text stays as it was.
+    pub(crate) fn put_letters(&mut self, moves: &Moves) -> Result<(), AllocError>
+        ensures ok { OnOk result (self.new ≡ self.old ++ bytes_of moves.now) }
+        ensures err { OnErr result (self.new ≡ self.old) }
+    {
+        lurd::write(moves, &mut self.bytes)
     }
 
     /// The text's bytes.

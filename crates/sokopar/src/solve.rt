@@ -1,0 +1,116 @@
+ghost use Rattle.std.specs.Prelude.{◌≡◌, ◌++◌, ◌≤◌, OnOk, IfOk, length, map};
+ghost use Rattle.sokopar.specs.Listing.{listed_of, level_at};
+ghost use Rattle.sokopar.specs.Report.{line};
+ghost use Rattle.sokopar.specs.Solving.{too_many_boxes, positions_words, solved_text, answer_report, IsSolveOf, SolvesOn};
+ghost use Rattle.lurd.specs.Text.{bytes_of};
+
+use crate::listing::level_of;
+use crate::replay::put_counts;
+use crate::report::Report;
+use crate::show::{fault_report, no_level};
+use crate::text::Text;
+use grid::{Level, Moves};
+use solo::{Answer, SolveFault, solve_alone};
+use std::alloc::{AllocError, Global};
+use std::sync::Arc;
+use xsb::Entry;
+
+/// The report where the level has more boxes than the solver takes.
+fn too_many_boxes(alloc: Global) -> Result<Report, AllocError>
+    ensures { IfOk result (λ report. report ≡ too_many_boxes) }
+{
+    let mut text = Text::new(alloc);
+    text.put(b"too many boxes\n")?;
+    Ok(Report::new(text, 1))
+}
+
+/// Appends a number of positions.
+fn put_positions(text: &mut Text, positions: u64) -> Result<(), AllocError>
+    ensures { OnOk result (text.new ≡ text.old ++ positions_words positions) }
+{
+    text.put(b", ")?;
+    text.put_number(positions as usize)?;
+    text.put(b" positions")
+}
+
+/// The report of a solution.
+fn solved(alloc: Global, moves: &Moves, pushes: u64, positions: u64) -> Result<Report, AllocError>
+    ensures { IfOk result (λ report. report ≡ record { text = solved_text pushes (length moves.now) positions (bytes_of moves.now); status = 0 }) }
+{
+    let mut text = Text::new(alloc);
+    text.put(b"solved ")?;
+    put_counts(&mut text, pushes as usize, moves.len())?;
+    put_positions(&mut text, positions)?;
+    text.put(b"\n")?;
+    text.put_letters(moves)?;
+    text.put(b"\n")?;
+    Ok(Report::new(text, 0))
+}
+
+/// The report of a level without a solution.
+fn unsolvable(alloc: Global, positions: u64) -> Result<Report, AllocError>
+    ensures { IfOk result (λ report. report ≡ answer_report 0 (Answer.Unsolvable positions)) }
+{
+    let mut text = Text::new(alloc);
+    text.put(b"unsolvable")?;
+    put_positions(&mut text, positions)?;
+    text.put(b"\n")?;
+    Ok(Report::new(text, 1))
+}
+
+/// The report where the limit was reached.
+fn limit_reached(alloc: Global, limit: u32) -> Result<Report, AllocError>
+    ensures { IfOk result (λ report. report ≡ answer_report limit Answer.Limit) }
+{
+    let mut text = Text::new(alloc);
+    text.put(b"limit ")?;
+    text.put_number(limit as usize)?;
+    text.put(b" reached\n")?;
+    Ok(Report::new(text, 4))
+}
+
+/// The report of an answer under a limit of positions.
+fn answer_report(alloc: Global, answer: &Answer, limit: u32) -> Result<Report, AllocError>
+    ensures { IfOk result (λ report. report ≡ answer_report limit answer.now) }
+{
+    match answer {
+        Answer::Solved {
+            moves,
+            pushes,
+            positions,
+        } => solved(alloc, moves, *pushes, *positions),
+        Answer::Unsolvable { positions } => unsolvable(alloc, *positions),
+        Answer::Limit => limit_reached(alloc, limit),
+    }
+}
+
+/// The report of solving a level under a limit of positions.
+fn solve_level(alloc: Global, level: &Level, limit: u32) -> Result<Report, AllocError>
+    requires { 1 ≤ limit }
+    ensures { IfOk result (λ report. IsSolveOf limit level.now report) }
+{
+    let level = Arc::new(alloc, level.copy(alloc)?)?;
+    match solve_alone(alloc, &level, limit) {
+        Ok(answer) => answer_report(alloc, &answer, limit),
+        Err(SolveFault::TooManyBoxes) => too_many_boxes(alloc),
+        Err(SolveFault::OutOfMemory) => Err(AllocError),
+    }
+}
+
+/// The report of solving level N of these under a limit of positions.
+pub(crate) fn solve_report(
+    alloc: Global,
+    entries: &[Entry],
+    number: u32,
+    limit: u32,
+) -> Result<Report, AllocError>
+    requires number { 1 ≤ number }
+    requires limit { 1 ≤ limit }
+    ensures { IfOk result (λ report. SolvesOn limit number (level_at (map listed_of entries.now) number) report) }
+{
+    match level_of(entries, number) {
+        None => no_level(alloc, number),
+        Some(Err(fault)) => fault_report(alloc, *fault),
+        Some(Ok(level)) => solve_level(alloc, level, limit),
+    }
+}
