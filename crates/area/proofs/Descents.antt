@@ -14,9 +14,7 @@ use Rattle.grid.proofs.Steps.{inside_grid, next_back_to, walk_player, walk_boxes
 use Rattle.grid.proofs.Orders.{nat_cmp-less, shortlex-shorter, shortlex-even, not_gt_since_less, not_gt_itself, dir_cmp_total, shortlex_total, shortlex-append_not_gt}
 use Rattle.area.specs.Area.{IsWalk, IsLeastWalk, walk_letters}
 use Rattle.area.specs.Descent.{IsDown, IsFirstDown, IsDescent, IsDescending, arrived, onward}
-use Rattle.area.specs.ScratchView.{above}
 use Rattle.area.specs.Spread.{IsSpread, IsSearched}
-use Rattle.area.proofs.Marks.{above-mark, mark-above}
 use Rattle.area.proofs.Spreading.{dir_same}
 use Rattle.area.proofs.Reached.{scene_at, reached_free, reached_step, walk_home}
 
@@ -138,16 +136,11 @@ module _ (board : Board) (boxes : Squares) (base to : ℕ) (mark : ℕ → ℕ) 
       ]
 
 -- where the search from q did not reach the player, no walk leads to q
-pub no_way : (board : Board) (s : Scene) (q base player : ℕ) (marks left : List ℕ) → IsSearched board s.boxes base q marks → left ≡ marks → player ≡ s.player → IsScene board s → contains (above base left) player ≡ false → (ds : List Dir) → IsWalk board s ds q → ⊥
-no_way board s q base player marks left found same at scene none ds p =
+pub no_way : (board : Board) (s : Scene) (q base player : ℕ) (marks left : List ℕ) → IsSearched board s.boxes base q marks → left ≡ marks → player ≡ s.player → IsScene board s → get_or left player 0 ≤ base → (ds : List Dir) → IsWalk board s ds q → ⊥
+no_way board s q base player marks left found same at scene low ds p =
     let w = walk_home board s.boxes base q (λ x. get_or marks x 0) found.spread found.blocked refl refl scene p in
-    let e : contains (above base left) player ≡ contains (above base marks) s.player = ap (λ (xs : List ℕ). contains (above base xs) player) same ∙ ap (λ (x : ℕ). contains (above base marks) x) at in
-    false≢true (sym none ∙ (e ∙ mark-above base marks s.player w.0))
-
--- where it did, the player's mark says so
-pub way_marked : (base player reader : ℕ) (left seen : List ℕ) → seen ≡ left → reader ≡ player → contains (above base left) player ≡ true → base < get_or seen reader 0
-way_marked base player reader left seen same at h =
-    subst (λ (xs : List ℕ). base < get_or xs reader 0) (sym same) (subst (λ (x : ℕ). base < get_or left x 0) (sym at) (above-mark base left player h))
+    let e : get_or left player 0 ≡ get_or marks s.player 0 = ap (λ (xs : List ℕ). get_or xs player 0) same ∙ ap (λ (x : ℕ). get_or marks x 0) at in
+    omega (arith, w.0, e, low)
 
 -- what is said of an `Ok`
 pub ok_gives : {T E : Type 0} {P : Type 0} (r : Result T E) → is_ok r ≡ true → OnOk r P → P

@@ -1,12 +1,12 @@
 -- What a push leaves of an area: where the squares round the box tell it, it is the area before the push, without the
 -- square that the box goes to and with the one that it leaves.
-use Rattle.std.proofs.Common.{◌≡◌, ◌≢◌, ℕ, ◌≤◌, true, false, ◌⊎◌, ◌↔◌, inl, inr, List, [], refl, sym, ap, subst, ◌∙◌, arith}
-use Rattle.std.proofs.lemmas.Bool.{cases_eq, cases_Bool, true≢false}
+use Rattle.std.proofs.Common.{◌≡◌, ◌≢◌, ℕ, ◌≤◌, true, ◌⊎◌, inl, inr, List, [], refl, sym, ap, subst, ◌∙◌}
+use Rattle.std.proofs.lemmas.Bool.{cases_eq, true≢false}
 use Rattle.grid.specs.declared.dir.Dir.{Dir}
 use Rattle.grid.specs.declared.dir.Dir.TheVariants.{D, L, R, U}
 use Rattle.grid.specs.declared.square.Push.{Push}
 use Rattle.grid.specs.Squares.{Squares, contains, insert, remove}
-use Rattle.grid.specs.Board.{Board, Scene, IsScene, IsFree, is_wall, next, opposite}
+use Rattle.grid.specs.Board.{Board, Scene, IsScene, IsFree, next, opposite}
 use Rattle.grid.specs.Plays.{Play, Any, stay, walk}
 use Rattle.grid.proofs.Steps.{walk_player, walk_boxes, walk_to}
 use Rattle.grid.proofs.Squares.{contains-insert_here, contains-insert_other, contains-remove_other}

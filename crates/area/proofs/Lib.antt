@@ -1,9 +1,14 @@
 pub mod Descents
 pub mod Detours
-pub mod Leasts
-pub mod Marks
+pub mod Flooding
+pub mod Gathers
+pub mod Growing
 pub mod Nearness
 pub mod Norms
 pub mod Reached
+pub mod Seams
 pub mod Spreading
 pub mod UnderWay
+pub mod Visiting
+pub mod WordBits
+pub mod WordSets

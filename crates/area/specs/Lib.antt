@@ -4,3 +4,4 @@ pub mod Descent
 pub mod Reach
 pub mod ScratchView
 pub mod Spread
+pub mod Words

@@ -5,8 +5,9 @@ ghost use Rattle.grid.specs.Board.{opposite};
 ghost use Rattle.area.specs.Area.{IsNorm, at};
 ghost use Rattle.area.specs.After.{IsAreaOf, IsPushed, Skirts, IsKnown, GainsNothing, IsJoined, StaysJoined};
 
-use crate::scratch::{Scratch, least_above};
-use crate::spread::search;
+use crate::bits::least_of;
+use crate::floods::flood_words;
+use crate::scratch::Scratch;
 use grid::{Dir, Level, Position, Push, Square};
 
 /// The normal position after a push, where the last flood was that of the position before it, and stays so.
@@ -50,15 +51,8 @@ fn least_aside(level: &Level, position: &Position, scratch: &mut Scratch) -> Squ
     ensures norm { IsNorm level.now position.now (at position.now result) }
     ensures kept { scratch.new ≡ scratch.old }
 {
-    let base = search(
-        level,
-        position,
-        scratch.spare_base,
-        &mut scratch.spare,
-        &mut scratch.queue,
-    );
-    scratch.spare_base = base;
-    least_above(base, &scratch.spare)
+    flood_words(level, position, &mut scratch.spare, &mut scratch.boxes);
+    least_of(&scratch.spare)
 }
 
 // Whether nothing free is beside a box's square but what the last flood reached, and the square ahead.
@@ -163,12 +157,19 @@ fn is_joined(
     if !scratch.reaches(to) {
         return true;
     }
-    let side = match push_dir {
-        Dir::D | Dir::U => Dir::L,
-        Dir::L | Dir::R => Dir::D,
-    };
+    let side = first_side(push_dir, dir);
     goes_round(level, square, push_dir, ahead, side, to, scratch)
         || goes_round(level, square, push_dir, ahead, side.opposite(), to, scratch)
+}
+
+// On which side of a push to look first for the way to the square that is beside the one ahead in a direction: on that
+// square's own, where it has one.
+fn first_side(push_dir: Dir, dir: Dir) -> Dir {
+    match (push_dir, dir) {
+        (Dir::D | Dir::U, Dir::D | Dir::U) => Dir::L,
+        (Dir::L | Dir::R, Dir::L | Dir::R) => Dir::D,
+        _ => dir,
+    }
 }
 
 // Whether one comes to a square by steps from the box's square round the one ahead, on one side.

@@ -2,6 +2,8 @@
 #![tactic(auto)]
 
 mod after;
+mod bits;
+mod floods;
 mod laws;
 mod route;
 mod scratch;
@@ -10,10 +12,10 @@ mod spread;
 mod tests;
 
 pub use after::normal_after;
+pub use floods::{flood, normal};
 pub use laws::{
     an_area_has_one_normal_form, each_state_has_one_normal_form, walks_go_both_ways,
     what_boxes_decide_lasts,
 };
 pub use route::walk;
 pub use scratch::Scratch;
-pub use spread::{flood, normal};

@@ -41,11 +41,12 @@ pub fn walk(
         &mut scratch.queue,
     );
     scratch.base = base;
-    if !scratch.reaches(state.player()) {
+    let player = state.player();
+    if scratch.marks[player.0 as usize] <= base {
         return Ok(false);
     }
     let len = moves.len();
-    let outcome = descend(level, state.player(), square, base, &scratch.marks, moves);
+    let outcome = descend(level, player, square, base, &scratch.marks, moves);
     if outcome.is_err() {
         moves.truncate(len);
         return Err(AllocError);

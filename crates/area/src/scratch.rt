@@ -3,6 +3,7 @@ ghost use Rattle.grid.specs.Squares.{contains};
 ghost use Rattle.area.specs.After.{IsLeastWith};
 ghost use Rattle.area.specs.Spread.{AreWithin};
 
+use crate::bits::{has, least_but, least_of};
 use grid::{Level, MAX_SQUARES, Square};
 use std::alloc::{AllocError, Global};
 use std::marker::Model;
@@ -12,16 +13,19 @@ pub(crate) const GREATEST_BASE: u32 = 1 << 31;
 
 /// The memory that floods and searches for walks work in, made once for all levels of the same rows and columns.
 ///
-/// Each square has a mark. In one search the boxes have the mark `base`, the squares that it reaches have greater
-/// marks, and all others lesser ones; the next search takes a greater `base`, so nothing needs to be cleared. The spare
-/// marks are for a flood that leaves what the last one reached.
+/// A flood makes a set of squares as bits of words; it has the boxes' squares so, too. The spare set is for a flood that
+/// leaves what the last one reached.
+///
+/// For a search each square has a mark. In one search the boxes have the mark `base`, the squares that it reaches have
+/// greater marks, and all others lesser ones; the next search takes a greater `base`, so nothing needs to be cleared.
 #[derive(Drop)]
 pub struct Scratch {
     pub(crate) marks: Vec<u32>,
     pub(crate) base: u32,
     pub(crate) queue: Vec<Square>,
-    pub(crate) spare: Vec<u32>,
-    pub(crate) spare_base: u32,
+    pub(crate) reached: Vec<u64>,
+    pub(crate) spare: Vec<u64>,
+    pub(crate) boxes: Vec<u64>,
 }
 
 impl Model for Scratch {
@@ -42,12 +46,14 @@ impl Scratch {
         ensures { IfOk result (λ s. s.size ≡ length level.now.cells) }
     {
         level.tell();
+        let words = level.step_masks().len();
         Ok(Scratch {
             marks: zeros(alloc, level.squares())?,
             base: 0,
             queue: vec![in alloc; Square(0); level.squares()]?,
-            spare: zeros(alloc, level.squares())?,
-            spare_base: 0,
+            reached: empty_set(alloc, words)?,
+            spare: empty_set(alloc, words)?,
+            boxes: empty_set(alloc, words)?,
         })
     }
 
@@ -55,8 +61,7 @@ impl Scratch {
     pub fn reaches(&self, square: Square) -> bool
         ensures { result ≡ contains self.now.reached square }
     {
-        let place = square.0 as usize;
-        place < self.marks.len() && self.marks[place] > self.base
+        has(&self.reached, square)
     }
 
     // The least square that the last flood reached.
@@ -65,27 +70,14 @@ impl Scratch {
         ensures reached { contains self.now.reached result ≡ true }
         ensures least { (q : ℕ) → contains self.now.reached q ≡ true → result ≤ q }
     {
-        for (i, mark) in self.marks.iter().enumerate() {
-            if *mark > self.base {
-                return Square(i as u16);
-            }
-        }
-        unreachable!()
+        least_of(&self.reached)
     }
 
     // The least of the squares that the last flood reached but for `but`, and of the square `more`.
     pub(crate) fn least_with(&self, but: Square, more: Square) -> Square
         ensures { IsLeastWith self.now.reached but more result }
     {
-        for (i, mark) in self.marks.iter().enumerate() {
-            if i >= more.0 as usize {
-                return more;
-            }
-            if *mark > self.base && i != but.0 as usize {
-                return Square(i as u16);
-            }
-        }
-        more
+        least_but(&self.reached, but, more)
     }
 }
 
@@ -97,19 +89,11 @@ fn zeros(alloc: Global, squares: usize) -> Result<Vec<u32>, AllocError>
     Ok(vec![in alloc; 0; squares]?)
 }
 
-// The least square with a mark above the base.
-pub(crate) fn least_above(base: u32, marks: &[u32]) -> Square
-    requires some { (q : ℕ) × (base < slice_index marks.now q) }
-    requires small { length marks.now ≤ MAX_SQUARES }
-    ensures above { base < slice_index marks.now result }
-    ensures least { (q : ℕ) → base < slice_index marks.now q → result ≤ q }
+// A set of no square, as so many words.
+fn empty_set(alloc: Global, words: usize) -> Result<Vec<u64>, AllocError>
+    ensures { IfOk result (λ v. length v.items ≡ words) }
 {
-    for (i, mark) in marks.iter().enumerate() {
-        if *mark > base {
-            return Square(i as u16);
-        }
-    }
-    unreachable!()
+    Ok(vec![in alloc; 0; words]?)
 }
 
 // The mark of the boxes in the next search: greater than all marks, which are cleared where it would grow too great.

@@ -1,78 +1,8 @@
-ghost use Rattle.std.specs.Prelude.{◌≡◌, ℕ, ◌+◌, ◌^◌, ◌<◌, ◌≤◌, ◌↔◌, true, false, length, slice_index, slice_set, nat_lt, if◌then◌else◌};
+ghost use Rattle.std.specs.Prelude.{◌≡◌, ℕ, ◌+◌, ◌^◌, ◌<◌, ◌≤◌, false, length, slice_index, slice_set, nat_lt, if◌then◌else◌};
 ghost use Rattle.grid.specs.Board.{is_wall};
-ghost use Rattle.grid.specs.Lawful.{FitsLevel};
-ghost use Rattle.grid.specs.Squares.{contains};
-ghost use Rattle.area.specs.Area.{Area, IsNorm};
-ghost use Rattle.area.specs.Spread.{AreBlocked, IsSearched, IsSpread, KeepsBlocked, AreWithin};
+ghost use Rattle.area.specs.Spread.{IsSpread, KeepsBlocked, AreWithin};
 
-use crate::scratch::{GREATEST_BASE, Scratch, renewed};
-use grid::{Level, MAX_SQUARES, Position, Square};
-
-/// Finds the squares that the player reaches without a push.
-pub fn flood(level: &Level, position: &Position, scratch: &mut Scratch)
-    requires fits { FitsLevel level.now position.now }
-    requires room { scratch.old.size ≡ length level.now.cells }
-    ensures reached { (q : ℕ) → (contains scratch.new.reached q ≡ true) ↔ Area level.now position.now q }
-    ensures size { scratch.new.size ≡ scratch.old.size }
-{
-    let base = search(
-        level,
-        position,
-        scratch.base,
-        &mut scratch.marks,
-        &mut scratch.queue,
-    );
-    scratch.base = base;
-}
-
-/// The normal position: the same boxes, and the player on the least square that it reaches without a push.
-pub fn normal(level: &Level, position: &Position, scratch: &mut Scratch) -> Position
-    requires fits { FitsLevel level.now position.now }
-    requires room { scratch.old.size ≡ length level.now.cells }
-    ensures norm { IsNorm level.now position.now result }
-    ensures fits { FitsLevel level.now result }
-    ensures size { scratch.new.size ≡ scratch.old.size }
-{
-    flood(level, position, scratch);
-    let mut normal = position.copy();
-    normal.set_player(scratch.least());
-    normal
-}
-
-// Marks every square that the player reaches, round the boxes' marks; gives the boxes' mark.
-pub(crate) fn search(
-    level: &Level,
-    position: &Position,
-    base: u32,
-    marks: &mut [u32],
-    queue: &mut [Square],
-) -> u32
-    requires fits { FitsLevel level.now position.now }
-    requires room { length marks.old ≡ length level.now.cells }
-    requires places { length queue.old ≡ length level.now.cells }
-    requires small { length marks.old ≤ MAX_SQUARES }
-    requires base { base ≤ GREATEST_BASE }
-    requires within { AreWithin base (length marks.old) marks.old }
-    ensures searched { IsSearched level.now position.now.boxes result position.now.player marks.new }
-    ensures base { result ≤ GREATEST_BASE }
-    ensures within { AreWithin result (length marks.old) marks.new }
-{
-    let base = renewed(base, marks);
-    block(position.boxes(), base, marks);
-    spread(level, position.player(), base, marks, queue);
-    base
-}
-
-// Marks the boxes' squares.
-fn block(boxes: &[Square], base: u32, marks: &mut [u32])
-    requires inside { (q : ℕ) → contains boxes.now q ≡ true → q < length marks.old }
-    requires low { (q : ℕ) → slice_index marks.old q < base }
-    ensures { AreBlocked base boxes.now marks.new }
-{
-    for square in boxes {
-        marks[square.0 as usize] = base;
-    }
-}
+use grid::{Level, Square};
 
 // Marks every square that walks from a square reach with the steps that lead there, round the boxes' marks.
 pub(crate) fn spread(

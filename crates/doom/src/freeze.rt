@@ -1,4 +1,4 @@
-ghost use Rattle.std.specs.Prelude.{◌≡◌, ℕ, ◌<◌, ◌≤◌, ◌↔◌, IsTrue, IfSome, IfNone, true, false, length, slice_index};
+ghost use Rattle.std.specs.Prelude.{◌≡◌, ℕ, ◌<◌, ◌≤◌, ◌↔◌, IsTrue, IfSome, IfNone, true, false, length, slice_index, count_by, nat_lt};
 ghost use Rattle.grid.specs.Board.{is_goal};
 ghost use Rattle.grid.specs.Squares.{contains, is_rising};
 ghost use Rattle.grid.specs.Lawful.{FitsLevel};
@@ -45,10 +45,29 @@ pub fn is_loose(level: &Level, dead: &Dead, position: &Position, square: Square)
 
 /// The place of a box's square among the boxes.
 fn place_of(boxes: &[Square], square: Square) -> Option<usize>
+    requires rising { is_rising boxes.now ≡ true }
+    requires bound { length boxes.now ≤ MAX_BOXES }
     ensures some { IfSome result (λ place. (place < length boxes.now) × (slice_index boxes.now place ≡ square)) }
     ensures none { IfNone result (contains boxes.now square ≡ false) }
 {
-    boxes.iter().position(|other| *other == square)
+    let place = lesser(boxes, square);
+    if place < boxes.len() && boxes[place] == square {
+        Some(place)
+    } else {
+        None
+    }
+}
+
+/// How many boxes stand on lesser squares. All are looked at, so that no end of a loop has to be foreseen.
+fn lesser(boxes: &[Square], square: Square) -> usize
+    requires { length boxes.now ≤ MAX_BOXES }
+    ensures { result ≡ count_by (λ x. nat_lt x square) boxes.now }
+{
+    let mut count: u16 = 0;
+    for other in boxes {
+        count += u16::from(*other < square);
+    }
+    count as usize
 }
 
 /// Whether one of the boxes stands on a dead square.

@@ -7,4 +7,7 @@ pub mod Orders
 pub mod Filling
 pub mod Equality
 pub mod Settle
+pub mod Bits
+pub mod Words
+pub mod Edges
 mod Examples

@@ -1,9 +1,9 @@
 -- Steps of loops that collect places, and edits of rising lists at a place.
 use Rattle.std.proofs.Common.{◌≡◌, ◌≢◌, ℕ, zero, suc, ◌+◌, ◌<◌, ◌≤◌, Bool, true, false, cond, eqb, ltb, ◌||◌, List, [], ◌∷◌, ◌++◌, length, get_or, set, take, map, replicate, count_by, refl, sym, ap, subst, ◌∙◌, arith}
 use Rattle.std.specs.List.{prefix_len, list_any, insert as insert_at, remove as remove_at}
-use Rattle.std.proofs.lemmas.Bool.{eqb-true, eqb-false, eq-eqb, ltb-true, ltb-false, or_right, true≢false, false≢true}
+use Rattle.std.proofs.lemmas.Bool.{eqb-true, eqb-false, eq-eqb, ltb-true, ltb-false, le-ltb, or_right, true≢false, false≢true}
 use Rattle.std.proofs.lemmas.List.{take_more, take_all, append-nil, length-take-le}
-use Rattle.std.proofs.lemmas.List.Sums.{count_by_more_yes, sum_by-take-le}
+use Rattle.std.proofs.lemmas.List.Sums.{count_by_more_yes, sum_by-cons, sum_by-take-le}
 use Rattle.grid.specs.Squares.{Squares, rises_from, is_rising, contains, remove, insert, places_from}
 use Rattle.grid.specs.declared.dir.Dir.{Dir}
 use Rattle.grid.specs.Board.{Board, Scene, IsFree, Pushes, box_cell, is_wall, next, start_boxes}
@@ -108,3 +108,27 @@ pub all_clear : (board : Board) (xs : Squares) → ((q : ℕ) → contains xs q 
 all_clear board [] h = refl
 all_clear board (x ∷ xs) h =
     rw (h x (rw (eq-eqb x x refl) refl)) (all_clear board xs (λ q here. h q (or_right (eqb x q) (contains xs q) here)))
+
+-- of squares that rise from a number on, none is less than that number or a lesser one
+none_less : (k q : ℕ) (xs : Squares) → q ≤ k → rises_from k xs ≡ true → count_by (λ (x : ℕ). ltb x q) xs ≡ 0
+none_less k q [] le h = refl
+none_less k q (x ∷ xs) le h =
+    let p = rises_from-parts k x xs h in
+    let later = none_less (suc x) q xs (omega (arith, p.0)) p.1 in
+    let first = ap (λ (b : Bool). cond {A = ℕ} b 1 0) (le-ltb x q (omega (arith, p.0))) in
+    let all = sum_by-cons (λ (y : ℕ). cond {A = ℕ} (ltb y q) 1 0) x xs in
+    omega (arith, later, first, all)
+
+lesser_from : (k q : ℕ) (xs : Squares) → rises_from k xs ≡ true → count_by (λ (x : ℕ). ltb x q) xs ≡ prefix_len (λ (x : ℕ). ltb x q) xs
+lesser_from k q [] h = refl
+lesser_from k q (x ∷ xs) h =
+    let p = rises_from-parts k x xs h in
+    sum_by-cons (λ (y : ℕ). cond {A = ℕ} (ltb y q) 1 0) x xs ∙ step (ltb x q) (count_by (λ (y : ℕ). ltb y q) xs) (prefix_len (λ (y : ℕ). ltb y q) xs) (lesser_from (suc x) q xs p.1) (λ e. (let ge = ltb-false x q e in none_less (suc x) q xs (omega (arith, ge)) p.1))
+  where
+    step : (b : Bool) (m n : ℕ) → m ≡ n → (b ≡ false → m ≡ 0) → cond {A = ℕ} b 1 0 + m ≡ cond b (1 + n) 0
+    step true m n same none = omega (arith, same)
+    step false m n same none = (let e = none refl in omega (arith, e))
+
+-- of rising squares, as many are less than a number as come before the first one that is not
+pub lesser_first : (q : ℕ) (xs : Squares) → is_rising xs ≡ true → count_by (λ (x : ℕ). ltb x q) xs ≡ prefix_len (λ (x : ℕ). ltb x q) xs
+lesser_first q xs h = lesser_from 0 q xs h

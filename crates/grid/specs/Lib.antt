@@ -2,7 +2,9 @@ pub mod Squares
 pub mod Board
 pub mod Lawful
 pub mod Plays
+pub mod Masks
 pub mod PlanView
 pub mod LevelView
 pub mod Filling
 pub mod Equality
+pub mod Hashing

@@ -7,6 +7,7 @@ use Rattle.grid.specs.declared.limits.TheConstants.{MAX_SQUARES}
 use Rattle.grid.specs.declared.plan.Plan.TheInside.{Inside}
 use Rattle.grid.specs.Board.{Board, is_wall, next}
 use Rattle.grid.specs.Lawful.{row_count}
+use Rattle.grid.specs.Masks.{AreMasks}
 
 -- a plan is seen as its columns and cells
 abbrev pub plan_of : Inside → Board
@@ -30,5 +31,4 @@ pub record IsPlan (a : Inside) : Type 0 where
   pub bound : length a.cells.items ≤ MAX_SQUARES
   pub places : length a.around.items ≡ length a.cells.items
   pub around : (q : ℕ) (e : Around) → q < length a.cells.items → slice_index_or a.around.items q e ≡ around_of (plan_of a) q
-  pub exits : length a.ways.items ≡ length a.cells.items
-  pub ways : (q : ℕ) (e : Around) → q < length a.cells.items → slice_index_or a.ways.items q e ≡ ways_of (plan_of a) q
+  pub masks : AreMasks (plan_of a) a.masks.items

@@ -2,12 +2,14 @@ ghost use Rattle.std.specs.Prelude.{◌≡◌, ℕ, ◌+◌, ◌%◌, ◌<◌, �
 ghost use Rattle.grid.specs.Board.{Board, box_cell, goal_cell, player_cell, is_wall, is_goal, has_box, next, start, start_player};
 ghost use Rattle.grid.specs.Lawful.{row_count, box_count, cell_fault, count_fault, HasFault, InRoom, IsLevel, FitsLevel};
 ghost use Rattle.grid.specs.PlanView.{ways_of};
+ghost use Rattle.grid.specs.Masks.{AreMasks};
 
 use crate::around::Around;
 use crate::cell::Cell;
 use crate::dir::Dir;
 use crate::fault::LevelFault;
 use crate::limits::{MAX_COLS, MAX_ROWS, MAX_SQUARES};
+use crate::masks::StepMasks;
 use crate::plan::Plan;
 use crate::room::{is_open, room_of};
 use crate::square::Square;
@@ -158,11 +160,18 @@ impl Level {
 
     /// The ways from a square: for each direction the square next to it, and the square itself where that is a wall or
     /// the grid ends there.
-    pub fn ways(&self, square: Square) -> &Around
+    pub fn ways(&self, square: Square) -> Around
         requires { square < length self.now.cells }
-        ensures { result.now ≡ ways_of self.now square }
+        ensures { result ≡ ways_of self.now square }
     {
         self.plan.ways(square)
+    }
+
+    /// Onto which squares a step in each direction can lead, as bits of words.
+    pub fn step_masks(&self) -> &[StepMasks]
+        ensures { AreMasks self.now result.now }
+    {
+        self.plan.step_masks()
     }
 
     /// Whether the square is of the player's room: what four-way steps over squares that are no wall reach from the

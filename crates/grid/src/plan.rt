@@ -3,23 +3,25 @@ ghost use Rattle.grid.specs.declared.dir.Dir.{Dir};
 ghost use Rattle.grid.specs.Board.{Board, is_wall, is_goal, has_box, next};
 ghost use Rattle.grid.specs.Lawful.{row_count};
 ghost use Rattle.grid.specs.PlanView.{around_of, ways_of};
+ghost use Rattle.grid.specs.Masks.{AreMasks};
 
 use crate::around::Around;
 use crate::cell::Cell;
 use crate::limits::{MAX_COLS, MAX_SQUARES};
+use crate::masks::{StepMasks, masks_of};
 use crate::square::Square;
 use std::alloc::{AllocError, Global};
 use std::marker::Model;
 
-/// The cells of a board, with the neighbours of each square, so that a step needs no division, and the ways from each
-/// square, so that a walk needs no look at the cells.
+/// The cells of a board, with the neighbours of each square, so that a step needs no division, and the step masks, so
+/// that a flood goes by words.
 #[derive(Drop)]
 pub(crate) struct Plan {
     cols: usize,
     rows: usize,
     cells: Vec<Cell>,
     around: Vec<Around>,
-    ways: Vec<Around>,
+    masks: Vec<StepMasks>,
 }
 
 impl Model for Plan {
@@ -43,13 +45,13 @@ impl Plan {
         ensures { IfOk result (λ plan. plan ≡ record { cols = cols; cells = cells.items }) }
     {
         let around = neighbours(alloc, cols, cells.as_slice())?;
-        let ways = ways(alloc, cols, cells.as_slice())?;
+        let masks = masks_of(alloc, cols, cells.as_slice(), around.as_slice())?;
         Ok(Plan {
             cols,
             rows: cells.len() / cols,
             cells,
             around,
-            ways,
+            masks,
         })
     }
 
@@ -114,11 +116,31 @@ impl Plan {
     }
 
     /// The four squares next to a square; in place of each that is a wall, the square itself.
-    pub(crate) fn ways(&self, square: Square) -> &Around
+    pub(crate) fn ways(&self, square: Square) -> Around
         requires { square < length self.now.cells }
-        ensures { result.now ≡ ways_of self.now square }
+        ensures { result ≡ ways_of self.now square }
     {
-        &self.ways[square.0 as usize]
+        let next = self.around(square);
+        Around {
+            d: self.way(square, next.d),
+            l: self.way(square, next.l),
+            r: self.way(square, next.r),
+            u: self.way(square, next.u),
+        }
+    }
+
+    // The next square where that is no wall, and else the square itself.
+    fn way(&self, square: Square, next: Square) -> Square
+        ensures { result ≡ (if is_wall self.now next then square else next) }
+    {
+        if self.is_wall(next) { square } else { next }
+    }
+
+    /// Onto which squares a step in each direction can lead.
+    pub(crate) fn step_masks(&self) -> &[StepMasks]
+        ensures { AreMasks self.now result.now }
+    {
+        self.masks.as_slice()
     }
 
     /// Whether the square lies at the grid's edge.
@@ -140,7 +162,7 @@ impl Plan {
             rows: self.rows,
             cells: Vec::from_slice(alloc, self.cells.as_slice())?,
             around: Vec::from_slice(alloc, self.around.as_slice())?,
-            ways: Vec::from_slice(alloc, self.ways.as_slice())?,
+            masks: Vec::from_slice(alloc, self.masks.as_slice())?,
         })
     }
 }
@@ -186,49 +208,5 @@ fn neighbours_of(cols: usize, cells: &[Cell], square: usize) -> Around
         l: Square(l as u16),
         r: Square(r as u16),
         u: Square(u as u16),
-    }
-}
-
-// The ways from each square.
-fn ways(alloc: Global, cols: usize, cells: &[Cell]) -> Result<Vec<Around>, AllocError>
-    requires columns { 1 ≤ cols }
-    requires wide { cols ≤ MAX_COLS }
-    requires bound { length cells.now ≤ MAX_SQUARES }
-    ensures size { IfOk result (λ v. length v.items ≡ length cells.now) }
-    ensures each { IfOk result (λ v. (q : ℕ) (e : Around) → q < length cells.now → slice_index_or v.items q e ≡ ways_of (record { cols = cols; cells = cells.now }) q) }
-{
-    let mut ways = Vec::with_capacity(alloc, cells.len())?;
-    for square in 0..cells.len() {
-        ways.push(ways_from(cols, cells, square))?;
-    }
-    Ok(ways)
-}
-
-// The ways from a square.
-fn ways_from(cols: usize, cells: &[Cell], square: usize) -> Around
-    requires columns { 1 ≤ cols }
-    requires wide { cols ≤ MAX_COLS }
-    requires bound { length cells.now ≤ MAX_SQUARES }
-    requires inside { square < length cells.now }
-    ensures { result ≡ ways_of (record { cols = cols; cells = cells.now }) square }
-{
-    let next = neighbours_of(cols, cells, square);
-    let here = Square(square as u16);
-    Around {
-        d: way(cells, here, next.d),
-        l: way(cells, here, next.l),
-        r: way(cells, here, next.r),
-        u: way(cells, here, next.u),
-    }
-}
-
-// The next square where that is no wall, and else the square itself.
-#[tactic(auto, unfolding(crate::specs::Board::is_wall))]
-fn way(cells: &[Cell], square: Square, next: Square) -> Square
-    ensures { (cols : ℕ) → result ≡ (if is_wall (record { cols = cols; cells = cells.now }) next then square else next) }
-{
-    match cells.get(next.0 as usize) {
-        Some(cell) if !cell.is_wall() => next,
-        _ => square,
     }
 }

@@ -12,7 +12,7 @@ use std::alloc::AllocError;
 use std::marker::Model;
 
 /// Where the boxes stand, in rising order, and the player's square. Compared by the boxes first.
-#[derive(PartialEq, Eq, PartialOrd, Ord, Hash, Debug, Drop)]
+#[derive(PartialEq, Eq, PartialOrd, Ord, Debug, Drop)]
 pub struct Position {
     boxes: ArrayVec<Square, MAX_BOXES>,
     player: Square,
@@ -105,7 +105,7 @@ impl Position {
     pub fn contains(&self, square: Square) -> bool
         ensures { result ≡ contains self.now.boxes square }
     {
-        self.boxes.iter().any(|other| *other == square)
+        is_among(self.boxes.as_slice(), square)
     }
 
     /// The player's square.
@@ -169,6 +169,17 @@ fn first_boxes(level: &Level) -> ArrayVec<Square, MAX_BOXES>
     boxes
 }
 
+// Whether the square is one of these. All are looked at, so that the processor looks at several at once.
+fn is_among(squares: &[Square], square: Square) -> bool
+    ensures { result ≡ contains squares.now square }
+{
+    let mut found = false;
+    for other in squares {
+        found |= *other == square;
+    }
+    found
+}
+
 // Whether some square is a wall.
 fn meets_wall(squares: &[Square], level: &Level) -> bool
     ensures { result ≡ list_any (is_wall level.now) squares.now }
@@ -191,16 +202,17 @@ fn rises(squares: &[Square]) -> bool
     true
 }
 
-// How many of the squares are less than this one.
+// How many of the rising squares are less than this one. All are looked at, so that no end of a loop has to be foreseen.
 fn place_of(squares: &[Square], square: Square) -> usize
+    requires rising { is_rising squares.now ≡ true }
+    requires bound { length squares.now ≤ MAX_BOXES }
     ensures { result ≡ prefix_len (λ x. nat_lt x square) squares.now }
 {
-    for (place, other) in squares.iter().enumerate() {
-        if *other >= square {
-            return place;
-        }
+    let mut lesser: u16 = 0;
+    for other in squares {
+        lesser += u16::from(*other < square);
     }
-    squares.len()
+    lesser as usize
 }
 
 // Takes out the square at a place, and puts another in where the list rises.

@@ -21,7 +21,7 @@ use Rattle.layers.specs.Reaching.{Reaches, IsSuccessor, Everything, IsLayerOf, A
 use Rattle.layers.specs.LayerView.{LayerView, IsWhole}
 use Rattle.layers.specs.ParcelView.{ParcelView, AreSuccessors, IsParcel}
 use Rattle.layers.specs.BookView.{BookView, Closed, last_layer, places_of, InShare, origin_of, HasClosedOrigin, IsShareOfLayer, IsAtDistance, IsLawfulBook}
-use Rattle.layers.specs.Books.{MayBegin, with_begun, offered, is_closed, is_wanted, is_wanted_in, entered, all_entered, with_parcel, IsAtWork, PassesLimit, MayEnter, with_reopened, IsTaken, AllDone, with_closed, closed_entry, RiseByOrigin, AreReordered, AreNew, IsSortedOpen, IsClosedBy}
+use Rattle.layers.specs.Books.{MayBegin, with_begun, AreWanted, offered, is_closed, is_wanted, is_wanted_in, entered, all_entered, with_parcel, IsAtWork, PassesLimit, MayEnter, with_reopened, IsTaken, AllDone, with_closed, closed_entry, RiseByOrigin, AreReordered, AreNew, IsSortedOpen, IsClosedBy}
 use Rattle.layers.proofs.Exchange.{at_map, map_at, lead_unique, found, entry_lead, next_layer}
 use Rattle.layers.proofs.Offers.{same_true, same_since, origin_of-offered, origin_of-other, open_places, offered-distinct, offered-each, listed-origin, origin-listed, length-offered}
 use Rattle.layers.proofs.Layers.{member, layer_unique}
@@ -164,6 +164,18 @@ begun-since v book r lt = go v.begun refl
     go : (b : Bool) → v.begun ≡ b → v.begun ≡ true
     go true e = e
     go false e = absurd (omega (arith, ap length (book.not_begun e).2))
+
+-- a layer has no more ranks than all books may hold
+pub few_ranks : (v : BookView) → IsLawfulBook v → (r : ℕ) → r < length v.done → r < MOST_POSITIONS
+few_ranks v book r lt =
+    let b = book.begun (begun-since v book r lt) in
+    let some = book.some in
+    omega (arith, b.0, b.2, book.few, whole_length book.wholes (last_layer v))
+  where
+    whole_length : {A : Type 0} (xss : List (List A)) (k : ℕ) → length (get_or xss k []) ≤ total xss
+    whole_length [] k = omega arith
+    whole_length (xs ∷ xss) zero = omega (arith, sum_by_first length xs xss)
+    whole_length (xs ∷ xss) (suc k) = omega (arith, sum_by_first length xs xss, whole_length xss k)
 
 -- the open places of a book that has begun are at the next distance
 pub open-distance : (v : BookView) (book : IsLawfulBook v) (begun : v.begun ≡ true) {Offered : ℕ → Push → Type 0} (waiting : List (Entry Scene Push)) →
@@ -695,13 +707,26 @@ waiting_new a book cuts begun m o e = go (lookup (same_scene m) a.seen.entries) 
         let w = closed-layer (book_view a) book begun m (any-cuts (same_scene m) a.starts.items a.seen.entries cuts ∙ ap is_some f) in
         absurd ((book.waiting begun).fresh m o.0 o.1 e w.0 w.1 w.2)
 
+-- and so none of its entries was
+pub open_new : (a : Inside) (book : IsLawfulBook (book_view a)) → AreCuts a.starts.items (length a.seen.entries) → a.begun ≡ true → (seen : List Closed) → seen ≡ a.seen.entries → AreNew seen a.waiting.entries
+open_new a book cuts begun seen e i m o at = ap (lookup (same_scene m)) e ∙ waiting_new a book cuts begun m o (listed-origin a.waiting.entries book.distinct i m o at)
+
+-- and so it is wanted
+pub waiting_wanted : (a : Inside) → IsLawfulBook (book_view a) → AreCuts a.starts.items (length a.seen.entries) → a.begun ≡ true → AreWanted (is_wanted_in a.seen.entries a.shares a.share) a.waiting.entries
+waiting_wanted a book cuts begun m there = go (origin_of a.waiting.entries m) refl there
+  where
+    same_share : (x y : ℕ) → x ≡ y → (x == y) ≡ true
+    same_share x y e = grind (arith, nat_tests)
+
+    go : (found : Option (Origin Push)) → origin_of a.waiting.entries m ≡ found → is_some found ≡ true → is_wanted_in a.seen.entries a.shares a.share m ≡ true
+    go None e f = cc
+    go (Some o) e f =
+        let part = ((book.waiting begun).from m o.0 o.1 e).0 in
+        rw (same_share (share_of a.shares m) a.share part, waiting_new a book cuts begun m o e) refl
+
 module _ (a : Inside) (book : IsLawfulBook (book_view a)) (cuts : AreCuts a.starts.items (length a.seen.entries)) (all : AllDone (book_view a)) (ys : List (Entry Scene Push)) (same : AreReordered a.waiting.entries ys) (rise : RiseByOrigin ys) where
   sorted_open : IsSortedOpen (book_view a) (map closed_entry ys)
   sorted_open = sorted_closed (book_view a) book all ys same.2 same.1 same.0 rise
-
-  -- none of the sorted entries was seen
-  pub sorted_new : (seen : List Closed) → seen ≡ a.seen.entries → AreNew seen ys
-  sorted_new seen e i m o at = ap (lookup (same_scene m)) e ∙ waiting_new a book cuts all.0 m o (sym (same.1 m) ∙ listed-origin ys same.2 i m o at)
 
   module _ (starts : List ℕ) (seen : List Closed) (claimed done : List Bool) (waiting : List (Entry Scene Push)) (n : ℕ) (starts_are : starts ≡ a.starts.items ++ n ∷ []) (n_is : n ≡ length a.seen.entries)
       (seen_are : seen ≡ a.seen.entries ++ map closed_entry ys) (no_claims : claimed ≡ []) (none_done : done ≡ []) (none_waits : waiting ≡ []) where

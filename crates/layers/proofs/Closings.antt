@@ -2,12 +2,12 @@
 use Rattle.std.proofs.Common.{◌≡◌, ℕ, zero, suc, ◌<◌, Bool, true, false, cond, List, [], ◌∷◌, ◌++◌, map, take, Result, Ok, Err, is_err, Option, Some, None, refl, sym, ap, ◌∙◌, if◌then◌else◌, inl, inr, arith}
 use Rattle.std.proofs.lemmas.Bool.{cases_lt}
 use Rattle.std.proofs.lemmas.List.{append_assoc}
-use Rattle.std.proofs.lemmas.List.Sorted.{sorted_far, ranks_by}
-use Rattle.std.proofs.lemmas.Map.Keys.{apart_from_distinct}
-use Rattle.std.proofs.lemmas.Option.{same_Some, none-some, slice_get_within, get_or_from_slice_get}
+use Rattle.std.proofs.lemmas.List.Sorted.{sorted_far, ranks_by, length_permutation, IsPermutation-map, IsPermutation-sym, Contains-permutation}
+use Rattle.std.proofs.lemmas.Map.Keys.{apart_from_distinct, IsDistinct-IsPermutation}
+use Rattle.std.proofs.lemmas.Option.{same_Some, none-some, slice_get-get_or, slice_get_within, get_or_from_slice_get}
 use Rattle.std.specs.Prelude.{slice_get, OnOk, OnErr}
 use Rattle.std.specs.List.{IsDistinct}
-use Rattle.std.specs.List.Sorted.{IsSortedByKey}
+use Rattle.std.specs.List.Sorted.{IsSortedBy, IsPermutation}
 use Rattle.std.specs.Map.{lookup}
 use Rattle.std.specs.declared.cmp.Ordering.{Ordering}
 use Rattle.std.specs.declared.cmp.Ordering.TheVariants.{Less, Equal, Greater}
@@ -18,11 +18,11 @@ use Rattle.grid.specs.Board.{Scene, push_cmp}
 use Rattle.grid.proofs.Orders.{push_cmp_total}
 use Rattle.layers.specs.Layered.{IsIn, Origin, origin_cmp, Entry}
 use Rattle.layers.specs.Reaching.{same_scene}
-use Rattle.layers.specs.BookView.{Closed}
-use Rattle.layers.specs.Books.{RiseByOrigin, AreNew, closed_entry}
-use Rattle.layers.proofs.Exchange.{map_at}
+use Rattle.layers.specs.BookView.{Closed, origin_of}
+use Rattle.layers.specs.Books.{RiseByOrigin, AreReordered, AreNew, closed_entry}
+use Rattle.layers.proofs.Exchange.{at_map, map_at}
 use Rattle.layers.proofs.Lists.{Distinct}
-use Rattle.layers.proofs.Offers.{same_true, same_itself, open_places}
+use Rattle.layers.proofs.Offers.{same_true, same_itself, same_flipped, open_places, origin-listed, listed-origin}
 use Rattle.layers.proofs.Open.{origin_total}
 
 -- keys that a map keeps apart are distinct
@@ -39,18 +39,49 @@ distinct_from ks distinct i j a at_i at_j = elim (cases_lt i j) [
         let g = get_or_from_slice_get ks k a a at_k in
         let h = get_or_from_slice_get ks l a a at_l in cc
 
--- sorted entries rise by their origins
-pub rise_from_sorted : (es : List (Entry Scene Push)) → IsSortedByKey (λ e. e.1) (origin_cmp push_cmp) es → RiseByOrigin es
-rise_from_sorted es sorted i j x y lt at_i at_j =
+-- what is sorted by its origins rises by them
+pub rise_from_sorted : {A : Type 0} (entry : A → Entry Scene Push) (xs : List A) → IsSortedBy (λ a b. is_lt (origin_cmp push_cmp (entry a).1 (entry b).1)) xs → RiseByOrigin (map entry xs)
+rise_from_sorted {A} entry xs sorted i j x y lt at_i at_j =
+    let a = at_map entry xs i x at_i in let b = at_map entry xs j y at_j in
     let total = origin_total push_cmp_total in
-    let far = sorted_far (λ a b. is_lt (origin_cmp push_cmp a.1 b.1)) (ranks_by total (λ (e : Entry Scene Push). e.1)) es sorted i j x (omega arith) (slice_get_within es j y at_j) in
-    let f : is_lt (origin_cmp push_cmp y.1 x.1) ≡ false = (λ n. is_lt (origin_cmp push_cmp (sym (get_or_from_slice_get es j y x at_j) n).1 (sym (get_or_from_slice_get es i x x at_i) n).1)) ∙ far in
+    let far = sorted_far (λ a b. is_lt (origin_cmp push_cmp (entry a).1 (entry b).1)) (ranks_by total (λ (z : A). (entry z).1)) xs sorted i j a.0 (omega arith) (slice_get_within xs j b.0 b.1) in
+    let read : is_lt (origin_cmp push_cmp (entry b.0).1 (entry a.0).1) ≡ false = (λ n. is_lt (origin_cmp push_cmp (entry (sym (get_or_from_slice_get xs j b.0 a.0 b.1) n)).1 (entry (sym (get_or_from_slice_get xs i a.0 a.0 a.1) n)).1)) ∙ far in
+    let f : is_lt (origin_cmp push_cmp y.1 x.1) ≡ false = (λ n. is_lt (origin_cmp push_cmp (sym b.2 n).1 (sym a.2 n).1)) ∙ read in
     ap is_gt (total.antisymm x.1 y.1) ∙ turned (origin_cmp push_cmp y.1 x.1) f
   where
     turned : (o : Ordering) → is_lt o ≡ false → is_gt (ordering_reverse o) ≡ false
     turned Less e = cc
     turned Equal e = refl
     turned Greater e = refl
+
+-- what stands at a place of a list stands at one of each list with the same entries
+pub moved : {A : Type 0} (x : A) (xs ys : List A) → IsPermutation xs ys → IsIn xs x → IsIn ys x
+moved x xs ys same w =
+    let there = Contains-permutation xs ys x same (w.0, slice_get_within xs w.0 x w.1, get_or_from_slice_get xs w.0 x x w.1) in
+    (there.0, slice_get-get_or ys there.0 x there.1 ∙ ap Some there.2)
+
+-- and none of them was seen, if none was before
+pub reordered_new : (seen : List Closed) (es ys : List (Entry Scene Push)) → IsPermutation es ys → AreNew seen es → AreNew seen ys
+reordered_new seen es ys same new i m o at = let w = moved (m, o) ys es (IsPermutation-sym es ys same) (i, at) in new w.0 m o w.1
+
+-- entries in another order, none twice, are the same to look up
+pub reordered : (es ys : List (Entry Scene Push)) → IsDistinct same_scene (open_places es) → IsPermutation es ys → AreReordered es ys
+reordered es ys distinct same = (length_permutation es ys same, λ m. look m (origin_of es m) refl (origin_of ys m) refl, after)
+  where
+    before : Distinct (open_places es)
+    before = distinct_from (open_places es) distinct
+
+    after : Distinct (open_places ys)
+    after = distinct_from (open_places ys) (IsDistinct-IsPermutation same_scene same_flipped (open_places es) (open_places ys) (IsPermutation-map (λ (e : Entry Scene Push). e.0) es ys same) distinct)
+
+    look : (m : Scene) (a : Option (Origin Push)) → origin_of es m ≡ a → (b : Option (Origin Push)) → origin_of ys m ≡ b → origin_of ys m ≡ origin_of es m
+    look m (Some o) e b f =
+        let w = moved (m, o) es ys same (origin-listed es m o e) in
+        listed-origin ys after w.0 m o w.1 ∙ sym e
+    look m None e None f = f ∙ sym e
+    look m None e (Some o) f =
+        let w = moved (m, o) ys es (IsPermutation-sym es ys same) (origin-listed ys m o f) in
+        f ∙ sym (listed-origin es before w.0 m o w.1)
 
 -- ---- one more entry
 
@@ -66,7 +97,7 @@ take_push [] n a e = cc
 take_push (x ∷ xs) zero a e = ap (λ y. y ∷ []) (same_Some x a e)
 take_push (x ∷ xs) (suc n) a e = ap (λ ys. x ∷ ys) (take_push xs n a e)
 
-map-push : {A B : Type 0} (f : A → B) (xs : List A) (a : A) → map f (xs ++ a ∷ []) ≡ map f xs ++ f a ∷ []
+pub map-push : {A B : Type 0} (f : A → B) (xs : List A) (a : A) → map f (xs ++ a ∷ []) ≡ map f xs ++ f a ∷ []
 map-push f [] a = refl
 map-push f (x ∷ xs) a = ap (λ ys. f x ∷ ys) (map-push f xs a)
 

@@ -1,4 +1,5 @@
 pub mod Orders
+pub mod Packing
 pub mod Exchange
 pub mod Open
 pub mod Lists

@@ -12,7 +12,7 @@ use Rattle.layers.specs.Layered.{IsIn, Origin, origin_cmp, Entry, lesser}
 use Rattle.layers.specs.Reaching.{same_scene}
 use Rattle.layers.specs.BookView.{origin_of}
 use Rattle.layers.specs.declared.parcel.Successor.{Successor}
-use Rattle.layers.specs.Books.{offered, entered}
+use Rattle.layers.specs.Books.{AreWanted, offered, entered}
 use Rattle.std.proofs.lemmas.List.{length-append, length-map}
 use Rattle.std.specs.List.{list_any}
 use Rattle.layers.proofs.Open.{best}
@@ -39,6 +39,14 @@ same_itself m =
 
 pub same_since : (m n : Scene) → m ≡ n → same_scene m n ≡ true
 same_since m n e = subst (λ x. same_scene m x ≡ true) e (same_itself m)
+
+pub same_flipped : (m n : Scene) → same_scene m n ≡ same_scene n m
+same_flipped m n = go (same_scene m n) refl (same_scene n m) refl
+  where
+    go : (a : Bool) → same_scene m n ≡ a → (b : Bool) → same_scene n m ≡ b → same_scene m n ≡ same_scene n m
+    go true e b f = e ∙ sym (same_since n m (sym (same_true m n e)))
+    go false e true f = same_since m n (sym (same_true n m f)) ∙ sym f
+    go false e false f = e ∙ sym f
 
 -- what an offered position stands open with
 pub origin_of-offered : (es : List (Entry Scene Push)) (m : Scene) (o : Origin Push) → origin_of (offered es m o) m ≡ Some (best push_cmp (origin_of es m) o)
@@ -212,6 +220,15 @@ open-entered wanted rank es s m want = go (same_scene s.position m) refl
     go true e = there (same_true s.position m e) ∙ sym (or_true (is_some (origin_of es m)))
     go false e = other (apart (same_scene m s.position) refl e) (wanted s.position) ∙ sym (or_false (is_some (origin_of es m)))
 
+-- what stands open is wanted after a successor has entered, if it was before
+pub entered_wanted : (wanted : Scene → Bool) (rank : ℕ) (es : List (Entry Scene Push)) (s : Successor) → AreWanted wanted es → AreWanted wanted (entered wanted rank es s)
+entered_wanted wanted rank es s are m there = go (wanted s.position) refl (same_scene m s.position) refl there
+  where
+    go : (a : Bool) → wanted s.position ≡ a → (b : Bool) → same_scene m s.position ≡ b → is_some (origin_of (if a then offered es s.position (rank, s.push) else es) m) ≡ true → wanted m ≡ true
+    go true want true e f = ap wanted (same_true m s.position e) ∙ want
+    go true want false e f = are m (ap is_some (sym (origin_of-other es s.position m (rank, s.push) e)) ∙ f)
+    go false want b e f = are m f
+
 -- after some have entered, if it did before or is one of theirs
 pub open-after : (wanted : Scene → Bool) (rank : ℕ) (ss : List Successor) (es : List (Entry Scene Push)) (m : Scene) → wanted m ≡ true → is_some (origin_of (fold (entered wanted rank) es ss) m) ≡ (is_some (origin_of es m) || list_any (λ s. same_scene s.position m) ss)
 open-after wanted rank [] es m want = or_false (is_some (origin_of es m))
@@ -227,15 +244,16 @@ open-after wanted rank (s ∷ ss) es m want =
     or_or true b c = refl
     or_or false b c = refl
 
+-- one more successor enters after the others
+pub entered_more : (wanted : Scene → Bool) (rank : ℕ) (ss : List Successor) (es : List (Entry Scene Push)) (s : Successor) → fold (entered wanted rank) es (ss ++ s ∷ []) ≡ entered wanted rank (fold (entered wanted rank) es ss) s
+entered_more wanted rank [] es s = refl
+entered_more wanted rank (t ∷ ss) es s = entered_more wanted rank ss (entered wanted rank es t) s
+
 -- so one more successor makes one position more if it is wanted, did not stand open and is no earlier one's
 pub length-entered : (wanted : Scene → Bool) (rank : ℕ) (ss : List Successor) (es : List (Entry Scene Push)) (s : Successor) →
     length (fold (entered wanted rank) es (ss ++ s ∷ [])) ≡ length (fold (entered wanted rank) es ss) + cond (wanted s.position && not (is_some (origin_of es s.position) || list_any (λ t. same_scene t.position s.position) ss)) 1 0
-length-entered wanted rank ss es s = ap length (fold_push ss es) ∙ go (wanted s.position) refl
+length-entered wanted rank ss es s = ap length (entered_more wanted rank ss es s) ∙ go (wanted s.position) refl
   where
-    fold_push : (ts : List Successor) (xs : List (Entry Scene Push)) → fold (entered wanted rank) xs (ts ++ s ∷ []) ≡ entered wanted rank (fold (entered wanted rank) xs ts) s
-    fold_push [] xs = refl
-    fold_push (t ∷ ts) xs = fold_push ts (entered wanted rank xs t)
-
     flip : (b : Bool) → ◌≡◌ {A = ℕ} (cond b 0 1) (cond (not b) 1 0)
     flip true = refl
     flip false = refl

@@ -98,6 +98,10 @@ is_wanted_in seen shares share m = (share_of shares m == share) && not (is_some 
 abbrev pub is_wanted : BookView → Scene → Bool
 is_wanted v m = (share_of v.shares m == v.share) && not (is_closed v.closed m)
 
+-- each position that stands open is wanted
+abbrev pub AreWanted : (Scene → Bool) → List (Entry Scene Push) → Type 0
+AreWanted wanted waiting = (m : Scene) → is_some (origin_of waiting m) ≡ true → wanted m ≡ true
+
 -- one successor of a rank enters, if its position is wanted
 abbrev pub entered : (Scene → Bool) → ℕ → List (Entry Scene Push) → Successor → List (Entry Scene Push)
 entered wanted rank waiting s = if wanted s.position then offered waiting s.position (rank, s.push) else waiting
@@ -171,6 +175,10 @@ AreReordered before after = (length after ≡ length before) × ((m : Scene) →
 -- no entry's position was seen
 abbrev pub AreNew : List Closed → List (Entry Scene Push) → Type 0
 AreNew seen es = (i : ℕ) (m : Scene) (o : Origin Push) → slice_get es i ≡ Some (m, o) → lookup (same_scene m) seen ≡ None
+
+-- what stood open is appended to what was seen, in the order of the origins
+abbrev pub IsSortedAppend : List Closed → List (Entry Scene Push) → List Closed → Type 0
+IsSortedAppend seen waiting after = (es : List (Entry Scene Push)) × AreReordered waiting es × RiseByOrigin es × (after ≡ seen ++ map closed_entry es)
 
 -- the book after a close: what stood open is the next closed list, by rank and push; nothing has begun
 abbrev pub with_closed : BookView → List Closed → BookView

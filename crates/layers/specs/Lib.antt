@@ -1,10 +1,12 @@
 pub mod Layered
+pub mod Packed
 pub mod Reaching
 pub mod LayerView
 pub mod ParcelView
 pub mod Expansion
 pub mod BookView
 pub mod Books
+pub mod Rows
 pub mod BookInside
 pub mod Insides
 pub mod Events

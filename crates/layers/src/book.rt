@@ -8,9 +8,10 @@ ghost use Rattle.std.specs.Arc.{arc_value};
 
 use crate::fault::BookFault;
 use crate::limits::{MAX_SHARES, MAX_WORKERS};
+use crate::origin::{ClosedOrigin, Origin};
 use area::{Scratch, normal};
 use doom::{Dead, doomed};
-use grid::{Level, MAX_BOXES, Position, Push};
+use grid::{Level, MAX_BOXES, Position};
 use indexmap::IndexMap;
 use std::alloc::{AllocError, Global};
 use std::marker::Model;
@@ -40,14 +41,14 @@ pub struct Book {
     pub(crate) share: u8,
     pub(crate) shares: u8,
     // the closed positions, layer after layer, and where each layer begins
-    pub(crate) seen: IndexMap<Position, Option<(u64, Push)>>,
+    pub(crate) seen: IndexMap<Position, ClosedOrigin>,
     pub(crate) starts: Vec<usize>,
     pub(crate) begun: bool,
     pub(crate) claimed: Vec<bool>,
     pub(crate) done: Vec<bool>,
     // each rank below it is claimed or done
     pub(crate) next: usize,
-    pub(crate) waiting: IndexMap<Position, (u64, Push)>,
+    pub(crate) waiting: IndexMap<Position, Origin>,
     pub(crate) tallies: Vec<u64>,
     pub(crate) over: bool,
 }
@@ -193,7 +194,7 @@ fn first_seen(
     alloc: Global,
     level: &Level,
     first: &Position,
-) -> Result<IndexMap<Position, Option<(u64, Push)>>, AllocError>
+) -> Result<IndexMap<Position, ClosedOrigin>, AllocError>
     requires start { first.now ≡ start level.now }
     requires fits { FitsLevel level.now first.now }
     ensures { IfOk result (λ seen. IsShareOfLayer level.now 1 0 0 seen.entries × (length seen.entries ≤ 1)) }
@@ -204,7 +205,7 @@ fn first_seen(
     let mut seen = IndexMap::new(alloc);
     if !doomed(level, &dead, first, &mut scratch) {
         let normal = normal(level, first, &mut scratch);
-        if seen.insert(normal, None).is_err() {
+        if seen.insert(normal, ClosedOrigin::of(None)).is_err() {
             return Err(AllocError);
         }
     }

@@ -4,21 +4,21 @@ ghost use Rattle.indexmap.specs.IndexMap.{spare};
 ghost use Rattle.std.specs.List.{list_any};
 ghost use Rattle.layers.specs.BookView.{origin_of};
 ghost use Rattle.layers.specs.Reaching.{same_scene, share_of};
-ghost use Rattle.std.specs.Ordering.{is_lt};
-ghost use Rattle.grid.specs.Board.{push_cmp};
-ghost use Rattle.layers.specs.Layered.{origin_cmp};
-ghost use Rattle.layers.specs.Books.{offered, is_wanted_in, entered};
+ghost use Rattle.layers.specs.Books.{AreWanted, is_wanted_in, entered};
 
+use crate::origin::{ClosedOrigin, MOST_RANKS, Origin};
 use crate::parcel::Successor;
-use grid::{Position, Push};
+use grid::Position;
 use indexmap::IndexMap;
-use std::cmp::Ordering;
 
 /// The share of a position: the sum of its box squares and its player's square, modulo the number of shares.
 pub(crate) fn share_of(position: &Position, shares: u8) -> u8
     requires { 0 < shares }
     ensures { result ≡ share_of shares position.now }
 {
+    if shares == 1 {
+        return 0;
+    }
     let boxes = position.boxes();
     let mut sum = 0;
     for square in boxes {
@@ -29,7 +29,7 @@ pub(crate) fn share_of(position: &Position, shares: u8) -> u8
 
 /// Whether a position is of the share and among no closed positions.
 pub(crate) fn is_wanted(
-    seen: &IndexMap<Position, Option<(u64, Push)>>,
+    seen: &IndexMap<Position, ClosedOrigin>,
     share: u8,
     shares: u8,
     position: &Position,
@@ -40,55 +40,57 @@ pub(crate) fn is_wanted(
     share_of(position, shares) == share && !seen.contains_key(position)
 }
 
-/// The order of origins: by the rank, then by the push.
-pub(crate) fn compare(origin: &(u64, Push), other: &(u64, Push)) -> Ordering
-    ensures { result ≡ origin_cmp push_cmp origin.now other.now }
-{
-    origin.cmp(other)
-}
-
-// Whether an origin comes before another.
-fn is_before(origin: &(u64, Push), other: &(u64, Push)) -> bool
-    ensures { result ≡ is_lt (origin_cmp push_cmp origin.now other.now) }
-{
-    compare(origin, other).is_lt()
-}
-
-/// Offers a position with an origin: it stands open with the lesser one, and comes last if it is new.
-pub(crate) fn offer(
-    waiting: &mut IndexMap<Position, (u64, Push)>,
-    position: &Position,
-    origin: (u64, Push),
+// Enters a successor of a rank: where its position stands open already it keeps the lesser origin, and where it is
+// new it comes last if it is wanted. What stands open is asked first, since most positions stand there.
+fn enter(
+    seen: &IndexMap<Position, ClosedOrigin>,
+    waiting: &mut IndexMap<Position, Origin>,
+    share: u8,
+    shares: u8,
+    rank: u64,
+    successor: &Successor,
 )
-    requires { 0 < spare waiting.old }
-    ensures entries { waiting.new.entries ≡ offered waiting.old.entries position.now origin }
+    requires shares { 0 < shares }
+    requires rank { rank < MOST_RANKS }
+    requires room { 0 < spare waiting.old }
+    requires wanted { AreWanted (is_wanted_in seen.now.entries shares share) waiting.old.entries }
+    ensures entries { waiting.new.entries ≡ entered (is_wanted_in seen.now.entries shares share) rank waiting.old.entries successor.now }
     ensures room { spare waiting.old ≤ spare waiting.new + 1 }
 {
-    if let Some(known) = waiting.get(position) {
-        if !is_before(&origin, known) {
-            return;
+    let origin = Origin::new(rank, successor.push);
+    let position = &successor.position;
+    match waiting.get(position) {
+        Some(known) => {
+            if !origin.is_before(*known) {
+                return;
+            }
+        }
+        None => {
+            if !is_wanted(seen, share, shares, position) {
+                return;
+            }
         }
     }
     let _ = waiting.insert(position.copy(), origin);
 }
 
-/// Enters the wanted successors of a rank, one after the other.
+/// Enters the wanted successors of a rank, one after the other. What stands open is wanted.
 pub(crate) fn enter_all(
-    seen: &IndexMap<Position, Option<(u64, Push)>>,
-    waiting: &mut IndexMap<Position, (u64, Push)>,
+    seen: &IndexMap<Position, ClosedOrigin>,
+    waiting: &mut IndexMap<Position, Origin>,
     share: u8,
     shares: u8,
     rank: u64,
     successors: &[Successor],
 )
     requires shares { 0 < shares }
+    requires rank { rank < MOST_RANKS }
     requires room { length successors.now ≤ spare waiting.old }
+    requires wanted { AreWanted (is_wanted_in seen.now.entries shares share) waiting.old.entries }
     ensures { waiting.new.entries ≡ fold (entered (is_wanted_in seen.now.entries shares share) rank) waiting.old.entries successors.now }
 {
     for successor in successors {
-        if is_wanted(seen, share, shares, &successor.position) {
-            offer(waiting, &successor.position, (rank, successor.push));
-        }
+        enter(seen, waiting, share, shares, rank, successor);
     }
 }
 
@@ -101,8 +103,8 @@ fn is_among(successors: &[Successor], position: &Position) -> bool
 
 // Whether a successor stands open only once it has entered after those before it.
 fn is_new(
-    seen: &IndexMap<Position, Option<(u64, Push)>>,
-    waiting: &IndexMap<Position, (u64, Push)>,
+    seen: &IndexMap<Position, ClosedOrigin>,
+    waiting: &IndexMap<Position, Origin>,
     share: u8,
     shares: u8,
     before: &[Successor],
@@ -119,8 +121,8 @@ fn is_new(
 
 /// How many positions more stand open once the wanted successors of a rank have entered.
 pub(crate) fn count_new(
-    seen: &IndexMap<Position, Option<(u64, Push)>>,
-    waiting: &IndexMap<Position, (u64, Push)>,
+    seen: &IndexMap<Position, ClosedOrigin>,
+    waiting: &IndexMap<Position, Origin>,
     share: u8,
     shares: u8,
     successors: &[Successor],

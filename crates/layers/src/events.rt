@@ -3,7 +3,7 @@ ghost use Rattle.layers.specs.Reaching.{total};
 ghost use Rattle.layers.specs.Books.{IsAtWork, all_entered, MayBegin, with_begun, BeginRefused, ClaimAnswer, MayEnter, with_parcel, HandBackRefused, after_refusal, with_reopened, IsClosedBy, CloseRefused};
 
 use crate::book::{Book, Claim, Closed};
-use crate::closing::{all_marked, append_closed, push_within, sort_waiting};
+use crate::closing::{all_marked, append_sorted, push_within};
 use crate::entering::{count_new, enter_all};
 use crate::fault::{BeginFault, CloseFault, Refusal};
 use crate::layer::Layer;
@@ -155,11 +155,11 @@ impl Book {
         if self.starts.reserve(1).is_err() {
             return Err(CloseFault::OutOfMemory);
         }
-        if sort_waiting(&mut self.waiting).is_err() {
+        let start = self.seen.len();
+        if append_sorted(&mut self.seen, &self.waiting).is_err() {
             return Err(CloseFault::OutOfMemory);
         }
-        push_within(&mut self.starts, self.seen.len());
-        append_closed(&mut self.seen, &self.waiting);
+        push_within(&mut self.starts, start);
         self.waiting.clear();
         self.claimed.clear();
         self.done.clear();

@@ -3,7 +3,7 @@ ghost use Rattle.grid.specs.Board.{Scene};
 ghost use Rattle.grid.specs.Lawful.{FitsLevel};
 ghost use Rattle.grid.specs.Squares.{contains};
 ghost use Rattle.doom.specs.Deadlocks.{Undoomed};
-ghost use Rattle.layers.specs.ParcelView.{AreSuccessors, FitLevel};
+ghost use Rattle.layers.specs.ParcelView.{AreSuccessors, FitLevel, IsParcel};
 ghost use Rattle.layers.specs.Reaching.{IsSuccessor};
 ghost use Rattle.layers.specs.Expansion.{CanPush, IsAreaOf, ArePushes, ArePushesBelow};
 
@@ -24,25 +24,68 @@ pub fn expand<'a>(layer: &'a Layer, dead: &Dead, rank: u64, scratch: &mut Scratc
     ensures successors { (n : Scene) → slice_get layer.now.places rank ≡ Some n → AreSuccessors layer.now.level n result.successors }
     ensures size { scratch.new.size ≡ scratch.old.size }
 {
+    let mut parcel = Parcel {
+        level: layer.level(),
+        layer: layer.number(),
+        rank,
+        successors: ArrayVec::new(),
+    };
+    successors_of(layer, dead, rank, scratch, &mut parcel.successors);
+    parcel
+}
+
+/// Makes a parcel that is there the one of another rank, as [`expand`] gives it, so that nothing large is made or
+/// copied. Takes no memory.
+pub fn expand_into<'a>(
+    layer: &'a Layer,
+    dead: &Dead,
+    rank: u64,
+    scratch: &mut Scratch,
+    parcel: &mut Parcel<'a>,
+)
+    requires within { rank < length layer.now.places }
+    requires dead_of_level { dead.now ≡ layer.now.level }
+    requires room { scratch.old.size ≡ length layer.now.level.cells }
+    ensures of { (parcel.new.level ≡ layer.now.level) × (parcel.new.layer ≡ layer.now.number) × (parcel.new.rank ≡ rank) }
+    ensures successors { (n : Scene) → slice_get layer.now.places rank ≡ Some n → AreSuccessors layer.now.level n parcel.new.successors }
+    ensures size { scratch.new.size ≡ scratch.old.size }
+{
+    parcel.level = layer.level();
+    parcel.layer = layer.number();
+    parcel.rank = rank;
+    parcel.successors.clear();
+    successors_of(layer, dead, rank, scratch, &mut parcel.successors);
+}
+
+// Fills an empty list with the undoomed successors of the position with a rank of the layer, in the order of their
+// pushes.
+fn successors_of(
+    layer: &Layer,
+    dead: &Dead,
+    rank: u64,
+    scratch: &mut Scratch,
+    successors: &mut ArrayVec<Successor, MAX_SUCCESSORS>,
+)
+    requires within { rank < length layer.now.places }
+    requires dead_of_level { dead.now ≡ layer.now.level }
+    requires room { scratch.old.size ≡ length layer.now.level.cells }
+    requires empty { successors.old.items ≡ [] }
+    ensures parcel { IsParcel (record { level = layer.now.level; layer = layer.now.number; rank = rank; successors = successors.new.items }) }
+    ensures successors { (n : Scene) → slice_get layer.now.places rank ≡ Some n → AreSuccessors layer.now.level n successors.new.items }
+    ensures size { scratch.new.size ≡ scratch.old.size }
+{
     layer.tell();
     let level = layer.level();
     let position = layer.place(rank);
     let pushes = possible_pushes(level, position, scratch);
-    let mut successors = ArrayVec::new();
     successors_by(
         level,
         dead,
         position,
         pushes.as_slice(),
         scratch,
-        &mut successors,
-    );
-    Parcel {
-        level,
-        layer: layer.number(),
-        rank,
         successors,
-    }
+    );
 }
 
 // The pushes that the player can make after walks that push nothing, in their order.

@@ -5,7 +5,8 @@ ghost use Rattle.layers.specs.Books.{IsJoinOf, JoinRefused};
 use crate::book::{Book, last_start};
 use crate::fault::JoinFault;
 use crate::layer::Layer;
-use grid::{Position, Push};
+use crate::origin::{ClosedOrigin, Origin};
+use grid::Position;
 use indexmap::IndexMap;
 use std::alloc::{AllocError, Global};
 use std::sync::Arc;
@@ -51,9 +52,9 @@ impl Book {
 // What was seen from a place on: the positions, and the origins of those that have one.
 fn copy_from(
     alloc: Global,
-    seen: &IndexMap<Position, Option<(u64, Push)>>,
+    seen: &IndexMap<Position, ClosedOrigin>,
     from: usize,
-) -> Result<(Vec<Position>, Vec<(u64, Push)>), AllocError>
+) -> Result<(Vec<Position>, Vec<Origin>), AllocError>
     requires { from ≤ length seen.now.entries }
     ensures places { IfOk result (λ r. r.0.items ≡ map (λ e. e.0) (drop from seen.now.entries)) }
     ensures origins { IfOk result (λ r. r.1.items ≡ origins_of (drop from seen.now.entries)) }
@@ -64,8 +65,8 @@ fn copy_from(
     for place in from..seen.len() {
         if let Some((position, origin)) = seen.get_index(place) {
             places.push(position.copy())?;
-            if let Some(origin) = origin {
-                origins.push(*origin)?;
+            if let Some(origin) = origin.get() {
+                origins.push(origin)?;
             }
         }
     }

@@ -3,6 +3,7 @@ ghost use Rattle.grid.specs.Lawful.{FitsLevel};
 ghost use Rattle.doom.specs.Deadlocks.{Undoomed};
 ghost use Rattle.layers.specs.LayerView.{IsWhole};
 
+use crate::origin::Origin;
 use grid::{Level, Position, Push};
 use std::marker::Model;
 use std::sync::Arc;
@@ -14,7 +15,7 @@ pub struct Layer {
     pub(crate) level: Arc<Level>,
     pub(crate) number: u64,
     pub(crate) places: Vec<Position>,
-    pub(crate) origins: Vec<(u64, Push)>,
+    pub(crate) origins: Vec<Origin>,
 }
 
 impl Model for Layer {
@@ -78,7 +79,8 @@ impl Layer {
     pub fn parent(&self, rank: u64) -> Option<(u64, Push)>
         ensures { result ≡ slice_get self.now.origins rank }
     {
-        self.origins.get(rank as usize).copied()
+        let origin = self.origins.get(rank as usize)?;
+        Some(origin.parts())
     }
 
     // The position with a rank of the layer.

@@ -12,10 +12,11 @@ mod join;
 pub mod laws;
 mod layer;
 mod limits;
+mod origin;
 mod parcel;
 
 pub use book::{Book, Claim, Closed};
-pub use expansion::expand;
+pub use expansion::{expand, expand_into};
 pub use fault::{BeginFault, BookFault, CloseFault, JoinFault, Refusal};
 pub use layer::Layer;
 pub use limits::{MAX_SHARES, MAX_SUCCESSORS, MAX_WORKERS, MOST_POSITIONS};

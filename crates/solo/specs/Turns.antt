@@ -40,6 +40,10 @@ pub record IsAtRank (layer : LayerView) (rank : ℕ) (book : BookView) : Type 0 
   pub done : (r : ℕ) → r < rank → slice_get book.done r ≡ Some true
   pub free : (r : ℕ) → rank ≤ r → r < length book.done → slice_get book.done r ≡ Some false
 
+-- the parcel is of a rank of the layer
+abbrev pub IsOfRank : LayerView → ℕ → ParcelView → Type 0
+IsOfRank layer rank parcel = (parcel.level ≡ layer.level) × (parcel.layer ≡ layer.number) × (parcel.rank ≡ rank)
+
 -- the parcel is of a rank that the one worker has not handed back
 pub record IsDue (book : BookView) (parcel : ParcelView) : Type 0 where
   pub worker : book.workers ≡ 1

@@ -1,11 +1,13 @@
-ghost use Rattle.std.specs.Prelude.{◌≡◌, List, IfOk, MatchBool, OnOk, length};
+ghost use Rattle.std.specs.Prelude.{◌≡◌, ◌<◌, List, IfOk, MatchBool, OnOk, length};
 ghost use Rattle.layers.specs.BookView.{Closed};
 ghost use Rattle.layers.specs.Books.{AllDone, MayBegin, with_begun, with_closed, with_parcel};
-ghost use Rattle.solo.specs.Turns.{IsAtRest, IsLastOf, IsDue, WorkAnswer, with_over};
+ghost use Rattle.solo.specs.Turns.{IsAtRest, IsLastOf, IsDue, IsOfRank, WorkAnswer, with_over};
 
 use area::Scratch;
 use doom::Dead;
-use layers::{BeginFault, Book, CloseFault, JoinFault, Layer, Parcel, Refusal, expand};
+use layers::{
+    BeginFault, Book, CloseFault, JoinFault, Layer, Parcel, Refusal, expand, expand_into,
+};
 use std::alloc::{AllocError, Global};
 use std::slice;
 
@@ -41,18 +43,40 @@ pub(crate) fn work_through(
     requires last { IsLastOf book.old layer.now }
     requires dead_of_level { dead.now ≡ layer.now.level }
     requires room { scratch.old.size ≡ length layer.now.level.cells }
+    requires some { 0 < length layer.now.places }
     ensures book { IfOk result (λ worked. WorkAnswer book.old worked book.new) }
     ensures size { scratch.new.size ≡ scratch.old.size }
 {
     begin(book, layer)?;
+    let mut parcel = expand(layer, dead, 0, scratch);
     for rank in 0..layer.len() {
-        let parcel = expand(layer, dead, rank, scratch);
+        refill(layer, dead, rank, scratch, &mut parcel);
         if !enter(book, &parcel)? {
             return Ok(Worked::Over);
         }
     }
     close(book)?;
     Ok(Worked::Through)
+}
+
+// Makes a parcel that of a rank, where it was that of rank 0 at first.
+fn refill<'a>(
+    layer: &'a Layer,
+    dead: &Dead,
+    rank: u64,
+    scratch: &mut Scratch,
+    parcel: &mut Parcel<'a>,
+)
+    requires within { rank < length layer.now.places }
+    requires dead_of_level { dead.now ≡ layer.now.level }
+    requires room { scratch.old.size ≡ length layer.now.level.cells }
+    requires first { rank ≡ 0 → IsOfRank layer.now 0 parcel.old }
+    ensures of { IsOfRank layer.now rank parcel.new }
+    ensures size { scratch.new.size ≡ scratch.old.size }
+{
+    if rank > 0 {
+        expand_into(layer, dead, rank, scratch, parcel);
+    }
 }
 
 // Opens the ranks of the last closed layer. The only error is that memory was refused.

@@ -1,16 +1,19 @@
-use Rattle.std.proofs.Common.{◌≡◌, ℕ, ◌++◌, length, take, drop, ap, ◌∙◌, arith}
-use Rattle.std.proofs.Math.Seq.{take-append_seam}
-use Rattle.area.proofs.Leasts.{start_above, norm_searched}
+use Rattle.std.proofs.Common.{length, drop, ◌∙◌, arith}
+use Rattle.area.proofs.Flooding.{words_few, area_seen, norm_of_least}
+use Rattle.area.proofs.Norms.{area_here}
+use Rattle.area.proofs.Seams.{written}
 use Rattle.area.proofs.after.least_aside.Goals as goal
 
-pub least_above-requires-clause-some : goal.least_above-requires-clause-some
-least_above-requires-clause-some c =
-    let e : c.scratch.inside.spare.len ≡ length c.search-base.new.marks = omega arith in
-    let same : c.deref.result.now ≡ c.search-base.new.marks = c.deref.ensures.value ∙ (ap (λ (n : ℕ). take n (c.search-base.new.marks ++ drop (length c.search-base.new.marks) c.scratch.inside.spare.items)) e ∙ take-append_seam c.search-base.new.marks (drop (length c.search-base.new.marks) c.scratch.inside.spare.items)) in
-    (c.args.position.now.player, start_above c.args.level.now c.args.position.now _ _ _ c.search-base.ensures.searched same)
+pub least_of-requires-clause-some : goal.least_of-requires-clause-some
+least_of-requires-clause-some c =
+    let same = c.deref.ensures.value ∙ written c.flood_words.new.reached (drop (length c.flood_words.new.reached) c.scratch.inside.spare.items) c.scratch.inside.spare.len (omega arith) in
+    (c.args.position.now.player, (area_seen c.args.level.now c.args.position.now c.flood_words.new.reached c.deref.result.now c.flood_words.ensures same c.args.position.now.player).1 (area_here c.args.level.now c.args.position.now))
+
+pub least_of-requires-clause-small : goal.least_of-requires-clause-small
+least_of-requires-clause-small c =
+    words_few (length c.scratch.inside.marks.items) (length c.deref.result.now) (let s = c.scratch.invariant.spare_words in omega (arith, s)) c.scratch.invariant.small
 
 pub returns-clause-norm : goal.returns-clause-norm
 returns-clause-norm c =
-    let e : c.scratch.inside.spare.len ≡ length c.search-base.new.marks = omega arith in
-    let same : c.deref.result.now ≡ c.search-base.new.marks = c.deref.ensures.value ∙ (ap (λ (n : ℕ). take n (c.search-base.new.marks ++ drop (length c.search-base.new.marks) c.scratch.inside.spare.items)) e ∙ take-append_seam c.search-base.new.marks (drop (length c.search-base.new.marks) c.scratch.inside.spare.items)) in
-    norm_searched c.args.level.now c.args.position.now _ _ _ _ c.search-base.ensures.searched same c.least_above.ensures.above c.least_above.ensures.least
+    let same = c.deref.ensures.value ∙ written c.flood_words.new.reached (drop (length c.flood_words.new.reached) c.scratch.inside.spare.items) c.scratch.inside.spare.len (omega arith) in
+    norm_of_least c.args.level.now c.args.position.now c.deref.result.now c.least_of.result (area_seen c.args.level.now c.args.position.now c.flood_words.new.reached c.deref.result.now c.flood_words.ensures same) c.least_of.ensures.reached c.least_of.ensures.least

@@ -1,4 +1,4 @@
-use Rattle.std.proofs.Common.{◌≡◌, ℕ, refl, sym, ap, subst, ◌∙◌}
+use Rattle.std.proofs.Common.{ℕ, refl, sym, ap, subst, ◌∙◌}
 use Rattle.grid.specs.Board.{Scene, next}
 use Rattle.grid.proofs.Steps.{inside_grid}
 use Rattle.area.specs.Area.{IsNorm, at}

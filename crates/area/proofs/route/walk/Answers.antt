@@ -1,8 +1,10 @@
-use Rattle.std.proofs.Common.{◌≡◌, ℕ, ◌++◌, length, take, drop, refl, sym, ap, ◌∙◌, arith}
+use Rattle.std.proofs.Common.{ℕ, List, length, get_or, ◌<◌, drop, refl, sym, ap, ◌∙◌, arith}
 use Rattle.std.proofs.lemmas.Bool.{true≢false}
-use Rattle.std.proofs.Math.Seq.{take-append_seam}
+use Rattle.grid.proofs.Steps.{inside_grid}
+use Rattle.area.specs.Reach.{Reach}
 use Rattle.area.proofs.Reached.{walk_free}
-use Rattle.area.proofs.Descents.{no_way, way_marked, least_way, ok_gives}
+use Rattle.area.proofs.Descents.{no_way, least_way, ok_gives}
+use Rattle.area.proofs.Seams.{written, read_written}
 use Rattle.area.proofs.route.walk.Goals as goal
 use Rattle.area.proofs.route.walk.Goals.{then-is_wall-via-then-is_wall, then-is_wall-via-else-is_wall+then-has_box}
 
@@ -16,19 +18,27 @@ returns-then-is_wall-clause-walk c = (
   refl,
 )
 
-pub returns-then-not-reaches-clause-walk : goal.returns-then-not-reaches-clause-walk
-returns-then-not-reaches-clause-walk c =
-    let e : c.scratch.inside.marks.len ≡ length c.search_from-base.new.marks = omega arith in
-    let same = ap (λ (n : ℕ). take n (c.search_from-base.new.marks ++ drop (length c.search_from-base.new.marks) c.scratch.inside.marks.items)) e ∙ take-append_seam c.search_from-base.new.marks (drop (length c.search_from-base.new.marks) c.scratch.inside.marks.items) in
-    (no_way _ _ _ _ _ _ _ c.search_from-base.ensures.searched same c.player.ensures c.requires.scene (sym c.reaches.ensures ∙ c.if-not-reaches.true), refl)
+pub index-requires : goal.index-requires
+index-requires c =
+    let lt = inside_grid c.args.level.now c.args.state.now.player c.requires.scene.player.0 in
+    let size = ap (λ (r : Reach). r.size) c.scratch.view_is in
+    omega (arith, lt, size, c.player-player.ensures, c.player.view_is, c.requires.room)
+
+pub returns-then-index-base-clause-walk : goal.returns-then-index-base-clause-walk
+returns-then-index-base-clause-walk c =
+    let inside : c.player.inside.0 < c.scratch.inside.marks.len = (let lt = inside_grid c.args.level.now c.args.state.now.player c.requires.scene.player.0 in let size = ap (λ (r : Reach). r.size) c.scratch.view_is in omega (arith, lt, size, c.player-player.ensures, c.player.view_is, c.requires.room)) in
+    let mark = read_written c.search_from-base.new.marks (drop (length c.search_from-base.new.marks) c.scratch.inside.marks.items) c.scratch.inside.marks.len c.player.inside.0 c.args.state.now.player c.index.result.now (omega arith) inside c.index.ensures (c.player.view_is ∙ c.player-player.ensures) in
+    (no_way c.args.level.now c.args.state.now c.args.square c.search_from-base.result c.args.state.now.player c.search_from-base.new.marks _ c.search_from-base.ensures.searched refl refl c.requires.scene (omega (arith, mark, c.if-index-base.true)), refl)
 
 pub descend-outcome-requires-clause-reached : goal.descend-outcome-requires-clause-reached
 descend-outcome-requires-clause-reached c =
-    way_marked _ _ _ _ _ c.deref.ensures.value (c.player-2.ensures ∙ sym c.player.ensures) (sym c.reaches.ensures ∙ c.if-not-reaches.false)
+    let inside : c.player.inside.0 < c.scratch.inside.marks.len = (let lt = inside_grid c.args.level.now c.args.state.now.player c.requires.scene.player.0 in let size = ap (λ (r : Reach). r.size) c.scratch.view_is in omega (arith, lt, size, c.player-player.ensures, c.player.view_is, c.requires.room)) in
+    let mark = read_written c.search_from-base.new.marks (drop (length c.search_from-base.new.marks) c.scratch.inside.marks.items) c.scratch.inside.marks.len c.player.inside.0 c.player-player.result c.index.result.now (omega arith) inside c.index.ensures c.player.view_is in
+    let same = ap (λ (ms : List ℕ). get_or ms c.player-player.result 0) (c.deref.ensures.value ∙ written c.search_from-base.new.marks (drop (length c.search_from-base.new.marks) c.scratch.inside.marks.items) c.scratch.inside.marks.len (omega arith)) in
+    omega (arith, mark, same, c.if-index-base.false)
 
 pub returns-clause-walk : goal.returns-clause-walk
 returns-clause-walk c =
-    let e : c.scratch.inside.marks.len ≡ length c.search_from-base.new.marks = omega arith in
-    let same = ap (λ (n : ℕ). take n (c.search_from-base.new.marks ++ drop (length c.search_from-base.new.marks) c.scratch.inside.marks.items)) e ∙ take-append_seam c.search_from-base.new.marks (drop (length c.search_from-base.new.marks) c.scratch.inside.marks.items) in
+    let same = c.deref.ensures.value ∙ written c.search_from-base.new.marks (drop (length c.search_from-base.new.marks) c.scratch.inside.marks.items) c.scratch.inside.marks.len (omega arith) in
     let x = ok_gives c.descend-outcome.result c.if-is_err.ensures.negation c.descend-outcome.ensures.ok in
-    (x.0, least_way _ _ _ _ _ _ _ _ c.search_from-base.ensures.searched (c.deref.ensures.value ∙ same) c.player-2.ensures c.requires.scene x.1, x.2)
+    (x.0, least_way _ _ _ _ _ _ _ _ c.search_from-base.ensures.searched same c.player-player.ensures c.requires.scene x.1, x.2)

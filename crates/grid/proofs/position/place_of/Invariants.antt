@@ -1,5 +1,6 @@
-use Rattle.std.proofs.Common.{ℕ, ◌<◌, get_or}
+use Rattle.std.proofs.Common.{◌≡◌, ltb, take}
+use Rattle.std.specs.List.{count_by}
 use Rattle.grid.proofs.position.place_of.Given as goal
 
-abbrev pub invariant-loop-place : goal.invariant-loop-place
-invariant-loop-place l = (k : ℕ) → k < l.place → get_or l.squares k 0 < l.square
+abbrev pub invariant-loop-other : goal.invariant-loop-other
+invariant-loop-other l = l.lesser ≡ count_by (λ x. ltb x l.square) (take l.other-index l.squares)

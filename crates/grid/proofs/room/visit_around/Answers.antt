@@ -6,7 +6,7 @@ use Rattle.grid.specs.Board.{Board, is_wall, next}
 use Rattle.grid.specs.Lawful.{InRoom}
 use Rattle.grid.specs.Lawful.InRoom.{beside}
 use Rattle.grid.specs.Filling.{IsMarked}
-use Rattle.grid.proofs.Filling.{marked_around}
+use Rattle.grid.proofs.Filling.{grows_then, marked_around}
 use Rattle.grid.proofs.room.visit_around.Goals as goal
 
 step_into : (board : Board) (q r : ℕ) (d : Dir) → InRoom board q → r ≡ next board q d → is_wall board r ≡ false → InRoom board r
@@ -27,6 +27,15 @@ visit-requires-3-clause-reached c = step_into c.args.plan.now c.args.square _ R 
 
 pub visit-requires-4-clause-reached : goal.visit-requires-4-clause-reached
 visit-requires-4-clause-reached c = step_into c.args.plan.now c.args.square _ U c.requires.reached (ap (λ (a : Around). a.u) c.around-around.ensures)
+
+pub returns-clause-grows : goal.returns-clause-grows
+returns-clause-grows c =
+    let room = InRoom c.args.plan.now in
+    let marks = c.args.room.now in
+    let pending = c.args.pending.now.items in
+    let two = grows_then room marks c.visit.new.room c.visit-2.new.room pending c.visit.new.pending.items c.visit-2.new.pending.items c.in_ok-visit.ensures.grows c.in_ok-visit-2.ensures.grows in
+    let three = grows_then room marks c.visit-2.new.room c.visit-3.new.room pending c.visit-2.new.pending.items c.visit-3.new.pending.items two c.in_ok-visit-3.ensures.grows in
+    grows_then room marks c.visit-3.new.room c.visit-4.new.room pending c.visit-3.new.pending.items c.visit-4.new.pending.items three c.in_ok-visit-4.ensures.grows
 
 pub returns-clause-marked : goal.returns-clause-marked
 returns-clause-marked c =

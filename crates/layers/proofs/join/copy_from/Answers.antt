@@ -6,7 +6,7 @@ use Rattle.grid.specs.declared.square.Push.{Push}
 use Rattle.layers.specs.Layered.{Origin}
 use Rattle.layers.specs.BookView.{Closed, places_of, origins_of}
 use Rattle.layers.proofs.Joins.{copied_more, places-push, origins-push}
-use Rattle.layers.proofs.join.copy_from.Goals.{in-Some+in_ok-push+in-Some-origin+in_ok-push-2, in-Some+in_ok-push+in_default-origin, in_default}
+use Rattle.layers.proofs.join.copy_from.Goals.{in-Some+in_ok-push+in-Some-get+in_ok-push-2, in-Some+in_ok-push+in_default-get, in_default}
 use Rattle.layers.proofs.join.copy_from.Goals as goal
 
 pub loop-place-preserved : goal.loop-place-preserved
@@ -14,20 +14,20 @@ loop-place-preserved c =
     let es = c.args.seen.now.entries in let place = c.loop-place.place in let from = c.args.from in
     let lt : place < length es = omega (arith, c.len-place-end.ensures.len) in
     elim c.match-get_index.branch [
-      | in-Some+in_ok-push+in-Some-origin+in_ok-push-2 w ↦ (let e : Closed = (w.in-Some.position.now, w.in-Some.origin.now) in
+      | in-Some+in_ok-push+in-Some-get+in_ok-push-2 w ↦ (let e : Closed = (w.in-Some.position.now, w.in-Some.origin.now) in
           let at : slice_get es place ≡ Some e = sym w.in-Some.ensures.entry in
           let more = copied_more es from place e (omega arith) at in
           let old = drop from (take place es) in
-          let o : Origin Push = w.in-Some-origin.origin in
-          let some : w.in-Some.origin.now ≡ Some o = w.in-Some-origin.is in (
+          let o : Origin Push = w.in-Some-get.origin in
+          let some : w.in-Some.origin.now ≡ Some o = sym w.get.ensures ∙ w.in-Some-get.is in (
             ap (λ v. v.items) w.places-is ∙ w.in_ok-push.ensures.items ∙ (λ i. c.loop-place.invariant.0 i ++ w.copy.ensures i ∷ []) ∙ sym (places-push old e) ∙ ap places_of (sym more) ∙ ap (λ k. places_of (drop from (take k es))) (sym (add-one place)),
             ap (λ v. v.items) w.origins-is ∙ w.in_ok-push-2.ensures.items ∙ ap (λ (xs : List (Origin Push)). xs ++ o ∷ []) c.loop-place.invariant.1 ∙ ap (λ p. origins_of old ++ option_to_list p) (sym some) ∙ sym (origins-push old e) ∙ ap origins_of (sym more) ∙ ap (λ k. origins_of (drop from (take k es))) (sym (add-one place)),
           ))
-      | in-Some+in_ok-push+in_default-origin w ↦ (let e : Closed = (w.in-Some.position.now, w.in-Some.origin.now) in
+      | in-Some+in_ok-push+in_default-get w ↦ (let e : Closed = (w.in-Some.position.now, w.in-Some.origin.now) in
           let at : slice_get es place ≡ Some e = sym w.in-Some.ensures.entry in
           let more = copied_more es from place e (omega arith) at in
           let old = drop from (take place es) in
-          let none : w.in-Some.origin.now ≡ None = w.in_default-origin.is in (
+          let none : w.in-Some.origin.now ≡ None = sym w.get.ensures ∙ w.in_default-get.is in (
             ap (λ v. v.items) w.places-is ∙ w.in_ok-push.ensures.items ∙ (λ i. c.loop-place.invariant.0 i ++ w.copy.ensures i ∷ []) ∙ sym (places-push old e) ∙ ap places_of (sym more) ∙ ap (λ k. places_of (drop from (take k es))) (sym (add-one place)),
             ap (λ v. v.items) w.origins-is ∙ c.loop-place.invariant.1 ∙ sym (append-nil (origins_of old)) ∙ ap (λ p. origins_of old ++ option_to_list p) (sym none) ∙ sym (origins-push old e) ∙ ap origins_of (sym more) ∙ ap (λ k. origins_of (drop from (take k es))) (sym (add-one place)),
           ))

@@ -1,5 +1,5 @@
 use Rattle.std.proofs.Common.{◌≡◌}
-use Rattle.solo.specs.Turns.{IsAtRank, IsSameSearch}
+use Rattle.solo.specs.Turns.{IsAtRank, IsOfRank, IsSameSearch}
 use Rattle.solo.proofs.turn.work_through.Given as goal
 
 abbrev pub invariant-loop-rank : goal.invariant-loop-rank
@@ -7,5 +7,6 @@ invariant-loop-rank l = record {
   rank : IsAtRank l.layer l.rank l.book;
   same : IsSameSearch l.fn.book l.book;
   closed : l.book.closed ≡ l.fn.book.closed;
+  first : l.rank ≡ 0 → IsOfRank l.layer 0 l.parcel;
   size : l.scratch.size ≡ l.fn.scratch.size;
 }

@@ -1,31 +1,22 @@
-use Rattle.std.proofs.Common.{◌≡◌, true, inl, inr, length, get_or, sym, ap, subst, arith}
-use Rattle.std.proofs.lemmas.Bool.{cases_lt}
-use Rattle.std.proofs.lemmas.List.{get_or_past}
-use Rattle.grid.specs.Squares.{Squares, contains}
-use Rattle.area.specs.ScratchView.{above}
-use Rattle.area.proofs.Marks.{above-mark, mark-above}
+use Rattle.std.proofs.Common.{length, sym, ap, ◌∙◌}
+use Rattle.area.specs.Reach.{Reach}
+use Rattle.area.proofs.Flooding.{words_few}
+use Rattle.area.proofs.WordSets.{listed}
 use Rattle.area.proofs.scratch.Scratch.least.Goals as goal
 
-pub returns-then-mark-self-clause-reached : goal.returns-then-mark-self-clause-reached
-returns-then-mark-self-clause-reached c =
-    let e : c.args.self.now.reached ≡ above c.self.inside.base c.self.inside.marks.items = ap (λ s. s.reached) (sym c.self.view_is) in
-    subst (λ (r : Squares). contains r c.loop-i.i ≡ true) (sym e) (mark-above c.self.inside.base c.self.inside.marks.items c.loop-i.i (omega (arith, c.if-mark-self.true, ap (λ xs. get_or xs c.loop-i.i 0) c.deref-mark-items.ensures.value)))
+pub least_of-requires-clause-some : goal.least_of-requires-clause-some
+least_of-requires-clause-some c =
+    let r = c.requires in
+    (r.0, sym (listed c.self.inside.reached.items c.deref.result.now c.args.self.now.reached r.0 (ap (λ (x : Reach). x.reached) c.self.view_is) c.deref.ensures.value) ∙ r.1)
 
-pub returns-then-mark-self-clause-least : goal.returns-then-mark-self-clause-least
-returns-then-mark-self-clause-least c = λ q h.
-    (let e : c.args.self.now.reached ≡ above c.self.inside.base c.self.inside.marks.items = ap (λ s. s.reached) (sym c.self.view_is) in
-    let m = above-mark c.self.inside.base c.self.inside.marks.items q (subst (λ (r : Squares). contains r q ≡ true) e h) in
-    elim (cases_lt q c.loop-i.i) [
-      | inl lt ↦ absurd (omega (arith, m, c.loop-i.invariant q lt))
-      | inr le ↦ le
-    ])
+pub least_of-requires-clause-small : goal.least_of-requires-clause-small
+least_of-requires-clause-small c =
+    words_few (length c.self.inside.marks.items) (length c.deref.result.now) (ap length c.deref.ensures.value ∙ c.self.invariant.reached_words) c.self.invariant.small
 
-pub unreachable-requires : goal.unreachable-requires
-unreachable-requires c =
-    let e : c.args.self.now.reached ≡ above c.self.inside.base c.self.inside.marks.items = ap (λ s. s.reached) (sym c.self.view_is) in
-    let w = c.requires in
-    let m = above-mark c.self.inside.base c.self.inside.marks.items w.0 (subst (λ (r : Squares). contains r w.0 ≡ true) e w.1) in
-    elim (cases_lt w.0 c.loop-i.i) [
-      | inl lt ↦ omega (arith, m, c.loop-i.invariant w.0 lt)
-      | inr le ↦ (let z = get_or_past c.self.inside.marks.items w.0 0 (omega (arith, ap length c.deref-mark-items.ensures.value)) in omega (arith, m, z))
-    ]
+pub returns-clause-reached : goal.returns-clause-reached
+returns-clause-reached c =
+    listed c.self.inside.reached.items c.deref.result.now c.args.self.now.reached c.least_of.result (ap (λ (x : Reach). x.reached) c.self.view_is) c.deref.ensures.value ∙ c.least_of.ensures.reached
+
+pub returns-clause-least : goal.returns-clause-least
+returns-clause-least c = λ q h.
+    c.least_of.ensures.least q (sym (listed c.self.inside.reached.items c.deref.result.now c.args.self.now.reached q (ap (λ (x : Reach). x.reached) c.self.view_is) c.deref.ensures.value) ∙ h)

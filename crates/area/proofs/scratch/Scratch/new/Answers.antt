@@ -1,14 +1,18 @@
-use Rattle.std.proofs.Common.{rules, arith}
+use Rattle.std.proofs.Common.{rules, ◌∙◌, sym, ap, arith}
+use Rattle.grid.specs.Masks.{word_count}
 use Rattle.grid.proofs.Levels.{level_squares}
 use Rattle.area.proofs.scratch.Scratch.new.Goals as goal
 
 pub invariant_of-result : goal.invariant_of-result
-invariant_of-result c = record {
-  places = search rules;
-  small = (let s = level_squares c.args.level.now c.tell.ensures in search (rules, s));
-  base = omega arith;
-  within = λ q. omega (arith, c.in_ok-zeros.ensures.low q);
-  spare_places = search rules;
-  spare_base = omega arith;
-  spare_within = λ q. omega (arith, c.in_ok-zeros-2.ensures.low q);
-}
+invariant_of-result c =
+    let size = c.in_ok-zeros.ensures.size ∙ c.squares.ensures in
+    let words = c.step_masks-words.ensures.size ∙ sym (ap word_count size) in
+    record {
+      places = search rules;
+      small = (let s = level_squares c.args.level.now c.tell.ensures in search (rules, s));
+      base = omega arith;
+      within = λ q. omega (arith, c.in_ok-zeros.ensures.low q);
+      reached_words = c.in_ok-empty_set.ensures ∙ words;
+      spare_words = c.in_ok-empty_set-2.ensures ∙ words;
+      boxes_words = c.in_ok-empty_set-3.ensures ∙ words;
+    }

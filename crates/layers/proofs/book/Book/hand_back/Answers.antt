@@ -1,9 +1,9 @@
 use Rattle.std.proofs.Common.{◌≡◌, ◌+◌, ◌<◌, length, fold, get_or, slice_get, true, false, Some, inl, inr, ap, sym, subst, ◌∙◌, arith}
 use Rattle.std.specs.Prelude.{nat_lt}
 use Rattle.layers.specs.BookInside.{book_view}
-use Rattle.layers.specs.Books.{IsAtWork, is_wanted_in, entered, all_entered}
+use Rattle.layers.specs.Books.{IsAtWork, AreWanted, is_wanted_in, entered, all_entered}
 use Rattle.layers.specs.Reaching.{total}
-use Rattle.layers.proofs.Books.{handed, handed_view, over_lawful, taken_done, get_or_same}
+use Rattle.layers.proofs.Books.{begun-since, few_ranks, handed, handed_view, over_lawful, taken_done, get_or_same, waiting_wanted}
 use Rattle.layers.proofs.book.Book.hand_back.Goals.{then-self-via-then-self, then-self-via-else-self+then-passes_limit}
 use Rattle.layers.proofs.book.Book.hand_back.Goals as goal
 
@@ -20,6 +20,21 @@ invariant_of-self c =
       cuts = c.self.invariant.cuts;
       taken = c.self.invariant.taken;
     }
+
+pub enter_all-requires-clause-rank : goal.enter_all-requires-clause-rank
+enter_all-requires-clause-rank c =
+    let a = c.self.inside in
+    let found : IsAtWork c.args.self.now c.args.parcel.now × (slice_get c.args.self.now.done c.args.parcel.now.rank ≡ Some false) = c.in_default.ensures.none in
+    let lt : c.args.parcel.now.rank < length a.done.items = subst (λ v. c.args.parcel.now.rank < length v.done) (sym c.self.view_is) found.0.2 in
+    omega (arith, c.rank.ensures, few_ranks (book_view a) c.self.invariant.lawful c.args.parcel.now.rank lt)
+
+pub enter_all-requires-clause-wanted : goal.enter_all-requires-clause-wanted
+enter_all-requires-clause-wanted c =
+    let a = c.self.inside in
+    let found : IsAtWork c.args.self.now c.args.parcel.now × (slice_get c.args.self.now.done c.args.parcel.now.rank ≡ Some false) = c.in_default.ensures.none in
+    let lt : c.args.parcel.now.rank < length a.done.items = subst (λ v. c.args.parcel.now.rank < length v.done) (sym c.self.view_is) found.0.2 in
+    let begun = begun-since (book_view a) c.self.invariant.lawful c.args.parcel.now.rank lt in
+    subst (AreWanted (is_wanted_in a.seen.entries a.shares a.share)) (sym c.reserve.ensures.entries) (waiting_wanted a c.self.invariant.lawful c.self.invariant.cuts begun)
 
 pub invariant_of-self-2 : goal.invariant_of-self-2
 invariant_of-self-2 c =

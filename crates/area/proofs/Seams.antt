@@ -1,0 +1,16 @@
+-- What a vector holds whose items were lent and written.
+use Rattle.std.proofs.Common.{◌≡◌, ℕ, ◌<◌, ◌++◌, List, length, get_or, take, ap, ◌∙◌, arith}
+use Rattle.std.proofs.lemmas.List.{get_or_read}
+use Rattle.std.proofs.Math.Seq.{take-append_seam}
+
+-- all of its items are those that were written
+pub written : (new rest : List ℕ) (len : ℕ) → len ≡ length new → take len (new ++ rest) ≡ new
+written new rest len e = ap (λ (n : ℕ). take n (new ++ rest)) e ∙ take-append_seam new rest
+
+-- so is the item read at a place
+pub read_written : (new rest : List ℕ) (len place at item : ℕ) → len ≡ length new → place < len → item ≡ get_or (take len (new ++ rest)) place item → place ≡ at → item ≡ get_or new at 0
+read_written new rest len place at item e lt is same =
+    let w = written new rest len e in
+    let few = ap length w in
+    get_or_read (take len (new ++ rest)) place item (omega (arith, lt, few, e)) is 0
+    ∙ (ap (λ (xs : List ℕ). get_or xs place 0) w ∙ ap (λ (q : ℕ). get_or new q 0) same)

@@ -1,0 +1,186 @@
+-- Bits of words, and of sets of squares as words.
+use Rattle.std.proofs.Common.{◌≡◌, ℕ, zero, suc, ◌+◌, ◌-◌, ◌*◌, ◌/◌, ◌%◌, ◌^◌, ◌<◌, ◌≤◌, min, max, Bool, true, false, not, eqb, ◌&&◌, ◌||◌, List, length, get_or, inl, inr, refl, sym, ap, ◌∙◌, arith}
+use Rattle.std.specs.Int.{bit_at, bit_not, w64}
+use Rattle.std.specs.Int.RustNames.{bit_and, bit_or}
+use Rattle.std.proofs.lemmas.Bool.{cases_lt, eqb-true, true≢false}
+use Rattle.std.proofs.lemmas.List.{get_or_past}
+use Rattle.std.proofs.lemmas.Nat.{pow_pos, shr-shr, div-mul-add, mod-mul-add, shr_split}
+use Rattle.std.proofs.lemmas.Nat.Bits.{bit_at_and, bit_at_or, bit_at_not, bit_at-lt, shr_and_one, bit_at-zero, bit_at_above, bit_at_cat_low, bit_at_cat_high}
+use Rattle.grid.specs.Masks.{has_bit}
+use Rattle.area.specs.Words.{word_bit}
+
+-- ---- one word
+
+either : (a b : ℕ) → a < 2 → b < 2 → eqb (max a b) 1 ≡ (eqb a 1 || eqb b 1)
+either zero zero p q = refl
+either zero (suc zero) p q = refl
+either (suc zero) zero p q = refl
+either (suc zero) (suc zero) p q = refl
+either (suc (suc a)) b p q = absurd (omega arith)
+either a (suc (suc b)) p q = absurd (omega arith)
+
+both : (a b : ℕ) → a < 2 → b < 2 → eqb (min a b) 1 ≡ (eqb a 1 && eqb b 1)
+both zero zero p q = refl
+both zero (suc zero) p q = refl
+both (suc zero) zero p q = refl
+both (suc zero) (suc zero) p q = refl
+both (suc (suc a)) b p q = absurd (omega arith)
+both a (suc (suc b)) p q = absurd (omega arith)
+
+other : (a : ℕ) → a < 2 → eqb (1 - a) 1 ≡ not (eqb a 1)
+other zero p = refl
+other (suc zero) p = refl
+other (suc (suc a)) p = absurd (omega arith)
+
+pub word_bit-or : (a b j : ℕ) → word_bit (bit_or a b) j ≡ (word_bit a j || word_bit b j)
+unfolding word_bit
+word_bit-or a b j = ap (λ (x : ℕ). eqb x 1) (bit_at_or a b j) ∙ either (bit_at a j) (bit_at b j) (bit_at-lt a j) (bit_at-lt b j)
+
+pub word_bit-and : (a b j : ℕ) → word_bit (bit_and a b) j ≡ (word_bit a j && word_bit b j)
+unfolding word_bit
+word_bit-and a b j = ap (λ (x : ℕ). eqb x 1) (bit_at_and a b j) ∙ both (bit_at a j) (bit_at b j) (bit_at-lt a j) (bit_at-lt b j)
+
+pub word_bit-not : (a j : ℕ) → a < 2 ^ 64 → j < 64 → word_bit (bit_not w64 a) j ≡ not (word_bit a j)
+unfolding word_bit
+word_bit-not a j fits lt = ap (λ (x : ℕ). eqb x 1) (bit_at_not w64 a j fits lt) ∙ other (bit_at a j) (bit_at-lt a j)
+
+pub word_bit-zero : (j : ℕ) → word_bit 0 j ≡ false
+unfolding word_bit
+word_bit-zero j = ap (λ (x : ℕ). eqb x 1) (bit_at-zero j)
+
+-- the test whether a word has a bit
+pub word_bit_tested : (a j : ℕ) → eqb (bit_and (a / 2 ^ j) 1) 1 ≡ word_bit a j
+unfolding word_bit
+word_bit_tested a j = ap (λ (x : ℕ). eqb x 1) (shr_and_one a j)
+
+-- a word has no bit past its end
+pub word_bit_inside : (a j : ℕ) → a < 2 ^ 64 → word_bit a j ≡ true → j < 64
+unfolding word_bit
+word_bit_inside a j fits h = elim (cases_lt j 64) [
+  | inl lt ↦ lt
+  | inr le ↦ absurd (let e = eqb-true (bit_at a j) 1 h in let z = bit_at_above a 64 j fits le in omega (arith, e, z))
+]
+
+-- the bits of a remainder
+bit_at-mod : (a k j : ℕ) → j < k → bit_at (a % 2 ^ k) j ≡ bit_at a j
+bit_at-mod a k j lt =
+    sym (bit_at_cat_low (a / 2 ^ k) k (a % 2 ^ k) j lt) ∙ ap (λ (x : ℕ). bit_at x j) (shr_split a k)
+
+-- a word shifted up
+pub word_bit-shl : (a by i j : ℕ) → i + by ≡ j → j < 64 → word_bit (a * 2 ^ by % 2 ^ 64) j ≡ word_bit a i
+unfolding word_bit
+word_bit-shl a by i j e lt = ap (λ (x : ℕ). eqb x 1)
+    (bit_at-mod (a * 2 ^ by) 64 j lt
+    ∙ (ap (λ (x : ℕ). bit_at x j) (let z : a * 2 ^ by ≡ a * 2 ^ by + 0 = omega arith in z)
+    ∙ (bit_at_cat_high a by 0 j (pow_pos by) (omega arith)
+    ∙ ap (bit_at a) (let z : j - by ≡ i = omega arith in z))))
+
+pub word_bit-shl_low : (a by j : ℕ) → j < by → j < 64 → word_bit (a * 2 ^ by % 2 ^ 64) j ≡ false
+unfolding word_bit
+word_bit-shl_low a by j low lt = ap (λ (x : ℕ). eqb x 1)
+    (bit_at-mod (a * 2 ^ by) 64 j lt
+    ∙ (ap (λ (x : ℕ). bit_at x j) (let z : a * 2 ^ by ≡ a * 2 ^ by + 0 = omega arith in z)
+    ∙ (bit_at_cat_low a by 0 j low
+    ∙ bit_at-zero j)))
+
+-- a word shifted down
+pub word_bit-shr : (a by i j : ℕ) → j + by ≡ i → word_bit (a / 2 ^ by) j ≡ word_bit a i
+unfolding word_bit
+word_bit-shr a by i j e = ap (λ (x : ℕ). eqb x 1)
+    (ap (λ (x : ℕ). x % 2) (shr-shr a by j) ∙ ap (λ (n : ℕ). a / 2 ^ n % 2) (let z : by + j ≡ i = omega arith in z))
+
+-- ---- words
+
+-- the set has a square where its word has the square's bit
+pub has_bit-at : (words : List ℕ) (k j : ℕ) → j < 64 → has_bit words (64 * k + j) ≡ word_bit (get_or words k 0) j
+unfolding has_bit word_bit
+has_bit-at words k j lt =
+    let d : (64 * k + j) / 64 ≡ k = ap (λ (x : ℕ). (x + j) / 64) (let e : 64 * k ≡ k * 64 = omega arith in e) ∙ div-mul-add k 64 j lt in
+    let m : (64 * k + j) % 64 ≡ j = ap (λ (x : ℕ). (x + j) % 64) (let e : 64 * k ≡ k * 64 = omega arith in e) ∙ mod-mul-add k 64 j lt in
+    ap (λ (x : ℕ). eqb (bit_at (get_or words x 0) ((64 * k + j) % 64)) 1) d ∙ ap (λ (x : ℕ). eqb (bit_at (get_or words k 0) x) 1) m
+
+-- each square has a place and a bit
+pub square_parts : (q : ℕ) → (64 * (q / 64) + q % 64 ≡ q) × (q % 64 < 64)
+square_parts q = (omega arith, omega arith)
+
+pub has_bit-parts : (words : List ℕ) (q : ℕ) → has_bit words q ≡ word_bit (get_or words (q / 64) 0) (q % 64)
+unfolding has_bit word_bit
+has_bit-parts words q = refl
+
+-- past the words nothing is in the set
+pub has_bit_inside : (words : List ℕ) (q : ℕ) → has_bit words q ≡ true → q < 64 * length words
+has_bit_inside words q h = elim (cases_lt (q / 64) (length words)) [
+  | inl lt ↦ omega (arith, square_parts q)
+  | inr le ↦ absurd (true≢false (sym h ∙ (has_bit-parts words q ∙ (ap (λ (w : ℕ). word_bit w (q % 64)) (get_or_past words (q / 64) 0 le) ∙ word_bit-zero (q % 64)))))
+]
+
+-- ---- what a word shows of words before and after it
+
+or_right_none : (a b : Bool) → b ≡ false → (a || b) ≡ a
+or_right_none true b e = refl
+or_right_none false b e = e
+
+or_left_none : (a b : Bool) → a ≡ false → (a || b) ≡ b
+or_left_none a b e = ap (λ (x : Bool). x || b) e
+
+halved : (a n j : ℕ) → word_bit (a / 2 / 2 ^ n) j ≡ word_bit a (j + n + 1)
+halved a n j = word_bit-shr (a / 2) n (j + n) j refl ∙ word_bit-shr a 1 (j + n + 1) (j + n) refl
+
+past_end : (a j : ℕ) → a < 2 ^ 64 → 64 ≤ j → word_bit a j ≡ false
+unfolding word_bit
+past_end a j fits le = ap (λ (x : ℕ). eqb x 1) (bit_at_above a 64 j fits le)
+
+-- the bits of the word that lies `by` places before the one at a place
+pub bits_before : (words : List ℕ) (place far near by here low i j : ℕ) → by ≡ 64 * far + near → near < 64 → (far ≤ place → here ≡ get_or words (place - far) 0) → (far + 1 ≤ place → low ≡ get_or words (place - (far + 1)) 0) → low < 2 ^ 64 → j < 64 → i + by ≡ 64 * place + j → word_bit (bit_or (here * 2 ^ near % 2 ^ 64) (low / 2 / 2 ^ (63 - near))) j ≡ has_bit words i
+bits_before words place far near by here low i j parts small at_here at_low fits lt e =
+    word_bit-or (here * 2 ^ near % 2 ^ 64) (low / 2 / 2 ^ (63 - near)) j ∙ elim (cases_lt j near) [
+      | inl less ↦
+          (let k : ℕ = place - (far + 1) in
+          let m : ℕ = j + (63 - near) + 1 in
+          let at : 64 * k + m ≡ i = omega arith in
+          or_left_none (word_bit (here * 2 ^ near % 2 ^ 64) j) (word_bit (low / 2 / 2 ^ (63 - near)) j) (word_bit-shl_low here near j less lt)
+          ∙ (halved low (63 - near) j
+          ∙ (ap (λ (w : ℕ). word_bit w m) (at_low (omega arith))
+          ∙ (sym (has_bit-at words k m (omega arith))
+          ∙ ap (has_bit words) at))))
+      | inr ge ↦
+          (let k : ℕ = place - far in
+          let m : ℕ = j - near in
+          let at : 64 * k + m ≡ i = omega arith in
+          or_right_none (word_bit (here * 2 ^ near % 2 ^ 64) j) (word_bit (low / 2 / 2 ^ (63 - near)) j) (halved low (63 - near) j ∙ past_end low (j + (63 - near) + 1) fits (omega arith))
+          ∙ (word_bit-shl here near m j (omega arith) lt
+          ∙ (ap (λ (w : ℕ). word_bit w m) (at_here (omega arith))
+          ∙ (sym (has_bit-at words k m (omega arith))
+          ∙ ap (has_bit words) at))))
+    ]
+
+-- the bits of the word that lies `by` places after the one at a place
+pub bits_after : (words : List ℕ) (place far near by here high i j : ℕ) → by ≡ 64 * far + near → near < 64 → here ≡ get_or words (place + far) 0 → high ≡ get_or words (place + far + 1) 0 → here < 2 ^ 64 → j < 64 → i ≡ 64 * place + j + by → word_bit (bit_or (here / 2 ^ near) (high * 2 % 2 ^ 64 * 2 ^ (63 - near) % 2 ^ 64)) j ≡ has_bit words i
+bits_after words place far near by here high i j parts small at_here at_high fits lt e =
+    word_bit-or (here / 2 ^ near) (high * 2 % 2 ^ 64 * 2 ^ (63 - near) % 2 ^ 64) j ∙ elim (cases_lt (j + near) 64) [
+      | inl less ↦
+          (let k : ℕ = place + far in
+          let m : ℕ = j + near in
+          let at : 64 * k + m ≡ i = omega arith in
+          or_right_none (word_bit (here / 2 ^ near) j) (word_bit (high * 2 % 2 ^ 64 * 2 ^ (63 - near) % 2 ^ 64) j) (none_above j near less lt)
+          ∙ (word_bit-shr here near m j refl
+          ∙ (ap (λ (w : ℕ). word_bit w m) at_here
+          ∙ (sym (has_bit-at words k m less)
+          ∙ ap (has_bit words) at))))
+      | inr ge ↦
+          (let k : ℕ = place + far + 1 in
+          let m : ℕ = j + near - 64 in
+          let at : 64 * k + m ≡ i = omega arith in
+          or_left_none (word_bit (here / 2 ^ near) j) (word_bit (high * 2 % 2 ^ 64 * 2 ^ (63 - near) % 2 ^ 64) j) (word_bit-shr here near (j + near) j refl ∙ past_end here (j + near) fits ge)
+          ∙ (word_bit-shl (high * 2 % 2 ^ 64) (63 - near) (m + 1) j (omega arith) lt
+          ∙ (word_bit-shl high 1 m (m + 1) refl (omega arith)
+          ∙ (ap (λ (w : ℕ). word_bit w m) at_high
+          ∙ (sym (has_bit-at words k m (omega arith))
+          ∙ ap (has_bit words) at)))))
+    ]
+  where
+    none_above : (x n : ℕ) → x + n < 64 → x < 64 → word_bit (high * 2 % 2 ^ 64 * 2 ^ (63 - n) % 2 ^ 64) x ≡ false
+    none_above x n less inside = elim (cases_lt x (63 - n)) [
+      | inl low ↦ word_bit-shl_low (high * 2 % 2 ^ 64) (63 - n) x low inside
+      | inr le ↦ word_bit-shl (high * 2 % 2 ^ 64) (63 - n) 0 x (omega arith) inside ∙ word_bit-shl_low high 1 0 (omega arith) (omega arith)
+    ]

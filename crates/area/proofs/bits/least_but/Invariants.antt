@@ -1,0 +1,6 @@
+use Rattle.std.proofs.Common.{◌≡◌, ℕ, ◌*◌, ◌<◌, true}
+use Rattle.grid.specs.Masks.{has_bit}
+use Rattle.area.proofs.bits.least_but.Given as goal
+
+abbrev pub invariant-loop-place : goal.invariant-loop-place
+invariant-loop-place l = (q : ℕ) → q < 64 * l.place → has_bit l.words q ≡ true → q ≡ l.but

@@ -1,0 +1,9 @@
+use Rattle.std.proofs.Common.{◌-◌, ◌^◌}
+use Rattle.area.specs.Words.{PassesOn, IsGrown}
+use Rattle.area.proofs.floods.fill.Given as goal
+
+abbrev pub invariant-loop-word : goal.invariant-loop-word
+invariant-loop-word l = IsGrown l.fn.word l.word (λ test. PassesOn test l.cols l.right l.left l.down l.up)
+
+abbrev pub decreases-loop-word : goal.decreases-loop-word
+decreases-loop-word l = 2 ^ 64 - l.word

@@ -1,0 +1,9 @@
+use Rattle.std.proofs.Common.{length, drop, arith}
+use Rattle.area.proofs.Flooding.{listed_area}
+use Rattle.area.proofs.Seams.{written}
+use Rattle.area.proofs.floods.flood.Goals as goal
+
+pub returns-clause-reached : goal.returns-clause-reached
+returns-clause-reached c =
+    listed_area c.args.level.now c.args.position.now c.flood_words.new.reached _ c.flood_words.ensures
+    (written c.flood_words.new.reached (drop (length c.flood_words.new.reached) c.scratch.inside.reached.items) c.scratch.inside.reached.len (omega arith))
