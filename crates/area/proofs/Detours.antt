@@ -12,7 +12,7 @@ use Rattle.grid.proofs.Steps.{walk_player, walk_boxes, walk_to}
 use Rattle.grid.proofs.Squares.{contains-insert_here, contains-insert_other, contains-remove_other}
 use Rattle.grid.proofs.Plays.{play_walk_on}
 use Rattle.area.specs.Area.{Area, IsNorm, at}
-use Rattle.area.specs.After.{IsAreaOf, IsPushed, Skirts, IsKnown, GainsNothing, StaysJoined, IsLeastWith}
+use Rattle.area.specs.After.{IsAreaOf, IsPushed, across, Skirts, IsKnown, GainsNothing, StaysJoined, IsLeastWith}
 use Rattle.area.specs.After.Skirts.{here, onward}
 use Rattle.area.proofs.Norms.{area_here, area_same, norm_found}
 use Rattle.area.proofs.Reached.{walk_free}
@@ -121,32 +121,49 @@ module _ (board : Board) (s : Scene) (p : Push) (t : Scene) (scene : IsScene boa
               ],
             )
 
+    -- so nothing of the area is less than the least of what may be left of it
+    pub none_below : IsScene board t → GainsNothing board s.boxes reached c b → (q : ℕ) → IsLeastWith reached c b q → (r : ℕ) → Area board t r → q ≤ r
+    none_below scene_after known q least r w = elim (gained known r w) [
+      | inl f ↦ subst (λ (x : ℕ). q ≤ x) (sym f) least.most
+      | inr v ↦ least.least r ((area r).1 v) (not_ahead r (walk_free board t _ _ scene_after w.1))
+    ]
+
+    -- what was reached is reached after the push
+    pub still_reached : StaysJoined board reached c b → (x : ℕ) → contains reached x ≡ true → x ≢ c → Area board t x
+    still_reached joined x there ne = elim (kept joined x ((area x).0 there)) [
+      | inl w ↦ w
+      | inr f ↦ absurd (ne f)
+    ]
+
     -- so the least square of the area after the push is the least of those
     pub norm_after : IsScene board t → GainsNothing board s.boxes reached c b → StaysJoined board reached c b → (n : Scene) (q : ℕ) → n ≡ at t q → IsLeastWith reached c b q → IsNorm board t n
-    norm_after scene_after known joined n q e least = norm_found board t n q e inside below
+    norm_after scene_after known joined n q e least = norm_found board t n q e inside (none_below scene_after known q least)
       where
         of_one : (q ≡ b) ⊎ ((contains reached q ≡ true) × (q ≢ c)) → Area board t q
         of_one (inl f) = subst (λ (x : ℕ). Area board t x) (sym f) area_box
-        of_one (inr (there, ne)) = elim (kept joined q ((area q).0 there)) [
-          | inl w ↦ w
-          | inr f ↦ absurd (ne f)
-        ]
+        of_one (inr (there, ne)) = still_reached joined q there ne
 
         inside : Area board t q
         inside = of_one least.one
 
-        below : (r : ℕ) → Area board t r → q ≤ r
-        below r w = elim (gained known r w) [
-          | inl f ↦ subst (λ (x : ℕ). q ≤ x) (sym f) least.most
-          | inr v ↦ least.least r ((area r).1 v) (not_ahead r (walk_free board t _ _ scene_after w.1))
-        ]
-
--- two axes make all directions
-pub all_round : (P : Dir → Type 0) → P D × P (opposite D) → P R × P (opposite R) → (d : Dir) → P d
-all_round P along across D = along.0
-all_round P along across L = across.1
-all_round P along across R = across.0
-all_round P along across U = along.1
+-- a direction, the one back and the two across make all directions
+pub all_round : (P : Dir → Type 0) (d : Dir) → P d → P (opposite d) → P (across d) → P (opposite (across d)) → (e : Dir) → P e
+all_round P D ahead back side other D = ahead
+all_round P D ahead back side other L = other
+all_round P D ahead back side other R = side
+all_round P D ahead back side other U = back
+all_round P L ahead back side other D = side
+all_round P L ahead back side other L = ahead
+all_round P L ahead back side other R = back
+all_round P L ahead back side other U = other
+all_round P R ahead back side other D = side
+all_round P R ahead back side other L = back
+all_round P R ahead back side other R = ahead
+all_round P R ahead back side other U = other
+all_round P U ahead back side other D = back
+all_round P U ahead back side other L = other
+all_round P U ahead back side other R = side
+all_round P U ahead back side other U = ahead
 
 -- one step more round a square
 pub skirt_on : (board : Board) (set : Squares) (but from q r : ℕ) (d : Dir) → Skirts board set but from q → r ≡ next board q d → contains set r ≡ true → r ≢ but → Skirts board set but from r

@@ -5,7 +5,9 @@ pub mod Gathers
 pub mod Growing
 pub mod Nearness
 pub mod Norms
+pub mod Pushing
 pub mod Reached
+pub mod Rings
 pub mod Seams
 pub mod Spreading
 pub mod UnderWay

@@ -130,57 +130,86 @@ past_end : (a j : ℕ) → a < 2 ^ 64 → 64 ≤ j → word_bit a j ≡ false
 unfolding word_bit
 past_end a j fits le = ap (λ (x : ℕ). eqb x 1) (bit_at_above a 64 j fits le)
 
--- the bits of the word that lies `by` places before the one at a place
-pub bits_before : (words : List ℕ) (place far near by here low i j : ℕ) → by ≡ 64 * far + near → near < 64 → (far ≤ place → here ≡ get_or words (place - far) 0) → (far + 1 ≤ place → low ≡ get_or words (place - (far + 1)) 0) → low < 2 ^ 64 → j < 64 → i + by ≡ 64 * place + j → word_bit (bit_or (here * 2 ^ near % 2 ^ 64) (low / 2 / 2 ^ (63 - near))) j ≡ has_bit words i
-bits_before words place far near by here low i j parts small at_here at_low fits lt e =
-    word_bit-or (here * 2 ^ near % 2 ^ 64) (low / 2 / 2 ^ (63 - near)) j ∙ elim (cases_lt j near) [
-      | inl less ↦
-          (let k : ℕ = place - (far + 1) in
-          let m : ℕ = j + (63 - near) + 1 in
-          let at : 64 * k + m ≡ i = omega arith in
-          or_left_none (word_bit (here * 2 ^ near % 2 ^ 64) j) (word_bit (low / 2 / 2 ^ (63 - near)) j) (word_bit-shl_low here near j less lt)
-          ∙ (halved low (63 - near) j
-          ∙ (ap (λ (w : ℕ). word_bit w m) (at_low (omega arith))
-          ∙ (sym (has_bit-at words k m (omega arith))
-          ∙ ap (has_bit words) at))))
-      | inr ge ↦
-          (let k : ℕ = place - far in
-          let m : ℕ = j - near in
-          let at : 64 * k + m ≡ i = omega arith in
-          or_right_none (word_bit (here * 2 ^ near % 2 ^ 64) j) (word_bit (low / 2 / 2 ^ (63 - near)) j) (halved low (63 - near) j ∙ past_end low (j + (63 - near) + 1) fits (omega arith))
-          ∙ (word_bit-shl here near m j (omega arith) lt
-          ∙ (ap (λ (w : ℕ). word_bit w m) (at_here (omega arith))
-          ∙ (sym (has_bit-at words k m (omega arith))
-          ∙ ap (has_bit words) at))))
+-- the bits of two words in a row, slid up
+pub up_here : (here low near i j : ℕ) → low < 2 ^ 64 → j < 64 → i + near ≡ j → word_bit (bit_or (here * 2 ^ near % 2 ^ 64) (low / 2 / 2 ^ (63 - near))) j ≡ word_bit here i
+up_here here low near i j fits lt e =
+    word_bit-or (here * 2 ^ near % 2 ^ 64) (low / 2 / 2 ^ (63 - near)) j
+    ∙ (or_right_none (word_bit (here * 2 ^ near % 2 ^ 64) j) (word_bit (low / 2 / 2 ^ (63 - near)) j) (halved low (63 - near) j ∙ past_end low (j + (63 - near) + 1) fits (omega arith))
+    ∙ word_bit-shl here near i j e lt)
+
+pub up_low : (here low near i j : ℕ) → near < 64 → i < 64 → i + near ≡ j + 64 → word_bit (bit_or (here * 2 ^ near % 2 ^ 64) (low / 2 / 2 ^ (63 - near))) j ≡ word_bit low i
+up_low here low near i j small lt e =
+    let same : j + (63 - near) + 1 ≡ i = omega arith in
+    word_bit-or (here * 2 ^ near % 2 ^ 64) (low / 2 / 2 ^ (63 - near)) j
+    ∙ (or_left_none (word_bit (here * 2 ^ near % 2 ^ 64) j) (word_bit (low / 2 / 2 ^ (63 - near)) j) (word_bit-shl_low here near j (omega arith) (omega arith))
+    ∙ (halved low (63 - near) j
+    ∙ ap (word_bit low) same))
+
+-- and slid down
+pub down_here : (here high near i j : ℕ) → near < 64 → i < 64 → i ≡ j + near → word_bit (bit_or (here / 2 ^ near) (high * 2 % 2 ^ 64 * 2 ^ (63 - near) % 2 ^ 64)) j ≡ word_bit here i
+down_here here high near i j small lt e =
+    word_bit-or (here / 2 ^ near) (high * 2 % 2 ^ 64 * 2 ^ (63 - near) % 2 ^ 64) j
+    ∙ (or_right_none (word_bit (here / 2 ^ near) j) (word_bit (high * 2 % 2 ^ 64 * 2 ^ (63 - near) % 2 ^ 64) j) none_above
+    ∙ word_bit-shr here near i j (sym e))
+  where
+    none_above : word_bit (high * 2 % 2 ^ 64 * 2 ^ (63 - near) % 2 ^ 64) j ≡ false
+    none_above = elim (cases_lt j (63 - near)) [
+      | inl low ↦ word_bit-shl_low (high * 2 % 2 ^ 64) (63 - near) j low (omega arith)
+      | inr le ↦ word_bit-shl (high * 2 % 2 ^ 64) (63 - near) 0 j (omega arith) (omega arith) ∙ word_bit-shl_low high 1 0 (omega arith) (omega arith)
     ]
 
--- the bits of the word that lies `by` places after the one at a place
-pub bits_after : (words : List ℕ) (place far near by here high i j : ℕ) → by ≡ 64 * far + near → near < 64 → here ≡ get_or words (place + far) 0 → high ≡ get_or words (place + far + 1) 0 → here < 2 ^ 64 → j < 64 → i ≡ 64 * place + j + by → word_bit (bit_or (here / 2 ^ near) (high * 2 % 2 ^ 64 * 2 ^ (63 - near) % 2 ^ 64)) j ≡ has_bit words i
-bits_after words place far near by here high i j parts small at_here at_high fits lt e =
-    word_bit-or (here / 2 ^ near) (high * 2 % 2 ^ 64 * 2 ^ (63 - near) % 2 ^ 64) j ∙ elim (cases_lt (j + near) 64) [
-      | inl less ↦
-          (let k : ℕ = place + far in
-          let m : ℕ = j + near in
-          let at : 64 * k + m ≡ i = omega arith in
-          or_right_none (word_bit (here / 2 ^ near) j) (word_bit (high * 2 % 2 ^ 64 * 2 ^ (63 - near) % 2 ^ 64) j) (none_above j near less lt)
-          ∙ (word_bit-shr here near m j refl
-          ∙ (ap (λ (w : ℕ). word_bit w m) at_here
-          ∙ (sym (has_bit-at words k m less)
-          ∙ ap (has_bit words) at))))
-      | inr ge ↦
-          (let k : ℕ = place + far + 1 in
-          let m : ℕ = j + near - 64 in
-          let at : 64 * k + m ≡ i = omega arith in
-          or_left_none (word_bit (here / 2 ^ near) j) (word_bit (high * 2 % 2 ^ 64 * 2 ^ (63 - near) % 2 ^ 64) j) (word_bit-shr here near (j + near) j refl ∙ past_end here (j + near) fits ge)
-          ∙ (word_bit-shl (high * 2 % 2 ^ 64) (63 - near) (m + 1) j (omega arith) lt
-          ∙ (word_bit-shl high 1 m (m + 1) refl (omega arith)
-          ∙ (ap (λ (w : ℕ). word_bit w m) at_high
-          ∙ (sym (has_bit-at words k m (omega arith))
-          ∙ ap (has_bit words) at)))))
-    ]
-  where
-    none_above : (x n : ℕ) → x + n < 64 → x < 64 → word_bit (high * 2 % 2 ^ 64 * 2 ^ (63 - n) % 2 ^ 64) x ≡ false
-    none_above x n less inside = elim (cases_lt x (63 - n)) [
-      | inl low ↦ word_bit-shl_low (high * 2 % 2 ^ 64) (63 - n) x low inside
-      | inr le ↦ word_bit-shl (high * 2 % 2 ^ 64) (63 - n) 0 x (omega arith) inside ∙ word_bit-shl_low high 1 0 (omega arith) (omega arith)
-    ]
+pub down_high : (here high near i j : ℕ) → near < 64 → here < 2 ^ 64 → j < 64 → i + 64 ≡ j + near → word_bit (bit_or (here / 2 ^ near) (high * 2 % 2 ^ 64 * 2 ^ (63 - near) % 2 ^ 64)) j ≡ word_bit high i
+down_high here high near i j small fits lt e =
+    word_bit-or (here / 2 ^ near) (high * 2 % 2 ^ 64 * 2 ^ (63 - near) % 2 ^ 64) j
+    ∙ (or_left_none (word_bit (here / 2 ^ near) j) (word_bit (high * 2 % 2 ^ 64 * 2 ^ (63 - near) % 2 ^ 64) j) (word_bit-shr here near (j + near) j refl ∙ past_end here (j + near) fits (omega arith))
+    ∙ (word_bit-shl (high * 2 % 2 ^ 64) (63 - near) (i + 1) j (omega arith) lt
+    ∙ word_bit-shl high 1 i (i + 1) refl (omega arith)))
+
+-- where each of two words in a row has the bits of the squares that pass a test, so has the word that is slid from them
+module _ (test : ℕ → Bool) (place far near by out here aside : ℕ) (parts : by ≡ 64 * far + near) (small : near < 64) where
+  -- of the squares `by` numbers before
+  pub seen_before : ((m : ℕ) → m < 64 → far ≤ place → word_bit here m ≡ test (64 * (place - far) + m))
+      → ((m : ℕ) → m < 64 → far + 1 ≤ place → word_bit aside m ≡ test (64 * (place - (far + 1)) + m))
+      → ((i j : ℕ) → j < 64 → i + near ≡ j → word_bit out j ≡ word_bit here i)
+      → ((i j : ℕ) → i < 64 → i + near ≡ j + 64 → word_bit out j ≡ word_bit aside i)
+      → (i j : ℕ) → j < 64 → i + by ≡ 64 * place + j → word_bit out j ≡ test i
+  seen_before at_here at_aside from_here from_aside i j lt e = elim (cases_lt j near) [
+    | inl less ↦
+        (let m : ℕ = j + 64 - near in
+        let at : 64 * (place - (far + 1)) + m ≡ i = omega arith in
+        from_aside m j (omega arith) (omega arith) ∙ (at_aside m (omega arith) (omega arith) ∙ ap test at))
+    | inr ge ↦
+        (let m : ℕ = j - near in
+        let at : 64 * (place - far) + m ≡ i = omega arith in
+        from_here m j lt (omega arith) ∙ (at_here m (omega arith) (omega arith) ∙ ap test at))
+  ]
+
+  -- and of none where the numbers do not go so far down
+  pub none_before : (place < far → here ≡ 0) → (place < far + 1 → aside ≡ 0)
+      → ((i j : ℕ) → j < 64 → i + near ≡ j → word_bit out j ≡ word_bit here i)
+      → ((i j : ℕ) → i < 64 → i + near ≡ j + 64 → word_bit out j ≡ word_bit aside i)
+      → (j : ℕ) → j < 64 → 64 * place + j < by → word_bit out j ≡ false
+  none_before no_here no_aside from_here from_aside j lt low = elim (cases_lt j near) [
+    | inl less ↦
+        (let m : ℕ = j + 64 - near in
+        from_aside m j (omega arith) (omega arith) ∙ (ap (λ (w : ℕ). word_bit w m) (no_aside (omega arith)) ∙ word_bit-zero m))
+    | inr ge ↦
+        (let m : ℕ = j - near in
+        from_here m j lt (omega arith) ∙ (ap (λ (w : ℕ). word_bit w m) (no_here (omega arith)) ∙ word_bit-zero m))
+  ]
+
+  -- of the squares `by` numbers after
+  pub seen_after : ((m : ℕ) → m < 64 → word_bit here m ≡ test (64 * (place + far) + m))
+      → ((m : ℕ) → m < 64 → word_bit aside m ≡ test (64 * (place + far + 1) + m))
+      → ((i j : ℕ) → i < 64 → i ≡ j + near → word_bit out j ≡ word_bit here i)
+      → ((i j : ℕ) → j < 64 → i + 64 ≡ j + near → word_bit out j ≡ word_bit aside i)
+      → (i j : ℕ) → j < 64 → i ≡ 64 * place + j + by → word_bit out j ≡ test i
+  seen_after at_here at_aside from_here from_aside i j lt e = elim (cases_lt (j + near) 64) [
+    | inl less ↦
+        (let at : 64 * (place + far) + (j + near) ≡ i = omega arith in
+        from_here (j + near) j less refl ∙ (at_here (j + near) less ∙ ap test at))
+    | inr ge ↦
+        (let m : ℕ = j + near - 64 in
+        let at : 64 * (place + far + 1) + m ≡ i = omega arith in
+        from_aside m j lt (omega arith) ∙ (at_aside m (omega arith) ∙ ap test at))
+  ]

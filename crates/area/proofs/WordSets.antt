@@ -6,7 +6,8 @@ use Rattle.std.proofs.lemmas.Bool.{cases_lt, cases_eq, cases_order, and_parts, n
 use Rattle.std.proofs.lemmas.List.{get_or-set_same, get_or-set_other, get_or-replicate, get_or_past, length-replicate}
 use Rattle.std.proofs.lemmas.Nat.Bits.{bit_at_set_same, bit_at_set_other, bit_at_clear_same, bit_at_clear_other, bit_at-trailing_zeros}
 use Rattle.grid.specs.Masks.{has_bit}
-use Rattle.grid.specs.Squares.{Squares, contains}
+use Rattle.grid.specs.Squares.{Squares, contains, is_rising, rises_from}
+use Rattle.grid.proofs.Squares.{rises_from-cons, rises_from-weaker}
 use Rattle.area.specs.After.{IsLeastWith}
 use Rattle.area.specs.Words.{word_bit, passing_from, squares_of}
 use Rattle.area.proofs.WordBits.{has_bit-at, has_bit-parts, has_bit_inside, square_parts, word_bit-zero}
@@ -36,7 +37,7 @@ set_bit w k j lt = elim (cases_eq j k) [
   | inr ne ↦ ap (λ (x : ℕ). eqb x 1) (bit_at_set_other w64 w k lt j ne) ∙ sym (ap (λ (b : Bool). eqb (bit_at w j) 1 || b) (ne_eqb k j (λ e. ne (sym e))) ∙ or_false (eqb (bit_at w j) 1))
 ]
 
-cleared_bit : (w k j : ℕ) → k < 64 → j < 64 → word_bit (bit_and w (bit_not w64 (1 * 2 ^ k % 2 ^ 64))) j ≡ (word_bit w j && not (eqb k j))
+pub cleared_bit : (w k j : ℕ) → k < 64 → j < 64 → word_bit (bit_and w (bit_not w64 (1 * 2 ^ k % 2 ^ 64))) j ≡ (word_bit w j && not (eqb k j))
 unfolding word_bit
 cleared_bit w k j lt in_word = elim (cases_eq j k) [
   | inl e ↦ ap (λ (x : ℕ). eqb x 1) (ap (bit_at (bit_and w (bit_not w64 (1 * 2 ^ k % 2 ^ 64)))) e ∙ bit_at_clear_same w64 w k lt) ∙ sym (ap (λ (b : Bool). eqb (bit_at w j) 1 && not b) (eq-eqb k j (sym e)) ∙ and_false (eqb (bit_at w j) 1))
@@ -69,6 +70,29 @@ bit_put words read square q at inside = elim (cases_eq (q / 64) (read / 64)) [
   where
     new : List ℕ
     new = set words (read / 64) (bit_or (get_or words (read / 64) 0) (1 * 2 ^ (read % 64) % 2 ^ 64))
+
+-- the set with one square less
+pub bit_take : (words : List ℕ) (read square q : ℕ) → read ≡ square → read / 64 < length words → has_bit (set words (read / 64) (bit_and (get_or words (read / 64) 0) (bit_not w64 (1 * 2 ^ (read % 64) % 2 ^ 64)))) q ≡ (has_bit words q && not (eqb square q))
+bit_take words read square q at inside = elim (cases_eq (q / 64) (read / 64)) [
+  | inl e ↦
+      has_bit-parts new q
+      ∙ (ap (λ (k : ℕ). word_bit (get_or new k 0) (q % 64)) e
+      ∙ (ap (λ (w : ℕ). word_bit w (q % 64)) (get_or-set_same words (read / 64) left 0 inside)
+      ∙ (cleared_bit (get_or words (read / 64) 0) (read % 64) (q % 64) (square_parts read).1 (square_parts q).1
+      ∙ (ap (λ (b : Bool). b && not (eqb (read % 64) (q % 64))) (sym (has_bit-parts words q ∙ ap (λ (k : ℕ). word_bit (get_or words k 0) (q % 64)) e))
+      ∙ ap (λ (b : Bool). has_bit words q && not b) (same_test (read % 64) (q % 64) square q (λ f. omega arith) (λ f. omega arith))))))
+  | inr ne ↦
+      has_bit-parts new q
+      ∙ (ap (λ (w : ℕ). word_bit w (q % 64)) (get_or-set_other words (read / 64) (q / 64) left 0 ne)
+      ∙ (sym (has_bit-parts words q)
+      ∙ sym (ap (λ (b : Bool). has_bit words q && not b) (ne_eqb square q (λ f. ne (ap (λ (x : ℕ). x / 64) (sym f ∙ sym at)))) ∙ and_true (has_bit words q))))
+]
+  where
+    left : ℕ
+    left = bit_and (get_or words (read / 64) 0) (bit_not w64 (1 * 2 ^ (read % 64) % 2 ^ 64))
+
+    new : List ℕ
+    new = set words (read / 64) left
 
 -- the set without squares
 pub none_set : (words : List ℕ) (n q : ℕ) → words ≡ replicate n 0 → has_bit words q ≡ false
@@ -167,6 +191,19 @@ contains-squares_of words q = elim (cases_lt q (64 * length words)) [
     past : 64 * length words ≤ q → (has_bit words q ≡ true) ⊎ (has_bit words q ≡ false) → has_bit words q ≡ false
     past ge (inl h) = absurd (let lt = has_bit_inside words q h in omega arith)
     past ge (inr h) = h
+
+-- the numbers in the list rise
+passing_rise : (test : ℕ → Bool) (k n : ℕ) → rises_from k (passing_from test k n) ≡ true
+passing_rise test k zero = refl
+passing_rise test k (suc n) = with_first (test k) (passing_rise test (suc k) n)
+  where
+    with_first : (b : Bool) → rises_from (suc k) (passing_from test (suc k) n) ≡ true → rises_from k (cond b (k ∷ passing_from test (suc k) n) (passing_from test (suc k) n)) ≡ true
+    with_first true h = rises_from-cons k k (passing_from test (suc k) n) (omega arith) h
+    with_first false h = rises_from-weaker k (suc k) (passing_from test (suc k) n) (omega arith) h
+
+pub squares_of_rise : (words : List ℕ) → is_rising (squares_of words) ≡ true
+unfolding squares_of
+squares_of_rise words = passing_rise (has_bit words) 0 (64 * length words)
 
 -- the same where the words and the list have names
 pub listed : (words seen : List ℕ) (squares : Squares) (q : ℕ) → squares_of words ≡ squares → seen ≡ words → contains squares q ≡ has_bit seen q

@@ -1,5 +1,5 @@
 -- How a flood goes by words of bits: a set of squares as words, and what a visit to one of them may add.
-use Rattle.std.specs.Prelude.{◌≡◌, ◌≢◌, ℕ, zero, suc, ◌+◌, ◌-◌, ◌*◌, ◌^◌, ◌<◌, ◌≤◌, Bool, true, false, cond, ◌==◌, ◌&&◌, ◌||◌, List, [], ◌∷◌, length, slice_index, sum_by}
+use Rattle.std.specs.Prelude.{◌≡◌, ◌≢◌, ℕ, zero, suc, ◌+◌, ◌-◌, ◌*◌, ◌^◌, ◌<◌, ◌≤◌, Bool, true, false, cond, ◌==◌, ◌&&◌, ◌||◌, List, [], ◌∷◌, length, slice_index, sum_by, Option, None, Some}
 use Rattle.std.specs.Int.{bit_at}
 use Rattle.grid.specs.declared.dir.Dir.{Dir}
 use Rattle.grid.specs.declared.dir.Dir.TheVariants.{D, L, R, U}
@@ -46,6 +46,11 @@ IsKept board boxes test =
 -- how much the words could still grow
 abbrev pub room_left : List ℕ → ℕ
 room_left words = sum_by (λ w. 2 ^ WORD_BITS - w) words
+
+-- a square is given as an aim, and the words have it
+abbrev pub HasAim : Option ℕ → List ℕ → Type 0
+HasAim None words = ⊥
+HasAim (Some q) words = has_bit words q ≡ true
 
 -- what is added to a set came by steps round the boxes, and no square is lost
 pub record IsGrowing (board : Board) (boxes old new : List ℕ) : Type 0 where

@@ -1,47 +1,51 @@
-ghost use Rattle.std.specs.Prelude.{◌≡◌, ℕ, ◌<◌, true, IsTrue, length};
+ghost use Rattle.std.specs.Prelude.{◌≡◌, ◌≢◌, ℕ, ◌<◌, ◌≤◌, true, false, IsTrue, ◌⊎◌, length};
 ghost use Rattle.grid.specs.Lawful.{FitsLevel};
 ghost use Rattle.grid.specs.Squares.{contains};
-ghost use Rattle.grid.specs.Board.{opposite};
-ghost use Rattle.area.specs.Area.{IsNorm, at};
-ghost use Rattle.area.specs.After.{IsAreaOf, IsPushed, Skirts, IsKnown, GainsNothing, IsJoined, StaysJoined};
+ghost use Rattle.grid.specs.Board.{next, opposite};
+ghost use Rattle.area.specs.Area.{Area, IsNorm, at};
+ghost use Rattle.area.specs.After.{IsAreaOf, IsPushed, across, Skirts, IsKnown, GainsNothing, StaysJoined, GoesPast, GoesRound};
 
 use crate::bits::least_of;
-use crate::floods::flood_words;
+use crate::floods::{flood_on, flood_to, flood_words};
 use crate::scratch::Scratch;
 use grid::{Dir, Level, Position, Push, Square};
 
-/// The normal position after a push, where the last flood was that of the position before it, and stays so.
+/// Makes the position after a push normal, where the last flood was that of the position before it, and stays so.
 ///
 /// What the player reaches mostly follows from that flood and the squares round the box. Only where it doesn't is there
 /// another flood.
-pub fn normal_after(
+pub fn normalise_after(
     level: &Level,
     before: &Position,
     push: Push,
-    after: Position,
+    after: &mut Position,
     scratch: &mut Scratch,
-) -> Position
+)
     requires fits_before { FitsLevel level.now before.now }
-    requires fits { FitsLevel level.now after }
-    requires pushed { IsPushed level.now before.now push after }
+    requires fits { FitsLevel level.now after.old }
+    requires pushed { IsPushed level.now before.now push after.old }
     requires room { scratch.old.size ≡ length level.now.cells }
     requires flooded { IsAreaOf level.now before.now scratch.old.reached }
-    ensures norm { IsNorm level.now after result }
-    ensures fits { FitsLevel level.now result }
+    ensures norm { IsNorm level.now after.old after.new }
+    ensures fits { FitsLevel level.now after.new }
     ensures kept { scratch.new ≡ scratch.old }
 {
     let Push { square, dir } = push;
     let ahead = level.next(square, dir);
-    let player = if gains_nothing(level, before, square, ahead, scratch)
-        && stays_joined(level, square, dir, ahead, scratch)
-    {
-        scratch.least_with(ahead, square)
+    let joined = stays_joined(level, square, dir, ahead, scratch);
+    let player = if gains_nothing(level, before, square, dir, scratch) {
+        let least = scratch.least_with(ahead, square);
+        if joined {
+            least
+        } else {
+            least_left(level, after, least, scratch)
+        }
+    } else if joined {
+        least_grown(level, after, ahead, scratch)
     } else {
-        least_aside(level, &after, scratch)
+        least_aside(level, after, scratch)
     };
-    let mut normal = after;
-    normal.set_player(player);
-    normal
+    after.set_player(player);
 }
 
 // The least square that the player reaches, by a flood that leaves what the last one reached.
@@ -51,55 +55,90 @@ fn least_aside(level: &Level, position: &Position, scratch: &mut Scratch) -> Squ
     ensures norm { IsNorm level.now position.now (at position.now result) }
     ensures kept { scratch.new ≡ scratch.old }
 {
-    flood_words(level, position, &mut scratch.spare, &mut scratch.boxes);
+    flood_words(
+        level,
+        position,
+        &mut scratch.spare,
+        &mut scratch.spare_boxes,
+    );
     least_of(&scratch.spare)
 }
 
-// Whether nothing free is beside a box's square but what the last flood reached, and the square ahead.
+// The same where it is known that the player reaches no square less than a given one: the flood may end there.
+fn least_left(level: &Level, position: &Position, least: Square, scratch: &mut Scratch) -> Square
+    requires fits { FitsLevel level.now position.now }
+    requires room { scratch.old.size ≡ length level.now.cells }
+    requires least { (q : ℕ) → Area level.now position.now q → least ≤ q }
+    ensures norm { IsNorm level.now position.now (at position.now result) }
+    ensures kept { scratch.new ≡ scratch.old }
+{
+    flood_to(
+        level,
+        position,
+        &Some(least),
+        &mut scratch.spare,
+        &mut scratch.spare_boxes,
+    );
+    least_of(&scratch.spare)
+}
+
+// The same where what the last flood reached, but for the square ahead, is reached still: the flood begins with that.
+fn least_grown(level: &Level, position: &Position, ahead: Square, scratch: &mut Scratch) -> Square
+    requires fits { FitsLevel level.now position.now }
+    requires room { scratch.old.size ≡ length level.now.cells }
+    requires inside { ahead < length level.now.cells }
+    requires known { (q : ℕ) → contains scratch.old.reached q ≡ true → q ≢ ahead → Area level.now position.now q }
+    ensures norm { IsNorm level.now position.now (at position.now result) }
+    ensures kept { scratch.new ≡ scratch.old }
+{
+    flood_on(
+        level,
+        position,
+        &scratch.reached,
+        ahead,
+        &mut scratch.spare,
+        &mut scratch.spare_boxes,
+    );
+    least_of(&scratch.spare)
+}
+
+// Whether nothing free is beside a box's square but what the last flood reached, and the square ahead. The player
+// walks behind the box, so what is left to look at is on its two sides.
 fn gains_nothing(
     level: &Level,
     position: &Position,
     square: Square,
-    ahead: Square,
+    push_dir: Dir,
     scratch: &Scratch,
 ) -> bool
     requires inside { square < length level.now.cells }
-    ensures { IsTrue result → GainsNothing level.now position.now.boxes scratch.now.reached ahead square }
+    requires behind { contains scratch.now.reached (next level.now square (opposite push_dir)) ≡ true }
+    ensures { IsTrue result → GainsNothing level.now position.now.boxes scratch.now.reached (next level.now square push_dir) square }
 {
-    are_known(level, position, square, Dir::D, ahead, scratch)
-        && are_known(level, position, square, Dir::R, ahead, scratch)
+    let side = across(push_dir);
+    is_known(level, position, square, side, scratch)
+        && is_known(level, position, square, side.opposite(), scratch)
 }
 
-// The same of the two squares beside it on one axis.
-fn are_known(
-    level: &Level,
-    position: &Position,
-    square: Square,
-    dir: Dir,
-    ahead: Square,
-    scratch: &Scratch,
-) -> bool
-    requires inside { square < length level.now.cells }
-    ensures { IsTrue result → IsKnown level.now position.now.boxes scratch.now.reached ahead square dir × IsKnown level.now position.now.boxes scratch.now.reached ahead square (opposite dir) }
+// A direction at right angles to another.
+#[inline(always)]
+fn across(dir: Dir) -> Dir
+    ensures { result ≡ across dir }
 {
-    is_known(level, position, square, dir, ahead, scratch)
-        && is_known(level, position, square, dir.opposite(), ahead, scratch)
+    match dir {
+        Dir::D | Dir::U => Dir::R,
+        Dir::L | Dir::R => Dir::D,
+    }
 }
 
-// Whether the square beside a square in a direction is one that the last flood reached, or the square ahead, or not free.
-fn is_known(
-    level: &Level,
-    position: &Position,
-    square: Square,
-    dir: Dir,
-    ahead: Square,
-    scratch: &Scratch,
-) -> bool
+// Whether the square beside a square in a direction is one that the last flood reached, or not free.
+#[inline(always)]
+fn is_known(level: &Level, position: &Position, square: Square, dir: Dir, scratch: &Scratch) -> bool
     requires inside { square < length level.now.cells }
-    ensures { IsTrue result → IsKnown level.now position.now.boxes scratch.now.reached ahead square dir }
+    ensures { IsTrue result → (but : ℕ) → IsKnown level.now position.now.boxes scratch.now.reached but square dir }
 {
     let beside = level.next(square, dir);
-    beside == ahead || scratch.reaches(beside) || level.is_wall(beside) || position.contains(beside)
+    scratch.reaches(beside) || level.is_wall(beside) || position.contains(beside)
 }
 
 // Whether what the last flood reached beside the square ahead stays joined, by steps round that square.
@@ -111,92 +150,119 @@ fn stays_joined(
     scratch: &Scratch,
 ) -> bool
     requires inside { square < length level.now.cells }
+    requires ahead { ahead ≡ next level.now square push_dir }
     requires reached { (q : ℕ) → contains scratch.now.reached q ≡ true → q < length level.now.cells }
     ensures { IsTrue result → StaysJoined level.now scratch.now.reached ahead square }
 {
     if !scratch.reaches(ahead) {
         return true;
     }
-    are_joined(level, square, push_dir, ahead, Dir::D, scratch)
-        && are_joined(level, square, push_dir, ahead, Dir::R, scratch)
+    match push_dir {
+        Dir::D => joins_round(level, square, Dir::D, ahead, scratch),
+        Dir::L => joins_round(level, square, Dir::L, ahead, scratch),
+        Dir::R => joins_round(level, square, Dir::R, ahead, scratch),
+        Dir::U => joins_round(level, square, Dir::U, ahead, scratch),
+    }
 }
 
-// The same of the two squares beside it on one axis.
-fn are_joined(
+// The same where the last flood reached the square ahead. It is made once for each direction, so that no step has to
+// choose among the neighbours of a square.
+#[inline(always)]
+fn joins_round(
     level: &Level,
     square: Square,
     push_dir: Dir,
     ahead: Square,
-    dir: Dir,
+    scratch: &Scratch,
+) -> bool
+    requires inside { square < length level.now.cells }
+    requires ahead { ahead ≡ next level.now square push_dir }
+    requires within { ahead < length level.now.cells }
+    requires reached { (q : ℕ) → contains scratch.now.reached q ≡ true → q < length level.now.cells }
+    ensures { IsTrue result → StaysJoined level.now scratch.now.reached ahead square }
+{
+    level.tell();
+    let side = across(push_dir);
+    let back = side.opposite();
+    if !is_joined(level, square, ahead, side, scratch) {
+        return goes_round(level, square, push_dir, ahead, back, scratch);
+    }
+    if !is_joined(level, square, ahead, back, scratch) {
+        return goes_round(level, square, push_dir, ahead, side, scratch);
+    }
+    is_beyond_joined(level, square, push_dir, ahead, side, scratch)
+}
+
+// Whether the square on one side of the one ahead, where the last flood reached it, is come to by way of the square on
+// that side of the box's.
+#[inline(always)]
+fn is_joined(level: &Level, square: Square, ahead: Square, side: Dir, scratch: &Scratch) -> bool
+    requires inside { square < length level.now.cells }
+    requires ahead { ahead < length level.now.cells }
+    ensures { IsTrue result → (contains scratch.now.reached (next level.now square side) ≡ true) ⊎ (contains scratch.now.reached (next level.now ahead side) ≡ false) }
+{
+    scratch.reaches(level.next(square, side)) || !scratch.reaches(level.next(ahead, side))
+}
+
+// Whether the square beyond the one ahead, where the last flood reached it, is come to past that one on one of its
+// sides.
+#[inline(always)]
+fn is_beyond_joined(
+    level: &Level,
+    square: Square,
+    push_dir: Dir,
+    ahead: Square,
+    side: Dir,
     scratch: &Scratch,
 ) -> bool
     requires inside { square < length level.now.cells }
     requires ahead { ahead < length level.now.cells }
     requires reached { (q : ℕ) → contains scratch.now.reached q ≡ true → q < length level.now.cells }
-    ensures { IsTrue result → IsJoined level.now scratch.now.reached ahead square dir × IsJoined level.now scratch.now.reached ahead square (opposite dir) }
+    ensures { IsTrue result → (contains scratch.now.reached (next level.now ahead push_dir) ≡ false) ⊎ (GoesPast level.now scratch.now.reached square ahead push_dir side ⊎ GoesPast level.now scratch.now.reached square ahead push_dir (opposite side)) }
 {
-    is_joined(level, square, push_dir, ahead, dir, scratch)
-        && is_joined(level, square, push_dir, ahead, dir.opposite(), scratch)
+    !scratch.reaches(level.next(ahead, push_dir))
+        || goes_past(level, square, push_dir, ahead, side, scratch)
+        || goes_past(level, square, push_dir, ahead, side.opposite(), scratch)
 }
 
-// Whether the square beside the one ahead in a direction, where the last flood reached it, is come to round that one.
-fn is_joined(
+// Whether three steps on one side lead past the square ahead.
+#[inline(always)]
+fn goes_past(
     level: &Level,
     square: Square,
     push_dir: Dir,
     ahead: Square,
-    dir: Dir,
+    side: Dir,
     scratch: &Scratch,
 ) -> bool
     requires inside { square < length level.now.cells }
     requires ahead { ahead < length level.now.cells }
     requires reached { (q : ℕ) → contains scratch.now.reached q ≡ true → q < length level.now.cells }
-    ensures { IsTrue result → IsJoined level.now scratch.now.reached ahead square dir }
+    ensures { IsTrue result → GoesPast level.now scratch.now.reached square ahead push_dir side }
 {
-    let to = level.next(ahead, dir);
-    if !scratch.reaches(to) {
-        return true;
-    }
-    let side = first_side(push_dir, dir);
-    goes_round(level, square, push_dir, ahead, side, to, scratch)
-        || goes_round(level, square, push_dir, ahead, side.opposite(), to, scratch)
+    let beside = level.next(ahead, side);
+    scratch.reaches(level.next(square, side))
+        && scratch.reaches(beside)
+        && scratch.reaches(level.next(beside, push_dir))
 }
 
-// On which side of a push to look first for the way to the square that is beside the one ahead in a direction: on that
-// square's own, where it has one.
-fn first_side(push_dir: Dir, dir: Dir) -> Dir {
-    match (push_dir, dir) {
-        (Dir::D | Dir::U, Dir::D | Dir::U) => Dir::L,
-        (Dir::L | Dir::R, Dir::L | Dir::R) => Dir::D,
-        _ => dir,
-    }
-}
-
-// Whether one comes to a square by steps from the box's square round the one ahead, on one side.
+// Whether five steps that begin on one side lead round the square ahead to its other side.
+#[inline(always)]
 fn goes_round(
     level: &Level,
     square: Square,
     push_dir: Dir,
     ahead: Square,
     side: Dir,
-    to: Square,
     scratch: &Scratch,
 ) -> bool
     requires inside { square < length level.now.cells }
+    requires ahead { ahead < length level.now.cells }
     requires reached { (q : ℕ) → contains scratch.now.reached q ≡ true → q < length level.now.cells }
-    ensures { IsTrue result → Skirts level.now scratch.now.reached ahead square to }
+    ensures { IsTrue result → GoesRound level.now scratch.now.reached square ahead push_dir side }
 {
-    let back = side.opposite();
-    let steps = [side, push_dir, push_dir, back, back, push_dir.opposite()];
-    let mut place = square;
-    for dir in &steps {
-        place = level.next(place, *dir);
-        if place == ahead || !scratch.reaches(place) {
-            return false;
-        }
-        if place == to {
-            return true;
-        }
-    }
-    false
+    let beyond = level.next(ahead, push_dir);
+    goes_past(level, square, push_dir, ahead, side, scratch)
+        && scratch.reaches(beyond)
+        && scratch.reaches(level.next(beyond, side.opposite()))
 }

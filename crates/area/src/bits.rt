@@ -1,5 +1,5 @@
 //! Sets of squares as bits of words: bit i of word k is the square `WORD_BITS * k + i`.
-ghost use Rattle.std.specs.Prelude.{◌≡◌, ℕ, ◌+◌, ◌*◌, ◌<◌, ◌≤◌, ◌==◌, ◌||◌, ◌&&◌, not, true, length};
+ghost use Rattle.std.specs.Prelude.{◌≡◌, ℕ, ◌+◌, ◌-◌, ◌*◌, ◌<◌, ◌≤◌, ◌==◌, ◌||◌, ◌&&◌, not, true, length, slice_index};
 ghost use Rattle.std.specs.Int.{trailing_zeros, w64};
 ghost use Rattle.grid.specs.Masks.{has_bit};
 ghost use Rattle.grid.specs.Squares.{contains};
@@ -8,26 +8,35 @@ ghost use Rattle.area.specs.Words.{squares_of, word_bit};
 
 use grid::{MAX_SQUARES, Square, WORD_BITS};
 
-// Whether the set has the square.
+/// Whether the set has the square.
 #[inline(always)]
-pub(crate) fn has(words: &[u64], square: Square) -> bool
+pub fn has(words: &[u64], square: Square) -> bool
     ensures { result ≡ has_bit words.now square }
 {
     let place = square.0 as usize / WORD_BITS;
     place < words.len() && words[place] >> (square.0 as usize % WORD_BITS) & 1 == 1
 }
 
-// Puts a square into the set.
+/// Puts a square into the set.
 #[inline(always)]
-pub(crate) fn put(square: Square, words: &mut [u64])
+pub fn put(square: Square, words: &mut [u64])
     requires { square < WORD_BITS * length words.old }
     ensures { (q : ℕ) → has_bit words.new q ≡ (has_bit words.old q || square == q) }
 {
     words[square.0 as usize / WORD_BITS] |= 1 << (square.0 as usize % WORD_BITS);
 }
 
-// Makes the set one of just these squares.
-pub(crate) fn put_all(squares: &[Square], words: &mut [u64])
+// Takes a square out of the set.
+#[inline(always)]
+pub(crate) fn take_out(square: Square, words: &mut [u64])
+    requires { square < WORD_BITS * length words.old }
+    ensures { (q : ℕ) → has_bit words.new q ≡ (has_bit words.old q && not (square == q)) }
+{
+    words[square.0 as usize / WORD_BITS] &= !(1 << (square.0 as usize % WORD_BITS));
+}
+
+/// Makes the set one of just these squares.
+pub fn put_all(squares: &[Square], words: &mut [u64])
     requires { (q : ℕ) → contains squares.now q ≡ true → q < WORD_BITS * length words.old }
     ensures { (q : ℕ) → has_bit words.new q ≡ contains squares.now q }
 {
@@ -87,4 +96,67 @@ fn without(place: usize, word: u64, square: Square) -> u64
     } else {
         word
     }
+}
+
+/// For each square of a word, whether the set has the square so many numbers before it.
+#[inline(always)]
+pub fn before(words: &[u64], place: usize, by: usize) -> u64
+    requires { place < length words.now }
+    ensures { (i j : ℕ) → j < WORD_BITS → i + by ≡ WORD_BITS * place + j → word_bit result j ≡ has_bit words.now i }
+{
+    let far = by / WORD_BITS;
+    let near = by % WORD_BITS;
+    let here = word_before(words, place, far);
+    let low = word_before(words, place, far + 1);
+    slid_up(here, low, near)
+}
+
+/// For each square of a word, whether the set has the square so many numbers after it.
+#[inline(always)]
+pub fn after(words: &[u64], place: usize, by: usize) -> u64
+    requires { place < length words.now }
+    ensures { (i j : ℕ) → j < WORD_BITS → i ≡ WORD_BITS * place + j + by → word_bit result j ≡ has_bit words.now i }
+{
+    let far = by / WORD_BITS;
+    let near = by % WORD_BITS;
+    let here = word_at(words, place + far);
+    let high = word_at(words, place + far + 1);
+    slid_down(here, high, near)
+}
+
+// The word so many places before another, 0 before the first.
+#[inline(always)]
+fn word_before(words: &[u64], place: usize, far: usize) -> u64
+    requires { place < length words.now }
+    ensures { far ≤ place → result ≡ slice_index words.now (place - far) }
+{
+    if far <= place { words[place - far] } else { 0 }
+}
+
+// The word at a place, 0 past the end.
+#[inline(always)]
+fn word_at(words: &[u64], place: usize) -> u64
+    ensures { result ≡ slice_index words.now place }
+{
+    if place < words.len() { words[place] } else { 0 }
+}
+
+// The bits of two words in a row, so many places further up; what of them comes to stand in the upper one.
+#[inline(always)]
+pub(crate) fn slid_up(here: u64, low: u64, near: usize) -> u64
+    requires { near < WORD_BITS }
+    ensures here { (i j : ℕ) → j < WORD_BITS → i + near ≡ j → word_bit result j ≡ word_bit here i }
+    ensures low { (i j : ℕ) → i < WORD_BITS → i + near ≡ j + WORD_BITS → word_bit result j ≡ word_bit low i }
+{
+    here << near | low >> 1 >> (WORD_BITS - 1 - near)
+}
+
+// The bits of two words in a row, so many places further down; what of them comes to stand in the lower one.
+#[inline(always)]
+pub(crate) fn slid_down(here: u64, high: u64, near: usize) -> u64
+    requires { near < WORD_BITS }
+    ensures here { (i j : ℕ) → i < WORD_BITS → i ≡ j + near → word_bit result j ≡ word_bit here i }
+    ensures high { (i j : ℕ) → j < WORD_BITS → i + WORD_BITS ≡ j + near → word_bit result j ≡ word_bit high i }
+{
+    here >> near | high << 1 << (WORD_BITS - 1 - near)
 }

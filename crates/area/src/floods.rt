@@ -1,20 +1,21 @@
-ghost use Rattle.std.specs.Prelude.{◌≡◌, ℕ, ◌+◌, ◌*◌, ◌-◌, ◌<◌, ◌≤◌, ◌↔◌, true, length, slice_index};
+ghost use Rattle.std.specs.Prelude.{◌≡◌, ◌≢◌, ℕ, ◌+◌, ◌*◌, ◌<◌, ◌≤◌, ◌↔◌, ◌⊎◌, true, IsTrue, length};
 ghost use Rattle.grid.specs.Board.{Board};
 ghost use Rattle.grid.specs.Lawful.{FitsLevel};
 ghost use Rattle.grid.specs.Masks.{AreMasks, has_bit, word_count};
 ghost use Rattle.grid.specs.Squares.{contains};
 ghost use Rattle.area.specs.Area.{Area, IsNorm};
-ghost use Rattle.area.specs.Words.{word_bit, is_entered, IsFlooded, IsSettling, IsGrown, PassesUp, PassesDown, PassesOn};
+ghost use Rattle.area.specs.Words.{word_bit, is_entered, HasAim, IsGrowing, IsFlooded, IsSettling, IsGrown, PassesUp, PassesDown, PassesOn};
 
-use crate::bits::{put, put_all};
+use crate::bits::{after, before, has, put, put_all, take_out};
 use crate::scratch::Scratch;
-use grid::{Level, Position, StepMasks, WORD_BITS};
+use grid::{Level, Position, Square, StepMasks, WORD_BITS};
 
 /// Finds the squares that the player reaches without a push.
 pub fn flood(level: &Level, position: &Position, scratch: &mut Scratch)
     requires fits { FitsLevel level.now position.now }
     requires room { scratch.old.size ≡ length level.now.cells }
     ensures reached { (q : ℕ) → (contains scratch.new.reached q ≡ true) ↔ Area level.now position.now q }
+    ensures boxes { scratch.new.boxes ≡ position.now.boxes }
     ensures size { scratch.new.size ≡ scratch.old.size }
 {
     flood_words(level, position, &mut scratch.reached, &mut scratch.boxes);
@@ -44,20 +45,89 @@ pub(crate) fn flood_words(
     requires fits { FitsLevel level.now position.now }
     requires room { length reached.old ≡ word_count (length level.now.cells) }
     requires places { length boxes.old ≡ word_count (length level.now.cells) }
-    ensures { (q : ℕ) → (has_bit reached.new q ≡ true) ↔ Area level.now position.now q }
+    ensures reached { (q : ℕ) → (has_bit reached.new q ≡ true) ↔ Area level.now position.now q }
+    ensures boxes { (q : ℕ) → has_bit boxes.new q ≡ contains position.now.boxes q }
 {
-    put_all(position.boxes(), boxes);
+    flood_to(level, position, &None, reached, boxes);
+}
+
+// The same, but where an aim is given, it may end as soon as the player reaches that: then the set need not have all
+// squares.
+pub(crate) fn flood_to(
+    level: &Level,
+    position: &Position,
+    aim: &Option<Square>,
+    reached: &mut [u64],
+    boxes: &mut [u64],
+)
+    requires fits { FitsLevel level.now position.now }
+    requires room { length reached.old ≡ word_count (length level.now.cells) }
+    requires places { length boxes.old ≡ word_count (length level.now.cells) }
+    ensures begun { has_bit reached.new position.now.player ≡ true }
+    ensures within { (q : ℕ) → has_bit reached.new q ≡ true → Area level.now position.now q }
+    ensures whole { HasAim aim.now reached.new ⊎ ((q : ℕ) → Area level.now position.now q → has_bit reached.new q ≡ true) }
+    ensures boxes { (q : ℕ) → has_bit boxes.new q ≡ contains position.now.boxes q }
+{
     reached.fill(0);
     put(position.player(), reached);
-    grow(level, boxes, reached);
+    flood_from(level, position, aim, reached, boxes);
+}
+
+// The same where it is known that the player reaches each square of an earlier set but for one: the flood begins with
+// those.
+pub(crate) fn flood_on(
+    level: &Level,
+    position: &Position,
+    known: &[u64],
+    but: Square,
+    reached: &mut [u64],
+    boxes: &mut [u64],
+)
+    requires fits { FitsLevel level.now position.now }
+    requires words { length known.now ≡ word_count (length level.now.cells) }
+    requires room { length reached.old ≡ word_count (length level.now.cells) }
+    requires places { length boxes.old ≡ word_count (length level.now.cells) }
+    requires inside { but < length level.now.cells }
+    requires known { (q : ℕ) → has_bit known.now q ≡ true → q ≢ but → Area level.now position.now q }
+    ensures { (q : ℕ) → (has_bit reached.new q ≡ true) ↔ Area level.now position.now q }
+{
+    reached.copy_from_slice(known);
+    take_out(but, reached);
+    put(position.player(), reached);
+    flood_from(level, position, &None, reached, boxes);
+}
+
+// Adds to a set of squares that the player reaches, its own among them, all others, unless it ends at an aim that is
+// given; makes another set of the boxes' squares.
+fn flood_from(
+    level: &Level,
+    position: &Position,
+    aim: &Option<Square>,
+    reached: &mut [u64],
+    boxes: &mut [u64],
+)
+    requires fits { FitsLevel level.now position.now }
+    requires room { length reached.old ≡ word_count (length level.now.cells) }
+    requires places { length boxes.old ≡ word_count (length level.now.cells) }
+    requires begun { has_bit reached.old position.now.player ≡ true }
+    requires within { (q : ℕ) → has_bit reached.old q ≡ true → Area level.now position.now q }
+    ensures begun { has_bit reached.new position.now.player ≡ true }
+    ensures within { (q : ℕ) → has_bit reached.new q ≡ true → Area level.now position.now q }
+    ensures whole { HasAim aim.now reached.new ⊎ ((q : ℕ) → Area level.now position.now q → has_bit reached.new q ≡ true) }
+    ensures boxes { (q : ℕ) → has_bit boxes.new q ≡ contains position.now.boxes q }
+{
+    put_all(position.boxes(), boxes);
+    grow(level, aim, boxes, reached);
 }
 
 // Adds to the set all squares that steps round the boxes lead to. It goes on from word to word, and where a word gained
-// squares, back to the first one that its squares lead into; so before a place no step leads out of the set.
-fn grow(level: &Level, boxes: &[u64], reached: &mut [u64])
+// squares, back to the first one that its squares lead into; so before a place no step leads out of the set. Where an
+// aim is given, it may end as soon as the set has that square.
+fn grow(level: &Level, aim: &Option<Square>, boxes: &[u64], reached: &mut [u64])
     requires boxes { length boxes.now ≡ word_count (length level.now.cells) }
     requires room { length reached.old ≡ word_count (length level.now.cells) }
-    ensures { IsFlooded level.now boxes.now reached.old reached.new }
+    ensures growing { IsGrowing level.now boxes.now reached.old reached.new }
+    ensures ended { HasAim aim.now reached.new ⊎ IsFlooded level.now boxes.now reached.old reached.new }
 {
     let masks = level.step_masks();
     let cols = level.cols();
@@ -65,10 +135,24 @@ fn grow(level: &Level, boxes: &[u64], reached: &mut [u64])
     let mut place = 0;
     while place < masks.len() {
         if settle(masks, cols, boxes, reached, place) {
+            if has_aim(aim, reached) {
+                return;
+            }
             place = place.saturating_sub(back);
         } else {
             place += 1;
         }
+    }
+}
+
+// Whether an aim is given, and the set has it.
+#[inline(always)]
+fn has_aim(aim: &Option<Square>, reached: &[u64]) -> bool
+    ensures { IsTrue result → HasAim aim.now reached.now }
+{
+    match aim {
+        Some(square) => has(reached, *square),
+        None => false,
     }
 }
 
@@ -112,49 +196,6 @@ fn entered(masks: &[StepMasks], cols: usize, reached: &[u64], place: usize) -> u
         | after(reached, place, 1) & l
         | before(reached, place, cols) & d
         | after(reached, place, cols) & u
-}
-
-// For each square of a word, whether the set has the square so many numbers before it.
-#[inline(always)]
-fn before(words: &[u64], place: usize, by: usize) -> u64
-    requires { place < length words.now }
-    ensures { (i j : ℕ) → j < WORD_BITS → i + by ≡ WORD_BITS * place + j → word_bit result j ≡ has_bit words.now i }
-{
-    let far = by / WORD_BITS;
-    let near = by % WORD_BITS;
-    let here = word_before(words, place, far);
-    let low = word_before(words, place, far + 1);
-    here << near | low >> 1 >> (WORD_BITS - 1 - near)
-}
-
-// For each square of a word, whether the set has the square so many numbers after it.
-#[inline(always)]
-fn after(words: &[u64], place: usize, by: usize) -> u64
-    requires { place < length words.now }
-    ensures { (i j : ℕ) → j < WORD_BITS → i ≡ WORD_BITS * place + j + by → word_bit result j ≡ has_bit words.now i }
-{
-    let far = by / WORD_BITS;
-    let near = by % WORD_BITS;
-    let here = word_at(words, place + far);
-    let high = word_at(words, place + far + 1);
-    here >> near | high << 1 << (WORD_BITS - 1 - near)
-}
-
-// The word so many places before another, 0 before the first.
-#[inline(always)]
-fn word_before(words: &[u64], place: usize, far: usize) -> u64
-    requires { place < length words.now }
-    ensures { far ≤ place → result ≡ slice_index words.now (place - far) }
-{
-    if far <= place { words[place - far] } else { 0 }
-}
-
-// The word at a place, 0 past the end.
-#[inline(always)]
-fn word_at(words: &[u64], place: usize) -> u64
-    ensures { result ≡ slice_index words.now place }
-{
-    if place < words.len() { words[place] } else { 0 }
 }
 
 // Adds to a word what steps lead to within it, onto the squares that the masks have for each direction. Runs along the

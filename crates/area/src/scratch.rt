@@ -13,8 +13,8 @@ pub(crate) const GREATEST_BASE: u32 = 1 << 31;
 
 /// The memory that floods and searches for walks work in, made once for all levels of the same rows and columns.
 ///
-/// A flood makes a set of squares as bits of words; it has the boxes' squares so, too. The spare set is for a flood that
-/// leaves what the last one reached.
+/// A flood makes a set of squares as bits of words; it has the boxes' squares so, too. The spare sets are for a flood
+/// that leaves what the last one reached, and its boxes.
 ///
 /// For a search each square has a mark. In one search the boxes have the mark `base`, the squares that it reaches have
 /// greater marks, and all others lesser ones; the next search takes a greater `base`, so nothing needs to be cleared.
@@ -24,8 +24,9 @@ pub struct Scratch {
     pub(crate) base: u32,
     pub(crate) queue: Vec<Square>,
     pub(crate) reached: Vec<u64>,
-    pub(crate) spare: Vec<u64>,
     pub(crate) boxes: Vec<u64>,
+    pub(crate) spare: Vec<u64>,
+    pub(crate) spare_boxes: Vec<u64>,
 }
 
 impl Model for Scratch {
@@ -52,8 +53,9 @@ impl Scratch {
             base: 0,
             queue: vec![in alloc; Square(0); level.squares()]?,
             reached: empty_set(alloc, words)?,
-            spare: empty_set(alloc, words)?,
             boxes: empty_set(alloc, words)?,
+            spare: empty_set(alloc, words)?,
+            spare_boxes: empty_set(alloc, words)?,
         })
     }
 

@@ -41,7 +41,7 @@ member_below xs i q rising inside here below =
     ]
 
 -- the member one greater than the one at a place is the next
-beside_after : (xs : Squares) (i : ℕ) → is_rising xs ≡ true → i < length xs → contains xs (get_or xs i 0 + 1) ≡ true → (i + 1 < length xs) × (get_or xs i 0 + 1 ≡ get_or xs (i + 1) 0)
+pub beside_after : (xs : Squares) (i : ℕ) → is_rising xs ≡ true → i < length xs → contains xs (get_or xs i 0 + 1) ≡ true → (i + 1 < length xs) × (get_or xs i 0 + 1 ≡ get_or xs (i + 1) 0)
 beside_after xs i rising inside here =
     let found = member_above xs i (get_or xs i 0 + 1) rising inside here (omega arith) in
     let j = found.0 in
@@ -58,7 +58,7 @@ beside_after xs i rising inside here =
     ]
 
 -- the member one less than the one at a place is the one before
-beside_before : (xs : Squares) (i p : ℕ) → is_rising xs ≡ true → i < length xs → p + 1 ≡ get_or xs i 0 → contains xs p ≡ true → (0 < i) × (get_or xs (i - 1) 0 + 1 ≡ get_or xs i 0)
+pub beside_before : (xs : Squares) (i p : ℕ) → is_rising xs ≡ true → i < length xs → p + 1 ≡ get_or xs i 0 → contains xs p ≡ true → (0 < i) × (get_or xs (i - 1) 0 + 1 ≡ get_or xs i 0)
 beside_before xs i p rising inside one here =
     let found = member_below xs i p rising inside here (omega (arith, one)) in
     let j = found.0 in
@@ -180,7 +180,7 @@ pub floor_behind : (board : Board) (q : ℕ) (d : Dir) → ¬ (IsFast board q d)
 floor_behind board q d loose = no_wall board (next board q (opposite d)) (λ wall. loose (inr (inl (inl wall))))
 
 -- such a square is held where a member is next to it
-held_cases : (board : Board) (members : Squares) (q : ℕ) (d : Dir) → ¬ (IsFast board q d) → IsHeld board members q d → (contains members (next board q d) ≡ true) ⊎ (contains members (next board q (opposite d)) ≡ true)
+pub held_cases : (board : Board) (members : Squares) (q : ℕ) (d : Dir) → ¬ (IsFast board q d) → IsHeld board members q d → (contains members (next board q d) ≡ true) ⊎ (contains members (next board q (opposite d)) ≡ true)
 held_cases board members q d loose (inl (inl wall)) = absurd (loose (inl (inl wall)))
 held_cases board members q d loose (inl (inr ahead)) = inl ahead
 held_cases board members q d loose (inr (inl (inl wall))) = absurd (loose (inr (inl (inl wall))))
@@ -191,16 +191,20 @@ held_cases board members q d loose (inr (inr dead)) = absurd (loose (inr (inr de
 pub held_fast : (board : Board) (members : Squares) (q : ℕ) (d : Dir) → IsFast board q d → IsHeld board members q d
 held_fast board members q d fast = held_by_more board [] members q d (λ x none. absurd (false≢true none)) fast
 
+-- what is held fast is, whatever the board and the square are called
+pub fast_there : (a b : Board) (q r : ℕ) (d : Dir) → a ≡ b → q ≡ r → IsFast a q d → IsFast b r d
+fast_there a b q r d same read fast = subst (λ (m : Board). IsFast m r d) same (subst (λ (x : ℕ). IsFast a x d) read fast)
+
 -- what is not held fast is not, whatever the board and the square are called
 pub loose_there : (a b : Board) (q r : ℕ) (d : Dir) (told : Bool) → a ≡ b → q ≡ r → told ≡ false → (IsFast a q d → told ≡ true) → ¬ (IsFast b r d)
 loose_there a b q r d told same read off tells fast =
-    false≢true (sym off ∙ tells (subst (λ (x : ℕ). IsFast a x d) (sym read) (subst (λ (m : Board). IsFast m r d) (sym same) fast)))
+    false≢true (sym off ∙ tells (fast_there b a r q d (sym same) (sym read) fast))
 
 right_by : (len q : ℕ) (b : Bool) → cond b len (suc q) < len → cond b len (suc q) ≡ suc q
 right_by len q true lt = absurd (omega arith)
 right_by len q false lt = refl
 
-right_of : (board : Board) (q : ℕ) → next board q R < length board.cells → next board q R ≡ suc q
+pub right_of : (board : Board) (q : ℕ) → next board q R < length board.cells → next board q R ≡ suc q
 unfolding next
 right_of board q inside = right_by (length board.cells) q (eqb (suc q % board.cols) 0) inside
 
@@ -209,7 +213,7 @@ left_by cols len q true test lt = absurd (omega arith)
 left_by cols len zero false test lt = absurd (eqb-false (zero % cols) 0 test (zero-mod cols))
 left_by cols len (suc q) false test lt = omega arith
 
-left_of : (board : Board) (q : ℕ) → next board q L < length board.cells → next board q L + 1 ≡ q
+pub left_of : (board : Board) (q : ℕ) → next board q L < length board.cells → next board q L + 1 ≡ q
 unfolding next
 left_of board q inside = left_by board.cols (length board.cells) q (eqb (q % board.cols) 0) refl inside
 

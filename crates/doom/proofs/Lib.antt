@@ -1,6 +1,6 @@
 pub mod Soundness
 pub mod Peeling
-pub mod Shrinking
+pub mod Passes
 pub mod Search
 pub mod Pulling
 pub mod Holding

@@ -1,5 +1,5 @@
 -- What `any` says of the squares of a list.
-use Rattle.std.proofs.Common.{suc, cond, ltb, eqb, ◌||◌, ◌+◌, ◌≤◌, count_by, ap, List, [], ◌∷◌, ◌≡◌, ◌↔◌, ◌==◌, ◌<◌, ℕ, Bool, true, false, MatchBool, Option, None, Some, MatchOption, IfNone, IsTrue, length, get_or, inl, inr, refl, sym, subst, ◌∙◌, eq-eqb, arith}
+use Rattle.std.proofs.Common.{suc, cond, ltb, eqb, ◌||◌, ◌+◌, ◌≤◌, count_by, ap, [], ◌∷◌, ◌≡◌, ◌↔◌, ◌==◌, ◌<◌, ℕ, Bool, true, false, MatchBool, IsTrue, length, get_or, inl, inr, refl, sym, subst, ◌∙◌, eq-eqb, arith}
 use Rattle.std.specs.List.{HoldsAt, AllWithin, prefix_len}
 use Rattle.std.proofs.lemmas.List.Folds.{list_any_at, Any-from_list_any}
 use Rattle.std.proofs.lemmas.Bool.{false≢true, eqb-true, ltb-true, ltb-false, cases_Bool}

@@ -1,16 +1,19 @@
-ghost use Rattle.std.specs.Prelude.{◌≡◌, ℕ, ◌<◌, ◌≤◌, ◌↔◌, IsTrue, IfSome, IfNone, true, false, length, slice_index, count_by, nat_lt};
-ghost use Rattle.grid.specs.Board.{is_goal};
-ghost use Rattle.grid.specs.Squares.{contains, is_rising};
+ghost use Rattle.std.specs.Prelude.{◌≡◌, ℕ, ◌<◌, ◌≤◌, ◌↔◌, IsTrue, IfSome, IfNone, false, true, length, slice_index, count_by, nat_lt};
+ghost use Rattle.grid.specs.Squares.{Squares, contains, is_rising};
 ghost use Rattle.grid.specs.Lawful.{FitsLevel};
-ghost use Rattle.doom.specs.Deadlocks.{IsDead, Doomed, AreLost, IsHeld, IsBlocked};
+ghost use Rattle.doom.specs.Deadlocks.{IsDead, Doomed, AreLost, IsFrozen, IsHeld, IsBlocked};
 ghost use Rattle.doom.specs.Loose.{IsLoose};
-ghost use Rattle.doom.specs.Peeling.{StandInside, IsPeeled, IsLargestBlocked};
+ghost use Rattle.doom.specs.Peeling.{StandInside};
 
 use crate::dead::Dead;
+use crate::firm::is_blocked_firmly;
 use crate::neighbours::{has_beside, has_in_column};
+use crate::peel::{has_other, largest_blocked};
 use area::Scratch;
-use arrayvec::ArrayVec;
-use grid::{Dir, Level, MAX_BOXES, Position, Square};
+use grid::{Dir, Level, MAX_BOXES, MAX_SQUARES, Position, Square, WORD_BITS};
+
+/// The most words that a set of squares has.
+const MOST_WORDS: usize = (MAX_SQUARES + WORD_BITS - 1) / WORD_BITS;
 
 /// Whether the boxes of the position are doomed: a box stands on a dead square, or some of the boxes, at least one of
 /// them off goal, are frozen, each blocked on both axes by a wall or another of them, or by two dead squares. From no
@@ -25,12 +28,12 @@ pub fn doomed(level: &Level, dead: &Dead, position: &Position, scratch: &mut Scr
 {
     let _ = scratch;
     let boxes = position.boxes();
-    any_dead(dead, boxes) || any_off_goal(level, largest_blocked(level, dead, boxes).as_slice())
+    any_dead(dead, boxes) || any_frozen(level, dead, boxes)
 }
 
-/// Whether a box of the position stands on the square, which is not dead, and on some axis neither a wall nor a box nor
-/// two dead squares hold it. A push that brings a box there from an undoomed position leaves an undoomed one. Takes no
-/// memory.
+/// Whether a box of the position stands on the square, which is not dead, and on some axis neither a wall nor a blocked
+/// box nor two dead squares hold it; a box is blocked where on both axes a wall, any box or two dead squares hold it.
+/// A push that brings a box there from an undoomed position leaves an undoomed one. Takes no memory.
 pub fn is_loose(level: &Level, dead: &Dead, position: &Position, square: Square) -> bool
     requires fits { FitsLevel level.now position.now }
     requires dead_of_level { dead.now ≡ level.now }
@@ -40,11 +43,11 @@ pub fn is_loose(level: &Level, dead: &Dead, position: &Position, square: Square)
     let Some(place) = place_of(boxes, square) else {
         return false;
     };
-    !dead.is_dead(square) && !is_blocked(level, dead, boxes, place)
+    !dead.is_dead(square) && !is_blocked_firmly(level, dead, boxes, place)
 }
 
 /// The place of a box's square among the boxes.
-fn place_of(boxes: &[Square], square: Square) -> Option<usize>
+pub(crate) fn place_of(boxes: &[Square], square: Square) -> Option<usize>
     requires rising { is_rising boxes.now ≡ true }
     requires bound { length boxes.now ≤ MAX_BOXES }
     ensures some { IfSome result (λ place. (place < length boxes.now) × (slice_index boxes.now place ≡ square)) }
@@ -77,55 +80,22 @@ fn any_dead(dead: &Dead, boxes: &[Square]) -> bool
     boxes.iter().any(|square| dead.is_dead(*square))
 }
 
-/// Whether one of the squares has no goal.
-fn any_off_goal(level: &Level, squares: &[Square]) -> bool
-    ensures { IsTrue result ↔ ((q : ℕ) × (contains squares.now q ≡ true) × (is_goal level.now q ≡ false)) }
-{
-    squares.iter().any(|square| !level.is_goal(*square))
-}
-
-/// The largest set of the boxes each of which is blocked by walls, by other members or by dead squares.
-fn largest_blocked(level: &Level, dead: &Dead, boxes: &[Square]) -> ArrayVec<Square, MAX_BOXES>
-    requires rising { is_rising boxes.now ≡ true }
-    requires inside { StandInside level.now boxes.now }
+/// Whether some of the boxes, at least one of them off goal, are frozen.
+fn any_frozen(level: &Level, dead: &Dead, boxes: &[Square]) -> bool
+    requires inside { StandInside dead.now boxes.now }
     requires dead_of_level { dead.now ≡ level.now }
-    requires bound { length boxes.now ≤ MAX_BOXES }
-    ensures { IsLargestBlocked level.now boxes.now result.items }
+    ensures { IsTrue result ↔ ((members : Squares) × IsFrozen dead.now boxes.now members) }
 {
-    let mut members = peeled(level, dead, boxes);
-    let mut place = 0;
-    while place < members.len() {
-        if is_blocked(level, dead, members.as_slice(), place) {
-            place += 1;
-        } else {
-            members.remove(place);
-            place = 0;
-        }
-    }
-    members
-}
-
-/// The boxes that walls, the other boxes or dead squares block.
-fn peeled(level: &Level, dead: &Dead, boxes: &[Square]) -> ArrayVec<Square, MAX_BOXES>
-    requires rising { is_rising boxes.now ≡ true }
-    requires inside { StandInside level.now boxes.now }
-    requires dead_of_level { dead.now ≡ level.now }
-    requires bound { length boxes.now ≤ MAX_BOXES }
-    ensures peeled { IsPeeled level.now boxes.now result.items }
-    ensures rising { is_rising result.items ≡ true }
-    ensures fewer { length result.items ≤ length boxes.now }
-{
-    let mut kept = ArrayVec::new();
-    for place in 0..boxes.len() {
-        if is_blocked(level, dead, boxes, place) {
-            kept.push(boxes[place]);
-        }
-    }
-    kept
+    level.tell();
+    let goals = dead.goals();
+    let mut words = [0; MOST_WORDS];
+    let members = &mut words[..goals.len()];
+    largest_blocked(dead, boxes, members);
+    has_other(members, goals)
 }
 
 /// Whether walls, other members or dead squares block the member at a place on both axes.
-fn is_blocked(level: &Level, dead: &Dead, members: &[Square], place: usize) -> bool
+pub(crate) fn is_blocked(level: &Level, dead: &Dead, members: &[Square], place: usize) -> bool
     requires rising { is_rising members.now ≡ true }
     requires place { place < length members.now }
     requires inside { slice_index members.now place < length level.now.cells }

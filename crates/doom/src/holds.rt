@@ -1,32 +1,47 @@
 ghost use Rattle.std.specs.Prelude.{◌≡◌, ◌<◌, ◌↔◌, IsTrue, IfOk, length};
 ghost use Rattle.doom.specs.Pulling.{AreLiveFlags, is_marked};
-ghost use Rattle.doom.specs.Holding.{IsFast, AreHolds};
+ghost use Rattle.doom.specs.Holding.{IsFast, AreFast, AreGoals};
 
-use grid::{Dir, Level, Square};
+use area::bits::put;
+use grid::{Dir, Level, Square, WORD_BITS};
 use std::alloc::{AllocError, Global};
 
-/// Whether walls or dead squares alone hold a box on a square, on each of the two axes.
-#[derive(Clone, Copy)]
-pub(crate) struct Hold {
-    pub(crate) across: bool,
-    pub(crate) along: bool,
-}
-
-/// For each square of the level, whether walls or dead squares alone hold a box there.
-pub(crate) fn holds(alloc: Global, level: &Level, live: &[bool]) -> Result<Vec<Hold>, AllocError>
+/// The set of the squares on which walls or dead squares alone hold a box on the axis of the direction.
+pub(crate) fn fast_squares(
+    alloc: Global,
+    level: &Level,
+    live: &[bool],
+    dir: Dir,
+) -> Result<Vec<u64>, AllocError>
     requires { AreLiveFlags level.now live.now }
-    ensures { IfOk result (λ holds. AreHolds level.now holds.items) }
+    ensures { IfOk result (λ words. AreFast level.now dir words.items) }
 {
     level.tell();
     let squares = level.squares();
-    let mut holds = Vec::with_capacity(alloc, squares)?;
+    let mut words = vec![in alloc; 0; squares.div_ceil(WORD_BITS)]?;
     for index in 0..squares {
         let square = Square(index as u16);
-        let across = is_fast(level, live, square, Dir::R);
-        let along = is_fast(level, live, square, Dir::D);
-        holds.push(Hold { across, along })?;
+        if is_fast(level, live, square, dir) {
+            put(square, words.as_mut_slice());
+        }
     }
-    Ok(holds)
+    Ok(words)
+}
+
+/// The set of the squares that have a goal.
+pub(crate) fn goal_squares(alloc: Global, level: &Level) -> Result<Vec<u64>, AllocError>
+    ensures { IfOk result (λ words. AreGoals level.now words.items) }
+{
+    level.tell();
+    let squares = level.squares();
+    let mut words = vec![in alloc; 0; squares.div_ceil(WORD_BITS)]?;
+    for index in 0..squares {
+        let square = Square(index as u16);
+        if level.is_goal(square) {
+            put(square, words.as_mut_slice());
+        }
+    }
+    Ok(words)
 }
 
 /// Whether the square has, on the axis of the direction, a wall beside it or two dead squares.

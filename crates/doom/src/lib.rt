@@ -2,10 +2,12 @@
 #![tactic(auto)]
 
 mod dead;
+mod firm;
 mod freeze;
 mod holds;
 mod laws;
 mod neighbours;
+mod peel;
 mod pulls;
 #[cfg(test)]
 mod tests;

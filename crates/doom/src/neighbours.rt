@@ -15,7 +15,7 @@ pub(crate) fn has_beside(members: &[Square], place: usize) -> bool
 }
 
 /// Whether the member before the one at a place is one less.
-fn has_one_less(members: &[Square], place: usize) -> bool
+pub(crate) fn has_one_less(members: &[Square], place: usize) -> bool
     requires { place < length members.now }
     ensures { IsTrue result ↔ ((0 < place) × (slice_index members.now (place - 1) + 1 ≡ slice_index members.now place)) }
 {
@@ -23,7 +23,7 @@ fn has_one_less(members: &[Square], place: usize) -> bool
 }
 
 /// Whether the member after the one at a place is one more.
-fn has_one_more(members: &[Square], place: usize) -> bool
+pub(crate) fn has_one_more(members: &[Square], place: usize) -> bool
     requires { place < length members.now }
     ensures { IsTrue result ↔ ((place + 1 < length members.now) × (slice_index members.now place + 1 ≡ slice_index members.now (place + 1))) }
 {

@@ -23,11 +23,30 @@ const BETWEEN_DEAD: (usize, &[u8]) = (5, b"#######.####$### $ ## @.######");
 
 const DEAD_ROWS: (usize, &[u8]) = (6, b"#######    ## @$.#######");
 
+const BESIDE_A_FREE_BOX: (usize, &[u8]) = (7, b"########  #  ##. $$ ##@  . ########");
+
+const ABOVE_A_FREE_BOX: (usize, &[u8]) = (5, b"###### .@##   ###$ ## $.##   ######");
+
 const THERE_AND_BACK: (usize, &[u8]) = (8, b"############   ##.@$   #####   #########");
 
 const ALL_HOME: (usize, &[u8]) = (
     35,
     b"####################################@********************************####################################",
+);
+
+const COLUMN_IN_TWO_WORDS: (usize, &[u8]) = (
+    8,
+    b"#########.     ##      ##      ##      ##      ##      ##$     ##$ @   ##      ##.     #########",
+);
+
+const PAIR_IN_TWO_WORDS: (usize, &[u8]) = (
+    10,
+    b"###########        ##        ##        ##        ##   @    ##. $$   .###########",
+);
+
+const ONE_AFTER_ANOTHER: (usize, &[u8]) = (
+    10,
+    b"###########        ##        ##        ##  ...   ##        ##  $$    ##   $@   ##        ###########",
 );
 
 fn cell_of(byte: u8) -> Cell {
@@ -83,10 +102,15 @@ fn starts_are_doomed_or_not(rt: HostRuntime) -> Result<(), Fail> {
         (PAIR_AT_WALL, true),
         (COLUMN_AT_WALL, true),
         (BETWEEN_DEAD, true),
+        (COLUMN_IN_TWO_WORDS, true),
+        (PAIR_IN_TWO_WORDS, true),
+        (ONE_AFTER_ANOTHER, false),
         (PUSH_RIGHT, false),
         (SOLVED, false),
         (CORNER, false),
         (TWO_ENDS, false),
+        (BESIDE_A_FREE_BOX, false),
+        (ABOVE_A_FREE_BOX, false),
         (NO_PUSH, false),
         (THERE_AND_BACK, false),
         (ALL_HOME, false),
@@ -112,7 +136,13 @@ fn boxes_are_loose_or_not(rt: HostRuntime) -> Result<(), Fail> {
         (PUSH_RIGHT, 7, true),
         (PUSH_RIGHT, 8, false),
         (PAIR_AT_WALL, 8, false),
+        (PAIR_AT_WALL, 9, false),
         (COLUMN_AT_WALL, 11, false),
+        (COLUMN_AT_WALL, 16, false),
+        (BESIDE_A_FREE_BOX, 17, true),
+        (BESIDE_A_FREE_BOX, 18, true),
+        (ABOVE_A_FREE_BOX, 17, true),
+        (ABOVE_A_FREE_BOX, 22, true),
         (CORNER, 12, true),
         (BETWEEN_DEAD, 17, false),
         (TWO_ENDS, 9, true),

@@ -1,5 +1,5 @@
 ghost use Rattle.std.specs.Prelude.{◌≡◌};
-ghost use Rattle.grid.specs.Board.{opposite};
+ghost use Rattle.grid.specs.Board.{dir_number, opposite};
 
 /// A direction: down, left, right or up. The order is that of the letters `d`, `l`, `r`, `u`.
 #[derive(Clone, Copy, PartialEq, Eq, PartialOrd, Ord, Hash, Default, Debug)]
@@ -25,5 +25,13 @@ impl Dir {
             Dir::R => Dir::L,
             Dir::U => Dir::D,
         }
+    }
+
+    // The direction's place among the four.
+    #[inline(always)]
+    pub(crate) fn place(self) -> usize
+        ensures { result ≡ dir_number self }
+    {
+        self as usize
     }
 }

@@ -149,13 +149,8 @@ impl Level {
         requires { square < length self.now.cells }
         ensures { result ≡ next self.now square dir }
     {
-        let around = self.plan.around(square);
-        match dir {
-            Dir::D => around.d,
-            Dir::L => around.l,
-            Dir::R => around.r,
-            Dir::U => around.u,
-        }
+        let Around { d, l, r, u } = self.plan.around(square);
+        [d, l, r, u][dir.place()]
     }
 
     /// The ways from a square: for each direction the square next to it, and the square itself where that is a wall or

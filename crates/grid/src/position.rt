@@ -78,6 +78,15 @@ impl Position {
         }
     }
 
+    /// Makes the position equal to another, in place.
+    pub fn copy_from(&mut self, other: &Position)
+        ensures { self.new ≡ other.now }
+    {
+        self.boxes.clear();
+        let _ = self.boxes.try_extend_from_slice(other.boxes.as_slice());
+        self.player = other.player;
+    }
+
     /// Whether the position may be played on the level: as many boxes as the level has, no box and not the player
     /// on a wall or outside the grid, and the player on no box.
     pub fn fits(&self, level: &Level) -> bool

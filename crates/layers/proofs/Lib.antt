@@ -8,6 +8,7 @@ pub mod Reaching
 pub mod Successors
 pub mod Gathering
 pub mod Offers
+pub mod Appending
 pub mod Books
 pub mod Cuts
 pub mod Closings

@@ -1,5 +1,5 @@
 -- What contracts see of a parcel, and what is true of each.
-use Rattle.std.specs.Prelude.{◌≡◌, ℕ, ◌<◌, List, slice_get, Some}
+use Rattle.std.specs.Prelude.{◌≡◌, ℕ, ◌<◌, List, [], ◌∷◌, ◌++◌, ◌⊎◌, slice_get, Some}
 use Rattle.std.specs.declared.cmp.Ordering.TheVariants.{Less}
 use Rattle.grid.specs.declared.square.Push.{Push}
 use Rattle.grid.specs.Board.{Board, Scene, push_cmp}
@@ -23,6 +23,11 @@ pub record AreSuccessors (board : Board) (n : Scene) (ss : List Successor) : Typ
 -- each successor is a position of the level
 abbrev pub FitLevel : Board → List Successor → Type 0
 FitLevel board ss = (i : ℕ) (s : Successor) → slice_get ss i ≡ Some s → FitsLevel board s.position
+
+-- `more` is `ss` and after it what the push leads to; or it is `ss`, where the push leads to no successor
+abbrev pub IsAppended : Board → Scene → Push → List Successor → List Successor → Type 0
+IsAppended board n p ss more =
+    ((s : Successor) × (more ≡ ss ++ s ∷ []) × (s.push ≡ p) × IsSuccessor board n p s.position × FitsLevel board s.position) ⊎ ((more ≡ ss) × ((m : Scene) → ¬ (IsSuccessor board n p m)))
 
 -- the parcel of a rank of its layer holds exactly the undoomed successors of the position there
 pub record IsParcel (v : ParcelView) : Type 0 where

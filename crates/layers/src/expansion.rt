@@ -1,19 +1,22 @@
-ghost use Rattle.std.specs.Prelude.{◌≡◌, ◌+◌, ◌*◌, ◌<◌, ◌≤◌, ◌↔◌, IsTrue, IfSome, IfNone, true, [], length, slice_get, Some};
-ghost use Rattle.grid.specs.Board.{Scene};
+ghost use Rattle.std.specs.Prelude.{◌≡◌, ℕ, ◌+◌, ◌*◌, ◌<◌, ◌≤◌, ◌↔◌, IsTrue, true, false, [], length, slice_get, Some};
+ghost use Rattle.area.specs.Reach.{Reach};
+ghost use Rattle.area.specs.Words.{word_bit};
+ghost use Rattle.grid.specs.Board.{Board, Scene, dir_number, is_wall};
+ghost use Rattle.grid.specs.Masks.{word_count};
 ghost use Rattle.grid.specs.Lawful.{FitsLevel};
 ghost use Rattle.grid.specs.Squares.{contains};
 ghost use Rattle.doom.specs.Deadlocks.{Undoomed};
-ghost use Rattle.layers.specs.ParcelView.{AreSuccessors, FitLevel, IsParcel};
+ghost use Rattle.layers.specs.ParcelView.{AreSuccessors, FitLevel, IsAppended, IsParcel};
 ghost use Rattle.layers.specs.Reaching.{IsSuccessor};
-ghost use Rattle.layers.specs.Expansion.{CanPush, IsAreaOf, ArePushes, ArePushesBelow};
+ghost use Rattle.layers.specs.Expansion.{CanPush, IsAreaOf, ArePushes, AreAllowedBefore, Allows, TellsPushes, count_below};
 
 use crate::layer::Layer;
 use crate::limits::MAX_SUCCESSORS;
 use crate::parcel::{Parcel, Successor};
-use area::Scratch;
+use area::{PushMasks, Scratch};
 use arrayvec::ArrayVec;
 use doom::Dead;
-use grid::{Dir, Level, Position, Push, Square};
+use grid::{Dir, Level, MAX_BOXES, Position, Push, Square, WORD_BITS};
 
 /// The undoomed successors of the position with a rank of the layer, in the order of their pushes. Takes no memory.
 pub fn expand<'a>(layer: &'a Layer, dead: &Dead, rank: u64, scratch: &mut Scratch) -> Parcel<'a>
@@ -101,46 +104,86 @@ fn possible_pushes(
     ensures size { scratch.new.size ≡ scratch.old.size }
 {
     area::flood(level, position, scratch);
+    tell_few(position);
+    let words = level.step_masks().len();
     let mut pushes = ArrayVec::new();
-    for square in position.boxes() {
-        push_box(level, position, scratch, *square, &mut pushes);
+    for place in 0..words {
+        push_word(level, scratch, place, &mut pushes);
     }
     pushes
 }
 
-// Appends the pushes of the box on a square that the player can make, in their order.
-fn push_box(
+// Tells that a position has no more boxes than there may be.
+fn tell_few(position: &Position)
+    ensures { length position.now.boxes ≤ MAX_BOXES }
+{
+    let _ = position.boxes();
+}
+
+// Appends the pushes of the boxes on the squares of one word, of those that the last flood allows, in their order.
+fn push_word(
     level: &Level,
-    position: &Position,
     scratch: &Scratch,
-    square: Square,
+    place: usize,
     pushes: &mut ArrayVec<Push, MAX_SUCCESSORS>,
 )
-    requires fits { FitsLevel level.now position.now }
-    requires area { IsAreaOf level.now position.now scratch.now.reached }
-    requires there { contains position.now.boxes square ≡ true }
-    requires room { length pushes.old.items + 4 ≤ MAX_SUCCESSORS }
-    requires below { ArePushesBelow level.now position.now square pushes.old.items }
-    ensures pushes { ArePushesBelow level.now position.now (square + 1) pushes.new.items }
-    ensures bound { length pushes.new.items ≤ length pushes.old.items + 4 }
+    requires room { scratch.now.size ≡ length level.now.cells }
+    requires inside { place < word_count (length level.now.cells) }
+    requires boxes { (q : ℕ) → contains scratch.now.boxes q ≡ true → is_wall level.now q ≡ false }
+    requires reached { (q : ℕ) → contains scratch.now.reached q ≡ true → q < length level.now.cells }
+    requires few { length scratch.now.boxes ≤ MAX_BOXES }
+    requires before { AreAllowedBefore level.now scratch.now (WORD_BITS * place) 0 pushes.old.items }
+    requires bound { length pushes.old.items ≤ 4 * count_below scratch.now.boxes (WORD_BITS * place) }
+    ensures before { AreAllowedBefore level.now scratch.now (WORD_BITS * (place + 1)) 0 pushes.new.items }
+    ensures bound { length pushes.new.items ≤ 4 * count_below scratch.now.boxes (WORD_BITS * (place + 1)) }
 {
-    for dir in &Dir::ALL {
-        if can_push(level, position, scratch, square, *dir) {
-            pushes.push(Push { square, dir: *dir });
-        }
+    level.tell();
+    let masks = area::pushable(level, scratch, place);
+    let mut left = masks.d | masks.l | masks.r | masks.u;
+    while left != 0 {
+        let bit = left.trailing_zeros() as usize;
+        let square = Square((WORD_BITS * place + bit) as u16);
+        push_box(&masks, bit, square, pushes);
+        left &= !(1 << bit);
     }
 }
 
-// Whether the player can push the box on a square in a direction after walks that push nothing.
-fn can_push(level: &Level, position: &Position, scratch: &Scratch, square: Square, dir: Dir) -> bool
-    requires fits { FitsLevel level.now position.now }
-    requires area { IsAreaOf level.now position.now scratch.now.reached }
-    requires there { contains position.now.boxes square ≡ true }
-    ensures { IsTrue result ↔ CanPush level.now position.now (record { square = square; dir = dir }) }
+// Appends the pushes of the box on a square that the masks have at a bit, in their order.
+#[inline(always)]
+fn push_box(
+    masks: &PushMasks,
+    bit: usize,
+    square: Square,
+    pushes: &mut ArrayVec<Push, MAX_SUCCESSORS>,
+)
+    requires inside { bit < WORD_BITS }
+    requires room { length pushes.old.items + 4 ≤ MAX_SUCCESSORS }
+    ensures pushes { (board : Board) (reach : Reach) → TellsPushes board reach masks.now bit square → AreAllowedBefore board reach square 0 pushes.old.items → AreAllowedBefore board reach (square + 1) 0 pushes.new.items }
+    ensures bound { length pushes.new.items ≤ length pushes.old.items + 4 }
 {
-    let behind = level.next(square, dir.opposite());
-    let ahead = level.next(square, dir);
-    scratch.reaches(behind) && !level.is_wall(ahead) && !position.contains(ahead)
+    push_if(masks.d, bit, square, Dir::D, pushes);
+    push_if(masks.l, bit, square, Dir::L, pushes);
+    push_if(masks.r, bit, square, Dir::R, pushes);
+    push_if(masks.u, bit, square, Dir::U, pushes);
+}
+
+// Appends the push of the box on a square in a direction, if the word has the bit.
+#[inline(always)]
+fn push_if(
+    word: u64,
+    bit: usize,
+    square: Square,
+    dir: Dir,
+    pushes: &mut ArrayVec<Push, MAX_SUCCESSORS>,
+)
+    requires inside { bit < WORD_BITS }
+    requires room { length pushes.old.items < MAX_SUCCESSORS }
+    ensures pushes { (board : Board) (reach : Reach) → ((word_bit word bit ≡ true) ↔ Allows board reach (record { square = square; dir = dir })) → AreAllowedBefore board reach square (dir_number dir) pushes.old.items → AreAllowedBefore board reach square (dir_number dir + 1) pushes.new.items }
+    ensures bound { length pushes.new.items ≤ length pushes.old.items + 1 }
+{
+    if word >> bit & 1 == 1 {
+        pushes.push(Push { square, dir });
+    }
 }
 
 // Fills an empty list with what the pushes lead to, but for doomed positions, where the last flood was that of the
@@ -166,39 +209,79 @@ fn successors_by(
     ensures kept { scratch.new ≡ scratch.old }
 {
     for push in pushes {
-        if let Some(successor) = successor_by(level, dead, position, *push, scratch) {
-            successors.push(successor);
-        }
+        append_successor(level, dead, position, *push, scratch, successors);
     }
 }
 
-// What a push leads to, where the last flood was that of the position before it; `None` exactly where that is doomed.
-fn successor_by(
+// Appends what a push leads to, where the last flood was that of the position before it; nothing exactly where that is
+// doomed. The position is made in its place in the list, so that it is not copied there.
+fn append_successor(
     level: &Level,
     dead: &Dead,
     position: &Position,
     push: Push,
     scratch: &mut Scratch,
-) -> Option<Successor>
+    successors: &mut ArrayVec<Successor, MAX_SUCCESSORS>,
+)
     requires fits { FitsLevel level.now position.now }
     requires undoomed { Undoomed level.now position.now }
     requires dead_of_level { dead.now ≡ level.now }
     requires room { scratch.old.size ≡ length level.now.cells }
     requires flooded { IsAreaOf level.now position.now scratch.old.reached }
     requires possible { CanPush level.now position.now push }
-    ensures some { IfSome result (λ s. (s.push ≡ push) × IsSuccessor level.now position.now push s.position × FitsLevel level.now s.position) }
-    ensures none { IfNone result ((m : Scene) → ¬ (IsSuccessor level.now position.now push m)) }
+    requires place { length successors.old.items < MAX_SUCCESSORS }
+    ensures appended { IsAppended level.now position.now push successors.old.items successors.new.items }
+    ensures kept { scratch.new ≡ scratch.old }
+{
+    let Push { square, dir } = push;
+    if dead.is_dead(level.next(square, dir)) {
+        return;
+    }
+    let place = successors.len();
+    successors.push(Successor {
+        push: Push { square, dir },
+        position: Position::default(),
+    });
+    let made = make_push(
+        level,
+        dead,
+        position,
+        Push { square, dir },
+        scratch,
+        &mut successors.as_mut_slice()[place].position,
+    );
+    if !made {
+        successors.truncate(place);
+    }
+}
+
+// Makes a position what a push leads to, where the last flood was that of the position before it; `false` exactly where
+// that is doomed.
+fn make_push(
+    level: &Level,
+    dead: &Dead,
+    position: &Position,
+    push: Push,
+    scratch: &mut Scratch,
+    moved: &mut Position,
+) -> bool
+    requires fits { FitsLevel level.now position.now }
+    requires undoomed { Undoomed level.now position.now }
+    requires dead_of_level { dead.now ≡ level.now }
+    requires room { scratch.old.size ≡ length level.now.cells }
+    requires flooded { IsAreaOf level.now position.now scratch.old.reached }
+    requires possible { CanPush level.now position.now push }
+    ensures some { IsTrue result → IsSuccessor level.now position.now push moved.new × FitsLevel level.now moved.new }
+    ensures none { result ≡ false → (m : Scene) → ¬ (IsSuccessor level.now position.now push m) }
     ensures kept { scratch.new ≡ scratch.old }
 {
     let Push { square, dir } = push;
     let ahead = level.next(square, dir);
-    let mut moved = position.copy();
+    moved.copy_from(position);
     moved.push(square, ahead);
-    if !doom::is_loose(level, dead, &moved, ahead) && doom::doomed(level, dead, &moved, scratch) {
-        return None;
+    if !doom::is_loose(level, dead, moved, ahead) && doom::doomed(level, dead, moved, scratch) {
+        return false;
     }
-    Some(Successor {
-        push,
-        position: area::normal_after(level, position, Push { square, dir }, moved, scratch),
-    })
+    area::normalise_after(level, position, Push { square, dir }, moved, scratch);
+    true
 }

@@ -7,7 +7,7 @@ use Rattle.area.proofs.after.least_aside.Goals as goal
 pub least_of-requires-clause-some : goal.least_of-requires-clause-some
 least_of-requires-clause-some c =
     let same = c.deref.ensures.value ∙ written c.flood_words.new.reached (drop (length c.flood_words.new.reached) c.scratch.inside.spare.items) c.scratch.inside.spare.len (omega arith) in
-    (c.args.position.now.player, (area_seen c.args.level.now c.args.position.now c.flood_words.new.reached c.deref.result.now c.flood_words.ensures same c.args.position.now.player).1 (area_here c.args.level.now c.args.position.now))
+    (c.args.position.now.player, (area_seen c.args.level.now c.args.position.now c.flood_words.new.reached c.deref.result.now c.flood_words.ensures.reached same c.args.position.now.player).1 (area_here c.args.level.now c.args.position.now))
 
 pub least_of-requires-clause-small : goal.least_of-requires-clause-small
 least_of-requires-clause-small c =
@@ -16,4 +16,4 @@ least_of-requires-clause-small c =
 pub returns-clause-norm : goal.returns-clause-norm
 returns-clause-norm c =
     let same = c.deref.ensures.value ∙ written c.flood_words.new.reached (drop (length c.flood_words.new.reached) c.scratch.inside.spare.items) c.scratch.inside.spare.len (omega arith) in
-    norm_of_least c.args.level.now c.args.position.now c.deref.result.now c.least_of.result (area_seen c.args.level.now c.args.position.now c.flood_words.new.reached c.deref.result.now c.flood_words.ensures same) c.least_of.ensures.reached c.least_of.ensures.least
+    norm_of_least c.args.level.now c.args.position.now c.deref.result.now c.least_of.result (area_seen c.args.level.now c.args.position.now c.flood_words.new.reached c.deref.result.now c.flood_words.ensures.reached same) c.least_of.ensures.reached c.least_of.ensures.least

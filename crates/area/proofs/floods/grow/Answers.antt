@@ -1,6 +1,6 @@
-use Rattle.std.proofs.Common.{◌≡◌, ℕ, ◌+◌, ◌-◌, ◌/◌, sym, subst, arith}
+use Rattle.std.proofs.Common.{◌≡◌, ℕ, ◌+◌, ◌-◌, ◌/◌, inr, sym, subst, arith}
 use Rattle.area.specs.Words.{IsFlooding}
-use Rattle.area.proofs.Visiting.{flooding_on, flooding_back, flooded}
+use Rattle.area.proofs.Visiting.{growing_then, flooding_on, flooding_back, flooded}
 use Rattle.area.proofs.floods.grow.Goals as goal
 
 pub loop-place-preserved-then-settle : goal.loop-place-preserved-then-settle
@@ -15,6 +15,10 @@ loop-place-preserved c = (
   omega arith,
 )
 
-pub returns : goal.returns
-returns c =
-    flooded c.args.level.now c.args.boxes.now c.args.reached.now c.loop-place.reached c.loop-place.place (let r = c.requires.room in let m = c.step_masks-masks.ensures.size in omega (arith, r, m)) c.loop-place.invariant.0
+pub returns-then-has_aim-clause-growing : goal.returns-then-has_aim-clause-growing
+returns-then-has_aim-clause-growing c =
+    growing_then c.args.level.now c.args.boxes.now c.args.reached.now c.loop-place.reached c.settle.new.reached c.loop-place.invariant.0.growing (c.settle.ensures c.args.level.now c.step_masks-masks.ensures (sym c.cols-cols.ensures)).growing
+
+pub returns-clause-ended : goal.returns-clause-ended
+returns-clause-ended c =
+    inr (flooded c.args.level.now c.args.boxes.now c.args.reached.now c.loop-place.reached c.loop-place.place (let r = c.requires.room in let m = c.step_masks-masks.ensures.size in omega (arith, r, m)) c.loop-place.invariant.0)

@@ -1,7 +1,8 @@
-use Rattle.std.proofs.Common.{ℕ, List, length, get_or, ◌<◌, drop, refl, sym, ap, ◌∙◌, arith}
+use Rattle.std.proofs.Common.{ℕ, List, length, get_or, ◌<◌, drop, refl, sym, ap, subst, ◌∙◌, arith}
 use Rattle.std.proofs.lemmas.Bool.{true≢false}
 use Rattle.grid.proofs.Steps.{inside_grid}
 use Rattle.area.specs.Reach.{Reach}
+use Rattle.area.specs.Spread.{IsSpread}
 use Rattle.area.proofs.Reached.{walk_free}
 use Rattle.area.proofs.Descents.{no_way, least_way, ok_gives}
 use Rattle.area.proofs.Seams.{written, read_written}
@@ -36,6 +37,11 @@ descend-outcome-requires-clause-reached c =
     let mark = read_written c.search_from-base.new.marks (drop (length c.search_from-base.new.marks) c.scratch.inside.marks.items) c.scratch.inside.marks.len c.player.inside.0 c.player-player.result c.index.result.now (omega arith) inside c.index.ensures c.player.view_is in
     let same = ap (λ (ms : List ℕ). get_or ms c.player-player.result 0) (c.deref.ensures.value ∙ written c.search_from-base.new.marks (drop (length c.search_from-base.new.marks) c.scratch.inside.marks.items) c.scratch.inside.marks.len (omega arith)) in
     omega (arith, mark, same, c.if-index-base.false)
+
+pub descend-outcome-requires-clause-spread : goal.descend-outcome-requires-clause-spread
+descend-outcome-requires-clause-spread c =
+    let same = c.deref.ensures.value ∙ written c.search_from-base.new.marks (drop (length c.search_from-base.new.marks) c.scratch.inside.marks.items) c.scratch.inside.marks.len (omega arith) in
+    subst (λ (ms : List ℕ). IsSpread c.args.level.now c.search_from-base.result c.args.square (λ (q : ℕ). get_or ms q 0)) (sym same) c.search_from-base.ensures.searched.spread
 
 pub returns-clause-walk : goal.returns-clause-walk
 returns-clause-walk c =

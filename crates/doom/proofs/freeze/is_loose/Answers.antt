@@ -1,10 +1,11 @@
-use Rattle.std.proofs.Common.{◌≡◌, ◌↔◌, ℕ, true, IsTrue, sym, subst, ◌∙◌, ◌<◌, length}
+use Rattle.std.proofs.Common.{◌≡◌, ◌↔◌, ℕ, true, IsTrue, sym, ap, subst, ◌∙◌}
 use Rattle.std.proofs.lemmas.Bool.{false≢true}
 use Rattle.grid.specs.Board.{Board}
 use Rattle.grid.specs.Squares.{Squares, contains}
 use Rattle.grid.proofs.Squares.{contains-get_or}
 use Rattle.grid.proofs.Steps.{inside_grid}
-use Rattle.doom.specs.Deadlocks.{IsDead, IsBlocked}
+use Rattle.doom.specs.Deadlocks.{IsDead}
+use Rattle.doom.specs.Loose.{IsBlockedFirmly}
 use Rattle.doom.proofs.Loose.{loose_by}
 use Rattle.doom.proofs.freeze.is_loose.Goals as goal
 use Rattle.doom.proofs.freeze.is_loose.Goals.{In-Some}
@@ -16,17 +17,17 @@ found c =
     subst (λ (boxes : Squares). contains boxes c.args.square ≡ true) c.boxes-boxes.ensures.squares
     (subst (λ (q : ℕ). contains c.boxes-boxes.result.now q ≡ true) c.in-Some.ensures.some.1 listed)
 
-pub is_blocked-requires-clause-inside : goal.is_blocked-requires-clause-inside
-is_blocked-requires-clause-inside c =
-    subst (λ (q : ℕ). q < length c.args.level.now.cells) (sym c.in-Some.ensures.some.1)
-    (inside_grid c.args.level.now c.args.square (c.requires.fits.scene.boxes c.args.square (found (goal.at.is_blocked-requires-clause-inside c).In-Some)))
+pub is_blocked_firmly-requires-clause-inside : goal.is_blocked_firmly-requires-clause-inside
+is_blocked_firmly-requires-clause-inside c q there =
+    let there' = ap (λ boxes. contains boxes q) (sym c.boxes-boxes.ensures.squares) ∙ there in
+    inside_grid c.args.level.now q (c.requires.fits.scene.boxes q there')
 
 pub returns-then-not-is_dead : goal.returns-then-not-is_dead
 returns-then-not-is_dead c =
     let board = c.args.level.now in
     let given = c.boxes-boxes.result.now in
     let live : ¬ (IsDead board c.args.square) = λ dead. false≢true (sym c.if-not-is_dead.true ∙ c.is_dead.ensures.dead.1 (subst (λ (b : Board). IsDead b c.args.square) (sym c.requires.dead_of_level) dead)) in
-    let told : IsTrue c.is_blocked.result ↔ IsBlocked board c.args.position.now.boxes c.args.square =
-    subst (λ (boxes : Squares). IsTrue c.is_blocked.result ↔ IsBlocked board boxes c.args.square) c.boxes-boxes.ensures.squares
-    (subst (λ (q : ℕ). IsTrue c.is_blocked.result ↔ IsBlocked board given q) c.in-Some.ensures.some.1 c.is_blocked.ensures) in
-    loose_by board c.args.position.now.boxes c.args.square c.is_blocked.result (found (goal.at.returns-then-not-is_dead c).In-Some) live told
+    let told : IsTrue c.is_blocked_firmly.result ↔ IsBlockedFirmly board c.args.position.now.boxes c.args.square =
+    subst (λ (boxes : Squares). IsTrue c.is_blocked_firmly.result ↔ IsBlockedFirmly board boxes c.args.square) c.boxes-boxes.ensures.squares
+    (subst (λ (q : ℕ). IsTrue c.is_blocked_firmly.result ↔ IsBlockedFirmly board given q) c.in-Some.ensures.some.1 c.is_blocked_firmly.ensures) in
+    loose_by board c.args.position.now.boxes c.args.square c.is_blocked_firmly.result (found (goal.at.returns-then-not-is_dead c).In-Some) live told

@@ -1,4 +1,4 @@
-use Rattle.std.proofs.Common.{◌≡◌, ℕ, ◌<◌, rules, tests, ◌∙◌, arith}
+use Rattle.std.proofs.Common.{◌≡◌, rules, tests, ◌∙◌, arith}
 use Rattle.std.proofs.lemmas.List.{get_or_read}
 use Rattle.doom.proofs.Search.{nowhere_in}
 use Rattle.doom.proofs.freeze.place_of.Goals.{else-place-boxes-via-then-place-boxes+else-eq, else-place-boxes-via-else-place-boxes}

@@ -1,4 +1,4 @@
-use Rattle.std.proofs.Common.{ℕ, ltb, count_by, ap, ◌∙◌, arith}
+use Rattle.std.proofs.Common.{ℕ, ltb, count_by, ap, ◌∙◌}
 use Rattle.std.proofs.lemmas.List.{take_all}
 use Rattle.grid.proofs.Places.{lesser_first}
 use Rattle.grid.proofs.position.place_of.Goals as goal

@@ -1,7 +1,7 @@
 use Rattle.std.proofs.Common.{◌*◌, ◌≤◌, length}
-use Rattle.layers.proofs.Gathering.{ArePushesOf}
+use Rattle.layers.specs.Expansion.{AreAllowedBefore, count_below}
 use Rattle.layers.proofs.expansion.possible_pushes.Given as goal
 
-abbrev pub invariant-loop-square : goal.invariant-loop-square
-invariant-loop-square l =
-    ArePushesOf l.level l.position l.square-index l.pushes.items × (length l.pushes.items ≤ 4 * l.square-index)
+abbrev pub invariant-loop-place : goal.invariant-loop-place
+invariant-loop-place l =
+    AreAllowedBefore l.level l.scratch (64 * l.place) 0 l.pushes.items × (length l.pushes.items ≤ 4 * count_below l.scratch.boxes (64 * l.place))

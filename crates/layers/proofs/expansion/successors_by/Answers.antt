@@ -1,4 +1,5 @@
-use Rattle.std.proofs.Common.{◌≡◌, ◌+◌, length, refl, sym, ap, subst, ◌∙◌, arith}
+use Rattle.std.proofs.Common.{◌+◌, [], ◌∷◌, length, refl, sym, ap, subst, ◌∙◌, inl, inr, arith}
+use Rattle.std.proofs.lemmas.List.{length-append}
 use Rattle.std.proofs.lemmas.Option.{slice_get_read}
 use Rattle.area.specs.Reach.{Reach}
 use Rattle.layers.specs.Expansion.{IsAreaOf}
@@ -6,35 +7,31 @@ use Rattle.layers.specs.ParcelView.{FitLevel}
 use Rattle.layers.proofs.Successors.{come_by}
 use Rattle.layers.proofs.Gathering.{AreSuccessorsBy, by_same, by_more, by_all, fit_more}
 use Rattle.layers.proofs.expansion.successors_by.Goals as goal
-use Rattle.layers.proofs.expansion.successors_by.Goals.{in-Some, in_default}
 
-pub successor_by-requires-clause-possible : goal.successor_by-requires-clause-possible
-successor_by-requires-clause-possible c =
+pub append_successor-requires-clause-possible : goal.append_successor-requires-clause-possible
+append_successor-requires-clause-possible c =
     c.requires.pushes.each c.loop-push.push-index c.push-item.result
     (slice_get_read c.args.pushes.now (length c.args.pushes.now) c.loop-push.push-index c.push-item.result refl c.loop-push-test.true c.push-item.is)
 
 pub loop-push-preserved : goal.loop-push-preserved
 loop-push-preserved c =
     let here = slice_get_read c.args.pushes.now (length c.args.pushes.now) c.loop-push.push-index c.push-item.result refl c.loop-push-test.true c.push-item.is in
-    elim c.match-successor_by.branch [
-      | in-Some w ↦
-          (let e : c.match-successor_by.successors.items ≡ w.push.new.self.items = ap (λ v. v.items) w.successors-is in
-          let grown = e ∙ w.push.ensures.items in
-          let come = w.in-Some.ensures.some in
-          let more = by_more c.args.level.now c.args.position.now c.requires.fits.scene c.args.pushes.now c.loop-push.push-index c.push-item.result c.loop-push.successors.items w.in-Some.successor c.requires.pushes here c.loop-push.invariant.0 come.0 come.1 in
-          let fit = fit_more c.args.level.now c.loop-push.successors.items w.in-Some.successor c.loop-push.invariant.1 come.2 in (
+    let kept = c.append_successor.ensures.kept ∙ c.loop-push.invariant.3 in
+    elim c.append_successor.ensures.appended [
+      | inl (s, grown, named, come, fits) ↦
+          (let more = by_more c.args.level.now c.args.position.now c.requires.fits.scene c.args.pushes.now c.loop-push.push-index c.push-item.result c.loop-push.successors.items s c.requires.pushes here c.loop-push.invariant.0 named come in
+          let fit = fit_more c.args.level.now c.loop-push.successors.items s c.loop-push.invariant.1 fits in (
             subst (AreSuccessorsBy c.args.level.now c.args.position.now (c.loop-push.push-index + 1) c.args.pushes.now) (sym grown) more,
             subst (FitLevel c.args.level.now) (sym grown) fit,
-            omega (arith, c.loop-push.invariant.2, w.push.ensures.len, ap (λ xs. length xs) e),
-            c.successor_by.ensures.kept ∙ c.loop-push.invariant.3,
+            omega (arith, c.loop-push.invariant.2, ap (λ xs. length xs) grown ∙ length-append c.loop-push.successors.items (s ∷ [])),
+            kept,
           ))
-      | in_default w ↦
-          (let e : c.match-successor_by.successors.items ≡ c.loop-push.successors.items = ap (λ v. v.items) w.successors-is in
-          let same = by_same c.args.level.now c.args.position.now c.requires.fits.scene c.args.pushes.now c.loop-push.push-index c.push-item.result c.loop-push.successors.items here c.loop-push.invariant.0 w.in_default.ensures.none in (
+      | inr (e, none) ↦
+          (let same = by_same c.args.level.now c.args.position.now c.requires.fits.scene c.args.pushes.now c.loop-push.push-index c.push-item.result c.loop-push.successors.items here c.loop-push.invariant.0 none in (
             subst (AreSuccessorsBy c.args.level.now c.args.position.now (c.loop-push.push-index + 1) c.args.pushes.now) (sym e) same,
             subst (FitLevel c.args.level.now) (sym e) c.loop-push.invariant.1,
             omega (arith, c.loop-push.invariant.2, ap (λ xs. length xs) e),
-            c.successor_by.ensures.kept ∙ c.loop-push.invariant.3,
+            kept,
           ))
     ]
 
@@ -43,6 +40,6 @@ returns-clause-successors c =
     by_all c.args.level.now c.args.position.now c.requires.fits.scene c.args.pushes.now c.loop-push.push-index c.loop-push.successors.items c.loop-push-test.false c.requires.pushes
     (λ p m come. (come_by c.args.level.now c.args.position.now c.requires.fits.scene p m come).can) c.loop-push.invariant.0
 
-pub successor_by-requires-clause-flooded : goal.successor_by-requires-clause-flooded
-successor_by-requires-clause-flooded c =
+pub append_successor-requires-clause-flooded : goal.append_successor-requires-clause-flooded
+append_successor-requires-clause-flooded c =
     subst (λ (s : Reach). IsAreaOf c.args.level.now c.args.position.now s.reached) (sym c.loop-push.invariant.3) c.requires.flooded

@@ -13,6 +13,7 @@ invariant_of-result c =
       base = omega arith;
       within = λ q. omega (arith, c.in_ok-zeros.ensures.low q);
       reached_words = c.in_ok-empty_set.ensures ∙ words;
-      spare_words = c.in_ok-empty_set-2.ensures ∙ words;
-      boxes_words = c.in_ok-empty_set-3.ensures ∙ words;
+      boxes_words = c.in_ok-empty_set-2.ensures ∙ words;
+      spare_words = c.in_ok-empty_set-3.ensures ∙ words;
+      spare_boxes_words = c.in_ok-empty_set-4.ensures ∙ words;
     }

@@ -1,0 +1,62 @@
+use Rattle.std.proofs.Common.{ℕ, ◌<◌, length, refl, sym, ap, subst, ◌∙◌}
+use Rattle.grid.specs.Board.{Scene, next}
+use Rattle.grid.proofs.Steps.{inside_grid}
+use Rattle.area.specs.Area.{IsNorm, at}
+use Rattle.area.specs.After.{StaysJoined, IsLeastWith}
+use Rattle.area.proofs.Detours.{still_reached, none_below, norm_after}
+use Rattle.area.proofs.Norms.{norm_fits}
+use Rattle.area.proofs.Reached.{walk_free}
+use Rattle.area.proofs.after.normalise_after.Goals as goal
+use Rattle.area.proofs.after.normalise_after.Goals.{then-gains_nothing+then-joined, then-gains_nothing+else-joined, else-gains_nothing+then-joined-2, else-gains_nothing+else-joined-2}
+
+pub next-ahead-requires : goal.next-ahead-requires
+next-ahead-requires c = inside_grid c.args.level.now c.args.push.square (c.requires.fits_before.scene.boxes c.args.push.square c.requires.pushed.there)
+
+pub gains_nothing-requires : goal.gains_nothing-requires
+gains_nothing-requires c = record {
+  inside = inside_grid c.args.level.now c.args.push.square (c.requires.fits_before.scene.boxes c.args.push.square c.requires.pushed.there);
+  behind = (c.requires.flooded _).1 c.requires.pushed.behind;
+}
+
+pub stays_joined-joined-requires-clause-inside : goal.stays_joined-joined-requires-clause-inside
+stays_joined-joined-requires-clause-inside c = inside_grid c.args.level.now c.args.push.square (c.requires.fits_before.scene.boxes c.args.push.square c.requires.pushed.there)
+
+pub stays_joined-joined-requires-clause-reached : goal.stays_joined-joined-requires-clause-reached
+stays_joined-joined-requires-clause-reached c = λ q there.
+    let walked = (c.requires.flooded q).0 there in
+    inside_grid c.args.level.now q (walk_free c.args.level.now c.args.before.now walked.0 q c.requires.fits_before.scene walked.1).0
+
+pub least_grown-requires-clause-inside : goal.least_grown-requires-clause-inside
+least_grown-requires-clause-inside c = subst (λ (x : ℕ). x < length c.args.level.now.cells) (sym c.next-ahead.ensures) (inside_grid c.args.level.now _ c.requires.pushed.ahead.0)
+
+pub least_grown-requires-clause-known : goal.least_grown-requires-clause-known
+least_grown-requires-clause-known c = λ q there other.
+    let joined = subst (λ (x : ℕ). StaysJoined c.args.level.now c.args.scratch.now.reached x c.args.push.square) c.next-ahead.ensures (c.stays_joined-joined.ensures c.if-joined-2.true) in
+    still_reached c.args.level.now c.args.before.now c.args.push c.args.after.now c.requires.fits_before.scene c.requires.pushed c.args.scratch.now.reached c.requires.flooded joined q there (λ e. other (e ∙ sym c.next-ahead.ensures))
+
+pub least_left-requires-clause-least : goal.least_left-requires-clause-least
+least_left-requires-clause-least c =
+    let least = subst (λ (x : ℕ). IsLeastWith c.args.scratch.now.reached x c.args.push.square c.least_with-least.result) c.next-ahead.ensures c.least_with-least.ensures in
+    none_below c.args.level.now c.args.before.now c.args.push c.args.after.now c.requires.fits_before.scene c.requires.pushed c.args.scratch.now.reached c.requires.flooded c.requires.fits.scene (c.if-gains_nothing.ensures refl) c.least_with-least.result least
+
+pub returns-clause-norm : goal.returns-clause-norm
+returns-clause-norm c =
+    let board = c.args.level.now in
+    let reached = c.args.scratch.now.reached in
+    let ahead : ℕ = next board c.args.push.square c.args.push.dir in
+    elim c.if-gains_nothing.branch [
+      | then-gains_nothing+then-joined w ↦
+          (let known = w.if-gains_nothing.ensures refl in
+          let joined = subst (λ (x : ℕ). StaysJoined board reached x c.args.push.square) c.next-ahead.ensures (c.stays_joined-joined.ensures w.if-joined.true) in
+          let least = subst (λ (x : ℕ). IsLeastWith reached x c.args.push.square w.least_with-least.result) c.next-ahead.ensures w.least_with-least.ensures in
+          norm_after board c.args.before.now c.args.push c.args.after.now c.requires.fits_before.scene c.requires.pushed reached c.requires.flooded c.requires.fits.scene known joined c.set_player.new.self w.least_with-least.result (c.set_player.ensures ∙ ap (λ (q : ℕ). at c.args.after.now q) w.player-is) least)
+      | then-gains_nothing+else-joined w ↦
+          subst (λ (n : Scene). IsNorm board c.args.after.now n) (sym (c.set_player.ensures ∙ ap (λ (q : ℕ). at c.args.after.now q) w.player-is)) w.least_left.ensures.norm
+      | else-gains_nothing+then-joined-2 w ↦
+          subst (λ (n : Scene). IsNorm board c.args.after.now n) (sym (c.set_player.ensures ∙ ap (λ (q : ℕ). at c.args.after.now q) w.player-is)) w.least_grown.ensures.norm
+      | else-gains_nothing+else-joined-2 w ↦
+          subst (λ (n : Scene). IsNorm board c.args.after.now n) (sym (c.set_player.ensures ∙ ap (λ (q : ℕ). at c.args.after.now q) w.player-is)) w.least_aside.ensures.norm
+    ]
+
+pub returns-clause-fits : goal.returns-clause-fits
+returns-clause-fits c = norm_fits c.requires.fits (returns-clause-norm c)

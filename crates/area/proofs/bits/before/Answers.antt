@@ -1,0 +1,11 @@
+use Rattle.std.proofs.Common.{ℕ, ◌-◌, ◌+◌, ◌/◌, ◌%◌, sym, ap, ◌∙◌, arith}
+use Rattle.grid.specs.Masks.{has_bit}
+use Rattle.area.specs.Words.{word_bit}
+use Rattle.area.proofs.WordBits.{has_bit-at, seen_before}
+use Rattle.area.proofs.bits.before.Goals as goal
+
+pub returns : goal.returns
+returns c = λ i j lt e.
+    seen_before (has_bit c.args.words.now) c.args.place (c.args.by / 64) (c.args.by % 64) c.args.by _ _ _ (omega arith) (omega arith)
+    (λ m l le. ap (λ (w : ℕ). word_bit w m) (c.word_before-here.ensures le) ∙ sym (has_bit-at c.args.words.now (c.args.place - c.args.by / 64) m l))
+    (λ m l le. ap (λ (w : ℕ). word_bit w m) (c.word_before-low.ensures le) ∙ sym (has_bit-at c.args.words.now (c.args.place - (c.args.by / 64 + 1)) m l)) c.slid_up.ensures.here c.slid_up.ensures.low i j lt e

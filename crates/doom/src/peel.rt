@@ -1,0 +1,75 @@
+ghost use Rattle.std.specs.Prelude.{◌≡◌, ℕ, ◌+◌, ◌*◌, ◌<◌, ◌↔◌, IsTrue, true, false, length};
+ghost use Rattle.grid.specs.declared.dir.Dir.{Dir};
+ghost use Rattle.grid.specs.Board.{Board};
+ghost use Rattle.grid.specs.Masks.{has_bit, word_count};
+ghost use Rattle.area.specs.Words.{squares_of, word_bit};
+ghost use Rattle.doom.specs.Deadlocks.{IsHeld};
+ghost use Rattle.doom.specs.Holding.{AreFast, IsApart};
+ghost use Rattle.doom.specs.Peeling.{StandInside, IsLook, IsPass, IsLargestBlocked};
+
+use crate::dead::Dead;
+use area::bits::{after, before, put_all};
+use grid::{Square, WORD_BITS};
+
+/// Makes the set the largest one of boxes each of which is blocked by walls, by other members or by dead squares.
+pub(crate) fn largest_blocked(dead: &Dead, boxes: &[Square], members: &mut [u64])
+    requires inside { StandInside dead.now boxes.now }
+    requires room { length members.old ≡ word_count (length dead.now.cells) }
+    ensures { IsLargestBlocked dead.now boxes.now (squares_of members.new) }
+{
+    put_all(boxes, members);
+    while peel(dead, members) {}
+}
+
+/// Looks at each word once, and takes out the members that nothing blocks; says whether one went.
+fn peel(dead: &Dead, members: &mut [u64]) -> bool
+    requires inside { StandInside dead.now (squares_of members.old) }
+    requires room { length members.old ≡ word_count (length dead.now.cells) }
+    ensures { IsPass dead.now members.old members.new result }
+{
+    let mut went = false;
+    for place in 0..members.len() {
+        went |= peel_word(dead, members, place);
+    }
+    went
+}
+
+/// Takes out of one word the members that nothing blocks; says whether one went.
+#[inline(always)]
+fn peel_word(dead: &Dead, members: &mut [u64], place: usize) -> bool
+    requires place { place < length members.old }
+    requires inside { StandInside dead.now (squares_of members.old) }
+    requires room { length members.old ≡ word_count (length dead.now.cells) }
+    ensures { IsLook dead.now place members.old members.new result }
+{
+    let old = members[place];
+    let across = held(dead.across(), members, place, 1);
+    let along = held(dead.along(), members, place, dead.cols());
+    let kept = old & across & along;
+    members[place] = kept;
+    kept != old
+}
+
+/// For each square of a word, whether a box there is held on an axis: by walls or dead squares alone, or by a member so
+/// many numbers before or after it.
+#[inline(always)]
+fn held(fast: &[u64], members: &[u64], place: usize, by: usize) -> u64
+    requires place { place < length members.now }
+    requires room { length fast.now ≡ length members.now }
+    ensures { (board : Board) (d : Dir) → AreFast board d fast.now → IsApart board d by → (j : ℕ) → j < WORD_BITS → WORD_BITS * place + j < length board.cells → (word_bit result j ≡ true) ↔ IsHeld board (squares_of members.now) (WORD_BITS * place + j) d }
+{
+    fast[place] | before(members, place, by) | after(members, place, by)
+}
+
+/// Whether a member of the one set is none of the other.
+pub(crate) fn has_other(members: &[u64], others: &[u64]) -> bool
+    requires { length members.now ≡ length others.now }
+    ensures { IsTrue result ↔ ((q : ℕ) × (has_bit members.now q ≡ true) × (has_bit others.now q ≡ false)) }
+{
+    for place in 0..members.len() {
+        if members[place] & !others[place] != 0 {
+            return true;
+        }
+    }
+    false
+}

@@ -1,0 +1,78 @@
+use Rattle.std.proofs.Common.{◌≡◌, refl, sym, subst, ◌∙◌}
+use Rattle.std.proofs.lemmas.Bool.{false≢true}
+use Rattle.grid.specs.Squares.{contains}
+use Rattle.grid.specs.Board.{Scene, next}
+use Rattle.grid.specs.Lawful.{FitsLevel}
+use Rattle.grid.proofs.Steps.{inside_grid}
+use Rattle.area.specs.Area.{IsNorm}
+use Rattle.area.specs.Reach.{Reach}
+use Rattle.doom.specs.Deadlocks.{Doomed, Undoomed}
+use Rattle.doom.specs.Loose.{IsLoose}
+use Rattle.doom.proofs.Loose.{loose_dooms_nothing}
+use Rattle.layers.specs.Expansion.{after_push, IsAreaOf}
+use Rattle.layers.proofs.Successors.{after_fits, successor_is, come_by}
+use Rattle.layers.proofs.expansion.make_push.Goals as goal
+use Rattle.layers.proofs.expansion.make_push.Goals.{else-not-is_loose-via-then-not-is_loose+else-doomed, else-not-is_loose-via-else-not-is_loose}
+
+pub next-ahead-requires : goal.next-ahead-requires
+next-ahead-requires c = inside_grid c.args.level.now c.args.push.square (c.requires.fits.scene.boxes c.args.push.square c.requires.possible.there)
+
+pub push-requires-clause-free : goal.push-requires-clause-free
+push-requires-clause-free c =
+    let e : contains c.copy_from.new.self.boxes c.next-ahead.result ≡ contains c.args.position.now.boxes (next c.args.level.now c.args.push.square c.args.push.dir) = cc in
+    e ∙ c.requires.possible.ahead.1
+
+pub doomed-requires-clause-fits : goal.doomed-requires-clause-fits
+doomed-requires-clause-fits c =
+    let moved : c.push.new.self ≡ after_push c.args.level.now c.args.position.now c.args.push = cc in
+    subst (FitsLevel c.args.level.now) (sym moved) (after_fits c.args.level.now c.args.position.now c.requires.fits.scene c.args.push c.requires.fits c.requires.possible)
+
+pub returns-then-doomed-clause-none : goal.returns-then-doomed-clause-none
+returns-then-doomed-clause-none c = λ no m come.
+    let moved : c.push.new.self ≡ after_push c.args.level.now c.args.position.now c.args.push = cc in
+    (come_by c.args.level.now c.args.position.now c.requires.fits.scene c.args.push m come).safe (subst (λ (s : Scene). Doomed c.args.level.now s.boxes) moved (c.if-doomed.ensures.doomed.0 refl))
+
+pub normalise_after-requires-clause-fits : goal.normalise_after-requires-clause-fits
+normalise_after-requires-clause-fits c =
+    let moved : c.push.new.self ≡ after_push c.args.level.now c.args.position.now c.args.push = cc in
+    subst (FitsLevel c.args.level.now) (sym moved) (after_fits c.args.level.now c.args.position.now c.requires.fits.scene c.args.push c.requires.fits c.requires.possible)
+
+pub returns-clause-some : goal.returns-clause-some
+returns-clause-some c =
+    let board = c.args.level.now in
+    let n = c.args.position.now in
+    let after = after_push board n c.args.push in
+    let moved : c.push.new.self ≡ after = cc in
+    let safe : Undoomed board after = elim c.else-not-is_loose.branch [
+      | else-not-is_loose-via-then-not-is_loose+else-doomed w ↦ λ bad.
+          false≢true (w.if-doomed.ensures.doomed.1 (subst (λ (s : Scene). Doomed board s.boxes) (sym moved) bad))
+      | else-not-is_loose-via-else-not-is_loose w ↦
+          let loose : IsLoose board c.push.new.self.boxes c.next-ahead.result = c.is_loose.ensures.0 w.if-not-is_loose.false in
+          let there : c.next-ahead.result ≡ next board c.args.push.square c.args.push.dir = cc in
+          loose_dooms_nothing board n.boxes c.args.push.square (next board c.args.push.square c.args.push.dir) c.requires.undoomed
+          (subst (IsLoose board after.boxes) there (subst (λ (s : Scene). IsLoose board s.boxes c.next-ahead.result) moved loose))
+    ] in
+    λ yes. (successor_is board n c.requires.fits.scene c.args.push c.requires.undoomed c.requires.possible safe c.normalise_after.new.after (subst (λ (s : Scene). IsNorm board s c.normalise_after.new.after) moved c.normalise_after.ensures.norm), c.normalise_after.ensures.fits)
+
+pub is_loose-requires-clause-fits : goal.is_loose-requires-clause-fits
+is_loose-requires-clause-fits c =
+    let moved : c.push.new.self ≡ after_push c.args.level.now c.args.position.now c.args.push = cc in
+    subst (FitsLevel c.args.level.now) (sym moved) (after_fits c.args.level.now c.args.position.now c.requires.fits.scene c.args.push c.requires.fits c.requires.possible)
+
+pub normalise_after-requires-clause-pushed : goal.normalise_after-requires-clause-pushed
+normalise_after-requires-clause-pushed c =
+    let moved : c.push.new.self ≡ after_push c.args.level.now c.args.position.now c.args.push = cc in
+    record {
+      there = c.requires.possible.there;
+      behind = c.requires.possible.behind;
+      ahead = c.requires.possible.ahead;
+      after = moved;
+    }
+
+pub normalise_after-requires-clause-flooded : goal.normalise_after-requires-clause-flooded
+normalise_after-requires-clause-flooded c =
+    let kept : c.else-not-is_loose.scratch ≡ c.args.scratch.now = elim c.else-not-is_loose.branch [
+      | else-not-is_loose-via-then-not-is_loose+else-doomed w ↦ w.scratch-is ∙ w.if-doomed.ensures.kept
+      | else-not-is_loose-via-else-not-is_loose w ↦ w.scratch-is
+    ] in
+    subst (λ (s : Reach). IsAreaOf c.args.level.now c.args.position.now s.reached) (sym kept) c.requires.flooded

@@ -1,0 +1,8 @@
+use Rattle.layers.proofs.Gathering.{IsInWord}
+use Rattle.layers.proofs.expansion.push_word.Given as goal
+
+abbrev pub invariant-loop-left : goal.invariant-loop-left
+invariant-loop-left l = IsInWord l.level l.scratch l.masks l.place l.left l.pushes.items
+
+abbrev pub decreases-loop-left : goal.decreases-loop-left
+decreases-loop-left l = l.left
