@@ -111,6 +111,17 @@ pass_none board words = record {
   blocked = λ _ q lt h. absurd (omega (arith, lt));
 }
 
+-- a word without members needs no look
+pub looked_empty : (board : Board) (words : List ℕ) (place : ℕ) → get_or words place 0 ≡ 0 → IsLook board place words words false
+looked_empty board words place none = record {
+  kept = λ q. (λ h. (h, λ e. absurd (false≢true (sym (empty q e) ∙ h))), λ (was, _). was);
+  less = λ e. absurd (false≢true e);
+  same = λ _. refl;
+}
+  where
+    empty : (q : ℕ) → q / 64 ≡ place → has_bit words q ≡ false
+    empty q e = has_bit-parts words q ∙ (ap (λ (k : ℕ). word_bit (get_or words k 0) (q % 64)) e ∙ (ap (λ (w : ℕ). word_bit w (q % 64)) none ∙ word_bit-zero (q % 64)))
+
 -- a look takes no member out that a set within the members blocks
 look_within : (board : Board) (place : ℕ) (old new : List ℕ) (went : Bool) → IsLook board place old new went → IsWithin (squares_of new) (squares_of old)
 look_within board place old new went look q h = bit_member old q ((look.kept q).0 (member_bit new q h)).0
