@@ -1,24 +1,52 @@
-# make         builds the proved program at target/sokopar
+# make         builds the proved program at target/sokopar; what the prover says is kept in target/build.log
+# make install builds it and copies it to PREFIX/bin
 # make demo    runs it on the collections of levels/
-# make test    proves everything from nothing, runs the tests, and then tests the program as a process
+# make test    checks the table of what must be believed, proves everything from nothing, runs the tests, and then tests the
+#              program that this built as a process
 # make bench   measures it
 
 RT ?= rt
+PREFIX ?= /usr/local
+LOG = target/build.log
 
-.PHONY: all demo test bench toolchain
+# the crates that the program is made of, lowest first
+LIBRARIES = $(shell sed -n '/^cli:/q; s/^\([a-z0-9_]*\)[ :].*/\1/p' crates.txt)
+
+.PHONY: all install demo test bench toolchain
+
+# Says a crate's name while its step goes on, and then the time; where it fails, its status and the log decide.
+define step
+	printf '%-10s' "$$crate"; start=$$(date +%s); \
+	(cd crates/$$crate && $(RT) $(1)) >> $(LOG) 2>&1; status=$$?; \
+	if [ $$status -ne 0 ]; then echo "failed: $(LOG) says why"; exit $$status; fi; \
+	echo "proved  $$(($$(date +%s) - start)) s"
+endef
 
 all: toolchain
 	@mkdir -p target
-	@cd crates/cli && $(RT) run -- --help > /dev/null
-	@cp crates/cli/out/cli target/sokopar
+	@: > $(LOG)
+	@for crate in $(LIBRARIES); do $(call step,lib); done
+	@crate=cli; $(call step,run -- --help)
+	@cp -f crates/cli/out/cli target/sokopar
+
+install: all
+	@mkdir -p $(DESTDIR)$(PREFIX)/bin
+	@install -m 755 target/sokopar $(DESTDIR)$(PREFIX)/bin/sokopar
+	@echo "$(DESTDIR)$(PREFIX)/bin/sokopar"
 
 demo: all
 	@levels/demo target/sokopar
 
+# rt ci sets aside what earlier runs left in crates/*/out, so crates/cli/out/cli is the program that it proved and built just now.
 test: toolchain
+	@tests/believed
+	@rm -f target/sokopar
 	@$(RT) ci
-	@$(MAKE) --no-print-directory all
+	@mkdir -p target
+	@cp crates/cli/out/cli target/sokopar
 	@tests/cli/run target/sokopar
+	@tests/workers/run target/sokopar
+	@tests/fuzz/run target/sokopar
 
 bench: all
 	@bench/run target/sokopar

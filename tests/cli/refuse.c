@@ -1,5 +1,6 @@
 /* Loaded before the C library (LD_PRELOAD), it refuses requests for memory: the one whose number, from 1, REFUSE_AT
    gives, and with REFUSE_REST each later one too. At the end it writes to the file REFUSE_COUNT how many there were. */
+#include <errno.h>
 #include <fcntl.h>
 #include <stddef.h>
 #include <stdio.h>
@@ -34,7 +35,9 @@ __attribute__((destructor)) static void end(void) {
 
 static int is_refused(void) {
     unsigned long number = __atomic_add_fetch(&seen, 1, __ATOMIC_SEQ_CST);
-    return at != 0 && (rest ? number >= at : number == at);
+    if (at == 0 || (rest ? number < at : number != at)) return 0;
+    errno = ENOMEM;
+    return 1;
 }
 
 void *malloc(size_t size) { return is_refused() ? NULL : __libc_malloc(size); }

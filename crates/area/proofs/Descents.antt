@@ -7,14 +7,16 @@ use Rattle.std.specs.Cmp.Lexicographic.{slice_cmp}
 use Rattle.std.proofs.lemmas.Bool.{cases_lt, false≢true}
 use Rattle.grid.specs.declared.dir.Dir.{Dir}
 use Rattle.grid.specs.declared.moves.Letter.{Letter}
-use Rattle.grid.specs.Board.{Board, Scene, IsScene, IsFree, next, opposite, dir_number, dir_cmp}
+use Rattle.grid.specs.Board.{Board, Scene, IsFree, next, opposite, dir_number, dir_cmp}
+use Rattle.grid.specs.States.{IsScene}
 use Rattle.grid.specs.Squares.{Squares, contains}
 use Rattle.grid.specs.Plays.{Play, Any, stay, walk, shortlex}
-use Rattle.grid.proofs.Steps.{inside_grid, next_back_to, walk_player, walk_boxes, walk_to, scene_after_walk}
-use Rattle.grid.proofs.Orders.{nat_cmp-less, shortlex-shorter, shortlex-even, not_gt_since_less, not_gt_itself, dir_cmp_total, shortlex_total, shortlex-append_not_gt}
-use Rattle.area.specs.Area.{IsWalk, IsLeastWalk, walk_letters}
-use Rattle.area.specs.Descent.{IsDown, IsFirstDown, IsDescent, IsDescending, arrived, onward}
-use Rattle.area.specs.Spread.{IsSpread, IsSearched}
+use Rattle.grid.proofs.lemmas.Steps.{inside_grid, next_back_to, walk_player, walk_boxes, walk_to, scene_after_walk}
+use Rattle.grid.proofs.lemmas.Orders.{nat_cmp-less, shortlex-shorter, shortlex-even, not_gt_since_less, not_gt_itself, dir_cmp_total, shortlex_total, shortlex-append_not_gt}
+use Rattle.area.specs.Area.{IsWalk}
+use Rattle.area.specs.LeastWalks.{IsLeastWalk, walk_letters}
+use Rattle.area.specs.inside.Descent.{IsDown, IsFirstDown, IsDescent, IsDescending, arrived, onward}
+use Rattle.area.specs.inside.Spread.{IsSpread, IsSearched}
 use Rattle.area.proofs.Spreading.{dir_same}
 use Rattle.area.proofs.Reached.{scene_at, reached_free, reached_step, walk_home}
 

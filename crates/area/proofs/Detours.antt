@@ -6,15 +6,17 @@ use Rattle.grid.specs.declared.dir.Dir.{Dir}
 use Rattle.grid.specs.declared.dir.Dir.TheVariants.{D, L, R, U}
 use Rattle.grid.specs.declared.square.Push.{Push}
 use Rattle.grid.specs.Squares.{Squares, contains, insert, remove}
-use Rattle.grid.specs.Board.{Board, Scene, IsScene, IsFree, next, opposite}
+use Rattle.grid.specs.Board.{Board, Scene, IsFree, next, opposite}
+use Rattle.grid.specs.States.{IsScene}
 use Rattle.grid.specs.Plays.{Play, Any, stay, walk}
-use Rattle.grid.proofs.Steps.{walk_player, walk_boxes, walk_to}
-use Rattle.grid.proofs.Squares.{contains-insert_here, contains-insert_other, contains-remove_other}
-use Rattle.grid.proofs.Plays.{play_walk_on}
+use Rattle.grid.proofs.lemmas.Steps.{walk_player, walk_boxes, walk_to}
+use Rattle.grid.proofs.lemmas.Squares.{contains-insert_here, contains-insert_other, contains-remove_other}
+use Rattle.grid.proofs.lemmas.Plays.{play_walk_on}
 use Rattle.area.specs.Area.{Area, IsNorm, at}
-use Rattle.area.specs.After.{IsAreaOf, IsPushed, across, Skirts, IsKnown, GainsNothing, StaysJoined, IsLeastWith}
-use Rattle.area.specs.After.Skirts.{here, onward}
-use Rattle.area.proofs.Norms.{area_here, area_same, norm_found}
+use Rattle.area.specs.After.{IsAreaOf, IsPushed}
+use Rattle.area.specs.inside.Detours.{across, Skirts, IsKnown, GainsNothing, StaysJoined, IsLeastWith}
+use Rattle.area.specs.inside.Detours.Skirts.{here, onward}
+use Rattle.area.proofs.lemmas.Norms.{area_here, area_same, norm_found}
 use Rattle.area.proofs.Reached.{walk_free}
 
 -- a step from a square of the area onto a free square stays in the area

@@ -9,9 +9,10 @@ use Rattle.grid.specs.declared.dir.Dir.TheVariants.{D, L, R, U}
 use Rattle.grid.specs.declared.masks.StepMasks.{StepMasks}
 use Rattle.grid.specs.Board.{Board, is_wall, next, opposite}
 use Rattle.grid.specs.Masks.{AreMasks, has_bit, can_enter, word_for, words_for}
-use Rattle.grid.proofs.Steps.{inside_grid, next_back_inside, opposite_twice}
-use Rattle.area.specs.Words.{word_bit, comes_by, is_entered}
-use Rattle.area.proofs.WordBits.{word_bit-or, word_bit-and, has_bit-at}
+use Rattle.grid.proofs.lemmas.Steps.{inside_grid, next_back_inside, opposite_twice}
+use Rattle.area.specs.Words.{word_bit}
+use Rattle.area.specs.inside.Flooding.{comes_by, is_entered}
+use Rattle.area.proofs.lemmas.WordBits.{word_bit-or, word_bit-and, has_bit-at}
 
 -- a mask's bit says whether a step can lead onto the square
 pub mask_bit : (board : Board) (masks : List StepMasks) (d : Dir) (k j : ℕ) (e : StepMasks) → AreMasks board masks → k < length masks → j < 64 → word_bit (word_for d (get_or masks k e)) j ≡ can_enter board d (64 * k + j)

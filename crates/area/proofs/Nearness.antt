@@ -3,11 +3,12 @@ use Rattle.std.proofs.Common.{◌≡◌, ℕ, zero, suc, ◌+◌, ◌<◌, ◌�
 use Rattle.std.proofs.lemmas.Bool.{cases_lt, cases_Bool, eqb-true, eq-eqb, and_parts, and_from, or_cases, or_left, or_right, not-true, true≢false, false≢true}
 use Rattle.grid.specs.declared.dir.Dir.{Dir}
 use Rattle.grid.specs.declared.dir.Dir.TheVariants.{D, L, R, U}
-use Rattle.grid.specs.Board.{Board, Scene, IsScene, IsFree, Walks, is_wall, next, opposite}
+use Rattle.grid.specs.Board.{Board, Scene, IsFree, Walks, is_wall, next, opposite}
+use Rattle.grid.specs.States.{IsScene}
 use Rattle.grid.specs.Squares.{Squares, contains}
 use Rattle.grid.specs.Plays.{Play, Any, stay, walk}
-use Rattle.grid.proofs.Steps.{wall_outside, next_back, next_back_to, walk_player, walk_boxes, scene_after_walk}
-use Rattle.grid.proofs.Plays.{play_walk_on}
+use Rattle.grid.proofs.lemmas.Steps.{wall_outside, next_back, next_back_to, walk_player, walk_boxes, scene_after_walk}
+use Rattle.grid.proofs.lemmas.Plays.{play_walk_on}
 use Rattle.area.specs.Area.{Area}
 
 -- ---- tests of the numbers below n

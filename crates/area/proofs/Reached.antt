@@ -2,13 +2,14 @@
 use Rattle.std.proofs.Common.{◌≡◌, ◌≢◌, ℕ, suc, ◌+◌, ◌<◌, ◌≤◌, true, false, inl, inr, List, [], length, sym, ap, subst, ◌∙◌, arith}
 use Rattle.std.proofs.lemmas.Bool.{cases_Bool}
 use Rattle.grid.specs.declared.dir.Dir.{Dir}
-use Rattle.grid.specs.Board.{Board, Scene, IsScene, IsFree, next}
+use Rattle.grid.specs.Board.{Board, Scene, IsFree, next}
+use Rattle.grid.specs.States.{IsScene}
 use Rattle.grid.specs.Squares.{Squares, contains}
 use Rattle.grid.specs.Plays.{Play, Any, stay, walk}
-use Rattle.grid.proofs.Steps.{walk_player, walk_boxes}
-use Rattle.grid.proofs.Plays.{play_scene, walk_backwards, walk_keeps_boxes}
+use Rattle.grid.proofs.lemmas.Steps.{walk_player, walk_boxes}
+use Rattle.grid.proofs.lemmas.Plays.{play_scene, walk_backwards, walk_keeps_boxes}
 use Rattle.area.specs.Area.{IsWalk}
-use Rattle.area.specs.Spread.{IsSpread}
+use Rattle.area.specs.inside.Spread.{IsSpread}
 
 abbrev pub scene_at : Squares → ℕ → Scene
 scene_at boxes q = record { boxes = boxes; player = q }

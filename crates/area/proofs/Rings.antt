@@ -6,9 +6,9 @@ use Rattle.grid.specs.declared.dir.Dir.{Dir}
 use Rattle.grid.specs.declared.dir.Dir.TheVariants.{D, L, R, U}
 use Rattle.grid.specs.Squares.{Squares, contains}
 use Rattle.grid.specs.Board.{Board, next, opposite}
-use Rattle.grid.proofs.Steps.{next_back_inside, opposite_twice}
-use Rattle.area.specs.After.{across, Skirts, IsJoined, GoesPast, GoesRound}
-use Rattle.area.specs.After.Skirts.{here}
+use Rattle.grid.proofs.lemmas.Steps.{next_back_inside, opposite_twice}
+use Rattle.area.specs.inside.Detours.{across, Skirts, IsJoined, GoesPast, GoesRound}
+use Rattle.area.specs.inside.Detours.Skirts.{here}
 use Rattle.area.proofs.Detours.{all_round, skirt_on}
 
 -- ---- directions across

@@ -4,7 +4,7 @@ use Rattle.std.proofs.lemmas.Bool.{cases_eq, cases_lt}
 use Rattle.grid.specs.declared.dir.Dir.{Dir}
 use Rattle.grid.specs.declared.dir.Dir.TheVariants.{D, L, R, U}
 use Rattle.grid.specs.Board.{Board, is_wall, next, dir_number}
-use Rattle.area.specs.Spread.{IsClosed, HasCome, IsSpread, IsSpreading}
+use Rattle.area.specs.inside.Spread.{IsClosed, HasCome, IsSpread, IsSpreading}
 
 -- a direction is known by its number
 pub dir_same : (d e : Dir) → dir_number d ≡ dir_number e → d ≡ e

@@ -11,10 +11,11 @@ use Rattle.grid.specs.declared.dir.Dir.TheVariants.{D, L, R, U}
 use Rattle.grid.specs.declared.masks.StepMasks.{StepMasks}
 use Rattle.grid.specs.Board.{Board, next, opposite}
 use Rattle.grid.specs.Masks.{AreMasks, has_bit, can_enter, word_for}
-use Rattle.area.specs.Words.{word_bit, comes_by, is_entered, IsSettled, AllPass, IsKept, IsGrowing, IsSettling, IsFlooding, IsFlooded, PassesOn, IsGrown}
-use Rattle.area.proofs.WordBits.{word_bit-not, word_bit_inside, has_bit-at, has_bit-parts, square_parts}
+use Rattle.area.specs.Words.{word_bit}
+use Rattle.area.specs.inside.Flooding.{comes_by, is_entered, IsSettled, AllPass, IsKept, IsGrowing, IsSettling, IsFlooding, IsFlooded, PassesOn, IsGrown}
+use Rattle.area.proofs.lemmas.WordBits.{word_bit-not, word_bit_inside, has_bit-at, has_bit-parts, square_parts}
 use Rattle.area.proofs.Gathers.{mask_bit, source_R, source_L, source_D, source_U, entered_same}
-use Rattle.area.proofs.Growing.{or_bit, and_bit, bit_or_left, bit_or_right, bit_and_from}
+use Rattle.area.proofs.lemmas.Growing.{or_bit, and_bit, bit_or_left, bit_or_right, bit_and_from}
 
 -- a square that a step enters comes by one of the four directions
 came_one_way : (board : Board) (words : List ℕ) (q : ℕ) → is_entered board words q ≡ true → (d : Dir) × (comes_by board words d q ≡ true)

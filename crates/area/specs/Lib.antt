@@ -1,8 +1,8 @@
 pub mod After
 pub mod Area
-pub mod Descent
+pub mod Groups
+pub mod LeastWalks
 pub mod Pushable
 pub mod Reach
-pub mod ScratchView
-pub mod Spread
 pub mod Words
+pub mod inside

@@ -1,9 +1,10 @@
 ghost use Rattle.std.specs.Prelude.{◌≡◌, ◌≢◌, ℕ, ◌<◌, ◌≤◌, true, false, IsTrue, ◌⊎◌, length};
-ghost use Rattle.grid.specs.Lawful.{FitsLevel};
+ghost use Rattle.grid.specs.States.{FitsLevel};
 ghost use Rattle.grid.specs.Squares.{contains};
 ghost use Rattle.grid.specs.Board.{next, opposite};
 ghost use Rattle.area.specs.Area.{Area, IsNorm, at};
-ghost use Rattle.area.specs.After.{IsAreaOf, IsPushed, across, Skirts, IsKnown, GainsNothing, StaysJoined, GoesPast, GoesRound};
+ghost use Rattle.area.specs.After.{IsAreaOf, IsPushed};
+ghost use Rattle.area.specs.inside.Detours.{across, Skirts, IsKnown, GainsNothing, StaysJoined, GoesPast, GoesRound};
 
 use crate::bits::least_of;
 use crate::floods::{flood_on, flood_to, flood_words};

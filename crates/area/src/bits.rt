@@ -3,7 +3,7 @@ ghost use Rattle.std.specs.Prelude.{◌≡◌, ℕ, ◌+◌, ◌-◌, ◌*◌, �
 ghost use Rattle.std.specs.Int.{trailing_zeros, w64};
 ghost use Rattle.grid.specs.Masks.{has_bit};
 ghost use Rattle.grid.specs.Squares.{contains};
-ghost use Rattle.area.specs.After.{IsLeastWith};
+ghost use Rattle.area.specs.inside.Detours.{IsLeastWith};
 ghost use Rattle.area.specs.Words.{squares_of, word_bit};
 
 use grid::{MAX_SQUARES, Square, WORD_BITS};

@@ -1,10 +1,11 @@
 ghost use Rattle.std.specs.Prelude.{◌≡◌, ◌≢◌, ℕ, ◌+◌, ◌*◌, ◌<◌, ◌≤◌, ◌↔◌, ◌⊎◌, true, IsTrue, length};
 ghost use Rattle.grid.specs.Board.{Board};
-ghost use Rattle.grid.specs.Lawful.{FitsLevel};
+ghost use Rattle.grid.specs.States.{FitsLevel};
 ghost use Rattle.grid.specs.Masks.{AreMasks, has_bit, word_count};
 ghost use Rattle.grid.specs.Squares.{contains};
 ghost use Rattle.area.specs.Area.{Area, IsNorm};
-ghost use Rattle.area.specs.Words.{word_bit, is_entered, HasAim, IsGrowing, IsFlooded, IsSettling, IsGrown, PassesUp, PassesDown, PassesOn};
+ghost use Rattle.area.specs.Words.{word_bit};
+ghost use Rattle.area.specs.inside.Flooding.{is_entered, HasAim, IsGrowing, IsFlooded, IsSettling, IsGrown, PassesUp, PassesDown, PassesOn};
 
 use crate::bits::{after, before, has, put, put_all, take_out};
 use crate::scratch::Scratch;
@@ -123,7 +124,7 @@ fn flood_from(
 // Adds to the set all squares that steps round the boxes lead to. It goes on from word to word, and where a word gained
 // squares, back to the first one that its squares lead into; so before a place no step leads out of the set. Where an
 // aim is given, it may end as soon as the set has that square.
-fn grow(level: &Level, aim: &Option<Square>, boxes: &[u64], reached: &mut [u64])
+pub(crate) fn grow(level: &Level, aim: &Option<Square>, boxes: &[u64], reached: &mut [u64])
     requires boxes { length boxes.now ≡ word_count (length level.now.cells) }
     requires room { length reached.old ≡ word_count (length level.now.cells) }
     ensures growing { IsGrowing level.now boxes.now reached.old reached.new }

@@ -3,7 +3,8 @@
 ghost use Rattle.std.specs.Prelude.{◌≡◌, ℕ, ◌↔◌, List, [], Bool, true};
 ghost use Rattle.grid.specs.declared.dir.Dir.{Dir};
 ghost use Rattle.grid.specs.Squares.{Squares};
-ghost use Rattle.grid.specs.Board.{Board, Scene, IsScene};
+ghost use Rattle.grid.specs.Board.{Board, Scene};
+ghost use Rattle.grid.specs.States.{IsScene};
 ghost use Rattle.grid.specs.Plays.{Play, Any};
 ghost use Rattle.area.specs.Area.{Area, IsNorm, at};
 

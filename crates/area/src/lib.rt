@@ -4,7 +4,8 @@
 mod after;
 pub mod bits;
 mod floods;
-mod laws;
+mod groups;
+pub mod laws;
 mod pushes;
 mod route;
 mod scratch;
@@ -14,10 +15,7 @@ mod tests;
 
 pub use after::normalise_after;
 pub use floods::{flood, normal};
-pub use laws::{
-    an_area_has_one_normal_form, each_state_has_one_normal_form, walks_go_both_ways,
-    what_boxes_decide_lasts,
-};
+pub use groups::group;
 pub use pushes::{PushMasks, pushable};
 pub use route::walk;
 pub use scratch::Scratch;

@@ -3,7 +3,8 @@ ghost use Rattle.grid.specs.declared.dir.Dir.{Dir};
 ghost use Rattle.grid.specs.Board.{Board, is_wall};
 ghost use Rattle.grid.specs.Masks.{AreMasks, word_count, word_for};
 ghost use Rattle.grid.specs.Squares.{contains};
-ghost use Rattle.area.specs.Pushable.{IsPushable, GoesOn, GoesBack, is_open, can_push, push_word};
+ghost use Rattle.area.specs.Pushable.{IsPushable, push_word};
+ghost use Rattle.area.specs.inside.PushWords.{GoesOn, GoesBack, is_open, can_push};
 ghost use Rattle.area.specs.Words.{word_bit};
 
 use crate::bits::{after, before, slid_down, slid_up};
@@ -12,7 +13,7 @@ use grid::{Dir, Level, StepMasks, WORD_BITS};
 
 /// For [`WORD_BITS`] squares in a row, from a multiple of it on: for each direction a bit for each square whose box can
 /// be pushed in that direction. The lowest bit is the first square's.
-#[derive(Clone, Copy)]
+#[derive(Clone, Copy, PartialEq, Eq, Debug)]
 pub struct PushMasks {
     pub d: u64,
     pub l: u64,

@@ -1,11 +1,12 @@
 ghost use Rattle.std.specs.Prelude.{◌≡◌, ℕ, suc, ◌+◌, ◌<◌, ◌≤◌, ◌↔◌, ◌++◌, List, true, false, IsTrue, IfOk, OnOk, OnErr, length, slice_index};
 ghost use Rattle.grid.specs.declared.dir.Dir.{Dir};
 ghost use Rattle.grid.specs.declared.moves.Letter.{Letter};
-ghost use Rattle.grid.specs.Board.{IsFree, IsScene, next};
+ghost use Rattle.grid.specs.Board.{IsFree, next};
+ghost use Rattle.grid.specs.States.{IsScene};
 ghost use Rattle.grid.specs.Squares.{contains};
-ghost use Rattle.area.specs.Area.{WalkAnswer, walk_letters};
-ghost use Rattle.area.specs.Descent.{IsDown, IsFirstDown, IsDescent};
-ghost use Rattle.area.specs.Spread.{AreBlocked, AreWithin, IsSearched, IsSpread};
+ghost use Rattle.area.specs.LeastWalks.{WalkAnswer, walk_letters};
+ghost use Rattle.area.specs.inside.Descent.{IsDown, IsFirstDown, IsDescent};
+ghost use Rattle.area.specs.inside.Spread.{AreBlocked, AreWithin, IsSearched, IsSpread};
 
 use crate::scratch::{GREATEST_BASE, Scratch, renewed};
 use crate::spread::spread;

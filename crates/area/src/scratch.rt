@@ -1,7 +1,7 @@
 ghost use Rattle.std.specs.Prelude.{◌≡◌, ℕ, ◌<◌, ◌≤◌, true, IfOk, length, slice_index};
 ghost use Rattle.grid.specs.Squares.{contains};
-ghost use Rattle.area.specs.After.{IsLeastWith};
-ghost use Rattle.area.specs.Spread.{AreWithin};
+ghost use Rattle.area.specs.inside.Detours.{IsLeastWith};
+ghost use Rattle.area.specs.inside.Spread.{AreWithin};
 
 use crate::bits::{has, least_but, least_of};
 use grid::{Level, MAX_SQUARES, Square};
@@ -18,7 +18,7 @@ pub(crate) const GREATEST_BASE: u32 = 1 << 31;
 ///
 /// For a search each square has a mark. In one search the boxes have the mark `base`, the squares that it reaches have
 /// greater marks, and all others lesser ones; the next search takes a greater `base`, so nothing needs to be cleared.
-#[derive(Drop)]
+#[derive(Debug, Drop)]
 pub struct Scratch {
     pub(crate) marks: Vec<u32>,
     pub(crate) base: u32,
@@ -34,7 +34,7 @@ impl Model for Scratch {
 
     ghost Value = { Reach };
 
-    ghost use Rattle.area.specs.ScratchView.{view_of, IsReady};
+    ghost use Rattle.area.specs.inside.ScratchView.{view_of, IsReady};
 
     ghost view = { view_of };
 

@@ -1,6 +1,6 @@
 ghost use Rattle.std.specs.Prelude.{◌≡◌, ℕ, ◌+◌, ◌^◌, ◌<◌, ◌≤◌, false, length, slice_index, slice_set, nat_lt, if◌then◌else◌};
 ghost use Rattle.grid.specs.Board.{is_wall};
-ghost use Rattle.area.specs.Spread.{IsSpread, KeepsBlocked, AreWithin};
+ghost use Rattle.area.specs.inside.Spread.{IsSpread, KeepsBlocked, AreWithin};
 
 use grid::{Level, Square};
 

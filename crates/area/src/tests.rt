@@ -1,10 +1,11 @@
 ghost use Rattle.std.specs.Prelude.{◌≡◌, length};
-ghost use Rattle.grid.specs.Lawful.{FitsLevel};
+ghost use Rattle.grid.specs.States.{FitsLevel};
 
-use crate::{
-    Scratch, an_area_has_one_normal_form, each_state_has_one_normal_form, flood, normal,
-    normalise_after, pushable, walk, walks_go_both_ways, what_boxes_decide_lasts,
+use crate::laws::{
+    an_area_has_one_normal_form, each_state_has_one_normal_form, walks_go_both_ways,
+    what_boxes_decide_lasts,
 };
+use crate::{Scratch, flood, normal, normalise_after, pushable, walk};
 use grid::{Cell, Dir, Level, Moves, Position, Push, Square, State, Step};
 use std::alloc::Global;
 use std::process::Abort;

@@ -1,16 +1,25 @@
 //! The program: reads its command line, opens its files and runs an engine.
 #![tactic(auto)]
 
+ghost use Rattle.std.specs.Prelude.{◌≡◌};
+ghost use Rattle.crew.specs.Configured.{IsWithinLimits};
+
+mod help;
 mod request;
 mod trouble;
 
 use clap::error::ErrorKind;
+use crew::Config;
+use layers::MAX_WORKERS;
 use request::Request;
 use sokopar::{Reader, RunFault, Writer, run_check, run_dead, run_replay, run_show, run_solve};
 use std::alloc::Global;
 use std::env::Env;
+use std::num::NonZeroU32;
 use std::process::ExitCode;
 use std::rt::Files;
+use std::sync::Wait;
+use std::thread::Threads;
 use std::{env, fs, io};
 use trouble::Trouble;
 
@@ -28,8 +37,20 @@ fn open<'a, R: Files>(rt: &R, path: &'a str) -> Result<Reader<R::File>, Trouble<
     }
 }
 
+/// How a level is solved by so many workers, which the command line holds to its range, under a limit of positions.
+fn config_of(workers: NonZeroU32, limit: NonZeroU32) -> Config
+    ensures limits { IsWithinLimits result }
+    ensures locks { result.locks ≡ 1 }
+{
+    Config {
+        workers: workers.get().min(MAX_WORKERS as u32) as u8,
+        locks: 1,
+        limit: limit.get(),
+    }
+}
+
 /// Opens the files of a request, all before the first is read, and runs its engine. Gives the exit status.
-fn perform<'a, R: Files + Print>(
+fn perform<'a, R: Files + Print + Threads + Wait + Sync>(
     rt: &R,
     alloc: Global,
     request: Request<'a>,
@@ -60,17 +81,19 @@ fn perform<'a, R: Files + Print>(
         Request::Solve {
             file,
             number,
+            workers,
             limit,
         } => {
             let mut source = open(rt, file)?;
-            run_solve(alloc, &mut source, number.get(), limit.get(), &mut sink)
+            let config = config_of(workers, limit);
+            run_solve(rt, alloc, &mut source, number.get(), config, &mut sink)
         }
     };
     Ok(status?)
 }
 
-/// Prints why a command line gives no request: help on standard output, a fault on standard error. Gives the exit
-/// status.
+/// Prints why a command line gives no request: help or the version on standard output, a fault on standard error.
+/// Gives the exit status.
 fn explain<R: Print + Eprint>(rt: &R, error: clap::Error) -> u8 {
     if error.kind() == ErrorKind::OutOfMemory {
         return complain(rt, Trouble::Run(RunFault::OutOfMemory));
@@ -91,8 +114,15 @@ fn complain<R: Eprint>(rt: &R, trouble: Trouble<'_>) -> u8 {
 }
 
 /// Runs the command line of these words. Gives the exit status.
-fn run<R: Files + Print + Eprint>(rt: &R, alloc: Global, words: &[String]) -> u8 {
-    match request::parse(alloc, words) {
+fn run<R: Files + Print + Eprint + Threads + Wait + Sync>(
+    rt: &R,
+    alloc: Global,
+    words: &[String],
+) -> u8 {
+    let Ok(notes) = help::notes(alloc) else {
+        return complain(rt, Trouble::Run(RunFault::OutOfMemory));
+    };
+    match request::parse(alloc, words, notes.as_str()) {
         Ok(request) => match perform(rt, alloc, request) {
             Ok(status) => status,
             Err(trouble) => complain(rt, trouble),

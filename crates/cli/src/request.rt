@@ -1,5 +1,7 @@
+use crate::help;
 use clap::error::ErrorKind;
 use clap::{Arg, ArgMatches, Command, Error, value_parser};
+use layers::MAX_WORKERS;
 use std::alloc::{AllocError, Global};
 use std::num::NonZeroU32;
 
@@ -26,16 +28,20 @@ pub enum Request<'a> {
         number: NonZeroU32,
         solution: &'a str,
     },
-    /// Solve level N of a collection under a limit of positions.
+    /// Solve level N of a collection by some workers under a limit of positions.
     Solve {
         file: &'a str,
         number: NonZeroU32,
+        workers: NonZeroU32,
         limit: NonZeroU32,
     },
 }
 
 /// The limit of positions where none is given.
 const DEFAULT_LIMIT: &str = "1000000";
+
+/// The number of workers where none is given.
+const DEFAULT_WORKERS: &str = "1";
 
 /// The operand FILE.
 fn file_operand<'a>(alloc: Global) -> Arg<'a> {
@@ -62,10 +68,21 @@ fn limit_option<'a>(alloc: Global) -> Arg<'a> {
         .value_parser(value_parser!(u32).range(1..))
 }
 
-/// The command line that the program understands.
-fn command<'a>(alloc: Global) -> Result<Command<'a>, AllocError> {
+/// The option `--workers W`.
+fn workers_option<'a>(alloc: Global) -> Arg<'a> {
+    Arg::new(alloc, "workers")
+        .long("workers")
+        .value_name("W")
+        .help("Searches with so many threads")
+        .default_value(DEFAULT_WORKERS)
+        .value_parser(value_parser!(u32).range(1..=MAX_WORKERS as i64))
+}
+
+/// The command line that the program understands; `notes` ends its help.
+fn command<'a>(alloc: Global, notes: &'a str) -> Result<Command<'a>, AllocError> {
     let check = Command::new(alloc, "check")
         .about("Checks each level")
+        .after_help(help::CHECK_NOTES)
         .arg(file_operand(alloc))?;
     let show = Command::new(alloc, "show")
         .about("Shows a level in plain rows")
@@ -80,23 +97,36 @@ fn command<'a>(alloc: Global) -> Result<Command<'a>, AllocError> {
         .required(true);
     let replay = Command::new(alloc, "replay")
         .about("Replays a solution on a level")
+        .after_help(help::REPLAY_NOTES)
         .arg(file_operand(alloc))?
         .arg(number_operand(alloc))?
         .arg(solution)?;
     let solve = Command::new(alloc, "solve")
         .about("Solves a level with the fewest pushes")
+        .after_help(help::SOLVE_NOTES)
         .arg(file_operand(alloc))?
         .arg(number_operand(alloc))?
+        .arg(workers_option(alloc))?
         .arg(limit_option(alloc))?;
     Command::new(alloc, "sokopar")
         .bin_name("sokopar")?
         .about("Checks, shows, replays and solves Sokoban levels")
+        .version(help::VERSION)
+        .after_help(notes)
         .subcommand_required(true)
         .subcommand(check)?
         .subcommand(show)?
         .subcommand(dead)?
         .subcommand(replay)?
         .subcommand(solve)
+}
+
+/// A value that its argument does not take.
+#[derive(Clone, Copy, Debug)]
+struct BadValue<'a> {
+    /// The argument, as usage shows it.
+    argument: &'static str,
+    value: &'a str,
 }
 
 /// A number of the command line: decimal digits alone, from 1 to the greatest `u32`.
@@ -107,47 +137,80 @@ fn number_from(text: &str) -> Option<NonZeroU32> {
     text.parse::<NonZeroU32>().ok()
 }
 
-/// What the matches of a subcommand ask for; `None` where a number is not written in digits alone.
-fn request_of<'a>(name: &str, matches: &ArgMatches<'a>) -> Option<Request<'a>> {
-    let file = matches.get_str("FILE")?;
+/// The value of an argument that usage shows so.
+fn text_of<'a>(
+    matches: &ArgMatches<'a>,
+    name: &str,
+    argument: &'static str,
+) -> Result<&'a str, BadValue<'a>> {
+    matches.get_str(name).ok_or(BadValue {
+        argument,
+        value: "",
+    })
+}
+
+/// The number that an argument has that usage shows so.
+fn number_of<'a>(
+    matches: &ArgMatches<'a>,
+    name: &str,
+    argument: &'static str,
+) -> Result<NonZeroU32, BadValue<'a>> {
+    let value = text_of(matches, name, argument)?;
+    number_from(value).ok_or(BadValue { argument, value })
+}
+
+/// What the matches of a subcommand ask for.
+fn request_of<'a>(name: &str, matches: &ArgMatches<'a>) -> Result<Request<'a>, BadValue<'a>> {
+    let file = text_of(matches, "FILE", "<FILE>")?;
     if name == "check" {
-        return Some(Request::Check { file });
+        return Ok(Request::Check { file });
     }
-    let number = number_from(matches.get_str("N")?)?;
+    let number = number_of(matches, "N", "<N>")?;
     if name == "show" {
-        return Some(Request::Show { file, number });
+        return Ok(Request::Show { file, number });
     }
     if name == "dead" {
-        return Some(Request::Dead { file, number });
+        return Ok(Request::Dead { file, number });
     }
     if name == "solve" {
-        let limit = number_from(matches.get_str("limit")?)?;
-        return Some(Request::Solve {
+        let workers = number_of(matches, "workers", "--workers <W>")?;
+        let limit = number_of(matches, "limit", "--limit <L>")?;
+        return Ok(Request::Solve {
             file,
             number,
+            workers,
             limit,
         });
     }
-    let solution = matches.get_str("SOLUTION")?;
-    Some(Request::Replay {
+    let solution = text_of(matches, "SOLUTION", "<SOLUTION>")?;
+    Ok(Request::Replay {
         file,
         number,
         solution,
     })
 }
 
-/// Reads the words of a command line. An error has the text for the user, and says whether help was asked for.
-pub fn parse<'a>(alloc: Global, words: &'a [String]) -> Result<Request<'a>, Error> {
-    let matches = command(alloc)?.try_get_matches_from(words)?;
-    let request = match matches.subcommand() {
-        Some((name, inner)) => request_of(name, inner),
-        None => None,
-    };
-    match request {
-        Some(request) => Ok(request),
-        None => Err(command(alloc)?.error(
-            ErrorKind::ValueValidation,
-            "numbers are written in decimal digits alone",
+/// The error that names the argument whose number is not written in digits alone.
+fn refusal(alloc: Global, bad: BadValue<'_>) -> Result<Error, AllocError> {
+    let BadValue { argument, value } = bad;
+    let message = format!(in alloc;
+        "invalid value '{value}' for '{argument}': a number is written in decimal digits alone"
+    )?;
+    command(alloc, "")?.error(ErrorKind::ValueValidation, message.as_str())
+}
+
+/// Reads the words of a command line; `notes` ends the program's help. An error has the text for the user, and says
+/// whether help or the version was asked for.
+pub fn parse<'a>(alloc: Global, words: &'a [String], notes: &'a str) -> Result<Request<'a>, Error> {
+    let matches = command(alloc, notes)?.try_get_matches_from(words)?;
+    match matches.subcommand() {
+        Some((name, inner)) => match request_of(name, inner) {
+            Ok(request) => Ok(request),
+            Err(bad) => Err(refusal(alloc, bad)?),
+        },
+        None => Err(command(alloc, notes)?.error(
+            ErrorKind::MissingSubcommand,
+            "a subcommand is required",
         )?),
     }
 }

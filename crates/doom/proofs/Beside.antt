@@ -7,11 +7,11 @@ use Rattle.grid.specs.declared.dir.Dir.{Dir}
 use Rattle.grid.specs.declared.dir.Dir.TheVariants.{D, L, R, U}
 use Rattle.grid.specs.Squares.{Squares, is_rising, contains}
 use Rattle.grid.specs.Board.{Board, is_wall, next, opposite}
-use Rattle.grid.proofs.Squares.{contains-get_or, place_of_member, rising_places}
-use Rattle.grid.proofs.Steps.{inside_grid}
+use Rattle.grid.proofs.lemmas.Squares.{contains-get_or, place_of_member, rising_places}
+use Rattle.grid.proofs.lemmas.Steps.{inside_grid}
 use Rattle.doom.specs.Deadlocks.{IsHeld}
-use Rattle.doom.specs.Holding.{IsFast}
-use Rattle.doom.specs.Neighbours.{HasBeside, HasInColumn}
+use Rattle.doom.specs.inside.Holding.{IsFast}
+use Rattle.doom.specs.inside.Neighbours.{HasBeside, HasInColumn}
 use Rattle.doom.proofs.Peeling.{held_by_more}
 
 -- ---- places in a rising list

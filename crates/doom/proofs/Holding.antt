@@ -6,12 +6,12 @@ use Rattle.grid.specs.declared.dir.Dir.{Dir}
 use Rattle.grid.specs.declared.dir.Dir.TheVariants.{D, L, R, U}
 use Rattle.grid.specs.Board.{Board, next, opposite}
 use Rattle.grid.specs.Masks.{has_bit}
-use Rattle.grid.proofs.Steps.{inside_grid}
+use Rattle.grid.proofs.lemmas.Steps.{inside_grid}
 use Rattle.area.specs.Words.{squares_of, word_bit}
-use Rattle.area.proofs.WordBits.{has_bit-at, word_bit-or}
-use Rattle.area.proofs.WordSets.{contains-squares_of, none_set}
+use Rattle.area.proofs.lemmas.WordBits.{has_bit-at, word_bit-or}
+use Rattle.area.proofs.lemmas.WordSets.{contains-squares_of, none_set}
 use Rattle.doom.specs.Deadlocks.{IsHeld}
-use Rattle.doom.specs.Holding.{IsFast, AreFast, IsApart}
+use Rattle.doom.specs.inside.Holding.{IsFast, AreFast, IsApart}
 use Rattle.doom.proofs.Beside.{held_fast, held_cases, floor_ahead, floor_behind, right_of, left_of}
 
 -- ---- how far off the squares beside one are

@@ -1,8 +1,8 @@
-pub mod Soundness
+pub mod lemmas
 pub mod Peeling
 pub mod Passes
 pub mod Search
 pub mod Pulling
 pub mod Holding
 pub mod Beside
-pub mod Loose
+pub mod Parting

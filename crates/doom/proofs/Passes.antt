@@ -11,12 +11,12 @@ use Rattle.grid.specs.Squares.{Squares, contains}
 use Rattle.grid.specs.Board.{Board}
 use Rattle.grid.specs.Masks.{has_bit}
 use Rattle.area.specs.Words.{word_bit, squares_of}
-use Rattle.area.proofs.WordBits.{word_bit-not, word_bit-zero, has_bit-at, has_bit-parts, has_bit_inside, square_parts}
-use Rattle.area.proofs.WordSets.{contains-squares_of, lowest_bit}
-use Rattle.area.proofs.Growing.{and_bit, bit_and_from}
+use Rattle.area.proofs.lemmas.WordBits.{word_bit-not, word_bit-zero, has_bit-at, has_bit-parts, has_bit_inside, square_parts}
+use Rattle.area.proofs.lemmas.WordSets.{contains-squares_of, lowest_bit}
+use Rattle.area.proofs.lemmas.Growing.{and_bit, bit_and_from}
 use Rattle.doom.specs.Deadlocks.{IsHeld, IsBlocked, IsFrozen}
-use Rattle.doom.specs.Holding.{AreGoals}
-use Rattle.doom.specs.Peeling.{IsWithin, AreBlocked, StandInside, IsLook, IsPass, IsLargestBlocked, weight}
+use Rattle.doom.specs.inside.Holding.{AreGoals}
+use Rattle.doom.specs.inside.Peeling.{IsWithin, AreBlocked, StandInside, IsLook, IsPass, IsLargestBlocked, weight}
 use Rattle.doom.proofs.Peeling.{held_by_more, blocked_by_axes, frozen_by_largest, IsPeeling}
 
 -- a member by its bit, and back

@@ -7,7 +7,7 @@ use Rattle.grid.specs.declared.dir.Dir.TheVariants.{D, L, R, U}
 use Rattle.grid.specs.Squares.{Squares, contains}
 use Rattle.grid.specs.Board.{Board, is_goal}
 use Rattle.doom.specs.Deadlocks.{IsHeld, IsBlocked, IsFrozen}
-use Rattle.doom.specs.Peeling.{IsWithin, AreBlocked, IsLargestBlocked}
+use Rattle.doom.specs.inside.Peeling.{IsWithin, AreBlocked, IsLargestBlocked}
 
 -- what blocks a square among some blocks it among more
 pub held_by_more : (board : Board) (few more : Squares) (q : ℕ) (d : Dir) → IsWithin few more → IsHeld board few q d → IsHeld board more q d

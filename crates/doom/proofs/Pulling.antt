@@ -9,9 +9,9 @@ use Rattle.grid.specs.declared.cell.Cell.{Cell}
 use Rattle.grid.specs.declared.cell.Cell.TheVariants.{Wall, Floor, Goal, Box, BoxOnGoal, Player, PlayerOnGoal}
 use Rattle.grid.specs.Squares.{contains}
 use Rattle.grid.specs.Board.{Board, wall_cell, goal_cell, is_wall, is_goal, next, opposite, dir_number}
-use Rattle.grid.proofs.Steps.{next_back, opposite_twice, inside_grid}
+use Rattle.grid.proofs.lemmas.Steps.{next_back, opposite_twice, inside_grid}
 use Rattle.doom.specs.Deadlocks.{Live, home, onward}
-use Rattle.doom.specs.Pulling.{is_marked, AreLiveFlags, CanPull, Marks, Pulls, IsSpread, IsFilling}
+use Rattle.doom.specs.inside.Pulling.{is_marked, AreLiveFlags, CanPull, Marks, Pulls, IsSpread, IsFilling}
 use Rattle.doom.proofs.Peeling.{contains-push_cases, contains-push_kept, contains-push_last}
 
 -- a goal is no wall, and so no live square is

@@ -4,8 +4,8 @@ use Rattle.std.specs.List.{HoldsAt, AllWithin, prefix_len}
 use Rattle.std.proofs.lemmas.List.Folds.{list_any_at, Any-from_list_any}
 use Rattle.std.proofs.lemmas.Bool.{false≢true, eqb-true, ltb-true, ltb-false, cases_Bool}
 use Rattle.grid.specs.Squares.{Squares, contains, is_rising, rises_from}
-use Rattle.grid.proofs.Squares.{contains-from, rises_from-parts}
-use Rattle.grid.proofs.Places.{lesser_first, place_inside}
+use Rattle.grid.proofs.lemmas.Squares.{contains-from, rises_from-parts}
+use Rattle.grid.proofs.lemmas.Places.{lesser_first, place_inside}
 
 -- `any` is true exactly where a square of the list has the property
 pub any_tells : (P Q : ℕ → Type 0) (r : Bool) (xs : Squares) → ((q : ℕ) → Q q → ¬ (P q)) → MatchBool r ((k : ℕ) × (k < length xs) × HoldsAt P xs k) (AllWithin Q xs 0 (length xs)) → IsTrue r ↔ ((q : ℕ) × (contains xs q ≡ true) × P q)

@@ -1,10 +1,8 @@
 -- Dead squares, frozen boxes and doomed sets of boxes: the simple and the freeze deadlocks of the Sokoban Wiki.
-use Rattle.std.specs.Prelude.{◌≡◌, ℕ, true, false, List, ◌⊎◌}
+use Rattle.std.specs.Prelude.{◌≡◌, ℕ, true, false, ◌⊎◌}
 use Rattle.grid.specs.declared.dir.Dir.{Dir}
-use Rattle.grid.specs.declared.square.Push.{Push}
 use Rattle.grid.specs.Squares.{Squares, contains}
-use Rattle.grid.specs.Board.{Board, Scene, IsScene, IsSolved, is_wall, is_goal, next, opposite}
-use Rattle.grid.specs.Plays.{Play, Any}
+use Rattle.grid.specs.Board.{Board, Scene, is_wall, is_goal, next, opposite}
 
 -- a lone box on the square can be pushed to some goal, the player being set down anew before each push: the square is
 -- a goal, or the box can be pushed on to a live square; the square ahead and the one behind must be no walls
@@ -38,19 +36,3 @@ Doomed board boxes = ((q : ℕ) × (contains boxes q ≡ true) × IsDead board q
 -- the boxes of the state are not doomed
 abbrev pub Undoomed : Board → Scene → Type 0
 Undoomed board s = ¬ (Doomed board s.boxes)
-
--- no play from the state ends with every box on a goal
-abbrev pub IsLost : Board → Scene → Type 0
-IsLost board s = (t : Scene) (ds : List Dir) (ps : List Push) → Play board Any s ds ps t → ¬ (IsSolved board t)
-
--- from no state of the level with exactly these boxes does a play end solved
-abbrev pub AreLost : Board → Squares → Type 0
-AreLost board boxes = (s : Scene) → IsScene board s → s.boxes ≡ boxes → IsLost board s
-
--- from no state of the level with a box on the square does a play end solved
-abbrev pub LosesBox : Board → ℕ → Type 0
-LosesBox board q = (s : Scene) → IsScene board s → contains s.boxes q ≡ true → IsLost board s
-
--- each state along a play that ends solved is undoomed: a solution is a safe play
-abbrev pub SolvesSafely : Board → Type 0
-SolvesSafely board = (s t : Scene) (ds : List Dir) (ps : List Push) → IsScene board s → Play board Any s ds ps t → IsSolved board t → Play board (Undoomed board) s ds ps t

@@ -1,6 +1,5 @@
 pub mod Deadlocks
-pub mod Holding
+pub mod Lost
 pub mod Loose
-pub mod Neighbours
-pub mod Peeling
-pub mod Pulling
+pub mod Pushed
+pub mod inside

@@ -1,6 +1,7 @@
 ghost use Rattle.std.specs.Prelude.{◌≡◌, ◌<◌, ◌↔◌, IsTrue, IfOk, length};
-ghost use Rattle.doom.specs.Deadlocks.{IsDead, LosesBox};
-ghost use Rattle.doom.specs.Holding.{IsFast, AreFast, AreGoals};
+ghost use Rattle.doom.specs.Deadlocks.{IsDead};
+ghost use Rattle.doom.specs.Lost.{LosesBox};
+ghost use Rattle.doom.specs.inside.Holding.{IsFast, AreFast, AreGoals};
 
 use crate::holds::{fast_squares, goal_squares};
 use crate::pulls::live_flags;
@@ -13,7 +14,7 @@ use std::marker::Model;
 /// before each push. Walls and everything outside the grid are dead. Contracts see the level that it was made of.
 ///
 /// The squares where a box is held on an axis whatever other boxes there are, and the goals, are kept as bits of words.
-#[derive(Drop)]
+#[derive(Debug, Drop)]
 pub struct Dead {
     level: Level,
     live: Vec<bool>,
@@ -24,9 +25,9 @@ pub struct Dead {
 
 impl Model for Dead {
     ghost use Rattle.grid.specs.Board.{Board};
-    ghost use Rattle.doom.specs.Pulling.{AreLiveFlags};
+    ghost use Rattle.doom.specs.inside.Pulling.{AreLiveFlags};
     ghost use Rattle.grid.specs.declared.dir.Dir.TheVariants.{D, R};
-    ghost use Rattle.doom.specs.Holding.{AreFast, AreGoals};
+    ghost use Rattle.doom.specs.inside.Holding.{AreFast, AreGoals};
 
     ghost Value = { Board };
 
@@ -42,7 +43,7 @@ impl Dead {
     {
         let live = live_flags(alloc, level)?;
         Ok(Dead {
-            level: level.copy(alloc)?,
+            level: level.copy()?,
             across: fast_squares(alloc, level, live.as_slice(), Dir::R)?,
             along: fast_squares(alloc, level, live.as_slice(), Dir::D)?,
             goals: goal_squares(alloc, level)?,

@@ -1,7 +1,7 @@
 ghost use Rattle.std.specs.Prelude.{◌≡◌, ◌<◌, ◌≤◌, ◌+◌, ◌-◌, ◌↔◌, IsTrue, true, length, slice_index};
 ghost use Rattle.grid.specs.Squares.{is_rising};
 ghost use Rattle.doom.specs.Deadlocks.{IsBlocked};
-ghost use Rattle.doom.specs.Peeling.{StandInside};
+ghost use Rattle.doom.specs.inside.Peeling.{StandInside};
 ghost use Rattle.doom.specs.Loose.{IsBlockedBox, IsHeldFirmly, IsBlockedFirmly};
 
 use crate::dead::Dead;

@@ -1,19 +1,21 @@
 ghost use Rattle.std.specs.Prelude.{◌≡◌, ℕ, ◌<◌, ◌≤◌, ◌↔◌, IsTrue, IfSome, IfNone, false, true, length, slice_index, count_by, nat_lt};
 ghost use Rattle.grid.specs.Squares.{Squares, contains, is_rising};
-ghost use Rattle.grid.specs.Lawful.{FitsLevel};
-ghost use Rattle.doom.specs.Deadlocks.{IsDead, Doomed, AreLost, IsFrozen, IsHeld, IsBlocked};
+ghost use Rattle.grid.specs.States.{FitsLevel};
+ghost use Rattle.doom.specs.Deadlocks.{IsDead, Doomed, IsFrozen, IsHeld, IsBlocked};
+ghost use Rattle.doom.specs.Lost.{AreLost};
 ghost use Rattle.doom.specs.Loose.{IsLoose};
-ghost use Rattle.doom.specs.Peeling.{StandInside};
+ghost use Rattle.doom.specs.inside.Peeling.{StandInside};
 
 use crate::dead::Dead;
 use crate::firm::is_blocked_firmly;
 use crate::neighbours::{has_beside, has_in_column};
-use crate::peel::{has_other, largest_blocked};
+use crate::peel::has_frozen;
 use area::Scratch;
+use area::bits::put_all;
 use grid::{Dir, Level, MAX_BOXES, MAX_SQUARES, Position, Square, WORD_BITS};
 
 /// The most words that a set of squares has.
-const MOST_WORDS: usize = (MAX_SQUARES + WORD_BITS - 1) / WORD_BITS;
+pub(crate) const MOST_WORDS: usize = (MAX_SQUARES + WORD_BITS - 1) / WORD_BITS;
 
 /// Whether the boxes of the position are doomed: a box stands on a dead square, or some of the boxes, at least one of
 /// them off goal, are frozen, each blocked on both axes by a wall or another of them, or by two dead squares. From no
@@ -90,8 +92,8 @@ fn any_frozen(level: &Level, dead: &Dead, boxes: &[Square]) -> bool
     let goals = dead.goals();
     let mut words = [0; MOST_WORDS];
     let members = &mut words[..goals.len()];
-    largest_blocked(dead, boxes, members);
-    has_other(members, goals)
+    put_all(boxes, members);
+    has_frozen(dead, members)
 }
 
 /// Whether walls, other members or dead squares block the member at a place on both axes.

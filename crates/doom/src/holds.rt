@@ -1,6 +1,6 @@
 ghost use Rattle.std.specs.Prelude.{◌≡◌, ◌<◌, ◌↔◌, IsTrue, IfOk, length};
-ghost use Rattle.doom.specs.Pulling.{AreLiveFlags, is_marked};
-ghost use Rattle.doom.specs.Holding.{IsFast, AreFast, AreGoals};
+ghost use Rattle.doom.specs.inside.Pulling.{AreLiveFlags, is_marked};
+ghost use Rattle.doom.specs.inside.Holding.{IsFast, AreFast, AreGoals};
 
 use area::bits::put;
 use grid::{Dir, Level, Square, WORD_BITS};

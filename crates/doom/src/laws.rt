@@ -1,5 +1,7 @@
+//! Laws of deadlocks that callers may rely on. Each is the contract of a function that does nothing.
 ghost use Rattle.grid.specs.Squares.{Squares};
-ghost use Rattle.doom.specs.Deadlocks.{Doomed, AreLost, SolvesSafely};
+ghost use Rattle.doom.specs.Deadlocks.{Doomed};
+ghost use Rattle.doom.specs.Lost.{AreLost, SolvesSafely};
 ghost use Rattle.doom.specs.Loose.{LooseDoomsNothing};
 
 use grid::Level;

@@ -1,7 +1,7 @@
 ghost use Rattle.std.specs.Prelude.{◌≡◌, ◌<◌, ◌+◌, ◌-◌, ◌↔◌, IsTrue, true, length, slice_index};
 ghost use Rattle.grid.specs.Squares.{is_rising, contains};
 ghost use Rattle.grid.specs.Board.{next};
-ghost use Rattle.doom.specs.Neighbours.{HasBeside, HasInColumn};
+ghost use Rattle.doom.specs.inside.Neighbours.{HasBeside, HasInColumn};
 
 use grid::{Dir, Level, Square};
 

@@ -3,21 +3,32 @@ ghost use Rattle.grid.specs.declared.dir.Dir.{Dir};
 ghost use Rattle.grid.specs.Board.{Board};
 ghost use Rattle.grid.specs.Masks.{has_bit, word_count};
 ghost use Rattle.area.specs.Words.{squares_of, word_bit};
-ghost use Rattle.doom.specs.Deadlocks.{IsHeld};
-ghost use Rattle.doom.specs.Holding.{AreFast, IsApart};
-ghost use Rattle.doom.specs.Peeling.{StandInside, IsLook, IsPass, IsLargestBlocked};
+ghost use Rattle.grid.specs.Squares.{Squares};
+ghost use Rattle.doom.specs.Deadlocks.{IsFrozen, IsHeld};
+ghost use Rattle.doom.specs.inside.Holding.{AreFast, IsApart};
+ghost use Rattle.doom.specs.inside.Peeling.{StandInside, IsLook, IsPass, IsLargestBlocked};
 
 use crate::dead::Dead;
-use area::bits::{after, before, put_all};
-use grid::{Square, WORD_BITS};
+use area::bits::{after, before};
+use grid::WORD_BITS;
 
-/// Makes the set the largest one of boxes each of which is blocked by walls, by other members or by dead squares.
-pub(crate) fn largest_blocked(dead: &Dead, boxes: &[Square], members: &mut [u64])
-    requires inside { StandInside dead.now boxes.now }
+/// Whether some squares of the set, at least one of them off goal, are frozen. The set keeps the largest set of its
+/// members each of which is blocked by walls, by other members or by dead squares.
+pub(crate) fn has_frozen(dead: &Dead, members: &mut [u64]) -> bool
+    requires inside { StandInside dead.now (squares_of members.old) }
     requires room { length members.old ≡ word_count (length dead.now.cells) }
-    ensures { IsLargestBlocked dead.now boxes.now (squares_of members.new) }
+    ensures { IsTrue result ↔ ((frozen : Squares) × IsFrozen dead.now (squares_of members.old) frozen) }
 {
-    put_all(boxes, members);
+    keep_blocked(dead, members);
+    has_other(members, dead.goals())
+}
+
+/// Leaves of the set its largest subset each of whose members is blocked by walls, by other members or by dead squares.
+fn keep_blocked(dead: &Dead, members: &mut [u64])
+    requires inside { StandInside dead.now (squares_of members.old) }
+    requires room { length members.old ≡ word_count (length dead.now.cells) }
+    ensures { IsLargestBlocked dead.now (squares_of members.old) (squares_of members.new) }
+{
     while peel(dead, members) {}
 }
 
@@ -65,7 +76,7 @@ fn held(fast: &[u64], members: &[u64], place: usize, by: usize) -> u64
 }
 
 /// Whether a member of the one set is none of the other.
-pub(crate) fn has_other(members: &[u64], others: &[u64]) -> bool
+fn has_other(members: &[u64], others: &[u64]) -> bool
     requires { length members.now ≡ length others.now }
     ensures { IsTrue result ↔ ((q : ℕ) × (has_bit members.now q ≡ true) × (has_bit others.now q ≡ false)) }
 {

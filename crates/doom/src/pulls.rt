@@ -1,5 +1,5 @@
 ghost use Rattle.std.specs.Prelude.{◌≡◌, ◌<◌, OnOk, IfOk, vec_len, length};
-ghost use Rattle.doom.specs.Pulling.{AreLiveFlags, IsFilling, Marks, Pulls};
+ghost use Rattle.doom.specs.inside.Pulling.{AreLiveFlags, IsFilling, Marks, Pulls};
 
 use grid::{Dir, Level, Square};
 use std::alloc::{AllocError, Global};

@@ -1,6 +1,9 @@
-use crate::{Dead, a_loose_box_dooms_nothing, doomed, doomed_are_lost, is_loose, solution_is_safe};
+ghost use Rattle.std.specs.Prelude.{◌≡◌, length};
+
+use crate::laws::{a_loose_box_dooms_nothing, doomed_are_lost, solution_is_safe};
+use crate::{Dead, doomed, doomed_after, is_loose};
 use area::Scratch;
-use grid::{Cell, Level, Position, Square};
+use grid::{Cell, Dir, Level, Position, Push, Square};
 use std::alloc::Global;
 use std::process::Abort;
 use std::test::Fail;
@@ -48,6 +51,12 @@ const ONE_AFTER_ANOTHER: (usize, &[u8]) = (
     10,
     b"###########        ##        ##        ##  ...   ##        ##  $$    ##   $@   ##        ###########",
 );
+
+const THREE_FROZEN: (usize, &[u8]) = (7, b"########@    ###$   ## $$. ## .#. ##     ########");
+
+const THREE_FREE: (usize, &[u8]) = (7, b"########@    ###  $ ## $$. ## .#. ##     ########");
+
+const DEAD_ELSEWHERE: (usize, &[u8]) = (7, b"########@   $###  $ ##  $. ## .#. ##     ########");
 
 fn cell_of(byte: u8) -> Cell {
     match byte {
@@ -127,6 +136,55 @@ fn starts_are_doomed_or_not(rt: HostRuntime) -> Result<(), Fail> {
             "row {row}"
         );
     }
+    Ok(())
+}
+
+// What the freeze tests say of the start of a level where a push from square 17 leads: of the pushed box's group, and of
+// all boxes.
+fn told(rt: &impl Abort, alloc: Global, level: &Level, dir: Dir) -> (bool, bool) {
+    let dead = Dead::of(alloc, level).expect(rt, "memory");
+    let mut scratch = Scratch::new(alloc, level).expect(rt, "memory");
+    let position = Position::start(level).expect(rt, "few boxes");
+    asked(rt, level, &dead, &position, dir, &mut scratch)
+}
+
+fn asked(
+    rt: &impl Abort,
+    level: &Level,
+    dead: &Dead,
+    position: &Position,
+    dir: Dir,
+    scratch: &mut Scratch,
+) -> (bool, bool)
+    requires dead_of_level { dead.now ≡ level.now }
+    requires room { scratch.old.size ≡ length level.now.cells }
+{
+    let square = Square(17);
+    assert!(rt; position.fits(level));
+    assert!(rt; 17 < level.squares());
+    assert!(rt; position.contains(level.next(square, dir)));
+    let group = doomed_after(level, dead, position, Push { square, dir }, scratch);
+    (group, doomed(level, dead, position, scratch))
+}
+
+#[test]
+fn three_boxes_freeze_one_another(rt: HostRuntime) -> Result<(), Fail> {
+    let level = level_of(&rt, rt.alloc(), THREE_FROZEN)?;
+    assert_eq!(rt; told(&rt, rt.alloc(), &level, Dir::L), (true, true));
+    Ok(())
+}
+
+#[test]
+fn three_boxes_are_free(rt: HostRuntime) -> Result<(), Fail> {
+    let level = level_of(&rt, rt.alloc(), THREE_FREE)?;
+    assert_eq!(rt; told(&rt, rt.alloc(), &level, Dir::R), (false, false));
+    Ok(())
+}
+
+#[test]
+fn a_box_on_a_dead_square_elsewhere_is_not_looked_at(rt: HostRuntime) -> Result<(), Fail> {
+    let level = level_of(&rt, rt.alloc(), DEAD_ELSEWHERE)?;
+    assert_eq!(rt; told(&rt, rt.alloc(), &level, Dir::R), (false, true));
     Ok(())
 }
 

@@ -9,7 +9,7 @@ use Rattle.grid.specs.Board.{Board, is_wall, next, start_player}
 use Rattle.grid.specs.Lawful.{InRoom}
 use Rattle.grid.specs.Lawful.InRoom.{here, beside}
 use Rattle.grid.specs.Squares.{contains}
-use Rattle.grid.specs.Filling.{IsMarked, Grows}
+use Rattle.grid.specs.inside.Filling.{IsMarked, Grows}
 
 -- ---- marks and pending squares
 

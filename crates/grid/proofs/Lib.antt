@@ -1,9 +1,5 @@
-pub mod Squares
-pub mod Places
-pub mod Steps
-pub mod Levels
-pub mod Plays
-pub mod Orders
+pub mod lemmas
+pub mod Marked
 pub mod Filling
 pub mod Equality
 pub mod Settle

@@ -5,8 +5,8 @@ use Rattle.std.proofs.lemmas.Bool.{lt-ltb, le-ltb, cases_eq, true≢false}
 use Rattle.std.proofs.lemmas.List.Edits.{get_or-remove_below, get_or-remove_above, length-remove}
 use Rattle.std.proofs.lemmas.List.Sums.{prefix_len_is}
 use Rattle.grid.specs.Squares.{is_rising, contains, insert}
-use Rattle.grid.proofs.Squares.{rising_places, contains-get_or}
-use Rattle.grid.proofs.Places.{insert_place}
+use Rattle.grid.proofs.lemmas.Squares.{rising_places, contains-get_or}
+use Rattle.grid.proofs.lemmas.Places.{insert_place}
 
 -- the square after the hole moves into it
 hole_up : (xs : List ℕ) (h : ℕ) → suc h < length xs → remove_at (set xs h (get_or xs (suc h) 0)) (suc h) ≡ remove_at xs h

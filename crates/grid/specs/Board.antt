@@ -6,10 +6,8 @@ use Rattle.grid.specs.declared.dir.Dir.{Dir}
 use Rattle.grid.specs.declared.dir.Dir.TheVariants.{D, L, R, U}
 use Rattle.grid.specs.declared.cell.Cell.{Cell}
 use Rattle.grid.specs.declared.cell.Cell.TheVariants.{Wall, Floor, Goal, Box, BoxOnGoal, Player, PlayerOnGoal}
-use Rattle.grid.specs.declared.state.Step.{Step}
-use Rattle.grid.specs.declared.state.Step.TheVariants.{Blocked, Walked, Pushed}
 use Rattle.grid.specs.declared.square.Push.{Push}
-use Rattle.grid.specs.Squares.{Squares, is_rising, contains, insert, remove, places_from, first_or_0}
+use Rattle.grid.specs.Squares.{Squares, contains, insert, remove, places_from, first_or_0}
 
 -- what contracts see of a level: the length of a row, and the cells by rows.  A square is its row times the
 -- columns plus its column, both from 0, so it is the place of its cell in the list.
@@ -106,12 +104,6 @@ start board = record { boxes = start_boxes board; player = start_player board }
 abbrev pub IsFree : Board → Squares → ℕ → Type 0
 IsFree board boxes q = (is_wall board q ≡ false) × (contains boxes q ≡ false)
 
--- a state of the level: boxes and player stand on no wall, the player on no box
-pub record IsScene (board : Board) (s : Scene) : Type 0 where
-  pub rising : is_rising s.boxes ≡ true
-  pub boxes : (q : ℕ) → contains s.boxes q ≡ true → is_wall board q ≡ false
-  pub player : IsFree board s.boxes s.player
-
 -- t is the state after a step without a push: onto a square that has neither wall nor box
 abbrev pub Walks : Board → Scene → Dir → Scene → Type 0
 Walks board s d t = let q = next board s.player d in
@@ -121,12 +113,6 @@ Walks board s d t = let q = next board s.player d in
 abbrev pub Pushes : Board → Scene → Dir → Scene → Type 0
 Pushes board s d t = let q = next board s.player d in let r = next board q d in
     (contains s.boxes q ≡ true) × IsFree board s.boxes r × (t ≡ record { boxes = insert (remove s.boxes q) r; player = q })
-
--- what a step in a direction did; Blocked exactly where no step is possible, and then nothing changes
-abbrev pub Steps : Board → Scene → Dir → Step → Scene → Type 0
-Steps board s d Blocked t = (t ≡ s) × ((m : Scene) → ¬ (Walks board s d m)) × ((m : Scene) → ¬ (Pushes board s d m))
-Steps board s d Walked t = Walks board s d t
-Steps board s d Pushed t = Pushes board s d t
 
 -- every box stands on a goal
 abbrev pub IsSolved : Board → Scene → Type 0

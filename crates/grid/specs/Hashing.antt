@@ -20,8 +20,11 @@ words_of (a ∷ b ∷ c ∷ []) player = packed a b c player ∷ []
 words_of (a ∷ b ∷ c ∷ d ∷ others) player = packed a b c d ∷ words_of others player
 
 -- the words of the boxes and the player, each written at once
+abbrev pub writes_of_squares : Squares → ℕ → fed.HashWrites
+writes_of_squares boxes player = flat_map fed.u64 (words_of boxes player)
+
 abbrev pub writes_of : Scene → fed.HashWrites
-writes_of s = flat_map fed.u64 (words_of s.boxes s.player)
+writes_of s = writes_of_squares s.boxes s.player
 
 -- equal positions write the same
 pub writes_alike : (s t : Scene) → IsTrue (pointwise nat_eq s.boxes t.boxes && (s.player == t.player)) → writes_of s ≡ writes_of t

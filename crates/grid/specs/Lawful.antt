@@ -5,7 +5,7 @@ use Rattle.grid.specs.declared.fault.LevelFault.{LevelFault}
 use Rattle.grid.specs.declared.fault.LevelFault.TheVariants.{TooTall, TooWide, NoPlayer, TwoPlayers, NoBox, Counts, Open}
 use Rattle.grid.specs.declared.limits.TheConstants.{MAX_ROWS, MAX_COLS}
 use Rattle.grid.specs.declared.dir.Dir.{Dir}
-use Rattle.grid.specs.Board.{Board, Scene, IsScene, box_cell, goal_cell, player_cell, is_wall, next, start_player}
+use Rattle.grid.specs.Board.{Board, box_cell, goal_cell, player_cell, is_wall, next, start_player}
 
 abbrev pub row_count : Board → ℕ
 row_count board = length board.cells / board.cols
@@ -59,8 +59,3 @@ pub record IsLevel (board : Board) : Type 0 where
   pub columns : 1 ≤ board.cols
   pub whole : length board.cells % board.cols ≡ 0
   pub lawful : IsLawful board
-
--- a position that may be played on the level: a state of it with as many boxes as the level
-pub record FitsLevel (board : Board) (s : Scene) : Type 0 where
-  pub scene : IsScene board s
-  pub boxes : length s.boxes ≡ box_count board

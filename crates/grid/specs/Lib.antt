@@ -1,10 +1,11 @@
 pub mod Squares
+pub mod Marks
 pub mod Board
+pub mod States
 pub mod Lawful
 pub mod Plays
 pub mod Masks
-pub mod PlanView
-pub mod LevelView
-pub mod Filling
 pub mod Equality
 pub mod Hashing
+pub mod Laws
+pub mod inside

@@ -35,10 +35,14 @@ shortlex cmp ps qs = ordering_then (nat_cmp (length ps) (length qs)) (slice_cmp 
 abbrev pub solution_cmp : List Dir → List Push → List Dir → List Push → Ordering
 solution_cmp ds ps es qs = ordering_then (shortlex push_cmp ps qs) (shortlex dir_cmp ds es)
 
+-- the directions ds with the pushes ps do not come after es with qs in that order
+abbrev pub NotAfter : List Dir → List Push → List Dir → List Push → Type 0
+NotAfter ds ps es qs = is_gt (solution_cmp ds ps es qs) ≡ false
+
 -- the first solution in that order
 abbrev pub IsLeastSolution : Board → List Dir → List Push → Type 0
 IsLeastSolution board ds ps =
-    IsSolution board ds ps × ((es : List Dir) (qs : List Push) → IsSolution board es qs → is_gt (solution_cmp ds ps es qs) ≡ false)
+    IsSolution board ds ps × ((es : List Dir) (qs : List Push) → IsSolution board es qs → NotAfter ds ps es qs)
 
 -- the directions of a list of letters
 abbrev pub dirs_of : List Letter → List Dir

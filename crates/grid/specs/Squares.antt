@@ -1,4 +1,4 @@
--- Sets of squares, and the marks that a program keeps of them.
+-- Sets of squares.
 use Rattle.std.specs.Prelude.{ℕ, suc, Bool, true, cond, ◌==◌, ◌&&◌, nat_lt, nat_le, List, [], ◌∷◌}
 use Rattle.std.specs.List.{list_any}
 
@@ -33,10 +33,6 @@ insert (x ∷ xs) q = cond (nat_lt q x) (q ∷ x ∷ xs) (cond (x == q) (x ∷ x
 abbrev pub places_from : {A : Type 0} → (A → Bool) → ℕ → List A → Squares
 places_from test k [] = []
 places_from test k (c ∷ cs) = cond (test c) (k ∷ places_from test (suc k) cs) (places_from test (suc k) cs)
-
--- the squares that a list of flags marks
-unfoldable pub marked : List Bool → Squares
-marked flags = places_from (λ b. b) 0 flags
 
 -- the first number of a list, or 0
 abbrev pub first_or_0 : List ℕ → ℕ

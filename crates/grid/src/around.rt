@@ -1,7 +1,7 @@
 use crate::square::Square;
 
 /// A square for each direction.
-#[derive(Clone, Copy)]
+#[derive(Clone, Copy, PartialEq, Eq, Debug)]
 pub struct Around {
     pub d: Square,
     pub l: Square,

@@ -1,5 +1,5 @@
-ghost use Rattle.std.specs.Prelude.{◌≡◌, ◌<◌, ◌++◌, [], ◌∷◌, length};
-ghost use Rattle.grid.specs.Hashing.{packed, words_of};
+ghost use Rattle.std.specs.Prelude.{◌≡◌, ◌<◌, ◌++◌, [], ◌∷◌, fold, length};
+ghost use Rattle.grid.specs.Hashing.{packed, words_of, writes_of_squares};
 
 use crate::position::Position;
 use crate::square::Square;
@@ -15,13 +15,20 @@ impl Hash for Position {
 
     #[inline]
     fn hash<H: Hasher>(&self, state: &mut H) {
-        let mut squares = self.boxes();
-        while let [a, b, c, d, others @ ..] = squares {
-            state.write_u64(packed(*a, *b, *c, *d));
-            squares = others;
-        }
-        state.write_u64(last_word(squares, self.player()));
+        hash_squares(self.boxes(), self.player(), state);
     }
+}
+
+/// Writes the squares of boxes and of a player to a hasher, four at once, as the hash of a position does.
+#[inline]
+pub fn hash_squares<H: Hasher>(mut boxes: &[Square], player: Square, state: &mut H)
+    ensures { state.new ≡ fold H.write state.old (writes_of_squares boxes.now player) }
+{
+    while let [a, b, c, d, others @ ..] = boxes {
+        state.write_u64(packed(*a, *b, *c, *d));
+        boxes = others;
+    }
+    state.write_u64(last_word(boxes, player));
 }
 
 // Up to three squares, and the player after them.

@@ -1,17 +1,21 @@
 //! Laws of the game that callers may rely on. Each is the contract of a function that does nothing.
-ghost use Rattle.std.specs.Prelude.{◌≡◌, ℕ, ◌≤◌, Bool, true, false, List, [], length, ◌⊎◌};
-ghost use Rattle.std.specs.Ordering.{is_gt};
+ghost use Rattle.std.specs.Prelude.{◌≡◌, ℕ, ◌≤◌, Bool, true, List, [], ◌∷◌, length, ◌⊎◌};
 ghost use Rattle.grid.specs.Squares.{Squares, is_rising, contains};
-ghost use Rattle.grid.specs.Board.{Board, Scene, IsScene, Walks, Steps, start, opposite};
-ghost use Rattle.grid.specs.Lawful.{IsLevel, FitsLevel};
-ghost use Rattle.grid.specs.Plays.{Play, Any, IsLeastSolution, solution_cmp};
+ghost use Rattle.grid.specs.Board.{Board, Scene, Walks, start, opposite, dir_cmp, push_cmp};
+ghost use Rattle.grid.specs.States.{IsScene, Steps};
+ghost use Rattle.grid.specs.Laws.{HasAsManyBoxes, scene_cmp};
+ghost use Rattle.grid.specs.declared.dir.Dir.TheVariants.{D, L, R, U};
+ghost use Rattle.grid.specs.Lawful.{IsLevel};
+ghost use Rattle.grid.specs.States.{FitsLevel};
+ghost use Rattle.grid.specs.Plays.{Play, Any, IsLeastSolution, NotAfter};
 
 use crate::dir::Dir;
+use crate::position::Position;
 use crate::square::Push;
 use crate::state::Step;
 
 /// Two sets of squares with the same members are one list.
-#[tactic(auto, using(crate::proofs::Squares::same_set))]
+#[tactic(auto, using(crate::proofs::lemmas::Squares::same_set))]
 pub fn equal_sets_are_equal_lists()
     ensures { (xs ys : Squares) → is_rising xs ≡ true → is_rising ys ≡ true → ((q : ℕ) → contains xs q ≡ contains ys q) → xs ≡ ys }
 {}
@@ -25,7 +29,8 @@ pub fn a_level_begins_in_a_state()
 pub fn a_step_is_decided()
     ensures some { (board : Board) (s : Scene) (d : Dir) → IsScene board s → (did : Step) × (t : Scene) × Steps board s d did t }
     ensures one { (board : Board) (s : Scene) (d : Dir) (a b : Step) (t u : Scene) → Steps board s d a t → Steps board s d b u → (a ≡ b) × (t ≡ u) }
-    ensures state { (board : Board) (s : Scene) (d : Dir) (did : Step) (t : Scene) → IsScene board s → Steps board s d did t → IsScene board t × (length t.boxes ≡ length s.boxes) }
+    ensures state { (board : Board) (s : Scene) (d : Dir) (did : Step) (t : Scene) → IsScene board s → Steps board s d did t → IsScene board t }
+    ensures boxes { (board : Board) (s : Scene) (d : Dir) (did : Step) (t : Scene) → IsScene board s → Steps board s d did t → HasAsManyBoxes s t }
 {}
 
 /// A step without a push is undone by the step the other way.
@@ -34,7 +39,7 @@ pub fn a_walk_step_can_be_undone()
 {}
 
 /// A walk, which is a play without a push, can be walked back in as many steps.
-#[tactic(auto, using(crate::proofs::Plays::walk_backwards))]
+#[tactic(auto, using(crate::proofs::lemmas::Plays::walk_backwards))]
 pub fn a_walk_can_be_walked_back()
     ensures { (board : Board) (s t : Scene) (ds : List Dir) → IsScene board s → Play board Any s ds [] t
         → (es : List Dir) × (length es ≡ length ds) × Play board Any t es [] s }
@@ -43,12 +48,12 @@ pub fn a_walk_can_be_walked_back()
 /// A play from a state ends in a state with as many boxes, and has no more pushes than steps.
 pub fn a_play_keeps_states()
     ensures state { (board : Board) (s t : Scene) (ds : List Dir) (ps : List Push) → IsScene board s → Play board Any s ds ps t → IsScene board t }
-    ensures boxes { (board : Board) (s t : Scene) (ds : List Dir) (ps : List Push) → IsScene board s → Play board Any s ds ps t → length t.boxes ≡ length s.boxes }
+    ensures boxes { (board : Board) (s t : Scene) (ds : List Dir) (ps : List Push) → IsScene board s → Play board Any s ds ps t → HasAsManyBoxes s t }
     ensures pushes { (board : Board) (s t : Scene) (ds : List Dir) (ps : List Push) → Play board Any s ds ps t → length ps ≤ length ds }
 {}
 
 /// The directions of a play decide its pushes and where it ends.
-#[tactic(auto, using(crate::proofs::Plays::play_same))]
+#[tactic(auto, using(crate::proofs::lemmas::Plays::play_same))]
 pub fn directions_decide_a_play()
     ensures { (board : Board) (s t u : Scene) (ds : List Dir) (ps qs : List Push) → Play board Any s ds ps t → Play board Any s ds qs u → (ps ≡ qs) × (t ≡ u) }
 {}
@@ -59,12 +64,28 @@ pub fn pushes_decide_an_area()
         → (fs : List Dir) × Play board Any t fs [] u }
 {}
 
+/// Directions are ordered down, left, right, up, and [`Dir::ALL`] has them in this order.
+pub fn directions_are_ordered()
+    ensures order { (d e : Dir) → ⟦<Dir as Ord>⟧.cmp d e ≡ dir_cmp d e }
+    ensures all { Dir.ALL ≡ D ∷ L ∷ R ∷ U ∷ [] }
+{}
+
+/// Pushes are ordered by the square that the box left, then by the direction.
+pub fn pushes_are_ordered()
+    ensures { (p q : Push) → ⟦<Push as Ord>⟧.cmp p q ≡ push_cmp p q }
+{}
+
+/// Positions are ordered by the boxes, square by square, then by the player's square.
+pub fn positions_are_ordered()
+    ensures { (s t : Scene) → ⟦<Position as Ord>⟧.cmp s t ≡ scene_cmp s t }
+{}
+
 /// The order of solutions is total: of two solutions one does not come after the other, what does not come after
 /// what does not come after a third does not come after the third, and two that do not come after each other are one.
 pub fn solutions_are_ordered()
-    ensures either { (ds es : List Dir) (ps qs : List Push) → (is_gt (solution_cmp ds ps es qs) ≡ false) ⊎ (is_gt (solution_cmp es qs ds ps) ≡ false) }
-    ensures onward { (ds es fs : List Dir) (ps qs rs : List Push) → is_gt (solution_cmp ds ps es qs) ≡ false → is_gt (solution_cmp es qs fs rs) ≡ false → is_gt (solution_cmp ds ps fs rs) ≡ false }
-    ensures same { (ds es : List Dir) (ps qs : List Push) → is_gt (solution_cmp ds ps es qs) ≡ false → is_gt (solution_cmp es qs ds ps) ≡ false → (ds ≡ es) × (ps ≡ qs) }
+    ensures either { (ds es : List Dir) (ps qs : List Push) → NotAfter ds ps es qs ⊎ NotAfter es qs ds ps }
+    ensures onward { (ds es fs : List Dir) (ps qs rs : List Push) → NotAfter ds ps es qs → NotAfter es qs fs rs → NotAfter ds ps fs rs }
+    ensures same { (ds es : List Dir) (ps qs : List Push) → NotAfter ds ps es qs → NotAfter es qs ds ps → (ds ≡ es) × (ps ≡ qs) }
 {}
 
 /// A level has at most one least solution.

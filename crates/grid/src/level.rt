@@ -1,7 +1,8 @@
 ghost use Rattle.std.specs.Prelude.{◌≡◌, ℕ, ◌+◌, ◌%◌, ◌<◌, ◌≤◌, ◌⊎◌, ◌↔◌, IsTrue, IfOk, IfErr, length, count_by};
 ghost use Rattle.grid.specs.Board.{Board, box_cell, goal_cell, player_cell, is_wall, is_goal, has_box, next, start, start_player};
-ghost use Rattle.grid.specs.Lawful.{row_count, box_count, cell_fault, count_fault, HasFault, InRoom, IsLevel, FitsLevel};
-ghost use Rattle.grid.specs.PlanView.{ways_of};
+ghost use Rattle.grid.specs.Lawful.{row_count, box_count, cell_fault, count_fault, HasFault, InRoom, IsLevel};
+ghost use Rattle.grid.specs.States.{FitsLevel};
+ghost use Rattle.grid.specs.inside.PlanView.{ways_of};
 ghost use Rattle.grid.specs.Masks.{AreMasks};
 
 use crate::around::Around;
@@ -18,7 +19,7 @@ use std::marker::Model;
 
 /// A lawful level: one player, at least one box, as many boxes as goals, and no way from the player to the edge of
 /// the grid.
-#[derive(Drop)]
+#[derive(Debug, Drop)]
 pub struct Level {
     plan: Plan,
     room: Vec<bool>,
@@ -31,7 +32,7 @@ impl Model for Level {
 
     ghost Value = { Board };
 
-    ghost use Rattle.grid.specs.LevelView.{view_of, IsSound};
+    ghost use Rattle.grid.specs.inside.LevelView.{view_of, IsSound};
 
     ghost view = { view_of };
 
@@ -177,20 +178,13 @@ impl Level {
         self.room.get(square.0 as usize).map_or(false, |flag| *flag)
     }
 
-    /// Whether the levels are of one size and have the same cells. So answers `==`, too.
-    pub fn is(&self, other: &Level) -> bool
-        ensures { IsTrue result ↔ (self.now ≡ other.now) }
-    {
-        self.cols() == other.cols() && self.cells() == other.cells()
-    }
-
     /// An equal level.
-    pub fn copy(&self, alloc: Global) -> Result<Level, AllocError>
+    pub fn copy(&self) -> Result<Level, AllocError>
         ensures { IfOk result (λ level. level ≡ self.now) }
     {
         Ok(Level {
-            plan: self.plan.copy(alloc)?,
-            room: Vec::from_slice(alloc, self.room.as_slice())?,
+            plan: self.plan.copy()?,
+            room: self.room.clone()?,
             player: self.player,
             boxes: self.boxes,
         })
@@ -206,8 +200,12 @@ impl PartialEq for Level {
 
     ghost laws = { Prim.search (comparing, rules) };
 
-    fn eq(&self, other: &Level) -> bool {
-        self.is(other)
+    /// Whether the levels are of one size and have the same cells.
+    fn eq(&self, other: &Level) -> bool
+        ensures answer { result ≡ same_board self.now other.now }
+        ensures same { IsTrue result ↔ (self.now ≡ other.now) }
+    {
+        self.cols() == other.cols() && self.cells() == other.cells()
     }
 }
 

@@ -21,6 +21,7 @@ pub use around::Around;
 pub use cell::Cell;
 pub use dir::Dir;
 pub use fault::LevelFault;
+pub use hashing::hash_squares;
 pub use level::Level;
 pub use limits::{MAX_BOXES, MAX_COLS, MAX_ROWS, MAX_SQUARES};
 pub use masks::{StepMasks, WORD_BITS};

@@ -1,9 +1,7 @@
-ghost use Rattle.std.specs.Prelude.{◌≡◌, ℕ, ◌/◌, ◌<◌, ◌≤◌, ◌==◌, ◌&&◌, ◌||◌, IfOk, length, slice_index_or, nat_lt, if◌then◌else◌};
+ghost use Rattle.std.specs.Prelude.{◌≡◌, ℕ, ◌/◌, ◌<◌, ◌≤◌, ◌==◌, ◌&&◌, IfOk, length, if◌then◌else◌};
 ghost use Rattle.std.specs.Int.{bit_at};
-ghost use Rattle.grid.specs.declared.dir.Dir.{Dir};
-ghost use Rattle.grid.specs.Board.{Board, opposite};
-ghost use Rattle.grid.specs.PlanView.{around_of};
-ghost use Rattle.grid.specs.Masks.{AreMasks, has_bit, words_for, square_to};
+ghost use Rattle.grid.specs.inside.PlanView.{AreAround};
+ghost use Rattle.grid.specs.Masks.{AreMasks, AreEntered};
 
 use crate::around::Around;
 use crate::cell::Cell;
@@ -17,7 +15,7 @@ pub const WORD_BITS: usize = 64;
 /// For [`WORD_BITS`] squares in a row, from a multiple of it on: for each direction a bit for each square onto which a
 /// step in that direction can lead, since it is no wall and the grid goes on behind it. The lowest bit is the first
 /// square's.
-#[derive(Clone, Copy, Default)]
+#[derive(Clone, Copy, PartialEq, Eq, Default, Debug)]
 pub struct StepMasks {
     pub d: u64,
     pub l: u64,
@@ -34,7 +32,7 @@ pub(crate) fn masks_of(
 ) -> Result<Vec<StepMasks>, AllocError>
     requires bound { length cells.now ≤ MAX_SQUARES }
     requires places { length around.now ≡ length cells.now }
-    requires around { (q : ℕ) (e : Around) → q < length cells.now → slice_index_or around.now q e ≡ around_of (record { cols = cols; cells = cells.now }) q }
+    requires around { AreAround (record { cols = cols; cells = cells.now }) around.now }
     ensures { IfOk result (λ v. AreMasks (record { cols = cols; cells = cells.now }) v.items) }
 {
     let end = Square(cells.len() as u16);
@@ -51,7 +49,7 @@ pub(crate) fn masks_of(
 fn enter(masks: &mut [StepMasks], square: usize, around: Around, end: Square)
     requires inside { square / WORD_BITS < length masks.old }
     ensures size { length masks.new ≡ length masks.old }
-    ensures bits { (d : Dir) (q : ℕ) → has_bit (words_for d masks.new) q ≡ (has_bit (words_for d masks.old) q || (nat_lt (square_to (opposite d) around) end && (q == square))) }
+    ensures bits { AreEntered masks.old masks.new square around end }
 {
     let place = square % WORD_BITS;
     let mask = masks[square / WORD_BITS];

@@ -12,7 +12,7 @@ pub struct Letter {
 }
 
 /// A list of letters.
-#[derive(Drop)]
+#[derive(Debug, Drop)]
 pub struct Moves {
     letters: Vec<Letter>,
 }

@@ -1,8 +1,8 @@
-ghost use Rattle.std.specs.Prelude.{◌≡◌, ℕ, ◌<◌, ◌≤◌, IsTrue, ◌↔◌, IfOk, length, slice_index_or, if◌then◌else◌};
+ghost use Rattle.std.specs.Prelude.{◌≡◌, ◌<◌, ◌≤◌, IsTrue, ◌↔◌, IfOk, length, if◌then◌else◌};
 ghost use Rattle.grid.specs.declared.dir.Dir.{Dir};
 ghost use Rattle.grid.specs.Board.{Board, is_wall, is_goal, has_box, next};
 ghost use Rattle.grid.specs.Lawful.{row_count};
-ghost use Rattle.grid.specs.PlanView.{around_of, ways_of};
+ghost use Rattle.grid.specs.inside.PlanView.{AreAround, around_of, ways_of};
 ghost use Rattle.grid.specs.Masks.{AreMasks};
 
 use crate::around::Around;
@@ -15,7 +15,7 @@ use std::marker::Model;
 
 /// The cells of a board, with the neighbours of each square, so that a step needs no division, and the step masks, so
 /// that a flood goes by words.
-#[derive(Drop)]
+#[derive(Debug, Drop)]
 pub(crate) struct Plan {
     cols: usize,
     rows: usize,
@@ -29,7 +29,7 @@ impl Model for Plan {
 
     ghost Value = { Board };
 
-    ghost use Rattle.grid.specs.PlanView.{plan_of, IsPlan};
+    ghost use Rattle.grid.specs.inside.PlanView.{plan_of, IsPlan};
 
     ghost view = { plan_of };
 
@@ -154,15 +154,15 @@ impl Plan {
     }
 
     /// An equal plan.
-    pub(crate) fn copy(&self, alloc: Global) -> Result<Plan, AllocError>
+    pub(crate) fn copy(&self) -> Result<Plan, AllocError>
         ensures { IfOk result (λ plan. plan ≡ self.now) }
     {
         Ok(Plan {
             cols: self.cols,
             rows: self.rows,
-            cells: Vec::from_slice(alloc, self.cells.as_slice())?,
-            around: Vec::from_slice(alloc, self.around.as_slice())?,
-            masks: Vec::from_slice(alloc, self.masks.as_slice())?,
+            cells: self.cells.clone()?,
+            around: self.around.clone()?,
+            masks: self.masks.clone()?,
         })
     }
 }
@@ -173,7 +173,7 @@ fn neighbours(alloc: Global, cols: usize, cells: &[Cell]) -> Result<Vec<Around>,
     requires wide { cols ≤ MAX_COLS }
     requires bound { length cells.now ≤ MAX_SQUARES }
     ensures size { IfOk result (λ v. length v.items ≡ length cells.now) }
-    ensures each { IfOk result (λ v. (q : ℕ) (e : Around) → q < length cells.now → slice_index_or v.items q e ≡ around_of (record { cols = cols; cells = cells.now }) q) }
+    ensures each { IfOk result (λ v. AreAround (record { cols = cols; cells = cells.now }) v.items) }
 {
     let mut around = Vec::with_capacity(alloc, cells.len())?;
     for square in 0..cells.len() {

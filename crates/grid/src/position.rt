@@ -1,7 +1,8 @@
 ghost use Rattle.std.specs.Prelude.{⊤, ◌≡◌, ℕ, ◌+◌, ◌-◌, ◌<◌, ◌≤◌, ◌↔◌, IsTrue, true, false, IfSome, IsSome, length, slice_index, nat_lt};
 ghost use Rattle.std.specs.List.{prefix_len, list_any, remove as remove_at};
 ghost use Rattle.grid.specs.Board.{Board, Scene, is_wall, start, start_boxes};
-ghost use Rattle.grid.specs.Lawful.{box_count, FitsLevel};
+ghost use Rattle.grid.specs.Lawful.{box_count};
+ghost use Rattle.grid.specs.States.{FitsLevel};
 ghost use Rattle.grid.specs.Squares.{is_rising, contains, insert, remove};
 
 use crate::level::Level;
@@ -64,6 +65,20 @@ impl Position {
             boxes: kept,
             player,
         })
+    }
+
+    /// The position with these boxes, which rise, and this player.
+    pub fn of_rising(boxes: &[Square], player: Square) -> Position
+        requires rising { is_rising boxes.now ≡ true }
+        requires bound { length boxes.now ≤ MAX_BOXES }
+        ensures { result ≡ record { boxes = boxes.now; player = player } }
+    {
+        let mut kept = ArrayVec::new();
+        let _ = kept.try_extend_from_slice(boxes);
+        Position {
+            boxes: kept,
+            player,
+        }
     }
 
     /// An equal position.
@@ -154,6 +169,10 @@ impl Clone for Position {
 }
 
 impl Default for Position {
+    ghost use Rattle.std.specs.Prelude.{◌≡◌, []};
+
+    ghost is_default = { λ position. position ≡ record { boxes = []; player = 0 } };
+
     /// No boxes, and the player on square 0.
     fn default() -> Self {
         Position {

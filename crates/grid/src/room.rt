@@ -2,7 +2,7 @@ ghost use Rattle.std.specs.Prelude.{◌≡◌, ℕ, ◌<◌, ◌≤◌, IsTrue, 
 ghost use Rattle.grid.specs.declared.dir.Dir.{Dir};
 ghost use Rattle.grid.specs.Board.{Board, is_wall, next, start_player};
 ghost use Rattle.grid.specs.Lawful.{InRoom, IsOpen};
-ghost use Rattle.grid.specs.Filling.{IsMarked, Grows};
+ghost use Rattle.grid.specs.inside.Filling.{IsMarked, Grows};
 
 use crate::plan::Plan;
 use crate::square::Square;

@@ -1,5 +1,6 @@
 ghost use Rattle.std.specs.Prelude.{◌≡◌, ℕ, ◌↔◌, IsTrue, IfOk, map};
-ghost use Rattle.grid.specs.Board.{Board, Scene, IsFree, IsScene, IsSolved, Steps, start, box_cell};
+ghost use Rattle.grid.specs.Board.{Board, Scene, IsFree, IsSolved, start, box_cell};
+ghost use Rattle.grid.specs.States.{IsScene, Steps};
 ghost use Rattle.grid.specs.Squares.{contains};
 
 use crate::cell::Cell;
@@ -22,7 +23,7 @@ pub enum Step {
 }
 
 /// A state of a level, with any number of boxes: where they stand, and the player's square.
-#[derive(Drop)]
+#[derive(Debug, Drop)]
 pub struct State {
     flags: Vec<bool>,
     player: Square,
@@ -31,7 +32,7 @@ pub struct State {
 impl Model for State {
     ghost use Rattle.std.specs.Prelude.{◌≡◌, length};
     ghost use Rattle.grid.specs.Board.{Scene};
-    ghost use Rattle.grid.specs.Squares.{marked};
+    ghost use Rattle.grid.specs.Marks.{marked};
     ghost use Rattle.grid.specs.declared.limits.TheConstants.{MAX_SQUARES};
 
     ghost Value = { Scene };

@@ -6,20 +6,24 @@ use Rattle.std.specs.Prelude.{slice_get}
 use Rattle.std.specs.Ordering.{is_gt}
 use Rattle.grid.specs.declared.square.Push.{Push}
 use Rattle.grid.specs.Board.{Board, Scene, start, push_cmp}
-use Rattle.grid.specs.Lawful.{IsLevel, FitsLevel}
+use Rattle.grid.specs.Lawful.{IsLevel}
+use Rattle.grid.specs.States.{FitsLevel}
 use Rattle.grid.specs.Plays.{shortlex}
 use Rattle.grid.specs.Plays.Play.{stay}
-use Rattle.grid.proofs.Plays.{play_first}
+use Rattle.grid.proofs.lemmas.Plays.{play_first}
 use Rattle.area.specs.Area.{IsNorm}
 use Rattle.doom.specs.Deadlocks.{Doomed, Undoomed}
-use Rattle.layers.specs.Layered.{IsLead, Origin, Entry}
-use Rattle.layers.specs.Reaching.{Reaches, share_of}
+use Rattle.layers.specs.Layered.{IsLead}
+use Rattle.layers.specs.Openings.{Origin, Entry}
+use Rattle.layers.specs.Reaching.{Reaches}
+use Rattle.layers.specs.Origins.{share_of}
 use Rattle.layers.specs.BookView.{BookView, Closed, IsShareOfLayer, AreBounds, IsLawfulBook}
-use Rattle.layers.specs.BookInside.{cut_at, AreCuts}
+use Rattle.layers.specs.FoundView.{first_entries}
+use Rattle.layers.specs.inside.BookInside.{cut_at, AreCuts}
 use Rattle.layers.specs.Books.{IsNew}
-use Rattle.layers.proofs.Books.{level_laws}
-use Rattle.layers.proofs.Lists.{sum_by_first}
-use Rattle.layers.proofs.Orders.{shortlex_shorter}
+use Rattle.layers.proofs.lemmas.Books.{level_laws}
+use Rattle.layers.proofs.lemmas.Lists.{sum_by_first}
+use Rattle.layers.proofs.lemmas.Orders.{shortlex_shorter}
 
 -- with one share each position is of it
 pub one_share : (m : Scene) → share_of 1 m ≡ 0
@@ -78,6 +82,10 @@ doomed_layer board doomed = record {
   origins = λ i m o at. absurd (none-some (m, o) at);
   fits = λ i m o at. absurd (none-some (m, o) at);
 }
+
+pub first_few : (m : Option Scene) → length (first_entries m) ≤ 1
+first_few None = omega arith
+first_few (Some m) = omega arith
 
 none_summed : (n : ℕ) → sum (replicate n 0) ≡ 0
 none_summed zero = refl

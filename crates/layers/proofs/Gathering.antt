@@ -14,23 +14,25 @@ use Rattle.grid.specs.declared.dir.Dir.TheVariants.{D, L, R, U}
 use Rattle.grid.specs.declared.square.Push.{Push}
 use Rattle.grid.specs.Masks.{word_count}
 use Rattle.grid.specs.Squares.{Squares, contains}
-use Rattle.grid.specs.Board.{Board, Scene, IsScene, IsFree, next, opposite, dir_number, dir_cmp, push_cmp}
+use Rattle.grid.specs.Board.{Board, Scene, IsFree, next, opposite, dir_number, dir_cmp, push_cmp}
+use Rattle.grid.specs.States.{IsScene, FitsLevel}
 use Rattle.area.specs.declared.pushes.PushMasks.{PushMasks}
 use Rattle.area.specs.Pushable.{IsPushable, push_word}
 use Rattle.area.specs.Reach.{Reach}
 use Rattle.area.specs.Words.{word_bit}
-use Rattle.area.proofs.Growing.{or_bit, bit_or_left, bit_or_right}
-use Rattle.area.proofs.WordBits.{word_bit-zero}
-use Rattle.area.proofs.WordSets.{cleared_bit}
-use Rattle.grid.specs.Lawful.{IsLevel, FitsLevel}
-use Rattle.grid.proofs.Orders.{nat_cmp-less, nat_cmp-same}
-use Rattle.grid.proofs.Steps.{inside_grid}
+use Rattle.area.proofs.lemmas.Growing.{or_bit, bit_or_left, bit_or_right}
+use Rattle.area.proofs.lemmas.WordBits.{word_bit-zero}
+use Rattle.area.proofs.lemmas.WordSets.{cleared_bit}
+use Rattle.grid.specs.Lawful.{IsLevel}
+use Rattle.grid.proofs.lemmas.Orders.{nat_cmp-less, nat_cmp-same}
+use Rattle.grid.proofs.lemmas.Steps.{inside_grid}
 use Rattle.layers.specs.declared.parcel.Successor.{Successor}
 use Rattle.layers.specs.LayerView.{LayerView, IsWhole}
 use Rattle.layers.specs.ParcelView.{AreSuccessors, FitLevel, IsParcel}
-use Rattle.layers.specs.Reaching.{IsLayerOf, IsSuccessor}
+use Rattle.layers.specs.Reaching.{IsLayerOf}
+use Rattle.layers.specs.Origins.{IsSuccessor}
 use Rattle.layers.specs.Expansion.{CanPush, IsAreaOf, AreAll, ArePushes, Allows, IsBefore, AreAllowedBefore, count_below}
-use Rattle.layers.proofs.Successors.{successor_unique}
+use Rattle.layers.proofs.lemmas.Successors.{successor_unique}
 
 -- ---- a list with one more element
 

@@ -8,15 +8,16 @@ use Rattle.grid.specs.declared.square.Push.{Push}
 use Rattle.indexmap.specs.IndexMap.{insert_entry}
 use Rattle.std.specs.Ordering.{is_lt}
 use Rattle.grid.specs.Board.{Scene, push_cmp}
-use Rattle.layers.specs.Layered.{IsIn, Origin, origin_cmp, Entry, lesser}
-use Rattle.layers.specs.Reaching.{same_scene}
+use Rattle.layers.specs.Layered.{IsIn}
+use Rattle.layers.specs.Openings.{Origin, origin_cmp, Entry, lesser}
+use Rattle.layers.specs.Origins.{same_scene}
 use Rattle.layers.specs.BookView.{origin_of}
 use Rattle.layers.specs.declared.parcel.Successor.{Successor}
 use Rattle.layers.specs.Books.{AreWanted, offered, entered}
 use Rattle.std.proofs.lemmas.List.{length-append, length-map}
 use Rattle.std.specs.List.{list_any}
 use Rattle.layers.proofs.Open.{best}
-use Rattle.layers.proofs.Lists.{Distinct, distinct_push}
+use Rattle.layers.proofs.lemmas.Lists.{Distinct, distinct_push}
 
 and_both : (a b : Bool) → (a && b) ≡ true → (a ≡ true) × (b ≡ true)
 and_both true true e = (refl, refl)

@@ -7,7 +7,8 @@ use Rattle.std.specs.declared.cmp.Ordering.{Ordering}
 use Rattle.std.specs.declared.cmp.Ordering.TheVariants.{Less, Equal, Greater}
 use Rattle.std.specs.Ordering.{ordering_reverse, is_gt, is_lt}
 use Rattle.std.specs.Cmp.{IsTotalOrder}
-use Rattle.layers.specs.Layered.{IsIn, Origin, origin_cmp, lesser, Entry, IsNext, IsOpen}
+use Rattle.layers.specs.Layered.{IsIn}
+use Rattle.layers.specs.Openings.{Origin, origin_cmp, lesser, Entry, IsNext, IsOpen}
 
 -- origins are totally ordered
 pub origin_total : {P : Type 0} {cmp : P → P → Ordering} → IsTotalOrder cmp → IsTotalOrder (origin_cmp cmp)

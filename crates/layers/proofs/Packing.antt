@@ -5,10 +5,10 @@ use Rattle.std.specs.Ordering.{ordering_then, is_lt}
 use Rattle.grid.specs.declared.dir.Dir.{Dir}
 use Rattle.grid.specs.declared.dir.Dir.TheVariants.{D, L, R, U}
 use Rattle.grid.specs.Board.{push_cmp, dir_number}
-use Rattle.grid.proofs.Orders.{then-assoc}
-use Rattle.layers.specs.Layered.{origin_cmp}
+use Rattle.grid.proofs.lemmas.Orders.{then-assoc}
+use Rattle.layers.specs.Openings.{origin_cmp}
 use Rattle.layers.specs.declared.origin.TheConstants.{DIRECTIONS, SQUARES}
-use Rattle.layers.specs.Packed.{dir_at, packed, parted, number_at}
+use Rattle.layers.specs.inside.Packed.{dir_at, packed, parted, number_at}
 
 -- a direction stands at its place
 pub dir_at_number : (d : Dir) → dir_at (dir_number d) ≡ d

@@ -3,15 +3,17 @@ use Rattle.std.proofs.Common.{◌≡◌, ℕ, suc, List, [], ◌∷◌, ◌++◌
 use Rattle.std.proofs.lemmas.List.{append-nil}
 use Rattle.grid.specs.declared.dir.Dir.{Dir}
 use Rattle.grid.specs.declared.square.Push.{Push}
-use Rattle.grid.specs.Board.{Board, Scene, IsScene, start, push_cmp}
+use Rattle.grid.specs.Board.{Board, Scene, start, push_cmp}
+use Rattle.grid.specs.States.{IsScene}
 use Rattle.grid.specs.Plays.{Play, Any}
 use Rattle.grid.specs.Plays.Play.{stay, push}
-use Rattle.grid.proofs.Orders.{push_cmp_total, push_cmp_exact}
-use Rattle.grid.proofs.Plays.{play-append, play_last, play_scene, walk_of_boxes, cut_last_push, split_last, same_area}
-use Rattle.area.proofs.Norms.{norm_unique, norm_exists, norm_along_walk, norm_walk, norm_walk_back}
+use Rattle.grid.proofs.lemmas.Orders.{push_cmp_total, push_cmp_exact}
+use Rattle.grid.proofs.lemmas.Plays.{play-append, play_last, play_scene, walk_of_boxes, cut_last_push, split_last, same_area}
+use Rattle.area.proofs.lemmas.Norms.{norm_unique, norm_exists, norm_along_walk, norm_walk, norm_walk_back}
 use Rattle.doom.specs.Deadlocks.{Doomed, Undoomed}
-use Rattle.layers.specs.Layered.{IsLayered}
-use Rattle.layers.specs.Reaching.{Reaches, IsSuccessor, Everything}
+use Rattle.layers.specs.Openings.{IsLayered}
+use Rattle.layers.specs.Reaching.{Reaches, Admits}
+use Rattle.layers.specs.Origins.{IsSuccessor}
 
 module _ {board : Board} where
   -- a walk from a state that is not doomed passes no doomed one
@@ -55,7 +57,7 @@ module _ {board : Board} where
         (s.0, s.1, w.0, s.2, w.1, w.2)
 
     -- so the layers of a level are layers in the order of leads
-    pub reaching_laws : IsLayered push_cmp (Reaches board) (IsSuccessor board) Everything
+    pub reaching_laws : IsLayered push_cmp (Reaches board) (IsSuccessor board) (Admits board)
     reaching_laws = record {
       total = push_cmp_total;
       exact = push_cmp_exact;

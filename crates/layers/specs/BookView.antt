@@ -4,10 +4,14 @@ use Rattle.std.specs.Map.{lookup}
 use Rattle.std.specs.Option.{option_to_list}
 use Rattle.grid.specs.declared.square.Push.{Push}
 use Rattle.grid.specs.Board.{Board, Scene, push_cmp}
-use Rattle.grid.specs.Lawful.{FitsLevel, IsLevel}
+use Rattle.grid.specs.States.{FitsLevel}
+use Rattle.grid.specs.Lawful.{IsLevel}
 use Rattle.layers.specs.declared.limits.TheConstants.{MAX_SHARES, MAX_WORKERS, MOST_POSITIONS}
-use Rattle.layers.specs.Layered.{IsIn, IsLayer, Origin, Entry, IsOpen}
-use Rattle.layers.specs.Reaching.{Reaches, IsSuccessor, AreLayersOf, HasOrigin, same_scene, share_of, total}
+use Rattle.layers.specs.Layered.{IsIn, IsLayer}
+use Rattle.layers.specs.Openings.{Origin, Entry, IsOpen}
+use Rattle.layers.specs.Reaching.{Reaches, AreLayersOf, total}
+use Rattle.layers.specs.Origins.{IsSuccessor, HasOrigin, same_scene, share_of}
+use Rattle.layers.specs.Distances.{AreDistinct, IsAtDistance}
 
 -- a closed position with its parent's rank and its push; in layer 0 there is neither
 abbrev pub Closed : Type 0
@@ -66,14 +70,6 @@ pub record IsShareOfLayer (level : Board) (shares share k : ℕ) (es : List Clos
 -- the rank was handed back
 abbrev pub IsDone : BookView → ℕ → Type 0
 IsDone v r = slice_index_or v.done r false ≡ true
-
--- no position stands twice
-abbrev pub AreDistinct : List Scene → Type 0
-AreDistinct ms = (i j : ℕ) (m : Scene) → slice_get ms i ≡ Some m → slice_get ms j ≡ Some m → i ≡ j
-
--- k pushes through undoomed positions lead to m, and no fewer
-abbrev pub IsAtDistance : Board → Scene → ℕ → Type 0
-IsAtDistance board m k = ((ps : List Push) × Reaches board ps m × (length ps ≡ k)) × ((qs : List Push) → Reaches board qs m → k ≤ length qs)
 
 -- so many positions of the share lie in the layer after the last closed one that the limit is passed
 pub record IsPassed (v : BookView) : Type 0 where

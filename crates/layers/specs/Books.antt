@@ -20,11 +20,13 @@ use Rattle.layers.specs.declared.fault.JoinFault.{JoinFault}
 use Rattle.layers.specs.declared.fault.JoinFault.TheVariants.{NotWhole, OutOfMemory as JoinOutOfMemory}
 use Rattle.layers.specs.declared.parcel.Successor.{Successor}
 use Rattle.std.specs.Ordering.{is_gt}
-use Rattle.layers.specs.Layered.{Origin, origin_cmp, Entry, lesser}
-use Rattle.layers.specs.Reaching.{same_scene, share_of, total}
+use Rattle.layers.specs.Openings.{Origin, origin_cmp, Entry, lesser}
+use Rattle.layers.specs.Origins.{same_scene, share_of}
+use Rattle.layers.specs.Reaching.{total}
 use Rattle.layers.specs.LayerView.{LayerView}
 use Rattle.layers.specs.ParcelView.{ParcelView}
-use Rattle.layers.specs.BookView.{BookView, Closed, IsShareOfLayer, IsDone, AreDistinct, origin_of, last_layer, places_of}
+use Rattle.layers.specs.BookView.{BookView, Closed, IsShareOfLayer, IsDone, origin_of, last_layer, places_of}
+use Rattle.layers.specs.Distances.{AreDistinct}
 
 -- ---- a new book
 
@@ -51,6 +53,10 @@ closed_place lists k i = slice_get (places_of (slice_index_or lists k [])) i
 -- the layer is the last closed one of the same level, and has not begun
 abbrev pub MayBegin : BookView → LayerView → Type 0
 MayBegin v layer = (layer.level ≡ v.level) × (layer.number ≡ last_layer v) × (v.begun ≡ false)
+
+-- the layer is the last closed one of the same level, and has begun
+abbrev pub HasBegun : BookView → LayerView → Type 0
+HasBegun v layer = (layer.level ≡ v.level) × (layer.number ≡ last_layer v) × (v.begun ≡ true)
 
 -- after a begin all ranks of the layer are free, and nothing stands open
 abbrev pub with_begun : BookView → ℕ → BookView

@@ -2,10 +2,12 @@
 use Rattle.std.specs.Prelude.{◌≡◌, ℕ, suc, ◌+◌, ◌≤◌, List, [], length, slice_get, Some}
 use Rattle.grid.specs.declared.square.Push.{Push}
 use Rattle.grid.specs.Board.{Board, Scene}
-use Rattle.grid.specs.Lawful.{FitsLevel, IsLevel}
+use Rattle.grid.specs.States.{FitsLevel}
+use Rattle.grid.specs.Lawful.{IsLevel}
 use Rattle.layers.specs.declared.limits.TheConstants.{MOST_POSITIONS}
-use Rattle.layers.specs.Layered.{Origin}
-use Rattle.layers.specs.Reaching.{IsLayerOf, AreLayersOf, HasOrigin, total}
+use Rattle.layers.specs.Openings.{Origin}
+use Rattle.layers.specs.Reaching.{IsLayerOf, AreLayersOf, total}
+use Rattle.layers.specs.Origins.{HasOrigin}
 
 -- a layer: its level and number, its normal positions by rank, and for each the rank of its parent in the layer
 -- before with its push; layer 0 has no parents

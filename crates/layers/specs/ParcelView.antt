@@ -3,9 +3,11 @@ use Rattle.std.specs.Prelude.{◌≡◌, ℕ, ◌<◌, List, [], ◌∷◌, ◌+
 use Rattle.std.specs.declared.cmp.Ordering.TheVariants.{Less}
 use Rattle.grid.specs.declared.square.Push.{Push}
 use Rattle.grid.specs.Board.{Board, Scene, push_cmp}
-use Rattle.grid.specs.Lawful.{FitsLevel, IsLevel}
+use Rattle.grid.specs.States.{FitsLevel}
+use Rattle.grid.specs.Lawful.{IsLevel}
 use Rattle.layers.specs.declared.parcel.Successor.{Successor}
-use Rattle.layers.specs.Reaching.{IsLayerOf, IsSuccessor}
+use Rattle.layers.specs.Reaching.{IsLayerOf}
+use Rattle.layers.specs.Origins.{IsSuccessor}
 
 -- a parcel: the level, a layer's number, a rank of it, and the successors of the position with that rank
 pub record ParcelView : Type 0 where

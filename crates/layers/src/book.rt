@@ -1,18 +1,19 @@
 ghost use Rattle.std.specs.Prelude.{◌≡◌, ◌+◌, ◌-◌, ◌*◌, ◌<◌, ◌≤◌, ◌↔◌, IsTrue, IfOk, IfSome, MatchOption, MatchResult, length, slice_get, slice_index_or, true, Some};
 ghost use Rattle.grid.specs.Board.{start};
-ghost use Rattle.grid.specs.Lawful.{box_count, FitsLevel};
+ghost use Rattle.grid.specs.Lawful.{box_count};
+ghost use Rattle.grid.specs.States.{FitsLevel};
 ghost use Rattle.layers.specs.BookView.{IsLawfulBook, IsShareOfLayer, last_layer};
 ghost use Rattle.layers.specs.Books.{IsNew, BookRefused, closed_place};
-ghost use Rattle.layers.specs.BookInside.{AreCuts, IsPiece};
+ghost use Rattle.layers.specs.inside.BookInside.{AreCuts, IsPiece};
+ghost use Rattle.layers.specs.FoundView.{first_entries};
 ghost use Rattle.std.specs.Arc.{arc_value};
 
 use crate::fault::BookFault;
+use crate::found::Found;
 use crate::limits::{MAX_SHARES, MAX_WORKERS};
-use crate::origin::{ClosedOrigin, Origin};
 use area::{Scratch, normal};
 use doom::{Dead, doomed};
 use grid::{Level, MAX_BOXES, Position};
-use indexmap::IndexMap;
 use std::alloc::{AllocError, Global};
 use std::marker::Model;
 use std::sync::Arc;
@@ -40,15 +41,14 @@ pub struct Book {
     pub(crate) workers: u8,
     pub(crate) share: u8,
     pub(crate) shares: u8,
-    // the closed positions, layer after layer, and where each layer begins
-    pub(crate) seen: IndexMap<Position, ClosedOrigin>,
+    // the closed positions, layer after layer, and those that stand open; and where each layer begins
+    pub(crate) found: Found,
     pub(crate) starts: Vec<usize>,
     pub(crate) begun: bool,
     pub(crate) claimed: Vec<bool>,
     pub(crate) done: Vec<bool>,
     // each rank below it is claimed or done
     pub(crate) next: usize,
-    pub(crate) waiting: IndexMap<Position, Origin>,
     pub(crate) tallies: Vec<u64>,
     pub(crate) over: bool,
 }
@@ -58,7 +58,7 @@ impl Model for Book {
 
     ghost Value = { BookView };
 
-    ghost use Rattle.layers.specs.BookInside.{book_view, IsSoundBook};
+    ghost use Rattle.layers.specs.inside.BookInside.{book_view, IsSoundBook};
 
     ghost view = { book_view };
 
@@ -89,7 +89,8 @@ impl Book {
         let Some(start) = Position::start(&level) else {
             return Err(BookFault::TooManyBoxes);
         };
-        let seen = first_seen(alloc, &level, &start)?;
+        let first = first_position(alloc, &level, &start)?;
+        let found = Found::of(alloc, level.boxes(), &first)?;
         let mut starts = Vec::new(alloc);
         starts.resize(1, 0)?;
         let mut tallies = Vec::new(alloc);
@@ -100,13 +101,12 @@ impl Book {
             workers,
             share,
             shares,
-            seen,
+            found,
             starts,
             begun: false,
             claimed: Vec::new(alloc),
             done: Vec::new(alloc),
             next: 0,
-            waiting: IndexMap::new(alloc),
             tallies,
             over: false,
         })
@@ -124,6 +124,13 @@ impl Book {
         ensures { result.now ≡ self.now.level }
     {
         &*self.level
+    }
+
+    // Whether the book is of this level.
+    pub(crate) fn is_of(&self, level: &Level) -> bool
+        ensures { IsTrue result ↔ (self.now.level ≡ level.now) }
+    {
+        *self.level == *level
     }
 
     /// The greatest number of closed and open positions.
@@ -180,36 +187,32 @@ impl Book {
     pub fn closed_at(&self, layer: u64, place: u64) -> Option<Position>
         ensures { result ≡ closed_place self.now.closed layer place }
     {
-        let (from, to) = piece_of(self.starts.as_slice(), self.seen.len(), layer)?;
+        let (from, to) = piece_of(self.starts.as_slice(), self.found.closed_len(), layer)?;
         if place >= (to - from) as u64 {
             return None;
         }
-        let (position, _) = self.seen.get_index(from + place as usize)?;
-        Some(position.copy())
+        self.found.closed_at(from + place as usize)
     }
 }
 
-// Layer 0, as what was seen at first: the start's normal position, or nothing where the start is doomed.
-fn first_seen(
+// The position of layer 0: the start's normal position, or none where the start is doomed.
+fn first_position(
     alloc: Global,
     level: &Level,
     first: &Position,
-) -> Result<IndexMap<Position, ClosedOrigin>, AllocError>
+) -> Result<Option<Position>, AllocError>
     requires start { first.now ≡ start level.now }
     requires fits { FitsLevel level.now first.now }
-    ensures { IfOk result (λ seen. IsShareOfLayer level.now 1 0 0 seen.entries × (length seen.entries ≤ 1)) }
+    ensures layer { IfOk result (λ normal. IsShareOfLayer level.now 1 0 0 (first_entries normal)) }
+    ensures boxes { IfOk result (λ normal. IfSome normal (λ m. length m.boxes ≡ box_count level.now)) }
 {
     level.tell();
     let dead = Dead::of(alloc, level)?;
     let mut scratch = Scratch::new(alloc, level)?;
-    let mut seen = IndexMap::new(alloc);
-    if !doomed(level, &dead, first, &mut scratch) {
-        let normal = normal(level, first, &mut scratch);
-        if seen.insert(normal, ClosedOrigin::of(None)).is_err() {
-            return Err(AllocError);
-        }
+    if doomed(level, &dead, first, &mut scratch) {
+        return Ok(None);
     }
-    Ok(seen)
+    Ok(Some(normal(level, first, &mut scratch)))
 }
 
 // Where a piece of a list that is cut at these places begins and ends; `None` exactly beyond the pieces.

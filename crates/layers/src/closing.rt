@@ -1,18 +1,23 @@
-//! What stands open becomes a closed layer, on the fields of a book.
+//! What stands open becomes a closed layer, in the map that holds it behind what is closed.
 ghost use Rattle.std.specs.Prelude.{◌≡◌, ℕ, ◌<◌, ◌≤◌, [], ◌∷◌, ◌++◌, length, map, true, false, slice_get, slice_index_or, vec_len, Some, OnOk, OnErr, IfOk, IsPermutation};
 ghost use Rattle.std.specs.List.{IsDistinct};
-ghost use Rattle.layers.specs.Reaching.{same_scene};
-ghost use Rattle.layers.specs.Rows.{entries_of};
+ghost use Rattle.grid.specs.Board.{push_cmp};
+ghost use Rattle.layers.specs.Openings.{origin_cmp};
+ghost use Rattle.layers.specs.Origins.{same_scene};
 ghost use Rattle.std.specs.Bool.{MatchBool};
 ghost use Rattle.std.specs.Vec.{vec_capacity};
 ghost use Rattle.indexmap.specs.IndexMap.{spare};
-ghost use Rattle.layers.specs.BookView.{AreDistinct};
+ghost use Rattle.layers.specs.Distances.{AreDistinct};
+ghost use Rattle.layers.specs.BookView.{Closed};
 ghost use Rattle.layers.specs.Books.{RiseByOrigin, AreNew, closed_entry, IsSortedAppend};
+ghost use Rattle.layers.specs.FoundView.{IsFound, open_of, origin_in, seen_of};
 
+use crate::key::Key;
 use crate::origin::{ClosedOrigin, Origin};
-use grid::Position;
+use grid::MAX_BOXES;
 use indexmap::IndexMap;
 use std::alloc::AllocError;
+use std::cmp::Ordering;
 
 /// Whether each mark is set.
 pub(crate) fn all_marked(marks: &[bool]) -> bool
@@ -34,53 +39,100 @@ pub(crate) fn push_within(places: &mut Vec<usize>, place: usize)
     let _ = places.push(place);
 }
 
-/// Appends what stands open to what was seen, in the order of the origins. An error leaves what was seen as it was.
-pub(crate) fn append_sorted(
-    seen: &mut IndexMap<Position, ClosedOrigin>,
-    waiting: &IndexMap<Position, Origin>,
+/// Puts what stands open, from the start on, into the order of the origins. An error leaves all as it was.
+pub(crate) fn arrange<const N: usize>(
+    table: &mut IndexMap<Key<N>, ClosedOrigin>,
+    start: usize,
 ) -> Result<(), AllocError>
-    requires room { length waiting.now.entries ≤ spare seen.old }
-    requires new { AreNew seen.old.entries waiting.now.entries }
-    ensures ok { OnOk result (IsSortedAppend seen.old.entries waiting.now.entries seen.new.entries) }
-    ensures err { OnErr result (seen.new ≡ seen.old) }
+    requires width { N ≤ MAX_BOXES }
+    requires found { IsFound start table.old.entries }
+    ensures ok { OnOk result (IsSortedAppend (seen_of start table.old.entries) (open_of start table.old.entries) table.new.entries) }
+    ensures err { OnErr result (table.new.entries ≡ table.old.entries) }
 {
-    let mut rows = rows_of(waiting)?;
+    if do_rise(table, start) {
+        return Ok(());
+    }
+    let mut rows = rows_from(table, start)?;
     sort_rows(&mut rows);
-    append_rows(seen, rows.as_slice());
+    table.reserve(rows.len())?;
+    table.truncate(start);
+    append_rows(table, rows.as_slice());
     Ok(())
 }
 
-// What stands open, as references to the positions, which are not moved while they are sorted.
-fn rows_of(waiting: &IndexMap<Position, Origin>) -> Result<Vec<(&Position, Origin)>, AllocError>
-    ensures rows { IfOk result (λ rows. entries_of rows.items ≡ waiting.now.entries) }
-    ensures distinct { IsDistinct same_scene (map (λ e. e.0) waiting.now.entries) }
+// Whether the origins of what stands open rise already, as they do where the ranks were handed back in their order.
+fn do_rise<const N: usize>(table: &IndexMap<Key<N>, ClosedOrigin>, start: usize) -> bool
+    requires width { N ≤ MAX_BOXES }
+    requires within { start ≤ length table.now.entries }
+    ensures rise { result ≡ true → RiseByOrigin (open_of start table.now.entries) }
+    ensures distinct { IsDistinct same_scene (map (λ e. e.0) table.now.entries) }
 {
-    let count = waiting.len();
-    let mut rows = Vec::with_capacity(*waiting.allocator(), count)?;
-    for place in 0..count {
-        if let Some((position, origin)) = waiting.get_index(place) {
-            rows.push_reserved((position, *origin));
+    let mut last = ClosedOrigin::of(None).opened();
+    for place in start..table.len() {
+        let origin = origin_at(table, place);
+        if origin.is_before(last) {
+            return false;
+        }
+        last = origin;
+    }
+    true
+}
+
+// The origin at a place, which is one of what stands open.
+fn origin_at<const N: usize>(table: &IndexMap<Key<N>, ClosedOrigin>, place: usize) -> Origin
+    requires width { N ≤ MAX_BOXES }
+    requires within { place < length table.now.entries }
+    ensures { (e : Closed) → slice_get table.now.entries place ≡ Some e → result ≡ origin_in e.1 }
+{
+    let Some((_, closed)) = table.get_index(place) else {
+        unreachable!()
+    };
+    closed.opened()
+}
+
+// What stands open.
+fn rows_from<const N: usize>(
+    table: &IndexMap<Key<N>, ClosedOrigin>,
+    start: usize,
+) -> Result<Vec<(Key<N>, Origin)>, AllocError>
+    requires width { N ≤ MAX_BOXES }
+    requires within { start ≤ length table.now.entries }
+    ensures { IfOk result (λ rows. rows.items ≡ open_of start table.now.entries) }
+{
+    let mut rows = Vec::with_capacity(*table.allocator(), table.len() - start)?;
+    for place in start..table.len() {
+        if let Some((key, closed)) = table.get_index(place) {
+            rows.push((key.copy(), closed.opened()))?;
         }
     }
     Ok(rows)
 }
 
-// Puts what stands open into the order of the origins.
-fn sort_rows(rows: &mut Vec<(&Position, Origin)>)
-    ensures sorted { RiseByOrigin (entries_of rows.new.items) }
-    ensures same { IsPermutation (entries_of rows.old.items) (entries_of rows.new.items) }
+// Puts entries into the order of the origins.
+fn sort_rows<const N: usize>(rows: &mut Vec<(Key<N>, Origin)>)
+    requires { N ≤ MAX_BOXES }
+    ensures sorted { RiseByOrigin rows.new.items }
+    ensures same { IsPermutation rows.old.items rows.new.items }
 {
-    rows.sort_unstable_by(|(_, origin), (_, other)| origin.compare(*other));
+    rows.sort_unstable_by(
+        |row: &(Key<N>, Origin), other: &(Key<N>, Origin)| -> Ordering
+            ensures { result ≡ origin_cmp push_cmp row.now.1 other.now.1 }
+        { row.1.compare(other.1) },
+    );
 }
 
-// Appends what stands open to what was seen, each position with its origin.
-fn append_rows(seen: &mut IndexMap<Position, ClosedOrigin>, rows: &[(&Position, Origin)])
-    requires room { length rows.now ≤ spare seen.old }
-    requires new { AreNew seen.old.entries (entries_of rows.now) }
-    requires distinct { AreDistinct (map (λ e. e.0) (entries_of rows.now)) }
-    ensures { seen.new.entries ≡ seen.old.entries ++ map closed_entry (entries_of rows.now) }
+// Appends entries to what is closed.
+fn append_rows<const N: usize>(
+    table: &mut IndexMap<Key<N>, ClosedOrigin>,
+    rows: &[(Key<N>, Origin)],
+)
+    requires width { N ≤ MAX_BOXES }
+    requires room { length rows.now ≤ spare table.old }
+    requires new { AreNew table.old.entries rows.now }
+    requires distinct { AreDistinct (map (λ e. e.0) rows.now) }
+    ensures { table.new.entries ≡ table.old.entries ++ map closed_entry rows.now }
 {
-    for (position, origin) in rows {
-        let _ = seen.insert(position.copy(), ClosedOrigin::of(Some(*origin)));
+    for (key, origin) in rows {
+        let _ = table.insert(key.copy(), ClosedOrigin::of(Some(*origin)));
     }
 }

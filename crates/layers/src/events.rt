@@ -1,10 +1,11 @@
 ghost use Rattle.std.specs.Prelude.{◌≡◌, ℕ, ◌+◌, ◌<◌, ◌≤◌, nat_lt, Some, false, slice_get, IfNone, IfSome, IfErr, OnOk, OnErr, IfOk, length};
+ghost use Rattle.grid.specs.Lawful.{box_count};
+ghost use Rattle.layers.specs.FoundView.{HaveFew};
 ghost use Rattle.layers.specs.Reaching.{total};
 ghost use Rattle.layers.specs.Books.{IsAtWork, all_entered, MayBegin, with_begun, BeginRefused, ClaimAnswer, MayEnter, with_parcel, HandBackRefused, after_refusal, with_reopened, IsClosedBy, CloseRefused};
 
 use crate::book::{Book, Claim, Closed};
-use crate::closing::{all_marked, append_sorted, push_within};
-use crate::entering::{count_new, enter_all};
+use crate::closing::{all_marked, push_within};
 use crate::fault::{BeginFault, CloseFault, Refusal};
 use crate::layer::Layer;
 use crate::parcel::{Parcel, Successor};
@@ -17,7 +18,7 @@ impl Book {
         ensures fault { IfErr result (λ fault. BeginRefused self.old layer.now fault) }
         ensures err { OnErr result (self.new ≡ self.old) }
     {
-        if !self.level.is(layer.level()) {
+        if !self.is_of(layer.level()) {
             return Err(BeginFault::OtherLevel);
         }
         if layer.number() != self.layer() || self.begun {
@@ -76,17 +77,13 @@ impl Book {
             self.over = true;
             return Err(Refusal::Over);
         }
-        if self.waiting.reserve(successors.len()).is_err() {
+        if self
+            .found
+            .enter_all(self.share, self.shares, parcel.rank(), successors)
+            .is_err()
+        {
             return Err(Refusal::OutOfMemory);
         }
-        enter_all(
-            &self.seen,
-            &mut self.waiting,
-            self.share,
-            self.shares,
-            parcel.rank(),
-            successors,
-        );
         self.done[parcel.rank() as usize] = true;
         self.tallies[worker as usize] += 1;
         Ok(())
@@ -98,7 +95,7 @@ impl Book {
         ensures some { IfSome result (λ refusal. HandBackRefused self.now parcel.now refusal) }
         ensures unchanged { IfSome result (λ refusal. after_refusal self.now refusal ≡ self.now) }
     {
-        if !self.level.is(parcel.level()) {
+        if !self.is_of(parcel.level()) {
             return Some(Refusal::OtherLevel);
         }
         if parcel.layer() != self.layer() {
@@ -113,19 +110,14 @@ impl Book {
 
     // Whether the book would hold more positions than its limit once the wanted successors of a rank have entered.
     fn passes_limit(&self, successors: &[Successor]) -> bool
+        requires { HaveFew (box_count self.now.level) successors.now }
         ensures { (rank : ℕ) → result ≡ nat_lt self.now.limit (total self.now.closed + length (all_entered self.now rank successors.now)) }
     {
-        let room = self.limit as usize - (self.seen.len() + self.waiting.len());
+        let room = self.limit as usize - (self.found.closed_len() + self.found.open_len());
         if successors.len() <= room {
             return false;
         }
-        let count = count_new(
-            &self.seen,
-            &self.waiting,
-            self.share,
-            self.shares,
-            successors,
-        );
+        let count = self.found.count_new(self.share, self.shares, successors);
         count > room
     }
 
@@ -148,19 +140,15 @@ impl Book {
             return Err(CloseFault::NotAll);
         }
         let layer = self.starts.len() as u64;
-        let count = self.waiting.len();
-        if self.seen.reserve(count).is_err() {
-            return Err(CloseFault::OutOfMemory);
-        }
+        let count = self.found.open_len();
+        let start = self.found.closed_len();
         if self.starts.reserve(1).is_err() {
             return Err(CloseFault::OutOfMemory);
         }
-        let start = self.seen.len();
-        if append_sorted(&mut self.seen, &self.waiting).is_err() {
+        if self.found.close().is_err() {
             return Err(CloseFault::OutOfMemory);
         }
         push_within(&mut self.starts, start);
-        self.waiting.clear();
         self.claimed.clear();
         self.done.clear();
         self.next = 0;

@@ -3,11 +3,11 @@ ghost use Rattle.area.specs.Reach.{Reach};
 ghost use Rattle.area.specs.Words.{word_bit};
 ghost use Rattle.grid.specs.Board.{Board, Scene, dir_number, is_wall};
 ghost use Rattle.grid.specs.Masks.{word_count};
-ghost use Rattle.grid.specs.Lawful.{FitsLevel};
+ghost use Rattle.grid.specs.States.{FitsLevel};
 ghost use Rattle.grid.specs.Squares.{contains};
 ghost use Rattle.doom.specs.Deadlocks.{Undoomed};
 ghost use Rattle.layers.specs.ParcelView.{AreSuccessors, FitLevel, IsAppended, IsParcel};
-ghost use Rattle.layers.specs.Reaching.{IsSuccessor};
+ghost use Rattle.layers.specs.Origins.{IsSuccessor};
 ghost use Rattle.layers.specs.Expansion.{CanPush, IsAreaOf, ArePushes, AreAllowedBefore, Allows, TellsPushes, count_below};
 
 use crate::layer::Layer;
@@ -80,11 +80,11 @@ fn successors_of(
     layer.tell();
     let level = layer.level();
     let position = layer.place(rank);
-    let pushes = possible_pushes(level, position, scratch);
+    let pushes = possible_pushes(level, &position, scratch);
     successors_by(
         level,
         dead,
-        position,
+        &position,
         pushes.as_slice(),
         scratch,
         successors,
@@ -279,7 +279,9 @@ fn make_push(
     let ahead = level.next(square, dir);
     moved.copy_from(position);
     moved.push(square, ahead);
-    if !doom::is_loose(level, dead, moved, ahead) && doom::doomed(level, dead, moved, scratch) {
+    if !doom::is_loose(level, dead, moved, ahead)
+        && doom::doomed_after(level, dead, moved, Push { square, dir }, scratch)
+    {
         return false;
     }
     area::normalise_after(level, position, Push { square, dir }, moved, scratch);

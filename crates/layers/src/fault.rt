@@ -1,13 +1,17 @@
 ghost use Rattle.std.specs.Prelude.{◌≡◌};
 
+use grid::MAX_BOXES;
 use std::alloc::AllocError;
+use thiserror::Error;
 
 /// Why no book was made.
-#[derive(Clone, Copy, PartialEq, Eq, Debug)]
+#[derive(Clone, Copy, PartialEq, Eq, Debug, Drop, Error)]
 pub enum BookFault {
     /// The level has more boxes than [`MAX_BOXES`](grid::MAX_BOXES).
+    #[error("more than {MAX_BOXES} boxes")]
     TooManyBoxes,
     /// Memory was refused.
+    #[error("out of memory")]
     OutOfMemory,
 }
 
@@ -16,54 +20,107 @@ impl From<AllocError> for BookFault {
 
     ghost from_gives = { λ _ fault. fault ≡ OutOfMemory };
 
-    fn from(_: AllocError) -> Self {
+    fn from(_error: AllocError) -> Self {
         BookFault::OutOfMemory
     }
 }
 
 /// Why a layer was not begun. Of several reasons the first in this order is the one that is answered.
-#[derive(Clone, Copy, PartialEq, Eq, Debug)]
+#[derive(Clone, Copy, PartialEq, Eq, Debug, Drop, Error)]
 pub enum BeginFault {
     /// The layer is of another level.
+    #[error("the layer is of another level")]
     OtherLevel,
     /// The layer is not the last closed one, or it has begun.
+    #[error("the layer is not the last closed one, or has begun")]
     OtherLayer,
     /// Memory was refused.
+    #[error("out of memory")]
     OutOfMemory,
+}
+
+impl From<AllocError> for BeginFault {
+    ghost use Rattle.layers.specs.declared.fault.BeginFault.TheVariants.{OutOfMemory};
+
+    ghost from_gives = { λ _ fault. fault ≡ OutOfMemory };
+
+    fn from(_error: AllocError) -> Self {
+        BeginFault::OutOfMemory
+    }
 }
 
 /// Why a parcel was not accepted. Of several reasons the first in this order is the one that is answered.
-#[derive(Clone, Copy, PartialEq, Eq, Debug)]
+#[derive(Clone, Copy, PartialEq, Eq, Debug, Drop, Error)]
 pub enum Refusal {
     /// The parcel is of another level.
+    #[error("the parcel is of another level")]
     OtherLevel,
     /// The parcel is not of the last closed layer.
+    #[error("the parcel is not of the last closed layer")]
     OtherLayer,
     /// The parcel's rank is beyond the layer, or nothing has begun.
+    #[error("no such rank")]
     NoSuchRank,
     /// The rank was handed back before.
+    #[error("the rank was handed back before")]
     Double,
     /// The book would hold more positions than its limit, or has been over before.
+    #[error("more positions than the limit")]
     Over,
     /// Memory was refused.
+    #[error("out of memory")]
     OutOfMemory,
+}
+
+impl From<AllocError> for Refusal {
+    ghost use Rattle.layers.specs.declared.fault.Refusal.TheVariants.{OutOfMemory};
+
+    ghost from_gives = { λ _ fault. fault ≡ OutOfMemory };
+
+    fn from(_error: AllocError) -> Self {
+        Refusal::OutOfMemory
+    }
 }
 
 /// Why a layer was not closed. Of several reasons the first in this order is the one that is answered.
-#[derive(Clone, Copy, PartialEq, Eq, Debug)]
+#[derive(Clone, Copy, PartialEq, Eq, Debug, Drop, Error)]
 pub enum CloseFault {
     /// A rank is not done, or nothing has begun.
+    #[error("a rank is not done")]
     NotAll,
     /// Memory was refused.
+    #[error("out of memory")]
     OutOfMemory,
 }
 
+impl From<AllocError> for CloseFault {
+    ghost use Rattle.layers.specs.declared.fault.CloseFault.TheVariants.{OutOfMemory};
+
+    ghost from_gives = { λ _ fault. fault ≡ OutOfMemory };
+
+    fn from(_error: AllocError) -> Self {
+        CloseFault::OutOfMemory
+    }
+}
+
 /// Why books were not joined. Of several reasons the first in this order is the one that is answered.
-#[derive(Clone, Copy, PartialEq, Eq, Debug)]
+#[derive(Clone, Copy, PartialEq, Eq, Debug, Drop, Error)]
 pub enum JoinFault {
     /// The books are not all the shares, in order, of one level, limit and number of shares, at the same last closed
     /// layer.
+    #[error("not all the shares of one book")]
     NotWhole,
     /// Memory was refused.
+    #[error("out of memory")]
     OutOfMemory,
+}
+
+impl From<AllocError> for JoinFault {
+    ghost use Rattle.layers.specs.declared.fault.JoinFault.TheVariants.{OutOfMemory};
+
+    ghost from_gives = { λ _ fault. fault ≡ OutOfMemory };
+
+    fn from(_error: AllocError) -> Self {
+        JoinFault::OutOfMemory
+    }
 }

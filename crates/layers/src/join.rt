@@ -1,12 +1,14 @@
-ghost use Rattle.std.specs.Prelude.{◌≡◌, ◌≤◌, IfOk, MatchResult, drop, length, map};
+ghost use Rattle.std.specs.Prelude.{◌≡◌, ◌≤◌, IfOk, MatchResult, drop, length, map, take};
 ghost use Rattle.layers.specs.BookView.{last_layer, origins_of};
 ghost use Rattle.layers.specs.Books.{IsJoinOf, JoinRefused};
+ghost use Rattle.layers.specs.inside.Insides.{squares_of};
 
 use crate::book::{Book, last_start};
 use crate::fault::JoinFault;
+use crate::key::Key;
 use crate::layer::Layer;
 use crate::origin::{ClosedOrigin, Origin};
-use grid::Position;
+use grid::{MAX_BOXES, Square};
 use indexmap::IndexMap;
 use std::alloc::{AllocError, Global};
 use std::sync::Arc;
@@ -39,36 +41,45 @@ impl Book {
         ensures { IfOk result (λ layer. (layer.level ≡ self.now.level) × (layer.number ≡ last_layer self.now)) }
     {
         let from = last_start(self.starts.as_slice());
-        let (places, origins) = copy_from(alloc, &self.seen, from)?;
+        let count = self.found.closed_len() - from;
+        let (squares, origins) = self.found.closed_from(alloc, from)?;
         Ok(Layer {
             level: Arc::try_clone(&self.level)?,
             number: self.starts.len() as u64 - 1,
-            places,
+            count,
+            squares,
             origins,
         })
     }
 }
 
-// What was seen from a place on: the positions, and the origins of those that have one.
-fn copy_from(
+/// What stands in a map from a place up to another: the squares of the positions, which have at most so many boxes, and
+/// the origins of those that have one.
+pub(crate) fn copy_from<const N: usize>(
     alloc: Global,
-    seen: &IndexMap<Position, ClosedOrigin>,
+    table: &IndexMap<Key<N>, ClosedOrigin>,
+    boxes: usize,
     from: usize,
-) -> Result<(Vec<Position>, Vec<Origin>), AllocError>
-    requires { from ≤ length seen.now.entries }
-    ensures places { IfOk result (λ r. r.0.items ≡ map (λ e. e.0) (drop from seen.now.entries)) }
-    ensures origins { IfOk result (λ r. r.1.items ≡ origins_of (drop from seen.now.entries)) }
+    to: usize,
+) -> Result<(Vec<Square>, Vec<Origin>), AllocError>
+    requires width { N ≤ MAX_BOXES }
+    requires order { from ≤ to }
+    requires within { to ≤ length table.now.entries }
+    requires boxes { boxes ≤ MAX_BOXES }
+    ensures squares { IfOk result (λ r. r.0.items ≡ squares_of (map (λ e. e.0) (drop from (take to table.now.entries)))) }
+    ensures origins { IfOk result (λ r. r.1.items ≡ origins_of (drop from (take to table.now.entries))) }
 {
-    let count = seen.len() - from;
-    let mut places = Vec::with_capacity(alloc, count)?;
+    let count = to - from;
+    let mut squares = Vec::with_capacity(alloc, count.saturating_mul(boxes + 1))?;
     let mut origins = Vec::with_capacity(alloc, count)?;
-    for place in from..seen.len() {
-        if let Some((position, origin)) = seen.get_index(place) {
-            places.push(position.copy())?;
+    for place in from..to {
+        if let Some((key, origin)) = table.get_index(place) {
+            squares.extend_from_slice(key.boxes())?;
+            squares.push(key.player())?;
             if let Some(origin) = origin.get() {
                 origins.push(origin)?;
             }
         }
     }
-    Ok((places, origins))
+    Ok((squares, origins))
 }

@@ -1,9 +1,10 @@
 //! Laws of books that callers may rely on. Each is the contract of a function that does nothing.
-ghost use Rattle.std.specs.Prelude.{◌≡◌, ℕ, List};
+ghost use Rattle.std.specs.Prelude.{◌≡◌, ℕ, List, length};
 ghost use Rattle.grid.specs.Board.{Board};
 ghost use Rattle.grid.specs.Lawful.{IsLevel};
 ghost use Rattle.layers.specs.BookView.{BookView, AreBounds, IsLawfulBook};
-ghost use Rattle.layers.specs.Books.{IsNew};
+ghost use Rattle.layers.specs.LayerView.{LayerView, IsWhole};
+ghost use Rattle.layers.specs.Books.{HasBegun, IsNew};
 ghost use Rattle.layers.specs.Events.{Event, History, AreMadeAlike, KeepsClosed, CloseAlike};
 
 /// After any list of begins, claims, hand backs, reopens and closes, each with any of its answers, a book that was
@@ -25,4 +26,10 @@ pub fn a_new_book_is_lawful()
 /// parcels came to each, from whichever workers, however often, and whatever was refused.
 pub fn the_order_of_events_leaves_no_trace()
     ensures { (one other : BookView) → IsLawfulBook one → IsLawfulBook other → one.level ≡ other.level → one.share ≡ other.share → one.shares ≡ other.shares → CloseAlike one other }
+{}
+
+/// A lawful book that has begun has marks for exactly the ranks of its last closed layer, whichever worker made or
+/// left them.
+pub fn a_begun_book_has_the_ranks_of_its_layer()
+    ensures { (book : BookView) (layer : LayerView) → IsLawfulBook book → IsWhole layer → HasBegun book layer → length book.done ≡ length layer.places }
 {}

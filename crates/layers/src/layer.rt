@@ -1,10 +1,11 @@
-ghost use Rattle.std.specs.Prelude.{◌≡◌, ◌<◌, ◌==◌, length, slice_get, Some};
-ghost use Rattle.grid.specs.Lawful.{FitsLevel};
+ghost use Rattle.std.specs.Prelude.{◌≡◌, ◌+◌, ◌*◌, ◌<◌, ◌≤◌, ◌==◌, true, take, drop, length, slice_get, slice_index_or, Some};
+ghost use Rattle.grid.specs.Squares.{is_rising};
+ghost use Rattle.grid.specs.States.{FitsLevel};
 ghost use Rattle.doom.specs.Deadlocks.{Undoomed};
 ghost use Rattle.layers.specs.LayerView.{IsWhole};
 
 use crate::origin::Origin;
-use grid::{Level, Position, Push};
+use grid::{Level, MAX_BOXES, Position, Push, Square};
 use std::marker::Model;
 use std::sync::Arc;
 
@@ -14,7 +15,9 @@ use std::sync::Arc;
 pub struct Layer {
     pub(crate) level: Arc<Level>,
     pub(crate) number: u64,
-    pub(crate) places: Vec<Position>,
+    // how many positions there are, and the squares of one after the other: its boxes, and then its player
+    pub(crate) count: usize,
+    pub(crate) squares: Vec<Square>,
     pub(crate) origins: Vec<Origin>,
 }
 
@@ -23,7 +26,7 @@ impl Model for Layer {
 
     ghost Value = { LayerView };
 
-    ghost use Rattle.layers.specs.Insides.{layer_view, IsSoundLayer};
+    ghost use Rattle.layers.specs.inside.Insides.{layer_view, IsSoundLayer};
 
     ghost view = { layer_view };
 
@@ -56,22 +59,24 @@ impl Layer {
     pub fn len(&self) -> u64
         ensures { result ≡ length self.now.places }
     {
-        self.places.len() as u64
+        self.count as u64
     }
 
     /// Whether the layer has no position.
     pub fn is_empty(&self) -> bool
         ensures { result ≡ (length self.now.places == 0) }
     {
-        self.places.is_empty()
+        self.count == 0
     }
 
     /// The position with a rank; `None` exactly beyond the layer.
     pub fn position(&self, rank: u64) -> Option<Position>
         ensures { result ≡ slice_get self.now.places rank }
     {
-        let position = self.places.get(rank as usize)?;
-        Some(position.copy())
+        if rank >= self.len() {
+            return None;
+        }
+        Some(self.place(rank))
     }
 
     /// The rank of a position's parent in the layer before, and the push that leads from there; `None` exactly in
@@ -83,13 +88,25 @@ impl Layer {
         Some(origin.parts())
     }
 
-    // The position with a rank of the layer.
-    pub(crate) fn place(&self, rank: u64) -> &Position
+    // The position with a rank of the layer, made of its squares.
+    pub(crate) fn place(&self, rank: u64) -> Position
         requires { rank < length self.now.places }
-        ensures place { slice_get self.now.places rank ≡ Some result.now }
-        ensures fits { FitsLevel self.now.level result.now }
-        ensures undoomed { Undoomed self.now.level result.now }
+        ensures place { slice_get self.now.places rank ≡ Some result }
+        ensures fits { FitsLevel self.now.level result }
+        ensures undoomed { Undoomed self.now.level result }
     {
-        &self.places[rank as usize]
+        read_position(self.squares.as_slice(), rank as usize, self.level.boxes())
     }
+}
+
+// The position with a rank among those of so many boxes whose squares stand one after the other.
+fn read_position(squares: &[Square], rank: usize, boxes: usize) -> Position
+    requires inside { rank * (boxes + 1) + (boxes + 1) ≤ length squares.now }
+    requires rising { is_rising (take boxes (drop (rank * (boxes + 1)) squares.now)) ≡ true }
+    requires few { boxes ≤ MAX_BOXES }
+    ensures { result ≡ record { boxes = take boxes (drop (rank * (boxes + 1)) squares.now); player = slice_index_or (drop (rank * (boxes + 1)) squares.now) boxes 0 } }
+{
+    let (_, row) = squares.split_at(rank * (boxes + 1));
+    let (front, _) = row.split_at(boxes);
+    Position::of_rising(front, row[boxes])
 }

@@ -8,12 +8,15 @@ mod entering;
 mod events;
 mod expansion;
 mod fault;
+mod found;
 mod join;
+mod key;
 pub mod laws;
 mod layer;
 mod limits;
 mod origin;
 mod parcel;
+mod table;
 
 pub use book::{Book, Claim, Closed};
 pub use expansion::{expand, expand_into};

@@ -2,8 +2,10 @@
 ghost use Rattle.std.specs.Prelude.{◌≡◌, ◌<◌, None, Some};
 ghost use Rattle.std.specs.Ordering.{is_lt};
 ghost use Rattle.grid.specs.Board.{push_cmp, dir_number};
-ghost use Rattle.layers.specs.Layered.{origin_cmp};
-ghost use Rattle.layers.specs.Packed.{dir_at};
+ghost use Rattle.grid.specs.declared.square.Push.{Push};
+ghost use Rattle.layers.specs.FoundView.{origin_in};
+ghost use Rattle.layers.specs.Openings.{Origin as Parted, origin_cmp};
+ghost use Rattle.layers.specs.inside.Packed.{dir_at};
 
 use grid::{Dir, Push, Square};
 use std::cmp::Ordering;
@@ -28,13 +30,13 @@ pub(crate) struct Origin(u64);
 
 impl Model for Origin {
     ghost use Rattle.grid.specs.declared.square.Push.{Push};
-    ghost use Rattle.layers.specs.Layered.{Origin as Parted};
+    ghost use Rattle.layers.specs.Openings.{Origin as Parted};
 
     ghost Value = { Parted Push };
 
     ghost use Rattle.std.specs.Prelude.{◌<◌};
     ghost use Rattle.layers.specs.declared.origin.TheConstants.{NO_ORIGIN};
-    ghost use Rattle.layers.specs.Packed.{parted, packed, packed_parted};
+    ghost use Rattle.layers.specs.inside.Packed.{parted, packed, packed_parted};
 
     ghost view = { λ a. parted a.0 };
 
@@ -90,11 +92,11 @@ pub(crate) struct ClosedOrigin(u64);
 impl Model for ClosedOrigin {
     ghost use Rattle.std.specs.Prelude.{Option};
     ghost use Rattle.grid.specs.declared.square.Push.{Push};
-    ghost use Rattle.layers.specs.Layered.{Origin as Parted};
+    ghost use Rattle.layers.specs.Openings.{Origin as Parted};
 
     ghost Value = { Option (Parted Push) };
 
-    ghost use Rattle.layers.specs.Packed.{closed_parted, closed_packed, closed_packed_parted};
+    ghost use Rattle.layers.specs.inside.Packed.{closed_parted, closed_packed, closed_packed_parted};
 
     ghost view = { λ a. closed_parted a.0 };
 
@@ -122,6 +124,32 @@ impl ClosedOrigin {
             None
         } else {
             Some(Origin(self.0))
+        }
+    }
+
+    /// The origin of a position that stands open, which has one.
+    pub(crate) fn opened(self) -> Origin
+        ensures { result ≡ origin_in self }
+    {
+        match self.get() {
+            Some(origin) => origin,
+            None => Origin::new(
+                0,
+                Push {
+                    square: Square(0),
+                    dir: Dir::D,
+                },
+            ),
+        }
+    }
+
+    /// Whether an origin comes before this one; where there is none the answer may be either.
+    pub(crate) fn exceeds(self, origin: Origin) -> bool
+        ensures { (known : Parted Push) → self ≡ Some known → result ≡ is_lt (origin_cmp push_cmp origin known) }
+    {
+        match self.get() {
+            Some(known) => origin.is_before(known),
+            None => false,
         }
     }
 }

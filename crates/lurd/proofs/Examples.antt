@@ -9,7 +9,8 @@ use Rattle.grid.specs.Board.{Board, is_wall, is_goal, next, start}
 use Rattle.grid.specs.Plays.{stay, push}
 use Rattle.lurd.specs.declared.fault.LurdFault.TheVariants.{BadCount}
 use Rattle.lurd.specs.declared.verdict.Verdict.TheVariants.{Solved, WrongCase}
-use Rattle.lurd.specs.Text.{bytes_of, decimal, item, blank, IsText, HasTextFault}
+use Rattle.counts.specs.Counts.{decimal}
+use Rattle.lurd.specs.Text.{bytes_of, item, blank, IsText, HasTextFault}
 use Rattle.lurd.specs.Verdict.{IsVerdict}
 
 abbrev right : Letter
@@ -59,7 +60,7 @@ a_bad_count = record {
       some = omega arith;
       all = (refl, tt);
       whole = refl;
-      bad = inr (inr (λ (x, more, same). cc));
+      bad = inr (λ (x, more, same). cc);
     },
   );
 }

@@ -5,32 +5,11 @@ use Rattle.std.specs.List.{prefix_len}
 use Rattle.std.proofs.lemmas.List.{take-append-drop}
 use Rattle.std.proofs.lemmas.List.Folds.{length-prefix_len}
 use Rattle.grid.specs.declared.moves.Letter.{Letter}
-use Rattle.lurd.specs.declared.limits.TheConstants.{COUNT_DIGITS, MAX_MOVES}
-use Rattle.lurd.specs.Text.{byte_of, decimal, is_blank, repeats, item, spelling, IsCount, BeginsWithLetter, BeginsBadly, BeginsWithBadCount, BeginsWithTooMany, begins_with_digit}
-use Rattle.lurd.specs.Item.{TakesItem}
-use Rattle.lurd.proofs.Digits.{AllDigits}
-
--- the digits that bytes begin with, as many as stand there together
-abbrev pub digit_count : List ℕ → ℕ
-digit_count bytes = prefix_len is_ascii_digit bytes
-
-front_by : (b : ℕ) (bs : List ℕ) (v : Bool) → is_ascii_digit b ≡ v → AllDigits (take (digit_count bs) bs) → AllDigits (take (cond v (1 + digit_count bs) 0) (b ∷ bs))
-front_by b bs true is rest = let f : suc (digit_count bs) ≡ 1 + digit_count bs = omega arith in subst (λ n. AllDigits (take n (b ∷ bs))) f (is, rest)
-front_by b bs false is rest = tt
-
--- they are digits
-pub digits_in_front : (bytes : List ℕ) → AllDigits (take (digit_count bytes) bytes)
-digits_in_front [] = tt
-digits_in_front (b ∷ bs) = front_by b bs (is_ascii_digit b) refl (digits_in_front bs)
-
-end_by : (b : ℕ) (bs : List ℕ) (v : Bool) → is_ascii_digit b ≡ v → begins_with_digit (drop (digit_count bs) bs) ≡ false → begins_with_digit (drop (cond v (1 + digit_count bs) 0) (b ∷ bs)) ≡ false
-end_by b bs true is rest = let f : suc (digit_count bs) ≡ 1 + digit_count bs = omega arith in subst (λ n. begins_with_digit (drop n (b ∷ bs)) ≡ false) f rest
-end_by b bs false is rest = is
-
--- and no digit follows them
-pub no_digit_behind : (bytes : List ℕ) → begins_with_digit (drop (digit_count bytes) bytes) ≡ false
-no_digit_behind [] = refl
-no_digit_behind (b ∷ bs) = end_by b bs (is_ascii_digit b) refl (no_digit_behind bs)
+use Rattle.counts.specs.Counts.{AreDigits, IsCount, begins_with_digit, repeats}
+use Rattle.counts.proofs.lemmas.Digits.{digit_count, digits_in_front, no_digit_behind}
+use Rattle.lurd.specs.declared.limits.TheConstants.{MAX_MOVES}
+use Rattle.lurd.specs.Text.{byte_of, is_blank, item, spelling, BeginsWithLetter, BeginsBadly, BeginsWithBadCount, BeginsWithTooMany}
+use Rattle.lurd.specs.inside.Item.{TakesItem}
 
 no_digit_by : (n : ℕ) (v : Bool) → cond v (1 + n) 0 ≡ 0 → v ≡ false
 no_digit_by n true none = absurd (omega (arith, none))
@@ -49,13 +28,13 @@ bad_byte (b ∷ bs) some blank none letter = record {
 }
 
 -- digits that are no count, or that no letter follows, are a bad count
-pub bad_count : (bytes : List ℕ) (n : ℕ) → n ≡ digit_count bytes → 0 < n → (COUNT_DIGITS < length (take n bytes)) ⊎ ((decimal (take n bytes) ≡ 0) ⊎ (¬ (BeginsWithLetter (drop n bytes)))) → BeginsWithBadCount bytes
+pub bad_count : (bytes : List ℕ) (n : ℕ) → n ≡ digit_count bytes → 0 < n → (¬ (IsCount (take n bytes))) ⊎ (¬ (BeginsWithLetter (drop n bytes))) → BeginsWithBadCount bytes
 bad_count bytes n is some bad = record {
   digits = take n bytes;
   more = drop n bytes;
   cut = sym (take-append-drop n bytes);
   some = let len : length (take n bytes) ≡ digit_count bytes = ap (λ k. length (take k bytes)) is ∙ length-prefix_len is_ascii_digit bytes in omega arith;
-  all = subst (λ k. AllDigits (take k bytes)) (sym is) (digits_in_front bytes);
+  all = subst (λ k. AreDigits (take k bytes)) (sym is) (digits_in_front bytes);
   whole = subst (λ k. begins_with_digit (drop k bytes) ≡ false) (sym is) (no_digit_behind bytes);
   bad = bad;
 }

@@ -1,9 +1,9 @@
-pub mod Digits
+pub mod lemmas
 pub mod Items
 pub mod Leading
 pub mod Texts
 pub mod Verdicts
-pub mod Solutions
+pub mod Letters
 pub mod Readings
 pub mod Written
 mod Examples

@@ -10,116 +10,23 @@ use Rattle.grid.specs.declared.dir.Dir.TheVariants.{D, L, R, U}
 use Rattle.grid.specs.declared.moves.Letter.{Letter}
 use Rattle.lurd.specs.declared.fault.LurdFault.{LurdFault}
 use Rattle.lurd.specs.declared.fault.LurdFault.TheVariants.{BadByte, BadCount, TooManyMoves, OutOfMemory}
-use Rattle.lurd.specs.declared.limits.TheConstants.{MAX_MOVES, COUNT_DIGITS}
-use Rattle.lurd.specs.One.{ExactlyOne}
-use Rattle.lurd.specs.Item.{TakesItem}
-use Rattle.lurd.specs.Text.{byte_by_case, byte_of, decimal, is_blank, repeats, Piece, blank, item, spelling, meaning, IsPiece, IsCount, IsText, IsLetterByte, BeginsWithLetter, BeginsBadly, BeginsWithBadCount, BeginsWithTooMany, FaultsAt, Reads, begins_with_digit}
-use Rattle.lurd.proofs.Digits.{AllDigits}
-use Rattle.lurd.proofs.Items.{digit_count, digits_in_front, bad_byte, bad_count, too_many, takes_item}
-use Rattle.lurd.proofs.Leading.{letter_by}
+use Rattle.lurd.specs.declared.limits.TheConstants.{MAX_MOVES}
+use Rattle.counts.specs.Counts.{AreDigits, IsCount, IsNoCount, begins_with_digit, repeats}
+use Rattle.counts.proofs.lemmas.Digits.{digit_count, digits_in_front, SameRun, one_run, digits_of_count, count_or_not}
+use Rattle.lurd.specs.ExactlyOne.{ExactlyOne}
+use Rattle.lurd.specs.inside.Item.{TakesItem}
+use Rattle.lurd.specs.Text.{byte_by_case, byte_of, is_blank, Piece, blank, item, spelling, meaning, IsPiece, IsText, IsLetterByte, BeginsWithLetter, BeginsBadly, BeginsWithBadCount, BeginsWithTooMany, FaultsAt}
+use Rattle.lurd.specs.Parsing.{Reads}
+use Rattle.lurd.proofs.Items.{bad_byte, bad_count, too_many, takes_item}
+use Rattle.lurd.proofs.Letters.{letter_no_digit, letter_no_blank, blank_no_digit, one_letter, letter_or_not}
 use Rattle.lurd.proofs.Texts.{text_of_nothing, text_and_piece}
-
-no_digit_by : (d : Dir) (b : Bool) → is_ascii_digit (byte_by_case b d) ≡ false
-no_digit_by D true = refl
-no_digit_by L true = refl
-no_digit_by R true = refl
-no_digit_by U true = refl
-no_digit_by D false = refl
-no_digit_by L false = refl
-no_digit_by R false = refl
-no_digit_by U false = refl
-
--- a letter's byte is no digit
-pub letter_no_digit : (x : Letter) → is_ascii_digit (byte_of x) ≡ false
-letter_no_digit x = no_digit_by x.dir x.push
-
-no_blank_by : (d : Dir) (b : Bool) → is_blank (byte_by_case b d) ≡ false
-no_blank_by D true = refl
-no_blank_by L true = refl
-no_blank_by R true = refl
-no_blank_by U true = refl
-no_blank_by D false = refl
-no_blank_by L false = refl
-no_blank_by R false = refl
-no_blank_by U false = refl
-
--- and no blank
-pub letter_no_blank : (x : Letter) → is_blank (byte_of x) ≡ false
-letter_no_blank x = no_blank_by x.dir x.push
-
--- a blank is no digit
-pub blank_no_digit : (b : ℕ) → is_blank b ≡ true → is_ascii_digit b ≡ false
-blank_no_digit b is = grind (arith, nat_tests)
-
--- the letters, and the one that a byte writes
-abbrev letters_all : List Letter
-letters_all = letter_by D true ∷ letter_by L true ∷ letter_by R true ∷ letter_by U true ∷ letter_by D false ∷ letter_by L false ∷ letter_by R false ∷ letter_by U false ∷ []
-
-abbrev find_letter : ℕ → List Letter → Option Letter
-find_letter b [] = None
-find_letter b (x ∷ xs) = cond (eqb (byte_of x) b) (Some x) (find_letter b xs)
-
-found_by : (d : Dir) (b : Bool) → find_letter (byte_by_case b d) letters_all ≡ Some (letter_by d b)
-found_by D true = refl
-found_by L true = refl
-found_by R true = refl
-found_by U true = refl
-found_by D false = refl
-found_by L false = refl
-found_by R false = refl
-found_by U false = refl
-
--- two letters with one byte are one
-pub one_letter : (x y : Letter) → byte_of x ≡ byte_of y → x ≡ y
-one_letter x y same =
-    let a : find_letter (byte_of x) letters_all ≡ Some x = found_by x.dir x.push in
-    let b : find_letter (byte_of y) letters_all ≡ Some y = found_by y.dir y.push in
-    cc
-
-search_by : (b : ℕ) (x : Letter) (v : Bool) (rest : Option Letter) → eqb (byte_of x) b ≡ v → IsLetterByte b ⊎ (rest ≡ None) → IsLetterByte b ⊎ (cond v (Some x) rest ≡ None)
-search_by b x true rest is more = inl (x, eqb-true (byte_of x) b is)
-search_by b x false rest is more = more
-
-search_letter : (b : ℕ) (xs : List Letter) → IsLetterByte b ⊎ (find_letter b xs ≡ None)
-search_letter b [] = inr refl
-search_letter b (x ∷ xs) = search_by b x (eqb (byte_of x) b) (find_letter b xs) refl (search_letter b xs)
-
-not_letter : (b : ℕ) → find_letter b letters_all ≡ None → ¬ (IsLetterByte b)
-not_letter b none (x, is) =
-    let there : find_letter (byte_of x) letters_all ≡ Some x = found_by x.dir x.push in
-    let here : find_letter (byte_of x) letters_all ≡ find_letter b letters_all = ap (λ c. find_letter c letters_all) is in
-    cc
-
--- a byte writes a letter or does not
-pub letter_or_not : (b : ℕ) → IsLetterByte b ⊎ (¬ (IsLetterByte b))
-letter_or_not b = elim (search_letter b letters_all) [ inl is ↦ inl is | inr none ↦ inr (not_letter b none) ]
-
--- two runs of digits that begin the same bytes are one, if no digit follows either
-pub record SameRun (ds es m n : List ℕ) : Type 0 where
-  pub digits : ds ≡ es
-  pub more : m ≡ n
-
-pub one_run : (ds es m n : List ℕ) → AllDigits ds → AllDigits es → begins_with_digit m ≡ false → begins_with_digit n ≡ false → ds ++ m ≡ es ++ n → SameRun ds es m n
-one_run [] [] m n all each none nothing same = record { digits = refl; more = same }
-one_run [] (e ∷ es) m n all each none nothing same = let f = ap begins_with_digit same in let g = each.0 in absurd cc
-one_run (d ∷ ds) [] m n all each none nothing same = let f = ap begins_with_digit same in let g = all.0 in absurd cc
-one_run (d ∷ ds) (e ∷ es) m n all each none nothing same =
-    let head : d ≡ e = cc in
-    let tail : ds ++ m ≡ es ++ n = cc in
-    let more = one_run ds es m n all.1 each.1 none nothing tail in
-    let digits : ds ≡ es = more.digits in
-    record { digits = cc; more = more.more }
-
-digits_of_item : (ds : List ℕ) → (ds ≡ []) ⊎ IsCount ds → AllDigits ds
-digits_of_item ds (inl none) = subst (λ (es : List ℕ). AllDigits es) (sym none) tt
-digits_of_item ds (inr count) = count.all
 
 -- a piece's bytes and what follows, cut before the letter
 item_then : (ds : List ℕ) (x : Letter) (more : List ℕ) → spelling (item ds x) ++ more ≡ ds ++ byte_of x ∷ more
 item_then ds x more = append_assoc ds (byte_of x ∷ []) more
 
 -- a blank is not the beginning of a letter and its count
-blank_or_item : (b : ℕ) (ds : List ℕ) (x : Letter) (m n : List ℕ) → is_blank b ≡ true → AllDigits ds → b ∷ m ≡ ds ++ byte_of x ∷ n → ⊥
+blank_or_item : (b : ℕ) (ds : List ℕ) (x : Letter) (m n : List ℕ) → is_blank b ≡ true → AreDigits ds → b ∷ m ≡ ds ++ byte_of x ∷ n → ⊥
 blank_or_item b [] x m n is all same =
     let head : b ≡ byte_of x = cc in
     let f = letter_no_blank x in
@@ -141,10 +48,10 @@ pub one_piece : (p q : Piece) (m n : List ℕ) → IsPiece p → IsPiece q → s
 one_piece (blank b) (blank c) m n is other same =
     let head : b ≡ c = cc in
     record { piece = ap (λ (k : ℕ). blank k) head; more = cc }
-one_piece (blank b) (item ds x) m n is other same = absurd (blank_or_item b ds x m n is (digits_of_item ds other) (same ∙ item_then ds x n))
-one_piece (item ds x) (blank c) m n is other same = absurd (blank_or_item c ds x n m other (digits_of_item ds is) (sym same ∙ item_then ds x m))
+one_piece (blank b) (item ds x) m n is other same = absurd (blank_or_item b ds x m n is (digits_of_count ds other) (same ∙ item_then ds x n))
+one_piece (item ds x) (blank c) m n is other same = absurd (blank_or_item c ds x n m other (digits_of_count ds is) (sym same ∙ item_then ds x m))
 one_piece (item ds x) (item es y) m n is other same =
-    let run = one_run ds es (byte_of x ∷ m) (byte_of y ∷ n) (digits_of_item ds is) (digits_of_item es other) (letter_no_digit x) (letter_no_digit y) (sym (item_then ds x m) ∙ (same ∙ item_then es y n)) in
+    let run = one_run ds es (byte_of x ∷ m) (byte_of y ∷ n) (digits_of_count ds is) (digits_of_count es other) (letter_no_digit x) (letter_no_digit y) (sym (item_then ds x m) ∙ (same ∙ item_then es y n)) in
     let left : byte_of x ∷ m ≡ byte_of y ∷ n = run.more in
     let digits : ds ≡ es = run.digits in
     let head : byte_of x ≡ byte_of y = cc in
@@ -167,10 +74,10 @@ bad_or_piece (item (d ∷ ds) x) bytes m bad is same =
     let head : d ≡ bad.byte = cc in
     let f = ap is_ascii_digit head in
     let g = bad.no_digit in
-    let h = (digits_of_item (d ∷ ds) is).0 in
+    let h = (digits_of_count (d ∷ ds) is).0 in
     cc
 
-first_digit : (b : ℕ) (ds m n : List ℕ) → 1 ≤ length ds → AllDigits ds → b ∷ n ≡ ds ++ m → is_ascii_digit b ≡ true
+first_digit : (b : ℕ) (ds m n : List ℕ) → 1 ≤ length ds → AreDigits ds → b ∷ n ≡ ds ++ m → is_ascii_digit b ≡ true
 first_digit b [] m n some all same = absurd (omega (arith, some))
 first_digit b (d ∷ ds) m n some all same = let head : b ≡ d = cc in ap is_ascii_digit head ∙ all.0
 
@@ -180,11 +87,10 @@ bad_or_count bytes bad count =
     let none = bad.no_digit in
     cc
 
-count_by_run : (digits more ds m : List ℕ) (x : Letter) → 1 ≤ length digits → (COUNT_DIGITS < length digits) ⊎ ((decimal digits ≡ 0) ⊎ (¬ (BeginsWithLetter more))) → SameRun digits ds more (byte_of x ∷ m) → (ds ≡ []) ⊎ IsCount ds → ⊥
+count_by_run : (digits more ds m : List ℕ) (x : Letter) → 1 ≤ length digits → (¬ (IsCount digits)) ⊎ (¬ (BeginsWithLetter more)) → SameRun digits ds more (byte_of x ∷ m) → (ds ≡ []) ⊎ IsCount ds → ⊥
 count_by_run digits more ds m x some bad run (inl none) = let f : length digits ≡ 0 = ap (λ (es : List ℕ). length es) (run.digits ∙ none) in omega arith
-count_by_run digits more ds m x some (inl long) run (inr count) = let f : length digits ≡ length ds = ap (λ (es : List ℕ). length es) run.digits in let g = count.short in omega arith
-count_by_run digits more ds m x some (inr (inl nothing)) run (inr count) = let f : decimal digits ≡ decimal ds = ap (λ (es : List ℕ). decimal es) run.digits in let g = count.positive in omega arith
-count_by_run digits more ds m x some (inr (inr none)) run (inr count) = none (x, m, run.more)
+count_by_run digits more ds m x some (inl bad) run (inr count) = bad (subst (λ (es : List ℕ). IsCount es) (sym run.digits) count)
+count_by_run digits more ds m x some (inr none) run (inr count) = none (x, m, run.more)
 
 count_or_piece : (p : Piece) (bytes m : List ℕ) → BeginsWithBadCount bytes → IsPiece p → bytes ≡ spelling p ++ m → ⊥
 count_or_piece (blank b) bytes m bad is same =
@@ -193,7 +99,7 @@ count_or_piece (blank b) bytes m bad is same =
     cc
 count_or_piece (item ds x) bytes m bad is same =
     count_by_run bad.digits bad.more ds m x bad.some bad.bad
-    (one_run bad.digits ds bad.more (byte_of x ∷ m) bad.all (digits_of_item ds is) bad.whole (letter_no_digit x) (sym bad.cut ∙ (same ∙ item_then ds x m))) is
+    (one_run bad.digits ds bad.more (byte_of x ∷ m) bad.all (digits_of_count ds is) bad.whole (letter_no_digit x) (sym bad.cut ∙ (same ∙ item_then ds x m))) is
 
 many_or_piece : (p : Piece) (moves : ℕ) (bytes m : List ℕ) → BeginsWithTooMany moves bytes → IsPiece p → bytes ≡ spelling p ++ m → MAX_MOVES < moves + length (meaning p)
 many_or_piece p moves bytes m many is same =
@@ -352,30 +258,12 @@ readings_same bytes r s one other =
     let b = from_start bytes s other in
     one_way 1 [] a.pieces b.pieces a.rest b.rest r s a.way b.way (sym a.cut ∙ b.cut)
 
-zero_or_not : (n : ℕ) → (n ≡ 0) ⊎ (1 ≤ n)
-zero_or_not zero = inl refl
-zero_or_not (suc n) = inr (omega arith)
-
 -- the bytes begin with a letter or do not
 begins_or_not : (bytes : List ℕ) → BeginsWithLetter bytes ⊎ (¬ (BeginsWithLetter bytes))
 begins_or_not [] = inr (λ (x, more, same). cc)
 begins_or_not (b ∷ bs) = elim (letter_or_not b) [
   | inl (x, is) ↦ inl (x, bs, ap (λ k. k ∷ bs) (sym is))
   | inr none ↦ inr (λ (x, more, same). none (x, (let head : byte_of x ≡ b = cc in head)))
-]
-
--- digits are a count, or none, or a bad one
-abbrev CountOrNot : List ℕ → Type 0
-CountOrNot ds = ((ds ≡ []) ⊎ IsCount ds) ⊎ ((1 ≤ length ds) × ((COUNT_DIGITS < length ds) ⊎ (decimal ds ≡ 0)))
-
-count_or_not : (ds : List ℕ) → AllDigits ds → CountOrNot ds
-count_or_not [] all = inl (inl refl)
-count_or_not (d ∷ ds) all = elim (cases_lt COUNT_DIGITS (length (d ∷ ds))) [
-  | inl long ↦ inr (omega arith, inl long)
-  | inr short ↦ elim (zero_or_not (decimal (d ∷ ds))) [
-    | inl nothing ↦ inr (omega arith, inr nothing)
-    | inr some ↦ inl (inr (record { all = all; short = short; positive = some }))
-  ]
 ]
 
 -- what stands where a letter may begin: a letter with its count, or a fault
@@ -385,15 +273,14 @@ ItemOrFault place moves bytes =
 
 letterless : (place moves : ℕ) (b : ℕ) (bs : List ℕ) (n : ℕ) → is_blank b ≡ false → n ≡ digit_count (b ∷ bs) → ¬ (BeginsWithLetter (drop n (b ∷ bs))) → ItemOrFault place moves (b ∷ bs)
 letterless place moves b bs zero no_blank count none = inr (BadByte place, (refl, bad_byte (b ∷ bs) (omega arith) no_blank (sym count) none))
-letterless place moves b bs (suc n) no_blank count none = inr (BadCount place, (refl, bad_count (b ∷ bs) (suc n) count (omega arith) (inr (inr none))))
+letterless place moves b bs (suc n) no_blank count none = inr (BadCount place, (refl, bad_count (b ∷ bs) (suc n) count (omega arith) (inr none)))
 
-with_letter : (place moves : ℕ) (bytes : List ℕ) (n : ℕ) (x : Letter) (more : List ℕ) → n ≡ digit_count bytes → drop n bytes ≡ byte_of x ∷ more → CountOrNot (take n bytes) → ItemOrFault place moves bytes
+with_letter : (place moves : ℕ) (bytes : List ℕ) (n : ℕ) (x : Letter) (more : List ℕ) → n ≡ digit_count bytes → drop n bytes ≡ byte_of x ∷ more → ((take n bytes ≡ []) ⊎ IsCount (take n bytes)) ⊎ IsNoCount (take n bytes) → ItemOrFault place moves bytes
 with_letter place moves bytes n x more count is (inl lawful) = elim (cases_lt MAX_MOVES (moves + repeats (take n bytes))) [
   | inl above ↦ inr (TooManyMoves, too_many bytes moves n (repeats (take n bytes)) x more is lawful refl above)
   | inr few ↦ inl (x, repeats (take n bytes), n + 1, takes_item bytes moves n (repeats (take n bytes)) x more count is lawful refl few)
 ]
-with_letter place moves bytes n x more count is (inr (some, inl long)) = inr (BadCount place, (refl, bad_count bytes n count (let f = length-take n bytes in omega arith) (inl long)))
-with_letter place moves bytes n x more count is (inr (some, inr nothing)) = inr (BadCount place, (refl, bad_count bytes n count (let f = length-take n bytes in omega arith) (inr (inl nothing))))
+with_letter place moves bytes n x more count is (inr bad) = inr (BadCount place, (refl, bad_count bytes n count (let some = bad.0 in let f = length-take n bytes in omega arith) (inl bad.1)))
 
 item_or_fault : (place moves : ℕ) (b : ℕ) (bs : List ℕ) → is_blank b ≡ false → ItemOrFault place moves (b ∷ bs)
 item_or_fault place moves b bs no_blank =

@@ -2,14 +2,14 @@
 use Rattle.std.proofs.Common.{◌≡◌, ℕ, ◌+◌, ◌<◌, ◌≤◌, true, List, [], ◌∷◌, ◌++◌, length, take, drop, get_or, replicate, refl, sym, ap, subst, ◌∙◌, arith, length-append, length-drop}
 use Rattle.std.specs.List.{AllByRecursion, flat_map}
 use Rattle.std.proofs.lemmas.Grind.{flat_map-append}
-use Rattle.std.proofs.Math.Seq.{take-append_seam}
-use Rattle.std.proofs.Math.Seq.{take-add}
+use Rattle.std.proofs.Math.Seq.{take-append_seam, take-add}
 use Rattle.std.proofs.lemmas.List.{append-nil, take_more, length-replicate, take-append-drop, length-take-le}
 use Rattle.grid.specs.declared.moves.Letter.{Letter}
 use Rattle.lurd.specs.declared.limits.TheConstants.{MAX_MOVES}
 use Rattle.lurd.specs.declared.fault.LurdFault.{LurdFault}
-use Rattle.lurd.specs.Text.{Piece, blank, item, IsPiece, is_blank, repeats, spelling, meaning, IsText, FaultsAt, HasTextFault}
-use Rattle.lurd.specs.Item.{TakesItem}
+use Rattle.lurd.specs.Text.{Piece, blank, item, IsPiece, is_blank, spelling, meaning, IsText, FaultsAt, HasTextFault}
+use Rattle.counts.specs.Counts.{repeats}
+use Rattle.lurd.specs.inside.Item.{TakesItem}
 
 each_more : (ps : List Piece) (p : Piece) → AllByRecursion IsPiece ps → IsPiece p → AllByRecursion IsPiece (ps ++ p ∷ [])
 each_more [] p each one = (one, tt)

@@ -11,7 +11,7 @@ use Rattle.grid.specs.Plays.{Play, stay, walk, push, Any, letters_of}
 use Rattle.lurd.specs.declared.verdict.Verdict.{Verdict}
 use Rattle.lurd.specs.declared.verdict.Verdict.TheVariants.{Solved, Unsolved, Blocked, WrongCase}
 use Rattle.lurd.specs.Verdict.{Leads, IsBlocked, StepsAgainstCase, HasWrongCase, StopsAt, EndsAs, IsVerdict, upper_count}
-use Rattle.lurd.specs.One.{ExactlyOne}
+use Rattle.lurd.specs.ExactlyOne.{ExactlyOne}
 use Rattle.lurd.proofs.Leading.{letter_by, leads_nowhere, leads_on_by_walk, leads_on_by_push}
 
 -- a step as the letter's case says

@@ -1,4 +1,6 @@
-pub mod One
+pub mod ExactlyOne
 pub mod Text
+pub mod Parsing
 pub mod Verdict
-pub mod Item
+pub mod Solving
+pub mod inside

@@ -1,14 +1,14 @@
 -- LURD text: which bytes are a text, which letters it stands for, and which fault is the first.
-use Rattle.std.specs.Prelude.{◌≡◌, ℕ, ◌+◌, ◌-◌, ◌<◌, ◌≤◌, Bool, true, false, ◌||◌, ◌==◌, ◌⊎◌, List, [], ◌∷◌, ◌++◌, length, replicate, map, Result, Ok, Err}
+use Rattle.std.specs.Prelude.{◌≡◌, ℕ, ◌+◌, ◌<◌, ◌≤◌, Bool, true, false, ◌||◌, ◌==◌, ◌⊎◌, List, [], ◌∷◌, ◌++◌, length, replicate, map}
 use Rattle.std.specs.Char.{is_ascii_digit}
-use Rattle.std.specs.Int.Digits.{number_from_digits}
 use Rattle.std.specs.List.{AllByRecursion, flat_map}
+use Rattle.counts.specs.Counts.{AreDigits, IsCount, begins_with_digit, repeats}
 use Rattle.grid.specs.declared.dir.Dir.{Dir}
 use Rattle.grid.specs.declared.dir.Dir.TheVariants.{D, L, R, U}
 use Rattle.grid.specs.declared.moves.Letter.{Letter}
 use Rattle.lurd.specs.declared.fault.LurdFault.{LurdFault}
 use Rattle.lurd.specs.declared.fault.LurdFault.TheVariants.{BadByte, BadCount, TooManyMoves, OutOfMemory}
-use Rattle.lurd.specs.declared.limits.TheConstants.{MAX_MOVES, COUNT_DIGITS}
+use Rattle.lurd.specs.declared.limits.TheConstants.{MAX_MOVES}
 
 -- the byte of a letter in lower case: d, l, r or u
 abbrev pub lower_byte : Dir → ℕ
@@ -41,26 +41,12 @@ bytes_of letters = map byte_of letters
 abbrev pub is_blank : ℕ → Bool
 is_blank b = b == 32 || b == 9 || b == 13 || b == 10
 
--- the number that decimal digits write
-abbrev pub decimal : List ℕ → ℕ
-decimal digits = number_from_digits 10 (map (λ b. b - 48) digits)
-
--- digits that may stand before a letter: no more than a count may have, and not zero; leading zeros are allowed
-pub record IsCount (digits : List ℕ) : Type 0 where
-  pub all : AllByRecursion (λ b. is_ascii_digit b ≡ true) digits
-  pub short : length digits ≤ COUNT_DIGITS
-  pub positive : 1 ≤ decimal digits
-
--- how often a letter with these digits before it is meant: once where there are none
-abbrev pub repeats : List ℕ → ℕ
-repeats [] = 1
-repeats (b ∷ bs) = decimal (b ∷ bs)
-
 -- what a text is made of: a blank, or a letter with the digits of its count right before it, if it has one
 pub data Piece : Type 0 where
   blank : ℕ → Piece
   item : List ℕ → Letter → Piece
 
+-- a piece is a blank that is one, or a letter with a count or none
 abbrev pub IsPiece : Piece → Type 0
 IsPiece (blank b) = is_blank b ≡ true
 IsPiece (item digits letter) = (digits ≡ []) ⊎ IsCount digits
@@ -91,11 +77,6 @@ IsLetterByte b = (letter : Letter) × (byte_of letter ≡ b)
 abbrev pub BeginsWithLetter : List ℕ → Type 0
 BeginsWithLetter bytes = (letter : Letter) × (more : List ℕ) × (bytes ≡ byte_of letter ∷ more)
 
--- the bytes begin with a digit
-abbrev pub begins_with_digit : List ℕ → Bool
-begins_with_digit [] = false
-begins_with_digit (b ∷ bs) = is_ascii_digit b
-
 -- the bytes begin with one that is no letter, no digit and no blank
 pub record BeginsBadly (bytes : List ℕ) : Type 0 where
   pub byte : ℕ
@@ -105,16 +86,15 @@ pub record BeginsBadly (bytes : List ℕ) : Type 0 where
   pub no_digit : is_ascii_digit byte ≡ false
   pub no_blank : is_blank byte ≡ false
 
--- the bytes begin with digits, as many as stand there together, that are too many, or zero, or have no letter
--- right after them
+-- the bytes begin with digits, as many as stand there together, that are no count, or have no letter right after them
 pub record BeginsWithBadCount (bytes : List ℕ) : Type 0 where
   pub digits : List ℕ
   pub more : List ℕ
   pub cut : bytes ≡ digits ++ more
   pub some : 1 ≤ length digits
-  pub all : AllByRecursion (λ b. is_ascii_digit b ≡ true) digits
+  pub all : AreDigits digits
   pub whole : begins_with_digit more ≡ false
-  pub bad : (COUNT_DIGITS < length digits) ⊎ ((decimal digits ≡ 0) ⊎ (¬ (BeginsWithLetter more)))
+  pub bad : (¬ (IsCount digits)) ⊎ (¬ (BeginsWithLetter more))
 
 -- the bytes begin with a letter, with its count if it has one, that brings this many moves above the greatest number
 pub record BeginsWithTooMany (moves : ℕ) (bytes : List ℕ) : Type 0 where
@@ -140,8 +120,3 @@ pub record HasTextFault (bytes : List ℕ) (fault : LurdFault) : Type 0 where
   pub cut : bytes ≡ front ++ rest
   pub text : IsText front letters
   pub stands : FaultsAt (length front + 1) (length letters) rest fault
-
--- what reading the bytes gives: the letters of a text, or the first fault
-abbrev pub Reads : List ℕ → Result (List Letter) LurdFault → Type 0
-Reads bytes (Ok letters) = IsText bytes letters
-Reads bytes (Err fault) = HasTextFault bytes fault

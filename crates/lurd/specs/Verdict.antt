@@ -4,7 +4,7 @@ use Rattle.grid.specs.declared.dir.Dir.{Dir}
 use Rattle.grid.specs.declared.square.Push.{Push}
 use Rattle.grid.specs.declared.moves.Letter.{Letter}
 use Rattle.grid.specs.Board.{Board, Scene, Walks, Pushes, IsSolved, start}
-use Rattle.grid.specs.Plays.{Play, Any, IsSolution, dirs_of, letters_of}
+use Rattle.grid.specs.Plays.{Play, Any, letters_of}
 use Rattle.lurd.specs.declared.verdict.Verdict.{Verdict}
 use Rattle.lurd.specs.declared.verdict.Verdict.TheVariants.{Solved, Unsolved, Blocked, WrongCase}
 
@@ -58,10 +58,3 @@ IsVerdict board letters (Unsolved pushes moves) =
     EndsAs board letters (λ s. ¬ (IsSolved board s)) × (pushes ≡ upper_count letters) × (moves ≡ length letters)
 IsVerdict board letters (Blocked at) = StopsAt board letters at (IsBlocked board)
 IsVerdict board letters (WrongCase at) = StopsAt board letters at (HasWrongCase board)
-
--- the letters write a solution, with so many pushes and so many moves
-pub record WritesSolution (board : Board) (letters : List Letter) (pushes moves : ℕ) : Type 0 where
-  pub list : List Push
-  pub solution : IsSolution board (dirs_of letters) list
-  pub pushes_are : length list ≡ pushes
-  pub moves_are : length letters ≡ moves

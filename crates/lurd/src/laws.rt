@@ -1,13 +1,15 @@
-//! Laws of texts and verdicts, as the clauses of functions that do nothing.
+//! Laws of texts and verdicts that callers may rely on. Each is the contract of a function that does nothing.
 ghost use Rattle.std.specs.Prelude.{◌≡◌, ◌≤◌, ℕ, List, length};
 ghost use Rattle.grid.specs.Board.{Board};
 ghost use Rattle.grid.specs.Plays.{IsSolution, dirs_of};
 ghost use Rattle.grid.specs.declared.dir.Dir.{Dir};
 ghost use Rattle.grid.specs.declared.moves.Letter.{Letter};
 ghost use Rattle.grid.specs.declared.square.Push.{Push};
-ghost use Rattle.lurd.specs.One.{ExactlyOne};
-ghost use Rattle.lurd.specs.Text.{IsText, Reads, bytes_of};
-ghost use Rattle.lurd.specs.Verdict.{IsVerdict, WritesSolution};
+ghost use Rattle.lurd.specs.ExactlyOne.{ExactlyOne};
+ghost use Rattle.lurd.specs.Text.{IsText, bytes_of};
+ghost use Rattle.lurd.specs.Parsing.{Reads};
+ghost use Rattle.lurd.specs.Verdict.{IsVerdict};
+ghost use Rattle.lurd.specs.Solving.{WritesSolution};
 
 use crate::limits::MAX_MOVES;
 use crate::verdict::Verdict;

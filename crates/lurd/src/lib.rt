@@ -3,7 +3,7 @@
 
 mod fault;
 mod item;
-mod laws;
+pub mod laws;
 mod limits;
 #[cfg(test)]
 mod tests;
@@ -11,7 +11,6 @@ mod text;
 mod verdict;
 
 pub use fault::LurdFault;
-pub use laws::{one_reading, one_verdict, solved_is_solution, written_text};
-pub use limits::{COUNT_DIGITS, MAX_MOVES};
+pub use limits::MAX_MOVES;
 pub use text::{parse, write};
 pub use verdict::{Verdict, replay};

@@ -2,6 +2,3 @@
 
 /// The greatest number of moves that a text may stand for.
 pub const MAX_MOVES: usize = 1_000_000;
-
-/// The greatest number of digits of a count.
-pub const COUNT_DIGITS: usize = 4;

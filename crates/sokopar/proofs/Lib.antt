@@ -1,5 +1,8 @@
+mod Acts
 mod Listings
-mod Lists
 mod Maps
+mod Piping
+mod Reading
 mod Solutions
 mod Walks
+mod Writing

@@ -9,7 +9,8 @@ use Rattle.std.specs.List.{AllZip}
 use Rattle.xsb.specs.Collection.{Found, IsCollection}
 use Rattle.xsb.specs.Entries.{IsEntry}
 use Rattle.xsb.specs.declared.entry.Entry.{Entry}
-use Rattle.sokopar.specs.Listing.{IsListed, IsListing, listed_of}
+use Rattle.sokopar.specs.Listing.{IsListed, IsListing}
+use Rattle.sokopar.specs.Entries.{listed_of}
 
 listed_each : (entries : List Entry) (founds : List Found) → AllZip IsEntry entries founds → AllZip IsListed (map listed_of entries) founds
 listed_each [] [] h = h

@@ -1,5 +1,5 @@
 -- The marks of squares, and rows of them.
-use Rattle.std.proofs.Common.{◌≡◌, ℕ, zero, suc, ◌+◌, ◌-◌, ◌<◌, ◌≤◌, min, Bool, true, false, ◌⊎◌, subst, ◌==◌, List, [], ◌∷◌, ◌++◌, length, take, drop, flat_map, slice_index, refl, sym, ◌∙◌, ap, arith, rules, inl, inr, length-append, append_assoc}
+use Rattle.std.proofs.Common.{◌≡◌, ℕ, suc, ◌+◌, ◌-◌, ◌<◌, ◌≤◌, min, Bool, true, false, ◌⊎◌, subst, ◌==◌, List, [], ◌∷◌, ◌++◌, length, take, drop, flat_map, slice_index, refl, sym, ◌∙◌, ap, arith, inl, inr, length-append, append_assoc}
 use Rattle.std.proofs.lemmas.List.{get_or_append_left, take_min, drop_min}
 use Rattle.std.proofs.Math.Seq.{get_or-append_seam}
 use Rattle.std.proofs.lemmas.Bool.{cases_lt}

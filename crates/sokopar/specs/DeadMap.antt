@@ -1,5 +1,5 @@
 -- The map of a level's dead squares.
-use Rattle.std.specs.Prelude.{◌≡◌, ℕ, zero, suc, ◌<◌, Bool, true, false, ◌==◌, List, [], ◌∷◌, ◌++◌, length, take, drop, flat_map, slice_index, Option, Some, None, Result, Ok, Err}
+use Rattle.std.specs.Prelude.{◌≡◌, ℕ, zero, suc, ◌<◌, true, false, ◌==◌, List, [], ◌∷◌, length, take, drop, flat_map, slice_index, Option, Some, None, Result, Ok, Err}
 use Rattle.grid.specs.Board.{Board, is_wall, is_goal}
 use Rattle.grid.specs.Lawful.{InRoom, row_count}
 use Rattle.grid.specs.declared.fault.LevelFault.{LevelFault}

@@ -1,6 +1,9 @@
 pub mod DeadMap
 pub mod Ends
 pub mod Listing
+pub mod Entries
 pub mod Report
 pub mod Runs
 pub mod Solving
+pub mod Retelling
+pub mod inside

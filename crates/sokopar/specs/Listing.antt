@@ -1,11 +1,10 @@
 -- The levels of a collection, each judged.
-use Rattle.std.specs.Prelude.{◌≡◌, ℕ, ◌-◌, Bool, true, false, List, Result, Ok, Err, Option, Some, None, option_map, slice_get, is_ok}
+use Rattle.std.specs.Prelude.{◌≡◌, ℕ, ◌-◌, Bool, List, Result, Ok, Option, Some, option_map, slice_get, is_ok}
 use Rattle.std.specs.List.{AllZip}
 use Rattle.grid.specs.Board.{Board}
 use Rattle.grid.specs.declared.fault.LevelFault.{LevelFault}
 use Rattle.xsb.specs.Collection.{Found, IsCollection}
-use Rattle.xsb.specs.Entries.{IsJudged}
-use Rattle.xsb.specs.declared.entry.Entry.{Entry}
+use Rattle.xsb.specs.Judged.{IsJudged}
 
 -- a board of a collection: its name, the number of its first line, and the level or the first fault of its cells
 pub record Listed : Type 0 where
@@ -22,10 +21,6 @@ pub record IsListed (listed : Listed) (found : Found) : Type 0 where
 -- the bytes are a collection of these levels, in order
 abbrev pub IsListing : List ℕ → List Listed → Type 0
 IsListing bytes listing = (founds : List Found) × IsCollection bytes founds × AllZip IsListed listing founds
-
--- an entry of the reader without its memory
-abbrev pub listed_of : Entry → Listed
-listed_of entry = record { name = entry.name.items; first_line = entry.first_line; board = entry.board }
 
 -- the board is a lawful level
 abbrev pub is_good : Listed → Bool

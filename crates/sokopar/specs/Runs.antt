@@ -1,61 +1,68 @@
 -- What reading a source whole and writing a text do.
-use Rattle.std.specs.Prelude.{◌≡◌, ℕ, suc, ◌≤◌, true, false, List, ◌++◌, length, Result, Ok, Err, Option, Some, None, ◌⊎◌}
+use Rattle.std.specs.Prelude.{◌≡◌, ℕ, suc, ◌≤◌, List, [], ◌∷◌, ◌++◌, length, Result, Ok, Err, Option, Some, None, ◌⊎◌}
+use Rattle.std.specs.Io.KnownBytes.{Consumes, Appends}
 use Rattle.grid.specs.Board.{Board}
 use Rattle.sokopar.specs.declared.fault.RunFault.{RunFault}
 use Rattle.sokopar.specs.declared.fault.RunFault.TheVariants.{Read, Write, TooLong, OutOfMemory}
 use Rattle.xsb.specs.declared.limits.TheConstants.{MAX_FILE}
-use Rattle.sokopar.specs.Ends.{Seen}
+use Rattle.sokopar.specs.Ends.{Act, moved, failed, Seen, Pass, WereAll}
 use Rattle.sokopar.specs.Listing.{IsLevelOf}
 use Rattle.sokopar.specs.Report.{Report, IsReplayReport}
 
--- the source was read to its end: it gave these bytes, no more than a file may have, and no read failed
+-- the source was read to its end: reads gave these bytes, no more than a file may have, then one gave none, and no
+-- other was asked for; where it is known which bytes were left, they were these
 pub record ReadsWhole (old new : Seen) (bytes : List ℕ) : Type 0 where
-  pub given : new.bytes ≡ old.bytes ++ bytes
-  pub ended : new.ended ≡ true
-  pub sound : new.failures ≡ old.failures
+  pub acts : List Act
+  pub given : Pass old.acts acts bytes
+  pub last : new.acts ≡ acts ++ moved [] ∷ []
+  pub bound : length bytes ≤ MAX_FILE
+  pub all : WereAll old.known new.known bytes
+
+-- the reading of a source stopped, after reads gave these bytes, at one that failed, and no other was asked for
+pub record ReadFails (old new : Seen) (bytes : List ℕ) : Type 0 where
+  pub acts : List Act
+  pub given : Pass old.acts acts bytes
+  pub last : new.acts ≡ acts ++ failed ∷ []
   pub bound : length bytes ≤ MAX_FILE
 
 -- why the reading of a source stopped before a report was made, where it gave these bytes: a read failed; or it
--- gave one byte more than a file may have, and was asked for no more; or memory was refused
+-- gave one byte more than a file may have, and was asked for no more; or memory was refused, before its end or after
 abbrev pub StopsFor : Seen → Seen → List ℕ → RunFault → Type 0
-StopsFor old new bytes Read = (length bytes ≤ MAX_FILE) × (new.failures ≡ suc old.failures)
+StopsFor old new bytes Read = ReadFails old new bytes
 StopsFor old new bytes Write = ⊥
-StopsFor old new bytes TooLong = (length bytes ≡ suc MAX_FILE) × (new.failures ≡ old.failures) × (new.ended ≡ false)
-StopsFor old new bytes OutOfMemory = (length bytes ≤ suc MAX_FILE) × (new.failures ≡ old.failures)
+StopsFor old new bytes TooLong = Pass old.acts new.acts bytes × (length bytes ≡ suc MAX_FILE)
+StopsFor old new bytes OutOfMemory = (Pass old.acts new.acts bytes × (length bytes ≤ suc MAX_FILE)) ⊎ ReadsWhole old new bytes
 
--- the reading of a source stopped before a report was made
+-- the reading of a source stopped before a report was made; known bytes that were left began with those that it gave
 pub record Stops (old new : Seen) (fault : RunFault) : Type 0 where
   pub bytes : List ℕ
-  pub given : new.bytes ≡ old.bytes ++ bytes
   pub cause : StopsFor old new bytes fault
+  pub first : Consumes old.known new.known bytes
 
--- the sink took the whole text, and no write failed
+-- the sink took the whole text, no write failed, and no other was asked for; what it holds, where that is known, is
+-- what it held and then the text
 pub record WritesWhole (old new : Seen) (text : List ℕ) : Type 0 where
-  pub taken : new.bytes ≡ old.bytes ++ text
-  pub sound : new.failures ≡ old.failures
+  pub taken : Pass old.acts new.acts text
+  pub holds : Appends old.known new.known text
 
--- the sink took a beginning of the text, and then a write failed
+-- the sink took a beginning of the text, then a write failed, and no other was asked for; what it holds, where that is
+-- known, is what it held and then that beginning
 pub record WritesPart (old new : Seen) (text : List ℕ) : Type 0 where
   pub part : List ℕ
   pub rest : List ℕ
+  pub acts : List Act
   pub begins : text ≡ part ++ rest
-  pub taken : new.bytes ≡ old.bytes ++ part
-  pub failed : new.failures ≡ suc old.failures
-
--- what writing a report does: the sink takes its text and its status is answered, or a write fails
-abbrev pub Sends : Report → Seen → Seen → Result ℕ RunFault → Type 0
-Sends report old new (Ok status) = WritesWhole old new report.text × (status ≡ report.status)
-Sends report old new (Err Read) = ⊥
-Sends report old new (Err Write) = WritesPart old new report.text
-Sends report old new (Err TooLong) = ⊥
-Sends report old new (Err OutOfMemory) = ⊥
+  pub taken : Pass old.acts acts part
+  pub last : new.acts ≡ acts ++ failed ∷ []
+  pub holds : Appends old.known new.known part
 
 -- what a run over one source does, by its answer.  The source is read to its end, what is written is the report of
 -- what was read, and the answer is the report's status; or a write fails after a beginning of the report; or the
 -- reading stops and nothing is written
 abbrev pub Runs : (List ℕ → Report → Type 0) → Seen → Seen → Seen → Seen → Result ℕ RunFault → Type 0
 Runs IsReport source read sink written (Ok status) =
-    (bytes : List ℕ) × (report : Report) × ReadsWhole source read bytes × IsReport bytes report × WritesWhole sink written report.text × (status ≡ report.status)
+    (bytes : List ℕ) × (report : Report) × ReadsWhole source read bytes × IsReport bytes report × WritesWhole sink written report.text ×
+    (status ≡ report.status)
 Runs IsReport source read sink written (Err Write) =
     (bytes : List ℕ) × (report : Report) × ReadsWhole source read bytes × IsReport bytes report × WritesPart sink written report.text
 Runs IsReport source read sink written (Err Read) = Stops source read Read × (written ≡ sink)

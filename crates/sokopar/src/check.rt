@@ -1,5 +1,5 @@
 ghost use Rattle.std.specs.Prelude.{◌≡◌, ◌++◌, OnOk, IfOk, map};
-ghost use Rattle.sokopar.specs.Listing.{listed_of};
+ghost use Rattle.sokopar.specs.Entries.{listed_of};
 ghost use Rattle.sokopar.specs.Report.{fault_name, fault_words, level_words, named, check_line, check_report};
 
 use crate::report::Report;

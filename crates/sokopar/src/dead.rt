@@ -2,7 +2,8 @@ ghost use Rattle.std.specs.Prelude.{◌≡◌, ◌==◌, ◌++◌, ◌<◌, ◌�
 ghost use Rattle.grid.specs.Lawful.{row_count};
 ghost use Rattle.sokopar.specs.DeadMap.{IsMark, AreMarks, IsMapOf, MapsOn, marked_row, rows_of};
 ghost use Rattle.xsb.specs.Boards.{cut_end};
-ghost use Rattle.sokopar.specs.Listing.{listed_of, level_at};
+ghost use Rattle.sokopar.specs.Entries.{listed_of};
+ghost use Rattle.sokopar.specs.Listing.{level_at};
 
 use crate::listing::level_of;
 use crate::report::Report;

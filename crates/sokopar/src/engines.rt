@@ -1,4 +1,5 @@
-ghost use Rattle.std.specs.Prelude.{◌≤◌};
+ghost use Rattle.std.specs.Prelude.{◌≡◌, ◌≤◌};
+ghost use Rattle.crew.specs.Configured.{IsWithinLimits};
 ghost use Rattle.sokopar.specs.DeadMap.{IsDeadReport};
 ghost use Rattle.sokopar.specs.Report.{IsCheckReport, IsShowReport};
 ghost use Rattle.sokopar.specs.Runs.{Runs, Replays};
@@ -13,8 +14,12 @@ use crate::show::show_report;
 use crate::sink::Sink;
 use crate::solve::solve_report;
 use crate::source::Source;
+use crew::Config;
 use std::alloc::Global;
+use std::sync::Wait;
+use std::thread::Threads;
 
+#[tactic(auto, using(crate::proofs::Reading::stops_after))]
 /// Checks a collection: writes a line for each level, and the totals. Gives the exit status, 0 where each level is
 /// lawful, else 1.
 ///
@@ -32,6 +37,7 @@ pub fn run_check<S: Source, K: Sink>(
     report.send(sink)
 }
 
+#[tactic(auto, using(crate::proofs::Reading::stops_after))]
 /// Shows a level of a collection, counted from 1, in plain rows. Gives the exit status, 0 where there is such a level
 /// and it is lawful, else 1. The faults are those of [`run_check`].
 pub fn run_show<S: Source, K: Sink>(
@@ -47,6 +53,7 @@ pub fn run_show<S: Source, K: Sink>(
     report.send(sink)
 }
 
+#[tactic(auto, using(crate::proofs::Reading::stops_after))]
 /// Shows walls, goals and dead squares of a level of a collection, counted from 1. Gives the exit status, 0 where there
 /// is such a level and it is lawful, else 1. The faults are those of [`run_check`].
 pub fn run_dead<S: Source, K: Sink>(
@@ -62,6 +69,7 @@ pub fn run_dead<S: Source, K: Sink>(
     report.send(sink)
 }
 
+#[tactic(auto, using(crate::proofs::Reading::stops_after))]
 /// Replays a solution, which is LURD text, on a level of a collection, counted from 1. Gives the exit status, 0 where
 /// the solution solves the level, else 1. The collection is read first; the solution is read only where the level is
 /// lawful. The faults are those of [`run_check`].
@@ -80,22 +88,25 @@ pub fn run_replay<S: Source, T: Source, K: Sink>(
     report.send(sink)
 }
 
-/// Solves a level of a collection, counted from 1, with the fewest pushes: writes the numbers of its least solution and
-/// the solution as LURD text, or that there is none, or that more positions than the limit are needed to say so. Gives
-/// the exit status, 0 where the level is solved, 4 where the limit was reached, else 1. The faults are those of
-/// [`run_check`].
-pub fn run_solve<S: Source, K: Sink>(
+#[tactic(auto, using(crate::proofs::Reading::stops_after))]
+/// Solves a level of a collection, counted from 1, with the fewest pushes, by the configuration's workers: writes the
+/// numbers of its least solution and the solution as LURD text, or that there is none, or that more positions than the
+/// limit are needed to say so. Gives the exit status, 0 where the level is solved, 4 where the limit was reached, else
+/// 1. The faults are those of [`run_check`].
+pub fn run_solve<R: Threads + Wait + Sync, S: Source, K: Sink>(
+    rt: &R,
     alloc: Global,
     source: &mut S,
     number: u32,
-    limit: u32,
+    config: Config,
     sink: &mut K,
 ) -> Result<u8, RunFault>
     requires number { 1 ≤ number }
-    requires limit { 1 ≤ limit }
-    ensures { Runs (IsSolveReport limit number) (S.seen source.old) (S.seen source.new) (K.seen sink.old) (K.seen sink.new) result }
+    requires limits { IsWithinLimits config }
+    requires locks { config.locks ≡ 1 }
+    ensures { Runs (IsSolveReport config.limit number) (S.seen source.old) (S.seen source.new) (K.seen sink.old) (K.seen sink.new) result }
 {
     let entries = read_listing(alloc, source)?;
-    let report = solve_report(alloc, entries.as_slice(), number, limit)?;
+    let report = solve_report(rt, alloc, entries.as_slice(), number, config)?;
     report.send(sink)
 }

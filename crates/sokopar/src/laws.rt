@@ -4,12 +4,29 @@ ghost use Rattle.grid.specs.Board.{Board};
 ghost use Rattle.grid.specs.declared.moves.Letter.{Letter};
 ghost use Rattle.lurd.specs.Verdict.{IsVerdict};
 ghost use Rattle.solo.specs.Answers.{IsAnswer};
+ghost use Rattle.sokopar.specs.Report.{Report};
+ghost use Rattle.sokopar.specs.Solving.{IsSolveReport};
+ghost use Rattle.sokopar.specs.Retelling.{ReplaysAsTold};
 
 use lurd::Verdict;
+use lurd::laws::{one_reading, one_verdict, written_text};
 use solo::Answer;
+use xsb::laws::one_collection;
 
 /// A solution that is given replays as solved, with the numbers of pushes and of moves that are told with it.
 pub fn solution_replays()
     ensures { (board : Board) (limit : ℕ) (moves : List Letter) (pushes positions : ℕ) →
         IsAnswer board limit (Answer.Solved moves pushes positions) → IsVerdict board moves (Verdict.Solved pushes (length moves)) }
 {}
+
+/// The line of a solution that [`run_solve`](crate::run_solve) writes for a level solves that level when it is given to
+/// [`run_replay`](crate::run_replay), with the numbers that were told with it, where the solution has at most
+/// [`MAX_MOVES`](lurd::MAX_MOVES) moves.
+pub fn printed_solution_replays()
+    ensures { (limit n : ℕ) (bytes : List ℕ) (report : Report) → IsSolveReport limit n bytes report → report.status ≡ 0 → ReplaysAsTold n bytes report }
+{
+    written_text();
+    one_reading();
+    one_verdict();
+    one_collection();
+}

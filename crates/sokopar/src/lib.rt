@@ -20,7 +20,7 @@ mod writes;
 
 pub use engines::{run_check, run_dead, run_replay, run_show, run_solve};
 pub use fault::RunFault;
-pub use laws::solution_replays;
+pub use laws::{printed_solution_replays, solution_replays};
 pub use sink::{Sink, Writer};
 pub use source::{Reader, Source};
 pub use trail::Failed;

@@ -1,5 +1,6 @@
 ghost use Rattle.std.specs.Prelude.{◌≡◌, ℕ, List, ◌≤◌, IfOk, IfErr, map, option_map};
-ghost use Rattle.sokopar.specs.Listing.{IsListing, listed_of, level_at};
+ghost use Rattle.sokopar.specs.Listing.{IsListing, level_at};
+ghost use Rattle.sokopar.specs.Entries.{listed_of};
 ghost use Rattle.sokopar.specs.Runs.{ReadsWhole, Stops};
 
 use crate::fault::RunFault;
@@ -9,10 +10,11 @@ use grid::{Level, LevelFault};
 use std::alloc::Global;
 use xsb::{Entry, read};
 
-#[tactic(auto, using(crate::proofs::Listings::listing_of))]
+#[tactic(auto, using(crate::proofs::Listings::listing_of, crate::proofs::Reading::stops_after))]
 /// Reads a source to its end, and gives the levels of the collection that it is.
 pub(crate) fn read_listing<S: Source>(alloc: Global, source: &mut S) -> Result<Vec<Entry>, RunFault>
-    ensures ok { IfOk result (λ entries. (bytes : List ℕ) × ReadsWhole (S.seen source.old) (S.seen source.new) bytes × IsListing bytes (map listed_of entries.items)) }
+    ensures ok { IfOk result (λ entries. (bytes : List ℕ) × ReadsWhole (S.seen source.old) (S.seen source.new) bytes
+        × IsListing bytes (map listed_of entries.items)) }
     ensures err { IfErr result (λ fault. Stops (S.seen source.old) (S.seen source.new) fault) }
 {
     let bytes = read_whole(alloc, source)?;

@@ -9,7 +9,7 @@ use xsb::MAX_FILE;
 /// How many bytes one read asks for at most.
 const CHUNK: usize = 8192;
 
-#[tactic(auto, using(crate::proofs::Lists::none_long))]
+#[tactic(auto, using(crate::proofs::Acts::pass_none, crate::proofs::Acts::consumes_none, crate::proofs::Acts::consumes_kept, crate::proofs::Acts::were_all))]
 /// Reads a source to its end. It stops at the first read that fails, and as soon as more bytes are there than a file
 /// may have.
 pub(crate) fn read_whole<S: Source>(alloc: Global, source: &mut S) -> Result<Vec<u8>, RunFault>

@@ -1,7 +1,8 @@
 ghost use Rattle.std.specs.Prelude.{◌≡◌, ◌≢◌, ◌++◌, ◌⊎◌, ◌≤◌, ℕ, List, Option, map, OnOk, IfOk, IfErr};
 ghost use Rattle.sokopar.specs.Report.{counts_words, verdict_report, text_fault_report, IsReplayOf, ReplaysOn};
 ghost use Rattle.sokopar.specs.Runs.{ReadsIfSome, Stops};
-ghost use Rattle.sokopar.specs.Listing.{listed_of, level_at};
+ghost use Rattle.sokopar.specs.Entries.{listed_of};
+ghost use Rattle.sokopar.specs.Listing.{level_at};
 ghost use Rattle.grid.specs.Board.{Board};
 
 use crate::fault::RunFault;
@@ -93,6 +94,7 @@ pub(crate) fn replay_report(
     }
 }
 
+#[tactic(auto, using(crate::proofs::Reading::stops_after))]
 /// The report of replaying on level N of these; the solution is read to its end exactly where the level is lawful.
 pub(crate) fn replay_level<T: Source>(
     alloc: Global,

@@ -1,7 +1,7 @@
 ghost use Rattle.std.specs.Prelude.{◌≡◌, Result, Ok, Err};
 ghost use Rattle.sokopar.specs.Ends.{Seen};
 ghost use Rattle.sokopar.specs.Report.{Report as View};
-ghost use Rattle.sokopar.specs.Runs.{Sends};
+ghost use Rattle.sokopar.specs.inside.Sending.{Sends};
 
 use crate::fault::RunFault;
 use crate::sink::Sink;

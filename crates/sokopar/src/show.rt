@@ -1,5 +1,6 @@
 ghost use Rattle.std.specs.Prelude.{◌≡◌, ◌≤◌, IfOk, map};
-ghost use Rattle.sokopar.specs.Listing.{listed_of, level_at};
+ghost use Rattle.sokopar.specs.Entries.{listed_of};
+ghost use Rattle.sokopar.specs.Listing.{level_at};
 ghost use Rattle.sokopar.specs.Report.{no_level, fault_report, shown, show_report};
 
 use crate::check::put_fault;

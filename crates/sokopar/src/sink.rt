@@ -1,20 +1,24 @@
-ghost use Rattle.std.specs.Prelude.{◌≡◌, ℕ, ◌≤◌, length, take, IfOk, OnErr};
+ghost use Rattle.std.specs.Prelude.{◌≡◌, [], ◌∷◌, ◌++◌, ◌≤◌, length, take, IfOk, OnErr};
+ghost use Rattle.std.specs.Io.KnownBytes.{WriteAppends};
 ghost use Rattle.sokopar.specs.Ends.{Seen, moved, failed, untouched};
 
 use crate::trail::{Event, Failed, Trail};
+use std::fmt;
+use std::fmt::{Debug, Formatter};
 use std::io::Write;
 
 /// Where a report goes.
 pub trait Sink {
-    // what it took so far, and how many writes failed
+    // what its writes did so far, and the bytes that it holds, where these are known
     ghost seen: { Self → Seen };
 
     /// Takes bytes from the front of the text, at least one, and gives their number.
     fn write(&mut self, text: &[u8]) -> Result<usize, Failed>
         requires some { 1 ≤ length text.now }
         ensures bound { IfOk result (λ n. (1 ≤ n) × (n ≤ length text.now)) }
-        ensures ok { IfOk result (λ n. seen self.new ≡ moved (seen self.old) (take n text.now)) }
-        ensures err { OnErr result (seen self.new ≡ failed (seen self.old)) };
+        ensures ok { IfOk result (λ n. (seen self.new).acts ≡ (seen self.old).acts ++ moved (take n text.now) ∷ []) }
+        ensures err { OnErr result ((seen self.new).acts ≡ (seen self.old).acts ++ failed ∷ []) }
+        ensures bytes { WriteAppends (seen self.old).known (seen self.new).known result text.now };
 }
 
 /// A writer of std as a sink. A write that takes no byte counts as a failure.
@@ -27,7 +31,7 @@ pub struct Writer<W: Write> {
 impl<W: Write + Drop> Writer<W> {
     /// The sink that hands on to the writer.
     pub fn new(writer: W) -> Writer<W>
-        ensures { ⟦<Writer<W> as Sink>⟧.seen result ≡ untouched }
+        ensures { ⟦<Writer<W> as Sink>⟧.seen result ≡ untouched (W.contents writer) }
     {
         Writer {
             writer,
@@ -37,8 +41,9 @@ impl<W: Write + Drop> Writer<W> {
 }
 
 impl<W: Write + Drop> Sink for Writer<W> {
-    ghost seen = { λ it. it.trail.seen };
+    ghost seen = { λ it. record { acts = it.trail.acts; known = W.contents it.writer } };
 
+    #[tactic(auto, using(crate::proofs::Acts::keeps_none))]
     fn write(&mut self, text: &[u8]) -> Result<usize, Failed> {
         match self.writer.write(text) {
             Ok(count) if count > 0 => {
@@ -50,5 +55,13 @@ impl<W: Write + Drop> Sink for Writer<W> {
                 Err(Failed)
             }
         }
+    }
+}
+
+impl<W: Write + Debug> Debug for Writer<W> {
+    fn fmt<F: fmt::Write>(&self, f: &mut Formatter<F>) -> fmt::Result {
+        f.debug_struct("Writer")
+            .field("writer", &self.writer)
+            .finish()
     }
 }

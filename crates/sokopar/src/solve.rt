@@ -1,18 +1,22 @@
 ghost use Rattle.std.specs.Prelude.{◌≡◌, ◌++◌, ◌≤◌, OnOk, IfOk, length, map};
-ghost use Rattle.sokopar.specs.Listing.{listed_of, level_at};
+ghost use Rattle.sokopar.specs.Entries.{listed_of};
+ghost use Rattle.sokopar.specs.Listing.{level_at};
 ghost use Rattle.sokopar.specs.Report.{line};
 ghost use Rattle.sokopar.specs.Solving.{too_many_boxes, positions_words, solved_text, answer_report, IsSolveOf, SolvesOn};
 ghost use Rattle.lurd.specs.Text.{bytes_of};
+ghost use Rattle.crew.specs.Configured.{IsWithinLimits};
 
 use crate::listing::level_of;
 use crate::replay::put_counts;
 use crate::report::Report;
 use crate::show::{fault_report, no_level};
 use crate::text::Text;
+use crew::{Config, Free};
 use grid::{Level, Moves};
-use solo::{Answer, SolveFault, solve_alone};
+use solo::{Answer, SolveFault};
 use std::alloc::{AllocError, Global};
-use std::sync::Arc;
+use std::sync::{Arc, Wait};
+use std::thread::Threads;
 use xsb::Entry;
 
 /// The report where the level has more boxes than the solver takes.
@@ -84,33 +88,42 @@ fn answer_report(alloc: Global, answer: &Answer, limit: u32) -> Result<Report, A
     }
 }
 
-/// The report of solving a level under a limit of positions.
-fn solve_level(alloc: Global, level: &Level, limit: u32) -> Result<Report, AllocError>
-    requires { 1 ≤ limit }
-    ensures { IfOk result (λ report. IsSolveOf limit level.now report) }
+/// The report of solving a level by a configuration.
+fn solve_level<R: Threads + Wait + Sync>(
+    rt: &R,
+    alloc: Global,
+    level: &Level,
+    config: Config,
+) -> Result<Report, AllocError>
+    requires limits { IsWithinLimits config }
+    requires locks { config.locks ≡ 1 }
+    ensures { IfOk result (λ report. IsSolveOf config.limit level.now report) }
 {
-    let level = Arc::new(alloc, level.copy(alloc)?)?;
-    match solve_alone(alloc, &level, limit) {
-        Ok(answer) => answer_report(alloc, &answer, limit),
+    let level = Arc::new(alloc, level.copy()?)?;
+    match crew::solve(rt, alloc, &level, config, &Free) {
+        Ok(answer) => answer_report(alloc, &answer, config.limit),
         Err(SolveFault::TooManyBoxes) => too_many_boxes(alloc),
         Err(SolveFault::OutOfMemory) => Err(AllocError),
+        Err(SolveFault::BadConfig) => unreachable!(),
     }
 }
 
-/// The report of solving level N of these under a limit of positions.
-pub(crate) fn solve_report(
+/// The report of solving level N of these by a configuration.
+pub(crate) fn solve_report<R: Threads + Wait + Sync>(
+    rt: &R,
     alloc: Global,
     entries: &[Entry],
     number: u32,
-    limit: u32,
+    config: Config,
 ) -> Result<Report, AllocError>
     requires number { 1 ≤ number }
-    requires limit { 1 ≤ limit }
-    ensures { IfOk result (λ report. SolvesOn limit number (level_at (map listed_of entries.now) number) report) }
+    requires limits { IsWithinLimits config }
+    requires locks { config.locks ≡ 1 }
+    ensures { IfOk result (λ report. SolvesOn config.limit number (level_at (map listed_of entries.now) number) report) }
 {
     match level_of(entries, number) {
         None => no_level(alloc, number),
         Some(Err(fault)) => fault_report(alloc, *fault),
-        Some(Ok(level)) => solve_level(alloc, level, limit),
+        Some(Ok(level)) => solve_level(rt, alloc, level, config),
     }
 }

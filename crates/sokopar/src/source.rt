@@ -1,20 +1,24 @@
-ghost use Rattle.std.specs.Prelude.{◌≡◌, ℕ, ◌≤◌, length, take, IfOk, OnErr};
+ghost use Rattle.std.specs.Prelude.{◌≡◌, [], ◌∷◌, ◌++◌, ◌≤◌, length, take, IfOk, OnErr};
+ghost use Rattle.std.specs.Io.KnownBytes.{ReadConsumes};
 ghost use Rattle.sokopar.specs.Ends.{Seen, moved, failed, untouched};
 
 use crate::trail::{Event, Failed, Trail};
+use std::fmt;
+use std::fmt::{Debug, Formatter};
 use std::io::Read;
 
 /// Where a file's bytes come from.
 pub trait Source {
-    // what it gave so far, whether its end came, and how many reads failed
+    // what its reads did so far, and the bytes that it has left, where these are known
     ghost seen: { Self → Seen };
 
     /// Reads bytes into the front of the buffer, and gives their number; none is the source's end.
     fn read(&mut self, buffer: &mut [u8]) -> Result<usize, Failed>
         requires room { 1 ≤ length buffer.old }
         ensures bound { IfOk result (λ n. n ≤ length buffer.new) }
-        ensures ok { IfOk result (λ n. seen self.new ≡ moved (seen self.old) (take n buffer.new)) }
-        ensures err { OnErr result (seen self.new ≡ failed (seen self.old)) };
+        ensures ok { IfOk result (λ n. (seen self.new).acts ≡ (seen self.old).acts ++ moved (take n buffer.new) ∷ []) }
+        ensures err { OnErr result ((seen self.new).acts ≡ (seen self.old).acts ++ failed ∷ []) }
+        ensures bytes { ReadConsumes (seen self.old).known (seen self.new).known result buffer.new };
 }
 
 /// A reader of std as a source.
@@ -27,7 +31,7 @@ pub struct Reader<R: Read> {
 impl<R: Read + Drop> Reader<R> {
     /// The source of what the reader has left.
     pub fn new(reader: R) -> Reader<R>
-        ensures { ⟦<Reader<R> as Source>⟧.seen result ≡ untouched }
+        ensures { ⟦<Reader<R> as Source>⟧.seen result ≡ untouched (R.remaining reader) }
     {
         Reader {
             reader,
@@ -37,7 +41,7 @@ impl<R: Read + Drop> Reader<R> {
 }
 
 impl<R: Read + Drop> Source for Reader<R> {
-    ghost seen = { λ it. it.trail.seen };
+    ghost seen = { λ it. record { acts = it.trail.acts; known = R.remaining it.reader } };
 
     fn read(&mut self, buffer: &mut [u8]) -> Result<usize, Failed> {
         match self.reader.read(buffer) {
@@ -50,5 +54,13 @@ impl<R: Read + Drop> Source for Reader<R> {
                 Err(Failed)
             }
         }
+    }
+}
+
+impl<R: Read + Debug> Debug for Reader<R> {
+    fn fmt<W: fmt::Write>(&self, f: &mut Formatter<W>) -> fmt::Result {
+        f.debug_struct("Reader")
+            .field("reader", &self.reader)
+            .finish()
     }
 }

@@ -1,12 +1,15 @@
 //! The history of a source or a sink, which contracts alone see. It takes no memory, and its methods do nothing.
-ghost use Rattle.std.specs.Prelude.{◌≡◌};
+ghost use Rattle.std.specs.Prelude.{◌≡◌, List, []};
 ghost use Rattle.std.specs.Borrow.{ftrue};
-ghost use Rattle.sokopar.specs.Ends.{Seen, seen_code, untouched, after};
+ghost use Rattle.sokopar.specs.Ends.{Act};
+ghost use Rattle.sokopar.specs.inside.Trail.{acts_code, after};
 
 use std::marker::Model;
+use thiserror::Error;
 
 /// A read or a write that failed.
-#[derive(Clone, Copy, PartialEq, Eq, Debug)]
+#[derive(Clone, Copy, PartialEq, Eq, Debug, Drop, Error)]
+#[error("a read or a write failed")]
 pub struct Failed;
 
 /// What a read or a write did: it moved some bytes, or it failed.
@@ -16,10 +19,10 @@ pub(crate) enum Event<'a> {
     Failed,
 }
 
-/// What went through so far.
+/// What was done so far.
 #[derive(Drop)]
 pub(crate) struct Trail {
-    pub ghost seen: { Seen } by { seen_code },
+    pub ghost acts: { List Act } by { acts_code },
 }
 
 impl Model for Trail {
@@ -27,16 +30,16 @@ impl Model for Trail {
 }
 
 impl Trail {
-    /// Nothing went through yet.
+    /// Nothing was done yet.
     pub(crate) fn new() -> Trail
-        ensures { result.seen ≡ untouched }
+        ensures { result.acts ≡ [] }
     {
         Trail {}
     }
 
     /// The history with one event more.
     pub(crate) fn then(&self, _event: &Event<'_>) -> Trail
-        ensures { result.seen ≡ after self.now.seen _event.now }
+        ensures { result.acts ≡ after self.now.acts _event.now }
     {
         Trail {}
     }

@@ -9,18 +9,20 @@ use Rattle.grid.specs.declared.moves.Letter.{Letter}
 use Rattle.grid.specs.declared.state.Step.{Step}
 use Rattle.grid.specs.declared.state.Step.TheVariants.{Blocked, Walked, Pushed}
 use Rattle.grid.specs.Squares.{contains, insert, remove}
-use Rattle.grid.specs.Board.{Board, Scene, IsScene, IsFree, Pushes, Steps, start, dir_cmp, next, opposite}
+use Rattle.grid.specs.Board.{Board, Scene, IsFree, Pushes, start, dir_cmp, next, opposite}
+use Rattle.grid.specs.States.{IsScene, Steps}
 use Rattle.grid.specs.Plays.{Play, Any, push_at, shortlex, dirs_of, letters_of}
 use Rattle.grid.specs.Plays.Play.{stay, walk, push}
-use Rattle.grid.proofs.Steps.{inside_grid, opposite_twice, next_back_to, push_same, not_both}
-use Rattle.grid.proofs.Orders.{not_gt_itself, not_gt_since_less, dir_cmp_total, shortlex_total, shortlex-shorter, shortlex-append_not_gt}
-use Rattle.grid.proofs.Plays.{play_scene, play_push_on, walk_keeps_boxes, push_from, cut_push, cut_last_push}
-use Rattle.area.specs.Area.{at, Area, IsLeastWalk, WalkAnswer, walk_letters}
+use Rattle.grid.proofs.lemmas.Steps.{inside_grid, opposite_twice, next_back_to, push_same, not_both}
+use Rattle.grid.proofs.lemmas.Orders.{not_gt_itself, not_gt_since_less, dir_cmp_total, shortlex_total, shortlex-shorter, shortlex-append_not_gt}
+use Rattle.grid.proofs.lemmas.Plays.{play_scene, play_push_on, walk_keeps_boxes, push_from, cut_push, cut_last_push}
+use Rattle.area.specs.Area.{at, Area}
+use Rattle.area.specs.LeastWalks.{IsLeastWalk, WalkAnswer, walk_letters}
 use Rattle.layers.specs.Reaching.{IsLeadOf}
 use Rattle.layers.specs.Expansion.{CanPush, after_push}
-use Rattle.layers.proofs.Successors.{pushes_on, after_scene}
+use Rattle.layers.proofs.lemmas.Successors.{pushes_on, after_scene}
 use Rattle.solo.specs.Leads.{WritesLead}
-use Rattle.solo.specs.LeastPlays.{ArePlayed, AllComeTo, WritesLeastPlay, WritesPush}
+use Rattle.solo.specs.inside.LeastPlays.{ArePlayed, AllComeTo, WritesLeastPlay, WritesPush}
 
 -- ---- letters
 

@@ -1,7 +1,9 @@
-pub mod Counting
+pub mod lemmas
+pub mod Finishing
 pub mod LeastPlays
+pub mod Limits
+pub mod Looking
 pub mod ReadingBack
 pub mod Solved
 pub mod Solving
-pub mod Turns
 pub mod Uniqueness

@@ -6,12 +6,13 @@ use Rattle.std.specs.Prelude.{slice_get}
 use Rattle.grid.specs.declared.square.Push.{Push}
 use Rattle.grid.specs.declared.moves.Letter.{Letter}
 use Rattle.grid.specs.Board.{Board, Scene}
-use Rattle.grid.proofs.Plays.{play_any}
+use Rattle.grid.proofs.lemmas.Plays.{play_any}
 use Rattle.layers.specs.LayerView.{LayerView, IsWhole}
-use Rattle.layers.specs.Layered.{Origin}
-use Rattle.layers.specs.Reaching.{IsLayerOf, IsLeadOf, HasOrigin}
+use Rattle.layers.specs.Openings.{Origin}
+use Rattle.layers.specs.Reaching.{IsLayerOf, IsLeadOf}
+use Rattle.layers.specs.Origins.{HasOrigin}
 use Rattle.solo.specs.Leads.{AreFirstLayers, WritesLead, places_or_none, last_places, level_of}
-use Rattle.solo.specs.LeastPlays.{ArePlayed, WritesLeastPlay, IsLeadAt, IsOriginAt, IsReadBack}
+use Rattle.solo.specs.inside.LeastPlays.{ArePlayed, WritesLeastPlay, IsLeadAt, IsOriginAt, IsReadBack}
 use Rattle.solo.proofs.LeastPlays.{lead_written}
 
 abbrev nowhere : Scene

@@ -1,7 +1,7 @@
 -- What a search has behind it, and what answers follow from where it ends.
-use Rattle.std.proofs.Common.{◌≡◌, ℕ, zero, suc, ◌+◌, ◌-◌, ◌<◌, ◌≤◌, false, true, List, [], ◌∷◌, ◌++◌, length, map, get_or, Some, inl, inr, refl, sym, ap, subst, ◌∙◌, arith}
+use Rattle.std.proofs.Common.{◌≡◌, ℕ, zero, suc, ◌+◌, ◌-◌, ◌<◌, ◌≤◌, false, true, List, [], ◌∷◌, ◌++◌, length, get_or, Some, inl, inr, refl, sym, ap, subst, ◌∙◌, arith}
 use Rattle.std.proofs.lemmas.Bool.{cases_lt}
-use Rattle.std.proofs.lemmas.List.{length-append, length-map}
+use Rattle.std.proofs.lemmas.List.{length-append}
 use Rattle.std.proofs.lemmas.Option.{same_Some, none-some}
 use Rattle.std.specs.Prelude.{slice_get}
 use Rattle.std.specs.declared.cmp.Ordering.{Ordering}
@@ -14,24 +14,23 @@ use Rattle.grid.specs.Squares.{Squares, contains}
 use Rattle.grid.specs.Board.{Board, Scene, IsSolved, start, dir_cmp, push_cmp}
 use Rattle.grid.specs.Lawful.{IsLevel}
 use Rattle.grid.specs.Plays.{Play, Any, IsSolution, shortlex, solution_cmp, dirs_of}
-use Rattle.grid.proofs.Levels.{start_is_scene}
-use Rattle.grid.proofs.Orders.{push_cmp_total, push_cmp_exact, shortlex_total, shortlex_exact}
-use Rattle.grid.proofs.Plays.{play_scene, play_boxes}
-use Rattle.area.proofs.Norms.{norm_exists}
-use Rattle.doom.proofs.Soundness.{solution_safe}
+use Rattle.grid.proofs.lemmas.Levels.{start_is_scene}
+use Rattle.grid.proofs.lemmas.Orders.{push_cmp_total, push_cmp_exact, shortlex_total, shortlex_exact}
+use Rattle.grid.proofs.lemmas.Plays.{play_scene, play_boxes}
+use Rattle.area.proofs.lemmas.Norms.{norm_exists}
+use Rattle.doom.proofs.lemmas.Soundness.{solution_safe}
 use Rattle.layers.specs.Layered.{IsIn}
-use Rattle.layers.specs.Reaching.{Reaches, IsLeadOf, IsLayerOf, AreLayersOf, total}
-use Rattle.layers.specs.BookView.{BookView, Closed, places_of, IsAtDistance, IsLawfulBook}
-use Rattle.layers.proofs.Exchange.{at_map, lead-length, lead_unique, found}
-use Rattle.layers.proofs.Layers.{place_unique}
-use Rattle.layers.proofs.Lists.{at-push, at_seam, sum_by_first}
-use Rattle.layers.proofs.Orders.{shortlex_shorter, shortlex_same, less_upto, upto-less}
-use Rattle.layers.proofs.Books.{level_laws, read_at, layers_same}
-use Rattle.layers.proofs.Joins.{layer_of_all}
+use Rattle.layers.specs.Reaching.{Admits, Reaches, IsLeadOf, IsLayerOf, AreLayersOf, total}
+use Rattle.layers.specs.Distances.{IsAtDistance}
+use Rattle.layers.proofs.lemmas.Exchange.{lead-length, lead_unique, found}
+use Rattle.layers.proofs.lemmas.Layers.{place_unique}
+use Rattle.layers.proofs.lemmas.Lists.{at-push, at_seam, sum_by_first}
+use Rattle.layers.proofs.lemmas.Orders.{shortlex_shorter, shortlex_same, less_upto, upto-less}
+use Rattle.layers.proofs.lemmas.Books.{admitted, level_laws, read_at}
 use Rattle.solo.specs.declared.answer.Answer.TheVariants.{Solved, Unsolvable, Limit}
 use Rattle.solo.specs.Leads.{AreUnsolved, IsFirstSolved, WritesLead}
-use Rattle.solo.specs.Answers.{WritesLeastSolution, HaveTotal, HasInAll, PassesLimit, IsAnswer}
-use Rattle.solo.specs.Searched.{AreSearched}
+use Rattle.solo.specs.Answers.{WritesLeastSolution, HaveTotal, HasInAll, IsAnswer}
+use Rattle.solo.specs.inside.Searched.{AreSearched}
 
 -- ---- one more layer
 
@@ -82,10 +81,14 @@ solution_reaches board level ds ps (t, play, solved) =
     let n = norm_exists board t (play_scene scene play) in
     (n.0, (ds, t, solution_safe board (start board) t ds ps scene play solved, n.1), solved_boxes board t n.0 (sym n.1.boxes) solved)
 
+-- a solved position is admitted
+pub solved_admitted : (board : Board) (k : ℕ) (ps : List Push) (n : Scene) → Reaches board ps n → length ps ≡ k → IsSolved board n → Admits board k n
+solved_admitted board k ps n reach long solved = admitted board k n
+
 -- no fewer pushes than there are layers that were searched lead to a solved position
 pub solved_bound : (board : Board) (layers : List (List Scene)) → IsLevel board → AreSearched board layers → (ps : List Push) (n : Scene) → Reaches board ps n → IsSolved board n → length layers ≤ length ps
 solved_bound board layers level searched ps n reach solved = elim (cases_lt (length ps) (length layers)) [
-  | inl lt ↦ (let w = found (level_laws board level) (λ j. get_or layers j []) (length ps) (λ j le. searched.are j (get_or layers j []) (read_at layers j (omega arith))) (length ps) ps n (omega arith) (omega arith) reach tt in
+  | inl lt ↦ (let w = found (level_laws board level) (λ j. get_or layers j []) (length ps) (λ j le. searched.are j (get_or layers j []) (read_at layers j (omega arith))) (length ps) ps n (omega arith) (omega arith) reach (solved_admitted board (length ps) ps n reach refl solved) in
       absurd (searched.unsolved w.0 (get_or layers w.0 []) (read_at layers w.0 (omega (arith, w.1))) w.2.0 n w.2.1 solved))
   | inr ge ↦ omega arith
 ]
@@ -105,10 +108,11 @@ pub first_lead_least : (board : Board) (layers : List (List Scene)) (xs : List S
     (qs : List Push) (m : Scene) → Reaches board qs m → IsSolved board m → is_gt (shortlex push_cmp ps qs) ≡ false
 first_lead_least board layers xs rank n ps level searched layer first at_rank lead long qs m reach solved = elim (cases_lt (length layers) (length qs)) [
   | inl lt ↦ shortlex_shorter push_cmp ps qs (omega arith)
-  | inr ge ↦ elim (layer.whole qs m reach (omega (arith, solved_bound board layers level searched qs m reach solved)) tt) [
-    | inl i ↦ within i.0 i.1
-    | inr w ↦ absurd (omega (arith, w.2, solved_bound board layers level searched w.0 m w.1 solved))
-  ]
+  | inr ge ↦ (let same : length qs ≡ length layers = omega (arith, solved_bound board layers level searched qs m reach solved) in
+      elim (layer.whole qs m reach same (solved_admitted board (length layers) qs m reach same solved)) [
+        | inl i ↦ within i.0 i.1
+        | inr w ↦ absurd (omega (arith, w.2, solved_bound board layers level searched w.0 m w.1 solved))
+      ])
 ]
   where
     within : (r : ℕ) → slice_get xs r ≡ Some m → is_gt (shortlex push_cmp ps qs) ≡ false
@@ -174,23 +178,30 @@ solved_answer board limit layers xs rank n letters level searched layer first at
 
 -- ---- unsolvable
 
--- where layer k is empty, what is reached is reached by fewer than k pushes
+-- where layer k is empty, what is reached and admitted is reached by fewer than k pushes
 module _ (board : Board) (level : IsLevel board) (k : ℕ) (empty : IsLayerOf board k []) where
-  sooner_here : (ps : List Push) (n : Scene) → Reaches board ps n → length ps ≤ k → (qs : List Push) × Reaches board qs n × (length qs < k)
-  sooner_here ps n reach short = elim (cases_lt (length ps) k) [
+  sooner_here : (ps : List Push) (n : Scene) → Reaches board ps n → length ps ≤ k → Admits board k n → (qs : List Push) × Reaches board qs n × (length qs < k)
+  sooner_here ps n reach short adm = elim (cases_lt (length ps) k) [
     | inl lt ↦ (ps, reach, lt)
-    | inr ge ↦ elim (empty.whole ps n reach (omega arith) tt) [ inl i ↦ absurd (none-some n i.1) | inr w ↦ w ]
+    | inr ge ↦ elim (empty.whole ps n reach (omega arith) adm) [ inl i ↦ absurd (none-some n i.1) | inr w ↦ w ]
   ]
 
-  sooner_by : (b : ℕ) (ps : List Push) (n : Scene) → Reaches board ps n → length ps ≡ b → (qs : List Push) × Reaches board qs n × (length qs < k)
-  sooner_by zero ps n reach long = sooner_here ps n reach (omega arith)
-  sooner_by (suc b) ps n reach long =
-      let cut = (level_laws board level).split ps n b reach long in
-      let early = sooner_by b cut.0 cut.2 cut.4 (omega (arith, ap length cut.3, length-append cut.0 (cut.1 ∷ []))) in
-      sooner_here (early.0 ++ cut.1 ∷ []) n ((level_laws board level).grow early.0 cut.2 cut.1 n early.1 cut.5) (omega (arith, early.2, length-append early.0 (cut.1 ∷ [])))
+  sooner_by : (b : ℕ) (ps : List Push) (n : Scene) → Reaches board ps n → length ps ≡ b → Admits board b n → (qs : List Push) × Reaches board qs n × (length qs < k)
+  sooner_by zero ps n reach long adm = elim (cases_lt zero k) [
+    | inl lt ↦ (ps, reach, omega arith)
+    | inr ge ↦ sooner_here ps n reach (omega arith) ((level_laws board level).earlier k zero n (omega arith) adm)
+  ]
+  sooner_by (suc b) ps n reach long adm =
+      let laws = level_laws board level in
+      let cut = laws.split ps n b reach long in
+      let early = sooner_by b cut.0 cut.2 cut.4 (omega (arith, ap length cut.3, length-append cut.0 (cut.1 ∷ []))) (laws.closed b cut.0 cut.2 cut.1 n cut.4 cut.5 adm) in
+      elim (cases_lt (suc b) k) [
+        | inl lt ↦ (ps, reach, omega arith)
+        | inr ge ↦ sooner_here (early.0 ++ cut.1 ∷ []) n (laws.grow early.0 cut.2 cut.1 n early.1 cut.5) (omega (arith, early.2, length-append early.0 (cut.1 ∷ []))) (laws.earlier k (suc b) n (omega arith) adm)
+      ]
 
-  pub sooner : (ps : List Push) (n : Scene) → Reaches board ps n → (qs : List Push) × Reaches board qs n × (length qs < k)
-  sooner ps n reach = sooner_by (length ps) ps n reach refl
+  pub sooner : (ps : List Push) (n : Scene) → Reaches board ps n → Admits board (length ps) n → (qs : List Push) × Reaches board qs n × (length qs < k)
+  sooner ps n reach adm = sooner_by (length ps) ps n reach refl adm
 
 -- where the next layer is empty the level is unsolvable
 pub unsolvable_answer : (board : Board) (limit : ℕ) (layers : List (List Scene)) → IsLevel board → AreSearched board layers → IsLayerOf board (length layers) [] → total layers ≤ limit → IsAnswer board limit (Unsolvable (total layers))
@@ -199,7 +210,7 @@ unsolvable_answer board limit layers level searched empty few = (none, all, few)
     none : (ds : List Dir) (ps : List Push) → ¬ (IsSolution board ds ps)
     none ds ps solution =
         let r = solution_reaches board level ds ps solution in
-        let w = sooner board level (length layers) empty ps r.0 r.1 in
+        let w = sooner board level (length layers) empty ps r.0 r.1 (solved_admitted board (length ps) ps r.0 r.1 refl r.2) in
         omega (arith, w.2, solved_bound board layers level searched w.0 r.0 w.1 r.2)
 
     last : length (layers ++ [] ∷ []) - 1 ≡ length layers
@@ -222,8 +233,9 @@ unsolvable_answer board limit layers level searched empty few = (none, all, few)
 -- a position of layer k is k pushes away
 pub layer_distance : (board : Board) → IsLevel board → (k : ℕ) (xs : List Scene) → IsLayerOf board k xs → (n : Scene) → IsIn xs n → IsAtDistance board n k
 layer_distance board level k xs layer n i =
-    let l = (layer.leads i.0 n i.1).1 in
-    ((l.0, l.1.reached, l.2), λ qs reach. omega (arith, l.2, lead-length (level_laws board level) n l.0 qs l.1 reach))
+    let there = layer.leads i.0 n i.1 in
+    let l = there.1 in
+    ((l.0, l.1.reached, l.2), λ qs reach. omega (arith, l.2, lead-length (level_laws board level) n l.0 qs l.1 reach), there.0)
 
 -- where the positions of the next layer pass the limit, the answer is the limit
 pub limit_answer : (board : Board) (limit : ℕ) (layers : List (List Scene)) (xs : List Scene) → IsLevel board → AreSearched board layers → IsLayerOf board (length layers) xs → limit < total layers + length xs → IsAnswer board limit Limit
@@ -236,32 +248,3 @@ limit_answer board limit layers xs level searched layer passed = record {
   passed = passed;
   unsolved = searched_bound board layers level searched;
 }
-
-total-places : (ess : List (List Closed)) → total (map places_of ess) ≡ total ess
-total-places [] = refl
-total-places (es ∷ ess) = omega (arith, sum_by_first length (places_of es) (map places_of ess), sum_by_first length es ess, total-places ess, length-map es (λ (e : Closed). e.0))
-
--- the closed lists of a book that holds all positions are the first layers of its level
-pub closed_layers : (v : BookView) → IsLawfulBook v → v.shares ≡ 1 → AreLayersOf v.level (map places_of v.closed)
-closed_layers v book one j xs at_j =
-    let x = at_map places_of v.closed j xs at_j in
-    subst (IsLayerOf v.level j) x.2 (layer_of_all v.level v.shares v.share j x.0 one book.bounds.dealt.0 (book.closed j x.0 x.1))
-
-passes : (v : BookView) (layers : List (List Scene)) → IsLawfulBook v → v.shares ≡ 1 → v.over ≡ true → AreSearched v.level layers → length layers ≡ length v.closed → PassesLimit v.level v.limit
-passes v layers book one over searched long =
-    let p = (book.over over).0 in
-    let same = layers_same v.level book.level layers (map places_of v.closed) searched.are (closed_layers v book one) (long ∙ sym (length-map v.closed places_of)) in
-    record {
-      layers = layers;
-      are = searched.are;
-      more = p.places;
-      distinct = p.distinct;
-      next = λ n i. subst (IsAtDistance v.level n) (sym long) (p.next n i).1;
-      passed = omega (arith, p.passed, ap total same, total-places v.closed);
-      unsolved = searched_bound v.level layers book.level searched;
-    }
-
--- where a book that holds all positions passed the limit over the layers that were searched, the answer is the limit
-pub passed_answer : (board : Board) (limit : ℕ) (layers : List (List Scene)) (v : BookView) → IsLawfulBook v → v.level ≡ board → v.limit ≡ limit → v.shares ≡ 1 → v.over ≡ true → AreSearched board layers → length layers ≡ length v.closed → IsAnswer board limit Limit
-passed_answer board limit layers v book level same one over searched long =
-    subst (λ l. PassesLimit board l) same (subst (λ b. PassesLimit b v.limit) level (passes v layers book one over (subst (λ b. AreSearched b layers) (sym level) searched) long))

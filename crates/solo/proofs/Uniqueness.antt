@@ -8,20 +8,20 @@ use Rattle.grid.specs.declared.square.Push.{Push}
 use Rattle.grid.specs.declared.moves.Letter.{Letter}
 use Rattle.grid.specs.Board.{Board, Scene, Walks, Pushes}
 use Rattle.grid.specs.Lawful.{IsLevel}
-use Rattle.grid.specs.Plays.{Play, stay, walk, push, dirs_of, letters_of}
-use Rattle.grid.proofs.Orders.{least_solution_same}
-use Rattle.grid.proofs.Steps.{walk_same, push_same, not_both}
+use Rattle.grid.specs.Plays.{Play, IsSolution, stay, walk, push, dirs_of, letters_of}
+use Rattle.grid.proofs.lemmas.Orders.{least_solution_same}
+use Rattle.grid.proofs.lemmas.Steps.{walk_same, push_same, not_both}
 use Rattle.layers.specs.Layered.{IsIn}
-use Rattle.layers.specs.Reaching.{IsLayerOf, AreLayersOf, total}
-use Rattle.layers.specs.BookView.{AreDistinct, IsAtDistance}
-use Rattle.layers.proofs.Exchange.{lead-length}
-use Rattle.layers.proofs.Layers.{layer_unique}
-use Rattle.layers.proofs.Closings.{take_at}
-use Rattle.layers.proofs.Books.{level_laws, read_at, layers_same, total-take_more}
+use Rattle.layers.specs.Reaching.{Admits, IsLayerOf, AreLayersOf, total}
+use Rattle.layers.specs.Distances.{AreDistinct, IsAtDistance}
+use Rattle.layers.proofs.lemmas.Exchange.{lead-length}
+use Rattle.layers.proofs.lemmas.Layers.{layer_unique}
+use Rattle.layers.proofs.lemmas.Closings.{take_at}
+use Rattle.layers.proofs.lemmas.Books.{level_laws, read_at, layers_same, total-take_more}
 use Rattle.solo.specs.declared.answer.Answer.{Answer}
 use Rattle.solo.specs.declared.answer.Answer.TheVariants.{Solved, Unsolvable, Limit}
 use Rattle.solo.specs.Answers.{WritesLeastSolution, HaveTotal, HasInAll, PassesLimit, IsAnswer}
-use Rattle.solo.proofs.Counting.{length-distinct, total-take, total-front}
+use Rattle.layers.proofs.lemmas.Counting.{length-distinct, total-take, total-front}
 use Rattle.solo.proofs.Solving.{sooner}
 
 -- ---- letters
@@ -75,7 +75,7 @@ front_same board level xss yss a b short = layers_same board level (take (length
 
 -- what is k pushes away is in layer k
 distant_in : (board : Board) (k : ℕ) (xs : List Scene) → IsLayerOf board k xs → (n : Scene) → IsAtDistance board n k → IsIn xs n
-distant_in board k xs layer n far = elim (layer.whole far.0.0 n far.0.1 far.0.2 tt) [
+distant_in board k xs layer n far = elim (layer.whole far.0.0 n far.0.1 far.0.2 far.2) [
   | inl i ↦ i
   | inr w ↦ absurd (omega (arith, w.2, far.1 w.0 w.1))
 ]
@@ -116,20 +116,21 @@ pub in_all_same : (board : Board) → IsLevel board → (s t : ℕ) → HasInAll
 in_all_same board level s t a b =
     sym a.total ∙ (ap total (layers_same board level a.layers b.layers a.are b.are (omega (arith, in_all_short board level s t a b, in_all_short board level t s b a))) ∙ b.total)
 
--- nothing is in a layer after the first empty one
-past_empty : (board : Board) → IsLevel board → (s : ℕ) (all : HasInAll board s) (j : ℕ) (xs : List Scene) → length all.layers ≤ j → IsLayerOf board j xs → length xs ≡ 0
-past_empty board level s all j [] past layer = refl
-past_empty board level s all j (n ∷ xs) past layer =
-    let l = (layer.leads zero n refl).1 in
-    let w = sooner board level (empty_layer all) (all.are (empty_layer all) [] all.last) l.0 n l.1.reached in
-    absurd (omega (arith, w.2, l.2, some_layers all, lead-length (level_laws board level) n l.0 w.0 l.1 w.1))
+-- nothing is in a layer after an empty one
+pub past_empty : (board : Board) (empty later : ℕ) (places : List Scene) → IsLevel board → IsLayerOf board empty [] → empty ≤ later → IsLayerOf board later places → places ≡ []
+past_empty board empty later [] level none past layer = refl
+past_empty board empty later (n ∷ places) level none past layer =
+    let there = layer.leads zero n refl in
+    let l = there.1 in
+    let w = sooner board level empty none l.0 n l.1.reached (subst (λ k. Admits board k n) (sym l.2) there.0) in
+    absurd (omega (arith, w.2, l.2, lead-length (level_laws board level) n l.0 w.0 l.1 w.1))
 
 -- nor is anything that many pushes away
 none_distant : (board : Board) → IsLevel board → (s : ℕ) (all : HasInAll board s) (k : ℕ) (more : List Scene) → length all.layers ≤ k → ((n : Scene) → IsIn more n → IsAtDistance board n k) → length more ≡ 0
 none_distant board level s all k [] past next = refl
 none_distant board level s all k (n ∷ more) past next =
     let far = next n (zero, refl) in
-    let w = sooner board level (empty_layer all) (all.are (empty_layer all) [] all.last) far.0.0 n far.0.1 in
+    let w = sooner board level (empty_layer all) (all.are (empty_layer all) [] all.last) far.0.0 n far.0.1 (subst (λ j. Admits board j n) (sym far.0.2) far.2) in
     absurd (omega (arith, w.2, some_layers all, far.1 w.0 w.1))
 
 -- the first layers and distinct positions of the next one are no more than all positions
@@ -140,26 +141,33 @@ within_all board level s all limit p = elim (cases_lt (length p.layers) (length 
     arith,
     all.total,
     none_distant board level s all (length p.layers) p.more (omega arith) p.next,
-    total-front (length all.layers) p.layers (λ j xs le at_j. past_empty board level s all j xs le (p.are j xs at_j)),
+    total-front (length all.layers) p.layers (λ j xs le at_j. ap length (past_empty board (empty_layer all) j xs level (all.are (empty_layer all) [] all.last) (omega (arith, le)) (p.are j xs at_j))),
     ap total (front_same board level all.layers p.layers all.are p.are (omega arith)),
   )
 ]
 
 -- ---- answers
 
--- a solution within the limit and a limit that is passed exclude each other
-solved_or_limit : (board : Board) → IsLevel board → (limit : ℕ) (letters : List Letter) (k t : ℕ) → IsAnswer board limit (Solved letters k t) → PassesLimit board limit → ⊥
-solved_or_limit board level limit letters k t (writes, have, few) p =
+-- a solution and a limit that is passed: the positions up to the solution are more than the limit
+pub solved_passes : (board : Board) → IsLevel board → (limit pushes positions : ℕ) (ds : List Dir) (ps : List Push) → IsSolution board ds ps → length ps ≡ pushes → HaveTotal board (suc pushes) positions → PassesLimit board limit → limit < positions
+solved_passes board level limit pushes positions ds ps solution count have p =
     omega (
       arith,
-      few,
       have.3,
       p.passed,
-      next_within board level p.layers p.more have.0 p.are p.distinct p.next have.1 (omega (arith, have.2, writes.count, p.unsolved (dirs_of letters) writes.list writes.least.0)),
+      next_within board level p.layers p.more have.0 p.are p.distinct p.next have.1 (omega (arith, have.2, count, p.unsolved ds ps solution)),
     )
 
+-- all positions are more than a limit that is passed
+pub unsolvable_passes : (board : Board) → IsLevel board → (limit positions : ℕ) → HasInAll board positions → PassesLimit board limit → limit < positions
+unsolvable_passes board level limit positions all p = omega (arith, p.passed, within_all board level positions all limit p)
+
+-- a solution within the limit and a limit that is passed exclude each other
+solved_or_limit : (board : Board) → IsLevel board → (limit : ℕ) (letters : List Letter) (k t : ℕ) → IsAnswer board limit (Solved letters k t) → PassesLimit board limit → ⊥
+solved_or_limit board level limit letters k t (writes, have, few) p = omega (arith, few, solved_passes board level limit k t (dirs_of letters) writes.list writes.least.0 writes.count have p)
+
 unsolvable_or_limit : (board : Board) → IsLevel board → (limit t : ℕ) → IsAnswer board limit (Unsolvable t) → PassesLimit board limit → ⊥
-unsolvable_or_limit board level limit t (none, all, few) p = omega (arith, few, p.passed, within_all board level t all limit p)
+unsolvable_or_limit board level limit t (none, all, few) p = omega (arith, few, unsolvable_passes board level limit t all p)
 
 -- two answers are the same
 pub answer_same : (board : Board) (limit : ℕ) (a b : Answer) → IsLevel board → IsAnswer board limit a → IsAnswer board limit b → a ≡ b

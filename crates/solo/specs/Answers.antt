@@ -3,17 +3,13 @@ use Rattle.std.specs.Prelude.{◌≡◌, ℕ, suc, ◌+◌, ◌-◌, ◌<◌, �
 use Rattle.grid.specs.declared.dir.Dir.{Dir}
 use Rattle.grid.specs.declared.square.Push.{Push}
 use Rattle.grid.specs.declared.moves.Letter.{Letter}
-use Rattle.grid.specs.declared.limits.TheConstants.{MAX_BOXES}
 use Rattle.grid.specs.Board.{Board, Scene, IsSolved, start}
-use Rattle.grid.specs.Lawful.{box_count}
 use Rattle.grid.specs.Plays.{Play, Any, IsSolution, IsLeastSolution, dirs_of, letters_of}
 use Rattle.layers.specs.Layered.{IsIn}
 use Rattle.layers.specs.Reaching.{AreLayersOf, total}
-use Rattle.layers.specs.BookView.{AreDistinct, IsAtDistance}
+use Rattle.layers.specs.Distances.{AreDistinct, IsAtDistance}
 use Rattle.solo.specs.declared.answer.Answer.{Answer}
 use Rattle.solo.specs.declared.answer.Answer.TheVariants.{Solved, Unsolvable, Limit}
-use Rattle.solo.specs.declared.answer.SolveFault.{SolveFault}
-use Rattle.solo.specs.declared.answer.SolveFault.TheVariants.{TooManyBoxes, OutOfMemory}
 
 -- the letters write the least solution, which has so many pushes
 pub record WritesLeastSolution (board : Board) (letters : List Letter) (pushes : ℕ) : Type 0 where
@@ -53,15 +49,19 @@ pub record PassesLimit (board : Board) (limit : ℕ) : Type 0 where
   pub passed : limit < total layers + length more
   pub unsolved : (ds : List Dir) (ps : List Push) → IsSolution board ds ps → length layers ≤ length ps
 
+-- no play solves the level, and all its layers together have so many positions, no more than the limit
+abbrev pub HasNone : Board → ℕ → ℕ → Type 0
+HasNone board limit positions = IsUnsolvable board × HasInAll board positions × (positions ≤ limit)
+
 -- the answer: the least solution, with its number of pushes and the number of positions that so many pushes or fewer
 -- lead to; or that no play ends solved, with the number of all positions; or that this number is more than the limit
 abbrev pub IsAnswer : Board → ℕ → Answer → Type 0
 IsAnswer board limit (Solved moves pushes positions) =
     WritesLeastSolution board moves pushes × HaveTotal board (suc pushes) positions × (positions ≤ limit)
-IsAnswer board limit (Unsolvable positions) = IsUnsolvable board × HasInAll board positions × (positions ≤ limit)
+IsAnswer board limit (Unsolvable positions) = HasNone board limit positions
 IsAnswer board limit Limit = PassesLimit board limit
 
--- why a level is not solved at all
-abbrev pub SolveRefused : Board → SolveFault → Type 0
-SolveRefused board TooManyBoxes = MAX_BOXES < box_count board
-SolveRefused board OutOfMemory = box_count board ≤ MAX_BOXES
+-- k is the least number of pushes of a solution
+abbrev pub IsFewest : Board → ℕ → Type 0
+IsFewest board k =
+    ((ds : List Dir) × (ps : List Push) × IsSolution board ds ps × (length ps ≡ k)) × ((ds : List Dir) (ps : List Push) → IsSolution board ds ps → k ≤ length ps)

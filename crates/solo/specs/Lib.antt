@@ -1,5 +1,4 @@
 pub mod Leads
-pub mod LeastPlays
 pub mod Answers
-pub mod Searched
-pub mod Turns
+pub mod Refusals
+pub mod inside

@@ -1,7 +1,12 @@
-use grid::Moves;
+ghost use Rattle.std.specs.Prelude.{◌≡◌};
+ghost use Rattle.solo.specs.declared.answer.SolveFault.TheVariants.{OutOfMemory};
+
+use grid::{MAX_BOXES, Moves};
+use std::alloc::AllocError;
+use thiserror::Error;
 
 /// What the search for the solution with the fewest pushes found.
-#[derive(Drop)]
+#[derive(Debug, Drop)]
 pub enum Answer {
     /// The least solution: the fewest pushes, of those the least push list, of those the fewest moves, of those the
     /// least text in the order `d`, `l`, `r`, `u`. `positions` counts the positions that so many pushes or fewer lead
@@ -19,11 +24,26 @@ pub enum Answer {
     Limit,
 }
 
-/// Why a level was not solved. Of several reasons the first in this order is the one that is answered.
-#[derive(Clone, Copy, PartialEq, Eq, Debug)]
+/// Why a level was not solved. Of several reasons `BadConfig` comes before all others, and of the others the first in
+/// this order is the one that is answered.
+#[derive(Clone, Copy, PartialEq, Eq, Debug, Drop, Error)]
 pub enum SolveFault {
     /// The level has more boxes than [`MAX_BOXES`](grid::MAX_BOXES).
+    #[error("more than {MAX_BOXES} boxes")]
     TooManyBoxes,
     /// Memory was refused.
+    #[error("out of memory")]
     OutOfMemory,
+    /// A number of the configuration is outside its limits. [`solve_alone`](crate::solve_alone), which takes no
+    /// configuration, never answers it.
+    #[error("a number of the configuration is outside its limits")]
+    BadConfig,
+}
+
+impl From<AllocError> for SolveFault {
+    ghost from_gives = { λ _ fault. fault ≡ OutOfMemory };
+
+    fn from(_error: AllocError) -> Self {
+        SolveFault::OutOfMemory
+    }
 }

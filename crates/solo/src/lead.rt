@@ -2,7 +2,7 @@ ghost use Rattle.std.specs.Prelude.{◌≡◌, ℕ, suc, ◌<◌, ◌↔◌, IfO
 ghost use Rattle.std.specs.List.{list_all};
 ghost use Rattle.grid.specs.Board.{Scene, IsSolved, is_goal};
 ghost use Rattle.solo.specs.Leads.{AreUnsolved, IsFirstSolved, AreFirstLayers, WritesLead, level_of, last_places};
-ghost use Rattle.solo.specs.LeastPlays.{IsLeadAt, IsOriginAt};
+ghost use Rattle.solo.specs.inside.LeastPlays.{IsLeadAt, IsOriginAt};
 
 use crate::plays::play_pushes;
 use area::Scratch;

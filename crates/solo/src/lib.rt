@@ -1,15 +1,14 @@
-//! The solution of a level with the fewest pushes, found on one thread: plays read off layers, and the search through
-//! the layers.
+//! The solution of a level with the fewest pushes: plays read off layers, the turns of a search through the layers, and
+//! the search on one thread.
 #![tactic(auto)]
 
 mod answer;
-mod laws;
+pub mod laws;
 mod lead;
 mod plays;
 mod search;
-mod turn;
+pub mod turn;
 
 pub use answer::{Answer, SolveFault};
-pub use laws::an_answer_is_the_only_one;
 pub use lead::{first_solved, moves_to};
 pub use search::solve_alone;

@@ -1,7 +1,8 @@
 ghost use Rattle.std.specs.Prelude.{◌≡◌, IfOk, OnOk, length};
-ghost use Rattle.grid.specs.Board.{Scene, IsScene};
+ghost use Rattle.grid.specs.Board.{Scene};
+ghost use Rattle.grid.specs.States.{IsScene};
 ghost use Rattle.layers.specs.Expansion.{CanPush, after_push};
-ghost use Rattle.solo.specs.LeastPlays.{ArePlayed, WritesLeastPlay, WritesPush};
+ghost use Rattle.solo.specs.inside.LeastPlays.{ArePlayed, WritesLeastPlay, WritesPush};
 
 use area::{Scratch, walk};
 use grid::{Letter, Level, Moves, Push, State};

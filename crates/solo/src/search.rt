@@ -1,16 +1,15 @@
-ghost use Rattle.std.specs.Prelude.{◌≡◌, ℕ, ◌+◌, ◌<◌, ◌≤◌, IfNone, IfOk, IfSome, MatchResult, [], length};
+ghost use Rattle.std.specs.Prelude.{◌≡◌, ℕ, ◌<◌, ◌≤◌, IfNone, IfOk, IfSome, MatchResult, [], length};
 ghost use Rattle.std.specs.Arc.{arc_value};
 ghost use Rattle.grid.specs.Lawful.{box_count};
 ghost use Rattle.grid.specs.declared.limits.TheConstants.{MAX_BOXES};
-ghost use Rattle.layers.specs.Books.{IsNew};
-ghost use Rattle.layers.specs.Reaching.{total};
-ghost use Rattle.solo.specs.Answers.{IsAnswer, SolveRefused};
-ghost use Rattle.solo.specs.Leads.{IsFirstSolved};
-ghost use Rattle.solo.specs.Turns.{AreKept, IsBetweenTurns, IsSameSearch, places_of};
+ghost use Rattle.layers.specs.Books.{IsNew, MayBegin};
+ghost use Rattle.layers.specs.Events.{AreMadeAlike};
+ghost use Rattle.solo.specs.Answers.{IsAnswer};
+ghost use Rattle.solo.specs.Refusals.{SolveRefused};
+ghost use Rattle.solo.specs.inside.Turns.{IsBetweenTurns, WorkAnswer};
 
 use crate::answer::{Answer, SolveFault};
-use crate::lead::{first_solved, moves_to};
-use crate::turn::{Worked, last_layer, work_through};
+use crate::turn::{Worked, begin, finish, last_layer, last_of, look};
 use area::Scratch;
 use doom::Dead;
 use grid::{Level, MAX_BOXES};
@@ -50,7 +49,20 @@ fn search(alloc: Global, level: &Arc<Level>, limit: u32) -> Result<Answer, Alloc
     all_turns(alloc, &mut book, &dead, &mut scratch)
 }
 
-// Looks at layer after layer until there is an answer. The only error is that memory was refused.
+// A book for all positions and one worker. The only error is that memory was refused.
+fn new_book(alloc: Global, level: &Arc<Level>, limit: u32) -> Result<Book, AllocError>
+    requires limit { 1 ≤ limit }
+    requires boxes { box_count (arc_value level.now) ≤ MAX_BOXES }
+    ensures { IfOk result (λ book. IsNew (arc_value level.now) limit 1 0 1 book) }
+{
+    match Book::of(alloc, Arc::try_clone(level)?, limit, 1, 0, 1) {
+        Ok(book) => Ok(book),
+        Err(BookFault::TooManyBoxes) => unreachable!(),
+        Err(BookFault::OutOfMemory) => Err(AllocError),
+    }
+}
+
+// Makes turn after turn until there is an answer. The only error is that memory was refused.
 fn all_turns(
     alloc: Global,
     book: &mut Book,
@@ -72,20 +84,7 @@ fn all_turns(
     }
 }
 
-// A book for all positions and one worker. The only error is that memory was refused.
-fn new_book(alloc: Global, level: &Arc<Level>, limit: u32) -> Result<Book, AllocError>
-    requires limit { 1 ≤ limit }
-    requires boxes { box_count (arc_value level.now) ≤ MAX_BOXES }
-    ensures { IfOk result (λ book. IsNew (arc_value level.now) limit 1 0 1 book) }
-{
-    match Book::of(alloc, Arc::try_clone(level)?, limit, 1, 0, 1) {
-        Ok(book) => Ok(book),
-        Err(BookFault::TooManyBoxes) => unreachable!(),
-        Err(BookFault::OutOfMemory) => Err(AllocError),
-    }
-}
-
-// Looks at the last layer that the book closed, and works through it where it gives no answer. The only error is that
+// Looks at the last layer that the book closed, and does its ranks where it gives no answer. The only error is that
 // memory was refused.
 fn turn(
     alloc: Global,
@@ -99,61 +98,36 @@ fn turn(
     requires dead_of_level { dead.now ≡ book.old.level }
     requires room { scratch.old.size ≡ length book.old.level.cells }
     ensures answer { IfOk result (λ found. IfSome found (λ answer. IsAnswer book.old.level book.old.limit answer)) }
-    ensures onward { IfOk result (λ found. IfNone found (IsSameSearch book.old book.new × IsBetweenTurns book.new layers.new.items positions.new × (positions.old < positions.new))) }
+    ensures onward { IfOk result (λ found. IfNone found (AreMadeAlike book.old book.new × IsBetweenTurns book.new layers.new.items positions.new × (positions.old < positions.new))) }
     ensures size { scratch.new.size ≡ scratch.old.size }
 {
     let layer = last_layer(alloc, book)?;
-    book.tell();
-    layer.tell();
-    *positions += layer.len();
-    if *positions > book.limit() as u64 {
-        return Ok(Some(Answer::Limit));
-    }
-    if let Some(rank) = first_solved(&layer) {
-        let answer = solved(alloc, layers, layer, rank, *positions, scratch)?;
+    let found = look(alloc, layers, positions, layer, book.limit(), scratch)?;
+    if let Some(answer) = found {
         return Ok(Some(answer));
     }
-    if layer.is_empty() {
-        return Ok(Some(Answer::Unsolvable {
-            positions: *positions,
-        }));
-    }
-    let worked = work_through(book, &layer, dead, scratch)?;
+    let worked = work(book, last_of(layers.as_slice()), dead, scratch)?;
     book.tell();
     match worked {
         Worked::Over => Ok(Some(Answer::Limit)),
-        Worked::Through => {
-            layers.push(layer)?;
-            Ok(None)
-        }
+        Worked::Through => Ok(None),
     }
 }
 
-// The answer where the position with a rank is the first solved one of the layer after those that were kept. The only
-// error is that memory was refused.
-fn solved(
-    alloc: Global,
-    layers: &mut Vec<Layer>,
-    layer: Layer,
-    rank: u64,
-    positions: u64,
+// Does all ranks of the last closed layer, as the one worker. The only error is that memory was refused.
+fn work(
+    book: &mut Book,
+    layer: &Layer,
+    dead: &Dead,
     scratch: &mut Scratch,
-) -> Result<Answer, AllocError>
-    requires kept { AreKept layer.level layers.old.items }
-    requires next { layer.number ≡ length layers.old.items }
-    requires first { IsFirstSolved layer.level layer.places rank }
-    requires count { positions ≡ total (places_of layers.old.items) + length layer.places }
-    requires room { scratch.old.size ≡ length layer.level.cells }
-    ensures answer { IfOk result (λ answer. (limit : ℕ) → positions ≤ limit → IsAnswer layer.level limit answer) }
+) -> Result<Worked, AllocError>
+    requires may { MayBegin book.old layer.now }
+    requires dead_of_level { dead.now ≡ layer.now.level }
+    requires room { scratch.old.size ≡ length layer.now.level.cells }
+    ensures worked { IfOk result (λ worked. WorkAnswer book.old worked book.new) }
     ensures size { scratch.new.size ≡ scratch.old.size }
 {
-    layer.tell();
-    let pushes = layer.number();
-    layers.push(layer)?;
-    let moves = moves_to(alloc, layers.as_slice(), rank, scratch)?;
-    Ok(Answer::Solved {
-        moves,
-        pushes,
-        positions,
-    })
+    book.tell();
+    begin(book, layer)?;
+    finish(book, layer, dead, scratch, 0)
 }

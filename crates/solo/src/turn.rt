@@ -1,8 +1,16 @@
-ghost use Rattle.std.specs.Prelude.{◌≡◌, ◌<◌, List, IfOk, MatchBool, OnOk, length};
+//! The turns of a search, for one worker and for several: each looks at the next layer, and where that gives no answer
+//! has its ranks done until the layer after it is closed. The only error is that memory was refused.
+ghost use Rattle.std.specs.Prelude.{◌≡◌, ◌+◌, ◌-◌, ◌<◌, ◌≤◌, ℕ, List, [], ◌∷◌, ◌++◌, Some, true, false, IfNone, IfOk, IfSome, MatchBool, OnErr, OnOk, length, slice_get};
 ghost use Rattle.layers.specs.BookView.{Closed};
-ghost use Rattle.layers.specs.Books.{AllDone, MayBegin, with_begun, with_closed, with_parcel};
-ghost use Rattle.solo.specs.Turns.{IsAtRest, IsLastOf, IsDue, IsOfRank, WorkAnswer, with_over};
+ghost use Rattle.layers.specs.Books.{AllDone, HasBegun, IsAtWork, MayBegin, with_begun, with_closed, with_parcel};
+ghost use Rattle.layers.specs.Reaching.{total};
+ghost use Rattle.solo.specs.Answers.{IsAnswer};
+ghost use Rattle.solo.specs.Leads.{IsFirstSolved};
+ghost use Rattle.solo.specs.inside.Searched.{AreKept, IsLookedAt, places_of};
+ghost use Rattle.solo.specs.inside.Turns.{IsLastOf, IsStillAt, WorkAnswer, with_over};
 
+use crate::answer::Answer;
+use crate::lead::{first_solved, moves_to};
 use area::Scratch;
 use doom::Dead;
 use layers::{
@@ -11,19 +19,101 @@ use layers::{
 use std::alloc::{AllocError, Global};
 use std::slice;
 
-// How working through a layer ended.
-pub(crate) enum Worked {
-    // Each rank is done, and the next layer is closed.
+/// How the last ranks of a layer ended.
+pub enum Worked {
+    /// Each rank is done, and the next layer is closed.
     Through,
-    // The book would hold more positions than its limit.
+    /// The book would hold more positions than its limit.
     Over,
 }
 
-// The last layer that the book closed. The only error is that memory was refused.
-pub(crate) fn last_layer(alloc: Global, book: &Book) -> Result<Layer, AllocError>
-    requires { IsAtRest book.now }
+/// Looks at the next layer of a level: the answer, if it gives one; otherwise the layer comes last of those that were
+/// looked at, and its positions are counted.
+///
+/// The layer is counted first. More positions than the limit are the answer `Limit`, a solved position is the answer
+/// `Solved`, and a layer without positions is the answer `Unsolvable`. An error leaves what was looked at as it was.
+pub fn look(
+    alloc: Global,
+    layers: &mut Vec<Layer>,
+    positions: &mut u64,
+    layer: Layer,
+    limit: u32,
+    scratch: &mut Scratch,
+) -> Result<Option<Answer>, AllocError>
+    requires looked { IsLookedAt layer.level limit layers.old.items positions.old }
+    requires next { layer.number ≡ length layers.old.items }
+    requires room { scratch.old.size ≡ length layer.level.cells }
+    ensures answer { IfOk result (λ found. IfSome found (λ answer. IsAnswer layer.level limit answer)) }
+    ensures kept { IfOk result (λ found. IfNone found (layers.new.items ≡ layers.old.items ++ layer ∷ [])) }
+    ensures looked { IfOk result (λ found. IfNone found (IsLookedAt layer.level limit layers.new.items positions.new)) }
+    ensures ranks { IfOk result (λ found. IfNone found ((0 < length layer.places) × (length layer.places ≤ limit))) }
+    ensures count { IfOk result (λ found. IfNone found (positions.new ≡ positions.old + length layer.places)) }
+    ensures err { OnErr result ((layers.new.items ≡ layers.old.items) × (positions.new ≡ positions.old)) }
+    ensures size { scratch.new.size ≡ scratch.old.size }
+{
+    layer.tell();
+    let count = *positions + layer.len();
+    if count > limit as u64 {
+        return Ok(Some(Answer::Limit));
+    }
+    if let Some(rank) = first_solved(&layer) {
+        let answer = solved(alloc, layers, layer, rank, count, scratch)?;
+        return Ok(Some(answer));
+    }
+    if layer.is_empty() {
+        return Ok(Some(Answer::Unsolvable { positions: count }));
+    }
+    layers.push(layer)?;
+    *positions = count;
+    Ok(None)
+}
+
+// The answer where the position with a rank is the first solved one of the layer after those that were looked at,
+// which stay as they were.
+fn solved(
+    alloc: Global,
+    layers: &mut Vec<Layer>,
+    layer: Layer,
+    rank: u64,
+    positions: u64,
+    scratch: &mut Scratch,
+) -> Result<Answer, AllocError>
+    requires kept { AreKept layer.level layers.old.items }
+    requires next { layer.number ≡ length layers.old.items }
+    requires first { IsFirstSolved layer.level layer.places rank }
+    requires count { positions ≡ total (places_of layers.old.items) + length layer.places }
+    requires room { scratch.old.size ≡ length layer.level.cells }
+    ensures answer { IfOk result (λ answer. (limit : ℕ) → positions ≤ limit → IsAnswer layer.level limit answer) }
+    ensures layers { layers.new.items ≡ layers.old.items }
+    ensures size { scratch.new.size ≡ scratch.old.size }
+{
+    layer.tell();
+    let pushes = layer.number();
+    layers.push(layer)?;
+    let found = moves_to(alloc, layers.as_slice(), rank, scratch);
+    let _ = layers.pop();
+    let moves = found?;
+    Ok(Answer::Solved {
+        moves,
+        pushes,
+        positions,
+    })
+}
+
+/// The layer that was looked at last.
+pub fn last_of(layers: &[Layer]) -> &Layer
+    requires { 0 < length layers.now }
+    ensures { slice_get layers.now (length layers.now - 1) ≡ Some result.now }
+{
+    &layers[layers.len() - 1]
+}
+
+/// The last layer that a book of all positions has closed.
+pub fn last_layer(alloc: Global, book: &Book) -> Result<Layer, AllocError>
+    requires { book.now.shares ≡ 1 }
     ensures { IfOk result (λ layer. IsLastOf book.now layer) }
 {
+    book.tell();
     match Layer::join(alloc, slice::from_ref(book)) {
         Ok(layer) => Ok(layer),
         Err(JoinFault::NotWhole) => unreachable!(),
@@ -31,58 +121,11 @@ pub(crate) fn last_layer(alloc: Global, book: &Book) -> Result<Layer, AllocError
     }
 }
 
-// Enters the successors of each position of the last closed layer, and closes the next layer. The only error is that
-// memory was refused.
-pub(crate) fn work_through(
-    book: &mut Book,
-    layer: &Layer,
-    dead: &Dead,
-    scratch: &mut Scratch,
-) -> Result<Worked, AllocError>
-    requires rest { IsAtRest book.old }
-    requires last { IsLastOf book.old layer.now }
-    requires dead_of_level { dead.now ≡ layer.now.level }
-    requires room { scratch.old.size ≡ length layer.now.level.cells }
-    requires some { 0 < length layer.now.places }
-    ensures book { IfOk result (λ worked. WorkAnswer book.old worked book.new) }
-    ensures size { scratch.new.size ≡ scratch.old.size }
-{
-    begin(book, layer)?;
-    let mut parcel = expand(layer, dead, 0, scratch);
-    for rank in 0..layer.len() {
-        refill(layer, dead, rank, scratch, &mut parcel);
-        if !enter(book, &parcel)? {
-            return Ok(Worked::Over);
-        }
-    }
-    close(book)?;
-    Ok(Worked::Through)
-}
-
-// Makes a parcel that of a rank, where it was that of rank 0 at first.
-fn refill<'a>(
-    layer: &'a Layer,
-    dead: &Dead,
-    rank: u64,
-    scratch: &mut Scratch,
-    parcel: &mut Parcel<'a>,
-)
-    requires within { rank < length layer.now.places }
-    requires dead_of_level { dead.now ≡ layer.now.level }
-    requires room { scratch.old.size ≡ length layer.now.level.cells }
-    requires first { rank ≡ 0 → IsOfRank layer.now 0 parcel.old }
-    ensures of { IsOfRank layer.now rank parcel.new }
-    ensures size { scratch.new.size ≡ scratch.old.size }
-{
-    if rank > 0 {
-        expand_into(layer, dead, rank, scratch, parcel);
-    }
-}
-
-// Opens the ranks of the last closed layer. The only error is that memory was refused.
-fn begin(book: &mut Book, layer: &Layer) -> Result<(), AllocError>
+/// Opens the ranks of the last closed layer. An error leaves the book as it was.
+pub fn begin(book: &mut Book, layer: &Layer) -> Result<(), AllocError>
     requires { MayBegin book.old layer.now }
-    ensures { OnOk result (book.new ≡ with_begun book.old (length layer.now.places)) }
+    ensures ok { OnOk result (book.new ≡ with_begun book.old (length layer.now.places)) }
+    ensures err { OnErr result (book.new ≡ book.old) }
 {
     match book.begin(layer) {
         Ok(()) => Ok(()),
@@ -91,13 +134,76 @@ fn begin(book: &mut Book, layer: &Layer) -> Result<(), AllocError>
     }
 }
 
-// Enters the successors of a rank; `false` where the book would hold more positions than its limit, and is over from
-// then on. The only error is that memory was refused.
-fn enter(book: &mut Book, parcel: &Parcel<'_>) -> Result<bool, AllocError>
-    requires { IsDue book.old parcel.now }
-    ensures { IfOk result (λ within. MatchBool within (book.new ≡ with_parcel book.old 0 parcel.now) (book.new ≡ with_over book.old)) }
+/// Does as one of the workers whatever is left of the last closed layer, whoever claimed it, and closes the next one;
+/// unless the book is over, or comes to be. After an error the book is still at work on that layer, perhaps with more of
+/// its ranks done.
+pub fn finish(
+    book: &mut Book,
+    layer: &Layer,
+    dead: &Dead,
+    scratch: &mut Scratch,
+    worker: u8,
+) -> Result<Worked, AllocError>
+    requires begun { HasBegun book.old layer.now }
+    requires worker { worker < book.old.workers }
+    requires dead_of_level { dead.now ≡ layer.now.level }
+    requires room { scratch.old.size ≡ length layer.now.level.cells }
+    ensures worked { IfOk result (λ worked. WorkAnswer book.old worked book.new) }
+    ensures err { OnErr result (IsStillAt book.old layer.now book.new) }
+    ensures size { scratch.new.size ≡ scratch.old.size }
 {
-    match book.hand_back(0, parcel) {
+    book.tell();
+    layer.tell();
+    book.reopen();
+    if !do_ranks(book, layer, dead, scratch, worker)? {
+        return Ok(Worked::Over);
+    }
+    close(book)?;
+    Ok(Worked::Through)
+}
+
+// Does each rank that is not done, where none is claimed by others; `false` where the book is over.
+fn do_ranks(
+    book: &mut Book,
+    layer: &Layer,
+    dead: &Dead,
+    scratch: &mut Scratch,
+    worker: u8,
+) -> Result<bool, AllocError>
+    requires still { IsStillAt book.old layer.now book.old }
+    requires reopened { book.old.claimed ≡ book.old.done }
+    requires worker { worker < book.old.workers }
+    requires dead_of_level { dead.now ≡ layer.now.level }
+    requires room { scratch.old.size ≡ length layer.now.level.cells }
+    ensures still { IsStillAt book.old layer.now book.new }
+    ensures done { IfOk result (λ within. MatchBool within (AllDone book.new) (book.new.over ≡ true)) }
+    ensures size { scratch.new.size ≡ scratch.old.size }
+{
+    let Some(first) = book.claim() else {
+        return Ok(true);
+    };
+    let mut parcel = expand(layer, dead, first.rank, scratch);
+    loop {
+        if !enter(book, worker, &parcel)? {
+            return Ok(false);
+        }
+        let Some(claim) = book.claim() else {
+            return Ok(true);
+        };
+        expand_into(layer, dead, claim.rank, scratch, &mut parcel);
+    }
+}
+
+// Enters the successors of a rank; `false` where the book would hold more positions than its limit, and is over from
+// then on.
+fn enter(book: &mut Book, worker: u8, parcel: &Parcel<'_>) -> Result<bool, AllocError>
+    requires work { IsAtWork book.old parcel.now }
+    requires free { slice_get book.old.done parcel.now.rank ≡ Some false }
+    requires worker { worker < book.old.workers }
+    ensures ok { IfOk result (λ within. MatchBool within (book.new ≡ with_parcel book.old worker parcel.now) (book.new ≡ with_over book.old)) }
+    ensures err { OnErr result (book.new ≡ book.old) }
+{
+    match book.hand_back(worker, parcel) {
         Ok(()) => Ok(true),
         Err(Refusal::Over) => Ok(false),
         Err(Refusal::OutOfMemory) => Err(AllocError),
@@ -105,10 +211,11 @@ fn enter(book: &mut Book, parcel: &Parcel<'_>) -> Result<bool, AllocError>
     }
 }
 
-// Closes the next layer, once each rank is done. The only error is that memory was refused.
+// Closes the next layer, once each rank is done.
 fn close(book: &mut Book) -> Result<(), AllocError>
     requires { AllDone book.old }
-    ensures { OnOk result ((es : List Closed) × (book.new ≡ with_closed book.old es)) }
+    ensures ok { OnOk result ((es : List Closed) × (book.new ≡ with_closed book.old es)) }
+    ensures err { OnErr result (book.new ≡ book.old) }
 {
     match book.close() {
         Ok(_) => Ok(()),

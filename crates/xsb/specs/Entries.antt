@@ -1,15 +1,8 @@
--- What the reader answers for a board that was found.
-use Rattle.std.specs.Prelude.{◌≡◌, Result, Ok, Err}
-use Rattle.grid.specs.Board.{Board}
-use Rattle.grid.specs.Lawful.{IsLevel, HasFault}
-use Rattle.grid.specs.declared.fault.LevelFault.{LevelFault}
+-- The entry that the reader makes of a board that was found.
+use Rattle.std.specs.Prelude.{◌≡◌}
 use Rattle.xsb.specs.declared.entry.Entry.{Entry}
 use Rattle.xsb.specs.Collection.{Found}
-
--- the board is a lawful level and that level is given, or it has the fault that is given
-abbrev pub IsJudged : Board → Result Board LevelFault → Type 0
-IsJudged board (Ok level) = (level ≡ board) × IsLevel level
-IsJudged board (Err fault) = HasFault board fault
+use Rattle.xsb.specs.Judged.{IsJudged}
 
 -- the entry of a board that was found
 pub record IsEntry (entry : Entry) (found : Found) : Type 0 where

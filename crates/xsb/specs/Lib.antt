@@ -1,10 +1,11 @@
+pub mod Bytes
 pub mod Lines
 pub mod Rows
 pub mod Boards
 pub mod Names
 pub mod Collection
 pub mod Entries
+pub mod Judged
 pub mod Written
-pub mod Reading
-pub mod Gaps
-pub mod Stretches
+pub mod Rereading
+pub mod inside

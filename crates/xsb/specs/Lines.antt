@@ -1,7 +1,7 @@
 -- How bytes are cut into lines.
 use Rattle.std.specs.Prelude.{ℕ, cond, ◌==◌, nat_eq, List, [], ◌∷◌, drop, map}
 use Rattle.std.specs.List.{slice_split, starts_with}
-use Rattle.xsb.specs.declared.bytes.TheConstants.{LINE_FEED, CARRIAGE_RETURN}
+use Rattle.xsb.specs.Bytes.{line_feed, carriage_return}
 
 -- the three bytes of a byte order mark are skipped at the beginning
 abbrev pub without_mark : List ℕ → List ℕ
@@ -24,4 +24,4 @@ without_last c (b ∷ next ∷ bytes) = b ∷ without_last c (next ∷ bytes)
 -- the lines: each ends at a line feed or at the end of the input, and one carriage return right before that is no
 -- part of it
 unfoldable pub lines_of_text : List ℕ → List (List ℕ)
-lines_of_text bytes = map (without_last CARRIAGE_RETURN) (without_last_empty (slice_split (λ b. b == LINE_FEED) (without_mark bytes)))
+lines_of_text bytes = map (without_last carriage_return) (without_last_empty (slice_split (λ b. b == line_feed) (without_mark bytes)))

@@ -2,7 +2,6 @@
 use Rattle.std.specs.Prelude.{ℕ, Bool, cond, ◌==◌, ◌||◌, nat_eq, List, [], ◌∷◌, length, drop, Option, Some, None, codes, unwrap_or}
 use Rattle.std.specs.List.{starts_with}
 use Rattle.std.specs.Option.{option_or}
-use Rattle.xsb.specs.declared.bytes.TheConstants.{SPACE, TAB}
 use Rattle.xsb.specs.Boards.{cut_end}
 
 -- the bytes after a prefix, where the bytes begin with it
@@ -32,10 +31,11 @@ abbrev pub cut_start : {A : Type 0} → (A → Bool) → List A → List A
 cut_start test [] = []
 cut_start test (x ∷ xs) = cond (test x) (cut_start test xs) (x ∷ xs)
 
--- spaces and tabs are cut off at both ends of a name
+-- the byte is a space or a tab
 abbrev pub is_blank : ℕ → Bool
-is_blank b = (b == SPACE) || (b == TAB)
+is_blank b = (b == 32) || (b == 9)
 
+-- spaces and tabs are cut off at both ends of a name
 abbrev pub trimmed : List ℕ → List ℕ
 trimmed bytes = cut_end is_blank (cut_start is_blank bytes)
 

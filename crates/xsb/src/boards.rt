@@ -1,9 +1,9 @@
 //! Boards: longest runs of row lines, and the levels that they make.
-ghost use Rattle.std.specs.Prelude.{◌≡◌, ◌≢◌, ◌≤◌, List, flat_map, MatchOption, MatchBool, IfOk};
+ghost use Rattle.std.specs.Prelude.{◌≡◌, ◌≢◌, List, MatchOption, MatchBool, IfOk};
 ghost use Rattle.grid.specs.declared.cell.Cell.{Cell};
-ghost use Rattle.xsb.specs.Boards.{board_of, cols_of, padded};
-ghost use Rattle.xsb.specs.Entries.{IsJudged};
-ghost use Rattle.xsb.specs.Stretches.{HasRows, ReadsBoard, ReadsNoBoard};
+ghost use Rattle.xsb.specs.Boards.{board_of};
+ghost use Rattle.xsb.specs.Judged.{IsJudged};
+ghost use Rattle.xsb.specs.inside.Stretches.{AreCellsOf, HasRows, ReadsBoard, ReadsNoBoard};
 
 use crate::lines::{Lines, cut_line};
 use crate::sizes::{Size, line_size, push_line};
@@ -53,7 +53,7 @@ pub(crate) fn read_board<'a>(lines: &mut Lines<'a>) -> Option<Stretch<'a>>
 impl Stretch<'_> {
     /// The cells of the board by rows, all rows as long as the longest.
     fn cells(&self, alloc: Global) -> Result<Vec<Cell>, AllocError>
-        ensures { (rows : List (List Cell)) → HasRows self.now rows → cols_of rows ≤ self.now.size.cols → IfOk result (λ cells. cells.items ≡ flat_map (padded self.now.size.cols) rows) }
+        ensures { IfOk result (λ cells. AreCellsOf self.now cells.items) }
     {
         let mut cells = Vec::new(alloc);
         let mut lines = self.lines.clone().unwrap();

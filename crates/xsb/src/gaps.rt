@@ -1,5 +1,5 @@
 //! Gaps: the text lines between two boards.
-ghost use Rattle.xsb.specs.Gaps.{ReadsGap};
+ghost use Rattle.xsb.specs.inside.Gaps.{ReadsGap};
 
 use crate::lines::Lines;
 use crate::names::Gap;

@@ -18,6 +18,7 @@ mod cells;
 mod entry;
 mod gaps;
 mod items;
+pub mod laws;
 mod limits;
 mod lines;
 mod names;
@@ -29,6 +30,6 @@ mod tests;
 mod writer;
 
 pub use entry::{Entry, ReadFault};
-pub use limits::{MAX_COUNT, MAX_COUNT_DIGITS, MAX_FILE};
-pub use reader::{one_collection, read};
+pub use limits::MAX_FILE;
+pub use reader::read;
 pub use writer::write;

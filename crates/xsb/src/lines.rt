@@ -1,9 +1,9 @@
 //! Lines of a collection.
-ghost use Rattle.std.specs.Prelude.{◌≡◌, ◌≤◌, ◌<◌, ◌+◌, [], ◌∷◌, List, ℕ, suc, length, drop, MatchOption};
+ghost use Rattle.std.specs.Prelude.{◌≡◌, ◌≤◌, ◌<◌, ◌+◌, [], length, drop, MatchOption};
 ghost use Rattle.bstr.specs.Text.{lines_of};
 ghost use Rattle.xsb.specs.declared.limits.TheConstants.{MAX_FILE};
 ghost use Rattle.xsb.specs.Lines.{lines_of_text, without_last, without_mark};
-ghost use Rattle.xsb.specs.Reading.{cut_line, cut_lines};
+ghost use Rattle.xsb.specs.inside.Reading.{ComesNext, cut_line, cut_lines};
 
 use crate::bytes::{CARRIAGE_RETURN, LINE_FEED};
 use crate::limits::MAX_FILE;
@@ -37,7 +37,7 @@ impl<'a> Lines<'a> {
 
     /// The next line, without what ends it.
     pub(crate) fn peek(&self) -> Option<&'a [u8]>
-        ensures { MatchOption result (self.now.rest ≡ []) (λ line. (raw : List ℕ) × (more : List (List ℕ)) × (self.now.rest ≡ raw ∷ more) × (line.now ≡ cut_line raw)) }
+        ensures { MatchOption result (self.now.rest ≡ []) (λ line. ComesNext self.now.rest line.now) }
     {
         let mut rest = self.rest.clone().unwrap();
         let raw = rest.next()?;

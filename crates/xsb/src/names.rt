@@ -1,7 +1,7 @@
 //! Names of boards, which stand in the gaps between them.
 ghost use Rattle.std.specs.Prelude.{◌≡◌, List, ℕ, option_copied, ◌∷◌, [], ◌++◌};
 ghost use Rattle.xsb.specs.Boards.{cut_end};
-ghost use Rattle.xsb.specs.Names.{after_prefix, trimmed, cut_start, is_blank, name_of};
+ghost use Rattle.xsb.specs.Names.{after_prefix, trimmed, cut_start, is_blank};
 
 use crate::bytes::{SPACE, TAB};
 
@@ -74,7 +74,7 @@ pub(crate) struct Gap<'a> {
 }
 
 impl<'a> Gap<'a> {
-    ghost use Rattle.xsb.specs.Gaps.{IsGap};
+    ghost use Rattle.xsb.specs.inside.Gaps.{IsGap, IsNameBetween};
 
     /// A gap without a line.
     pub(crate) fn new() -> Gap<'a>
@@ -98,7 +98,7 @@ impl<'a> Gap<'a> {
 
     /// The name of a board between this gap and the one after it.
     pub(crate) fn name_with(&self, after: &Gap<'a>) -> &'a [u8]
-        ensures { (before_lines after_lines : List (List ℕ)) → IsGap self.now before_lines → IsGap after.now after_lines → result.now ≡ name_of before_lines after_lines }
+        ensures { IsNameBetween self.now after.now result.now }
     {
         trim(self.comment.or(after.title).unwrap_or(&[]))
     }

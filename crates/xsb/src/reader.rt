@@ -20,10 +20,7 @@ pub fn read(alloc: Global, bytes: &[u8]) -> Result<Vec<Entry>, ReadFault>
     if bytes.len() > MAX_FILE {
         return Err(ReadFault::TooLong);
     }
-    match read_all(alloc, bytes) {
-        Ok(entries) => Ok(entries),
-        Err(AllocError) => Err(ReadFault::OutOfMemory),
-    }
+    Ok(read_all(alloc, bytes)?)
 }
 
 /// The boards of a collection that is not too long.
@@ -50,9 +47,3 @@ fn read_all(alloc: Global, bytes: &[u8]) -> Result<Vec<Entry>, AllocError>
     }
     Ok(entries)
 }
-
-/// The bytes of a collection are related to one list of boards, and to no other.
-pub fn one_collection()
-    ensures some { (bytes : List ℕ) → (founds : List Found) × IsCollection bytes founds }
-    ensures one { (bytes : List ℕ) (founds others : List Found) → IsCollection bytes founds → IsCollection bytes others → founds ≡ others }
-{}

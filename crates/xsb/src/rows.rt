@@ -3,7 +3,7 @@ ghost use Rattle.std.specs.Prelude.{◌≡◌, ◌≤◌, ◌++◌, length, List
 ghost use Rattle.grid.specs.declared.cell.Cell.{Cell};
 ghost use Rattle.xsb.specs.Rows.{IsRow};
 ghost use Rattle.xsb.specs.Boards.{cut_row, padded};
-ghost use Rattle.xsb.specs.Reading.{capped};
+ghost use Rattle.xsb.specs.inside.Reading.{IsNoRow, IsRowOfLength};
 
 use crate::cells::is_floor;
 use crate::items::first_item;
@@ -12,7 +12,7 @@ use std::alloc::AllocError;
 
 /// The length of the row that a piece is, without the floor at its end. `None` where it is no row.
 pub(crate) fn row_length(piece: &[u8]) -> Option<usize>
-    ensures { MatchOption result ((row : List Cell) → ¬ (IsRow piece.now row)) (λ n. (row : List Cell) × IsRow piece.now row × (n ≡ capped (length (cut_row row)))) }
+    ensures { MatchOption result (IsNoRow piece.now) (λ n. IsRowOfLength piece.now n) }
 {
     let mut rest = piece;
     let mut length: usize = 0;

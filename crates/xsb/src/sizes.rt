@@ -1,9 +1,8 @@
 //! Row lines, and the rows in them.
-ghost use Rattle.std.specs.Prelude.{◌≡◌, ◌≤◌, ◌++◌, length, List, MatchOption, OnOk, flat_map};
+ghost use Rattle.std.specs.Prelude.{◌++◌, List, MatchOption, OnOk};
 ghost use Rattle.grid.specs.declared.cell.Cell.{Cell};
 ghost use Rattle.xsb.specs.Rows.{IsRowLine, IsTextLine};
-ghost use Rattle.xsb.specs.Boards.{cols_of, padded};
-ghost use Rattle.xsb.specs.Reading.{IsSize};
+ghost use Rattle.xsb.specs.inside.Reading.{IsSize, AppendsRows};
 
 use crate::bytes::{BAR, WALL};
 use crate::rows::{push_row, row_length};
@@ -18,7 +17,7 @@ pub(crate) struct Size {
 }
 
 impl Size {
-    ghost use Rattle.xsb.specs.Reading.{IsSize};
+    ghost use Rattle.xsb.specs.inside.Reading.{IsSize};
 
     /// The size of these rows and more.
     pub(crate) fn with(self, more: Size) -> Size
@@ -54,7 +53,7 @@ pub(crate) fn line_size(line: &[u8]) -> Option<Size>
 /// Appends the cells of the rows of a row line, each with floor on the right up to a number of columns that is no less
 /// than the length of any of them.
 pub(crate) fn push_line(line: &[u8], cols: usize, cells: &mut Vec<Cell>) -> Result<(), AllocError>
-    ensures { (rows : List (List Cell)) → IsRowLine line.now rows → cols_of rows ≤ cols → OnOk result (cells.new.items ≡ cells.old.items ++ flat_map (padded cols) rows) }
+    ensures { OnOk result (AppendsRows line.now cols cells.old.items cells.new.items) }
 {
     for piece in line.split(|byte| *byte == BAR) {
         if !piece.is_empty() {

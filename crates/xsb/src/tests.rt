@@ -1,6 +1,7 @@
 use crate::{Entry, read, write};
-use grid::LevelFault;
+use grid::{Level, LevelFault, Square};
 use std::alloc::Global;
+use std::process::Abort;
 use std::test::Fail;
 
 // The rows, columns and boxes of a level, or its fault.
@@ -160,4 +161,64 @@ fn levels_are_written(rt: HostRuntime) -> Result<(), Fail> {
     write(&level, &mut out)?;
     assert_eq!(rt; out.as_slice(), b">#####\n#@$.#\n#####\n".as_slice());
     Ok(())
+}
+
+// The level of a collection of one board.
+fn level_of(rt: &impl Abort, alloc: Global, text: &[u8]) -> Level {
+    let mut entries = read(alloc, text).expect(rt, "a collection");
+    let entry = entries.pop().expect(rt, "a board");
+    entry.board.expect(rt, "a level")
+}
+
+// What stands on a square: a wall, a box, a goal.
+fn stands(level: &Level, place: u16) -> [bool; 3] {
+    let square = Square(place);
+    [
+        level.is_wall(square),
+        level.has_box(square),
+        level.is_goal(square),
+    ]
+}
+
+// Checks the cells of the row `#@ $.-_*#` after a row of nine walls.
+fn has_each_cell(rt: &impl Abort, level: &Level) {
+    assert_eq!(rt; level.player(), Square(10));
+    assert_eq!(rt; stands(level, 9), [true, false, false]);
+    assert_eq!(rt; stands(level, 10), [false, false, false]);
+    assert_eq!(rt; stands(level, 11), [false, false, false]);
+    assert_eq!(rt; stands(level, 12), [false, true, false]);
+    assert_eq!(rt; stands(level, 13), [false, false, true]);
+    assert_eq!(rt; stands(level, 14), [false, false, false]);
+    assert_eq!(rt; stands(level, 15), [false, false, false]);
+    assert_eq!(rt; stands(level, 16), [false, true, true]);
+}
+
+#[test]
+fn each_cell_byte(rt: HostRuntime) {
+    let level = level_of(&rt, rt.alloc(), b"#########\n#@ $.-_*#\n#########");
+    has_each_cell(&rt, &level);
+}
+
+#[test]
+fn player_on_a_goal(rt: HostRuntime) {
+    let level = level_of(&rt, rt.alloc(), b"#####\n#+$ #\n#####");
+    assert_eq!(rt; level.player(), Square(6));
+    assert_eq!(rt; stands(&level, 6), [false, false, true]);
+}
+
+#[test]
+fn an_equals_sign_is_text(rt: HostRuntime) {
+    let boards = read(rt.alloc(), b"#####\n#@$.=\n#####").expect(&rt, "a collection");
+    assert_eq!(rt; boards.len(), 2);
+}
+
+#[test]
+fn each_cell_is_written(rt: HostRuntime) {
+    let level = level_of(&rt, rt.alloc(), b"#########\n#@ $.-_*#\n#########");
+    let mut out = Vec::new(rt.alloc());
+    write(&level, &mut out).expect(&rt, "memory");
+    assert_eq!(rt;
+        out.as_slice(),
+        b"#########\n#@ $.  *#\n#########\n".as_slice()
+    );
 }

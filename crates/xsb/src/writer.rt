@@ -3,7 +3,8 @@ ghost use Rattle.bstr.specs.Text.{Extends};
 ghost use Rattle.grid.specs.Lawful.{IsLevel};
 ghost use Rattle.xsb.specs.Boards.{cut_row};
 ghost use Rattle.xsb.specs.Collection.{IsCollection};
-ghost use Rattle.xsb.specs.Written.{cell_with, written, written_row, HasWallInEachRow, HasFullRow};
+ghost use Rattle.xsb.specs.Rereading.{cell_with, HasWallInEachRow, HasFullRow};
+ghost use Rattle.xsb.specs.Written.{written, written_row};
 
 use crate::bytes::LINE_FEED;
 use crate::cells::{byte_of, is_floor};

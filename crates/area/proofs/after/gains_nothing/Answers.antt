@@ -1,7 +1,7 @@
 use Rattle.std.proofs.Common.{refl, inl, inr, subst, ap, ◌∙◌}
 use Rattle.grid.specs.declared.dir.Dir.{Dir}
 use Rattle.grid.specs.Board.{next, opposite}
-use Rattle.area.specs.After.{IsKnown}
+use Rattle.area.specs.inside.Detours.{IsKnown}
 use Rattle.area.proofs.Detours.{all_round}
 use Rattle.area.proofs.after.gains_nothing.Goals as goal
 

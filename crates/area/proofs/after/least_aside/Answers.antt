@@ -1,6 +1,6 @@
 use Rattle.std.proofs.Common.{length, drop, ◌∙◌, arith}
-use Rattle.area.proofs.Flooding.{words_few, area_seen, norm_of_least}
-use Rattle.area.proofs.Norms.{area_here}
+use Rattle.area.proofs.lemmas.Flooding.{words_few, area_seen, norm_of_least}
+use Rattle.area.proofs.lemmas.Norms.{area_here}
 use Rattle.area.proofs.Seams.{written}
 use Rattle.area.proofs.after.least_aside.Goals as goal
 

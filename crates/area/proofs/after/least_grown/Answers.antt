@@ -1,9 +1,9 @@
 use Rattle.std.proofs.Common.{length, drop, ap, ◌∙◌, arith}
 use Rattle.area.specs.Reach.{Reach}
-use Rattle.area.proofs.Flooding.{words_few, area_seen, norm_of_least}
-use Rattle.area.proofs.Norms.{area_here}
+use Rattle.area.proofs.lemmas.Flooding.{words_few, area_seen, norm_of_least}
+use Rattle.area.proofs.lemmas.Norms.{area_here}
 use Rattle.area.proofs.Seams.{written}
-use Rattle.area.proofs.WordSets.{listed}
+use Rattle.area.proofs.lemmas.WordSets.{listed}
 use Rattle.area.proofs.after.least_grown.Goals as goal
 
 pub least_of-requires-clause-some : goal.least_of-requires-clause-some

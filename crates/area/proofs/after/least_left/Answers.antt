@@ -1,6 +1,6 @@
 use Rattle.std.proofs.Common.{◌≡◌, ℕ, List, length, drop, ap, sym, ◌∙◌, arith}
 use Rattle.grid.specs.Masks.{has_bit}
-use Rattle.area.proofs.Flooding.{words_few, norm_of_part}
+use Rattle.area.proofs.lemmas.Flooding.{words_few, norm_of_part}
 use Rattle.area.proofs.Seams.{written}
 use Rattle.area.proofs.after.least_left.Goals as goal
 

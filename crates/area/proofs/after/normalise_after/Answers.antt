@@ -1,10 +1,10 @@
 use Rattle.std.proofs.Common.{ℕ, ◌<◌, length, refl, sym, ap, subst, ◌∙◌}
 use Rattle.grid.specs.Board.{Scene, next}
-use Rattle.grid.proofs.Steps.{inside_grid}
+use Rattle.grid.proofs.lemmas.Steps.{inside_grid}
 use Rattle.area.specs.Area.{IsNorm, at}
-use Rattle.area.specs.After.{StaysJoined, IsLeastWith}
+use Rattle.area.specs.inside.Detours.{StaysJoined, IsLeastWith}
 use Rattle.area.proofs.Detours.{still_reached, none_below, norm_after}
-use Rattle.area.proofs.Norms.{norm_fits}
+use Rattle.area.proofs.lemmas.Norms.{norm_fits}
 use Rattle.area.proofs.Reached.{walk_free}
 use Rattle.area.proofs.after.normalise_after.Goals as goal
 use Rattle.area.proofs.after.normalise_after.Goals.{then-gains_nothing+then-joined, then-gains_nothing+else-joined, else-gains_nothing+then-joined-2, else-gains_nothing+else-joined-2}

@@ -1,7 +1,7 @@
 use Rattle.std.proofs.Common.{ℕ, ◌-◌, ◌+◌, ◌/◌, ◌%◌, sym, ap, ◌∙◌, arith}
 use Rattle.grid.specs.Masks.{has_bit}
 use Rattle.area.specs.Words.{word_bit}
-use Rattle.area.proofs.WordBits.{has_bit-at, seen_before}
+use Rattle.area.proofs.lemmas.WordBits.{has_bit-at, seen_before}
 use Rattle.area.proofs.bits.before.Goals as goal
 
 pub returns : goal.returns

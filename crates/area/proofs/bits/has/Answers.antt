@@ -3,7 +3,7 @@ use Rattle.std.proofs.lemmas.Bool.{le-ltb}
 use Rattle.std.proofs.lemmas.List.{get_or_past}
 use Rattle.grid.specs.Masks.{has_bit}
 use Rattle.area.specs.Words.{word_bit}
-use Rattle.area.proofs.WordBits.{has_bit-parts, word_bit-zero, word_bit_tested}
+use Rattle.area.proofs.lemmas.WordBits.{has_bit-parts, word_bit-zero, word_bit_tested}
 use Rattle.area.proofs.bits.has.Goals as goal
 
 pub returns-then-place-words : goal.returns-then-place-words

@@ -1,5 +1,5 @@
 use Rattle.std.proofs.Common.{◌<◌, ◌≤◌, rules, tests, refl, arith}
-use Rattle.area.proofs.WordSets.{below_word, least_rest, least_none}
+use Rattle.area.proofs.lemmas.WordSets.{below_word, least_rest, least_none}
 use Rattle.area.proofs.bits.least_but.Goals as goal
 
 pub returns-then-lt : goal.returns-then-lt

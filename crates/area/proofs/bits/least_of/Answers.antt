@@ -1,4 +1,4 @@
-use Rattle.area.proofs.WordSets.{least_word, none_there}
+use Rattle.area.proofs.lemmas.WordSets.{least_word, none_there}
 use Rattle.std.proofs.Common.{arith}
 use Rattle.area.proofs.bits.least_of.Goals as goal
 

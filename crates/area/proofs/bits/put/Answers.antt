@@ -1,5 +1,5 @@
 use Rattle.std.proofs.Common.{arith}
-use Rattle.area.proofs.WordSets.{bit_put}
+use Rattle.area.proofs.lemmas.WordSets.{bit_put}
 use Rattle.area.proofs.bits.put.Goals as goal
 
 pub returns : goal.returns

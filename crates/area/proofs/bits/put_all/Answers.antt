@@ -1,7 +1,7 @@
 use Rattle.std.proofs.Common.{rules, arith}
 use Rattle.std.proofs.lemmas.List.{get_or_read}
-use Rattle.grid.proofs.Squares.{contains-get_or}
-use Rattle.area.proofs.WordSets.{none_set}
+use Rattle.grid.proofs.lemmas.Squares.{contains-get_or}
+use Rattle.area.proofs.lemmas.WordSets.{none_set}
 use Rattle.area.proofs.bits.put_all.Goals as goal
 
 pub loop-square-init : goal.loop-square-init

@@ -1,5 +1,5 @@
 use Rattle.std.proofs.Common.{arith}
-use Rattle.area.proofs.WordBits.{down_here, down_high}
+use Rattle.area.proofs.lemmas.WordBits.{down_here, down_high}
 use Rattle.area.proofs.bits.slid_down.Goals as goal
 
 pub returns-clause-here : goal.returns-clause-here

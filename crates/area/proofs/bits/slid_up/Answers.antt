@@ -1,5 +1,5 @@
 use Rattle.std.proofs.Common.{arith}
-use Rattle.area.proofs.WordBits.{up_here, up_low}
+use Rattle.area.proofs.lemmas.WordBits.{up_here, up_low}
 use Rattle.area.proofs.bits.slid_up.Goals as goal
 
 pub returns-clause-here : goal.returns-clause-here

@@ -1,5 +1,5 @@
 use Rattle.std.proofs.Common.{arith}
-use Rattle.area.proofs.WordSets.{bit_take}
+use Rattle.area.proofs.lemmas.WordSets.{bit_take}
 use Rattle.area.proofs.bits.take_out.Goals as goal
 
 pub returns : goal.returns

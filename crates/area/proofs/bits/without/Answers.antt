@@ -1,4 +1,4 @@
-use Rattle.area.proofs.WordSets.{bit_without}
+use Rattle.area.proofs.lemmas.WordSets.{bit_without}
 use Rattle.area.proofs.bits.without.Goals as goal
 
 pub returns-then-place-square : goal.returns-then-place-square

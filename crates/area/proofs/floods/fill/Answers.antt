@@ -1,6 +1,6 @@
 use Rattle.std.proofs.Common.{◌≤◌, ◌<◌, ◌^◌, bit_or, arith}
 use Rattle.std.proofs.lemmas.Nat.{or_lt}
-use Rattle.area.proofs.Growing.{round_grown}
+use Rattle.area.proofs.lemmas.Growing.{round_grown}
 use Rattle.area.proofs.floods.fill.Goals as goal
 
 pub loop-word-smaller : goal.loop-word-smaller

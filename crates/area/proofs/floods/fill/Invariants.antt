@@ -1,5 +1,5 @@
 use Rattle.std.proofs.Common.{◌-◌, ◌^◌}
-use Rattle.area.specs.Words.{PassesOn, IsGrown}
+use Rattle.area.specs.inside.Flooding.{PassesOn, IsGrown}
 use Rattle.area.proofs.floods.fill.Given as goal
 
 abbrev pub invariant-loop-word : goal.invariant-loop-word

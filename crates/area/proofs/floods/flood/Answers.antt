@@ -1,5 +1,5 @@
 use Rattle.std.proofs.Common.{length, drop, arith}
-use Rattle.area.proofs.Flooding.{listed_area, listed_boxes}
+use Rattle.area.proofs.lemmas.Flooding.{listed_area, listed_boxes}
 use Rattle.area.proofs.Seams.{written}
 use Rattle.area.proofs.floods.flood.Goals as goal
 

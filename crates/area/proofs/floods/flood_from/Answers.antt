@@ -1,8 +1,8 @@
 use Rattle.std.proofs.Common.{◌≡◌, ℕ, true, length, inl, inr, ap, subst, ◌∙◌, arith}
 use Rattle.grid.specs.Masks.{has_bit, word_count}
 use Rattle.grid.specs.Squares.{Squares, contains}
-use Rattle.grid.proofs.Steps.{inside_grid}
-use Rattle.area.proofs.Flooding.{words_enough, flood_inside, flood_whole}
+use Rattle.grid.proofs.lemmas.Steps.{inside_grid}
+use Rattle.area.proofs.lemmas.Flooding.{words_enough, flood_inside, flood_whole}
 use Rattle.area.proofs.floods.flood_from.Goals as goal
 
 pub put_all-requires : goal.put_all-requires
@@ -13,7 +13,7 @@ pub returns-clause-begun : goal.returns-clause-begun
 returns-clause-begun c = c.grow.ensures.growing.kept _ c.requires.begun
 
 pub returns-clause-within : goal.returns-clause-within
-returns-clause-within c = flood_inside c.args.level.now c.args.position.now c.put_all.new.words c.args.reached.now c.grow.new.reached c.requires.fits.scene stand c.requires.begun c.requires.within c.grow.ensures.growing
+returns-clause-within c = flood_inside c.args.level.now c.args.position.now c.put_all.new.words c.args.reached.now c.grow.new.reached c.requires.fits.scene (λ x clear. stand x) c.requires.begun c.requires.within c.grow.ensures.growing
   where
     stand : (x : ℕ) → has_bit c.put_all.new.words x ≡ contains c.args.position.now.boxes x
     stand x = c.put_all.ensures x ∙ ap (λ (b : Squares). contains b x) c.boxes.ensures.squares
@@ -21,7 +21,7 @@ returns-clause-within c = flood_inside c.args.level.now c.args.position.now c.pu
 pub returns-clause-whole : goal.returns-clause-whole
 returns-clause-whole c = elim c.grow.ensures.ended [
   | inl there ↦ inl there
-  | inr found ↦ inr (flood_whole c.args.level.now c.args.position.now c.put_all.new.words c.args.reached.now c.grow.new.reached c.requires.fits.scene stand c.requires.begun c.requires.within c.grow.ensures.growing size found)
+  | inr found ↦ inr (flood_whole c.args.level.now c.args.position.now c.put_all.new.words c.args.reached.now c.grow.new.reached c.requires.fits.scene (λ x clear. stand x) c.requires.begun c.requires.within c.grow.ensures.growing size found)
 ]
   where
     stand : (x : ℕ) → has_bit c.put_all.new.words x ≡ contains c.args.position.now.boxes x

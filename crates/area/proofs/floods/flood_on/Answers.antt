@@ -2,10 +2,10 @@ use Rattle.std.proofs.Common.{◌≡◌, ◌≢◌, ℕ, true, not, eqb, length,
 use Rattle.std.proofs.lemmas.Bool.{or_cases, and_parts, eqb-true, eq-eqb, true≢false}
 use Rattle.grid.specs.Board.{is_wall}
 use Rattle.grid.specs.Masks.{has_bit}
-use Rattle.grid.proofs.Steps.{inside_grid}
+use Rattle.grid.proofs.lemmas.Steps.{inside_grid}
 use Rattle.area.specs.Area.{Area}
-use Rattle.area.proofs.Flooding.{words_enough, whole_area}
-use Rattle.area.proofs.Norms.{area_here}
+use Rattle.area.proofs.lemmas.Flooding.{words_enough, whole_area}
+use Rattle.area.proofs.lemmas.Norms.{area_here}
 use Rattle.area.proofs.floods.flood_on.Goals as goal
 
 pub take_out-requires : goal.take_out-requires

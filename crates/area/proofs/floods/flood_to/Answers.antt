@@ -2,9 +2,9 @@ use Rattle.std.proofs.Common.{◌≡◌, ℕ, ◌||◌, Bool, eqb, length, rules
 use Rattle.std.proofs.lemmas.Bool.{eq-eqb}
 use Rattle.grid.specs.Board.{is_wall}
 use Rattle.grid.specs.Masks.{has_bit}
-use Rattle.grid.proofs.Steps.{inside_grid}
-use Rattle.area.proofs.Flooding.{words_enough, player_alone}
-use Rattle.area.proofs.WordSets.{none_set}
+use Rattle.grid.proofs.lemmas.Steps.{inside_grid}
+use Rattle.area.proofs.lemmas.Flooding.{words_enough, player_alone}
+use Rattle.area.proofs.lemmas.WordSets.{none_set}
 use Rattle.area.proofs.floods.flood_to.Goals as goal
 
 pub put-requires : goal.put-requires

@@ -1,4 +1,4 @@
-use Rattle.area.proofs.Flooding.{whole_area}
+use Rattle.area.proofs.lemmas.Flooding.{whole_area}
 use Rattle.area.proofs.floods.flood_words.Goals as goal
 
 pub returns-clause-reached : goal.returns-clause-reached

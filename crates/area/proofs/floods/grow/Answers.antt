@@ -1,5 +1,5 @@
 use Rattle.std.proofs.Common.{◌≡◌, ℕ, ◌+◌, ◌-◌, ◌/◌, inr, sym, subst, arith}
-use Rattle.area.specs.Words.{IsFlooding}
+use Rattle.area.specs.inside.Flooding.{IsFlooding}
 use Rattle.area.proofs.Visiting.{growing_then, flooding_on, flooding_back, flooded}
 use Rattle.area.proofs.floods.grow.Goals as goal
 

@@ -1,5 +1,5 @@
 use Rattle.std.proofs.Common.{◌+◌, ◌-◌, ◌*◌, ◌≤◌, length}
-use Rattle.area.specs.Words.{IsFlooding, room_left}
+use Rattle.area.specs.inside.Flooding.{IsFlooding, room_left}
 use Rattle.area.proofs.floods.grow.Given as goal
 
 abbrev pub invariant-loop-place : goal.invariant-loop-place

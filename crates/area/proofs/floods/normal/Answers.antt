@@ -1,7 +1,7 @@
 use Rattle.std.proofs.Common.{ap, ◌∙◌}
 use Rattle.grid.specs.Board.{Scene}
 use Rattle.area.specs.Area.{at}
-use Rattle.area.proofs.Norms.{area_here, norm_found, norm_fits}
+use Rattle.area.proofs.lemmas.Norms.{area_here, norm_found, norm_fits}
 use Rattle.area.proofs.floods.normal.Goals as goal
 
 pub least-requires : goal.least-requires

@@ -1,4 +1,4 @@
-use Rattle.area.proofs.Growing.{run_grown_down}
+use Rattle.area.proofs.lemmas.Growing.{run_grown_down}
 use Rattle.area.proofs.floods.run_down.Goals as goal
 
 pub returns : goal.returns

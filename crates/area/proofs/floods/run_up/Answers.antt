@@ -1,5 +1,5 @@
 use Rattle.std.proofs.Common.{arith}
-use Rattle.area.proofs.Growing.{run_grown_up}
+use Rattle.area.proofs.lemmas.Growing.{run_grown_up}
 use Rattle.area.proofs.floods.run_up.Goals as goal
 
 pub returns : goal.returns

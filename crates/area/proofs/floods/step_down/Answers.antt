@@ -1,4 +1,4 @@
-use Rattle.area.proofs.Growing.{grown_down}
+use Rattle.area.proofs.lemmas.Growing.{grown_down}
 use Rattle.area.proofs.floods.step_down.Goals as goal
 
 pub returns-then-by-lt-WORD_BITS : goal.returns-then-by-lt-WORD_BITS

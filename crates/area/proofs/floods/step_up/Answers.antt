@@ -1,5 +1,5 @@
 use Rattle.std.proofs.Common.{arith}
-use Rattle.area.proofs.Growing.{grown_up}
+use Rattle.area.proofs.lemmas.Growing.{grown_up}
 use Rattle.area.proofs.floods.step_up.Goals as goal
 
 pub returns-then-by-lt-WORD_BITS : goal.returns-then-by-lt-WORD_BITS

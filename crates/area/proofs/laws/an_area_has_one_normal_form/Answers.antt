@@ -1,4 +1,4 @@
-use Rattle.area.proofs.Norms.{norm_along_walk, norm_shared}
+use Rattle.area.proofs.lemmas.Norms.{norm_along_walk, norm_shared}
 use Rattle.area.proofs.laws.an_area_has_one_normal_form.Goals as goal
 
 pub returns-clause-same : goal.returns-clause-same

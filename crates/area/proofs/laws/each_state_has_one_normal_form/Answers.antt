@@ -1,4 +1,4 @@
-use Rattle.area.proofs.Norms.{norm_exists, norm_unique}
+use Rattle.area.proofs.lemmas.Norms.{norm_exists, norm_unique}
 use Rattle.area.proofs.laws.each_state_has_one_normal_form.Goals as goal
 
 pub returns-clause-some : goal.returns-clause-some

@@ -1,6 +1,6 @@
 use Rattle.std.proofs.Common.{◌≡◌, true}
 use Rattle.grid.specs.Squares.{Squares}
-use Rattle.grid.proofs.Plays.{walk_of_boxes}
+use Rattle.grid.proofs.lemmas.Plays.{walk_of_boxes}
 use Rattle.area.proofs.laws.what_boxes_decide_lasts.Goals as goal
 
 pub returns : goal.returns

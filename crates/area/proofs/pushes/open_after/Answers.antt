@@ -1,6 +1,6 @@
 use Rattle.std.proofs.Common.{◌/◌, ◌%◌, arith}
-use Rattle.area.specs.Pushable.{is_open}
-use Rattle.area.proofs.WordBits.{seen_after}
+use Rattle.area.specs.inside.PushWords.{is_open}
+use Rattle.area.proofs.lemmas.WordBits.{seen_after}
 use Rattle.area.proofs.pushes.open_after.Goals as goal
 
 pub returns : goal.returns

@@ -1,5 +1,5 @@
 use Rattle.std.proofs.Common.{refl, arith}
-use Rattle.area.proofs.Pushing.{open_bits, open_none}
+use Rattle.area.proofs.lemmas.Pushing.{open_bits, open_none}
 use Rattle.area.proofs.pushes.open_at.Goals as goal
 
 pub returns-then-place-masks : goal.returns-then-place-masks

@@ -1,6 +1,6 @@
 use Rattle.std.proofs.Common.{◌/◌, ◌%◌, false, arith}
-use Rattle.area.specs.Pushable.{is_open}
-use Rattle.area.proofs.WordBits.{seen_before, none_before}
+use Rattle.area.specs.inside.PushWords.{is_open}
+use Rattle.area.proofs.lemmas.WordBits.{seen_before, none_before}
 use Rattle.area.proofs.pushes.open_before.Goals as goal
 
 pub returns-clause-there : goal.returns-clause-there

@@ -5,10 +5,11 @@ use Rattle.area.specs.declared.pushes.PushMasks.{PushMasks}
 use Rattle.grid.specs.Masks.{has_bit}
 use Rattle.grid.specs.Squares.{contains}
 use Rattle.area.specs.Reach.{Reach}
-use Rattle.area.specs.Pushable.{IsPushable, can_push, push_word}
+use Rattle.area.specs.Pushable.{IsPushable, push_word}
+use Rattle.area.specs.inside.PushWords.{can_push}
 use Rattle.area.specs.Words.{word_bit}
-use Rattle.area.proofs.Pushing.{on_down, on_right, back_left, back_up, pushable_bit, none_pushable, each_way}
-use Rattle.area.proofs.WordSets.{listed}
+use Rattle.area.proofs.lemmas.Pushing.{on_down, on_right, back_left, back_up, pushable_bit, none_pushable, each_way}
+use Rattle.area.proofs.lemmas.WordSets.{listed}
 use Rattle.area.proofs.pushes.pushable.Goals as goal
 
 pub returns : goal.returns

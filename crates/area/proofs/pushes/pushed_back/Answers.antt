@@ -1,6 +1,6 @@
 use Rattle.std.proofs.Common.{◌+◌, ◌*◌}
 use Rattle.grid.specs.Board.{next, opposite}
-use Rattle.area.proofs.Pushing.{push_bits, ahead_behind}
+use Rattle.area.proofs.lemmas.Pushing.{push_bits, ahead_behind}
 use Rattle.area.proofs.pushes.pushed_back.Goals as goal
 
 pub returns : goal.returns

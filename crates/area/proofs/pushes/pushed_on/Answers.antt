@@ -1,6 +1,6 @@
 use Rattle.std.proofs.Common.{◌+◌, ◌*◌, refl}
 use Rattle.grid.specs.Board.{next, opposite}
-use Rattle.area.proofs.Pushing.{push_bits, ahead_on}
+use Rattle.area.proofs.lemmas.Pushing.{push_bits, ahead_on}
 use Rattle.area.proofs.pushes.pushed_on.Goals as goal
 
 pub returns : goal.returns

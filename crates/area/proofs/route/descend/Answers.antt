@@ -1,6 +1,6 @@
 use Rattle.std.proofs.Common.{◌≡◌, ◌≢◌, ℕ, get_or, sym, subst, ◌∙◌, arith}
 use Rattle.std.proofs.lemmas.Bool.{eqb-true, eqb-false, not-true, not-false}
-use Rattle.area.specs.Descent.{IsDescending}
+use Rattle.area.specs.inside.Descent.{IsDescending}
 use Rattle.area.proofs.Descents.{reached_later, goes_down, descending_more, descending_last}
 use Rattle.area.proofs.route.descend.Goals as goal
 

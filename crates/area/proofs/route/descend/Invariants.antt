@@ -1,5 +1,5 @@
 use Rattle.std.proofs.Common.{◌<◌, slice_index}
-use Rattle.area.specs.Descent.{IsDescending}
+use Rattle.area.specs.inside.Descent.{IsDescending}
 use Rattle.area.proofs.route.descend.Given as goal
 
 abbrev pub invariant-loop-to : goal.invariant-loop-to

@@ -1,5 +1,5 @@
 use Rattle.std.proofs.Common.{arith}
-use Rattle.grid.proofs.Steps.{inside_grid}
+use Rattle.grid.proofs.lemmas.Steps.{inside_grid}
 use Rattle.area.proofs.route.search_from.Goals as goal
 
 pub block_boxes-requires-clause-inside : goal.block_boxes-requires-clause-inside

@@ -1,8 +1,8 @@
 use Rattle.std.proofs.Common.{ℕ, List, length, get_or, ◌<◌, drop, refl, sym, ap, subst, ◌∙◌, arith}
 use Rattle.std.proofs.lemmas.Bool.{true≢false}
-use Rattle.grid.proofs.Steps.{inside_grid}
+use Rattle.grid.proofs.lemmas.Steps.{inside_grid}
 use Rattle.area.specs.Reach.{Reach}
-use Rattle.area.specs.Spread.{IsSpread}
+use Rattle.area.specs.inside.Spread.{IsSpread}
 use Rattle.area.proofs.Reached.{walk_free}
 use Rattle.area.proofs.Descents.{no_way, least_way, ok_gives}
 use Rattle.area.proofs.Seams.{written, read_written}

@@ -2,8 +2,8 @@ use Rattle.std.proofs.Common.{ℕ, ◌+◌, set, refl, sym, ap, subst, arith}
 use Rattle.std.proofs.lemmas.List.{get_or_read}
 use Rattle.grid.specs.declared.around.Around.{Around}
 use Rattle.grid.specs.declared.dir.Dir.TheVariants.{D, L, R, U}
-use Rattle.grid.proofs.Steps.{inside_grid}
-use Rattle.area.specs.Spread.{IsUnderWay}
+use Rattle.grid.proofs.lemmas.Steps.{inside_grid}
+use Rattle.area.specs.inside.Spread.{IsUnderWay}
 use Rattle.area.proofs.UnderWay.{started, begun, looked_way, way_has_mark, way_has_room, passed, tail_bound}
 use Rattle.area.proofs.spread.spread.Goals as goal
 

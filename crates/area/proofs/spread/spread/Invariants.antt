@@ -1,5 +1,5 @@
 use Rattle.std.proofs.Common.{◌-◌, length}
-use Rattle.area.specs.Spread.{IsUnderWay}
+use Rattle.area.specs.inside.Spread.{IsUnderWay}
 use Rattle.area.proofs.spread.spread.Given as goal
 
 abbrev pub invariant-loop-head : goal.invariant-loop-head

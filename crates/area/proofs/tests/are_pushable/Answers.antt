@@ -1,6 +1,6 @@
 use Rattle.std.proofs.Common.{◌≡◌, true, subst}
 use Rattle.grid.specs.Squares.{Squares, contains}
-use Rattle.area.proofs.Pushing.{reached_inside}
+use Rattle.area.proofs.lemmas.Pushing.{reached_inside}
 use Rattle.area.proofs.tests.are_pushable.Goals as goal
 
 pub pushable-masks-requires-clause-reached : goal.pushable-masks-requires-clause-reached

@@ -1,5 +1,5 @@
 use Rattle.std.proofs.Common.{◌+◌}
-use Rattle.grid.proofs.Squares.{contains-get_or}
+use Rattle.grid.proofs.lemmas.Squares.{contains-get_or}
 use Rattle.doom.proofs.firm.is_blocked_after.Goals as goal
 
 pub is_blocked-requires-clause-inside : goal.is_blocked-requires-clause-inside

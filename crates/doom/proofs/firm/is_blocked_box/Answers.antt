@@ -1,6 +1,6 @@
 use Rattle.std.proofs.Common.{◌≡◌, ◌↔◌, ℕ, true, IsTrue, subst}
 use Rattle.grid.specs.Squares.{contains}
-use Rattle.grid.proofs.Squares.{contains-get_or}
+use Rattle.grid.proofs.lemmas.Squares.{contains-get_or}
 use Rattle.doom.specs.Deadlocks.{IsBlocked}
 use Rattle.doom.proofs.firm.is_blocked_box.Goals as goal
 

@@ -2,9 +2,9 @@ use Rattle.std.proofs.Common.{◌<◌, ◌∙◌, ℕ, length, get_or, sym, subs
 use Rattle.std.proofs.lemmas.Bool.{false≢true}
 use Rattle.std.proofs.lemmas.List.{get_or_read}
 use Rattle.grid.specs.declared.dir.Dir.TheVariants.{D, R}
-use Rattle.grid.proofs.Squares.{contains-get_or}
+use Rattle.grid.proofs.lemmas.Squares.{contains-get_or}
 use Rattle.doom.specs.Loose.{IsHeldFirmly}
-use Rattle.doom.proofs.Loose.{held_by_firm, firm_by_axes}
+use Rattle.doom.proofs.lemmas.Loose.{held_by_firm, firm_by_axes}
 use Rattle.doom.proofs.firm.is_blocked_firmly.Goals as goal
 use Rattle.doom.proofs.firm.is_blocked_firmly.Goals.{then-is_blocked, else-is_blocked}
 

@@ -3,9 +3,9 @@ use Rattle.std.proofs.lemmas.Bool.{false≢true}
 use Rattle.std.proofs.lemmas.List.{get_or_read}
 use Rattle.grid.specs.declared.dir.Dir.TheVariants.{R}
 use Rattle.grid.specs.Board.{Board}
-use Rattle.grid.proofs.Squares.{contains-get_or}
+use Rattle.grid.proofs.lemmas.Squares.{contains-get_or}
 use Rattle.doom.proofs.Beside.{fast_there, loose_there}
-use Rattle.doom.proofs.Loose.{firm_fast, before_holds, after_holds, across_cases}
+use Rattle.doom.proofs.lemmas.Loose.{firm_fast, before_holds, after_holds, across_cases}
 use Rattle.doom.proofs.firm.is_firm_across.Goals as goal
 use Rattle.doom.proofs.firm.is_firm_across.Goals.{then-holds_across, else-holds_across}
 

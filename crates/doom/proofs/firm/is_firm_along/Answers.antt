@@ -3,7 +3,7 @@ use Rattle.std.proofs.lemmas.Bool.{false≢true}
 use Rattle.grid.specs.declared.dir.Dir.TheVariants.{D}
 use Rattle.doom.specs.Loose.{IsBlockedBox}
 use Rattle.doom.proofs.Beside.{fast_there, loose_there}
-use Rattle.doom.proofs.Loose.{firm_fast, firm_cases}
+use Rattle.doom.proofs.lemmas.Loose.{firm_fast, firm_cases}
 use Rattle.doom.proofs.firm.is_firm_along.Goals as goal
 use Rattle.doom.proofs.firm.is_firm_along.Goals.{then-holds_along, else-holds_along}
 

@@ -2,10 +2,10 @@ use Rattle.std.proofs.Common.{◌↔◌, IsTrue, inl, inr, sym, ap, subst, ◌�
 use Rattle.std.proofs.lemmas.Bool.{false≢true}
 use Rattle.grid.specs.Squares.{Squares, contains}
 use Rattle.grid.specs.Board.{Board}
-use Rattle.grid.proofs.Steps.{inside_grid}
+use Rattle.grid.proofs.lemmas.Steps.{inside_grid}
 use Rattle.doom.specs.Deadlocks.{IsDead, IsFrozen, Doomed}
-use Rattle.doom.specs.Peeling.{StandInside}
-use Rattle.doom.proofs.Soundness.{doomed_are_lost}
+use Rattle.doom.specs.inside.Peeling.{StandInside}
+use Rattle.doom.proofs.lemmas.Soundness.{doomed_are_lost}
 use Rattle.doom.proofs.freeze.doomed.Goals as goal
 
 pub any_frozen-requires-clause-inside : goal.any_frozen-requires-clause-inside

@@ -2,11 +2,11 @@ use Rattle.std.proofs.Common.{◌≡◌, ◌↔◌, ℕ, true, IsTrue, sym, ap, 
 use Rattle.std.proofs.lemmas.Bool.{false≢true}
 use Rattle.grid.specs.Board.{Board}
 use Rattle.grid.specs.Squares.{Squares, contains}
-use Rattle.grid.proofs.Squares.{contains-get_or}
-use Rattle.grid.proofs.Steps.{inside_grid}
+use Rattle.grid.proofs.lemmas.Squares.{contains-get_or}
+use Rattle.grid.proofs.lemmas.Steps.{inside_grid}
 use Rattle.doom.specs.Deadlocks.{IsDead}
 use Rattle.doom.specs.Loose.{IsBlockedFirmly}
-use Rattle.doom.proofs.Loose.{loose_by}
+use Rattle.doom.proofs.lemmas.Loose.{loose_by}
 use Rattle.doom.proofs.freeze.is_loose.Goals as goal
 use Rattle.doom.proofs.freeze.is_loose.Goals.{In-Some}
 

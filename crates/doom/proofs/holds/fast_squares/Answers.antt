@@ -2,7 +2,7 @@ use Rattle.std.proofs.Common.{◌≡◌, ℕ, ◌+◌, ◌/◌, ◌||◌, eqb, l
 use Rattle.std.proofs.lemmas.Bool.{false≢true}
 use Rattle.std.proofs.lemmas.List.{length-replicate, with_items_is}
 use Rattle.grid.specs.Masks.{has_bit, word_count}
-use Rattle.doom.specs.Holding.{IsFast}
+use Rattle.doom.specs.inside.Holding.{IsFast}
 use Rattle.doom.proofs.Holding.{IsFilledUpTo, filled_none, filled_more, filled_less}
 use Rattle.doom.proofs.holds.fast_squares.Goals as goal
 use Rattle.doom.proofs.holds.fast_squares.Goals.{then-is_fast, else-is_fast}

@@ -1,6 +1,6 @@
 use Rattle.std.proofs.Common.{◌≡◌, length}
 use Rattle.grid.specs.Masks.{word_count}
-use Rattle.doom.specs.Holding.{IsFast}
+use Rattle.doom.specs.inside.Holding.{IsFast}
 use Rattle.doom.proofs.Holding.{IsFilledUpTo}
 use Rattle.doom.proofs.holds.fast_squares.Given as goal
 

@@ -1,4 +1,4 @@
-use Rattle.doom.proofs.Loose.{loose_dooms_nothing}
+use Rattle.doom.proofs.lemmas.Loose.{loose_dooms_nothing}
 use Rattle.doom.proofs.laws.a_loose_box_dooms_nothing.Goals as goal
 
 pub returns : goal.returns

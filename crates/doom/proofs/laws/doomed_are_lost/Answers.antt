@@ -1,4 +1,4 @@
-use Rattle.doom.proofs.Soundness as soundness
+use Rattle.doom.proofs.lemmas.Soundness as soundness
 use Rattle.doom.proofs.laws.doomed_are_lost.Goals as goal
 
 pub returns : goal.returns

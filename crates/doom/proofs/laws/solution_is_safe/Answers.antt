@@ -1,4 +1,4 @@
-use Rattle.doom.proofs.Soundness.{solution_safe}
+use Rattle.doom.proofs.lemmas.Soundness.{solution_safe}
 use Rattle.doom.proofs.laws.solution_is_safe.Goals as goal
 
 pub returns : goal.returns

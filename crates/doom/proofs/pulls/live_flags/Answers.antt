@@ -1,7 +1,7 @@
 use Rattle.grid.specs.declared.dir.Dir.TheVariants.{D, L, R, U}
 use Rattle.std.proofs.Common.{get_or, ◌≡◌, ◌++◌, [], ◌∷◌, subst, arith}
 use Rattle.std.proofs.lemmas.List.{nil_from_length}
-use Rattle.doom.specs.Pulling.{IsFilling, IsSpread, Pulls}
+use Rattle.doom.specs.inside.Pulling.{IsFilling, IsSpread, Pulls}
 use Rattle.doom.proofs.Pulling.{DueBut, spread_pop, popped_live, dir_at, spread_pull, pull_work, spread_all, filled}
 use Rattle.doom.proofs.pulls.live_flags.Goals as goal
 

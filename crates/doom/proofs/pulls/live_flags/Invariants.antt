@@ -1,6 +1,6 @@
 use Rattle.std.proofs.Common.{◌≤◌}
 use Rattle.doom.specs.Deadlocks.{Live}
-use Rattle.doom.specs.Pulling.{IsFilling, IsSpread}
+use Rattle.doom.specs.inside.Pulling.{IsFilling, IsSpread}
 use Rattle.doom.proofs.Pulling.{DueBut, work}
 use Rattle.doom.proofs.pulls.live_flags.Given as goal
 

@@ -1,4 +1,4 @@
-use Rattle.grid.proofs.Plays.{play_scene, length-play, length-pushes}
+use Rattle.grid.proofs.lemmas.Plays.{play_scene, length-play, length-pushes}
 use Rattle.grid.proofs.laws.a_play_keeps_states.Goals as goal
 
 pub returns-clause-state : goal.returns-clause-state

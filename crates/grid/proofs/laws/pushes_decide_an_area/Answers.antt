@@ -1,5 +1,5 @@
 use Rattle.grid.specs.Plays.{stay}
-use Rattle.grid.proofs.Plays.{same_area}
+use Rattle.grid.proofs.lemmas.Plays.{same_area}
 use Rattle.grid.proofs.laws.pushes_decide_an_area.Goals as goal
 
 pub returns : goal.returns

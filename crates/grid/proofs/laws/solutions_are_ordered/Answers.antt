@@ -1,5 +1,5 @@
 use Rattle.std.proofs.lemmas.Cmp.{upto}
-use Rattle.grid.proofs.Orders.{solution_cmp_total, solutions_either, same_solution}
+use Rattle.grid.proofs.lemmas.Orders.{solution_cmp_total, solutions_either, same_solution}
 use Rattle.grid.proofs.laws.solutions_are_ordered.Goals as goal
 
 pub returns-clause-either : goal.returns-clause-either

@@ -6,7 +6,7 @@ use Rattle.grid.specs.declared.dir.Dir.TheVariants.{D, L, R, U}
 use Rattle.grid.specs.declared.masks.StepMasks.{StepMasks}
 use Rattle.grid.specs.declared.masks.TheConstants.{WORD_BITS}
 use Rattle.grid.specs.Board.{Board, is_wall, opposite}
-use Rattle.grid.specs.PlanView.{around_of}
+use Rattle.grid.specs.inside.PlanView.{around_of}
 use Rattle.grid.specs.Masks.{has_bit, word_for, words_for, word_count, can_enter, square_to}
 use Rattle.grid.proofs.Bits.{has_bit-clear, square_to-around_of, before_wall, before_floor, before_end}
 use Rattle.grid.proofs.masks.masks_of.Goals as goal

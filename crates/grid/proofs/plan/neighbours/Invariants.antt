@@ -1,6 +1,6 @@
 use Rattle.std.proofs.Common.{◌≡◌, ℕ, ◌<◌, length, get_or}
 use Rattle.grid.specs.declared.around.Around.{Around}
-use Rattle.grid.specs.PlanView.{around_of}
+use Rattle.grid.specs.inside.PlanView.{around_of}
 use Rattle.grid.proofs.plan.neighbours.Given as goal
 
 abbrev pub invariant-loop-square : goal.invariant-loop-square

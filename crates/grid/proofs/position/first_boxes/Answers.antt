@@ -1,7 +1,7 @@
 use Rattle.std.proofs.Common.{length, lit<, sym, ap, ◌∙◌, arith}
 use Rattle.grid.specs.Board.{box_cell}
 use Rattle.grid.specs.Lawful.{box_count}
-use Rattle.grid.proofs.Places.{places_more_yes, places_more_no, places_room}
+use Rattle.grid.proofs.lemmas.Places.{places_more_yes, places_more_no, places_room}
 use Rattle.grid.proofs.position.first_boxes.Goals as goal
 use Rattle.grid.proofs.position.first_boxes.Goals.{then-has_box, else-has_box}
 

@@ -1,6 +1,6 @@
 use Rattle.std.proofs.Common.{ℕ, ltb, count_by, ap, ◌∙◌}
 use Rattle.std.proofs.lemmas.List.{take_all}
-use Rattle.grid.proofs.Places.{lesser_first}
+use Rattle.grid.proofs.lemmas.Places.{lesser_first}
 use Rattle.grid.proofs.position.place_of.Goals as goal
 
 pub returns : goal.returns

@@ -1,4 +1,4 @@
-use Rattle.grid.specs.Filling.{work}
+use Rattle.grid.specs.inside.Filling.{work}
 use Rattle.grid.proofs.Filling.{IsFilling}
 use Rattle.grid.proofs.room.fill.Given as goal
 

@@ -1,7 +1,7 @@
 use Rattle.std.proofs.Common.{◌≡◌, ℕ, ◌<◌, length}
 use Rattle.grid.specs.declared.dir.Dir.{Dir}
 use Rattle.grid.specs.Board.{next}
-use Rattle.grid.specs.Filling.{IsMarked}
+use Rattle.grid.specs.inside.Filling.{IsMarked}
 use Rattle.grid.proofs.room.is_open.Given as goal
 
 abbrev pub invariant-loop-square : goal.invariant-loop-square

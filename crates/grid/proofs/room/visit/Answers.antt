@@ -1,8 +1,8 @@
 use Rattle.std.proofs.Common.{◌≡◌, ℕ, ◌<◌, false, true, List, [], ◌∷◌, ◌++◌, length, set, subst, sym, ◌∙◌, arith}
 use Rattle.std.proofs.lemmas.List.{get_or-set_same}
 use Rattle.grid.specs.Lawful.{InRoom}
-use Rattle.grid.specs.Filling.{IsMarked, Grows}
-use Rattle.grid.proofs.Steps.{inside_grid}
+use Rattle.grid.specs.inside.Filling.{IsMarked, Grows}
+use Rattle.grid.proofs.lemmas.Steps.{inside_grid}
 use Rattle.grid.proofs.Filling.{grows_one}
 use Rattle.grid.proofs.room.visit.Goals as goal
 

@@ -5,7 +5,7 @@ use Rattle.grid.specs.declared.dir.Dir.TheVariants.{D, L, R, U}
 use Rattle.grid.specs.Board.{Board, is_wall, next}
 use Rattle.grid.specs.Lawful.{InRoom}
 use Rattle.grid.specs.Lawful.InRoom.{beside}
-use Rattle.grid.specs.Filling.{IsMarked}
+use Rattle.grid.specs.inside.Filling.{IsMarked}
 use Rattle.grid.proofs.Filling.{grows_then, marked_around}
 use Rattle.grid.proofs.room.visit_around.Goals as goal
 

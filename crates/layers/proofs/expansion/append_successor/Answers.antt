@@ -1,12 +1,12 @@
 use Rattle.std.proofs.Common.{ℕ, length, take, slice_index_or, refl, ap, subst, ◌∙◌, inl, inr}
 use Rattle.grid.specs.Squares.{remove}
 use Rattle.grid.specs.Board.{next}
-use Rattle.grid.proofs.Squares.{contains-insert_here}
-use Rattle.grid.proofs.Steps.{inside_grid}
+use Rattle.grid.proofs.lemmas.Squares.{contains-insert_here}
+use Rattle.grid.proofs.lemmas.Steps.{inside_grid}
 use Rattle.doom.specs.Deadlocks.{IsDead}
 use Rattle.layers.specs.declared.parcel.Successor.{Successor}
 use Rattle.layers.proofs.Appending.{made_last, stood_last, taken_last}
-use Rattle.layers.proofs.Successors.{come_by}
+use Rattle.layers.proofs.lemmas.Successors.{come_by}
 use Rattle.layers.proofs.expansion.append_successor.Goals as goal
 
 pub next-requires : goal.next-requires

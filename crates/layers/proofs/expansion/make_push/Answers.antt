@@ -1,18 +1,19 @@
-use Rattle.std.proofs.Common.{◌≡◌, refl, sym, subst, ◌∙◌}
+use Rattle.std.proofs.Common.{◌≡◌, ◌↔◌, ℕ, IsTrue, true, refl, sym, ap, subst, ◌∙◌}
 use Rattle.std.proofs.lemmas.Bool.{false≢true}
-use Rattle.grid.specs.Squares.{contains}
+use Rattle.grid.specs.Squares.{contains, remove}
+use Rattle.grid.proofs.lemmas.Squares.{contains-insert_here}
 use Rattle.grid.specs.Board.{Scene, next}
-use Rattle.grid.specs.Lawful.{FitsLevel}
-use Rattle.grid.proofs.Steps.{inside_grid}
+use Rattle.grid.specs.States.{FitsLevel}
+use Rattle.grid.proofs.lemmas.Steps.{inside_grid}
 use Rattle.area.specs.Area.{IsNorm}
 use Rattle.area.specs.Reach.{Reach}
 use Rattle.doom.specs.Deadlocks.{Doomed, Undoomed}
 use Rattle.doom.specs.Loose.{IsLoose}
-use Rattle.doom.proofs.Loose.{loose_dooms_nothing}
+use Rattle.doom.proofs.lemmas.Loose.{loose_dooms_nothing}
 use Rattle.layers.specs.Expansion.{after_push, IsAreaOf}
-use Rattle.layers.proofs.Successors.{after_fits, successor_is, come_by}
+use Rattle.layers.proofs.lemmas.Successors.{after_fits, successor_is, come_by}
 use Rattle.layers.proofs.expansion.make_push.Goals as goal
-use Rattle.layers.proofs.expansion.make_push.Goals.{else-not-is_loose-via-then-not-is_loose+else-doomed, else-not-is_loose-via-else-not-is_loose}
+use Rattle.layers.proofs.expansion.make_push.Goals.{else-not-is_loose-via-then-not-is_loose+else-doomed_after, else-not-is_loose-via-else-not-is_loose}
 
 pub next-ahead-requires : goal.next-ahead-requires
 next-ahead-requires c = inside_grid c.args.level.now c.args.push.square (c.requires.fits.scene.boxes c.args.push.square c.requires.possible.there)
@@ -22,15 +23,30 @@ push-requires-clause-free c =
     let e : contains c.copy_from.new.self.boxes c.next-ahead.result ≡ contains c.args.position.now.boxes (next c.args.level.now c.args.push.square c.args.push.dir) = cc in
     e ∙ c.requires.possible.ahead.1
 
-pub doomed-requires-clause-fits : goal.doomed-requires-clause-fits
-doomed-requires-clause-fits c =
+pub doomed_after-requires-clause-fits : goal.doomed_after-requires-clause-fits
+doomed_after-requires-clause-fits c =
     let moved : c.push.new.self ≡ after_push c.args.level.now c.args.position.now c.args.push = cc in
     subst (FitsLevel c.args.level.now) (sym moved) (after_fits c.args.level.now c.args.position.now c.requires.fits.scene c.args.push c.requires.fits c.requires.possible)
 
-pub returns-then-doomed-clause-none : goal.returns-then-doomed-clause-none
-returns-then-doomed-clause-none c = λ no m come.
+pub doomed_after-requires-clause-inside : goal.doomed_after-requires-clause-inside
+doomed_after-requires-clause-inside c = inside_grid c.args.level.now c.args.push.square (c.requires.fits.scene.boxes c.args.push.square c.requires.possible.there)
+
+pub doomed_after-requires-clause-moved : goal.doomed_after-requires-clause-moved
+doomed_after-requires-clause-moved c =
     let moved : c.push.new.self ≡ after_push c.args.level.now c.args.position.now c.args.push = cc in
-    (come_by c.args.level.now c.args.position.now c.requires.fits.scene c.args.push m come).safe (subst (λ (s : Scene). Doomed c.args.level.now s.boxes) moved (c.if-doomed.ensures.doomed.0 refl))
+    let ahead : ℕ = next c.args.level.now c.args.push.square c.args.push.dir in
+    subst (λ (s : Scene). contains s.boxes ahead ≡ true) (sym moved) (contains-insert_here (remove c.args.position.now.boxes c.args.push.square) ahead)
+
+pub returns-then-doomed_after-clause-none : goal.returns-then-doomed_after-clause-none
+returns-then-doomed_after-clause-none c = λ no m come.
+    let moved : c.push.new.self ≡ after_push c.args.level.now c.args.position.now c.args.push = cc in
+    let bad : Doomed c.args.level.now c.push.new.self.boxes = (c.if-doomed_after.ensures.same (c.args.position.now.boxes, ap (λ (s : Scene). s.boxes) moved, c.requires.undoomed)).0 refl in
+    (come_by c.args.level.now c.args.position.now c.requires.fits.scene c.args.push m come).safe (subst (λ (s : Scene). Doomed c.args.level.now s.boxes) moved bad)
+
+pub is_loose-requires-clause-fits : goal.is_loose-requires-clause-fits
+is_loose-requires-clause-fits c =
+    let moved : c.push.new.self ≡ after_push c.args.level.now c.args.position.now c.args.push = cc in
+    subst (FitsLevel c.args.level.now) (sym moved) (after_fits c.args.level.now c.args.position.now c.requires.fits.scene c.args.push c.requires.fits c.requires.possible)
 
 pub normalise_after-requires-clause-fits : goal.normalise_after-requires-clause-fits
 normalise_after-requires-clause-fits c =
@@ -39,25 +55,21 @@ normalise_after-requires-clause-fits c =
 
 pub returns-clause-some : goal.returns-clause-some
 returns-clause-some c =
+    let moved : c.push.new.self ≡ after_push c.args.level.now c.args.position.now c.args.push = cc in
     let board = c.args.level.now in
     let n = c.args.position.now in
     let after = after_push board n c.args.push in
-    let moved : c.push.new.self ≡ after = cc in
     let safe : Undoomed board after = elim c.else-not-is_loose.branch [
-      | else-not-is_loose-via-then-not-is_loose+else-doomed w ↦ λ bad.
-          false≢true (w.if-doomed.ensures.doomed.1 (subst (λ (s : Scene). Doomed board s.boxes) (sym moved) bad))
+      | else-not-is_loose-via-then-not-is_loose+else-doomed_after w ↦ λ bad.
+          let same : c.push.new.self.boxes ≡ after.boxes = ap (λ (s : Scene). s.boxes) moved in
+          false≢true ((w.if-doomed_after.ensures.same (n.boxes, same, c.requires.undoomed)).1 (subst (λ (s : Scene). Doomed board s.boxes) (sym moved) bad))
       | else-not-is_loose-via-else-not-is_loose w ↦
           let loose : IsLoose board c.push.new.self.boxes c.next-ahead.result = c.is_loose.ensures.0 w.if-not-is_loose.false in
           let there : c.next-ahead.result ≡ next board c.args.push.square c.args.push.dir = cc in
           loose_dooms_nothing board n.boxes c.args.push.square (next board c.args.push.square c.args.push.dir) c.requires.undoomed
           (subst (IsLoose board after.boxes) there (subst (λ (s : Scene). IsLoose board s.boxes c.next-ahead.result) moved loose))
     ] in
-    λ yes. (successor_is board n c.requires.fits.scene c.args.push c.requires.undoomed c.requires.possible safe c.normalise_after.new.after (subst (λ (s : Scene). IsNorm board s c.normalise_after.new.after) moved c.normalise_after.ensures.norm), c.normalise_after.ensures.fits)
-
-pub is_loose-requires-clause-fits : goal.is_loose-requires-clause-fits
-is_loose-requires-clause-fits c =
-    let moved : c.push.new.self ≡ after_push c.args.level.now c.args.position.now c.args.push = cc in
-    subst (FitsLevel c.args.level.now) (sym moved) (after_fits c.args.level.now c.args.position.now c.requires.fits.scene c.args.push c.requires.fits c.requires.possible)
+    λ done. (successor_is board n c.requires.fits.scene c.args.push c.requires.undoomed c.requires.possible safe c.normalise_after.new.after (subst (λ (s : Scene). IsNorm board s c.normalise_after.new.after) moved c.normalise_after.ensures.norm), c.normalise_after.ensures.fits)
 
 pub normalise_after-requires-clause-pushed : goal.normalise_after-requires-clause-pushed
 normalise_after-requires-clause-pushed c =
@@ -72,7 +84,7 @@ normalise_after-requires-clause-pushed c =
 pub normalise_after-requires-clause-flooded : goal.normalise_after-requires-clause-flooded
 normalise_after-requires-clause-flooded c =
     let kept : c.else-not-is_loose.scratch ≡ c.args.scratch.now = elim c.else-not-is_loose.branch [
-      | else-not-is_loose-via-then-not-is_loose+else-doomed w ↦ w.scratch-is ∙ w.if-doomed.ensures.kept
+      | else-not-is_loose-via-then-not-is_loose+else-doomed_after w ↦ w.scratch-is ∙ w.if-doomed_after.ensures.kept
       | else-not-is_loose-via-else-not-is_loose w ↦ w.scratch-is
     ] in
     subst (λ (s : Reach). IsAreaOf c.args.level.now c.args.position.now s.reached) (sym kept) c.requires.flooded

@@ -1,5 +1,5 @@
 use Rattle.std.proofs.Common.{◌*◌, length, arith}
-use Rattle.area.proofs.Pushing.{reached_inside}
+use Rattle.area.proofs.lemmas.Pushing.{reached_inside}
 use Rattle.layers.proofs.Gathering.{all_allowed, words_cover}
 use Rattle.layers.proofs.expansion.possible_pushes.Goals as goal
 

@@ -3,7 +3,7 @@ use Rattle.std.specs.Int.RustNames.{bit_and}
 use Rattle.std.proofs.lemmas.Bool.{eq-eqb, ne_eqb, true≢false}
 use Rattle.grid.specs.declared.square.Push.{Push}
 use Rattle.grid.specs.Board.{dir_number}
-use Rattle.area.proofs.WordBits.{word_bit_tested}
+use Rattle.area.proofs.lemmas.WordBits.{word_bit_tested}
 use Rattle.layers.specs.Expansion.{AreAllowedBefore}
 use Rattle.layers.proofs.Gathering.{before_more, before_same}
 use Rattle.layers.proofs.expansion.push_if.Goals as goal

@@ -2,9 +2,9 @@ use Rattle.std.proofs.Common.{ℕ, length, refl, arith}
 use Rattle.std.specs.Int.{trailing_zeros, w64}
 use Rattle.grid.specs.declared.limits.TheConstants.{MAX_BOXES}
 use Rattle.grid.specs.Masks.{word_count}
-use Rattle.grid.proofs.Levels.{level_squares}
-use Rattle.area.proofs.Flooding.{words_few}
-use Rattle.area.proofs.WordSets.{lowest_bit, cleared_bit}
+use Rattle.grid.proofs.lemmas.Levels.{level_squares}
+use Rattle.area.proofs.lemmas.Flooding.{words_few}
+use Rattle.area.proofs.lemmas.WordSets.{lowest_bit, cleared_bit}
 use Rattle.layers.proofs.Gathering.{cleared_less, word_here, word_room, word_more, word_last}
 use Rattle.layers.proofs.expansion.push_word.Goals as goal
 

@@ -2,7 +2,7 @@ use Rattle.std.proofs.Common.{◌+◌, ◌-◌, length, take, drop, inr, sym, su
 use Rattle.std.proofs.lemmas.List.{take_rest}
 use Rattle.std.proofs.lemmas.Result.{err_from_is_err_and}
 use Rattle.lurd.specs.Text.{IsText, FaultsAt}
-use Rattle.lurd.specs.Item.{TakesItem}
+use Rattle.lurd.specs.inside.Item.{TakesItem}
 use Rattle.lurd.proofs.Texts.{text_and_blank, text_and_item, item_within, fault_behind}
 use Rattle.lurd.proofs.text.parse.Goals as goal
 

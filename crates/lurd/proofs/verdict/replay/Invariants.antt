@@ -1,5 +1,6 @@
 use Rattle.std.proofs.Common.{◌≡◌, take}
-use Rattle.grid.specs.Board.{IsScene, start}
+use Rattle.grid.specs.States.{IsScene}
+use Rattle.grid.specs.Board.{start}
 use Rattle.lurd.specs.Verdict.{Leads, upper_count}
 use Rattle.lurd.proofs.verdict.replay.Given as goal
 

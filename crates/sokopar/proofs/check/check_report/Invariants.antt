@@ -1,6 +1,6 @@
 -- The lines so far with those of the levels that are left are all lines, and so with the lawful levels.
 use Rattle.std.proofs.Common.{◌≡◌, ◌++◌, map, drop, ◌+◌, ◌≤◌, suc}
-use Rattle.sokopar.specs.Listing.{listed_of}
+use Rattle.sokopar.specs.Entries.{listed_of}
 use Rattle.sokopar.specs.Report.{check_lines, good_count}
 use Rattle.sokopar.proofs.check.check_report.Given as goal
 

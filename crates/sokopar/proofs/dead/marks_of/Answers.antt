@@ -1,5 +1,5 @@
 -- The next square has its mark too.
-use Rattle.std.proofs.Common.{rules, ◌≡◌, ◌∷◌, [], ◌++◌, length, sym, subst, ℕ, List}
+use Rattle.std.proofs.Common.{rules, ◌≡◌, ◌∷◌, [], ◌++◌, sym, subst, ℕ, List}
 use Rattle.sokopar.specs.DeadMap.{IsMark}
 use Rattle.sokopar.proofs.Maps.{HaveMarks, marks_grow}
 use Rattle.sokopar.proofs.dead.marks_of.Goals as goal

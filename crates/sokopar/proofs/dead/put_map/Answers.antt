@@ -1,5 +1,5 @@
 -- One row more is written, and it is the next of those that were left.
-use Rattle.std.proofs.Common.{rules, ◌≡◌, ◌∙◌, ◌++◌, ◌<◌, ℕ, List, suc, min, length, take, drop, arith}
+use Rattle.std.proofs.Common.{rules, ◌≡◌, ◌∙◌, ◌++◌, min, length, take, drop}
 use Rattle.sokopar.specs.DeadMap.{marked_row}
 use Rattle.sokopar.proofs.Maps.{map_goes_on}
 use Rattle.sokopar.proofs.dead.put_map.Goals as goal

@@ -1,13 +1,14 @@
--- The bytes are what the source gave, no read failed, and the end has not come.
-use Rattle.std.proofs.Common.{◌≡◌, ℕ, ◌-◌, ◌≤◌, ◌<◌, ◌++◌, length, vec_len, suc, false}
+-- The bytes are what the source gave, in reads that each gave some.
+use Rattle.std.proofs.Common.{◌-◌, ◌≤◌, vec_len, suc}
+use Rattle.std.specs.Io.KnownBytes.{Consumes}
+use Rattle.sokopar.specs.Ends.{Pass}
 use Rattle.xsb.specs.declared.limits.TheConstants.{MAX_FILE}
 use Rattle.sokopar.proofs.reads.read_whole.Given as goal
 
 abbrev pub invariant-loop-chunk : goal.invariant-loop-chunk
 invariant-loop-chunk g l = record {
-  given : (g.S.Source.seen l.source).bytes ≡ (g.S.Source.seen l.fn.source).bytes ++ l.bytes.items;
-  sound : (g.S.Source.seen l.source).failures ≡ (g.S.Source.seen l.fn.source).failures;
-  going : 0 < vec_len l.bytes → (g.S.Source.seen l.source).ended ≡ false;
+  given : Pass (g.S.Source.seen l.fn.source).acts (g.S.Source.seen l.source).acts l.bytes.items;
+  first : Consumes (g.S.Source.seen l.fn.source).known (g.S.Source.seen l.source).known l.bytes.items;
   bound : vec_len l.bytes ≤ suc MAX_FILE;
 }
 

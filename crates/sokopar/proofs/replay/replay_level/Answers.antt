@@ -1,7 +1,8 @@
 -- The text that was read is replayed on the level that stands at the number.
 use Rattle.std.proofs.Common.{rules, ◌≡◌, ℕ, List, subst, Some, Ok, map}
 use Rattle.sokopar.specs.Report.{IsReplayOf}
-use Rattle.sokopar.specs.Listing.{listed_of, level_at}
+use Rattle.sokopar.specs.Entries.{listed_of}
+use Rattle.sokopar.specs.Listing.{level_at}
 use Rattle.sokopar.proofs.Listings.{replay_read}
 use Rattle.sokopar.proofs.replay.replay_level.Goals as goal
 

@@ -1,7 +1,6 @@
 -- The sink took the text up to what is left of it.
-use Rattle.std.proofs.Common.{◌≡◌, List, ℕ, ◌++◌, length}
-use Rattle.sokopar.specs.Ends.{Seen}
-use Rattle.sokopar.proofs.Lists.{Taken}
+use Rattle.std.proofs.Common.{length}
+use Rattle.sokopar.proofs.Writing.{Taken}
 use Rattle.sokopar.proofs.writes.write_whole.Given as goal
 
 abbrev pub invariant-loop-rest : goal.invariant-loop-rest

@@ -1,7 +1,7 @@
 use Rattle.std.proofs.Common.{◌-◌, List, length, reverse, sym, subst, arith}
 use Rattle.grid.specs.declared.square.Push.{Push}
 use Rattle.solo.specs.Leads.{level_of, last_places}
-use Rattle.solo.specs.LeastPlays.{IsLeadAt, IsReadBack}
+use Rattle.solo.specs.inside.LeastPlays.{IsLeadAt, IsReadBack}
 use Rattle.solo.proofs.ReadingBack.{neighbours, read_begins, read_more, read_within, read_all}
 use Rattle.solo.proofs.lead.lead_of.Goals as goal
 

@@ -1,6 +1,6 @@
 use Rattle.std.proofs.Common.{◌<◌, length, reverse}
 use Rattle.solo.specs.Leads.{level_of}
-use Rattle.solo.specs.LeastPlays.{IsReadBack}
+use Rattle.solo.specs.inside.LeastPlays.{IsReadBack}
 use Rattle.solo.proofs.lead.lead_of.Given as goal
 
 abbrev pub invariant-loop-number : goal.invariant-loop-number

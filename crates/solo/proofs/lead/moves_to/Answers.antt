@@ -3,7 +3,7 @@ use Rattle.std.proofs.lemmas.Result.{IfOk-weaker}
 use Rattle.std.specs.Prelude.{slice_get}
 use Rattle.grid.specs.Board.{Scene}
 use Rattle.solo.specs.Leads.{WritesLead, level_of, last_places}
-use Rattle.solo.specs.LeastPlays.{WritesLeastPlay}
+use Rattle.solo.specs.inside.LeastPlays.{WritesLeastPlay}
 use Rattle.solo.proofs.ReadingBack.{first_is, lead_played, lead_moves}
 use Rattle.solo.proofs.lead.moves_to.Goals as goal
 

@@ -2,7 +2,7 @@ use Rattle.std.proofs.Common.{[], List, length, refl, sym, subst, ◌∙◌}
 use Rattle.std.proofs.lemmas.Option.{slice_get_read}
 use Rattle.grid.specs.declared.moves.Letter.{Letter}
 use Rattle.grid.specs.Board.{Scene}
-use Rattle.solo.specs.LeastPlays.{WritesLeastPlay}
+use Rattle.solo.specs.inside.LeastPlays.{WritesLeastPlay}
 use Rattle.solo.proofs.LeastPlays.{none_written, possible_at, more_at}
 use Rattle.solo.proofs.plays.play_pushes.Goals as goal
 

@@ -1,6 +1,6 @@
 use Rattle.std.proofs.Common.{◌≡◌, take}
-use Rattle.grid.specs.Board.{IsScene}
-use Rattle.solo.specs.LeastPlays.{WritesLeastPlay}
+use Rattle.grid.specs.States.{IsScene}
+use Rattle.solo.specs.inside.LeastPlays.{WritesLeastPlay}
 use Rattle.solo.proofs.plays.play_pushes.Given as goal
 
 abbrev pub invariant-loop-push : goal.invariant-loop-push

@@ -1,4 +1,4 @@
-use Rattle.xsb.proofs.StretchLaws.{IsRead-more}
+use Rattle.xsb.proofs.GapsAndBoards.{IsRead-more}
 use Rattle.xsb.proofs.boards.read_board.Goals as goal
 
 pub rows-preserved : goal.rows-preserved

@@ -1,5 +1,5 @@
 use Rattle.std.proofs.Common.{length}
-use Rattle.xsb.proofs.StretchLaws.{IsRead}
+use Rattle.xsb.proofs.GapsAndBoards.{IsRead}
 use Rattle.xsb.proofs.boards.read_board.Given as goal
 
 abbrev pub invariant-rows : goal.invariant-rows

@@ -1,5 +1,5 @@
 use Rattle.std.proofs.Common.{[], sym, ◌∙◌}
-use Rattle.xsb.proofs.StretchLaws.{ReadsTexts-none, ReadsTexts-more, ReadsGap-row, ReadsGap-end, text-none, row-some}
+use Rattle.xsb.proofs.GapsAndBoards.{ReadsTexts-none, ReadsTexts-more, ReadsGap-row, ReadsGap-end, text-none, row-some}
 use Rattle.xsb.proofs.gaps.read_gap.Goals as goal
 
 pub texts-init : goal.texts-init

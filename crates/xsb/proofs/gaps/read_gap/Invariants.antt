@@ -1,5 +1,5 @@
 use Rattle.std.proofs.Common.{ℕ, List, length}
-use Rattle.xsb.specs.Gaps.{ReadsTexts}
+use Rattle.xsb.specs.inside.Gaps.{ReadsTexts}
 use Rattle.xsb.proofs.gaps.read_gap.Given as goal
 
 abbrev pub invariant-texts : goal.invariant-texts

@@ -1,6 +1,6 @@
 use Rattle.std.proofs.Common.{cond, sym, ap, ◌∙◌}
 use Rattle.std.proofs.lemmas.Bool.{eq-eqb, ne_eqb}
-use Rattle.xsb.proofs.LinesLaws.{without_last-end}
+use Rattle.xsb.proofs.LineFeeds.{without_last-end}
 use Rattle.xsb.proofs.lines.without_last.Goals as goal
 
 pub returns-then-last-byte : goal.returns-then-last-byte

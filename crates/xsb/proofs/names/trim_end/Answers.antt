@@ -1,6 +1,6 @@
 use Rattle.std.proofs.Common.{sym, ◌∙◌}
 use Rattle.xsb.specs.Names.{is_blank}
-use Rattle.xsb.proofs.EndLaws.{cut_end-last_blank, cut_end-last_other}
+use Rattle.xsb.proofs.CutEnds.{cut_end-last_blank, cut_end-last_other}
 use Rattle.xsb.proofs.names.trim_end.Goals as goal
 
 pub loop-last-preserved : goal.loop-last-preserved

@@ -1,5 +1,5 @@
 use Rattle.std.proofs.Common.{sym, subst, refl, ◌∙◌}
-use Rattle.xsb.proofs.ReadLaws.{IsReading, IsReading-none, IsReading-more, IsReading-all, HasRows-read, reads-fewer}
+use Rattle.xsb.proofs.BoardByBoard.{IsReading, IsReading-none, IsReading-more, IsReading-all, HasRows-read, reads-fewer}
 use Rattle.xsb.proofs.reader.read_all.Goals as goal
 
 pub boards-init : goal.boards-init

@@ -1,5 +1,5 @@
 use Rattle.std.proofs.Common.{length}
-use Rattle.xsb.proofs.ReadLaws.{IsReading}
+use Rattle.xsb.proofs.BoardByBoard.{IsReading}
 use Rattle.xsb.proofs.reader.read_all.Given as goal
 
 abbrev pub invariant-boards : goal.invariant-boards

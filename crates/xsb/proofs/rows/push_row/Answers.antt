@@ -1,5 +1,5 @@
 use Rattle.std.proofs.lemmas.Result.{on_ok_weaker}
-use Rattle.xsb.proofs.RowLaws.{IsPushed-more, IsPushed-all}
+use Rattle.xsb.proofs.RowItems.{IsPushed-more, IsPushed-all}
 use Rattle.xsb.proofs.rows.push_row.Goals as goal
 
 pub loop-run-preserved : goal.loop-run-preserved

@@ -1,6 +1,6 @@
 use Rattle.std.proofs.Common.{length, List}
 use Rattle.grid.specs.declared.cell.Cell.{Cell}
-use Rattle.xsb.proofs.RowLaws.{IsPushed}
+use Rattle.xsb.proofs.RowItems.{IsPushed}
 use Rattle.xsb.proofs.rows.push_row.Given as goal
 
 abbrev pub invariant-loop-run : goal.invariant-loop-run

@@ -1,6 +1,6 @@
 use Rattle.std.proofs.Common.{◌∙◌, sym}
 use Rattle.std.proofs.lemmas.Bool.{eqb-true}
-use Rattle.xsb.proofs.RowLaws.{IsMeasured-floor, IsMeasured-other, IsMeasured-all}
+use Rattle.xsb.proofs.RowItems.{IsMeasured-floor, IsMeasured-other, IsMeasured-all}
 use Rattle.xsb.proofs.rows.row_length.Goals as goal
 
 pub loop-rest-preserved-then-not-is_floor : goal.loop-rest-preserved-then-not-is_floor

@@ -1,6 +1,6 @@
 use Rattle.std.proofs.Common.{length, List}
 use Rattle.grid.specs.declared.cell.Cell.{Cell}
-use Rattle.xsb.proofs.RowLaws.{IsMeasured}
+use Rattle.xsb.proofs.RowItems.{IsMeasured}
 use Rattle.xsb.proofs.rows.row_length.Given as goal
 
 abbrev pub invariant-loop-rest : goal.invariant-loop-rest

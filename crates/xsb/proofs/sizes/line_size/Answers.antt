@@ -3,13 +3,13 @@ use Rattle.std.proofs.lemmas.Bool.Decides.{nat_tests}
 use Rattle.std.proofs.lemmas.Iterator.Consumers.{YieldsList-turn, YieldsList-end}
 use Rattle.std.proofs.lemmas.Iterator.Splits.{YieldsList-from_slice_split}
 use Rattle.std.proofs.lemmas.List.{map-append}
-use Rattle.xsb.specs.declared.bytes.TheConstants.{BAR, WALL}
-use Rattle.xsb.proofs.LineLaws.{IsCounted-more, IsRowLine-counted, text-piece}
+use Rattle.xsb.specs.Bytes.{bar, wall_byte}
+use Rattle.xsb.proofs.RowLines.{IsCounted-more, IsRowLine-counted, text-piece}
 use Rattle.xsb.proofs.sizes.line_size.Goals as goal
 
 pub returns-in_err-cols : goal.returns-in_err-cols
 returns-in_err-cols c =
-    let turn = YieldsList-turn (YieldsList-from_slice_split _ (λ b. b == BAR) c.args.line.now (cc) (cc) (cc) (λ x b q k. search rules)) c.loop-piece.yielded _ c.loop-piece.yielded_by _ _ c.in-Some.piece c.in-Some.is c.next.ensures.steps in
+    let turn = YieldsList-turn (YieldsList-from_slice_split _ (λ b. b == bar) c.args.line.now (cc) (cc) (cc) (λ x b q k. search rules)) c.loop-piece.yielded _ c.loop-piece.yielded_by _ _ c.in-Some.piece c.in-Some.is c.next.ensures.steps in
     let some : 0 < length c.in-Some.piece.now = grind (arith, nat_tests) in
     rw c.from_residual.ensures (text-piece c.in-Some.piece.now turn some c.in_err-cols.ensures)
 
@@ -21,6 +21,6 @@ loop-piece-preserved-then-not-is_empty c =
 
 pub returns : goal.returns
 returns c =
-    let all = YieldsList-end (YieldsList-from_slice_split _ (λ b. b == BAR) c.args.line.now (cc) (cc) (cc) (λ x b q k. search rules)) c.loop-piece.yielded _ c.loop-piece.yielded_by _ _ c.in-None.is c.next.ensures.steps in
-    let wall : Contains c.args.line.now WALL = search rules in
+    let all = YieldsList-end (YieldsList-from_slice_split _ (λ b. b == bar) c.args.line.now (cc) (cc) (cc) (λ x b q k. search rules)) c.loop-piece.yielded _ c.loop-piece.yielded_by _ _ c.in-None.is c.next.ensures.steps in
+    let wall : Contains c.args.line.now wall_byte = search rules in
     IsRowLine-counted c.loop-piece.invariant.1 all.0 wall

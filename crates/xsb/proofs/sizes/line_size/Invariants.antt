@@ -1,6 +1,6 @@
 use Rattle.std.proofs.Common.{List, map}
 use Rattle.grid.specs.declared.cell.Cell.{Cell}
-use Rattle.xsb.proofs.LineLaws.{IsCounted}
+use Rattle.xsb.proofs.RowLines.{IsCounted}
 use Rattle.xsb.proofs.sizes.line_size.Given as goal
 
 abbrev pub invariant-loop-piece : goal.invariant-loop-piece

@@ -1,5 +1,5 @@
 use Rattle.std.proofs.Common.{length}
-use Rattle.xsb.proofs.LineLaws.{PushesRows}
+use Rattle.xsb.proofs.RowLines.{PushesRows}
 use Rattle.xsb.proofs.sizes.push_line.Given as goal
 
 abbrev pub invariant-loop-piece : goal.invariant-loop-piece

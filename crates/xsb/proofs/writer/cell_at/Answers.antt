@@ -1,6 +1,6 @@
 use Rattle.std.proofs.Common.{◌≡◌, ◌==◌, ap, ◌∙◌}
 use Rattle.grid.specs.Board.{start_player}
-use Rattle.xsb.proofs.WriteLaws.{cell_with-level}
+use Rattle.xsb.proofs.CellsByReaders.{cell_with-level}
 use Rattle.xsb.proofs.writer.cell_at.Goals as goal
 
 pub returns : goal.returns

@@ -1,6 +1,6 @@
 use Rattle.std.proofs.Common.{◌+◌, ◌<◌, length, arith, sym, ap, ◌∙◌}
 use Rattle.xsb.specs.Boards.{is_floor}
-use Rattle.xsb.proofs.WriteLaws.{kept-floor, kept-other}
+use Rattle.xsb.proofs.CellsByReaders.{kept-floor, kept-other}
 use Rattle.xsb.proofs.writer.kept_cells.Goals.{then-not-is_floor, else-not-is_floor}
 use Rattle.xsb.proofs.writer.kept_cells.Goals as goal
 

@@ -1,7 +1,7 @@
 use Rattle.std.proofs.Common.{◌≡◌, ◌++◌}
 use Rattle.bstr.specs.Text.{Extends}
 use Rattle.xsb.specs.Written.{written}
-use Rattle.xsb.proofs.WriteLaws.{left_from}
+use Rattle.xsb.proofs.CellsByReaders.{left_from}
 use Rattle.xsb.proofs.writer.push_rows.Given as goal
 
 abbrev pub invariant-loop-row : goal.invariant-loop-row

@@ -1,4 +1,4 @@
-use Rattle.xsb.proofs.AgainLaws.{written-again}
+use Rattle.xsb.proofs.ReadAgain.{written-again}
 use Rattle.xsb.proofs.writer.write.Goals as goal
 
 pub returns-in-Ok-clause-again : goal.returns-in-Ok-clause-again

@@ -1,7 +1,7 @@
 use Rattle.std.proofs.Common.{length, sym, ap, ◌∙◌}
 use Rattle.area.specs.Reach.{Reach}
-use Rattle.area.proofs.Flooding.{words_few}
-use Rattle.area.proofs.WordSets.{listed}
+use Rattle.area.proofs.lemmas.Flooding.{words_few}
+use Rattle.area.proofs.lemmas.WordSets.{listed}
 use Rattle.area.proofs.scratch.Scratch.least.Goals as goal
 
 pub least_of-requires-clause-some : goal.least_of-requires-clause-some

@@ -1,5 +1,5 @@
 use Rattle.std.proofs.Common.{length, ap, ◌∙◌}
-use Rattle.area.proofs.Flooding.{words_few}
+use Rattle.area.proofs.lemmas.Flooding.{words_few}
 use Rattle.area.proofs.scratch.Scratch.least_with.Goals as goal
 
 pub least_but-requires : goal.least_but-requires

@@ -1,6 +1,6 @@
 use Rattle.std.proofs.Common.{rules, ◌∙◌, sym, ap, arith}
 use Rattle.grid.specs.Masks.{word_count}
-use Rattle.grid.proofs.Levels.{level_squares}
+use Rattle.grid.proofs.lemmas.Levels.{level_squares}
 use Rattle.area.proofs.scratch.Scratch.new.Goals as goal
 
 pub invariant_of-result : goal.invariant_of-result

@@ -1,6 +1,6 @@
 use Rattle.std.proofs.Common.{sym, ap, ◌∙◌}
 use Rattle.area.specs.Reach.{Reach}
-use Rattle.area.proofs.WordSets.{listed}
+use Rattle.area.proofs.lemmas.WordSets.{listed}
 use Rattle.area.proofs.scratch.Scratch.reaches.Goals as goal
 
 pub returns : goal.returns

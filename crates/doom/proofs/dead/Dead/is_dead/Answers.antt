@@ -1,6 +1,6 @@
 use Rattle.std.proofs.Common.{◌↔◌, not, IsTrue, rules}
 use Rattle.doom.specs.Deadlocks.{IsDead}
-use Rattle.doom.proofs.Soundness.{dead_loses_box}
+use Rattle.doom.proofs.lemmas.Soundness.{dead_loses_box}
 use Rattle.doom.proofs.dead.Dead.is_dead.Goals as goal
 
 pub returns-clause-lost : goal.returns-clause-lost

@@ -1,6 +1,6 @@
 use Rattle.std.proofs.Common.{◌≡◌, ◌<◌, false, [], length, replicate, sym, ap, ◌∙◌, arith}
 use Rattle.std.proofs.lemmas.Bool.{false≢true}
-use Rattle.doom.specs.Pulling.{Marks}
+use Rattle.doom.specs.inside.Pulling.{Marks}
 use Rattle.doom.specs.Deadlocks.{home}
 use Rattle.doom.proofs.Pulling.{spread_none, spread_along, spread_more, spread_mark, spread_goals, marks_here}
 use Rattle.doom.proofs.pulls.Found.goals.Goals as goal

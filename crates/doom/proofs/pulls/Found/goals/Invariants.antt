@@ -1,5 +1,5 @@
 use Rattle.std.proofs.Common.{◌<◌}
-use Rattle.doom.specs.Pulling.{IsSpread}
+use Rattle.doom.specs.inside.Pulling.{IsSpread}
 use Rattle.doom.proofs.pulls.Found.goals.Given as goal
 
 abbrev pub invariant-loop-index : goal.invariant-loop-index

@@ -1,5 +1,5 @@
 use Rattle.std.proofs.Common.{sym, subst, ◌<◌}
-use Rattle.grid.proofs.Steps.{inside_grid}
+use Rattle.grid.proofs.lemmas.Steps.{inside_grid}
 use Rattle.doom.proofs.pulls.Found.pull.Goals as goal
 
 pub next-requires : goal.next-requires

@@ -4,7 +4,7 @@ use Rattle.grid.specs.declared.cell.Cell.{Cell}
 use Rattle.grid.specs.declared.fault.LevelFault.{LevelFault}
 use Rattle.grid.specs.Board.{Board, box_cell, is_wall, start, start_player}
 use Rattle.grid.specs.Lawful.{cell_fault, player_count}
-use Rattle.grid.proofs.Levels.{counts_of, start_is_scene_with}
+use Rattle.grid.proofs.lemmas.Levels.{counts_of, start_is_scene_with}
 use Rattle.grid.proofs.level.Level.from_cells.Goals as goal
 
 -- what the answer that no cell is at fault says of the board

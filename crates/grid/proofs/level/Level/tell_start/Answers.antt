@@ -1,4 +1,4 @@
-use Rattle.grid.proofs.Levels.{start_fits}
+use Rattle.grid.proofs.lemmas.Levels.{start_fits}
 use Rattle.grid.proofs.level.Level.tell_start.Goals as goal
 
 pub returns : goal.returns

@@ -4,7 +4,7 @@ use Rattle.std.specs.List.{list_any}
 use Rattle.grid.specs.Board.{Scene, is_wall}
 use Rattle.grid.specs.Lawful.{box_count}
 use Rattle.grid.specs.Squares.{Squares, is_rising, contains}
-use Rattle.grid.proofs.Places.{no_wall, all_clear}
+use Rattle.grid.proofs.lemmas.Places.{no_wall, all_clear}
 use Rattle.grid.proofs.position.Position.fits.Goals as goal
 
 pub returns-then-meets_wall : goal.returns-then-meets_wall

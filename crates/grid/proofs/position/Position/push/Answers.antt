@@ -4,8 +4,8 @@ use Rattle.arrayvec.specs.ArrayVec.{with_items}
 use Rattle.arrayvec.proofs.ArrayVecLemmas.{items-with_items}
 use Rattle.grid.specs.Board.{Scene}
 use Rattle.grid.specs.Squares.{Squares, is_rising, contains, insert, remove}
-use Rattle.grid.proofs.Squares.{contains-remove_out, is_rising-insert, is_rising-remove}
-use Rattle.grid.proofs.Places.{place_inside, remove_place}
+use Rattle.grid.proofs.lemmas.Squares.{contains-remove_out, is_rising-insert, is_rising-remove}
+use Rattle.grid.proofs.lemmas.Places.{place_inside, remove_place}
 use Rattle.grid.proofs.position.Position.push.Goals as goal
 
 -- the boxes without the one that is pushed

@@ -1,7 +1,7 @@
 use Rattle.std.proofs.Common.{◌≡◌, false, get_or, rules, sym, ap, ◌∙◌}
 use Rattle.grid.specs.Squares.{contains}
 use Rattle.grid.specs.Board.{Scene}
-use Rattle.grid.proofs.Squares.{contains-marked}
+use Rattle.grid.proofs.Marked.{contains-marked}
 use Rattle.grid.proofs.state.State.has_box.Goals as goal
 
 pub returns : goal.returns

@@ -3,8 +3,8 @@ use Rattle.std.proofs.lemmas.Bool.{true≢false, false≢true}
 use Rattle.grid.specs.declared.cell.Cell.TheVariants.{Wall}
 use Rattle.grid.specs.Board.{Scene, goal_cell, is_goal}
 use Rattle.grid.specs.Squares.{contains}
-use Rattle.grid.proofs.Squares.{contains-marked}
-use Rattle.grid.proofs.Steps.{inside_grid}
+use Rattle.grid.proofs.Marked.{contains-marked}
+use Rattle.grid.proofs.lemmas.Steps.{inside_grid}
 use Rattle.grid.proofs.state.State.is_solved.Goals as goal
 
 pub returns-then-not-has_goal : goal.returns-then-not-has_goal

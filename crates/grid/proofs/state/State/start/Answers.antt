@@ -1,10 +1,11 @@
 use Rattle.std.proofs.Common.{◌≡◌, ◌≤◌, length, map, sym, ap, subst, ◌∙◌, arith}
 use Rattle.std.proofs.lemmas.List.{length-map}
 use Rattle.grid.specs.declared.limits.TheConstants.{MAX_SQUARES}
-use Rattle.grid.specs.Board.{Scene, IsScene, box_cell, start, start_boxes}
-use Rattle.grid.specs.Squares.{marked}
-use Rattle.grid.proofs.Levels.{start_is_scene}
-use Rattle.grid.proofs.Places.{marked_start}
+use Rattle.grid.specs.Board.{Scene, box_cell, start, start_boxes}
+use Rattle.grid.specs.States.{IsScene}
+use Rattle.grid.specs.Marks.{marked}
+use Rattle.grid.proofs.lemmas.Levels.{start_is_scene}
+use Rattle.grid.proofs.lemmas.Places.{marked_start}
 use Rattle.grid.proofs.state.State.start.Goals as goal
 
 starts : (c : goal.After-player) → record { boxes = marked c.resize.new.self.items; player = c.player.result } ≡ start c.args.level.now

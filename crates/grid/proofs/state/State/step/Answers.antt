@@ -1,9 +1,10 @@
 use Rattle.std.proofs.Common.{◌≡◌, ℕ, ◌<◌, true, false, length, set, sym, ap, subst, ◌∙◌, arith}
 use Rattle.grid.specs.Board.{Scene, Pushes, next, is_wall}
-use Rattle.grid.specs.Squares.{contains, marked}
-use Rattle.grid.proofs.Steps.{inside_grid, scene_after_push}
-use Rattle.grid.proofs.Levels.{level_squares}
-use Rattle.grid.proofs.Places.{push_flags}
+use Rattle.grid.specs.Squares.{contains}
+use Rattle.grid.specs.Marks.{marked}
+use Rattle.grid.proofs.lemmas.Steps.{inside_grid, scene_after_push}
+use Rattle.grid.proofs.lemmas.Levels.{level_squares}
+use Rattle.grid.proofs.lemmas.Places.{push_flags}
 use Rattle.grid.proofs.state.State.step.Goals as goal
 
 pub next-ahead-requires : goal.next-ahead-requires

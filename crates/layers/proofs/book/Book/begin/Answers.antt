@@ -1,9 +1,9 @@
 use Rattle.std.proofs.Common.{◌≡◌, vec_len, false, true, length, replicate, ap, sym, subst, ◌∙◌, arith, rules}
-use Rattle.layers.specs.BookInside.{book_view}
+use Rattle.layers.specs.inside.BookInside.{book_view}
 use Rattle.layers.specs.BookView.{IsLawfulBook}
 use Rattle.layers.specs.Books.{MayBegin}
-use Rattle.layers.proofs.Books.{lawful_begin}
-use Rattle.layers.proofs.Lists.{resized}
+use Rattle.layers.proofs.lemmas.Books.{lawful_begin}
+use Rattle.layers.proofs.lemmas.Lists.{resized}
 use Rattle.layers.proofs.book.Book.begin.Goals as goal
 
 pub invariant_of-self-2 : goal.invariant_of-self-2
@@ -19,6 +19,8 @@ invariant_of-self-2 c =
     record {
       lawful = subst (λ bs. IsLawfulBook (record v { begun = true; claimed = bs; done = c.resize-2.new.self.items })) (sym claimed)
           (subst (λ bs. IsLawfulBook (record v { begun = true; claimed = replicate n false; done = bs })) (sym done) (subst (λ w. IsLawfulBook (record v { begun = true; claimed = replicate n false; done = replicate n false; waiting = w })) (sym not.3) book));
+      few = c.self.invariant.few;
+      boxes = c.self.invariant.boxes;
       cuts = c.self.invariant.cuts;
       taken = λ r lt. absurd (omega arith);
     }

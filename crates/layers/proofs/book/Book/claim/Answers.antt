@@ -1,8 +1,8 @@
 use Rattle.std.proofs.Common.{◌≡◌, ℕ, ◌<◌, Bool, false, true, length, slice_get, set, Some, ap, sym, refl, subst, ◌∙◌, arith}
 use Rattle.std.proofs.lemmas.Option.{slice_get_read}
-use Rattle.layers.specs.BookInside.{book_view, IsSoundBook}
+use Rattle.layers.specs.inside.BookInside.{book_view, IsSoundBook}
 use Rattle.layers.specs.Books.{IsTaken, IsFreeRank}
-use Rattle.layers.proofs.Books.{lawful_claim, claimed-taken, marks_long}
+use Rattle.layers.proofs.lemmas.Books.{lawful_claim, claimed-taken, marks_long}
 use Rattle.layers.proofs.book.Book.claim.Goals as goal
 
 pub invariant_of-self-then-not-index-2 : goal.invariant_of-self-then-not-index-2
@@ -15,6 +15,8 @@ invariant_of-self-then-not-index-2 c =
     let lt : rank < length v.claimed = omega (arith, c.len-rank-end.ensures) in
     record {
       lawful = lawful_claim v rank sound.lawful;
+      few = sound.few;
+      boxes = sound.boxes;
       cuts = sound.cuts;
       taken = claimed-taken v rank lt c.loop-rank.invariant.1;
     }

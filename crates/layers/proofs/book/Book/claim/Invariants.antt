@@ -1,5 +1,5 @@
 use Rattle.std.proofs.Common.{◌≡◌, ℕ, ◌<◌}
-use Rattle.layers.specs.BookInside.{book_view}
+use Rattle.layers.specs.inside.BookInside.{book_view}
 use Rattle.layers.specs.Books.{IsTaken}
 use Rattle.layers.proofs.book.Book.claim.Given as goal
 

@@ -1,7 +1,5 @@
-use Rattle.std.proofs.Common.{◌≡◌, None, Some, length, ap, sym, subst, ◌∙◌, arith}
-use Rattle.std.specs.Option.{option_map}
-use Rattle.grid.specs.Board.{Scene}
-use Rattle.layers.specs.BookInside.{IsPiece}
+use Rattle.std.proofs.Common.{◌≡◌, None, length, ap, sym, subst, ◌∙◌, arith}
+use Rattle.layers.specs.inside.BookInside.{IsPiece}
 use Rattle.layers.specs.BookView.{Closed}
 use Rattle.layers.specs.Books.{closed_place}
 use Rattle.layers.proofs.Cuts.{place_in_piece, place_past_piece, place_past}
@@ -10,20 +8,20 @@ use Rattle.layers.proofs.book.Book.closed_at.Goals as goal
 pub returns-in_err-from : goal.returns-in_err-from
 returns-in_err-from c =
     subst (λ v. c.from_residual.result ≡ closed_place v.closed c.args.layer c.args.place) c.self.view_is
-    (c.from_residual.ensures ∙ sym (place_past (λ (x : Closed). x.0) c.self.inside.starts.items c.self.inside.seen.entries c.args.layer c.args.place (omega (arith, c.in_err-from.ensures.piece, ap length c.as_slice.ensures.value))))
+    (c.from_residual.ensures ∙ sym (place_past (λ (x : Closed). x.0) c.self.inside.starts.items c.self.inside.found.seen c.args.layer c.args.place (omega (arith, c.in_err-from.ensures.piece, ap length c.as_slice.ensures.value))))
 
 pub returns-then-place-to : goal.returns-then-place-to
 returns-then-place-to c =
     let from = c.in_ok-from.from in let to = c.in_ok-from.to in
-    let piece : IsPiece c.self.inside.starts.items (length c.self.inside.seen.entries) c.args.layer from to =
-    subst (λ n. IsPiece c.self.inside.starts.items n c.args.layer from to) c.len.ensures.len (subst (λ s. IsPiece s c.len.result c.args.layer from to) c.as_slice.ensures.value c.in_ok-from.ensures.piece) in
+    let piece : IsPiece c.self.inside.starts.items (length c.self.inside.found.seen) c.args.layer from to =
+    subst (λ n. IsPiece c.self.inside.starts.items n c.args.layer from to) c.closed_len.ensures (subst (λ s. IsPiece s c.closed_len.result c.args.layer from to) c.as_slice.ensures.value c.in_ok-from.ensures.piece) in
     subst (λ v. None ≡ closed_place v.closed c.args.layer c.args.place) c.self.view_is
-    (sym (place_past_piece (λ (x : Closed). x.0) c.self.inside.starts.items c.self.inside.seen.entries c.args.layer from to c.args.place piece (omega arith)))
+    (sym (place_past_piece (λ (x : Closed). x.0) c.self.inside.starts.items c.self.inside.found.seen c.args.layer from to c.args.place piece (omega arith)))
 
 pub returns : goal.returns
 returns c =
     let from = c.in_ok-from.from in let to = c.in_ok-from.to in
-    let piece : IsPiece c.self.inside.starts.items (length c.self.inside.seen.entries) c.args.layer from to =
-    subst (λ n. IsPiece c.self.inside.starts.items n c.args.layer from to) c.len.ensures.len (subst (λ s. IsPiece s c.len.result c.args.layer from to) c.as_slice.ensures.value c.in_ok-from.ensures.piece) in
-    subst (λ v. Some c.copy.result ≡ closed_place v.closed c.args.layer c.args.place) c.self.view_is
-    ((ap (λ (z : Scene). Some z) c.copy.ensures ∙ ap (option_map (λ (x : Closed). x.0)) c.in_ok-position.ensures.entry) ∙ sym (place_in_piece (λ (x : Closed). x.0) c.self.inside.starts.items c.self.inside.seen.entries c.args.layer from to c.args.place piece (omega (arith, c.in_ok-from.ensures.order))))
+    let piece : IsPiece c.self.inside.starts.items (length c.self.inside.found.seen) c.args.layer from to =
+    subst (λ n. IsPiece c.self.inside.starts.items n c.args.layer from to) c.closed_len.ensures (subst (λ s. IsPiece s c.closed_len.result c.args.layer from to) c.as_slice.ensures.value c.in_ok-from.ensures.piece) in
+    subst (λ v. c.closed_at.result ≡ closed_place v.closed c.args.layer c.args.place) c.self.view_is
+    (c.closed_at.ensures ∙ sym (place_in_piece (λ (x : Closed). x.0) c.self.inside.starts.items c.self.inside.found.seen c.args.layer from to c.args.place piece (omega (arith, c.in_ok-from.ensures.order))))

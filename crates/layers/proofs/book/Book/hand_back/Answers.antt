@@ -1,9 +1,13 @@
-use Rattle.std.proofs.Common.{◌≡◌, ◌+◌, ◌<◌, length, fold, get_or, slice_get, true, false, Some, inl, inr, ap, sym, subst, ◌∙◌, arith}
+use Rattle.std.proofs.Common.{◌≡◌, ◌+◌, ◌<◌, List, length, fold, get_or, set, slice_get, true, false, Some, inl, inr, ap, sym, subst, ◌∙◌, arith}
 use Rattle.std.specs.Prelude.{nat_lt}
-use Rattle.layers.specs.BookInside.{book_view}
-use Rattle.layers.specs.Books.{IsAtWork, AreWanted, is_wanted_in, entered, all_entered}
+use Rattle.grid.specs.Lawful.{box_count}
+use Rattle.layers.specs.BookView.{BookView, Closed, IsLawfulBook}
+use Rattle.layers.specs.FoundView.{FoundView}
+use Rattle.layers.specs.inside.BookInside.{book_view, cut_at, AreCuts, IsSoundBook}
+use Rattle.layers.specs.Books.{IsAtWork, is_wanted_in, entered, all_entered}
 use Rattle.layers.specs.Reaching.{total}
-use Rattle.layers.proofs.Books.{begun-since, few_ranks, handed, handed_view, over_lawful, taken_done, get_or_same, waiting_wanted}
+use Rattle.layers.proofs.lemmas.Books.{few_ranks, handed, handed_view, over_lawful, taken_done, get_or_same, fits_few}
+use Rattle.layers.proofs.lemmas.Closings.{ok_is, err_is}
 use Rattle.layers.proofs.book.Book.hand_back.Goals.{then-self-via-then-self, then-self-via-else-self+then-passes_limit}
 use Rattle.layers.proofs.book.Book.hand_back.Goals as goal
 
@@ -17,9 +21,16 @@ invariant_of-self c =
             | then-self-via-then-self w ↦ inl w.if-self.true
             | then-self-via-else-self+then-passes_limit w ↦ inr (subst (λ ss. true ≡ nat_lt now.limit (total now.closed + length (all_entered now p.rank ss))) c.successors-successors.ensures (w.if-passes_limit.ensures p.rank))
           ]);
+      few = c.self.invariant.few;
+      boxes = c.self.invariant.boxes;
       cuts = c.self.invariant.cuts;
       taken = c.self.invariant.taken;
     }
+
+pub passes_limit-requires : goal.passes_limit-requires
+passes_limit-requires c = λ i s at.
+    let found : IsAtWork c.args.self.now c.args.parcel.now × (slice_get c.args.self.now.done c.args.parcel.now.rank ≡ Some false) = c.in_default.ensures.none in
+    fits_few c.args.parcel.now c.tell.ensures c.args.self.now.level found.0.0 c.successors-successors.result.now c.successors-successors.ensures i s at
 
 pub enter_all-requires-clause-rank : goal.enter_all-requires-clause-rank
 enter_all-requires-clause-rank c =
@@ -28,43 +39,56 @@ enter_all-requires-clause-rank c =
     let lt : c.args.parcel.now.rank < length a.done.items = subst (λ v. c.args.parcel.now.rank < length v.done) (sym c.self.view_is) found.0.2 in
     omega (arith, c.rank.ensures, few_ranks (book_view a) c.self.invariant.lawful c.args.parcel.now.rank lt)
 
-pub enter_all-requires-clause-wanted : goal.enter_all-requires-clause-wanted
-enter_all-requires-clause-wanted c =
-    let a = c.self.inside in
+pub enter_all-requires-clause-few : goal.enter_all-requires-clause-few
+enter_all-requires-clause-few c = λ i s at.
     let found : IsAtWork c.args.self.now c.args.parcel.now × (slice_get c.args.self.now.done c.args.parcel.now.rank ≡ Some false) = c.in_default.ensures.none in
-    let lt : c.args.parcel.now.rank < length a.done.items = subst (λ v. c.args.parcel.now.rank < length v.done) (sym c.self.view_is) found.0.2 in
-    let begun = begun-since (book_view a) c.self.invariant.lawful c.args.parcel.now.rank lt in
-    subst (AreWanted (is_wanted_in a.seen.entries a.shares a.share)) (sym c.reserve.ensures.entries) (waiting_wanted a c.self.invariant.lawful c.self.invariant.cuts begun)
+    let boxes : c.self.inside.found.boxes ≡ box_count c.args.self.now.level = c.self.invariant.boxes ∙ ap (λ (v : BookView). box_count v.level) c.self.view_is in
+    let few = fits_few c.args.parcel.now c.tell.ensures c.args.self.now.level found.0.0 c.successors-successors.result.now c.successors-successors.ensures i s at in
+    omega (arith, few, boxes)
+
+pub invariant_of-self-then-is_err : goal.invariant_of-self-then-is_err
+invariant_of-self-then-is_err c =
+    let kept : c.enter_all.new.self ≡ c.self.inside.found = err_is c.enter_all.result c.if-is_err.ensures.value c.enter_all.ensures.err in
+    subst (λ (f : FoundView). IsSoundBook (record c.self.inside { found = f })) (sym kept) c.self.invariant
 
 pub invariant_of-self-2 : goal.invariant_of-self-2
 invariant_of-self-2 c =
     let a = c.self.inside in let p = c.args.parcel.now in let now = c.args.self.now in
     let found : IsAtWork now p × (slice_get now.done p.rank ≡ Some false) = c.in_default.ensures.none in
-    let kept : c.reserve.new.self.entries ≡ a.waiting.entries = c.reserve.ensures.entries in
-    let in_all : c.enter_all.new.waiting.entries ≡ fold (entered (is_wanted_in a.seen.entries a.shares a.share) c.rank.result) c.reserve.new.self.entries c.successors-successors.result.now = c.enter_all.ensures in
-    let waits : c.enter_all.new.waiting.entries ≡ fold (entered (is_wanted_in a.seen.entries a.shares a.share) p.rank) a.waiting.entries p.successors =
-    in_all ∙ (λ i. fold (entered (is_wanted_in a.seen.entries a.shares a.share) (c.rank.ensures i)) (kept i) (c.successors-successors.ensures i)) in
+    let put = ok_is c.enter_all.result c.if-is_err.ensures.value c.enter_all.ensures.ok in
+    let seen : c.enter_all.new.self.seen ≡ a.found.seen = ap (λ (f : FoundView). f.seen) put in
+    let waits : c.enter_all.new.self.waiting ≡ fold (entered (is_wanted_in a.found.seen a.shares a.share) p.rank) a.found.waiting p.successors =
+    ap (λ (f : FoundView). f.waiting) put ∙ (λ i. fold (entered (is_wanted_in a.found.seen a.shares a.share) (c.rank.ensures i)) a.found.waiting (c.successors-successors.ensures i)) in
     let lt : c.args.worker < length a.tallies.items = omega (arith, subst (λ v. c.args.worker < v.workers) (sym c.self.view_is) c.requires, c.self.invariant.lawful.tallies.0) in
     let told : c.index_mut-2.result.now ≡ get_or a.tallies.items c.args.worker c.index_mut-2.result.now = c.index_mut-2.ensures.value in
     let tally : c.index_mut-2.result.now + 1 ≡ get_or a.tallies.items c.args.worker 0 + 1 = ap (λ n. n + 1) (told ∙ get_or_same a.tallies.items c.args.worker c.index_mut-2.result.now 0 lt) in
     record {
-      lawful = handed a c.self.invariant.lawful c.self.invariant.cuts p c.tell.ensures now c.self.view_is found c.args.worker c.rank-2.result (c.index_mut-2.result.now + 1) c.enter_all.new.waiting.entries
+      lawful = subst (λ (xs : List Closed). IsLawfulBook (record (book_view a) { closed = cut_at a.starts.items xs; done = set a.done.items c.rank-2.result true; waiting = c.enter_all.new.self.waiting; tallies = set a.tallies.items c.args.worker (c.index_mut-2.result.now + 1) })) (sym seen)
+          (handed a c.self.invariant.lawful c.self.invariant.cuts p c.tell.ensures now c.self.view_is found c.args.worker c.rank-2.result (c.index_mut-2.result.now + 1) c.enter_all.new.self.waiting
           c.rank-2.ensures tally waits (subst (λ v. c.args.worker < v.workers) (sym c.self.view_is) c.requires) c.if-self.false
-          (subst (λ ss. false ≡ nat_lt now.limit (total now.closed + length (all_entered now p.rank ss))) c.successors-successors.ensures (c.if-passes_limit.ensures p.rank));
-      cuts = c.self.invariant.cuts;
+          (subst (λ ss. false ≡ nat_lt now.limit (total now.closed + length (all_entered now p.rank ss))) c.successors-successors.ensures (c.if-passes_limit.ensures p.rank)));
+      few = c.self.invariant.few;
+      boxes = ap (λ (f : FoundView). f.boxes) put ∙ c.self.invariant.boxes;
+      cuts = subst (λ (xs : List Closed). AreCuts a.starts.items (length xs)) (sym seen) c.self.invariant.cuts;
       taken = λ r lt. taken_done (book_view a) c.rank-2.result r (c.self.invariant.taken r lt);
     }
+
+pub returns-then-is_err-clause-err : goal.returns-then-is_err-clause-err
+returns-then-is_err-clause-err c =
+    let kept : c.enter_all.new.self ≡ c.self.inside.found = err_is c.enter_all.result c.if-is_err.ensures.value c.enter_all.ensures.err in
+    ap (λ (f : FoundView). book_view (record c.self.inside { found = f })) kept ∙ c.self.view_is
 
 pub returns-clause-ok : goal.returns-clause-ok
 returns-clause-ok c =
     let a = c.self.inside in let p = c.args.parcel.now in let now = c.args.self.now in
     let found : IsAtWork now p × (slice_get now.done p.rank ≡ Some false) = c.in_default.ensures.none in
-    let kept : c.reserve.new.self.entries ≡ a.waiting.entries = c.reserve.ensures.entries in
-    let in_all : c.enter_all.new.waiting.entries ≡ fold (entered (is_wanted_in a.seen.entries a.shares a.share) c.rank.result) c.reserve.new.self.entries c.successors-successors.result.now = c.enter_all.ensures in
-    let waits : c.enter_all.new.waiting.entries ≡ fold (entered (is_wanted_in a.seen.entries a.shares a.share) p.rank) a.waiting.entries p.successors =
-    in_all ∙ (λ i. fold (entered (is_wanted_in a.seen.entries a.shares a.share) (c.rank.ensures i)) (kept i) (c.successors-successors.ensures i)) in
+    let put = ok_is c.enter_all.result c.if-is_err.ensures.value c.enter_all.ensures.ok in
+    let seen : c.enter_all.new.self.seen ≡ a.found.seen = ap (λ (f : FoundView). f.seen) put in
+    let waits : c.enter_all.new.self.waiting ≡ fold (entered (is_wanted_in a.found.seen a.shares a.share) p.rank) a.found.waiting p.successors =
+    ap (λ (f : FoundView). f.waiting) put ∙ (λ i. fold (entered (is_wanted_in a.found.seen a.shares a.share) (c.rank.ensures i)) a.found.waiting (c.successors-successors.ensures i)) in
     let lt : c.args.worker < length a.tallies.items = omega (arith, subst (λ v. c.args.worker < v.workers) (sym c.self.view_is) c.requires, c.self.invariant.lawful.tallies.0) in
     let told : c.index_mut-2.result.now ≡ get_or a.tallies.items c.args.worker c.index_mut-2.result.now = c.index_mut-2.ensures.value in
     let tally : c.index_mut-2.result.now + 1 ≡ get_or a.tallies.items c.args.worker 0 + 1 = ap (λ n. n + 1) (told ∙ get_or_same a.tallies.items c.args.worker c.index_mut-2.result.now 0 lt) in
-    handed_view a c.self.invariant.lawful c.self.invariant.cuts p c.tell.ensures now c.self.view_is found c.args.worker c.rank-2.result (c.index_mut-2.result.now + 1) c.enter_all.new.waiting.entries
+    ap (λ (xs : List Closed). record (book_view a) { closed = cut_at a.starts.items xs; done = set a.done.items c.rank-2.result true; waiting = c.enter_all.new.self.waiting; tallies = set a.tallies.items c.args.worker (c.index_mut-2.result.now + 1) }) seen
+    ∙ handed_view a c.self.invariant.lawful c.self.invariant.cuts p c.tell.ensures now c.self.view_is found c.args.worker c.rank-2.result (c.index_mut-2.result.now + 1) c.enter_all.new.self.waiting
     c.rank-2.ensures tally waits

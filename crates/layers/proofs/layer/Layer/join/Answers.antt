@@ -2,7 +2,7 @@ use Rattle.std.proofs.Common.{◌≡◌, Some, sym, ap, ◌∙◌}
 use Rattle.std.proofs.lemmas.Option.{same_Some}
 use Rattle.std.specs.Prelude.{slice_get}
 use Rattle.layers.specs.BookView.{BookView, last_layer}
-use Rattle.layers.proofs.Joins.{one_book}
+use Rattle.layers.proofs.lemmas.Joins.{one_book}
 use Rattle.layers.proofs.layer.Layer.join.Goals as goal
 
 pub returns-in-Ok : goal.returns-in-Ok

@@ -1,6 +1,6 @@
 use Rattle.std.proofs.Common.{◌∙◌}
 use Rattle.grid.specs.Board.{push_cmp}
-use Rattle.layers.specs.Layered.{origin_cmp}
+use Rattle.layers.specs.Openings.{origin_cmp}
 use Rattle.layers.proofs.Packing.{word_order}
 use Rattle.layers.proofs.origin.Origin.compare.Goals as goal
 

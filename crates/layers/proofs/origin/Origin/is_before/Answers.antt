@@ -1,7 +1,7 @@
 use Rattle.std.proofs.Common.{ap, ◌∙◌}
 use Rattle.std.specs.Ordering.{is_lt}
 use Rattle.grid.specs.Board.{push_cmp}
-use Rattle.layers.specs.Layered.{origin_cmp}
+use Rattle.layers.specs.Openings.{origin_cmp}
 use Rattle.layers.proofs.Packing.{word_order, less_word}
 use Rattle.layers.proofs.origin.Origin.is_before.Goals as goal
 

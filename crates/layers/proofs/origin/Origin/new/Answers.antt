@@ -1,6 +1,6 @@
 use Rattle.std.proofs.Common.{◌+◌, ◌*◌, ◌<◌, rules, ◌∙◌}
 use Rattle.layers.specs.declared.origin.TheConstants.{DIRECTIONS, SQUARES}
-use Rattle.layers.specs.Packed.{parted}
+use Rattle.layers.specs.inside.Packed.{parted}
 use Rattle.layers.proofs.Packing.{parted_packed}
 use Rattle.layers.proofs.origin.Origin.new.Goals as goal
 

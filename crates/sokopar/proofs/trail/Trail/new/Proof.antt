@@ -1,6 +1,5 @@
--- `new` picks that nothing was seen. Assumes `Logic`.
+-- `new` picks that nothing was done. Assumes `Logic`.
 use Rattle.std.proofs.Common.{[], ◌∷◌, refl}
-use Rattle.sokopar.specs.Ends.{untouched}
 use seplogic.Ra.Ura.{Ura}
 use mir.Syntax.{Fn}
 use mir.Val.{Val}
@@ -57,7 +56,7 @@ module _ {M : Type 1} {𝓤 : Ura M} (𝓛 : Logic 𝓤) (at_mem : Memory → SP
     walks =
         let a = z.0.3 in
         let vss = z.0.4 in
-        let trail : (Trail.the_row).Denot = record { seen = untouched } in
+        let trail : (Trail.the_row).Denot = record { acts = [] } in
         qed 𝓛 ((raw toks ⊛ ‵ (owns (types_at ended.signature.params z.0.0) a vss)) ∷ raw ((held z.0.0 a).requires z.1) ∷ []) ∵
         keep ! (0 ∷ []) $ split ! $ move ! (1 ∷ []) $ drop ! $
         enter ! C Λ function [] Post $ alloc_all ! (λ l. pass_all ! refl tt $

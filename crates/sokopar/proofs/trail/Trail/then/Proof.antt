@@ -1,4 +1,4 @@
--- `then` picks what the event makes of what was seen. Assumes `Logic`.
+-- `then` picks what the event makes of what was done. Assumes `Logic`.
 use Rattle.std.proofs.Common.{List, [], ◌∷◌, ◌++◌, refl}
 use seplogic.Ra.Ura.{Ura}
 use mir.Syntax.{Fn}
@@ -28,7 +28,7 @@ use denote.Triple.Walked.{says, Stays, stay_dropped, walk_of, ends_at, walk_Meet
 use Rattle.sokopar.proofs.Walks.{none, none_made}
 use Rattle.sokopar.specs.contracts.trail.Trail as Trail
 use Rattle.sokopar.specs.contracts.trail.Event as Event
-use Rattle.sokopar.specs.Ends.{after}
+use Rattle.sokopar.specs.inside.Trail.{after}
 use Rattle.sokopar.specs.contracts.trail.Trail.then as F
 use Rattle.sokopar.specs.contracts.trail.Trail.then.Key.{name as #self}
 use Rattle.sokopar.proofs.trail.Trail.then.Statement as stated
@@ -62,7 +62,7 @@ module _ {M : Type 1} {𝓤 : Ura M} (𝓛 : Logic 𝓤) (at_mem : Memory → SP
         let vss = z.0.4 in
         let u : Val = vptr a.0.ref_ptr.0 a.0.ref_ptr.1 in
         let v : Val = vptr a.1.0.ref_ptr.0 a.1.0.ref_ptr.1 in
-        let trail : (Trail.the_row).Denot = record { seen = after a.0.now.seen a.1.0.now } in
+        let trail : (Trail.the_row).Denot = record { acts = after a.0.now.acts a.1.0.now } in
         qed 𝓛 ((raw toks ⊛ ‵ (owns (types_at ended.signature.params z.0.0) a vss)) ∷ raw ((held z.0.0 a).requires z.1) ∷ []) ∵
         keep ! (0 ∷ []) $ split ! $ move ! (1 ∷ []) $ fsplit ! $ fsplit ! $ feq_l ! (λ is₀. drop ! $ fsplit ! $ fsplit ! $ feq_l ! (λ is₁. drop ! $ drop ! $
         regoal ! (λ (us : List Val). prop (WpFn 𝓤 H C Λ function (us ++ (vss.1.0 ++ [])) Post)) is₀ refl $

@@ -1,6 +1,6 @@
 use Rattle.std.proofs.Common.{sym, subst, arith}
 use Rattle.xsb.specs.Rows.{IsRowLine}
-use Rattle.xsb.proofs.CellLaws.{Filling-more, Filling-all, Filling-some}
+use Rattle.xsb.proofs.BoardCells.{Filling-more, Filling-all, Filling-some}
 use Rattle.xsb.proofs.boards.Stretch.cells.Goals.{else-lines-test, then-lines-test+in_default}
 use Rattle.xsb.proofs.boards.Stretch.cells.Goals as goal
 

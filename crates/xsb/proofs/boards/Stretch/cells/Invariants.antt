@@ -1,8 +1,8 @@
 use Rattle.std.proofs.Common.{List, ◌≤◌}
 use Rattle.grid.specs.declared.cell.Cell.{Cell}
 use Rattle.xsb.specs.Boards.{cols_of}
-use Rattle.xsb.specs.Stretches.{HasRows}
-use Rattle.xsb.proofs.CellLaws.{Filling}
+use Rattle.xsb.specs.inside.Stretches.{HasRows}
+use Rattle.xsb.proofs.BoardCells.{Filling}
 use Rattle.xsb.proofs.boards.Stretch.cells.Given as goal
 
 abbrev pub invariant-lines : goal.invariant-lines

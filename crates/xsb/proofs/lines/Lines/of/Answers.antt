@@ -1,7 +1,7 @@
 use Rattle.std.proofs.Common.{ap, ◌∙◌}
 use Rattle.bstr.specs.Text.{lines_of}
-use Rattle.xsb.specs.Reading.{cut_lines}
-use Rattle.xsb.proofs.LinesLaws.{lines-of_text}
+use Rattle.xsb.specs.inside.Reading.{cut_lines}
+use Rattle.xsb.proofs.LineFeeds.{lines-of_text}
 use Rattle.xsb.proofs.lines.Lines.of.Goals as goal
 
 pub returns-clause-lines : goal.returns-clause-lines

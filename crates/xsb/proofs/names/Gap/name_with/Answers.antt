@@ -1,5 +1,5 @@
 use Rattle.std.proofs.Common.{refl}
-use Rattle.xsb.proofs.NameLaws.{name_of-gaps}
+use Rattle.xsb.proofs.GapNames.{name_of-gaps}
 use Rattle.xsb.proofs.names.Gap.name_with.Goals as goal
 
 pub returns : goal.returns

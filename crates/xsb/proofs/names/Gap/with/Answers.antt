@@ -1,4 +1,4 @@
-use Rattle.xsb.proofs.NameLaws.{IsGap-more}
+use Rattle.xsb.proofs.GapNames.{IsGap-more}
 use Rattle.xsb.proofs.names.Gap.with.Goals as goal
 
 pub returns : goal.returns

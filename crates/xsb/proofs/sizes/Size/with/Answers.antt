@@ -1,5 +1,5 @@
 use Rattle.std.proofs.Common.{length-append, arith}
-use Rattle.xsb.proofs.LineLaws.{cols_of-append}
+use Rattle.xsb.proofs.RowLines.{cols_of-append}
 use Rattle.xsb.proofs.sizes.Size.with.Goals as goal
 
 pub returns : goal.returns

@@ -1,0 +1,109 @@
+-- The boxes that hang together with one, as the area of a player where all other squares bar the way.
+use Rattle.std.proofs.Common.{◌≡◌, ℕ, ◌+◌, ◌*◌, ◌/◌, ◌%◌, ◌^◌, ◌<◌, ◌≤◌, true, false, not, eqb, ◌&&◌, ◌⊎◌, ◌↔◌, List, None, get_or, set, length, inl, inr, refl, sym, ap, ◌∙◌, arith}
+use Rattle.std.specs.Int.{bit_not, w64}
+use Rattle.std.proofs.lemmas.Bool.{and_parts, not-true, cases_Bool, cases_eq, cases_lt, true≢false, eq-eqb}
+use Rattle.std.proofs.lemmas.List.{get_or-set_same, get_or-set_other, length-set}
+use Rattle.grid.specs.declared.dir.Dir.{Dir}
+use Rattle.grid.specs.Board.{Board, Scene, IsFree, is_wall, next}
+use Rattle.grid.specs.States.{IsScene}
+use Rattle.grid.specs.Masks.{has_bit, word_count}
+use Rattle.grid.specs.Squares.{Squares, contains, is_rising}
+use Rattle.area.specs.Area.{Area}
+use Rattle.area.specs.Groups.{HangsWith, itself, onto}
+use Rattle.area.specs.Words.{passing_from, word_bit}
+use Rattle.area.specs.inside.Flooding.{HasAim, IsGrowing, IsFlooded}
+use Rattle.area.proofs.Detours.{area_step, along_walks}
+use Rattle.grid.proofs.lemmas.Steps.{inside_grid}
+use Rattle.area.proofs.lemmas.Flooding.{flood_inside, flood_whole, player_alone}
+use Rattle.area.proofs.lemmas.Norms.{area_here}
+use Rattle.area.proofs.lemmas.WordBits.{has_bit-parts, word_bit-not}
+use Rattle.area.proofs.lemmas.WordSets.{passing_within, passing_past, passing_rise}
+
+module _ (board : Board) (boxes : Squares) (clear : (q : ℕ) → contains boxes q ≡ true → is_wall board q ≡ false) where
+  -- the squares that are neither walls nor boxes
+  pub others : Squares
+  others = passing_from (λ q. not (is_wall board q) && not (contains boxes q)) 0 (length board.cells)
+
+  -- a player on the square of a box, whose way all other squares bar
+  pub ring : ℕ → Scene
+  ring q = record { boxes = others; player = q }
+
+  pub in_others : (q : ℕ) → is_wall board q ≡ false → contains others q ≡ not (contains boxes q)
+  unfolding others
+  in_others q open_here = (let lt = inside_grid board q open_here in passing_within (λ x. not (is_wall board x) && not (contains boxes x)) 0 (length board.cells) q (omega arith) (omega (arith, lt))) ∙ rw open_here refl
+
+  others_clear : (q : ℕ) → contains others q ≡ true → is_wall board q ≡ false
+  unfolding others
+  others_clear q h = elim (cases_lt q (length board.cells)) [
+    | inl lt ↦ not-true (is_wall board q) (and_parts (not (is_wall board q)) (not (contains boxes q)) (sym (passing_within (λ x. not (is_wall board x) && not (contains boxes x)) 0 (length board.cells) q (omega arith) (omega (arith, lt))) ∙ h)).0
+    | inr le ↦ absurd (true≢false (sym h ∙ passing_past (λ x. not (is_wall board x) && not (contains boxes x)) 0 (length board.cells) q (omega (arith, le))))
+  ]
+
+  no_other : (q : ℕ) → contains boxes q ≡ true → IsFree board others q
+  no_other q h = (clear q h, in_others q (clear q h) ∙ ap not h)
+
+  others_rise : is_rising others ≡ true
+  unfolding others
+  others_rise = passing_rise (λ q. not (is_wall board q) && not (contains boxes q)) 0 (length board.cells)
+
+  pub ring_scene : (q : ℕ) → contains boxes q ≡ true → IsScene board (ring q)
+  unfolding ring
+  ring_scene q h = record { rising = others_rise; boxes = others_clear; player = no_other q h }
+
+  -- a chain of boxes is a walk over their squares
+  pub hangs_walk : {p q : ℕ} → HangsWith board boxes p q → Area board (ring p) q
+  unfolding ring
+  hangs_walk {p = p} (itself h) = area_here board (ring p)
+  hangs_walk {p = p} (onto {q = q} d w h) = area_step board (ring p) q d (hangs_walk w) (no_other (next board q d) h)
+
+  pub walk_hangs : (p q : ℕ) → contains boxes p ≡ true → Area board (ring p) q → HangsWith board boxes p q
+  unfolding ring
+  walk_hangs p q there w = along_walks board others (λ (x : ℕ). HangsWith board boxes p x) step refl (itself there) w.1
+    where
+      step : (x : ℕ) (d : Dir) → HangsWith board boxes p x → IsFree board others (next board x d) → HangsWith board boxes p (next board x d)
+      step x d here free = onto d here (elim (cases_Bool (contains boxes (next board x d))) [
+        | inl yes_box ↦ yes_box
+        | inr no_box ↦ absurd (true≢false (sym (in_others (next board x d) free.0 ∙ ap not no_box) ∙ free.1))
+      ])
+
+-- in the midst of turning words over: those before a place have each bit turned over, and the others are as they were
+abbrev pub AreTurned : List ℕ → ℕ → List ℕ → Type 0
+AreTurned words place now =
+    (length now ≡ length words)
+    × ((k j : ℕ) → k < place → j < 64 → word_bit (get_or now k 0) j ≡ not (word_bit (get_or words k 0) j))
+    × ((k : ℕ) → place ≤ k → get_or now k 0 ≡ get_or words k 0)
+
+pub turned_on : (words now : List ℕ) (place word : ℕ) → AreTurned words place now → place < length now → word ≡ get_or now place 0 → get_or words place 0 < 2 ^ 64 → AreTurned words (place + 1) (set now place (bit_not w64 word))
+turned_on words now place word (size, before, rest) inside read fits = (
+  length-set now place (bit_not w64 word) ∙ size,
+  λ k j lt below. elim (cases_eq k place) [
+    | inl e ↦
+        ap (λ (w : ℕ). word_bit w j) (ap (λ (x : ℕ). get_or (set now place (bit_not w64 word)) x 0) e ∙ get_or-set_same now place (bit_not w64 word) 0 inside)
+        ∙ (word_bit-not word j (let same = rest place (omega arith) in omega (arith, same, read, fits)) below ∙ ap (λ (w : ℕ). not (word_bit w j)) (read ∙ (rest place (omega arith) ∙ ap (λ (x : ℕ). get_or words x 0) (sym e))))
+    | inr ne ↦ ap (λ (w : ℕ). word_bit w j) (get_or-set_other now place k (bit_not w64 word) 0 ne) ∙ before k j (omega (arith, lt, ne)) below
+  ],
+  λ k le. get_or-set_other now place k (bit_not w64 word) 0 (λ e. omega (arith, le, e)) ∙ rest k (omega arith),
+)
+
+pub turned_bit : (words now : List ℕ) (place q : ℕ) → AreTurned words place now → length words ≤ place → q < 64 * length words → has_bit now q ≡ not (has_bit words q)
+turned_bit words now place q (size, before, rest) whole lt =
+    has_bit-parts now q ∙ (before (q / 64) (q % 64) (omega arith) (omega arith) ∙ ap not (sym (has_bit-parts words q)))
+
+-- ---- the group
+
+pub group_found : (board : Board) (boxes : Squares) (square : ℕ) (barred old new : List ℕ) → ((q : ℕ) → contains boxes q ≡ true → is_wall board q ≡ false) → contains boxes square ≡ true → length new ≡ word_count (length board.cells) → ((q : ℕ) → q < length board.cells → has_bit barred q ≡ not (contains boxes q)) → ((q : ℕ) → has_bit old q ≡ eqb square q) → IsGrowing board barred old new → HasAim None new ⊎ IsFlooded board barred old new → (q : ℕ) → (has_bit new q ≡ true) ↔ HangsWith board boxes square q
+unfolding ring others
+group_found board boxes square barred old new clear there size stand alone growing (inl none) q = absurd none
+group_found board boxes square barred old new clear there size stand alone growing (inr found) q = (
+  λ h. walk_hangs board boxes clear square q there (flood_inside board (ring board boxes clear square) barred old new (ring_scene board boxes clear square there) bars begun within growing q h),
+  λ w. flood_whole board (ring board boxes clear square) barred old new (ring_scene board boxes clear square there) bars begun within growing size found q (hangs_walk board boxes clear w),
+)
+  where
+    bars : (x : ℕ) → is_wall board x ≡ false → has_bit barred x ≡ contains (ring board boxes clear square).boxes x
+    bars x open_here = stand x (inside_grid board x open_here) ∙ sym (in_others board boxes clear x open_here)
+
+    begun : has_bit old (ring board boxes clear square).player ≡ true
+    begun = alone square ∙ eq-eqb square square refl
+
+    within : (x : ℕ) → has_bit old x ≡ true → Area board (ring board boxes clear square) x
+    within = player_alone board (ring board boxes clear square) old square refl alone

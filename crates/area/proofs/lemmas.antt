@@ -1,0 +1,7 @@
+-- The lemmas that the proofs of upper crates cite.
+pub mod WordSets
+pub mod WordBits
+pub mod Norms
+pub mod Pushing
+pub mod Growing
+pub mod Flooding

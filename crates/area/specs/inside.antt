@@ -1,0 +1,7 @@
+-- What keeps the books of the code: what its loops keep, what fields hold, why it ends. No report rests on it.
+pub mod Descent
+pub mod ScratchView
+pub mod Spread
+pub mod Detours
+pub mod Flooding
+pub mod PushWords

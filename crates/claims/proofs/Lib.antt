@@ -1,0 +1,7 @@
+pub mod Counts
+pub mod Totals
+pub mod Fitting
+pub mod Seats
+pub mod Drawing
+pub mod Enrolling
+pub mod Opening

@@ -1,0 +1,137 @@
+ghost use Rattle.std.specs.Prelude.{◌≡◌, ◌<◌, IfOk, IsNone, None};
+ghost use Rattle.claims.specs.Hands.{AreApart, Drew, Enrolled, newcomer};
+
+use crate::drawer::Drawer;
+use crate::steps::{Compares, Drawn, Draws, Enrols, Meeting, Newcomer};
+use crate::views::View;
+use atomic_table::Table;
+use std::alloc::{AllocError, Global};
+use std::marker::Model;
+
+/// The number of places of a ledger, which is the greatest number of workers.
+pub const PLACES: u8 = 64;
+
+// the words of a ledger: the number that is drawn next, and one for each place
+const WORDS: usize = 1 + PLACES as usize;
+
+// where the number that is drawn next stands; the places stand behind it
+const NEXT: usize = 0;
+
+/// A ledger of the numbers below its length, each of which is drawn once.
+#[derive(Drop)]
+pub struct Ledger {
+    table: Table<(), View, u32, Drawn, Global>,
+    len: u32,
+}
+
+impl Model for Ledger {
+    ghost use Rattle.claims.specs.Hands.{LedgerView};
+
+    ghost Value = { LedgerView };
+
+    ghost use Rattle.claims.specs.inside.Fields.{ledger_view, IsSoundLedger};
+
+    ghost view = { ledger_view };
+
+    ghost invariant = { IsSoundLedger };
+}
+
+impl Ledger {
+    /// A ledger of the numbers below `len`, none of which is drawn, and a drawer without a place. The only error is
+    /// that memory was refused.
+    pub fn new(alloc: Global, len: u32) -> Result<(Ledger, Drawer), AllocError>
+        ensures { IfOk result (λ made. (made.0.len ≡ len) × (made.1 ≡ newcomer made.0)) }
+    {
+        let (table, seat) = Table::of_words(alloc, &[0; WORDS], &len)?;
+        let drawer = Drawer {
+            seat,
+            place: None,
+            spent: false,
+        };
+        Ok((Ledger { table, len }, drawer))
+    }
+
+    /// The drawer as it was, and one more without a place.
+    pub fn split(&self, drawer: Drawer) -> (Drawer, Drawer)
+        requires { (drawer.ledger ≡ self.now) × IsNone drawer.hand.place }
+        ensures { (result.0 ≡ drawer) × (result.1 ≡ newcomer self.now) }
+    {
+        let mut kept = drawer;
+        let seat = self.table.shared.split_seat::<Newcomer>(&mut kept.seat);
+        let other = Drawer {
+            seat,
+            place: None,
+            spent: false,
+        };
+        (kept, other)
+    }
+
+    /// Gives the drawer a place, and answers `true`. It answers `false`, and gives none, where the drawer has a place
+    /// or the place is not below [`PLACES`], and then takes no step, and where the place is taken.
+    pub fn enrol(&self, drawer: &mut Drawer, place: u8) -> bool
+        requires { drawer.old.ledger ≡ self.now }
+        ensures ledger { drawer.new.ledger ≡ self.now }
+        ensures hand { Enrolled place drawer.old.hand result drawer.new.hand }
+    {
+        if drawer.place.is_some() || place >= PLACES {
+            return false;
+        }
+        let word = 1 + usize::from(place);
+        let is_free = self.table.shared.swap::<Enrols>(&mut drawer.seat, word, 1) == 0;
+        if is_free {
+            drawer.place = Some(place);
+        }
+        is_free
+    }
+
+    /// Draws the next number. It answers `None` where the drawer has no place or is spent out, and then takes no step,
+    /// and where no number is left, from where on the drawer is spent out.
+    pub fn draw(&self, drawer: &mut Drawer) -> Option<u32>
+        requires { drawer.old.ledger ≡ self.now }
+        ensures ledger { drawer.new.ledger ≡ self.now }
+        ensures hand { Drew self.now.len drawer.old.hand result drawer.new.hand }
+    {
+        if drawer.place.is_none() || drawer.spent {
+            return None;
+        }
+        let found = self
+            .table
+            .shared
+            .fetch_add::<Draws>(&mut drawer.seat, NEXT, 1);
+        if found < u64::from(self.len) {
+            Some(found as u32)
+        } else {
+            drawer.spent = true;
+            None
+        }
+    }
+
+    /// Gives both drawers back as they were, in that order. They have no number and no place in common.
+    pub fn meet(&self, drawer: Drawer, other: Drawer) -> (Drawer, Drawer)
+        requires { (drawer.ledger ≡ self.now) × (other.ledger ≡ self.now) }
+        ensures same { (result.0 ≡ drawer) × (result.1 ≡ other) }
+        ensures apart { AreApart drawer.hand other.hand }
+    {
+        let Drawer {
+            mut seat,
+            place,
+            spent,
+        } = drawer;
+        let Drawer {
+            seat: other_seat,
+            place: other_place,
+            spent: other_spent,
+        } = other;
+        let shared = &self.table.shared;
+        shared.join_seat::<Meeting>(&mut seat, other_seat);
+        shared.load::<Compares>(&mut seat, NEXT);
+        let other_seat = shared.split_seat::<Meeting>(&mut seat);
+        let drawer = Drawer { seat, place, spent };
+        let other = Drawer {
+            seat: other_seat,
+            place: other_place,
+            spent: other_spent,
+        };
+        (drawer, other)
+    }
+}

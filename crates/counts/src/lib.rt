@@ -1,0 +1,53 @@
+//! Counts: one to four decimal digits that write a number from 1 to 9999, and say how often what stands right after
+//! them is meant.
+#![tactic(auto)]
+
+ghost use Rattle.std.specs.Prelude.{◌≡◌, ◌≤◌, length, IfSome, IfNone};
+ghost use Rattle.std.specs.Char.{is_ascii_digit};
+ghost use Rattle.std.specs.List.{prefix_len};
+ghost use Rattle.counts.specs.Counts.{AreDigits, IsNoCount, Means, decimal};
+
+/// The greatest number of digits of a count.
+pub const MAX_DIGITS: usize = 4;
+
+/// How many digits the bytes begin with.
+pub fn digit_count(bytes: &[u8]) -> usize
+    ensures count { result ≡ prefix_len is_ascii_digit bytes.now }
+    ensures within { result ≤ length bytes.now }
+{
+    bytes
+        .iter()
+        .take_while(|byte| byte.is_ascii_digit())
+        .count()
+}
+
+/// How often what stands right after these digits is meant: once where there are none. `None` exactly where they are
+/// no count, since they are more than [`MAX_DIGITS`] or write 0.
+#[tactic(auto, using(crate::proofs::lemmas::Digits::too_long, crate::proofs::lemmas::Digits::writes_nothing))]
+pub fn times(digits: &[u8]) -> Option<usize>
+    requires { AreDigits digits.now }
+    ensures some { IfSome result (λ n. Means digits.now n) }
+    ensures none { IfNone result (IsNoCount digits.now) }
+{
+    if digits.is_empty() {
+        return Some(1);
+    }
+    if digits.len() > MAX_DIGITS {
+        return None;
+    }
+    let count = decimal(digits);
+    (count > 0).then_some(count)
+}
+
+// The number that digits write.
+fn decimal(digits: &[u8]) -> usize
+    requires all { AreDigits digits.now }
+    requires short { length digits.now ≤ MAX_DIGITS }
+    ensures { result ≡ decimal digits.now }
+{
+    let mut number = 0;
+    for digit in digits {
+        number = number * 10 + (*digit - b'0') as usize;
+    }
+    number
+}

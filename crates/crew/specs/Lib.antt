@@ -1,0 +1,4 @@
+pub mod Configured
+pub mod Lending
+pub mod Solving
+pub mod Work

@@ -1,0 +1,21 @@
+ghost use Rattle.std.specs.Prelude.{◌↔◌, IsTrue};
+ghost use Rattle.crew.specs.Configured.{IsWithinLimits};
+
+use layers::MAX_WORKERS;
+
+/// How a level is solved: by how many workers, over how many locks, and under which limit of positions.
+#[derive(Clone, Copy, PartialEq, Eq, Debug)]
+pub struct Config {
+    pub workers: u8,
+    pub locks: u8,
+    pub limit: u32,
+}
+
+impl Config {
+    /// Whether there are 1 to [`MAX_WORKERS`](layers::MAX_WORKERS) workers, and the limit is at least 1.
+    pub fn is_within_limits(&self) -> bool
+        ensures { IsTrue result ↔ IsWithinLimits self.now }
+    {
+        1 <= self.workers && self.workers <= MAX_WORKERS && 1 <= self.limit
+    }
+}

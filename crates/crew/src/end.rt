@@ -1,0 +1,14 @@
+use layers::Refusal;
+
+/// Why a worker ended.
+#[derive(Clone, Copy, PartialEq, Eq, Debug)]
+pub enum End {
+    /// No rank of the layer was left to claim.
+    Drained,
+    /// The book did not accept a parcel.
+    Refused(Refusal),
+    /// The gate did not let it go on.
+    Stopped,
+    /// The book behind the lock is of another level, at another layer, or not made for a worker of its number.
+    Foreign,
+}

@@ -1,0 +1,19 @@
+//! Workers that share the book of a level behind a lock, and the solution of a level with the fewest pushes, found by
+//! any number of them: the answer is that of one.
+#![tactic(auto)]
+
+mod config;
+mod end;
+mod gate;
+mod lent;
+mod search;
+#[cfg(test)]
+mod tests;
+mod worker;
+mod workers;
+
+pub use config::Config;
+pub use end::End;
+pub use gate::{Free, Gate};
+pub use search::solve;
+pub use worker::work;

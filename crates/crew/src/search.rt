@@ -1,0 +1,200 @@
+ghost use Rattle.std.specs.Prelude.{◌≡◌, ◌+◌, ◌≤◌, [], IfOk, IfSome, MatchResult, length};
+ghost use Rattle.std.specs.Arc.{arc_value};
+ghost use Rattle.grid.specs.Lawful.{box_count};
+ghost use Rattle.layers.specs.Books.{IsNew, MayBegin};
+ghost use Rattle.solo.specs.Answers.{IsAnswer};
+ghost use Rattle.solo.specs.inside.Turns.{IsBetweenTurns, WorkAnswer};
+ghost use Rattle.crew.specs.Configured.{IsWithinLimits};
+ghost use Rattle.crew.specs.Solving.{SolveRefused, TurnAnswer};
+
+use crate::config::Config;
+use crate::gate::Gate;
+use crate::lent::{comes_back, terms_of};
+use crate::workers::work_all;
+use area::Scratch;
+use doom::Dead;
+use grid::{Level, MAX_BOXES};
+use layers::{Book, BookFault, Layer};
+use solo::turn::{Worked, begin, finish, last_layer, last_of, look};
+use solo::{Answer, SolveFault, solve_alone};
+use std::alloc::{AllocError, Global};
+use std::sync::{Arc, Wait};
+use std::thread::Threads;
+
+/// The solution of the level with the fewest pushes, or that it has none, or that more than the configuration's limit
+/// of positions are needed to say so, found by as many workers as the configuration says. The answer is that of
+/// [`solve_alone`], whatever the number of workers, the gate, and the order in which the workers come to the lock.
+///
+/// [`SolveFault::BadConfig`] exactly where a number of the configuration is outside its limits, before everything
+/// else; [`SolveFault::TooManyBoxes`] where the level has more boxes than [`MAX_BOXES`](grid::MAX_BOXES); and
+/// [`SolveFault::OutOfMemory`] where memory was refused to the caller's own work. A worker that cannot be started, is
+/// refused memory or is stopped ends, and what it left is done by the caller. Waits for the lock and for the workers.
+pub fn solve<R: Threads + Wait + Sync, G: Gate + Sync>(
+    rt: &R,
+    alloc: Global,
+    level: &Arc<Level>,
+    config: Config,
+    gate: &G,
+) -> Result<Answer, SolveFault>
+    requires { config.locks ≡ 1 }
+    ensures answer { IfOk result (λ answer. IsAnswer (arc_value level.now) config.limit answer) }
+    ensures boxes { MatchResult result (λ answer. IsWithinLimits config × (box_count (arc_value level.now) ≤ MAX_BOXES)) (λ fault. SolveRefused config (arc_value level.now) fault) }
+{
+    if !config.is_within_limits() {
+        return Err(SolveFault::BadConfig);
+    }
+    if level.boxes() > MAX_BOXES {
+        return Err(SolveFault::TooManyBoxes);
+    }
+    match search(rt, alloc, level, config, gate) {
+        Ok(Some(answer)) => Ok(answer),
+        Ok(None) => solve_alone(alloc, level, config.limit),
+        Err(AllocError) => Err(SolveFault::OutOfMemory),
+    }
+}
+
+// The answer that the layers of a level give; `None` where another book came back than was lent. The only error is
+// that memory was refused.
+fn search<R: Threads + Wait + Sync, G: Gate + Sync>(
+    rt: &R,
+    alloc: Global,
+    level: &Arc<Level>,
+    config: Config,
+    gate: &G,
+) -> Result<Option<Answer>, AllocError>
+    requires limits { IsWithinLimits config }
+    requires boxes { box_count (arc_value level.now) ≤ MAX_BOXES }
+    ensures { IfOk result (λ found. IfSome found (λ answer. IsAnswer (arc_value level.now) config.limit answer)) }
+{
+    let book = new_book(alloc, level, config)?;
+    let dead = Dead::of(alloc, level)?;
+    let mut scratch = Scratch::new(alloc, level)?;
+    all_turns(rt, alloc, book, &dead, &mut scratch, gate)
+}
+
+// A book for all positions, for the workers and the caller, whose number is the last one. The only error is that
+// memory was refused.
+fn new_book(alloc: Global, level: &Arc<Level>, config: Config) -> Result<Book, AllocError>
+    requires limits { IsWithinLimits config }
+    requires boxes { box_count (arc_value level.now) ≤ MAX_BOXES }
+    ensures { IfOk result (λ book. IsNew (arc_value level.now) config.limit (config.workers + 1) 0 1 book) }
+{
+    let level = Arc::try_clone(level)?;
+    match Book::of(alloc, level, config.limit, config.workers + 1, 0, 1) {
+        Ok(book) => Ok(book),
+        Err(BookFault::TooManyBoxes) => unreachable!(),
+        Err(BookFault::OutOfMemory) => Err(AllocError),
+    }
+}
+
+// Looks at layer after layer until there is an answer; `None` where another book came back than was lent. The only
+// error is that memory was refused.
+fn all_turns<R: Threads + Wait + Sync, G: Gate + Sync>(
+    rt: &R,
+    alloc: Global,
+    first: Book,
+    dead: &Dead,
+    scratch: &mut Scratch,
+    gate: &G,
+) -> Result<Option<Answer>, AllocError>
+    requires first { IsBetweenTurns first [] 0 }
+    requires dead_of_level { dead.now ≡ first.level }
+    requires room { scratch.old.size ≡ length first.level.cells }
+    ensures { IfOk result (λ found. IfSome found (λ answer. IsAnswer first.level first.limit answer)) }
+{
+    let mut layers = Vec::new(alloc);
+    let mut positions = 0;
+    let mut book = first;
+    loop {
+        match turn(
+            rt,
+            alloc,
+            book,
+            &mut layers,
+            &mut positions,
+            dead,
+            scratch,
+            gate,
+        )? {
+            Turned::Onward(next) => book = next,
+            Turned::Found(answer) => return Ok(Some(answer)),
+            Turned::Foreign => return Ok(None),
+        }
+    }
+}
+
+// How a turn ended.
+#[derive(Drop)]
+pub(crate) enum Turned {
+    // The next layer is closed in this book.
+    Onward(Book),
+    // There is an answer.
+    Found(Answer),
+    // Another book came back than was lent.
+    Foreign,
+}
+
+// Looks at the last layer that the book closed, and lets the workers work through it where it gives no answer. The
+// only error is that memory was refused.
+fn turn<R: Threads + Wait + Sync, G: Gate + Sync>(
+    rt: &R,
+    alloc: Global,
+    book: Book,
+    layers: &mut Vec<Layer>,
+    positions: &mut u64,
+    dead: &Dead,
+    scratch: &mut Scratch,
+    gate: &G,
+) -> Result<Turned, AllocError>
+    requires turn { IsBetweenTurns book layers.old.items positions.old }
+    requires dead_of_level { dead.now ≡ book.level }
+    requires room { scratch.old.size ≡ length book.level.cells }
+    ensures turned { IfOk result (λ turned. TurnAnswer book layers.new.items positions.old positions.new turned) }
+    ensures size { scratch.new.size ≡ scratch.old.size }
+{
+    let layer = last_layer(alloc, &book)?;
+    let found = look(alloc, layers, positions, layer, book.limit(), scratch)?;
+    if let Some(answer) = found {
+        return Ok(Turned::Found(answer));
+    }
+    let layer = last_of(layers.as_slice());
+    let Some((worked, book)) = work_through(rt, alloc, book, layer, dead, scratch, gate)? else {
+        return Ok(Turned::Foreign);
+    };
+    book.tell();
+    match worked {
+        Worked::Over => Ok(Turned::Found(Answer::Limit)),
+        Worked::Through => Ok(Turned::Onward(book)),
+    }
+}
+
+// Lends the book to the workers, and does what they left of its last closed layer; `None` where another book came
+// back. The only error is that memory was refused.
+fn work_through<R: Threads + Wait + Sync, G: Gate + Sync>(
+    rt: &R,
+    alloc: Global,
+    mut book: Book,
+    layer: &Layer,
+    dead: &Dead,
+    scratch: &mut Scratch,
+    gate: &G,
+) -> Result<Option<(Worked, Book)>, AllocError>
+    requires may { MayBegin book layer.now }
+    requires dead_of_level { dead.now ≡ layer.now.level }
+    requires room { scratch.old.size ≡ length layer.now.level.cells }
+    ensures worked { IfOk result (λ back. IfSome back (λ b. WorkAnswer book b.0 b.1)) }
+    ensures size { scratch.new.size ≡ scratch.old.size }
+{
+    begin(&mut book, layer)?;
+    book.tell();
+    let terms = terms_of(&book);
+    // the caller's own number is the last one
+    let own = book.workers() - 1;
+    let mut back = work_all(rt, alloc, book, layer, dead, own, gate);
+    back.tell();
+    if !comes_back(&back, &terms, layer) {
+        return Ok(None);
+    }
+    let worked = finish(&mut back, layer, dead, scratch, own)?;
+    Ok(Some((worked, back)))
+}

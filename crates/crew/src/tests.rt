@@ -1,0 +1,195 @@
+ghost use Rattle.std.specs.Prelude.{◌≡◌, false};
+
+use crate::{Config, Free, Gate, solve};
+use grid::{Cell, Level, MAX_BOXES};
+use layers::MAX_WORKERS;
+use solo::{Answer, SolveFault};
+use std::alloc::Global;
+use std::process::Abort;
+use std::sync::Arc;
+use std::sync::atomic::{AtomicU64, Ordering};
+use std::thread;
+
+/// A level by its columns and its cells, row after row.
+type Board = (usize, &'static [u8]);
+
+const TWO_ENDS: Board = (7, b"########.$@$.########");
+
+/// How often a worker that is held looks for the one that frees it.
+const TURNS: u32 = 1_000_000;
+
+/// The layer in which a worker is held.
+const HELD_LAYER: u64 = 1;
+
+/// The number of no worker.
+const NOBODY: u64 = u64::MAX;
+
+/// A gate that counts the events of each layer, and in one layer holds the worker with the first claim until a parcel
+/// of another worker was accepted there.
+#[derive(Drop)]
+struct Holding {
+    held: AtomicU64,
+    freed: AtomicU64,
+    ran_out: AtomicU64,
+    calls: [AtomicU64; 3],
+}
+
+impl Holding {
+    fn new() -> Holding {
+        Holding {
+            held: AtomicU64::new(NOBODY),
+            freed: AtomicU64::new(0),
+            ran_out: AtomicU64::new(0),
+            calls: [AtomicU64::new(0), AtomicU64::new(0), AtomicU64::new(0)],
+        }
+    }
+
+    /// Waits, for as many turns as there are at most, until the worker is let go.
+    fn hold(&self) {
+        for _ in 0..TURNS {
+            if self.freed.load(Ordering::SeqCst) == 1 {
+                return;
+            }
+            thread::yield_now();
+        }
+        self.ran_out.store(1, Ordering::SeqCst);
+    }
+}
+
+impl Gate for Holding {
+    ghost may_stop = { false };
+
+    fn pass(&self, layer: u64, worker: u8, nth: u64) -> bool {
+        let place = layer.min(2) as usize;
+        self.calls[place].fetch_add(1, Ordering::SeqCst);
+        if layer != HELD_LAYER {
+            return true;
+        }
+        // of each worker's events the odd ones are claims, the even ones parcels that were accepted
+        let me = worker as u64;
+        if nth % 2 == 0 {
+            let held = self.held.load(Ordering::SeqCst);
+            if held != NOBODY && held != me {
+                self.freed.store(1, Ordering::SeqCst);
+            }
+        } else if self
+            .held
+            .compare_exchange(NOBODY, me, Ordering::SeqCst, Ordering::SeqCst)
+            .is_ok()
+        {
+            self.hold();
+        }
+        true
+    }
+}
+
+fn cell_of(byte: u8) -> Cell {
+    match byte {
+        b'#' => Cell::Wall,
+        b'.' => Cell::Goal,
+        b'$' => Cell::Box,
+        b'*' => Cell::BoxOnGoal,
+        b'@' => Cell::Player,
+        _ => Cell::Floor,
+    }
+}
+
+fn level_of(rt: &impl Abort, alloc: Global, board: Board) -> Arc<Level> {
+    let (cols, bytes) = board;
+    let mut cells = Vec::new(alloc);
+    for byte in bytes {
+        cells.push(cell_of(*byte)).expect(rt, "memory");
+    }
+    assert!(rt; cols >= 1);
+    assert!(rt; cells.len() % cols == 0);
+    let level = Level::from_cells(alloc, cols, cells).expect(rt, "a level");
+    Arc::new(alloc, level).expect(rt, "memory")
+}
+
+/// The level of three rows in which so many boxes stand on goals beside the player.
+fn home_of(rt: &impl Abort, alloc: Global, boxes: usize) -> Arc<Level> {
+    let mut cells = Vec::new(alloc);
+    let cols = boxes.saturating_add(3);
+    for _ in 0..cols.saturating_add(1) {
+        cells.push(Cell::Wall).expect(rt, "memory");
+    }
+    cells.push(Cell::Player).expect(rt, "memory");
+    for _ in 0..boxes {
+        cells.push(Cell::BoxOnGoal).expect(rt, "memory");
+    }
+    for _ in 0..cols.saturating_add(1) {
+        cells.push(Cell::Wall).expect(rt, "memory");
+    }
+    assert!(rt; cols >= 1);
+    assert!(rt; cells.len() % cols == 0);
+    let level = Level::from_cells(alloc, cols, cells).expect(rt, "a level");
+    Arc::new(alloc, level).expect(rt, "memory")
+}
+
+/// A configuration of one lock.
+fn config_of(workers: u8, limit: u32) -> Config
+    ensures { result.locks ≡ 1 }
+{
+    Config {
+        workers,
+        locks: 1,
+        limit,
+    }
+}
+
+#[test]
+fn workers_share_a_layer(rt: HostRuntime) {
+    let level = level_of(&rt, rt.alloc(), TWO_ENDS);
+    let gate = Holding::new();
+    let answer = solve(&rt, rt.alloc(), &level, config_of(2, 1_000_000), &gate);
+    assert!(&rt;
+        matches!(
+            &answer,
+            Ok(Answer::Solved {
+                pushes: 2,
+                positions: 4,
+                ..
+            })
+        )
+    );
+    assert_eq!(&rt;
+        gate.ran_out.load(Ordering::SeqCst),
+        0,
+        "the worker that was held is let go"
+    );
+    for (layer, count) in [(0, 2), (1, 4), (2, 0)] {
+        assert_eq!(&rt;
+            gate.calls[layer].load(Ordering::SeqCst),
+            count,
+            "calls in layer {layer}"
+        );
+    }
+}
+
+#[test]
+fn configurations_outside_the_limits(rt: HostRuntime) {
+    for boxes in [1, MAX_BOXES + 1] {
+        let level = home_of(&rt, rt.alloc(), boxes);
+        for (workers, limit) in [
+            (0, 1_000_000),
+            (MAX_WORKERS + 1, 1_000_000),
+            (1, 0),
+            (0, 0),
+            (u8::MAX, 1),
+        ] {
+            let answer = solve(&rt, rt.alloc(), &level, config_of(workers, limit), &Free);
+            assert!(&rt;
+                matches!(answer, Err(SolveFault::BadConfig)),
+                "{workers} workers, limit {limit}"
+            );
+        }
+    }
+    let many = home_of(&rt, rt.alloc(), MAX_BOXES + 1);
+    for workers in [1, MAX_WORKERS] {
+        let answer = solve(&rt, rt.alloc(), &many, config_of(workers, 1), &Free);
+        assert!(&rt;
+            matches!(answer, Err(SolveFault::TooManyBoxes)),
+            "{workers} workers"
+        );
+    }
+}

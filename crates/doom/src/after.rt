@@ -1,0 +1,68 @@
+ghost use Rattle.std.specs.Prelude.{◌≡◌, ℕ, ◌<◌, ◌↔◌, ◌⊎◌, IsTrue, false, true, length};
+ghost use Rattle.grid.specs.Board.{is_wall, next};
+ghost use Rattle.grid.specs.States.{FitsLevel};
+ghost use Rattle.grid.specs.Squares.{Squares, contains};
+ghost use Rattle.doom.specs.Lost.{AreLost};
+ghost use Rattle.doom.specs.Deadlocks.{Doomed, IsFrozen};
+ghost use Rattle.doom.specs.Pushed.{AreOthersFrozen, ComeUndoomed, DoomedFrom, IsGroupFrozen};
+
+use crate::dead::Dead;
+use crate::freeze::MOST_WORDS;
+use crate::peel::has_frozen;
+use area::Scratch;
+use grid::{Level, Position, Push, Square};
+
+/// Whether the box that the push brought to its new square dooms the position: it stands on a dead square, or some of
+/// the boxes that hang together with it, at least one of them off goal, are frozen. No other box is looked at. Where
+/// the position before the push was not doomed, this is what [`doomed`](crate::doomed) says. Takes no memory.
+pub fn doomed_after(
+    level: &Level,
+    dead: &Dead,
+    position: &Position,
+    push: Push,
+    scratch: &mut Scratch,
+) -> bool
+    requires fits { FitsLevel level.now position.now }
+    requires dead_of_level { dead.now ≡ level.now }
+    requires room { scratch.old.size ≡ length level.now.cells }
+    requires inside { push.square < length level.now.cells }
+    requires moved { contains position.now.boxes (next level.now push.square push.dir) ≡ true }
+    ensures from { IsTrue result ↔ DoomedFrom level.now position.now.boxes (next level.now push.square push.dir) }
+    ensures same { ComeUndoomed level.now push position.now.boxes → IsTrue result ↔ Doomed level.now position.now.boxes }
+    ensures lost { IsTrue result → AreLost level.now position.now.boxes }
+    ensures kept { scratch.new ≡ scratch.old }
+{
+    let _ = scratch;
+    let Push { square, dir } = push;
+    is_doomed_from(level, dead, position.boxes(), level.next(square, dir))
+}
+
+/// Whether the square is dead, or some of the boxes that hang together with the one on it, at least one of them off
+/// goal, are frozen.
+fn is_doomed_from(level: &Level, dead: &Dead, boxes: &[Square], square: Square) -> bool
+    requires clear { (q : ℕ) → contains boxes.now q ≡ true → is_wall level.now q ≡ false }
+    requires there { contains boxes.now square ≡ true }
+    requires dead_of_level { dead.now ≡ level.now }
+    ensures from { IsTrue result ↔ DoomedFrom level.now boxes.now square }
+    ensures others { (members : Squares) → IsFrozen level.now boxes.now members → IsTrue result ⊎ AreOthersFrozen level.now boxes.now square }
+{
+    dead.is_dead(square) || is_group_frozen(level, dead, boxes, square)
+}
+
+/// Whether some of the boxes that hang together with the one on the square, at least one of them off goal, are frozen.
+fn is_group_frozen(level: &Level, dead: &Dead, boxes: &[Square], square: Square) -> bool
+    requires clear { (q : ℕ) → contains boxes.now q ≡ true → is_wall level.now q ≡ false }
+    requires there { contains boxes.now square ≡ true }
+    requires dead_of_level { dead.now ≡ level.now }
+    ensures group { IsTrue result ↔ IsGroupFrozen level.now boxes.now square }
+    ensures others { (members : Squares) → IsFrozen level.now boxes.now members → IsTrue result ⊎ AreOthersFrozen level.now boxes.now square }
+{
+    level.tell();
+    let goals = dead.goals();
+    let mut words = [0; MOST_WORDS];
+    let mut other_words = [0; MOST_WORDS];
+    let members = &mut words[..goals.len()];
+    let others = &mut other_words[..goals.len()];
+    area::group(level, boxes, square, others, members);
+    has_frozen(dead, members)
+}

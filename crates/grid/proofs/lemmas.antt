@@ -1,0 +1,7 @@
+-- The lemmas that the proofs of upper crates cite.
+pub mod Steps
+pub mod Squares
+pub mod Orders
+pub mod Plays
+pub mod Levels
+pub mod Places

@@ -1,0 +1,25 @@
+-- The states of a level, the positions that may be played on it, and what a step answers.
+use Rattle.std.specs.Prelude.{◌≡◌, ℕ, true, false, length}
+use Rattle.grid.specs.declared.dir.Dir.{Dir}
+use Rattle.grid.specs.declared.state.Step.{Step}
+use Rattle.grid.specs.declared.state.Step.TheVariants.{Blocked, Walked, Pushed}
+use Rattle.grid.specs.Squares.{is_rising, contains}
+use Rattle.grid.specs.Board.{Board, IsFree, Pushes, Scene, Walks, is_wall}
+use Rattle.grid.specs.Lawful.{box_count}
+
+-- a state of the level: boxes and player stand on no wall, the player on no box
+pub record IsScene (board : Board) (s : Scene) : Type 0 where
+  pub rising : is_rising s.boxes ≡ true
+  pub boxes : (q : ℕ) → contains s.boxes q ≡ true → is_wall board q ≡ false
+  pub player : IsFree board s.boxes s.player
+
+-- what a step in a direction did; Blocked exactly where no step is possible, and then nothing changes
+abbrev pub Steps : Board → Scene → Dir → Step → Scene → Type 0
+Steps board s d Blocked t = (t ≡ s) × ((m : Scene) → ¬ (Walks board s d m)) × ((m : Scene) → ¬ (Pushes board s d m))
+Steps board s d Walked t = Walks board s d t
+Steps board s d Pushed t = Pushes board s d t
+
+-- a position that may be played on the level: a state of it with as many boxes as the level
+pub record FitsLevel (board : Board) (s : Scene) : Type 0 where
+  pub scene : IsScene board s
+  pub boxes : length s.boxes ≡ box_count board

@@ -1,0 +1,11 @@
+-- The lemmas that the proofs of upper crates cite.
+pub mod Lists
+pub mod Layers
+pub mod Exchange
+pub mod Books
+pub mod Successors
+pub mod Orders
+pub mod Joins
+pub mod Closings
+pub mod Counting
+pub mod Shares

@@ -1,0 +1,13 @@
+use Rattle.std.proofs.Common.{◌≡◌, Some, option_map, ap, sym, subst, ◌∙◌, arith}
+use Rattle.std.specs.Prelude.{slice_get}
+use Rattle.grid.specs.Board.{Scene}
+use Rattle.layers.specs.BookView.{Closed}
+use Rattle.layers.specs.FoundView.{FoundView}
+use Rattle.layers.proofs.Tails.{seen_at}
+use Rattle.layers.proofs.table.Table.closed_at.Goals as goal
+
+pub returns : goal.returns
+returns g c =
+    let a = c.self.inside in
+    subst (λ (v : FoundView). Some c.position.result ≡ option_map (λ (e : Closed). e.0) (slice_get v.seen c.args.place)) c.self.view_is
+    (ap (λ (m : Scene). Some m) c.position.ensures ∙ ap (option_map (λ (e : Closed). e.0)) (c.in_ok-key.ensures.entry ∙ sym (seen_at a.start a.table.entries c.args.place (omega arith))))

@@ -1,0 +1,49 @@
+-- What contracts see of a book's fields, and what is true of them.
+use Rattle.std.specs.Prelude.{◌≡◌, ℕ, suc, ◌<◌, ◌≤◌, List, [], ◌∷◌, take, drop, length, slice_get, Some, None, ◌⊎◌}
+use Rattle.std.specs.Arc.{arc_value}
+use Rattle.grid.specs.Lawful.{box_count}
+use Rattle.grid.specs.declared.limits.TheConstants.{MAX_BOXES}
+use Rattle.layers.specs.declared.book.Book.TheInside.{Inside}
+use Rattle.layers.specs.BookView.{BookView, IsLawfulBook}
+use Rattle.layers.specs.Books.{IsTaken}
+
+-- a list cut into pieces, the first at the first place, each up to where the next one begins, the last up to the end
+abbrev pub cut_at : {A : Type 0} → List ℕ → List A → List (List A)
+cut_at [] xs = []
+cut_at (i ∷ []) xs = drop i xs ∷ []
+cut_at (i ∷ j ∷ js) xs = drop i (take j xs) ∷ cut_at (j ∷ js) xs
+
+abbrev pub book_view : Inside → BookView
+book_view a = record {
+  level = arc_value a.level;
+  limit = a.limit;
+  workers = a.workers;
+  share = a.share;
+  shares = a.shares;
+  closed = cut_at a.starts.items a.found.seen;
+  begun = a.begun;
+  claimed = a.claimed.items;
+  done = a.done.items;
+  waiting = a.found.waiting;
+  tallies = a.tallies.items;
+  over = a.over;
+}
+
+-- the places at which a list is cut: the first one is its beginning, and they do not fall
+pub record AreCuts (starts : List ℕ) (len : ℕ) : Type 0 where
+  pub first : slice_get starts 0 ≡ Some 0
+  pub rise : (j p q : ℕ) → slice_get starts j ≡ Some p → slice_get starts (suc j) ≡ Some q → p ≤ q
+  pub within : (j p : ℕ) → slice_get starts j ≡ Some p → p ≤ len
+
+-- the piece k begins at p and goes up to q, where the next one begins or the list ends
+abbrev pub IsPiece : List ℕ → ℕ → ℕ → ℕ → ℕ → Type 0
+IsPiece starts len k p q = (slice_get starts k ≡ Some p) × ((slice_get starts (suc k) ≡ Some q) ⊎ ((slice_get starts (suc k) ≡ None) × (q ≡ len)))
+
+-- a book's fields show a lawful book, of as many boxes as there may be, as which keys are made; each closed layer is a
+-- piece of what was seen, and all ranks before the next one to look at are taken
+pub record IsSoundBook (a : Inside) : Type 0 where
+  pub lawful : IsLawfulBook (book_view a)
+  pub few : box_count (arc_value a.level) ≤ MAX_BOXES
+  pub boxes : a.found.boxes ≡ box_count (arc_value a.level)
+  pub cuts : AreCuts a.starts.items (length a.found.seen)
+  pub taken : (r : ℕ) → r < a.next → IsTaken (book_view a) r

@@ -1,0 +1,32 @@
+-- What contracts see of the fields of a layer.
+use Rattle.std.specs.Prelude.{◌≡◌, ℕ, zero, suc, ◌*◌, ◌≤◌, List, [], ◌∷◌, ◌++◌, take, drop, length, slice_index_or}
+use Rattle.std.specs.Arc.{arc_value}
+use Rattle.grid.specs.Board.{Scene}
+use Rattle.grid.specs.Lawful.{box_count}
+use Rattle.grid.specs.declared.limits.TheConstants.{MAX_BOXES}
+use Rattle.layers.specs.declared.layer.Layer.TheInside.{Inside as LayerInside}
+use Rattle.layers.specs.LayerView.{LayerView, IsWhole}
+
+-- the squares of one position after the other: its boxes, and then its player
+abbrev pub squares_of : List Scene → List ℕ
+squares_of [] = []
+squares_of (m ∷ ms) = m.boxes ++ m.player ∷ squares_of ms
+
+-- so many positions of so many boxes, read from their squares
+abbrev pub scenes_of : ℕ → ℕ → List ℕ → List Scene
+scenes_of boxes zero xs = []
+scenes_of boxes (suc count) xs = record { boxes = take boxes xs; player = slice_index_or xs boxes 0 } ∷ scenes_of boxes count (drop (suc boxes) xs)
+
+abbrev pub layer_view : LayerInside → LayerView
+layer_view a = record {
+  level = arc_value a.level;
+  number = a.number;
+  places = scenes_of (box_count (arc_value a.level)) a.count a.squares.items;
+  origins = a.origins.items;
+}
+
+-- the fields show a whole layer, of as many boxes as there may be; and there are as many squares as its positions have
+pub record IsSoundLayer (a : LayerInside) : Type 0 where
+  pub whole : IsWhole (layer_view a)
+  pub few : box_count (arc_value a.level) ≤ MAX_BOXES
+  pub squares : length a.squares.items ≡ a.count * suc (box_count (arc_value a.level))

@@ -1,0 +1,177 @@
+//! What a book has found, with keys as wide as its level's boxes want.
+ghost use Rattle.std.specs.Prelude.{◌≡◌, ℕ, ◌+◌, ◌<◌, ◌≤◌, [], length, map, drop, fold, option_map, slice_get, IfOk, IfSome, OnOk, OnErr};
+ghost use Rattle.layers.specs.BookView.{origins_of};
+ghost use Rattle.layers.specs.Books.{IsSortedAppend, is_wanted_in, entered};
+ghost use Rattle.layers.specs.FoundView.{HaveFew, first_entries};
+ghost use Rattle.layers.specs.inside.Insides.{squares_of};
+
+use crate::origin::{MOST_RANKS, Origin};
+use crate::parcel::Successor;
+use crate::table::Table;
+use grid::{MAX_BOXES, Position, Square};
+use std::alloc::{AllocError, Global};
+use std::marker::Model;
+
+/// The widths of keys but the greatest, in boxes.
+const NARROW: usize = 3;
+
+const MIDDLE: usize = 11;
+
+const WIDE: usize = 27;
+
+// What is found, with keys of one of the widths.
+#[derive(Drop)]
+pub(crate) enum Tables {
+    Narrow(Table<NARROW>),
+    Middle(Table<MIDDLE>),
+    Wide(Table<WIDE>),
+    Widest(Table<MAX_BOXES>),
+}
+
+/// The positions that a book has found: the closed ones, and those that stand open.
+#[derive(Drop)]
+pub(crate) struct Found {
+    tables: Tables,
+}
+
+impl Model for Found {
+    ghost use Rattle.layers.specs.FoundView.{FoundView};
+    ghost use Rattle.layers.specs.Widths.{tables_view};
+
+    ghost Value = { FoundView };
+
+    ghost view = { λ a. tables_view a.tables };
+}
+
+impl Found {
+    /// What is found at first: a closed position, or nothing. The only error is that memory was refused.
+    pub(crate) fn of(
+        alloc: Global,
+        boxes: usize,
+        first: &Option<Position>,
+    ) -> Result<Found, AllocError>
+        requires bound { boxes ≤ MAX_BOXES }
+        requires few { IfSome first.now (λ m. length m.boxes ≤ boxes) }
+        ensures boxes { IfOk result (λ found. found.boxes ≡ boxes) }
+        ensures seen { IfOk result (λ found. found.seen ≡ first_entries first.now) }
+        ensures waiting { IfOk result (λ found. found.waiting ≡ []) }
+    {
+        let tables = if boxes <= NARROW {
+            Tables::Narrow(Table::of(alloc, boxes, first)?)
+        } else if boxes <= MIDDLE {
+            Tables::Middle(Table::of(alloc, boxes, first)?)
+        } else if boxes <= WIDE {
+            Tables::Wide(Table::of(alloc, boxes, first)?)
+        } else {
+            Tables::Widest(Table::of(alloc, boxes, first)?)
+        };
+        Ok(Found { tables })
+    }
+
+    /// The number of closed positions.
+    pub(crate) fn closed_len(&self) -> usize
+        ensures { result ≡ length self.now.seen }
+    {
+        match &self.tables {
+            Tables::Narrow(table) => table.closed_len(),
+            Tables::Middle(table) => table.closed_len(),
+            Tables::Wide(table) => table.closed_len(),
+            Tables::Widest(table) => table.closed_len(),
+        }
+    }
+
+    /// The number of positions that stand open.
+    pub(crate) fn open_len(&self) -> usize
+        ensures { result ≡ length self.now.waiting }
+    {
+        match &self.tables {
+            Tables::Narrow(table) => table.open_len(),
+            Tables::Middle(table) => table.open_len(),
+            Tables::Wide(table) => table.open_len(),
+            Tables::Widest(table) => table.open_len(),
+        }
+    }
+
+    /// The closed position at a place; `None` exactly beyond them.
+    pub(crate) fn closed_at(&self, place: usize) -> Option<Position>
+        ensures { result ≡ option_map (λ e. e.0) (slice_get self.now.seen place) }
+    {
+        match &self.tables {
+            Tables::Narrow(table) => table.closed_at(place),
+            Tables::Middle(table) => table.closed_at(place),
+            Tables::Wide(table) => table.closed_at(place),
+            Tables::Widest(table) => table.closed_at(place),
+        }
+    }
+
+    /// What is closed from a place on: the squares of the positions, one after the other, and the origins of those that
+    /// have one. The only error is that memory was refused.
+    pub(crate) fn closed_from(
+        &self,
+        alloc: Global,
+        from: usize,
+    ) -> Result<(Vec<Square>, Vec<Origin>), AllocError>
+        requires { from ≤ length self.now.seen }
+        ensures squares { IfOk result (λ r. r.0.items ≡ squares_of (map (λ e. e.0) (drop from self.now.seen))) }
+        ensures origins { IfOk result (λ r. r.1.items ≡ origins_of (drop from self.now.seen)) }
+    {
+        match &self.tables {
+            Tables::Narrow(table) => table.closed_from(alloc, from),
+            Tables::Middle(table) => table.closed_from(alloc, from),
+            Tables::Wide(table) => table.closed_from(alloc, from),
+            Tables::Widest(table) => table.closed_from(alloc, from),
+        }
+    }
+
+    /// How many positions more stand open once the wanted successors of a rank have entered.
+    pub(crate) fn count_new(&self, share: u8, shares: u8, successors: &[Successor]) -> usize
+        requires shares { 0 < shares }
+        requires few { HaveFew self.now.boxes successors.now }
+        ensures count { (rank : ℕ) → length (fold (entered (is_wanted_in self.now.seen shares share) rank) self.now.waiting successors.now) ≡ length self.now.waiting + result }
+        ensures bound { result ≤ length successors.now }
+    {
+        match &self.tables {
+            Tables::Narrow(table) => table.count_new(share, shares, successors),
+            Tables::Middle(table) => table.count_new(share, shares, successors),
+            Tables::Wide(table) => table.count_new(share, shares, successors),
+            Tables::Widest(table) => table.count_new(share, shares, successors),
+        }
+    }
+
+    /// Enters the wanted successors of a rank, one after the other. An error leaves all as it was.
+    pub(crate) fn enter_all(
+        &mut self,
+        share: u8,
+        shares: u8,
+        rank: u64,
+        successors: &[Successor],
+    ) -> Result<(), AllocError>
+        requires shares { 0 < shares }
+        requires rank { rank < MOST_RANKS }
+        requires few { HaveFew self.old.boxes successors.now }
+        ensures ok { OnOk result (self.new ≡ record { boxes = self.old.boxes; seen = self.old.seen; waiting = fold (entered (is_wanted_in self.old.seen shares share) rank) self.old.waiting successors.now }) }
+        ensures err { OnErr result (self.new ≡ self.old) }
+    {
+        match &mut self.tables {
+            Tables::Narrow(table) => table.enter_all(share, shares, rank, successors),
+            Tables::Middle(table) => table.enter_all(share, shares, rank, successors),
+            Tables::Wide(table) => table.enter_all(share, shares, rank, successors),
+            Tables::Widest(table) => table.enter_all(share, shares, rank, successors),
+        }
+    }
+
+    /// Closes what stands open, in the order of the origins. An error leaves all as it was.
+    pub(crate) fn close(&mut self) -> Result<(), AllocError>
+        ensures boxes { self.new.boxes ≡ self.old.boxes }
+        ensures seen { OnOk result (IsSortedAppend self.old.seen self.old.waiting self.new.seen) }
+        ensures waiting { OnOk result (self.new.waiting ≡ []) }
+        ensures err { OnErr result (self.new ≡ self.old) }
+    {
+        match &mut self.tables {
+            Tables::Narrow(table) => table.close(),
+            Tables::Middle(table) => table.close(),
+            Tables::Wide(table) => table.close(),
+            Tables::Widest(table) => table.close(),
+        }
+    }
+}

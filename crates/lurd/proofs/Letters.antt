@@ -1,0 +1,97 @@
+-- Letters and their bytes, which are neither digits nor blanks.
+use Rattle.std.proofs.Common.{◌≡◌, ◌≢◌, eqb, Option, Some, None, ℕ, zero, suc, ◌+◌, ◌<◌, ◌≤◌, Bool, true, false, cond, List, [], ◌∷◌, ◌++◌, ◌⊎◌, length, take, drop, Result, Ok, Err, refl, sym, ap, subst, ◌∙◌, inl, inr, arith, append_assoc, length-append}
+use Rattle.std.specs.Char.{is_ascii_digit}
+use Rattle.std.specs.List.{AllByRecursion, flat_map}
+use Rattle.std.proofs.lemmas.List.{append-nil, length-replicate, length-take}
+use Rattle.std.proofs.lemmas.Bool.{eqb-true, cases_lt}
+use Rattle.std.proofs.lemmas.Bool.Decides.{nat_tests}
+use Rattle.grid.specs.declared.dir.Dir.{Dir}
+use Rattle.grid.specs.declared.dir.Dir.TheVariants.{D, L, R, U}
+use Rattle.grid.specs.declared.moves.Letter.{Letter}
+use Rattle.lurd.specs.declared.fault.LurdFault.{LurdFault}
+use Rattle.lurd.specs.declared.fault.LurdFault.TheVariants.{BadByte, BadCount, TooManyMoves, OutOfMemory}
+use Rattle.lurd.specs.declared.limits.TheConstants.{MAX_MOVES}
+use Rattle.counts.specs.Counts.{AreDigits, IsCount, IsNoCount, begins_with_digit, repeats}
+use Rattle.counts.proofs.lemmas.Digits.{digit_count, digits_in_front, SameRun, one_run, digits_of_count, count_or_not}
+use Rattle.lurd.specs.ExactlyOne.{ExactlyOne}
+use Rattle.lurd.specs.inside.Item.{TakesItem}
+use Rattle.lurd.specs.Text.{byte_by_case, byte_of, is_blank, Piece, blank, item, spelling, meaning, IsPiece, IsText, IsLetterByte, BeginsWithLetter, BeginsBadly, BeginsWithBadCount, BeginsWithTooMany, FaultsAt}
+use Rattle.lurd.specs.Parsing.{Reads}
+use Rattle.lurd.proofs.Items.{bad_byte, bad_count, too_many, takes_item}
+use Rattle.lurd.proofs.Leading.{letter_by}
+use Rattle.lurd.proofs.Texts.{text_of_nothing, text_and_piece}
+
+no_digit_by : (d : Dir) (b : Bool) → is_ascii_digit (byte_by_case b d) ≡ false
+no_digit_by D true = refl
+no_digit_by L true = refl
+no_digit_by R true = refl
+no_digit_by U true = refl
+no_digit_by D false = refl
+no_digit_by L false = refl
+no_digit_by R false = refl
+no_digit_by U false = refl
+
+-- a letter's byte is no digit
+pub letter_no_digit : (x : Letter) → is_ascii_digit (byte_of x) ≡ false
+letter_no_digit x = no_digit_by x.dir x.push
+
+no_blank_by : (d : Dir) (b : Bool) → is_blank (byte_by_case b d) ≡ false
+no_blank_by D true = refl
+no_blank_by L true = refl
+no_blank_by R true = refl
+no_blank_by U true = refl
+no_blank_by D false = refl
+no_blank_by L false = refl
+no_blank_by R false = refl
+no_blank_by U false = refl
+
+-- and no blank
+pub letter_no_blank : (x : Letter) → is_blank (byte_of x) ≡ false
+letter_no_blank x = no_blank_by x.dir x.push
+
+-- a blank is no digit
+pub blank_no_digit : (b : ℕ) → is_blank b ≡ true → is_ascii_digit b ≡ false
+blank_no_digit b is = grind (arith, nat_tests)
+
+-- the letters, and the one that a byte writes
+abbrev letters_all : List Letter
+letters_all = letter_by D true ∷ letter_by L true ∷ letter_by R true ∷ letter_by U true ∷ letter_by D false ∷ letter_by L false ∷ letter_by R false ∷ letter_by U false ∷ []
+
+abbrev find_letter : ℕ → List Letter → Option Letter
+find_letter b [] = None
+find_letter b (x ∷ xs) = cond (eqb (byte_of x) b) (Some x) (find_letter b xs)
+
+found_by : (d : Dir) (b : Bool) → find_letter (byte_by_case b d) letters_all ≡ Some (letter_by d b)
+found_by D true = refl
+found_by L true = refl
+found_by R true = refl
+found_by U true = refl
+found_by D false = refl
+found_by L false = refl
+found_by R false = refl
+found_by U false = refl
+
+-- two letters with one byte are one
+pub one_letter : (x y : Letter) → byte_of x ≡ byte_of y → x ≡ y
+one_letter x y same =
+    let a : find_letter (byte_of x) letters_all ≡ Some x = found_by x.dir x.push in
+    let b : find_letter (byte_of y) letters_all ≡ Some y = found_by y.dir y.push in
+    cc
+
+search_by : (b : ℕ) (x : Letter) (v : Bool) (rest : Option Letter) → eqb (byte_of x) b ≡ v → IsLetterByte b ⊎ (rest ≡ None) → IsLetterByte b ⊎ (cond v (Some x) rest ≡ None)
+search_by b x true rest is more = inl (x, eqb-true (byte_of x) b is)
+search_by b x false rest is more = more
+
+search_letter : (b : ℕ) (xs : List Letter) → IsLetterByte b ⊎ (find_letter b xs ≡ None)
+search_letter b [] = inr refl
+search_letter b (x ∷ xs) = search_by b x (eqb (byte_of x) b) (find_letter b xs) refl (search_letter b xs)
+
+not_letter : (b : ℕ) → find_letter b letters_all ≡ None → ¬ (IsLetterByte b)
+not_letter b none (x, is) =
+    let there : find_letter (byte_of x) letters_all ≡ Some x = found_by x.dir x.push in
+    let here : find_letter (byte_of x) letters_all ≡ find_letter b letters_all = ap (λ c. find_letter c letters_all) is in
+    cc
+
+-- a byte writes a letter or does not
+pub letter_or_not : (b : ℕ) → IsLetterByte b ⊎ (¬ (IsLetterByte b))
+letter_or_not b = elim (search_letter b letters_all) [ inl is ↦ inl is | inr none ↦ inr (not_letter b none) ]

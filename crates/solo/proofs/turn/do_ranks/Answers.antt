@@ -1,0 +1,31 @@
+use Rattle.std.proofs.Common.{◌≡◌, false, true, get_or, ap, subst, ◌∙◌}
+use Rattle.std.specs.Prelude.{MatchBool}
+use Rattle.layers.specs.Books.{with_parcel}
+use Rattle.solo.specs.inside.Turns.{with_over}
+use Rattle.solo.proofs.Finishing.{done_still, done_claimed, due_next, due_work, fewer_left}
+use Rattle.solo.proofs.turn.do_ranks.Goals as goal
+
+pub loop-book-init : goal.loop-book-init
+loop-book-init c = record {
+  due = due_next c.args.book.now c.args.book.now c.claim.new.self c.args.layer.now c.expand-parcel.result c.in-Some.first c.requires.still (λ r e. subst (λ bs. get_or bs r false ≡ true) c.requires.reopened e) c.in-Some.ensures c.expand-parcel.ensures.of;
+  size = c.expand-parcel.ensures.size;
+}
+
+pub enter-requires-clause-work : goal.enter-requires-clause-work
+enter-requires-clause-work c = due_work c.args.book.now c.loop-book.book c.args.layer.now c.loop-book.parcel c.loop-book.invariant.due
+
+pub loop-book-smaller : goal.loop-book-smaller
+loop-book-smaller c =
+    let book = c.loop-book.book in let parcel = c.loop-book.parcel in let after = c.enter.new.book in
+    let entered : after ≡ with_parcel book c.args.worker parcel = subst (λ within. MatchBool within (after ≡ with_parcel book c.args.worker parcel) (after ≡ with_over book)) c.if-not-branch.false c.in_ok-enter.ensures.ok in
+    fewer_left c.args.book.now book after c.claim-in-loop-book.new.self c.args.layer.now parcel c.args.worker c.loop-book.invariant.due entered (ap (λ v. v.done) c.in-Some-claim.ensures.3)
+
+pub loop-book-preserved : goal.loop-book-preserved
+loop-book-preserved c =
+    let book = c.loop-book.book in let parcel = c.loop-book.parcel in let after = c.enter.new.book in let start = c.args.book.now in
+    let due = c.loop-book.invariant.due in
+    let entered : after ≡ with_parcel book c.args.worker parcel = subst (λ within. MatchBool within (after ≡ with_parcel book c.args.worker parcel) (after ≡ with_over book)) c.if-not-branch.false c.in_ok-enter.ensures.ok in
+    record {
+      due = due_next start after c.claim-in-loop-book.new.self c.args.layer.now c.expand_into.new.parcel c.in-Some-claim.claim (done_still start book after c.args.layer.now parcel c.args.worker due entered) (done_claimed start book after c.args.layer.now parcel c.args.worker due entered) c.in-Some-claim.ensures c.expand_into.ensures.of;
+      size = c.expand_into.ensures.size ∙ c.loop-book.invariant.size;
+    }

@@ -1,0 +1,12 @@
+use Rattle.std.proofs.Common.{◌≡◌, ◌-◌, length, count_by}
+use Rattle.solo.specs.inside.Turns.{IsDue}
+use Rattle.solo.proofs.turn.do_ranks.Given as goal
+
+abbrev pub invariant-loop-book : goal.invariant-loop-book
+invariant-loop-book l = record {
+  due : IsDue l.fn.book l.layer l.book l.parcel;
+  size : l.scratch.size ≡ l.fn.scratch.size;
+}
+
+abbrev pub decreases-loop-book : goal.decreases-loop-book
+decreases-loop-book l = length l.layer.places - count_by (λ b. b) l.book.done

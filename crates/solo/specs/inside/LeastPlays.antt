@@ -1,0 +1,63 @@
+-- The least play with given pushes, and how a lead is read back through layers.
+use Rattle.std.specs.Prelude.{◌≡◌, ℕ, true, false, List, [], ◌∷◌, ◌++◌, slice_get, Some}
+use Rattle.std.specs.Ordering.{is_gt}
+use Rattle.grid.specs.declared.dir.Dir.{Dir}
+use Rattle.grid.specs.declared.square.Push.{Push}
+use Rattle.grid.specs.declared.moves.Letter.{Letter}
+use Rattle.grid.specs.Board.{Board, Scene, start, dir_cmp, next, opposite}
+use Rattle.grid.specs.Plays.{Play, Any, shortlex, letters_of}
+use Rattle.area.specs.LeastWalks.{IsLeastWalk, walk_letters}
+use Rattle.layers.specs.LayerView.{LayerView}
+use Rattle.layers.specs.Openings.{Origin}
+use Rattle.layers.specs.Reaching.{IsLeadOf}
+use Rattle.solo.specs.Leads.{last_places}
+
+-- some play from the start has these pushes
+abbrev pub ArePlayed : Board → List Push → Type 0
+ArePlayed board pushes = (ds : List Dir) × (t : Scene) × Play board Any (start board) ds pushes t
+
+-- each play from the start with these pushes comes to the state t right after the last of them, and then walks
+abbrev pub AllComeTo : Board → List Push → Scene → Type 0
+AllComeTo board pushes t =
+    (es : List Dir) (u : Scene) → Play board Any (start board) es pushes u
+    → (fs : List Dir) × (ws : List Dir) × (es ≡ fs ++ ws) × Play board Any (start board) fs pushes t × Play board Any t ws [] u
+
+-- the letters write a play from the start with these pushes to the state t right after the last of them, and no play
+-- with these pushes is shorter, or as short and of a lesser text
+pub record WritesLeastPlay (board : Board) (pushes : List Push) (t : Scene) (letters : List Letter) : Type 0 where
+  pub dirs : List Dir
+  pub play : Play board Any (start board) dirs pushes t
+  pub written : letters_of play ≡ letters
+  pub least : (es : List Dir) (u : Scene) → Play board Any (start board) es pushes u → is_gt (shortlex dir_cmp dirs es) ≡ false
+  pub common : AllComeTo board pushes t
+
+-- the letters of the least walk behind a box, and of the push, are appended
+pub record WritesPush (board : Board) (s : Scene) (p : Push) (before after : List Letter) : Type 0 where
+  pub walk : List Dir
+  pub least : IsLeastWalk board s walk (next board p.square (opposite p.dir))
+  pub written : after ≡ (before ++ walk_letters walk) ++ record { dir = p.dir; push = true } ∷ []
+
+-- the pushes are the lead of the position with a rank of a list
+pub record IsLeadAt (board : Board) (places : List Scene) (rank : ℕ) (pushes : List Push) : Type 0 where
+  pub place : Scene
+  pub there : slice_get places rank ≡ Some place
+  pub lead : IsLeadOf board place pushes
+
+-- the position with a rank comes from a position of the layer before by a push, and so does its lead
+pub record IsOriginAt (board : Board) (before places : List Scene) (rank : ℕ) (o : Origin Push) : Type 0 where
+  pub place : Scene
+  pub there : slice_get places rank ≡ Some place
+  pub parent : Scene
+  pub parent_there : slice_get before o.0 ≡ Some parent
+  pub lead : (ps : List Push) → IsLeadOf board parent ps → IsLeadOf board place (ps ++ o.1 ∷ [])
+
+-- the lead of the position asked for, of the last layer, was read back to a position of layer number: with the pushes
+-- that were read behind it, the lead of that position is the lead of the one asked for
+pub record IsReadBack (layers : List LayerView) (board : Board) (asked number rank : ℕ) (late : List Push) : Type 0 where
+  pub layer : LayerView
+  pub in_layer : slice_get layers number ≡ Some layer
+  pub place : Scene
+  pub there : slice_get layer.places rank ≡ Some place
+  pub end : Scene
+  pub asked_for : slice_get (last_places layers) asked ≡ Some end
+  pub lead : (ps : List Push) → IsLeadOf board place ps → IsLeadOf board end (ps ++ late)

@@ -1,0 +1,12 @@
+//! Worked examples over the public calls of all crates, run over memory.
+#![tactic(auto)]
+
+#[cfg(test)]
+mod boards;
+#[cfg(test)]
+mod books;
+mod ends;
+#[cfg(test)]
+mod tests;
+
+pub use ends::{Paper, Pieces};

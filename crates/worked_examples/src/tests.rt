@@ -1,0 +1,182 @@
+mod asserts;
+mod checked;
+mod compared;
+mod failing;
+mod large;
+mod mapped;
+mod ordered;
+mod plain;
+mod replayed;
+mod rooms;
+mod shown;
+mod solved;
+
+use crate::{Paper, Pieces};
+use crew::Config;
+use layers::MAX_WORKERS;
+use sokopar::{
+    Reader, RunFault, Sink, Source, Writer, run_check, run_dead, run_replay, run_show, run_solve,
+};
+use std::alloc::Global;
+use std::sync::Wait;
+use std::thread::Threads;
+
+/// What a run answered and wrote, and how often it read and wrote.
+#[derive(Drop)]
+pub(crate) struct Outcome {
+    pub(crate) answer: Result<u8, RunFault>,
+    pub(crate) text: Vec<u8>,
+    pub(crate) reads: usize,
+    pub(crate) solution_reads: usize,
+    pub(crate) writes: usize,
+}
+
+/// How a run's ends behave: the bytes moved at a time, and the number of the read or write that fails, if not 0.
+#[derive(Clone, Copy)]
+pub(crate) struct Ends {
+    pub(crate) read_most: usize,
+    pub(crate) write_most: usize,
+    pub(crate) read_fails: usize,
+    pub(crate) solution_fails: usize,
+    pub(crate) write_fails: usize,
+}
+
+/// Ends that move all that is wanted and never fail.
+pub(crate) const WELL: Ends = Ends {
+    read_most: usize::MAX,
+    write_most: usize::MAX,
+    read_fails: 0,
+    solution_fails: 0,
+    write_fails: 0,
+};
+
+/// What is asked of a collection.
+#[derive(Clone, Copy)]
+pub(crate) enum Command<'a> {
+    Check,
+    Show(u32),
+    Dead(u32),
+    Replay(u32, &'a [u8]),
+    Solve(u32, u8, u32),
+}
+
+/// Runs the engine of a command. Numbers of levels, of workers and of limits outside their ranges are taken for the
+/// nearest within.
+fn perform<R: Threads + Wait + Sync, S: Source, T: Source, K: Sink>(
+    rt: &R,
+    alloc: Global,
+    command: Command<'_>,
+    source: &mut S,
+    solution: &mut T,
+    sink: &mut K,
+) -> Result<u8, RunFault> {
+    match command {
+        Command::Check => run_check(alloc, source, sink),
+        Command::Show(number) => run_show(alloc, source, number.max(1), sink),
+        Command::Dead(number) => run_dead(alloc, source, number.max(1), sink),
+        Command::Replay(number, _) => run_replay(alloc, source, number.max(1), solution, sink),
+        Command::Solve(number, workers, limit) => {
+            let config = Config {
+                workers: workers.max(1).min(MAX_WORKERS),
+                locks: 1,
+                limit: limit.max(1),
+            };
+            run_solve(rt, alloc, source, number.max(1), config, sink)
+        }
+    }
+}
+
+/// Runs a command on a collection over these ends.
+pub(crate) fn run<R: Threads + Wait + Sync>(
+    rt: &R,
+    alloc: Global,
+    file: &[u8],
+    command: Command<'_>,
+    ends: Ends,
+) -> Outcome {
+    let solution = match command {
+        Command::Replay(_, solution) => solution,
+        _ => b"",
+    };
+    let mut pieces = Pieces::new(file, ends.read_most, ends.read_fails);
+    let mut letters = Pieces::new(solution, ends.read_most, ends.solution_fails);
+    let mut paper = Paper::new(alloc, ends.write_most, ends.write_fails);
+    let answer = perform(
+        rt,
+        alloc,
+        command,
+        &mut Reader::new(&mut pieces),
+        &mut Reader::new(&mut letters),
+        &mut Writer::new(&mut paper),
+    );
+    Outcome {
+        answer,
+        reads: pieces.reads,
+        solution_reads: letters.reads,
+        writes: paper.writes,
+        text: paper.text,
+    }
+}
+
+/// Checks a collection over these ends.
+pub(crate) fn check<R: Threads + Wait + Sync>(
+    rt: &R,
+    alloc: Global,
+    file: &[u8],
+    ends: Ends,
+) -> Outcome {
+    run(rt, alloc, file, Command::Check, ends)
+}
+
+/// Shows a level of a collection over these ends.
+pub(crate) fn show<R: Threads + Wait + Sync>(
+    rt: &R,
+    alloc: Global,
+    file: &[u8],
+    number: u32,
+    ends: Ends,
+) -> Outcome {
+    run(rt, alloc, file, Command::Show(number), ends)
+}
+
+/// Shows the dead squares of a level of a collection over these ends.
+pub(crate) fn dead<R: Threads + Wait + Sync>(
+    rt: &R,
+    alloc: Global,
+    file: &[u8],
+    number: u32,
+    ends: Ends,
+) -> Outcome {
+    run(rt, alloc, file, Command::Dead(number), ends)
+}
+
+/// Replays a solution on a level of a collection over these ends.
+pub(crate) fn replay<R: Threads + Wait + Sync>(
+    rt: &R,
+    alloc: Global,
+    file: &[u8],
+    number: u32,
+    solution: &[u8],
+    ends: Ends,
+) -> Outcome {
+    run(rt, alloc, file, Command::Replay(number, solution), ends)
+}
+
+/// Solves a level of a collection by so many workers under a limit of positions, over these ends.
+pub(crate) fn solve<R: Threads + Wait + Sync>(
+    rt: &R,
+    alloc: Global,
+    file: &[u8],
+    number: u32,
+    workers: u8,
+    limit: u32,
+    ends: Ends,
+) -> Outcome {
+    run(
+        rt,
+        alloc,
+        file,
+        Command::Solve(number, workers, limit),
+        ends,
+    )
+}

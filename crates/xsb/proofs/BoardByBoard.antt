@@ -1,0 +1,138 @@
+-- A collection, as it is read board by board.
+use Rattle.std.proofs.Common.{◌≡◌, ℕ, suc, ◌+◌, ◌<◌, List, [], ◌∷◌, ◌++◌, length, flat_map, refl, sym, ap, ◌∙◌, arith, length-append, append_assoc, subst}
+use Rattle.std.specs.List.{AllZip, AllByRecursion}
+use Rattle.std.proofs.lemmas.List.{append-nil}
+use Rattle.grid.specs.declared.cell.Cell.{Cell}
+use Rattle.xsb.specs.declared.boards.Stretch.{Stretch}
+use Rattle.xsb.specs.declared.entry.Entry.{Entry}
+use Rattle.xsb.specs.declared.lines.Lines.{Lines}
+use Rattle.xsb.specs.declared.names.Gap.{Gap}
+use Rattle.xsb.specs.Lines.{lines_of_text}
+use Rattle.xsb.specs.Boards.{board_of}
+use Rattle.xsb.specs.Names.{name_of}
+use Rattle.xsb.specs.Rows.{IsRowLine}
+use Rattle.xsb.specs.inside.Reading.{cut_lines}
+use Rattle.xsb.specs.inside.Gaps.{IsGap, ReadsGap, BeginsBoard, BeginsGap}
+use Rattle.xsb.specs.inside.Stretches.{ReadsBoard, ReadsNoBoard, HasRows}
+use Rattle.xsb.specs.Entries.{IsEntry}
+use Rattle.xsb.specs.Judged.{IsJudged}
+use Rattle.xsb.specs.Collection.{Found, Part, IsPart, AreApart, AreFound, IsCollection}
+use Rattle.xsb.proofs.RowLines.{AllZip-last}
+
+-- what stands in the lines from a board on, after a gap
+pub record Continues (line : ℕ) (before lines : List (List ℕ)) (parts : List Part) (founds : List Found) : Type 0 where
+  pub whole : lines ≡ flat_map (λ part. part.board ++ part.gap) parts
+  pub boards : AllByRecursion IsPart parts
+  pub apart : AreApart parts
+  pub found : AreFound line before parts founds
+
+-- how far a collection was read
+pub record IsReading (bytes : List ℕ) (lines : Lines) (before : Gap) (entries : List Entry) : Type 0 where
+  pub texts : List (List ℕ)
+  pub gap : IsGap before texts
+  pub founds : List Found
+  pub entries_are : AllZip IsEntry entries founds
+  pub begins : BeginsBoard (cut_lines lines.rest)
+  pub onto : (parts : List Part) (others : List Found) → Continues lines.number texts (cut_lines lines.rest) parts others → IsCollection bytes (founds ++ others)
+
+-- after the first gap nothing is found yet
+pub IsReading-none : {bytes : List ℕ} {first lines : Lines} {before : Gap} → ReadsGap first lines before → cut_lines first.rest ≡ lines_of_text bytes → first.number ≡ 1 → IsReading bytes lines before []
+unfolding IsCollection
+IsReading-none {bytes} {first} {lines} {before} is e f =
+    let n = is.read.number in let number : lines.number ≡ suc (length is.texts) = omega arith in
+    record {
+      texts = is.texts;
+      gap = is.read.told;
+      founds = [];
+      entries_are = tt;
+      begins = is.ends;
+      onto = λ parts others c. (
+        is.texts,
+        parts,
+        record { whole = sym e ∙ is.read.whole ∙ ap (λ l. is.texts ++ l) c.whole; texts = is.read.all; boards = c.boards; apart = c.apart },
+        subst (λ k. AreFound k is.texts parts others) number c.found,
+      );
+    }
+
+-- a line is no row line and text line at once
+no-board : (board rest : List (List ℕ)) → 0 < length board → AllByRecursion (λ line. (rows : List (List Cell)) × IsRowLine line rows) board → BeginsGap (board ++ rest) → ⊥
+no-board [] rest some rows text = omega arith
+no-board (line ∷ board) rest some rows text = text rows.0.0 rows.0.1
+
+-- where a text line comes next and then a board, the gap between has a line
+apart-some : (rest gap : List (List ℕ)) (parts : List Part) → BeginsGap (gap ++ rest) → rest ≡ flat_map (λ part. part.board ++ part.gap) parts → AllByRecursion IsPart parts → (part : Part) (next : List Part) → parts ≡ part ∷ next → 0 < length gap
+apart-some rest (g ∷ gap) parts text whole boards part next e = omega arith
+apart-some rest [] parts text whole boards part next e =
+    let b = subst (λ ps. AllByRecursion IsPart ps) e boards in
+    absurd (no-board part.board (part.gap ++ flat_map (λ p. p.board ++ p.gap) next) b.0.some b.0.board
+    (subst BeginsGap (whole ∙ ap (flat_map (λ p. p.board ++ p.gap)) e ∙ append_assoc part.board part.gap (flat_map (λ p. p.board ++ p.gap) next)) text))
+
+apart-cons : (part : Part) (parts : List Part) → ((next : Part) (more : List Part) → parts ≡ next ∷ more → 0 < length part.gap) → AreApart parts → AreApart (part ∷ parts)
+apart-cons part [] some apart = tt
+apart-cons part (next ∷ parts) some apart = (some next parts refl, apart)
+
+all-rows : (lines : List (List ℕ)) (by_line : List (List (List Cell))) → AllZip IsRowLine lines by_line → AllByRecursion (λ line. (rows : List (List Cell)) × IsRowLine line rows) lines
+all-rows [] by_line each = tt
+all-rows (line ∷ lines) [] each = absurd each
+all-rows (line ∷ lines) (rows ∷ by_line) each = ((rows, each.0), all-rows lines by_line each.1)
+
+-- the rows of a board that was read
+pub HasRows-read : {old new : Lines} {stretch : Stretch} → (is : ReadsBoard old new stretch) → HasRows stretch is.rows
+HasRows-read {old} {new} {stretch} is =
+    let n = is.count in let some = is.some in
+    record { some = omega arith; lines = is.lines; after = cut_lines new.rest; whole = ap cut_lines is.from ∙ is.read.whole; count = sym is.count; rows_are = is.read.rows_are; size = is.read.size_is }
+
+-- a board more, and the gap after it
+pub IsReading-more : {bytes : List ℕ} {first mid last : Lines} {before after : Gap} {stretch : Stretch} {entries : List Entry} (entry : Entry) → IsReading bytes first before entries →
+    (board : ReadsBoard first mid stretch) → ReadsGap mid last after →
+    ((before_lines after_lines : List (List ℕ)) → IsGap before before_lines → IsGap after after_lines → entry.name.items ≡ name_of before_lines after_lines) →
+    entry.first_line ≡ stretch.first_line → IsJudged (board_of board.rows) entry.board → IsReading bytes last after (entries ++ entry ∷ [])
+IsReading-more {bytes} {first} {mid} {last} {before} {after} {stretch} {entries} entry is board gap named line judged =
+    let found : Found = record { name = name_of is.texts gap.texts; first_line = first.number; board = board_of board.rows } in
+    let part : Part = record { board = board.lines; gap = gap.texts } in
+    let one = board.read.number in let two = gap.read.number in let both = length-append board.lines gap.texts in
+    let number : last.number ≡ first.number + length (board.lines ++ gap.texts) = omega arith in
+    record {
+      texts = gap.texts;
+      gap = gap.read.told;
+      founds = is.founds ++ found ∷ [];
+      entries_are = AllZip-last IsEntry entries is.founds entry found is.entries_are
+          (record { name = named is.texts gap.texts is.gap gap.read.told; first_line = line ∙ board.first_line; board = judged });
+      begins = gap.ends;
+      onto = λ parts others c.
+          let text = subst BeginsGap gap.read.whole board.ends in
+          let whole : cut_lines first.rest ≡ flat_map (λ p. p.board ++ p.gap) (part ∷ parts) =
+          board.read.whole ∙ ap (λ l. board.lines ++ l) (gap.read.whole ∙ ap (λ l. gap.texts ++ l) c.whole) ∙ sym (append_assoc board.lines gap.texts (flat_map (λ p. p.board ++ p.gap) parts)) in
+          subst (λ fs. IsCollection bytes fs) (sym (append_assoc is.founds (found ∷ []) others))
+          (is.onto (part ∷ parts) (found ∷ others) (record {
+            whole = whole;
+            boards = (record { some = board.some; board = all-rows board.lines board.read.rows_are.by_line board.read.rows_are.each; gap = gap.read.all }, c.boards);
+            apart = apart-cons part parts (λ next more e. apart-some (cut_lines last.rest) gap.texts parts text c.whole c.boards next more e) c.apart;
+            found = (
+              record { name = refl; first_line = refl; board = (board.read.rows_are.by_line, board.read.rows_are.each, ap board_of board.read.rows_are.all) },
+              subst (λ k. AreFound k gap.texts parts others) number c.found,
+            );
+          }));
+    }
+
+both-empty : (lines : List (List ℕ)) → BeginsBoard lines → BeginsGap lines → lines ≡ []
+both-empty [] row text = refl
+both-empty (line ∷ lines) row text = absurd (text row.0 row.1)
+
+-- no board more: the collection is read
+pub IsReading-all : {bytes : List ℕ} {first last : Lines} {before : Gap} {entries : List Entry} → IsReading bytes first before entries → ReadsNoBoard first last → (founds : List Found) × IsCollection bytes founds × AllZip IsEntry entries founds
+IsReading-all {bytes} {first} {last} {before} {entries} is none =
+    let empty = both-empty (cut_lines first.rest) is.begins none.ends in
+    (is.founds, subst (λ fs. IsCollection bytes fs) (append-nil is.founds) (is.onto [] [] (record { whole = empty; boards = tt; apart = tt; found = tt })), is.entries_are)
+
+length-cut : (rest : List (List ℕ)) → length (cut_lines rest) ≡ length rest
+length-cut [] = refl
+length-cut (raw ∷ rest) = ap suc (length-cut rest)
+
+-- a board and a gap take lines away
+pub reads-fewer : {first mid last : Lines} {after : Gap} {stretch : Stretch} → ReadsBoard first mid stretch → ReadsGap mid last after → length last.rest < length first.rest
+reads-fewer {first} {mid} {last} {after} {stretch} board gap =
+    let a = ap length board.read.whole in let b = ap length gap.read.whole in let some = board.some in
+    let c = length-cut first.rest in let d = length-cut mid.rest in let e = length-cut last.rest in
+    let f = length-append board.lines (cut_lines mid.rest) in let g = length-append gap.texts (cut_lines last.rest) in
+    omega arith

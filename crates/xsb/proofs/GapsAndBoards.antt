@@ -1,0 +1,105 @@
+-- Gaps and boards, as they are read line by line.
+use Rattle.std.proofs.Common.{◌≡◌, ℕ, ◌+◌, ◌<◌, true, false, List, [], ◌∷◌, ◌++◌, length, drop, flat_map, refl, sym, ap, ◌∙◌, arith, length-append, append_assoc, subst, Option, Some, None, is_some, MatchOption}
+use Rattle.std.proofs.lemmas.Bool.{false≢true}
+use Rattle.std.specs.List.{AllByRecursion}
+use Rattle.std.proofs.lemmas.List.{append-nil}
+use Rattle.std.proofs.lemmas.List.Concat.{flat_map-append}
+use Rattle.grid.specs.declared.cell.Cell.{Cell}
+use Rattle.bstr.specs.declared.iters.LinesWithTerminator.{LinesWithTerminator}
+use Rattle.xsb.specs.declared.lines.Lines.{Lines}
+use Rattle.xsb.specs.declared.names.Gap.{Gap}
+use Rattle.xsb.specs.declared.sizes.Size.{Size}
+use Rattle.xsb.specs.Rows.{IsRowLine, IsTextLine}
+use Rattle.xsb.specs.inside.Reading.{cut_line, cut_lines, IsSize}
+use Rattle.xsb.specs.inside.Gaps.{IsGap, ReadsTexts, ReadsGap, BeginsBoard}
+use Rattle.xsb.specs.inside.Stretches.{AreRowLines, ReadsRows}
+use Rattle.xsb.proofs.RowLines.{AllZip-last}
+
+-- what the reading of a board has read so far
+pub record IsRead (old new : Lines) (size : Size) (first_line : ℕ) (first : LinesWithTerminator) : Type 0 where
+  pub lines : List (List ℕ)
+  pub rows : List (List Cell)
+  pub read : ReadsRows old new size lines rows
+  pub number : first_line ≡ old.number
+  pub first_is : first ≡ old.rest
+
+pub drop-zero : {A : Type 0} (xs : List A) → drop 0 xs ≡ xs
+drop-zero [] = refl
+drop-zero (x ∷ xs) = refl
+
+-- the line that comes next, and those after it
+pub next-line : (rest after : List (List ℕ)) (line : List ℕ) → (raw : List ℕ) × (more : List (List ℕ)) × (rest ≡ raw ∷ more) × (line ≡ cut_line raw) → after ≡ drop 1 rest → cut_lines rest ≡ line ∷ cut_lines after
+next-line rest after line next e =
+    let more : after ≡ next.1 = e ∙ ap (drop 1) next.2 ∙ drop-zero next.1 in
+    ap cut_lines next.2 ∙ ap (λ l. l ∷ cut_lines next.1) (sym next.3) ∙ ap (λ m. line ∷ cut_lines m) (sym more)
+
+pub some-line : (rest : List (List ℕ)) (line : List ℕ) → (raw : List ℕ) × (more : List (List ℕ)) × (rest ≡ raw ∷ more) × (line ≡ cut_line raw) → 0 < length rest
+some-line rest line next = let l = ap length next.2 in omega arith
+
+AllByRecursion-last : {A : Type 0} (P : A → Type 0) (xs : List A) (x : A) → AllByRecursion P xs → P x → AllByRecursion P (xs ++ x ∷ [])
+AllByRecursion-last P [] x all is = (is, tt)
+AllByRecursion-last P (y ∷ xs) x all is = (all.0, AllByRecursion-last P xs x all.1 is)
+
+pub ReadsTexts-none : (lines : Lines) (gap : Gap) → IsGap gap [] → ReadsTexts lines lines gap []
+ReadsTexts-none lines gap is = record { all = tt; whole = refl; number = omega arith; told = is }
+
+-- one text line more
+pub ReadsTexts-more : {old mid : Lines} {gap : Gap} {texts : List (List ℕ)} (new : Lines) (fresh : Gap) (line : List ℕ) → ReadsTexts old mid gap texts →
+    (raw : List ℕ) × (more : List (List ℕ)) × (mid.rest ≡ raw ∷ more) × (line ≡ cut_line raw) → IsTextLine line → new.rest ≡ drop 1 mid.rest → new.number ≡ mid.number + 1 →
+    ((lines : List (List ℕ)) → IsGap gap lines → IsGap fresh (lines ++ line ∷ [])) → ReadsTexts old new fresh (texts ++ line ∷ [])
+ReadsTexts-more {old} {mid} {gap} {texts} new fresh line is next text e f told =
+    let long = length-append texts (line ∷ []) in let was = is.number in
+    record {
+      all = AllByRecursion-last IsTextLine texts line is.all text;
+      whole = is.whole ∙ ap (λ l. texts ++ l) (next-line mid.rest new.rest line next e) ∙ sym (append_assoc texts (line ∷ []) (cut_lines new.rest));
+      number = omega arith;
+      told = told texts is.told;
+    }
+
+-- the texts are a gap where a row line comes next
+pub ReadsGap-row : {old new : Lines} {gap : Gap} {texts : List (List ℕ)} (line : List ℕ) → ReadsTexts old new gap texts →
+    (raw : List ℕ) × (more : List (List ℕ)) × (new.rest ≡ raw ∷ more) × (line ≡ cut_line raw) → (rows : List (List Cell)) × IsRowLine line rows → ReadsGap old new gap
+ReadsGap-row {old} {new} {gap} {texts} line is next row = record {
+  texts = texts;
+  read = is;
+  ends = subst BeginsBoard (sym (next-line new.rest (drop 1 new.rest) line next refl)) row;
+}
+
+-- or the end
+pub ReadsGap-end : {old new : Lines} {gap : Gap} {texts : List (List ℕ)} → ReadsTexts old new gap texts → new.rest ≡ [] → ReadsGap old new gap
+ReadsGap-end {old} {new} {gap} {texts} is e = record { texts = texts; read = is; ends = subst BeginsBoard (sym (ap cut_lines e)) tt }
+
+-- the rows of one line more
+AreRowLines-more : (lines : List (List ℕ)) (rows others : List (List Cell)) (line : List ℕ) → AreRowLines lines rows → IsRowLine line others → AreRowLines (lines ++ line ∷ []) (rows ++ others)
+AreRowLines-more lines rows others line is row = record {
+  by_line = is.by_line ++ others ∷ [];
+  each = AllZip-last IsRowLine lines is.by_line line others is.each row;
+  all = ap (λ r. r ++ others) is.all ∙ ap (λ r. flat_map (λ r. r) is.by_line ++ r) (sym (append-nil others)) ∙ sym (flat_map-append (λ r. r) is.by_line (others ∷ []));
+}
+
+pub IsRead-more : {old mid : Lines} {size : Size} {first_line : ℕ} {first : LinesWithTerminator} (new : Lines) (more fresh : Size) (line : List ℕ) → IsRead old mid size first_line first →
+    (raw : List ℕ) × (left : List (List ℕ)) × (mid.rest ≡ raw ∷ left) × (line ≡ cut_line raw) → (rows : List (List Cell)) × IsRowLine line rows × IsSize more rows → new.rest ≡ drop 1 mid.rest → new.number ≡ mid.number + 1 →
+    ((rows others : List (List Cell)) → IsSize size rows → IsSize more others → IsSize fresh (rows ++ others)) → IsRead old new fresh first_line first
+IsRead-more {old} {mid} {size} {first_line} {first} new more fresh line is next row e f sizes =
+    let long = length-append is.lines (line ∷ []) in let was = is.read.number in
+    record {
+      lines = is.lines ++ line ∷ [];
+      rows = is.rows ++ row.0;
+      read = record {
+        whole = is.read.whole ∙ ap (λ l. is.lines ++ l) (next-line mid.rest new.rest line next e) ∙ sym (append_assoc is.lines (line ∷ []) (cut_lines new.rest));
+        number = omega arith;
+        rows_are = AreRowLines-more is.lines is.rows row.0 line is.read.rows_are row.1;
+        size_is = sizes is.rows row.0 is.read.size_is row.2;
+      };
+      number = is.number;
+      first_is = is.first_is;
+    }
+
+-- what the size of a line says of it
+pub text-none : (o : Option Size) (line : List ℕ) → MatchOption o (IsTextLine line) (λ size. (rows : List (List Cell)) × IsRowLine line rows × IsSize size rows) → is_some o ≡ false → IsTextLine line
+text-none None line is e = is
+text-none (Some size) line is e = absurd (false≢true (sym e))
+
+pub row-some : (o : Option Size) (line : List ℕ) → MatchOption o (IsTextLine line) (λ size. (rows : List (List Cell)) × IsRowLine line rows × IsSize size rows) → is_some o ≡ true → (rows : List (List Cell)) × IsRowLine line rows
+row-some None line is e = absurd (false≢true e)
+row-some (Some size) line is e = (is.0, is.1)

@@ -1,8 +1,0 @@
-use Rattle.xsb.proofs.CollectionLaws.{some-collection, one-collection}
-use Rattle.xsb.proofs.reader.one_collection.Goals as goal
-
-pub returns-clause-some : goal.returns-clause-some
-returns-clause-some c = some-collection
-
-pub returns-clause-one : goal.returns-clause-one
-returns-clause-one c = one-collection

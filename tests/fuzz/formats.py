@@ -1,0 +1,266 @@
+"""An independent reading of the formats of docs/FORMATS.md: what each command but `solve` writes, and its status.
+
+It shares nothing with the program. It is slow and plain, and made for small inputs."""
+import re
+
+MOST_ROWS = MOST_COLUMNS = 64
+MOST_BOXES = 32
+MOST_MOVES = 1_000_000
+MOST_BYTES = 16_777_216
+MOST_NUMBER = 4_294_967_295
+
+ITEM = re.compile(rb"(\d*)([#@+$*. \-_])")
+FLOOR = b" -_"
+DIRS = {"d": (1, 0), "l": (0, -1), "r": (0, 1), "u": (-1, 0)}
+
+
+def lines_of(data):
+    """The lines of a collection, without their ends."""
+    if data.startswith(b"\xef\xbb\xbf"):
+        data = data[3:]
+    if not data:
+        return []
+    parts = data.split(b"\n")
+    if not parts[-1]:
+        parts.pop()
+    return [part[:-1] if part.endswith(b"\r") else part for part in parts]
+
+
+def row_of(piece):
+    """The cells of one piece of a row line; None where it is no list of items."""
+    cells, at = bytearray(), 0
+    while at < len(piece):
+        item = ITEM.match(piece, at)
+        if not item:
+            return None
+        count = item[1]
+        if len(count) > 4 or (count and int(count) == 0):
+            return None
+        cells += item[2] * (int(count) if count else 1)
+        at = item.end()
+    return bytes(b" "[0] if cell in FLOOR else cell for cell in cells)
+
+
+def rows_of(line):
+    """The rows of a row line; None for a text line."""
+    rows = [row_of(piece) for piece in line.split(b"|") if piece]
+    if None in rows or not any(b"#" in row for row in rows):
+        return None
+    return rows
+
+
+def name_in(before, after):
+    """The name of a board between two gaps."""
+    comments = [line[1:] for line in before if line.startswith(b";")]
+    titles = [line[6:] for line in after if line.startswith(b"Title:")]
+    name = comments[-1] if comments else titles[0] if titles else b""
+    return name.strip(b" \t")
+
+
+class Board:
+    """A board of a collection, judged."""
+
+    def __init__(self, first, rows, name):
+        rows = [row.rstrip(b" ") for row in rows]
+        self.first, self.name = first, name
+        self.height, self.width = len(rows), max(map(len, rows))
+        self.rows = [row.ljust(self.width) for row in rows]
+        self.fault = self.judged()
+
+    def squares(self, cells):
+        return {(r, c) for r, row in enumerate(self.rows) for c, cell in enumerate(row) if cell in cells}
+
+    def judged(self):
+        """The number and the words of the first fault; None where the board is a lawful level."""
+        if self.height > MOST_ROWS:
+            return "1 TooTall"
+        if self.width > MOST_COLUMNS:
+            return "2 TooWide"
+        self.walls, self.goals = self.squares(b"#"), self.squares(b".*+")
+        self.boxes, players = self.squares(b"$*"), self.squares(b"@+")
+        if not players:
+            return "3 NoPlayer"
+        if len(players) > 1:
+            return "4 TwoPlayers"
+        if not self.boxes:
+            return "5 NoBox"
+        if len(self.boxes) != len(self.goals):
+            return f"6 Counts {len(self.boxes)} {len(self.goals)}"
+        self.player = players.pop()
+        self.room, waiting = {self.player}, [self.player]
+        while waiting:
+            square = waiting.pop()
+            for step in DIRS.values():
+                beside = moved(square, step)
+                if not self.has(beside):
+                    return "7 Open"
+                if beside not in self.walls and beside not in self.room:
+                    self.room.add(beside)
+                    waiting.append(beside)
+        return None
+
+    def has(self, square):
+        return 0 <= square[0] < self.height and 0 <= square[1] < self.width
+
+    def is_wall(self, square):
+        return not self.has(square) or square in self.walls
+
+    def live(self):
+        """The squares from which a lone box can be pushed to a goal, by pulls from the goals."""
+        found, waiting = set(self.goals), list(self.goals)
+        while waiting:
+            square = waiting.pop()
+            for row, column in DIRS.values():
+                before, behind = moved(square, (-row, -column)), moved(square, (-2 * row, -2 * column))
+                if before not in found and not self.is_wall(before) and not self.is_wall(behind):
+                    found.add(before)
+                    waiting.append(before)
+        return found
+
+
+def moved(square, step):
+    return square[0] + step[0], square[1] + step[1]
+
+
+def boards_of(data):
+    """The boards of a collection in their order."""
+    boards, gaps, at_board = [], [[]], False
+    for number, line in enumerate(lines_of(data), 1):
+        rows = rows_of(line)
+        if rows is None:
+            gaps[-1].append(line)
+        elif at_board:
+            boards[-1][1].extend(rows)
+        else:
+            boards.append((number, list(rows)))
+            gaps.append([])
+        at_board = rows is not None
+    return [Board(first, rows, name_in(gaps[place], gaps[place + 1])) for place, (first, rows) in enumerate(boards)]
+
+
+def letters_of(text):
+    """The letters of a LURD text, or its first fault in words."""
+    letters, at = [], 0
+    while at < len(text):
+        if text[at] in b" \t\r\n":
+            at += 1
+            continue
+        count = re.compile(rb"[0-9]*").match(text, at)[0]
+        end = at + len(count)
+        letter = text[end : end + 1].decode("latin-1")
+        known = letter != "" and letter in "lurdLURD"
+        if count and (len(count) > 4 or int(count) == 0 or not known):
+            return None, f"bad count at {at + 1}"
+        if not known:
+            return None, f"bad byte at {at + 1}"
+        many = int(count) if count else 1
+        if len(letters) + many > MOST_MOVES:
+            return None, "too many moves"
+        letters += letter * many
+        at = end + 1
+    return letters, None
+
+
+def verdict(board, letters):
+    """The status and the words of a replay."""
+    boxes, player, pushes = set(board.boxes), board.player, 0
+    for place, letter in enumerate(letters, 1):
+        step = DIRS[letter.lower()]
+        ahead = moved(player, step)
+        beyond = moved(ahead, step)
+        is_push = ahead in boxes
+        if board.is_wall(ahead) or is_push and (board.is_wall(beyond) or beyond in boxes):
+            return 1, f"blocked at {place}"
+        if letter.isupper() != is_push:
+            return 1, f"wrong case at {place}"
+        if is_push:
+            boxes.remove(ahead)
+            boxes.add(beyond)
+            pushes += 1
+        player = ahead
+    solved = boxes <= board.goals
+    return (0 if solved else 1), f"{'' if solved else 'un'}solved {pushes} pushes, {len(letters)} moves"
+
+
+def line(text, name=b""):
+    return text.encode() + (b" " + name if name else b"") + b"\n"
+
+
+def check(data):
+    """The status and the report of `check`."""
+    boards, text = boards_of(data), b""
+    for number, board in enumerate(boards, 1):
+        said = f"fault {board.fault}" if board.fault else f"ok {board.height}x{board.width} {len(board.boxes)} boxes"
+        text += line(f"{number} line {board.first} {said}", board.name)
+    good = sum(board.fault is None for board in boards)
+    return (0 if good == len(boards) else 1), text + line(f"{len(boards)} levels, {good} good")
+
+
+def lawful(data, number):
+    """The board of a level; or else the report that there is none, or of its fault."""
+    boards = boards_of(data)
+    if number > len(boards):
+        return None, (1, line(f"no level {number}"))
+    board = boards[number - 1]
+    if board.fault:
+        return None, (1, line(f"fault {board.fault}"))
+    return board, None
+
+
+def show(data, number):
+    board, refused = lawful(data, number)
+    return refused or (0, b"".join(row.rstrip(b" ") + b"\n" for row in board.rows))
+
+
+def dead(data, number):
+    board, refused = lawful(data, number)
+    if refused:
+        return refused
+    live, text = board.live(), b""
+    for r in range(board.height):
+        cells = ""
+        for c in range(board.width):
+            square = (r, c)
+            lost = square in board.room and square not in live
+            cells += "#" if square in board.walls else "." if square in board.goals else "x" if lost else " "
+        text += line(cells.rstrip(" "))
+    return 0, text
+
+
+def replay(data, number, solution):
+    board, refused = lawful(data, number)
+    if refused:
+        return refused
+    letters, fault = letters_of(solution)
+    status, words = (1, fault) if fault else verdict(board, letters)
+    return status, line(words)
+
+
+def fewest_pushes(board, most):
+    """The fewest pushes that solve a level, or None where nothing does; by the rules alone, over all states. It gives up with
+    an answer of -1 beyond so many states."""
+    layer, seen, pushes = {(board.player, frozenset(board.boxes))}, set(), 0
+    while layer:
+        after, waiting = set(), list(layer)
+        while waiting:
+            state = waiting.pop()
+            if state in seen:
+                continue
+            seen.add(state)
+            player, boxes = state
+            if boxes <= board.goals:
+                return pushes
+            if len(seen) > most:
+                return -1
+            for step in DIRS.values():
+                ahead = moved(player, step)
+                if board.is_wall(ahead):
+                    continue
+                if ahead not in boxes:
+                    waiting.append((ahead, boxes))
+                    continue
+                beyond = moved(ahead, step)
+                if not board.is_wall(beyond) and beyond not in boxes:
+                    after.add((ahead, boxes - {ahead} | {beyond}))
+        layer, pushes = after - seen, pushes + 1
+    return None
