@@ -34,7 +34,7 @@ pub struct Closed {
 
 /// What a book holds of the layers of its level: the closed ones, as far as its share of the positions goes, the
 /// marks over the ranks of the last one while its successors are entered, and the positions that stand open.
-#[derive(Drop)]
+#[derive(Debug, Drop)]
 pub struct Book {
     pub(crate) level: Arc<Level>,
     pub(crate) limit: u32,

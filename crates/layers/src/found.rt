@@ -20,7 +20,7 @@ const MIDDLE: usize = 11;
 const WIDE: usize = 27;
 
 // What is found, with keys of one of the widths.
-#[derive(Drop)]
+#[derive(Debug, Drop)]
 pub(crate) enum Tables {
     Narrow(Table<NARROW>),
     Middle(Table<MIDDLE>),
@@ -29,7 +29,7 @@ pub(crate) enum Tables {
 }
 
 /// The positions that a book has found: the closed ones, and those that stand open.
-#[derive(Drop)]
+#[derive(Debug, Drop)]
 pub(crate) struct Found {
     tables: Tables,
 }

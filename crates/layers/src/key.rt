@@ -7,7 +7,7 @@ use std::hash::{Hash, Hasher};
 use std::marker::Model;
 
 /// A position of at most `N` boxes.
-#[derive(PartialEq, Eq, Drop)]
+#[derive(PartialEq, Eq, Debug, Drop)]
 pub(crate) struct Key<const N: usize> {
     boxes: ArrayVec<Square, N>,
     player: Square,

@@ -11,7 +11,7 @@ use std::sync::Arc;
 
 /// A whole layer of its level: the normal positions whose least push lists through undoomed positions have the
 /// layer's number of pushes, in the order of those lists. A position's rank is its place in the list, from 0.
-#[derive(Drop)]
+#[derive(Debug, Drop)]
 pub struct Layer {
     pub(crate) level: Arc<Level>,
     pub(crate) number: u64,

@@ -25,7 +25,7 @@ const NO_ORIGIN: u64 = u64::MAX;
 
 /// A parent's rank and a push, in one word: the rank, then the square, then the direction, so that the order of the
 /// words is that of the origins.
-#[derive(Clone, Copy)]
+#[derive(Clone, Copy, Debug)]
 pub(crate) struct Origin(u64);
 
 impl Model for Origin {
@@ -86,7 +86,7 @@ impl Origin {
 }
 
 /// The origin of a closed position, or none, in one word.
-#[derive(Clone, Copy)]
+#[derive(Clone, Copy, Debug)]
 pub(crate) struct ClosedOrigin(u64);
 
 impl Model for ClosedOrigin {

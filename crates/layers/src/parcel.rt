@@ -7,14 +7,14 @@ use grid::{Level, Position, Push};
 use std::marker::Model;
 
 /// A successor of a position: the push that leads there, and the normal position after it.
-#[derive(Default, Drop)]
+#[derive(Debug, Default, Drop)]
 pub struct Successor {
     pub push: Push,
     pub position: Position,
 }
 
 /// The undoomed successors of the position with a rank of a layer, in the order of their pushes.
-#[derive(Drop)]
+#[derive(Debug, Drop)]
 pub struct Parcel<'a> {
     pub(crate) level: &'a Level,
     pub(crate) layer: u64,

@@ -19,7 +19,7 @@ use std::alloc::{AllocError, Global};
 use std::marker::Model;
 
 /// The positions that a book has found, of at most `N` boxes.
-#[derive(Drop)]
+#[derive(Debug, Drop)]
 pub(crate) struct Table<const N: usize> {
     boxes: usize,
     table: IndexMap<Key<N>, ClosedOrigin>,

@@ -20,6 +20,7 @@ use std::alloc::{AllocError, Global};
 use std::slice;
 
 /// How the last ranks of a layer ended.
+#[derive(Clone, Copy, PartialEq, Eq, Debug)]
 pub enum Worked {
     /// Each rank is done, and the next layer is closed.
     Through,
