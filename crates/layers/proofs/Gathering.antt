@@ -31,7 +31,8 @@ use Rattle.layers.specs.LayerView.{LayerView, IsWhole}
 use Rattle.layers.specs.ParcelView.{AreSuccessors, FitLevel, IsParcel}
 use Rattle.layers.specs.Reaching.{IsLayerOf}
 use Rattle.layers.specs.Origins.{IsSuccessor}
-use Rattle.layers.specs.Expansion.{CanPush, IsAreaOf, AreAll, ArePushes, Allows, IsBefore, AreAllowedBefore, count_below}
+use Rattle.area.specs.After.{IsAreaOf}
+use Rattle.layers.specs.Expansion.{CanPush, AreAll, ArePushes, Allows, IsBefore, AreAllowedBefore, count_below}
 use Rattle.layers.proofs.lemmas.Successors.{successor_unique}
 
 -- ---- a list with one more element

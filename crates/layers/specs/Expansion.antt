@@ -21,10 +21,6 @@ pub record CanPush (board : Board) (n : Scene) (p : Push) : Type 0 where
 abbrev pub after_push : Board → Scene → Push → Scene
 after_push board n p = record { boxes = insert (remove n.boxes p.square) (next board p.square p.dir); player = p.square }
 
--- the squares are those that the player walks to
-abbrev pub IsAreaOf : Board → Scene → Squares → Type 0
-IsAreaOf board n reached = (q : ℕ) → (contains reached q ≡ true) ↔ Area board n q
-
 -- xs is all that has the property, each once, in the order of the pushes
 pub record AreAll {A : Type 0} (push_of : A → Push) (Has : A → Type 0) (xs : List A) : Type 0 where
   pub each : (i : ℕ) (x : A) → slice_get xs i ≡ Some x → Has x

@@ -8,7 +8,8 @@ ghost use Rattle.grid.specs.Squares.{contains};
 ghost use Rattle.doom.specs.Deadlocks.{Undoomed};
 ghost use Rattle.layers.specs.ParcelView.{AreSuccessors, FitLevel, IsAppended, IsParcel};
 ghost use Rattle.layers.specs.Origins.{IsSuccessor};
-ghost use Rattle.layers.specs.Expansion.{CanPush, IsAreaOf, ArePushes, AreAllowedBefore, Allows, TellsPushes, count_below};
+ghost use Rattle.layers.specs.Expansion.{CanPush, ArePushes, AreAllowedBefore, Allows, TellsPushes, count_below};
+ghost use Rattle.area.specs.After.{IsAreaOf};
 
 use crate::layer::Layer;
 use crate::limits::MAX_SUCCESSORS;

@@ -10,7 +10,8 @@ use Rattle.area.specs.Reach.{Reach}
 use Rattle.doom.specs.Deadlocks.{Doomed, Undoomed}
 use Rattle.doom.specs.Loose.{IsLoose}
 use Rattle.doom.proofs.lemmas.Loose.{loose_dooms_nothing}
-use Rattle.layers.specs.Expansion.{after_push, IsAreaOf}
+use Rattle.area.specs.After.{IsAreaOf}
+use Rattle.layers.specs.Expansion.{after_push}
 use Rattle.layers.proofs.lemmas.Successors.{after_fits, successor_is, come_by}
 use Rattle.layers.proofs.expansion.make_push.Goals as goal
 use Rattle.layers.proofs.expansion.make_push.Goals.{else-not-is_loose-via-then-not-is_loose+else-doomed_after, else-not-is_loose-via-else-not-is_loose}

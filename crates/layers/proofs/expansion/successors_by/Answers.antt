@@ -2,7 +2,7 @@ use Rattle.std.proofs.Common.{◌+◌, [], ◌∷◌, length, refl, sym, ap, sub
 use Rattle.std.proofs.lemmas.List.{length-append}
 use Rattle.std.proofs.lemmas.Option.{slice_get_read}
 use Rattle.area.specs.Reach.{Reach}
-use Rattle.layers.specs.Expansion.{IsAreaOf}
+use Rattle.area.specs.After.{IsAreaOf}
 use Rattle.layers.specs.ParcelView.{FitLevel}
 use Rattle.layers.proofs.lemmas.Successors.{come_by}
 use Rattle.layers.proofs.Gathering.{AreSuccessorsBy, by_same, by_more, by_all, fit_more}
