@@ -16,6 +16,7 @@ mod layer;
 mod limits;
 mod origin;
 mod parcel;
+mod parents;
 mod table;
 
 pub use book::{Book, Claim, Closed};
@@ -24,3 +25,4 @@ pub use fault::{BeginFault, BookFault, CloseFault, JoinFault, Refusal};
 pub use layer::Layer;
 pub use limits::{MAX_SHARES, MAX_SUCCESSORS, MAX_WORKERS, MOST_POSITIONS};
 pub use parcel::{Parcel, Successor};
+pub use parents::Parents;

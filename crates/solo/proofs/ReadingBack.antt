@@ -1,8 +1,8 @@
 -- A lead is read back through the layers, from its last push to its first.
-use Rattle.std.proofs.Common.{◌≡◌, ℕ, zero, suc, ◌-◌, ◌<◌, ◌≤◌, List, [], ◌∷◌, ◌++◌, length, reverse, get_or, Option, Some, None, refl, sym, ap, subst, ◌∙◌, append_assoc, append-nil, arith}
-use Rattle.std.proofs.lemmas.Option.{same_Some, none-some, slice_get_within, slice_get-get_or, slice_get_read}
-use Rattle.std.proofs.lemmas.List.{reverse-append}
-use Rattle.std.specs.Prelude.{slice_get}
+use Rattle.std.proofs.Common.{◌≡◌, ℕ, zero, suc, ◌+◌, ◌-◌, ◌<◌, ◌≤◌, ◌⊎◌, inl, inr, List, [], ◌∷◌, ◌++◌, length, map, reverse, get_or, Option, Some, None, option_map, refl, sym, ap, subst, ◌∙◌, append_assoc, append-nil, arith}
+use Rattle.std.proofs.lemmas.Option.{same_Some, none-some, slice_get-map, slice_get_read, slice_get_within, slice_get-get_or}
+use Rattle.std.proofs.lemmas.List.{length-map, reverse-append}
+use Rattle.std.specs.Prelude.{slice_get, slice_index_or}
 use Rattle.grid.specs.declared.square.Push.{Push}
 use Rattle.grid.specs.declared.moves.Letter.{Letter}
 use Rattle.grid.specs.Board.{Board, Scene}
@@ -12,6 +12,7 @@ use Rattle.layers.specs.Openings.{Origin}
 use Rattle.layers.specs.Reaching.{IsLayerOf, IsLeadOf}
 use Rattle.layers.specs.Origins.{HasOrigin}
 use Rattle.solo.specs.Leads.{AreFirstLayers, WritesLead, places_or_none, last_places, level_of}
+use Rattle.solo.specs.inside.Searched.{AreTrailed, IsNextOf}
 use Rattle.solo.specs.inside.LeastPlays.{ArePlayed, WritesLeastPlay, IsLeadAt, IsOriginAt, IsReadBack}
 use Rattle.solo.proofs.LeastPlays.{lead_written}
 
@@ -80,67 +81,174 @@ read_on layers board asked number lower rank late r before layer at_before at_la
       lead = λ ps lead. subst (IsLeadOf board r.end) (append_assoc ps (o.1 ∷ []) late) (r.lead (ps ++ o.1 ∷ []) (subst (λ (m : Scene). IsLeadOf board m (ps ++ o.1 ∷ [])) place (origin.lead ps lead)));
     }
 
--- and put behind those that were read before
-pub read_more : (layers : List LayerView) (asked number lower rank : ℕ) (read after : List Push) → IsReadBack layers (level_of layers) asked number rank (reverse read) → (before layer : LayerView) → slice_get layers lower ≡ Some before → slice_get layers number ≡ Some layer → layer.level ≡ level_of layers → (o : Origin Push) → IsOriginAt layer.level before.places layer.places rank o → after ≡ read ++ o.1 ∷ [] → IsReadBack layers (level_of layers) asked lower o.0 (reverse after)
-read_more layers asked number lower rank read after r before layer at_before at_layer level o origin items =
-    let next = read_on layers (level_of layers) asked number lower rank (reverse read) r before layer at_before at_layer o (subst (λ (b : Board). IsOriginAt b before.places layer.places rank o) level origin) in
-    let turned : reverse after ≡ o.1 ∷ reverse read = ap reverse items ∙ reverse-append read (o.1 ∷ []) in
-    subst (IsReadBack layers (level_of layers) asked lower o.0) (sym turned) next
+-- the layers of a trail are as many as it has lists
+pub trail_long : (board : Board) (layers : List LayerView) (trail : List (List (Origin Push))) → AreTrailed board layers trail → length layers ≡ length trail
+trail_long board layers trail trailed = sym (length-map layers (λ (x : LayerView). x.origins)) ∙ ap (λ (xs : List (List (Origin Push))). length xs) trailed.shown
 
--- the position that was come to is of its layer
-pub read_within : (layers : List LayerView) (board : Board) (asked number rank : ℕ) (late : List Push) → IsReadBack layers board asked number rank late → (layer : LayerView) → slice_get layers number ≡ Some layer → rank < length layer.places
-read_within layers board asked number rank late r layer at_layer =
-    let same : r.layer ≡ layer = same_Some r.layer layer (sym r.in_layer ∙ at_layer) in
-    slice_get_within layer.places rank r.place (subst (λ (l : LayerView). slice_get l.places rank ≡ Some r.place) same r.there)
+-- what a trail has of a layer
+trail_at : (board : Board) (layers : List LayerView) (trail : List (List (Origin Push))) → AreTrailed board layers trail → (k : ℕ) (layer : LayerView) → slice_get layers k ≡ Some layer → slice_get trail k ≡ Some layer.origins
+trail_at board layers trail trailed k layer at =
+    ap (λ (xs : List (List (Origin Push))). slice_get xs k) (sym trailed.shown) ∙ slice_get-map (λ (x : LayerView). x.origins) layers k ∙ ap (option_map (λ (x : LayerView). x.origins)) at
 
--- two layers, one after the other
-pub record AreNeighbours (layers : List LayerView) (number : ℕ) (before layer : LayerView) : Type 0 where
-  pub at_before : slice_get layers (number - 1) ≡ Some before
-  pub at_layer : slice_get layers number ≡ Some layer
-  pub own : layer.level ≡ level_of layers
-  pub level : before.level ≡ layer.level
-  pub later : layer.number ≡ suc before.number
+-- a position of a later layer that was come to has an origin, and one push more is read
+pub read_origin : (board : Board) (layers : List LayerView) (trail : List (List (Origin Push))) → AreTrailed board layers trail → (asked k rank : ℕ) (read : List Push) → 1 ≤ k → IsReadBack layers board asked k rank (reverse read) → (list : List (Origin Push)) → slice_get trail k ≡ Some list → (found : Option (Origin Push)) → found ≡ slice_get list rank → (o : Origin Push) × (found ≡ Some o) × IsReadBack layers board asked (k - 1) o.0 (reverse (read ++ o.1 ∷ []))
+read_origin board layers trail trailed asked k rank read later r list at found is = by found refl
+  where
+    layer : LayerView
+    layer = r.layer
 
-pub neighbours : (layers : List LayerView) → AreFirstLayers layers → (number : ℕ) → 0 < number → number < length layers → (before layer : LayerView) → before ≡ get_or layers (number - 1) before → layer ≡ get_or layers number layer → AreNeighbours layers number before layer
-neighbours layers first number more within before layer is_before is_layer =
-    let at_before = slice_get_read layers (length layers) (number - 1) before refl (omega arith) is_before in
-    let at_layer = slice_get_read layers (length layers) number layer refl within is_layer in
-    let b = first.each (number - 1) before at_before in
-    let l = first.each number layer at_layer in
-    record {
-      at_before = at_before;
-      at_layer = at_layer;
-      own = l.0;
-      level = b.0 ∙ sym l.0;
-      later = omega (arith, b.1, l.1);
-    }
+    within : k < length layers
+    within = slice_get_within layers k layer r.in_layer
 
--- the first layer
-pub first_is : (layers : List LayerView) → AreFirstLayers layers → (first : LayerView) → first ≡ get_or layers 0 first → (slice_get layers 0 ≡ Some first) × (first.level ≡ level_of layers) × (first.number ≡ 0)
-first_is layers are first is =
-    let some = are.some in
-    let here = slice_get_read layers (length layers) 0 first refl (omega arith) is in
-    let e = are.each 0 first here in
-    (here, e.0, e.1)
+    before : LayerView
+    before = get_or layers (k - 1) layer
+
+    at_before : slice_get layers (k - 1) ≡ Some before
+    at_before = slice_get-get_or layers (k - 1) layer (omega (arith, within))
+
+    number : layer.number ≡ suc before.number
+    number = omega (arith, (trailed.each k layer r.in_layer).1, (trailed.each (k - 1) before at_before).1)
+
+    whole : IsWhole layer
+    whole = (trailed.each k layer r.in_layer).2
+
+    lt : rank < length layer.places
+    lt = slice_get_within layer.places rank r.place r.there
+
+    own : list ≡ layer.origins
+    own = same_Some list layer.origins (sym at ∙ trail_at board layers trail trailed k layer r.in_layer)
+
+    here : found ≡ slice_get layer.origins rank
+    here = is ∙ ap (λ (xs : List (Origin Push)). slice_get xs rank) own
+
+    by : (o : Option (Origin Push)) → found ≡ o → (o : Origin Push) × (found ≡ Some o) × IsReadBack layers board asked (k - 1) o.0 (reverse (read ++ o.1 ∷ []))
+    by None e = absurd (origin_there before layer whole number rank lt (sym here ∙ e))
+    by (Some o) e =
+        let level = (trailed.each k layer r.in_layer).0 in
+        let origin = origin_at before layer (trailed.each (k - 1) before at_before).2 whole ((trailed.each (k - 1) before at_before).0 ∙ sym level) number rank lt o (sym here ∙ e) in
+        let next = read_on layers board asked k (k - 1) rank (reverse read) r before layer at_before r.in_layer o (subst (λ (b : Board). IsOriginAt b before.places layer.places rank o) level origin) in
+        (o, e, subst (IsReadBack layers board asked (k - 1) o.0) (sym (reverse-append read (o.1 ∷ []))) next)
 
 -- in layer 0 all is read
-pub read_done : (layers : List LayerView) (board : Board) (asked rank : ℕ) (late : List Push) → IsReadBack layers board asked 0 rank late → (first : LayerView) → slice_get layers 0 ≡ Some first → IsLayerOf board 0 first.places → IsLeadAt board (last_places layers) asked late
-read_done layers board asked rank late r first at_first layer =
-    let same : r.layer ≡ first = same_Some r.layer first (sym r.in_layer ∙ at_first) in
-    let there : slice_get first.places rank ≡ Some r.place = subst (λ (l : LayerView). slice_get l.places rank ≡ Some r.place) same r.there in
-    let own = (layer.leads rank r.place there).1 in
+pub read_done : (board : Board) (layers : List LayerView) (trail : List (List (Origin Push))) → AreTrailed board layers trail → (asked k rank : ℕ) (late : List Push) → k ≡ 0 → IsReadBack layers board asked k rank late → IsLeadAt board (last_places layers) asked late
+read_done board layers trail trailed asked k rank late none r =
+    let own = ((layer_0.leads rank r.place r.there).1) in
     record { place = r.end; there = r.asked_for; lead = r.lead [] (subst (IsLeadOf board r.place) (empty own.0 own.2) own.1) }
   where
     empty : (ps : List Push) → length ps ≡ 0 → ps ≡ []
     empty [] e = refl
     empty (p ∷ ps) e = absurd (omega arith)
 
-pub read_all : (layers : List LayerView) → AreFirstLayers layers → (asked number rank : ℕ) (late : List Push) → number ≤ 0 → IsReadBack layers (level_of layers) asked number rank late → (first : LayerView) → first ≡ get_or layers 0 first → IsWhole first → IsLeadAt (level_of layers) (last_places layers) asked late
-read_all layers are asked number rank late le r first is whole =
-    let here = first_is layers are first is in
-    let zero_is : number ≡ 0 = omega arith in
-    let layer : IsLayerOf (level_of layers) 0 first.places = subst (λ (k : ℕ). IsLayerOf (level_of layers) k first.places) here.2 (subst (λ (b : Board). IsLayerOf b first.number first.places) here.1 whole.layer) in
-    read_done layers (level_of layers) asked rank late (subst (λ (k : ℕ). IsReadBack layers (level_of layers) asked k rank late) zero_is r) first here.0 layer
+    here : (r.layer.level ≡ board) × (r.layer.number ≡ k) × IsWhole r.layer
+    here = trailed.each k r.layer r.in_layer
+
+    layer_0 : IsLayerOf board 0 r.layer.places
+    layer_0 = subst (λ (n : ℕ). IsLayerOf board n r.layer.places) (here.1 ∙ none) (subst (λ (b : Board). IsLayerOf b r.layer.number r.layer.places) here.0 here.2.layer)
+
+-- whoever tells the origins, what they are at a place
+told_at : {P : Type 0} (origins : P → List (Origin Push)) (trail : List P) (k : ℕ) (p : P) → k < length trail → p ≡ slice_index_or trail k p → slice_get (map origins trail) k ≡ Some (origins p)
+told_at origins trail k p lt is =
+    slice_get-map origins trail k ∙ ap (option_map origins) (slice_get_read trail (length trail) k p refl lt is)
+
+-- before the first look nothing is read
+pub read_first : {P : Type 0} (origins : P → List (Origin Push)) (trail : List P) (board : Board) (layers : List LayerView) → AreTrailed board layers (map origins trail) → (asked : ℕ) → asked < length (last_places layers) → IsReadBack layers board asked (length trail - 1) asked (reverse [])
+read_first origins trail board layers trailed asked lt =
+    subst (λ (n : ℕ). IsReadBack layers board asked (n - 1) asked []) (trail_long board layers (map origins trail) trailed ∙ length-map trail origins) (read_begins layers board asked lt)
+
+-- a look at the parents of the layer that was come to reads one push more
+pub read_some : {P : Type 0} (origins : P → List (Origin Push)) (trail : List P) (board : Board) (layers : List LayerView) → AreTrailed board layers (map origins trail) → (asked number rank : ℕ) (read after : List Push) → 1 < number → number ≤ length trail → IsReadBack layers board asked (number - 1) rank (reverse read) → (p : P) → p ≡ slice_index_or trail (number - 1) p → (found : Option (Origin Push)) → found ≡ slice_get (origins p) rank → (o : Origin Push) → found ≡ Some o → after ≡ read ++ o.1 ∷ [] → IsReadBack layers board asked ((number - 1) - 1) o.0 (reverse after)
+read_some origins trail board layers trailed asked number rank read after more within r p is found told o some items =
+    let at = told_at origins trail (number - 1) p (omega (arith, more, within)) is in
+    let x = read_origin board layers (map origins trail) trailed asked (number - 1) rank read (omega (arith, more)) r (origins p) at found told in
+    let same : x.0 ≡ o = same_Some x.0 o (sym x.1 ∙ some) in
+    subst (λ (ps : List Push). IsReadBack layers board asked ((number - 1) - 1) o.0 (reverse ps)) (sym items)
+    (subst (λ (y : Origin Push). IsReadBack layers board asked ((number - 1) - 1) y.0 (reverse (read ++ y.1 ∷ []))) same x.2)
+
+-- and finds one
+pub read_none : {P : Type 0} (origins : P → List (Origin Push)) (trail : List P) (board : Board) (layers : List LayerView) → AreTrailed board layers (map origins trail) → (asked number rank : ℕ) (read : List Push) → 1 < number → number ≤ length trail → IsReadBack layers board asked (number - 1) rank (reverse read) → (p : P) → p ≡ slice_index_or trail (number - 1) p → (found : Option (Origin Push)) → found ≡ slice_get (origins p) rank → found ≡ None → IsReadBack layers board asked ((number - 1) - 1) rank (reverse read)
+read_none origins trail board layers trailed asked number rank read more within r p is found told none =
+    let at = told_at origins trail (number - 1) p (omega (arith, more, within)) is in
+    let x = read_origin board layers (map origins trail) trailed asked (number - 1) rank read (omega (arith, more)) r (origins p) at found told in
+    absurd (none-some x.0 (sym none ∙ x.1))
+
+lesser_or_same : (j k : ℕ) → j < suc k → (j < k) ⊎ (j ≡ k)
+lesser_or_same zero zero lt = inr refl
+lesser_or_same zero (suc k) lt = inl (omega arith)
+lesser_or_same (suc j) zero lt = absurd (omega (arith, lt))
+lesser_or_same (suc j) (suc k) lt = elim (lesser_or_same j k (omega (arith, lt))) [ inl less ↦ inl (omega (arith, less)) | inr same ↦ inr (ap suc same) ]
+
+-- some layers are whole up to a place, and the one there too
+pub whole_upto : (layers : List LayerView) (index : ℕ) (here : LayerView) → index < length layers → here ≡ slice_index_or layers index here → IsWhole here → ((j : ℕ) (layer : LayerView) → j < index → slice_get layers j ≡ Some layer → IsWhole layer) → (j : ℕ) (layer : LayerView) → j < index + 1 → slice_get layers j ≡ Some layer → IsWhole layer
+whole_upto layers index here lt is whole before j layer below at = elim (lesser_or_same j index (omega (arith, below))) [
+  | inl less ↦ before j layer less at
+  | inr same ↦ subst IsWhole (same_Some here layer (sym (slice_get_read layers (length layers) index here refl lt is) ∙ ap (slice_get layers) (sym same) ∙ at)) whole
+]
+
+-- the level of the first layer
+pub first_level : (layers : List LayerView) → AreFirstLayers layers → (first : LayerView) → first ≡ slice_index_or layers 0 first → first.level ≡ level_of layers
+first_level layers are first is = (are.each 0 first (slice_get_read layers (length layers) 0 first refl (let some = are.some in omega (arith, some)) is)).0
+
+-- some first layers, each of which is whole, are a trail of their own
+pub own_trail : (layers : List LayerView) → AreFirstLayers layers → ((j : ℕ) (layer : LayerView) → slice_get layers j ≡ Some layer → IsWhole layer) → AreTrailed (level_of layers) layers (map (λ (x : LayerView). x.origins) layers)
+own_trail layers first whole = record {
+  each = λ j layer at. ((first.each j layer at).0, (first.each j layer at).1, whole j layer at);
+  shown = refl;
+}
+
+-- what tells each thing as it is tells a list as it is
+pub told_same : {A : Type 0} (f : A → A) → ((a : A) → f a ≡ a) → (xs : List A) → map f xs ≡ xs
+told_same f same [] = refl
+told_same f same (x ∷ xs) = λ i. same x i ∷ told_same f same xs i
+
+-- ---- the last layer apart from those before it
+
+-- a position without an origin is that of layer 0
+pub back_start : (trail : List (List (Origin Push))) (layer : LayerView) → IsNextOf trail layer → IsWhole layer → (rank : ℕ) → rank < length layer.places → slice_get layer.origins rank ≡ None → IsLeadAt layer.level layer.places rank []
+back_start trail layer next whole rank lt none = by layer.number refl
+  where
+    m : (m : Scene) × (slice_get layer.places rank ≡ Some m)
+    m = there_is layer.places rank lt
+
+    empty : (ps : List Push) → length ps ≡ 0 → ps ≡ []
+    empty [] e = refl
+    empty (p ∷ ps) e = absurd (omega arith)
+
+    by : (k : ℕ) → layer.number ≡ k → IsLeadAt layer.level layer.places rank []
+    by zero e =
+        let own = ((subst (λ (n : ℕ). IsLayerOf layer.level n layer.places) e whole.layer).leads rank m.0 m.1).1 in
+        record { place = m.0; there = m.1; lead = subst (IsLeadOf layer.level m.0) (empty own.0 own.2) own.1 }
+    by (suc k) e =
+        let have = (whole.later k e).each in
+        let past = ended layer.origins rank none in
+        absurd (omega arith)
+
+-- the last of the layers before it
+pub last_before : (layers : List LayerView) (before : LayerView) → slice_get layers (length layers - 1) ≡ Some before → last_places layers ≡ before.places
+last_before layers before at = ap places_or_none at
+
+-- a position with an origin has the lead of its parent, and then the push
+pub back_on : (trail : List (List (Origin Push))) (layer : LayerView) → IsNextOf trail layer → IsWhole layer → (rank : ℕ) → rank < length layer.places → (o : Origin Push) → slice_get layer.origins rank ≡ Some o → (pushes : List Push) → ((board : Board) (layers : List LayerView) → AreTrailed board layers trail → o.0 < length (last_places layers) → IsLeadAt board (last_places layers) o.0 pushes) → IsLeadAt layer.level layer.places rank (pushes ++ o.1 ∷ [])
+back_on trail layer next whole rank lt o at pushes read = by layer.number refl
+  where
+    layers : List LayerView
+    layers = next.layers
+
+    long : layer.number ≡ length layers
+    long = next.number ∙ sym (trail_long layer.level layers trail next.trailed)
+
+    by : (k : ℕ) → layer.number ≡ k → IsLeadAt layer.level layer.places rank (pushes ++ o.1 ∷ [])
+    by zero e = absurd (none-some o (sym (ap (λ (xs : List (Origin Push)). slice_get xs rank) (whole.first e)) ∙ at))
+    by (suc k) e =
+        let before = get_or layers (length layers - 1) layer in
+        let at_before = slice_get-get_or layers (length layers - 1) layer (omega (arith, long, e)) in
+        let own = next.trailed.each (length layers - 1) before at_before in
+        let origin = origin_at before layer own.2 whole own.0 (omega (arith, long, e, own.1)) rank lt o at in
+        let last = last_before layers before at_before in
+        let parent = slice_get_within before.places o.0 origin.parent origin.parent_there in
+        let lead = read layer.level layers next.trailed (omega (arith, parent, ap (λ (xs : List Scene). length xs) last)) in
+        let there : slice_get before.places o.0 ≡ Some lead.place = ap (λ (xs : List Scene). slice_get xs o.0) (sym last) ∙ lead.there in
+        let same : lead.place ≡ origin.parent = same_Some lead.place origin.parent (sym there ∙ origin.parent_there) in
+        record { place = origin.place; there = origin.there; lead = origin.lead pushes (subst (λ (m : Scene). IsLeadOf layer.level m pushes) same lead.lead) }
 
 -- ---- a lead that was read
 

@@ -3,7 +3,8 @@ ghost use Rattle.std.specs.Prelude.{◌≡◌, ℕ, suc, ◌<◌, ◌≤◌, ◌
 ghost use Rattle.grid.specs.Board.{Board, Scene};
 ghost use Rattle.grid.specs.Lawful.{IsLevel};
 ghost use Rattle.layers.specs.BookView.{BookView, IsLawfulBook};
-ghost use Rattle.layers.specs.LayerView.{LayerView};
+ghost use Rattle.grid.specs.declared.square.Push.{Push};
+ghost use Rattle.layers.specs.Openings.{Origin};
 ghost use Rattle.layers.specs.Reaching.{IsLayerOf};
 ghost use Rattle.solo.specs.Answers.{HasInAll, HaveTotal, IsAnswer, IsFewest, IsUnsolvable};
 ghost use Rattle.solo.specs.inside.Searched.{IsLookedAt};
@@ -32,5 +33,5 @@ pub fn an_empty_layer_is_the_last()
 
 /// Where a book of whatever share is over, and the layers that it has closed were looked at, the answer is `Limit`.
 pub fn a_book_that_is_over_passes_the_limit()
-    ensures { (board : Board) (limit positions : ℕ) (layers : List LayerView) (book : BookView) → IsLookedAt board limit layers positions → IsLawfulBook book → book.level ≡ board → book.limit ≡ limit → book.over ≡ true → length book.closed ≡ length layers → IsAnswer board limit Limit }
+    ensures { (board : Board) (limit positions : ℕ) (trail : List (List (Origin Push))) (book : BookView) → IsLookedAt board limit trail positions → IsLawfulBook book → book.level ≡ board → book.limit ≡ limit → book.over ≡ true → length book.closed ≡ length trail → IsAnswer board limit Limit }
 {}

@@ -1,43 +1,18 @@
-ghost use Rattle.std.specs.Prelude.{◌≡◌, ℕ, suc, ◌<◌, ◌↔◌, IfOk, IsTrue, MatchOption, Some, length, slice_get};
-ghost use Rattle.std.specs.List.{list_all};
-ghost use Rattle.grid.specs.Board.{Scene, IsSolved, is_goal};
-ghost use Rattle.solo.specs.Leads.{AreUnsolved, IsFirstSolved, AreFirstLayers, WritesLead, level_of, last_places};
-ghost use Rattle.solo.specs.inside.LeastPlays.{IsLeadAt, IsOriginAt};
+//! The play that leads to a position, read back through the layers.
+ghost use Rattle.std.specs.Prelude.{◌≡◌, ℕ, ◌≤◌, ◌<◌, IfOk, List, Some, length, map, slice_get};
+ghost use Rattle.grid.specs.declared.square.Push.{Push as Made};
+ghost use Rattle.grid.specs.Board.{Board, Scene};
+ghost use Rattle.layers.specs.LayerView.{LayerView, IsWhole};
+ghost use Rattle.layers.specs.Openings.{Origin};
+ghost use Rattle.solo.specs.Leads.{AreFirstLayers, WritesLead, level_of, last_places};
+ghost use Rattle.solo.specs.inside.LeastPlays.{IsLeadAt};
+ghost use Rattle.solo.specs.inside.Searched.{AreTrailed, IsNextOf};
 
 use crate::plays::play_pushes;
 use area::Scratch;
-use grid::{Level, Moves, Position, Push, Square};
-use layers::Layer;
+use grid::{Moves, Push};
+use layers::{Layer, Parents};
 use std::alloc::{AllocError, Global};
-
-/// The least rank of the layer whose position has all its boxes on goals; `None` exactly where there is none. Takes
-/// no memory.
-pub fn first_solved(layer: &Layer) -> Option<u64>
-    ensures { MatchOption result (AreUnsolved layer.now.level layer.now.places) (λ rank. IsFirstSolved layer.now.level layer.now.places rank) }
-{
-    for rank in 0..layer.len() {
-        if let Some(position) = layer.position(rank) {
-            if is_solved(layer.level(), &position) {
-                return Some(rank);
-            }
-        }
-    }
-    None
-}
-
-// Whether each box stands on a goal.
-fn is_solved(level: &Level, position: &Position) -> bool
-    ensures { IsTrue result ↔ IsSolved level.now position.now }
-{
-    are_goals(position.boxes(), level)
-}
-
-// Whether each square has a goal.
-fn are_goals(squares: &[Square], level: &Level) -> bool
-    ensures { result ≡ list_all (is_goal level.now) squares.now }
-{
-    squares.iter().all(|square| level.is_goal(*square))
-}
 
 /// The play that leads to the position with a rank of the last layer: its pushes are the least push list that leads
 /// there, and of the plays with these pushes it has the fewest moves, and of those the least text in the order `d`,
@@ -54,40 +29,98 @@ pub fn moves_to(
     ensures lead { IfOk result (λ moves. (n : Scene) → slice_get (last_places layers.now) rank ≡ Some n → WritesLead (level_of layers.now) n moves) }
     ensures size { scratch.new.size ≡ scratch.old.size }
 {
+    tell_each(layers);
     let pushes = lead_of(alloc, layers, rank)?;
     play_pushes(alloc, layers[0].level(), pushes.as_slice(), scratch)
 }
 
-// The lead of the position with a rank of the last layer, read back through the layers.
-fn lead_of(alloc: Global, layers: &[Layer], mut rank: u64) -> Result<Vec<Push>, AllocError>
-    requires layers { AreFirstLayers layers.now }
-    requires rank { rank < length (last_places layers.now) }
-    ensures { IfOk result (λ pushes. IsLeadAt (level_of layers.now) (last_places layers.now) rank pushes.items) }
+// The same for a layer, where of those before it only the parents of their positions are kept.
+pub(crate) fn moves_back(
+    alloc: Global,
+    trail: &[Parents],
+    layer: &Layer,
+    rank: u64,
+    scratch: &mut Scratch,
+) -> Result<Moves, AllocError>
+    requires next { IsNextOf trail.now layer.now }
+    requires rank { rank < length layer.now.places }
+    requires room { scratch.old.size ≡ length layer.now.level.cells }
+    ensures lead { IfOk result (λ moves. (n : Scene) → slice_get layer.now.places rank ≡ Some n → WritesLead layer.now.level n moves) }
+    ensures size { scratch.new.size ≡ scratch.old.size }
 {
-    let mut pushes = Vec::new(alloc);
-    let mut number = layers.len() - 1;
-    while number > 0 {
-        let (parent, push) = origin_of(&layers[number - 1], &layers[number], rank);
-        pushes.push(push)?;
-        rank = parent;
-        number -= 1;
+    let pushes = lead_back(alloc, trail, layer, rank)?;
+    play_pushes(alloc, layer.level(), pushes.as_slice(), scratch)
+}
+
+// Tells what is true of every layer, of each of these.
+fn tell_each(layers: &[Layer])
+    ensures { (j : ℕ) (layer : LayerView) → slice_get layers.now j ≡ Some layer → IsWhole layer }
+{
+    for layer in layers {
+        layer.tell();
     }
-    layers[0].tell();
-    pushes.reverse();
+}
+
+// What tells the parents of a layer's positions.
+trait HasParents {
+    // the origins of the positions, by rank
+    ghost origins: { Self → List (Origin Made) };
+
+    // The rank of a position's parent in the layer before, and the push that leads from there.
+    fn parent_of(&self, rank: u64) -> Option<(u64, Push)>
+        ensures { result ≡ slice_get (origins self.now) rank };
+}
+
+impl HasParents for Layer {
+    ghost origins = { λ it. it.origins };
+
+    fn parent_of(&self, rank: u64) -> Option<(u64, Push)> {
+        self.parent(rank)
+    }
+}
+
+impl HasParents for Parents {
+    ghost origins = { λ it. it };
+
+    fn parent_of(&self, rank: u64) -> Option<(u64, Push)> {
+        self.parent(rank)
+    }
+}
+
+// The lead of the position with a rank of a layer, where of those before it only the parents are kept.
+fn lead_back(
+    alloc: Global,
+    trail: &[Parents],
+    layer: &Layer,
+    rank: u64,
+) -> Result<Vec<Push>, AllocError>
+    requires next { IsNextOf trail.now layer.now }
+    requires rank { rank < length layer.now.places }
+    ensures { IfOk result (λ pushes. IsLeadAt layer.now.level layer.now.places rank pushes.items) }
+{
+    layer.tell();
+    let Some((parent, push)) = layer.parent(rank) else {
+        return Ok(Vec::new(alloc));
+    };
+    let mut pushes = lead_of(alloc, trail, parent)?;
+    pushes.push(push)?;
     Ok(pushes)
 }
 
-// The rank of a position's parent in the layer before, and the push that leads from there.
-fn origin_of(before: &Layer, layer: &Layer, rank: u64) -> (u64, Push)
-    requires level { before.now.level ≡ layer.now.level }
-    requires number { layer.now.number ≡ suc before.now.number }
-    requires rank { rank < length layer.now.places }
-    ensures { IsOriginAt layer.now.level before.now.places layer.now.places rank result }
+// The lead of the position with a rank of the last layer of some first ones, read back through the parents.
+fn lead_of<P: HasParents>(alloc: Global, trail: &[P], asked: u64) -> Result<Vec<Push>, AllocError>
+    ensures { IfOk result (λ pushes. (board : Board) (layers : List LayerView) → AreTrailed board layers (map P.origins trail.now) → asked < length (last_places layers) → IsLeadAt board (last_places layers) asked pushes.items) }
 {
-    before.tell();
-    layer.tell();
-    let Some(origin) = layer.parent(rank) else {
-        unreachable!()
-    };
-    origin
+    let mut pushes = Vec::new(alloc);
+    let mut rank = asked;
+    let mut number = trail.len();
+    while number > 1 {
+        number -= 1;
+        if let Some((parent, push)) = trail[number].parent_of(rank) {
+            pushes.push(push)?;
+            rank = parent;
+        }
+    }
+    pushes.reverse();
+    Ok(pushes)
 }

@@ -3,6 +3,7 @@
 #![tactic(auto)]
 
 mod answer;
+mod goals;
 pub mod laws;
 mod lead;
 mod plays;
@@ -10,5 +11,6 @@ mod search;
 pub mod turn;
 
 pub use answer::{Answer, SolveFault};
-pub use lead::{first_solved, moves_to};
+pub use goals::first_solved;
+pub use lead::moves_to;
 pub use search::solve_alone;

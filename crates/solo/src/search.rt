@@ -9,11 +9,11 @@ ghost use Rattle.solo.specs.Refusals.{SolveRefused};
 ghost use Rattle.solo.specs.inside.Turns.{IsBetweenTurns, WorkAnswer};
 
 use crate::answer::{Answer, SolveFault};
-use crate::turn::{Worked, begin, finish, last_layer, last_of, look};
+use crate::turn::{Worked, begin, finish, last_layer, look};
 use area::Scratch;
 use doom::Dead;
 use grid::{Level, MAX_BOXES};
-use layers::{Book, BookFault, Layer};
+use layers::{Book, BookFault, Layer, Parents};
 use std::alloc::{AllocError, Global};
 use std::sync::Arc;
 
@@ -74,10 +74,10 @@ fn all_turns(
     requires room { scratch.old.size ≡ length book.old.level.cells }
     ensures { IfOk result (λ answer. IsAnswer book.old.level book.old.limit answer) }
 {
-    let mut layers = Vec::new(alloc);
+    let mut trail = Vec::new(alloc);
     let mut positions = 0;
     loop {
-        let found = turn(alloc, book, &mut layers, &mut positions, dead, scratch)?;
+        let found = turn(alloc, book, &mut trail, &mut positions, dead, scratch)?;
         if let Some(answer) = found {
             return Ok(answer);
         }
@@ -89,24 +89,32 @@ fn all_turns(
 fn turn(
     alloc: Global,
     book: &mut Book,
-    layers: &mut Vec<Layer>,
+    trail: &mut Vec<Parents>,
     positions: &mut u64,
     dead: &Dead,
     scratch: &mut Scratch,
 ) -> Result<Option<Answer>, AllocError>
-    requires turn { IsBetweenTurns book.old layers.old.items positions.old }
+    requires turn { IsBetweenTurns book.old trail.old.items positions.old }
     requires dead_of_level { dead.now ≡ book.old.level }
     requires room { scratch.old.size ≡ length book.old.level.cells }
     ensures answer { IfOk result (λ found. IfSome found (λ answer. IsAnswer book.old.level book.old.limit answer)) }
-    ensures onward { IfOk result (λ found. IfNone found (AreMadeAlike book.old book.new × IsBetweenTurns book.new layers.new.items positions.new × (positions.old < positions.new))) }
+    ensures onward { IfOk result (λ found. IfNone found (AreMadeAlike book.old book.new × IsBetweenTurns book.new trail.new.items positions.new × (positions.old < positions.new))) }
     ensures size { scratch.new.size ≡ scratch.old.size }
 {
     let layer = last_layer(alloc, book)?;
-    let found = look(alloc, layers, positions, layer, book.limit(), scratch)?;
+    let found = look(
+        alloc,
+        trail.as_slice(),
+        positions,
+        &layer,
+        book.limit(),
+        scratch,
+    )?;
     if let Some(answer) = found {
         return Ok(Some(answer));
     }
-    let worked = work(book, last_of(layers.as_slice()), dead, scratch)?;
+    let worked = work(book, &layer, dead, scratch)?;
+    trail.push(Parents::of(layer))?;
     book.tell();
     match worked {
         Worked::Over => Ok(Some(Answer::Limit)),

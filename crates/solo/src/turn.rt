@@ -3,18 +3,18 @@
 ghost use Rattle.std.specs.Prelude.{◌≡◌, ◌+◌, ◌-◌, ◌<◌, ◌≤◌, ℕ, List, [], ◌∷◌, ◌++◌, Some, true, false, IfNone, IfOk, IfSome, MatchBool, OnErr, OnOk, length, slice_get};
 ghost use Rattle.layers.specs.BookView.{Closed};
 ghost use Rattle.layers.specs.Books.{AllDone, HasBegun, IsAtWork, MayBegin, with_begun, with_closed, with_parcel};
-ghost use Rattle.layers.specs.Reaching.{total};
 ghost use Rattle.solo.specs.Answers.{IsAnswer};
 ghost use Rattle.solo.specs.Leads.{IsFirstSolved};
-ghost use Rattle.solo.specs.inside.Searched.{AreKept, IsLookedAt, places_of};
+ghost use Rattle.solo.specs.inside.Searched.{HaveBefore, IsLookedAt};
 ghost use Rattle.solo.specs.inside.Turns.{IsLastOf, IsStillAt, WorkAnswer, with_over};
 
 use crate::answer::Answer;
-use crate::lead::{first_solved, moves_to};
+use crate::goals::first_solved;
+use crate::lead::moves_back;
 use area::Scratch;
 use doom::Dead;
 use layers::{
-    BeginFault, Book, CloseFault, JoinFault, Layer, Parcel, Refusal, expand, expand_into,
+    BeginFault, Book, CloseFault, JoinFault, Layer, Parcel, Parents, Refusal, expand, expand_into,
 };
 use std::alloc::{AllocError, Global};
 use std::slice;
@@ -28,28 +28,27 @@ pub enum Worked {
     Over,
 }
 
-/// Looks at the next layer of a level: the answer, if it gives one; otherwise the layer comes last of those that were
-/// looked at, and its positions are counted.
+/// Looks at the next layer of a level, after those whose parents are kept: the answer, if it gives one; otherwise its
+/// positions are counted.
 ///
 /// The layer is counted first. More positions than the limit are the answer `Limit`, a solved position is the answer
-/// `Solved`, and a layer without positions is the answer `Unsolvable`. An error leaves what was looked at as it was.
+/// `Solved`, and a layer without positions is the answer `Unsolvable`. An error leaves the count as it was.
 pub fn look(
     alloc: Global,
-    layers: &mut Vec<Layer>,
+    trail: &[Parents],
     positions: &mut u64,
-    layer: Layer,
+    layer: &Layer,
     limit: u32,
     scratch: &mut Scratch,
 ) -> Result<Option<Answer>, AllocError>
-    requires looked { IsLookedAt layer.level limit layers.old.items positions.old }
-    requires next { layer.number ≡ length layers.old.items }
-    requires room { scratch.old.size ≡ length layer.level.cells }
-    ensures answer { IfOk result (λ found. IfSome found (λ answer. IsAnswer layer.level limit answer)) }
-    ensures kept { IfOk result (λ found. IfNone found (layers.new.items ≡ layers.old.items ++ layer ∷ [])) }
-    ensures looked { IfOk result (λ found. IfNone found (IsLookedAt layer.level limit layers.new.items positions.new)) }
-    ensures ranks { IfOk result (λ found. IfNone found ((0 < length layer.places) × (length layer.places ≤ limit))) }
-    ensures count { IfOk result (λ found. IfNone found (positions.new ≡ positions.old + length layer.places)) }
-    ensures err { OnErr result ((layers.new.items ≡ layers.old.items) × (positions.new ≡ positions.old)) }
+    requires looked { IsLookedAt layer.now.level limit trail.now positions.old }
+    requires next { layer.now.number ≡ length trail.now }
+    requires room { scratch.old.size ≡ length layer.now.level.cells }
+    ensures answer { IfOk result (λ found. IfSome found (λ answer. IsAnswer layer.now.level limit answer)) }
+    ensures looked { IfOk result (λ found. IfNone found (IsLookedAt layer.now.level limit (trail.now ++ layer.now.origins ∷ []) positions.new)) }
+    ensures ranks { IfOk result (λ found. IfNone found ((0 < length layer.now.places) × (length layer.now.places ≤ limit))) }
+    ensures count { IfOk result (λ found. IfNone found (positions.new ≡ positions.old + length layer.now.places)) }
+    ensures err { OnErr result (positions.new ≡ positions.old) }
     ensures size { scratch.new.size ≡ scratch.old.size }
 {
     layer.tell();
@@ -57,56 +56,40 @@ pub fn look(
     if count > limit as u64 {
         return Ok(Some(Answer::Limit));
     }
-    if let Some(rank) = first_solved(&layer) {
-        let answer = solved(alloc, layers, layer, rank, count, scratch)?;
+    if let Some(rank) = first_solved(layer) {
+        let answer = solved(alloc, trail, layer, rank, count, scratch)?;
         return Ok(Some(answer));
     }
     if layer.is_empty() {
         return Ok(Some(Answer::Unsolvable { positions: count }));
     }
-    layers.push(layer)?;
     *positions = count;
     Ok(None)
 }
 
-// The answer where the position with a rank is the first solved one of the layer after those that were looked at,
-// which stay as they were.
+// The answer where the position with a rank is the first solved one of the layer after those that were looked at.
 fn solved(
     alloc: Global,
-    layers: &mut Vec<Layer>,
-    layer: Layer,
+    trail: &[Parents],
+    layer: &Layer,
     rank: u64,
     positions: u64,
     scratch: &mut Scratch,
 ) -> Result<Answer, AllocError>
-    requires kept { AreKept layer.level layers.old.items }
-    requires next { layer.number ≡ length layers.old.items }
-    requires first { IsFirstSolved layer.level layer.places rank }
-    requires count { positions ≡ total (places_of layers.old.items) + length layer.places }
-    requires room { scratch.old.size ≡ length layer.level.cells }
-    ensures answer { IfOk result (λ answer. (limit : ℕ) → positions ≤ limit → IsAnswer layer.level limit answer) }
-    ensures layers { layers.new.items ≡ layers.old.items }
+    requires looked { HaveBefore layer.now.level trail.now (length layer.now.places) positions }
+    requires next { layer.now.number ≡ length trail.now }
+    requires first { IsFirstSolved layer.now.level layer.now.places rank }
+    requires room { scratch.old.size ≡ length layer.now.level.cells }
+    ensures answer { IfOk result (λ answer. (limit : ℕ) → positions ≤ limit → IsAnswer layer.now.level limit answer) }
     ensures size { scratch.new.size ≡ scratch.old.size }
 {
     layer.tell();
-    let pushes = layer.number();
-    layers.push(layer)?;
-    let found = moves_to(alloc, layers.as_slice(), rank, scratch);
-    let _ = layers.pop();
-    let moves = found?;
+    let moves = moves_back(alloc, trail, layer, rank, scratch)?;
     Ok(Answer::Solved {
         moves,
-        pushes,
+        pushes: layer.number(),
         positions,
     })
-}
-
-/// The layer that was looked at last.
-pub fn last_of(layers: &[Layer]) -> &Layer
-    requires { 0 < length layers.now }
-    ensures { slice_get layers.now (length layers.now - 1) ≡ Some result.now }
-{
-    &layers[layers.len() - 1]
 }
 
 /// The last layer that a book of all positions has closed.

@@ -1,28 +1,31 @@
 -- From one turn of a search to the next, and what a book that is over says.
-use Rattle.std.proofs.Common.{◌≡◌, ℕ, ◌-◌, true, List, [], ◌∷◌, ◌++◌, length, Some, refl, sym, ap, subst, ◌∙◌, arith}
+use Rattle.std.proofs.Common.{◌≡◌, ℕ, true, List, [], ◌∷◌, ◌++◌, length, refl, sym, ap, subst, ◌∙◌, arith}
 use Rattle.std.proofs.lemmas.List.{length-append, length-map}
-use Rattle.std.proofs.lemmas.Option.{none-some, same_Some}
-use Rattle.std.specs.Prelude.{slice_get}
+use Rattle.std.proofs.lemmas.Option.{none-some}
 use Rattle.grid.specs.Board.{Board}
 use Rattle.grid.specs.Lawful.{IsLevel}
+use Rattle.grid.specs.declared.square.Push.{Push}
+use Rattle.layers.specs.Openings.{Origin}
 use Rattle.layers.specs.Reaching.{IsLayerOf}
 use Rattle.layers.specs.LayerView.{LayerView}
 use Rattle.layers.specs.BookView.{BookView, IsLawfulBook, last_layer}
 use Rattle.layers.specs.Distances.{IsAtDistance}
 use Rattle.layers.specs.Books.{IsNew}
-use Rattle.layers.proofs.lemmas.Lists.{at_seam}
 use Rattle.layers.proofs.lemmas.Shares.{closed_upto}
 use Rattle.solo.specs.Answers.{IsAnswer}
 use Rattle.solo.specs.inside.Searched.{IsLookedAt, places_of}
 use Rattle.solo.specs.inside.Turns.{IsBetweenTurns, IsLastOf, WorkAnswer}
 use Rattle.solo.specs.declared.answer.Answer.TheVariants.{Limit}
 use Rattle.solo.specs.declared.turn.Worked.TheVariants.{Through, Over}
+use Rattle.solo.proofs.ReadingBack.{trail_long}
 use Rattle.solo.proofs.Solving.{none_searched, searched_bound}
 
 -- before a search nothing was looked at
 pub none_looked : (board : Board) (limit : ℕ) → IsLookedAt board limit [] 0
 none_looked board limit = record {
-  kept = record { each = λ j layer at. absurd (none-some layer at); searched = none_searched board };
+  layers = [];
+  trailed = record { each = λ j layer at. absurd (none-some layer at); shown = refl };
+  searched = none_searched board;
   count = refl;
   within = omega arith;
 }
@@ -37,34 +40,28 @@ first_turn board limit workers share book new = record {
 }
 
 -- the number of the last closed layer
-pub next_number : (book : BookView) (layers : List LayerView) (positions : ℕ) (layer : LayerView) → IsBetweenTurns book layers positions → IsLastOf book layer → layer.number ≡ length layers
-next_number book layers positions layer turn last = last.1 ∙ before
+pub next_number : (book : BookView) (trail : List (List (Origin Push))) (positions : ℕ) (layer : LayerView) → IsBetweenTurns book trail positions → IsLastOf book layer → layer.number ≡ length trail
+next_number book trail positions layer turn last = last.1 ∙ before
   where
-    before : last_layer book ≡ length layers
+    before : last_layer book ≡ length trail
     before = omega (arith, turn.next)
 
--- the layer that was looked at last
-pub looked_last : (layers all : List LayerView) (layer last : LayerView) → all ≡ layers ++ layer ∷ [] → slice_get all (length all - 1) ≡ Some last → last ≡ layer
-looked_last layers all layer last is at = same_Some last layer (sym at ∙ ap (slice_get all) place ∙ ap (λ (xs : List LayerView). slice_get xs (length layers)) is ∙ at_seam layers layer)
-  where
-    place : length all - 1 ≡ length layers
-    place = omega (arith, ap length is, length-append layers (layer ∷ []))
-
 -- once the next layer was looked at and its ranks are done, the book is between two turns again
-pub turn_on : (before after : BookView) (layers all : List LayerView) (positions count : ℕ) (layer : LayerView) → IsBetweenTurns before layers positions → IsLastOf before layer → IsLookedAt layer.level before.limit all count → all ≡ layers ++ layer ∷ [] → WorkAnswer before Through after → IsBetweenTurns after all count
-turn_on before after layers all positions count layer turn last looked is (alike, begun, closed) = record {
+pub turn_on : (before after : BookView) (trail all : List (List (Origin Push))) (positions count : ℕ) (layer : LayerView) → IsBetweenTurns before trail positions → IsLastOf before layer → IsLookedAt layer.level before.limit all count → all ≡ trail ++ layer.origins ∷ [] → WorkAnswer before Through after → IsBetweenTurns after all count
+turn_on before after trail all positions count layer turn last looked is (alike, begun, closed) = record {
   all = sym alike.4 ∙ turn.all;
   begun = begun;
-  next = omega (arith, ap length is, length-append layers (layer ∷ []), turn.next, closed);
+  next = omega (arith, ap length is, length-append trail (layer.origins ∷ []), turn.next, closed);
   looked = subst (λ limit. IsLookedAt after.level limit all count) alike.1 (subst (λ board. IsLookedAt board before.limit all count) (last.0 ∙ alike.0) looked);
 }
 
 -- where a book is over, and the layers that it has closed were looked at, the answer is the limit
-pub over_limit : (board : Board) (limit positions : ℕ) (layers : List LayerView) (book : BookView) → IsLookedAt board limit layers positions → IsLawfulBook book → book.level ≡ board → book.limit ≡ limit → book.over ≡ true → length book.closed ≡ length layers → IsAnswer board limit Limit
-over_limit board limit positions layers book looked lawful level same over long =
+pub over_limit : (board : Board) (limit positions : ℕ) (trail : List (List (Origin Push))) (book : BookView) → IsLookedAt board limit trail positions → IsLawfulBook book → book.level ≡ board → book.limit ≡ limit → book.over ≡ true → length book.closed ≡ length trail → IsAnswer board limit Limit
+over_limit board limit positions trail book looked lawful level same over long =
+    let layers = looked.layers in
     let p = (lawful.over over).0 in
-    let searched = looked.kept.searched in
-    let lists : length (places_of layers) ≡ length book.closed = length-map layers (λ (x : LayerView). x.places) ∙ sym long in
+    let searched = looked.searched in
+    let lists : length (places_of layers) ≡ length book.closed = length-map layers (λ (x : LayerView). x.places) ∙ trail_long board layers trail looked.trailed ∙ sym long in
     record {
       layers = places_of layers;
       are = searched.are;
@@ -76,7 +73,7 @@ over_limit board limit positions layers book looked lawful level same over long 
     }
 
 -- so it is where the ranks of the layer that was looked at last were done until the book was over
-pub turn_over : (before after : BookView) (layers all : List LayerView) (positions count : ℕ) (layer : LayerView) → IsBetweenTurns before layers positions → IsLastOf before layer → IsLookedAt layer.level before.limit all count → all ≡ layers ++ layer ∷ [] → IsLawfulBook after → WorkAnswer before Over after → IsAnswer before.level before.limit Limit
-turn_over before after layers all positions count layer turn last looked is lawful (alike, over, closed) =
+pub turn_over : (before after : BookView) (trail all : List (List (Origin Push))) (positions count : ℕ) (layer : LayerView) → IsBetweenTurns before trail positions → IsLastOf before layer → IsLookedAt layer.level before.limit all count → all ≡ trail ++ layer.origins ∷ [] → IsLawfulBook after → WorkAnswer before Over after → IsAnswer before.level before.limit Limit
+turn_over before after trail all positions count layer turn last looked is lawful (alike, over, closed) =
     over_limit before.level before.limit count all after (subst (λ board. IsLookedAt board before.limit all count) last.0 looked) lawful (sym alike.0) (sym alike.1) over
-    (omega (arith, ap length is, length-append layers (layer ∷ []), turn.next, closed))
+    (omega (arith, ap length is, length-append trail (layer.origins ∷ []), turn.next, closed))

@@ -1,6 +1,8 @@
 -- What a search keeps between two turns, each of which looks at the next layer and does its ranks.
 use Rattle.std.specs.Prelude.{◌≡◌, ℕ, suc, ◌⊎◌, true, false, List, length, slice_get, slice_index_or, Some}
+use Rattle.grid.specs.declared.square.Push.{Push}
 use Rattle.layers.specs.LayerView.{LayerView}
+use Rattle.layers.specs.Openings.{Origin}
 use Rattle.layers.specs.ParcelView.{ParcelView}
 use Rattle.layers.specs.BookView.{BookView, IsDone, last_layer}
 use Rattle.layers.specs.Books.{HasBegun}
@@ -15,11 +17,11 @@ IsLastOf book layer = (layer.level ≡ book.level) × (layer.number ≡ last_lay
 
 -- between two turns the book, which holds all positions, has closed one layer more than were looked at, and has not
 -- begun it
-pub record IsBetweenTurns (book : BookView) (layers : List LayerView) (positions : ℕ) : Type 0 where
+pub record IsBetweenTurns (book : BookView) (trail : List (List (Origin Push))) (positions : ℕ) : Type 0 where
   pub all : book.shares ≡ 1
   pub begun : book.begun ≡ false
-  pub next : length book.closed ≡ suc (length layers)
-  pub looked : IsLookedAt book.level book.limit layers positions
+  pub next : length book.closed ≡ suc (length trail)
+  pub looked : IsLookedAt book.level book.limit trail positions
 
 -- how the last ranks of a layer leave a book: it has closed the next layer, and not begun it; or it is over its limit
 abbrev pub WorkAnswer : BookView → Worked → BookView → Type 0

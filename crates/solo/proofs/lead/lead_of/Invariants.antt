@@ -1,11 +1,14 @@
-use Rattle.std.proofs.Common.{◌<◌, length, reverse}
-use Rattle.solo.specs.Leads.{level_of}
+use Rattle.std.proofs.Common.{◌-◌, ◌<◌, ◌≤◌, List, length, map, reverse}
+use Rattle.grid.specs.Board.{Board}
+use Rattle.layers.specs.LayerView.{LayerView}
+use Rattle.solo.specs.Leads.{last_places}
 use Rattle.solo.specs.inside.LeastPlays.{IsReadBack}
+use Rattle.solo.specs.inside.Searched.{AreTrailed}
 use Rattle.solo.proofs.lead.lead_of.Given as goal
 
 abbrev pub invariant-loop-number : goal.invariant-loop-number
-invariant-loop-number l =
-    (l.number < length l.layers) × IsReadBack l.layers (level_of l.layers) l.fn.rank l.number l.rank (reverse l.pushes.items)
+invariant-loop-number g l =
+    (l.number ≤ length l.trail) × ((board : Board) (layers : List LayerView) → AreTrailed board layers (map g.P.HasParents.origins l.trail) → l.fn.asked < length (last_places layers) → IsReadBack layers board l.fn.asked (l.number - 1) l.rank (reverse l.pushes.items))
 
 abbrev pub decreases-loop-number : goal.decreases-loop-number
-decreases-loop-number l = l.number
+decreases-loop-number g l = l.number

@@ -2,7 +2,7 @@ use Rattle.std.proofs.Common.{◌≡◌, sym, ap, ◌∙◌}
 use Rattle.std.specs.List.{list_all}
 use Rattle.grid.specs.Board.{is_goal}
 use Rattle.solo.proofs.Solved.{all_contained, contained_all}
-use Rattle.solo.proofs.lead.is_solved.Goals as goal
+use Rattle.solo.proofs.goals.is_solved.Goals as goal
 
 pub returns : goal.returns
 returns c =

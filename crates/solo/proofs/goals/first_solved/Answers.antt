@@ -3,8 +3,8 @@ use Rattle.std.proofs.lemmas.Bool.{false≢true}
 use Rattle.std.proofs.lemmas.Option.{same_Some, none-some}
 use Rattle.grid.specs.Board.{Board, IsSolved}
 use Rattle.solo.proofs.Solved.{unsolved_more, unsolved_all}
-use Rattle.solo.proofs.lead.first_solved.Goals as goal
-use Rattle.solo.proofs.lead.first_solved.Goals.{in-Some+else-is_solved, in_default}
+use Rattle.solo.proofs.goals.first_solved.Goals as goal
+use Rattle.solo.proofs.goals.first_solved.Goals.{in-Some+else-is_solved, in_default}
 
 pub returns-then-is_solved : goal.returns-then-is_solved
 returns-then-is_solved c = record {

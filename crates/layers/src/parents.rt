@@ -1,0 +1,42 @@
+//! What is kept of a layer whose ranks are done.
+ghost use Rattle.std.specs.Prelude.{◌≡◌, slice_get};
+
+use crate::layer::Layer;
+use crate::origin::Origin;
+use grid::Push;
+use std::marker::Model;
+
+/// The parents of a layer's positions, by rank: all that is needed of an earlier layer to read a solution back.
+#[derive(Debug, Drop)]
+pub struct Parents {
+    origins: Vec<Origin>,
+}
+
+impl Model for Parents {
+    ghost use Rattle.std.specs.Prelude.{List};
+    ghost use Rattle.grid.specs.declared.square.Push.{Push};
+    ghost use Rattle.layers.specs.Openings.{Origin as Parted};
+
+    ghost Value = { List (Parted Push) };
+
+    ghost view = { λ a. a.origins.items };
+}
+
+impl Parents {
+    /// Those of a layer, which is given up for them.
+    pub fn of(layer: Layer) -> Parents
+        ensures { result ≡ layer.origins }
+    {
+        let Layer { origins, .. } = layer;
+        Parents { origins }
+    }
+
+    /// The rank of a position's parent in the layer before, and the push that leads from there; `None` exactly in
+    /// layer 0 and beyond the layer.
+    pub fn parent(&self, rank: u64) -> Option<(u64, Push)>
+        ensures { result ≡ slice_get self.now rank }
+    {
+        let origin = self.origins.get(rank as usize)?;
+        Some(origin.parts())
+    }
+}
