@@ -9,6 +9,7 @@ mod lent;
 mod search;
 #[cfg(test)]
 mod tests;
+mod turns;
 mod worker;
 mod workers;
 
