@@ -1,11 +1,11 @@
 -- What one worker does to a book under its lock, and how it ends.
-use Rattle.std.specs.Prelude.{◌≡◌, ℕ, ◌<◌, Bool, true, Any, Some}
+use Rattle.std.specs.Prelude.{◌≡◌, ℕ, ◌<◌, Bool, true, Any, length, Some}
 use Rattle.layers.specs.LayerView.{LayerView}
 use Rattle.layers.specs.ParcelView.{ParcelView}
 use Rattle.layers.specs.BookView.{BookView, last_layer}
 use Rattle.layers.specs.Books.{HandBackRefused, after_refusal}
 use Rattle.claims.specs.declared.views.Hand.{Hand}
-use Rattle.claims.specs.Hands.{LedgerView, DrawerView}
+use Rattle.claims.specs.Hands.{LedgerView, DrawerView, Drew}
 use Rattle.crew.specs.declared.end.End.{End}
 use Rattle.crew.specs.declared.end.End.TheVariants.{Drained, Refused, Stopped, Foreign, NoPlace}
 
@@ -26,6 +26,19 @@ IsAtPlace ledger place drawer = (drawer.ledger ≡ ledger) × (drawer.hand.place
 -- the hand has seen this place taken
 abbrev pub HasSeenTaken : ℕ → Hand → Type 0
 HasSeenTaken place hand = Any (λ p. p ≡ place) hand.taken
+
+-- the rank is one of the layer, and the drawer has drawn it
+pub record HasDrawn (layer : LayerView) (ledger : LedgerView) (before : Hand) (rank : ℕ) (after : Hand) : Type 0 where
+  pub within : rank < length layer.places
+  pub drew : Drew ledger.len before (Some rank) after
+
+-- how a draw ends a worker: it has the place of its number and is spent out
+abbrev pub DrawEnds : ℕ → Hand → End → Type 0
+DrawEnds worker after Drained = (after.place ≡ Some worker) × (after.spent ≡ true)
+DrawEnds worker after Stopped = ⊥
+DrawEnds worker after Foreign = ⊥
+DrawEnds worker after NoPlace = ⊥
+DrawEnds worker after (Refused refusal) = ⊥
 
 -- how a hand back ends a worker: the book is not its own, or refuses the parcel
 abbrev pub HandEnds : LayerView → ℕ → BookView → ParcelView → End → Type 0

@@ -1,7 +1,7 @@
-ghost use Rattle.std.specs.Prelude.{◌≡◌, ◌<◌, ◌≤◌, false, IsNone, IfErr, IfOk, OnOk, length};
+ghost use Rattle.std.specs.Prelude.{◌≡◌, ◌<◌, ◌≤◌, IsNone, IfErr, IfOk, OnOk, length};
 ghost use Rattle.layers.specs.Books.{MayEnter, with_parcel};
 ghost use Rattle.claims.specs.declared.views.Hand.{Hand};
-ghost use Rattle.crew.specs.Work.{IsOwn, IsOfLayer, IsAtPlace, HandEnds, after_end, MayEnd, EndsWith};
+ghost use Rattle.crew.specs.Work.{IsOwn, IsOfLayer, IsAtPlace, HasDrawn, DrawEnds, HandEnds, after_end, MayEnd, EndsWith};
 
 use crate::end::End;
 use crate::gate::Gate;
@@ -85,9 +85,8 @@ fn draw<G: Gate>(
 fn draw_rank(layer: &Layer, ledger: &Ledger, drawer: &mut Drawer, worker: u8) -> Result<u64, End>
     requires ranks { ledger.now.len ≤ length layer.now.places }
     requires place { IsAtPlace ledger.now worker drawer.old }
-    ensures within { IfOk result (λ rank. rank < length layer.now.places) }
-    ensures end { IfErr result (λ end. MayEnd false end) }
-    ensures hand { IfErr result (λ end. EndsWith worker drawer.new.hand end) }
+    ensures ok { IfOk result (λ rank. HasDrawn layer.now ledger.now drawer.old.hand rank drawer.new.hand) }
+    ensures end { IfErr result (λ end. DrawEnds worker drawer.new.hand end) }
     ensures place { IsAtPlace ledger.now worker drawer.new }
 {
     match ledger.draw(drawer) {
