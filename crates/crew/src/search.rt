@@ -21,7 +21,8 @@ use std::thread::Threads;
 
 /// The solution of the level with the fewest pushes, or that it has none, or that more than the configuration's limit
 /// of positions are needed to say so, found by as many workers as the configuration says. The answer is that of
-/// [`solve_alone`], whatever the number of workers, the gate, and the order in which the workers come to the lock.
+/// [`solve_alone`], whatever the number of workers, the gate, and the order in which the workers draw ranks and come to
+/// the lock.
 ///
 /// [`SolveFault::BadConfig`] exactly where a number of the configuration is outside its limits, before everything
 /// else; [`SolveFault::TooManyBoxes`] where the level has more boxes than [`MAX_BOXES`](grid::MAX_BOXES); and
