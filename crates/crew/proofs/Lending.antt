@@ -1,12 +1,10 @@
 -- From the book that was lent to the one that came back.
-use Rattle.std.proofs.Common.{◌≡◌, ℕ, suc, ◌-◌, ◌≤◌, List, [], ◌∷◌, ◌++◌, length, Some, sym, ap, subst, ◌∙◌, arith}
-use Rattle.std.specs.Prelude.{slice_get}
+use Rattle.std.proofs.Common.{◌≡◌, ℕ, length, sym, ap, ◌∙◌, arith}
 use Rattle.layers.specs.LayerView.{LayerView}
 use Rattle.layers.specs.BookView.{BookView, IsLawfulBook, last_layer}
 use Rattle.layers.specs.Books.{MayBegin, with_begun}
 use Rattle.layers.specs.Events.{AreMadeAlike}
-use Rattle.solo.specs.inside.Turns.{IsLastOf, WorkAnswer}
-use Rattle.solo.proofs.lemmas.Turns.{looked_last}
+use Rattle.solo.specs.inside.Turns.{WorkAnswer}
 use Rattle.solo.specs.declared.turn.Worked.{Worked}
 use Rattle.solo.specs.declared.turn.Worked.TheVariants.{Through, Over}
 use Rattle.crew.specs.Lending.{AreTerms, ComesBack}
@@ -36,7 +34,3 @@ left_alike book back after Through alike same (more, begun, closed) =
     ((alike.0 ∙ more.0, alike.1 ∙ more.1, alike.2 ∙ more.2, alike.3 ∙ more.3, alike.4 ∙ more.4), begun, omega (arith, closed, same))
 left_alike book back after Over alike same (more, over, closed) =
     ((alike.0 ∙ more.0, alike.1 ∙ more.1, alike.2 ∙ more.2, alike.3 ∙ more.3, alike.4 ∙ more.4), over, omega (arith, closed, same))
-
--- the layer that was looked at last is the last one that the book closed
-pub looked_layer : (book : BookView) (layers all : List LayerView) (layer last : LayerView) → IsLastOf book layer → all ≡ layers ++ layer ∷ [] → slice_get all (length all - 1) ≡ Some last → IsLastOf book last
-looked_layer book layers all layer last is_last kept at = subst (IsLastOf book) (sym (looked_last layers all layer last kept at)) is_last

@@ -1,5 +1,5 @@
 -- What is compared when a book comes back from workers.
-use Rattle.std.specs.Prelude.{◌≡◌, true}
+use Rattle.std.specs.Prelude.{◌≡◌}
 use Rattle.layers.specs.LayerView.{LayerView}
 use Rattle.layers.specs.BookView.{BookView}
 use Rattle.layers.specs.Books.{HasBegun}

@@ -1,12 +1,13 @@
 -- What one worker does to a book under its lock, and how it ends.
-use Rattle.std.specs.Prelude.{◌≡◌, ℕ, ◌<◌, Bool, true, length, None, Some}
+use Rattle.std.specs.Prelude.{◌≡◌, ℕ, ◌<◌, Bool, true, Any, length, Some}
 use Rattle.layers.specs.LayerView.{LayerView}
 use Rattle.layers.specs.ParcelView.{ParcelView}
 use Rattle.layers.specs.BookView.{BookView, last_layer}
-use Rattle.layers.specs.Books.{ClaimAnswer, HandBackRefused, after_refusal}
-use Rattle.layers.specs.declared.fault.Refusal.{Refusal}
+use Rattle.layers.specs.Books.{HandBackRefused, after_refusal}
+use Rattle.claims.specs.declared.views.Hand.{Hand}
+use Rattle.claims.specs.Hands.{LedgerView, DrawerView, Drew}
 use Rattle.crew.specs.declared.end.End.{End}
-use Rattle.crew.specs.declared.end.End.TheVariants.{Drained, Refused, Stopped, Foreign}
+use Rattle.crew.specs.declared.end.End.TheVariants.{Drained, Refused, Stopped, Foreign, NoPlace}
 
 -- the book is of the layer's level, it has closed that layer last, and it is made for more workers than this number
 pub record IsOwn (layer : LayerView) (worker : ℕ) (book : BookView) : Type 0 where
@@ -18,18 +19,26 @@ pub record IsOwn (layer : LayerView) (worker : ℕ) (book : BookView) : Type 0 w
 abbrev pub IsOfLayer : LayerView → ParcelView → Type 0
 IsOfLayer layer parcel = (parcel.level ≡ layer.level) × (parcel.layer ≡ layer.number)
 
--- the rank is the least one of the layer that is neither claimed nor done, and then it is claimed
-pub record IsNextRank (layer : LayerView) (worker : ℕ) (book : BookView) (rank : ℕ) (after : BookView) : Type 0 where
-  pub own : IsOwn layer worker book
-  pub within : rank < length layer.places
-  pub claim : ClaimAnswer book (Some (record { layer = layer.number; rank = rank })) after
+-- the drawer is of this ledger, and has this place
+abbrev pub IsAtPlace : LedgerView → ℕ → DrawerView → Type 0
+IsAtPlace ledger place drawer = (drawer.ledger ≡ ledger) × (drawer.hand.place ≡ Some place)
 
--- how a claim ends a worker: the book is not its own, or nothing is left to claim
-abbrev pub ClaimEnds : LayerView → ℕ → BookView → End → Type 0
-ClaimEnds layer worker book Foreign = ¬ (IsOwn layer worker book)
-ClaimEnds layer worker book Drained = IsOwn layer worker book × ClaimAnswer book None book
-ClaimEnds layer worker book (Refused refusal) = ⊥
-ClaimEnds layer worker book Stopped = ⊥
+-- the hand has seen this place taken
+abbrev pub HasSeenTaken : ℕ → Hand → Type 0
+HasSeenTaken place hand = Any (λ p. p ≡ place) hand.taken
+
+-- the rank is one of the layer, and the drawer has drawn it
+pub record HasDrawn (layer : LayerView) (ledger : LedgerView) (before : Hand) (rank : ℕ) (after : Hand) : Type 0 where
+  pub within : rank < length layer.places
+  pub drew : Drew ledger.len before (Some rank) after
+
+-- how a draw ends a worker: it has the place of its number and is spent out
+abbrev pub DrawEnds : ℕ → Hand → End → Type 0
+DrawEnds worker after Drained = (after.place ≡ Some worker) × (after.spent ≡ true)
+DrawEnds worker after Stopped = ⊥
+DrawEnds worker after Foreign = ⊥
+DrawEnds worker after NoPlace = ⊥
+DrawEnds worker after (Refused refusal) = ⊥
 
 -- how a hand back ends a worker: the book is not its own, or refuses the parcel
 abbrev pub HandEnds : LayerView → ℕ → BookView → ParcelView → End → Type 0
@@ -37,6 +46,7 @@ HandEnds layer worker book parcel Foreign = ¬ (IsOwn layer worker book)
 HandEnds layer worker book parcel (Refused refusal) = IsOwn layer worker book × HandBackRefused book parcel refusal
 HandEnds layer worker book parcel Drained = ⊥
 HandEnds layer worker book parcel Stopped = ⊥
+HandEnds layer worker book parcel NoPlace = ⊥
 
 -- the book after a hand back that ended a worker: over, where it passed its limit, and else as it was
 abbrev pub after_end : BookView → End → BookView
@@ -44,6 +54,7 @@ after_end book (Refused refusal) = after_refusal book refusal
 after_end book Drained = book
 after_end book Stopped = book
 after_end book Foreign = book
+after_end book NoPlace = book
 
 -- a worker ends as stopped only with a gate that may stop it
 abbrev pub MayEnd : Bool → End → Type 0
@@ -51,3 +62,13 @@ MayEnd may_stop Stopped = may_stop ≡ true
 MayEnd may_stop Drained = Unit {0}
 MayEnd may_stop (Refused refusal) = Unit {0}
 MayEnd may_stop Foreign = Unit {0}
+MayEnd may_stop NoPlace = Unit {0}
+
+-- what its drawer is left with: a worker that is drained has the place of its number and is spent out, and one that
+-- got no place has seen that place taken
+abbrev pub EndsWith : ℕ → Hand → End → Type 0
+EndsWith worker hand Drained = (hand.place ≡ Some worker) × (hand.spent ≡ true)
+EndsWith worker hand NoPlace = HasSeenTaken worker hand
+EndsWith worker hand (Refused refusal) = Unit {0}
+EndsWith worker hand Stopped = Unit {0}
+EndsWith worker hand Foreign = Unit {0}

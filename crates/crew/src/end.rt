@@ -3,7 +3,7 @@ use layers::Refusal;
 /// Why a worker ended.
 #[derive(Clone, Copy, PartialEq, Eq, Debug)]
 pub enum End {
-    /// No rank of the layer was left to claim.
+    /// No rank of the layer was left to draw.
     Drained,
     /// The book did not accept a parcel.
     Refused(Refusal),
@@ -11,4 +11,6 @@ pub enum End {
     Stopped,
     /// The book behind the lock is of another level, at another layer, or not made for a worker of its number.
     Foreign,
+    /// Another drawer has its place in the ledger.
+    NoPlace,
 }

@@ -1,5 +1,5 @@
-//! Workers that share the book of a level behind a lock, and the solution of a level with the fewest pushes, found by
-//! any number of them: the answer is that of one.
+//! Workers that draw the ranks of a layer from a ledger and share the book of its level behind a lock, and the solution
+//! of a level with the fewest pushes, found by any number of them: the answer is that of one.
 #![tactic(auto)]
 
 mod config;
@@ -9,6 +9,7 @@ mod lent;
 mod search;
 #[cfg(test)]
 mod tests;
+mod turns;
 mod worker;
 mod workers;
 

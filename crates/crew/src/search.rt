@@ -1,21 +1,19 @@
 ghost use Rattle.std.specs.Prelude.{◌≡◌, ◌+◌, ◌≤◌, [], IfOk, IfSome, MatchResult, length};
 ghost use Rattle.std.specs.Arc.{arc_value};
 ghost use Rattle.grid.specs.Lawful.{box_count};
-ghost use Rattle.layers.specs.Books.{IsNew, MayBegin};
+ghost use Rattle.layers.specs.Books.{IsNew};
 ghost use Rattle.solo.specs.Answers.{IsAnswer};
-ghost use Rattle.solo.specs.inside.Turns.{IsBetweenTurns, WorkAnswer};
+ghost use Rattle.solo.specs.inside.Turns.{IsBetweenTurns};
 ghost use Rattle.crew.specs.Configured.{IsWithinLimits};
-ghost use Rattle.crew.specs.Solving.{SolveRefused, TurnAnswer};
+ghost use Rattle.crew.specs.Solving.{SolveRefused};
 
 use crate::config::Config;
 use crate::gate::Gate;
-use crate::lent::{comes_back, terms_of};
-use crate::workers::work_all;
+use crate::turns::{Turned, turn};
 use area::Scratch;
 use doom::Dead;
 use grid::{Level, MAX_BOXES};
-use layers::{Book, BookFault, Layer};
-use solo::turn::{Worked, begin, finish, last_layer, last_of, look};
+use layers::{Book, BookFault};
 use solo::{Answer, SolveFault, solve_alone};
 use std::alloc::{AllocError, Global};
 use std::sync::{Arc, Wait};
@@ -23,7 +21,8 @@ use std::thread::Threads;
 
 /// The solution of the level with the fewest pushes, or that it has none, or that more than the configuration's limit
 /// of positions are needed to say so, found by as many workers as the configuration says. The answer is that of
-/// [`solve_alone`], whatever the number of workers, the gate, and the order in which the workers come to the lock.
+/// [`solve_alone`], whatever the number of workers, the gate, and the order in which the workers draw ranks and come to
+/// the lock.
 ///
 /// [`SolveFault::BadConfig`] exactly where a number of the configuration is outside its limits, before everything
 /// else; [`SolveFault::TooManyBoxes`] where the level has more boxes than [`MAX_BOXES`](grid::MAX_BOXES); and
@@ -121,80 +120,4 @@ fn all_turns<R: Threads + Wait + Sync, G: Gate + Sync>(
             Turned::Foreign => return Ok(None),
         }
     }
-}
-
-// How a turn ended.
-#[derive(Drop)]
-pub(crate) enum Turned {
-    // The next layer is closed in this book.
-    Onward(Book),
-    // There is an answer.
-    Found(Answer),
-    // Another book came back than was lent.
-    Foreign,
-}
-
-// Looks at the last layer that the book closed, and lets the workers work through it where it gives no answer. The
-// only error is that memory was refused.
-fn turn<R: Threads + Wait + Sync, G: Gate + Sync>(
-    rt: &R,
-    alloc: Global,
-    book: Book,
-    layers: &mut Vec<Layer>,
-    positions: &mut u64,
-    dead: &Dead,
-    scratch: &mut Scratch,
-    gate: &G,
-) -> Result<Turned, AllocError>
-    requires turn { IsBetweenTurns book layers.old.items positions.old }
-    requires dead_of_level { dead.now ≡ book.level }
-    requires room { scratch.old.size ≡ length book.level.cells }
-    ensures turned { IfOk result (λ turned. TurnAnswer book layers.new.items positions.old positions.new turned) }
-    ensures size { scratch.new.size ≡ scratch.old.size }
-{
-    let layer = last_layer(alloc, &book)?;
-    let found = look(alloc, layers, positions, layer, book.limit(), scratch)?;
-    if let Some(answer) = found {
-        return Ok(Turned::Found(answer));
-    }
-    let layer = last_of(layers.as_slice());
-    let Some((worked, book)) = work_through(rt, alloc, book, layer, dead, scratch, gate)? else {
-        return Ok(Turned::Foreign);
-    };
-    book.tell();
-    match worked {
-        Worked::Over => Ok(Turned::Found(Answer::Limit)),
-        Worked::Through => Ok(Turned::Onward(book)),
-    }
-}
-
-// Lends the book to the workers, and does what they left of its last closed layer; `None` where another book came
-// back. The only error is that memory was refused.
-fn work_through<R: Threads + Wait + Sync, G: Gate + Sync>(
-    rt: &R,
-    alloc: Global,
-    mut book: Book,
-    layer: &Layer,
-    dead: &Dead,
-    scratch: &mut Scratch,
-    gate: &G,
-) -> Result<Option<(Worked, Book)>, AllocError>
-    requires may { MayBegin book layer.now }
-    requires dead_of_level { dead.now ≡ layer.now.level }
-    requires room { scratch.old.size ≡ length layer.now.level.cells }
-    ensures worked { IfOk result (λ back. IfSome back (λ b. WorkAnswer book b.0 b.1)) }
-    ensures size { scratch.new.size ≡ scratch.old.size }
-{
-    begin(&mut book, layer)?;
-    book.tell();
-    let terms = terms_of(&book);
-    // the caller's own number is the last one
-    let own = book.workers() - 1;
-    let mut back = work_all(rt, alloc, book, layer, dead, own, gate);
-    back.tell();
-    if !comes_back(&back, &terms, layer) {
-        return Ok(None);
-    }
-    let worked = finish(&mut back, layer, dead, scratch, own)?;
-    Ok(Some((worked, back)))
 }

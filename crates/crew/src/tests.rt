@@ -1,5 +1,7 @@
 ghost use Rattle.std.specs.Prelude.{◌≡◌, false};
 
+mod draws;
+
 use crate::{Config, Free, Gate, solve};
 use grid::{Cell, Level, MAX_BOXES};
 use layers::MAX_WORKERS;
@@ -24,7 +26,7 @@ const HELD_LAYER: u64 = 1;
 /// The number of no worker.
 const NOBODY: u64 = u64::MAX;
 
-/// A gate that counts the events of each layer, and in one layer holds the worker with the first claim until a parcel
+/// A gate that counts the events of each layer, and in one layer holds the worker that drew first until a parcel
 /// of another worker was accepted there.
 #[derive(Drop)]
 struct Holding {
@@ -65,7 +67,7 @@ impl Gate for Holding {
         if layer != HELD_LAYER {
             return true;
         }
-        // of each worker's events the odd ones are claims, the even ones parcels that were accepted
+        // of each worker's events the odd ones are draws, the even ones parcels that were accepted
         let me = worker as u64;
         if nth % 2 == 0 {
             let held = self.held.load(Ordering::SeqCst);

@@ -1,36 +1,49 @@
-ghost use Rattle.std.specs.Prelude.{◌≡◌, ◌<◌, ◌↔◌, IsTrue, IfErr, IfOk, OnErr, OnOk, length};
+ghost use Rattle.std.specs.Prelude.{◌≡◌, ◌<◌, ◌≤◌, IsNone, IfErr, IfOk, OnOk, length};
 ghost use Rattle.layers.specs.Books.{MayEnter, with_parcel};
-ghost use Rattle.crew.specs.Work.{IsOwn, IsOfLayer, IsNextRank, ClaimEnds, HandEnds, after_end, MayEnd};
+ghost use Rattle.claims.specs.declared.views.Hand.{Hand};
+ghost use Rattle.crew.specs.Work.{IsOwn, IsOfLayer, IsAtPlace, HasDrawn, DrawEnds, HandEnds, after_end, MayEnd, EndsWith};
 
 use crate::end::End;
 use crate::gate::Gate;
 use area::Scratch;
+use claims::{Drawer, Ledger, PLACES};
 use doom::Dead;
 use layers::{Book, Layer, Parcel, Refusal, expand, expand_into};
 use std::sync::{Mutex, Wait};
 
-/// Works on a layer as one worker, until it ends: claims a rank under the lock, expands it while no lock is held, and
-/// hands the parcel back under the lock. After each claim and each accepted parcel it asks the gate, with no lock
-/// held.
+/// Works on a layer as one worker, until it ends: draws a rank, expands it while no lock is held, and hands the parcel
+/// back under the lock. Its place in the ledger is its number. After each draw that gives a rank and each accepted
+/// parcel it asks the gate, with no lock held.
 ///
-/// What is behind the lock may be any book, so under each lock the worker asks for level, layer and its own number
-/// again. It ends with [`End::Stopped`] only where the gate may stop a worker.
+/// What is behind the lock may be any book, so under the lock the worker asks for level, layer and its own number
+/// again. It ends with [`End::Stopped`] only where the gate may stop a worker, with [`End::Drained`] only where its
+/// drawer has its place and is spent out, and with [`End::NoPlace`] only where its drawer has seen that place taken.
 pub fn work<R: Wait, G: Gate>(
     rt: &R,
     layer: &Layer,
     dead: &Dead,
     book: &Mutex<Book>,
+    ledger: &Ledger,
+    drawer: &mut Drawer,
     worker: u8,
     scratch: &mut Scratch,
     gate: &G,
 ) -> End
     requires dead_of_level { dead.now ≡ layer.now.level }
     requires room { scratch.old.size ≡ length layer.now.level.cells }
+    requires ranks { ledger.now.len ≤ length layer.now.places }
+    requires drawer { (drawer.old.ledger ≡ ledger.now) × IsNone drawer.old.hand.place }
+    requires place { worker < PLACES }
     ensures end { MayEnd G.may_stop result }
+    ensures hand { EndsWith worker drawer.new.hand result }
+    ensures ledger { drawer.new.ledger ≡ ledger.now }
     ensures size { scratch.new.size ≡ scratch.old.size }
 {
+    if !ledger.enrol(drawer, worker) {
+        return End::NoPlace;
+    }
     let mut nth = 0;
-    let rank = match claim(rt, layer, book, worker, gate, &mut nth) {
+    let rank = match draw(layer, ledger, drawer, worker, gate, &mut nth) {
         Ok(rank) => rank,
         Err(end) => return end,
     };
@@ -39,7 +52,7 @@ pub fn work<R: Wait, G: Gate>(
         if let Err(end) = hand_back(rt, layer, book, worker, &parcel, gate, &mut nth) {
             return end;
         }
-        match claim(rt, layer, book, worker, gate, &mut nth) {
+        match draw(layer, ledger, drawer, worker, gate, &mut nth) {
             Ok(rank) => expand_into(layer, dead, rank, scratch, &mut parcel),
             Err(end) => return end,
         }
@@ -47,22 +60,39 @@ pub fn work<R: Wait, G: Gate>(
     unreachable!()
 }
 
-// Claims a rank of the layer under the lock, and then passes the gate.
-fn claim<R: Wait, G: Gate>(
-    rt: &R,
+// Draws a rank of the layer, and then passes the gate.
+fn draw<G: Gate>(
     layer: &Layer,
-    book: &Mutex<Book>,
+    ledger: &Ledger,
+    drawer: &mut Drawer,
     worker: u8,
     gate: &G,
     nth: &mut u64,
 ) -> Result<u64, End>
+    requires ranks { ledger.now.len ≤ length layer.now.places }
+    requires place { IsAtPlace ledger.now worker drawer.old }
     ensures within { IfOk result (λ rank. rank < length layer.now.places) }
     ensures end { IfErr result (λ end. MayEnd G.may_stop end) }
+    ensures hand { IfErr result (λ end. EndsWith worker drawer.new.hand end) }
+    ensures place { IsAtPlace ledger.now worker drawer.new }
 {
-    let claimed = claim_rank(&mut *book.lock(rt), layer, worker);
-    let rank = claimed?;
+    let rank = draw_rank(layer, ledger, drawer, worker)?;
     pass(gate, layer.number(), worker, nth)?;
     Ok(rank)
+}
+
+// Draws a rank of the layer.
+fn draw_rank(layer: &Layer, ledger: &Ledger, drawer: &mut Drawer, worker: u8) -> Result<u64, End>
+    requires ranks { ledger.now.len ≤ length layer.now.places }
+    requires place { IsAtPlace ledger.now worker drawer.old }
+    ensures ok { IfOk result (λ rank. HasDrawn layer.now ledger.now drawer.old.hand rank drawer.new.hand) }
+    ensures end { IfErr result (λ end. DrawEnds worker drawer.new.hand end) }
+    ensures place { IsAtPlace ledger.now worker drawer.new }
+{
+    match ledger.draw(drawer) {
+        Some(rank) => Ok(u64::from(rank)),
+        None => Err(End::Drained),
+    }
 }
 
 // Hands a parcel back under the lock, and then passes the gate.
@@ -76,7 +106,8 @@ fn hand_back<R: Wait, G: Gate>(
     nth: &mut u64,
 ) -> Result<(), End>
     requires { IsOfLayer layer.now parcel.now }
-    ensures { IfErr result (λ end. MayEnd G.may_stop end) }
+    ensures end { IfErr result (λ end. MayEnd G.may_stop end) }
+    ensures hand { (hand : Hand) → IfErr result (λ end. EndsWith worker hand end) }
 {
     let handed = hand_in(&mut *book.lock(rt), layer, worker, parcel);
     handed?;
@@ -85,30 +116,14 @@ fn hand_back<R: Wait, G: Gate>(
 
 // Counts one more event, and asks the gate.
 fn pass<G: Gate>(gate: &G, layer: u64, worker: u8, nth: &mut u64) -> Result<(), End>
-    ensures { IfErr result (λ end. MayEnd G.may_stop end) }
+    ensures end { IfErr result (λ end. MayEnd G.may_stop end) }
+    ensures hand { (hand : Hand) → IfErr result (λ end. EndsWith worker hand end) }
 {
     *nth = nth.saturating_add(1);
     if gate.pass(layer, worker, *nth) {
         Ok(())
     } else {
         Err(End::Stopped)
-    }
-}
-
-// Claims the least rank of the layer that is free.
-fn claim_rank(book: &mut Book, layer: &Layer, worker: u8) -> Result<u64, End>
-    ensures ok { IfOk result (λ rank. IsNextRank layer.now worker book.old rank book.new) }
-    ensures end { IfErr result (λ end. ClaimEnds layer.now worker book.old end) }
-    ensures kept { OnErr result (book.new ≡ book.old) }
-{
-    if !is_own(book, layer, worker) {
-        return Err(End::Foreign);
-    }
-    book.tell();
-    layer.tell();
-    match book.claim() {
-        Some(claim) => Ok(claim.rank),
-        None => Err(End::Drained),
     }
 }
 
@@ -129,11 +144,4 @@ fn hand_in(book: &mut Book, layer: &Layer, worker: u8, parcel: &Parcel<'_>) -> R
         Err(Refusal::OtherLayer) => Err(End::Foreign),
         Err(refusal) => Err(End::Refused(refusal)),
     }
-}
-
-// Whether the book is one that a worker of this number may work on for the layer.
-fn is_own(book: &Book, layer: &Layer, worker: u8) -> bool
-    ensures { IsTrue result ↔ IsOwn layer.now worker book.now }
-{
-    worker < book.workers() && book.layer() == layer.number() && *book.level() == *layer.level()
 }

@@ -1,8 +1,10 @@
-ghost use Rattle.std.specs.Prelude.{◌≡◌};
+ghost use Rattle.std.specs.Prelude.{◌≡◌, ◌<◌, ◌≤◌, length};
+ghost use Rattle.claims.specs.Hands.{newcomer};
 
 use crate::gate::Gate;
 use crate::worker::work;
 use area::Scratch;
+use claims::{Drawer, Ledger, PLACES};
 use doom::Dead;
 use layers::{Book, Layer};
 use std::alloc::Global;
@@ -10,18 +12,23 @@ use std::sync::{Mutex, Wait};
 use std::thread;
 use std::thread::Threads;
 
-// Lends the book to so many workers, and gives what is behind its lock once all of them have ended. A worker that
-// cannot be started does nothing.
+// Lends the book and the ledger to so many workers, each with a drawer of its own, and gives what is behind the lock
+// once all of them have ended. A worker that cannot be started does nothing.
 pub(crate) fn work_all<R: Threads + Wait + Sync, G: Gate + Sync>(
     rt: &R,
     alloc: Global,
     book: Book,
     layer: &Layer,
     dead: &Dead,
+    ledger: &Ledger,
+    drawer: Drawer,
     workers: u8,
     gate: &G,
 ) -> Book
-    requires { dead.now ≡ layer.now.level }
+    requires dead_of_level { dead.now ≡ layer.now.level }
+    requires ranks { ledger.now.len ≤ length layer.now.places }
+    requires drawer { drawer ≡ newcomer ledger.now }
+    requires places { workers ≤ PLACES }
 {
     let lock = Mutex::new(book);
     let shared = &lock;
@@ -29,13 +36,22 @@ pub(crate) fn work_all<R: Threads + Wait + Sync, G: Gate + Sync>(
         thread::scope_env(),
         rt,
         |scope|
-            requires { dead.now ≡ layer.now.level }
+            requires dead_of_level { dead.now ≡ layer.now.level }
+            requires ranks { ledger.now.len ≤ length layer.now.places }
+            requires drawer { drawer ≡ newcomer ledger.now }
+            requires places { workers ≤ PLACES }
         {
+            let mut rest = drawer;
             for worker in 0..workers {
+                let (kept, own) = ledger.split(rest);
+                rest = kept;
                 let _ = scope.spawn(
                     move ||
-                        requires { dead.now ≡ layer.now.level }
-                    { help(rt, alloc, layer, dead, shared, worker, gate) },
+                        requires dead_of_level { dead.now ≡ layer.now.level }
+                        requires ranks { ledger.now.len ≤ length layer.now.places }
+                        requires drawer { own ≡ newcomer ledger.now }
+                        requires place { worker < PLACES }
+                    { help(rt, alloc, layer, dead, shared, ledger, own, worker, gate) },
                 );
             }
         },
@@ -51,12 +67,28 @@ fn help<R: Wait, G: Gate>(
     layer: &Layer,
     dead: &Dead,
     book: &Mutex<Book>,
+    ledger: &Ledger,
+    drawer: Drawer,
     worker: u8,
     gate: &G,
 )
-    requires { dead.now ≡ layer.now.level }
+    requires dead_of_level { dead.now ≡ layer.now.level }
+    requires ranks { ledger.now.len ≤ length layer.now.places }
+    requires drawer { drawer ≡ newcomer ledger.now }
+    requires place { worker < PLACES }
 {
     if let Ok(mut scratch) = Scratch::new(alloc, layer.level()) {
-        work(rt, layer, dead, book, worker, &mut scratch, gate);
+        let mut own = drawer;
+        work(
+            rt,
+            layer,
+            dead,
+            book,
+            ledger,
+            &mut own,
+            worker,
+            &mut scratch,
+            gate,
+        );
     }
 }

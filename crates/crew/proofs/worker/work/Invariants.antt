@@ -1,7 +1,7 @@
 use Rattle.std.proofs.Common.{◌≡◌}
-use Rattle.crew.specs.Work.{IsOfLayer}
+use Rattle.crew.specs.Work.{IsOfLayer, IsAtPlace}
 use Rattle.crew.proofs.worker.work.Given as goal
 
 abbrev pub invariant-loop : goal.invariant-loop
 invariant-loop g l =
-    (goal.iterator-loop g).can_next l.iterator' × (goal.iterator-loop g).is_finite l.iterator' × IsOfLayer l.layer l.parcel × (l.scratch.size ≡ l.fn.scratch.size)
+    (goal.iterator-loop g).can_next l.iterator' × (goal.iterator-loop g).is_finite l.iterator' × IsOfLayer l.layer l.parcel × IsAtPlace l.fn.ledger l.fn.worker l.drawer × (l.scratch.size ≡ l.fn.scratch.size)

@@ -1,0 +1,2 @@
+-- What keeps the books of the code: what its loops keep, and what its functions say to each other.
+pub mod Turning

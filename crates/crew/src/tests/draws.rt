@@ -1,0 +1,115 @@
+//! One worker over a ledger.
+ghost use Rattle.std.specs.Prelude.{◌≡◌};
+ghost use Rattle.claims.specs.Hands.{newcomer};
+
+use crate::tests::{TWO_ENDS, level_of};
+use crate::{End, Free, work};
+use area::Scratch;
+use claims::{Drawer, Ledger};
+use doom::Dead;
+use layers::{Book, Claim, Layer, Refusal, expand};
+use std::alloc::Global;
+use std::process::Abort;
+use std::slice;
+use std::sync::{Mutex, Wait};
+
+/// The claim of the first rank.
+const FIRST: Claim = Claim { layer: 0, rank: 0 };
+
+/// A book at work on layer 0, and that layer, which has one position.
+fn begun(rt: &impl Abort, alloc: Global) -> (Book, Layer) {
+    let level = level_of(rt, alloc, TWO_ENDS);
+    let mut book = Book::of(alloc, level, 1_000_000, 2, 0, 1).expect(rt, "a book");
+    let layer = Layer::join(alloc, slice::from_ref(&book)).expect(rt, "a layer");
+    book.begin(&layer).expect(rt, "a begin");
+    (book, layer)
+}
+
+/// A ledger of one number, and two drawers.
+fn one_number(rt: &impl Abort, alloc: Global) -> (Ledger, Drawer, Drawer)
+    ensures len { result.0.len ≡ 1 }
+    ensures drawers { (result.1 ≡ newcomer result.0) × (result.2 ≡ newcomer result.0) }
+{
+    let (ledger, drawer) = Ledger::new(alloc, 1).expect(rt, "memory");
+    let (first, second) = ledger.split(drawer);
+    (ledger, first, second)
+}
+
+/// How worker 0 ends, and the book after it.
+fn worked<R: Wait + Abort>(
+    rt: &R,
+    alloc: Global,
+    layer: &Layer,
+    book: Book,
+    ledger: &Ledger,
+    drawer: Drawer,
+) -> (End, Book)
+    requires len { ledger.now.len ≡ 1 }
+    requires drawer { drawer ≡ newcomer ledger.now }
+{
+    assert!(rt; layer.len() >= 1);
+    let dead = Dead::of(alloc, layer.level()).expect(rt, "memory");
+    let mut scratch = Scratch::new(alloc, layer.level()).expect(rt, "memory");
+    let lock = Mutex::new(book);
+    let mut own = drawer;
+    let end = work(
+        rt,
+        layer,
+        &dead,
+        &lock,
+        ledger,
+        &mut own,
+        0,
+        &mut scratch,
+        &Free,
+    );
+    (end, lock.into_inner())
+}
+
+/// What the book answers where the parcel of the first rank is handed back.
+fn again(rt: &impl Abort, alloc: Global, layer: &Layer, book: &mut Book) -> Result<(), Refusal> {
+    assert!(rt; layer.len() >= 1);
+    assert!(rt; book.workers() >= 1);
+    let dead = Dead::of(alloc, layer.level()).expect(rt, "memory");
+    let mut scratch = Scratch::new(alloc, layer.level()).expect(rt, "memory");
+    book.hand_back(0, &expand(layer, &dead, 0, &mut scratch))
+}
+
+#[test]
+fn a_worker_draws_its_ranks_from_the_ledger(rt: HostRuntime) {
+    let alloc = rt.alloc();
+    let (book, layer) = begun(&rt, alloc);
+    let (ledger, mut other, own) = one_number(&rt, alloc);
+    assert!(rt; ledger.enrol(&mut other, 1) && ledger.draw(&mut other) == Some(0));
+    let (end, mut book) = worked(&rt, alloc, &layer, book, &ledger, own);
+    assert!(rt; end == End::Drained);
+    assert!(rt; book.claim() == Some(FIRST), "the book is as it was");
+}
+
+#[test]
+fn a_worker_does_what_it_drew(rt: HostRuntime) {
+    let alloc = rt.alloc();
+    let (book, layer) = begun(&rt, alloc);
+    let (ledger, _, own) = one_number(&rt, alloc);
+    let (end, mut book) = worked(&rt, alloc, &layer, book, &ledger, own);
+    assert!(rt; end == End::Drained);
+    assert!(rt; book.claim().is_none());
+    assert!(rt; again(&rt, alloc, &layer, &mut book) == Err(Refusal::Double));
+    let closed = book.close().expect(&rt, "a close");
+    assert!(rt; closed.layer == 1 && closed.count == 2);
+}
+
+#[test]
+fn a_place_is_taken(rt: HostRuntime) {
+    let alloc = rt.alloc();
+    let (book, layer) = begun(&rt, alloc);
+    let (ledger, mut other, own) = one_number(&rt, alloc);
+    assert!(rt; ledger.enrol(&mut other, 0));
+    let (end, mut book) = worked(&rt, alloc, &layer, book, &ledger, own);
+    assert!(rt; end == End::NoPlace);
+    assert!(rt; book.claim() == Some(FIRST), "the book is as it was");
+    assert!(rt;
+        ledger.draw(&mut other) == Some(0),
+        "the worker drew nothing"
+    );
+}
