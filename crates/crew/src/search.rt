@@ -101,7 +101,7 @@ fn all_turns<R: Threads + Wait + Sync, G: Gate + Sync>(
     requires room { scratch.old.size ≡ length first.level.cells }
     ensures { IfOk result (λ found. IfSome found (λ answer. IsAnswer first.level first.limit answer)) }
 {
-    let mut layers = Vec::new(alloc);
+    let mut trail = Vec::new(alloc);
     let mut positions = 0;
     let mut book = first;
     loop {
@@ -109,7 +109,7 @@ fn all_turns<R: Threads + Wait + Sync, G: Gate + Sync>(
             rt,
             alloc,
             book,
-            &mut layers,
+            &mut trail,
             &mut positions,
             dead,
             scratch,

@@ -1,10 +1,9 @@
 //! One turn of a search: its look at the next layer, and the workers' work on it.
-ghost use Rattle.std.specs.Prelude.{◌≡◌, ◌^◌, ◌<◌, ◌≤◌, IfNone, IfOk, IfSome, length};
+ghost use Rattle.std.specs.Prelude.{◌≡◌, ◌^◌, ◌<◌, ◌≤◌, IfOk, IfSome, length};
 ghost use Rattle.layers.specs.Books.{MayBegin};
-ghost use Rattle.solo.specs.Answers.{IsAnswer};
 ghost use Rattle.solo.specs.inside.Turns.{IsBetweenTurns, WorkAnswer};
 ghost use Rattle.claims.specs.Hands.{newcomer};
-ghost use Rattle.crew.specs.inside.Turning.{HasLooked, TurnAnswer};
+ghost use Rattle.crew.specs.inside.Turning.{NextAnswer, TurnAnswer};
 
 use crate::gate::Gate;
 use crate::lent::{comes_back, terms_of};
@@ -12,9 +11,9 @@ use crate::workers::work_all;
 use area::Scratch;
 use claims::{Drawer, Ledger};
 use doom::Dead;
-use layers::{Book, Layer};
+use layers::{Book, Layer, Parents};
 use solo::Answer;
-use solo::turn::{Worked, begin, finish, last_layer, last_of, look};
+use solo::turn::{Worked, begin, finish, last_layer, look};
 use std::alloc::{AllocError, Global};
 use std::sync::Wait;
 use std::thread::Threads;
@@ -36,25 +35,26 @@ pub(crate) fn turn<R: Threads + Wait + Sync, G: Gate + Sync>(
     rt: &R,
     alloc: Global,
     book: Book,
-    layers: &mut Vec<Layer>,
+    trail: &mut Vec<Parents>,
     positions: &mut u64,
     dead: &Dead,
     scratch: &mut Scratch,
     gate: &G,
 ) -> Result<Turned, AllocError>
-    requires turn { IsBetweenTurns book layers.old.items positions.old }
+    requires turn { IsBetweenTurns book trail.old.items positions.old }
     requires dead_of_level { dead.now ≡ book.level }
     requires room { scratch.old.size ≡ length book.level.cells }
-    ensures turned { IfOk result (λ turned. TurnAnswer book layers.new.items positions.old positions.new turned) }
+    ensures turned { IfOk result (λ turned. TurnAnswer book trail.new.items positions.old positions.new turned) }
     ensures size { scratch.new.size ≡ scratch.old.size }
 {
-    if let Some(answer) = look_next(alloc, &book, layers, positions, scratch)? {
-        return Ok(Turned::Found(answer));
-    }
-    let layer = last_of(layers.as_slice());
-    let Some((worked, book)) = work_through(rt, alloc, book, layer, dead, scratch, gate)? else {
+    let layer = match look_next(alloc, &book, trail.as_slice(), positions, scratch)? {
+        Next::Layer(layer) => layer,
+        Next::Found(answer) => return Ok(Turned::Found(answer)),
+    };
+    let Some((worked, book)) = work_through(rt, alloc, book, &layer, dead, scratch, gate)? else {
         return Ok(Turned::Foreign);
     };
+    trail.push(Parents::of(layer))?;
     book.tell();
     match worked {
         Worked::Over => Ok(Turned::Found(Answer::Limit)),
@@ -62,23 +62,33 @@ pub(crate) fn turn<R: Threads + Wait + Sync, G: Gate + Sync>(
     }
 }
 
-// Looks at the last layer that the book closed: the answer, if it gives one; otherwise it comes last of the layers. The
-// only error is that memory was refused.
+// What a look at a layer gives.
+#[derive(Drop)]
+pub(crate) enum Next {
+    // It gives no answer, and its ranks are to be done.
+    Layer(Layer),
+    // It gives the answer.
+    Found(Answer),
+}
+
+// Looks at the last layer that the book closed. The only error is that memory was refused.
 fn look_next(
     alloc: Global,
     book: &Book,
-    layers: &mut Vec<Layer>,
+    trail: &[Parents],
     positions: &mut u64,
     scratch: &mut Scratch,
-) -> Result<Option<Answer>, AllocError>
-    requires turn { IsBetweenTurns book.now layers.old.items positions.old }
+) -> Result<Next, AllocError>
+    requires turn { IsBetweenTurns book.now trail.now positions.old }
     requires room { scratch.old.size ≡ length book.now.level.cells }
-    ensures answer { IfOk result (λ found. IfSome found (λ answer. IsAnswer book.now.level book.now.limit answer)) }
-    ensures next { IfOk result (λ found. IfNone found (HasLooked book.now positions.old layers.new.items positions.new)) }
+    ensures next { IfOk result (λ next. NextAnswer book.now trail.now positions.old positions.new next) }
     ensures size { scratch.new.size ≡ scratch.old.size }
 {
     let layer = last_layer(alloc, book)?;
-    look(alloc, layers, positions, layer, book.limit(), scratch)
+    match look(alloc, trail, positions, &layer, book.limit(), scratch)? {
+        Some(answer) => Ok(Next::Found(answer)),
+        None => Ok(Next::Layer(layer)),
+    }
 }
 
 // Lends the book to the workers, and does what they left of its last closed layer; `None` where another book came
