@@ -2,6 +2,7 @@ pub mod lemmas
 pub mod Packing
 pub mod Open
 pub mod Reaching
+pub mod Rests
 pub mod Gathering
 pub mod Offers
 pub mod Appending

@@ -38,6 +38,10 @@ pub record BookView : Type 0 where
 abbrev pub last_layer : BookView → ℕ
 last_layer v = length v.closed - 1
 
+-- the last closed list
+abbrev pub last_list : BookView → List Closed
+last_list v = slice_index_or v.closed (last_layer v) []
+
 -- the positions of a closed list
 abbrev pub places_of : List Closed → List Scene
 places_of es = map (λ e. e.0) es

@@ -10,7 +10,7 @@ use Rattle.layers.specs.inside.Insides.{squares_of, scenes_of, layer_view}
 use Rattle.layers.proofs.Cuts.{length-cut_at}
 use Rattle.layers.proofs.Flat.{HaveBoxes, length-squares_of, scenes-squares}
 use Rattle.layers.proofs.lemmas.Joins.{joined_boxes, joined_whole}
-use Rattle.layers.proofs.book.Book.last_list.Goals as goal
+use Rattle.layers.proofs.book.Book.last_rows.Goals as goal
 
 pub invariant_of-result : goal.invariant_of-result
 invariant_of-result c =

@@ -8,8 +8,8 @@ use Rattle.layers.specs.BookView.{Closed, places_of, origins_of}
 use Rattle.layers.specs.inside.Insides.{squares_of}
 use Rattle.layers.proofs.Flat.{squares-push}
 use Rattle.layers.proofs.lemmas.Joins.{copied_more, places-push, origins-push}
-use Rattle.layers.proofs.join.copy_from.Goals.{in-Some+in_ok-extend_from_slice+in_ok-push+in-Some-get+in_ok-push-2, in-Some+in_ok-extend_from_slice+in_ok-push+in_default-get, in_default}
-use Rattle.layers.proofs.join.copy_from.Goals as goal
+use Rattle.layers.proofs.copying.copy_from.Goals.{in-Some+in_ok-extend_from_slice+in_ok-push+in-Some-get+in_ok-push-2, in-Some+in_ok-extend_from_slice+in_ok-push+in_default-get, in_default}
+use Rattle.layers.proofs.copying.copy_from.Goals as goal
 
 pub loop-place-preserved : goal.loop-place-preserved
 loop-place-preserved g c =
