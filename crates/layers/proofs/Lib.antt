@@ -11,3 +11,5 @@ pub mod Tails
 pub mod Flat
 pub mod First
 pub mod Histories
+pub mod Ordered
+pub mod Merged

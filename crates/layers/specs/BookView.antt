@@ -71,6 +71,11 @@ pub record IsShareOfLayer (level : Board) (shares share k : ℕ) (es : List Clos
   pub origins : (i : ℕ) (m : Scene) (o : Option (Origin Push)) → slice_get es i ≡ Some (m, o) → HasClosedOrigin level k m o
   pub fits : (i : ℕ) (m : Scene) (o : Option (Origin Push)) → slice_get es i ≡ Some (m, o) → FitsLevel level m
 
+-- the lists are all the shares of layer k, share 0 first
+pub record AreSharesOfLayer (level : Board) (shares k : ℕ) (lists : List (List Closed)) : Type 0 where
+  pub all : length lists ≡ shares
+  pub each : (t : ℕ) (es : List Closed) → slice_get lists t ≡ Some es → IsShareOfLayer level shares t k es
+
 -- the rank was handed back
 abbrev pub IsDone : BookView → ℕ → Type 0
 IsDone v r = slice_index_or v.done r false ≡ true
