@@ -13,3 +13,4 @@ pub mod First
 pub mod Histories
 pub mod Ordered
 pub mod Merged
+pub mod Joined

@@ -1,5 +1,5 @@
 -- All the shares of a layer, merged by their origins, are the layer.
-use Rattle.std.proofs.Common.{◌≡◌, ◌≢◌, ℕ, zero, suc, ◌+◌, ◌<◌, ◌≤◌, false, List, [], ◌∷◌, ◌++◌, length, sum, get_or, Option, Some, None, ◌⊎◌, inl, inr, refl, sym, ap, subst, ◌∙◌, arith}
+use Rattle.std.proofs.Common.{◌≡◌, ◌≢◌, ℕ, zero, suc, ◌+◌, ◌<◌, false, List, [], ◌∷◌, ◌++◌, length, sum, get_or, Option, Some, None, inl, inr, refl, sym, ap, subst, ◌∙◌, arith}
 use Rattle.std.proofs.lemmas.Cmp.{tied_itself}
 use Rattle.std.proofs.lemmas.Nat.{mod_below}
 use Rattle.std.proofs.lemmas.Option.{same_Some}
@@ -14,9 +14,9 @@ use Rattle.grid.specs.Lawful.{IsLevel}
 use Rattle.grid.specs.States.{FitsLevel}
 use Rattle.layers.specs.Layered.{IsIn}
 use Rattle.layers.specs.Openings.{Origin, origin_cmp, IsLayered}
-use Rattle.layers.specs.Origins.{IsSuccessor, HasOrigin, share_of}
+use Rattle.layers.specs.Origins.{IsSuccessor, share_of}
 use Rattle.layers.specs.Reaching.{Reaches, Admits, IsLayerOf, IsLeadOf}
-use Rattle.layers.specs.BookView.{Closed, places_of, HasClosedOrigin, IsShareOfLayer, AreSharesOfLayer}
+use Rattle.layers.specs.BookView.{Closed, places_of, HasClosedOrigin, AreSharesOfLayer}
 use Rattle.layers.specs.FoundView.{origin_in}
 use Rattle.layers.specs.inside.Merging.{IsMerged}
 use Rattle.layers.proofs.lemmas.Books.{admitted, level_laws, read_at}

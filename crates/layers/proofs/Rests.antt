@@ -1,5 +1,5 @@
 -- Lists that are merged by their origins.
-use Rattle.std.proofs.Common.{◌≡◌, ℕ, zero, suc, ◌+◌, ◌-◌, ◌<◌, ◌≤◌, true, false, is_some, ◌⊎◌, inl, MatchOption, List, [], ◌∷◌, ◌++◌, length, map, take, drop, get_or, set, Some, None, Option, option_map, inr, refl, sym, ap, subst, ◌∙◌, arith}
+use Rattle.std.proofs.Common.{◌≡◌, ℕ, zero, suc, ◌+◌, ◌-◌, ◌<◌, ◌≤◌, true, false, is_some, ◌⊎◌, inl, MatchOption, List, [], ◌∷◌, ◌++◌, length, take, drop, get_or, set, Some, None, Option, option_map, inr, refl, sym, ap, subst, ◌∙◌, arith}
 use Rattle.std.proofs.lemmas.Bool.{cases_lt, true≢false}
 use Rattle.std.proofs.lemmas.Cmp.{tied_itself}
 use Rattle.std.proofs.lemmas.List.{length-append, length-drop}
@@ -14,12 +14,12 @@ use Rattle.grid.specs.Board.{push_cmp}
 use Rattle.grid.proofs.lemmas.Orders.{push_cmp_total}
 use Rattle.layers.specs.Openings.{Origin, origin_cmp}
 use Rattle.layers.specs.Reaching.{total}
-use Rattle.layers.specs.BookView.{Closed, last_layer, last_list, places_of, origins_of}
+use Rattle.layers.specs.BookView.{Closed, last_list, places_of, origins_of}
 use Rattle.layers.specs.FoundView.{origin_in}
 use Rattle.layers.specs.declared.book.Book.TheInside.{Inside}
 use Rattle.layers.specs.inside.BookInside.{book_view, cut_at}
 use Rattle.layers.specs.inside.Insides.{IsCopied, squares_of}
-use Rattle.layers.specs.inside.Merging.{IsLeastFirst, HasLeastFirst, Takes, first_origin}
+use Rattle.layers.specs.inside.Merging.{HasLeastFirst, Takes, first_origin}
 use Rattle.layers.specs.inside.Merging.Takes.{nothing, one}
 use Rattle.layers.proofs.Cuts.{length-cut_at, cut_piece}
 use Rattle.layers.proofs.lemmas.Lists.{sum_by_first}

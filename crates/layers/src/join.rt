@@ -1,4 +1,7 @@
-ghost use Rattle.std.specs.Prelude.{◌≡◌, ℕ, ◌↔◌, IsTrue, IfOk, MatchResult, Some, ◌∷◌, [], slice_get};
+ghost use Rattle.std.specs.Prelude.{◌≡◌, ℕ, ◌↔◌, IsTrue, IfOk, MatchResult, ◌≤◌, Some, ◌∷◌, [], map, slice_get};
+ghost use Rattle.grid.specs.Lawful.{box_count};
+ghost use Rattle.layers.specs.declared.limits.TheConstants.{MOST_POSITIONS};
+ghost use Rattle.layers.specs.Reaching.{total};
 ghost use Rattle.std.specs.Bool.{MatchBool};
 ghost use Rattle.layers.specs.BookView.{BookView, IsLawfulBook, last_layer, last_list};
 ghost use Rattle.layers.specs.Books.{AreAllShares, IsJoinOf, IsShareBeside, JoinRefused};
@@ -9,7 +12,7 @@ use crate::fault::JoinFault;
 use crate::layer::Layer;
 use crate::merging::merge;
 use crate::origin::Origin;
-use grid::Square;
+use grid::{MAX_BOXES, Square};
 use std::alloc::{AllocError, Global};
 use std::sync::Arc;
 
@@ -19,23 +22,24 @@ impl Layer {
     pub fn join(alloc: Global, books: &[Book]) -> Result<Layer, JoinFault>
         ensures { MatchResult result (λ layer. IsJoinOf books.now layer) (λ fault. JoinRefused books.now fault) }
     {
-        if !are_all_shares(books) {
+        let Some(first) = books.first() else {
+            return Err(JoinFault::NotWhole);
+        };
+        if !are_all_shares(books, first) {
             return Err(JoinFault::NotWhole);
         }
-        match join_all(alloc, books) {
+        match join_all(alloc, books, first) {
             Ok(layer) => Ok(layer),
             Err(_) => Err(JoinFault::OutOfMemory),
         }
     }
 }
 
-// Whether the books are all the shares, in order.
-fn are_all_shares(books: &[Book]) -> bool
+// Whether the books, the first of which is given, are all the shares, in order.
+fn are_all_shares(books: &[Book], first: &Book) -> bool
+    requires { slice_get books.now 0 ≡ Some first.now }
     ensures { MatchBool result (AreAllShares books.now) (¬ (AreAllShares books.now)) }
 {
-    let Some(first) = books.first() else {
-        return false;
-    };
     if books.len() != first.shares() as usize {
         return false;
     }
@@ -47,25 +51,40 @@ fn are_all_shares(books: &[Book]) -> bool
     true
 }
 
-// The last closed layer of all the shares.
-fn join_all(alloc: Global, books: &[Book]) -> Result<Layer, AllocError>
-    requires { AreAllShares books.now }
+// The last closed layer of all the shares, the first of which is given.
+fn join_all(alloc: Global, books: &[Book], first: &Book) -> Result<Layer, AllocError>
+    requires first { slice_get books.now 0 ≡ Some first.now }
+    requires all { AreAllShares books.now }
     ensures { IfOk result (λ layer. IsJoinOf books.now layer) }
 {
     tell_all(books);
-    let first = &books[0];
-    let (count, squares, origins) = if books.len() == 1 {
-        first.last_rows(alloc)?
-    } else {
-        merge(alloc, books, first.level().boxes())?
-    };
+    let boxes = first.boxes();
+    let (count, squares, origins) = merged_rows(alloc, books, boxes)?;
+    let level = Arc::try_clone(&first.level)?;
+    let number = first.layer();
     Ok(Layer {
-        level: Arc::try_clone(&first.level)?,
-        number: first.layer(),
+        level,
+        number,
         count,
         squares,
         origins,
     })
+}
+
+// How many positions the last closed lists of the books have, their squares and their origins, merged by the origins.
+fn merged_rows(
+    alloc: Global,
+    books: &[Book],
+    boxes: usize,
+) -> Result<(usize, Vec<Square>, Vec<Origin>), AllocError>
+    requires boxes { boxes ≤ MAX_BOXES }
+    requires few { total (map last_list books.now) ≤ MOST_POSITIONS }
+    ensures { IfOk result (λ r. AreMerged (map last_list books.now) r.0 r.1.items r.2.items) }
+{
+    match books {
+        [book] => book.last_rows(alloc),
+        _ => merge(alloc, books, boxes),
+    }
 }
 
 // Tells what is true of every book.
@@ -78,15 +97,25 @@ fn tell_all(books: &[Book])
 }
 
 impl Book {
+    // The number of boxes of a position.
+    fn boxes(&self) -> usize
+        ensures boxes { result ≡ box_count self.now.level }
+        ensures few { result ≤ MAX_BOXES }
+    {
+        self.level.boxes()
+    }
+
     // Whether the book is the share with a number beside another book.
     fn is_share_beside(&self, first: &Book, place: usize) -> bool
         ensures { IsTrue result ↔ IsShareBeside first.now place self.now }
     {
-        self.share as usize == place
-            && self.is_of(first.level())
-            && self.limit == first.limit
-            && self.shares == first.shares
-            && self.starts.len() == first.starts.len()
+        if self.share as usize != place || !self.is_of(first.level()) {
+            return false;
+        }
+        if self.limit != first.limit || self.shares != first.shares {
+            return false;
+        }
+        self.starts.len() == first.starts.len()
     }
 
     // The squares of the positions of the last closed list and their origins, and how many they are.

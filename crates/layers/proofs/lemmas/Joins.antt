@@ -1,28 +1,17 @@
 -- Closed lists as they are copied into layers.
-use Rattle.std.proofs.Common.{◌≡◌, ℕ, zero, suc, ◌+◌, ◌-◌, ◌<◌, ◌≤◌, List, [], ◌∷◌, ◌++◌, length, map, take, drop, get_or, Option, Some, None, inr, refl, sym, ap, subst, ◌∙◌, arith}
+use Rattle.std.proofs.Common.{◌≡◌, ℕ, zero, suc, ◌≤◌, List, [], ◌∷◌, ◌++◌, length, map, take, drop, Option, Some, None, refl, sym, ap, subst, ◌∙◌, arith}
 use Rattle.std.proofs.lemmas.List.{append_assoc, length-map}
-use Rattle.std.proofs.lemmas.Option.{same_Some, none-some, slice_get_within, slice_get_past}
+use Rattle.std.proofs.lemmas.Option.{same_Some, none-some, slice_get_within}
 use Rattle.std.specs.Prelude.{slice_get}
 use Rattle.std.specs.Option.{option_to_list}
 use Rattle.grid.specs.declared.square.Push.{Push}
 use Rattle.grid.specs.Board.{Board, Scene}
-use Rattle.grid.specs.Lawful.{IsLevel, box_count}
-use Rattle.grid.specs.States.{FitsLevel}
-use Rattle.layers.specs.declared.limits.TheConstants.{MOST_POSITIONS}
-use Rattle.layers.specs.declared.book.Book.TheInside.{Inside}
-use Rattle.layers.specs.inside.BookInside.{book_view, cut_at, AreCuts}
 use Rattle.layers.specs.Openings.{Origin}
-use Rattle.layers.specs.Reaching.{IsLayerOf, AreLayersOf, total}
-use Rattle.layers.specs.Origins.{HasOrigin, share_of}
-use Rattle.layers.specs.LayerView.{LayerView, HaveOrigins, IsWhole}
-use Rattle.layers.specs.BookView.{BookView, Closed, places_of, origins_of, HasClosedOrigin, IsShareOfLayer, IsLawfulBook}
-use Rattle.layers.specs.Books.{AreAllShares}
-use Rattle.layers.proofs.lemmas.Books.{admitted, read_at, take_short, total-take_more}
-use Rattle.layers.proofs.lemmas.Closings.{take_at, take_push}
-use Rattle.layers.proofs.Cuts.{length-cut_at, cut_piece}
-use Rattle.layers.proofs.Flat.{HaveBoxes}
-use Rattle.layers.proofs.lemmas.Exchange.{at_map}
-use Rattle.layers.proofs.First.{one_share}
+use Rattle.layers.specs.Reaching.{total}
+use Rattle.layers.specs.Origins.{HasOrigin}
+use Rattle.layers.specs.LayerView.{HaveOrigins}
+use Rattle.layers.specs.BookView.{Closed, places_of, origins_of, HasClosedOrigin}
+use Rattle.layers.proofs.lemmas.Closings.{take_push}
 use Rattle.layers.proofs.lemmas.Lists.{sum_by_first}
 
 drop-push : {A : Type 0} (xs : List A) (n : ℕ) (a : A) → n ≤ length xs → drop n (xs ++ a ∷ []) ≡ drop n xs ++ a ∷ []

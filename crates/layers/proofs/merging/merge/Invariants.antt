@@ -1,4 +1,4 @@
-use Rattle.std.proofs.Common.{◌≡◌, ℕ, map, List}
+use Rattle.std.proofs.Common.{◌≡◌, map, List}
 use Rattle.layers.specs.Reaching.{total}
 use Rattle.layers.specs.BookView.{Closed, last_list, places_of, origins_of}
 use Rattle.layers.specs.inside.Insides.{squares_of}

@@ -1,6 +1,4 @@
-use Rattle.std.proofs.Common.{◌≡◌, ◌∷◌, List, suc, drop, ◌+◌, sym, ◌∙◌, add-one, ap, arith}
-use Rattle.std.proofs.lemmas.Option.{slice_get_within}
-use Rattle.layers.specs.BookView.{Closed}
+use Rattle.std.proofs.Common.{drop, ◌+◌, ◌∙◌, add-one, ap, arith}
 use Rattle.layers.proofs.Rests.{drop_first, first_at, first_left}
 use Rattle.layers.proofs.merging.Rest.take.Goals as goal
 
