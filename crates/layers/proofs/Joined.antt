@@ -10,7 +10,7 @@ use Rattle.layers.specs.declared.limits.TheConstants.{MOST_POSITIONS}
 use Rattle.layers.specs.Openings.{Origin}
 use Rattle.layers.specs.Reaching.{IsLayerOf, AreLayersOf, total}
 use Rattle.layers.specs.LayerView.{LayerView, HaveOrigins, IsWhole}
-use Rattle.layers.specs.BookView.{BookView, Closed, last_layer, last_list, places_of, origins_of, HasClosedOrigin, IsLawfulBook}
+use Rattle.layers.specs.BookView.{BookView, Closed, last_layer, last_list, places_of, origins_of, HasClosedOrigin, IsLawfulBook, AreLawfulBooks}
 use Rattle.layers.specs.Books.{AreAllShares}
 use Rattle.layers.specs.inside.Merging.{IsMerged}
 use Rattle.layers.proofs.Flat.{HaveBoxes}
@@ -36,7 +36,7 @@ one_of_all [] k = omega arith
 one_of_all (xs ∷ xss) zero = omega (arith, sum_by_first length xs xss)
 one_of_all (xs ∷ xss) (suc k) = omega (arith, sum_by_first length xs xss, one_of_all xss k)
 
-module _ (books : List BookView) (all : AreAllShares books) (lawful : (i : ℕ) (v : BookView) → slice_get books i ≡ Some v → IsLawfulBook v) where
+module _ (books : List BookView) (all : AreAllShares books) (lawful : AreLawfulBooks books) where
   abbrev first : BookView
   first = all.first
 

@@ -111,3 +111,7 @@ pub record IsLawfulBook (v : BookView) : Type 0 where
   pub tallies : (length v.tallies ≡ v.workers) × (sum v.tallies ≡ total (take (last_layer v) wholes) + count_by (λ b. b) v.done)
   pub within : total v.closed + length v.waiting ≤ v.limit
   pub over : v.over ≡ true → IsPassed v × ((r : ℕ) × (r < length v.done) × (slice_index_or v.done r true ≡ false))
+
+-- each of the books is lawful
+abbrev pub AreLawfulBooks : List BookView → Type 0
+AreLawfulBooks books = (i : ℕ) (v : BookView) → slice_get books i ≡ Some v → IsLawfulBook v

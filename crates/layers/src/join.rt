@@ -1,9 +1,9 @@
-ghost use Rattle.std.specs.Prelude.{◌≡◌, ℕ, ◌↔◌, IsTrue, IfOk, MatchResult, ◌≤◌, Some, ◌∷◌, [], map, slice_get};
+ghost use Rattle.std.specs.Prelude.{◌≡◌, ◌↔◌, IsTrue, IfOk, MatchResult, ◌≤◌, Some, ◌∷◌, [], map, slice_get};
 ghost use Rattle.grid.specs.Lawful.{box_count};
 ghost use Rattle.layers.specs.declared.limits.TheConstants.{MOST_POSITIONS};
 ghost use Rattle.layers.specs.Reaching.{total};
 ghost use Rattle.std.specs.Bool.{MatchBool};
-ghost use Rattle.layers.specs.BookView.{BookView, IsLawfulBook, last_layer, last_list};
+ghost use Rattle.layers.specs.BookView.{AreLawfulBooks, last_layer, last_list};
 ghost use Rattle.layers.specs.Books.{AreAllShares, IsJoinOf, IsShareBeside, JoinRefused};
 ghost use Rattle.layers.specs.inside.Merging.{AreMerged};
 
@@ -89,7 +89,7 @@ fn merged_rows(
 
 // Tells what is true of every book.
 fn tell_all(books: &[Book])
-    ensures { (i : ℕ) (v : BookView) → slice_get books.now i ≡ Some v → IsLawfulBook v }
+    ensures { AreLawfulBooks books.now }
 {
     for place in 0..books.len() {
         books[place].tell();

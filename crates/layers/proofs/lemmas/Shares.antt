@@ -10,7 +10,7 @@ use Rattle.grid.specs.Lawful.{IsLevel}
 use Rattle.layers.specs.Layered.{IsIn}
 use Rattle.layers.specs.Origins.{share_of}
 use Rattle.layers.specs.Reaching.{IsLayerOf, IsLeadOf, AreLayersOf, total}
-use Rattle.layers.specs.BookView.{BookView, Closed, places_of, last_layer, last_list, IsShareOfLayer, AreSharesOfLayer, IsLawfulBook}
+use Rattle.layers.specs.BookView.{BookView, Closed, places_of, last_layer, last_list, IsShareOfLayer, AreSharesOfLayer, IsLawfulBook, AreLawfulBooks}
 use Rattle.layers.specs.Books.{AreAllShares}
 use Rattle.layers.proofs.lemmas.Layers.{member, place_unique, layers_apart}
 use Rattle.layers.proofs.lemmas.Books.{admitted, level_laws, read_at}
@@ -83,7 +83,7 @@ module _ (board : Board) (level : IsLevel board) (shares k : ℕ) (lists : List 
 
 -- ---- books that are all the shares
 
-module _ (books : List BookView) (all : AreAllShares books) (lawful : (i : ℕ) (v : BookView) → slice_get books i ≡ Some v → IsLawfulBook v) where
+module _ (books : List BookView) (all : AreAllShares books) (lawful : AreLawfulBooks books) where
   abbrev first : BookView
   first = all.first
 
