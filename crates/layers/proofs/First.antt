@@ -33,9 +33,9 @@ no_later : (qs : List Push) → is_gt (shortlex push_cmp [] qs) ≡ false
 no_later [] = refl
 no_later (q ∷ qs) = shortlex_shorter push_cmp [] (q ∷ qs) (omega arith)
 
--- the start's normal position is layer 0
-pub first_layer : (board : Board) → IsLevel board → (n : Scene) → Undoomed board (start board) → IsNorm board (start board) n → FitsLevel board n → IsShareOfLayer board 1 0 0 ((n, None) ∷ [])
-first_layer board level n safe norm fits = record {
+-- the start's normal position is layer 0 of its own share
+pub first_layer : (board : Board) → IsLevel board → (shares share : ℕ) (n : Scene) → Undoomed board (start board) → IsNorm board (start board) n → FitsLevel board n → share_of shares n ≡ share → IsShareOfLayer board shares share 0 ((n, None) ∷ [])
+first_layer board level shares share n safe norm fits own = record {
   layer = record {
     leads = λ r m at. leads r m at;
     rise = λ r s m l ps qs lt at_r at_s. absurd (past r s l lt at_s);
@@ -51,8 +51,8 @@ first_layer board level n safe norm fits = record {
     lead : IsLead push_cmp (Reaches board) n []
     lead = record { reached = here; least = λ qs reach. no_later qs }
 
-    leads : (r : ℕ) (m : Scene) → slice_get (n ∷ []) r ≡ Some m → (share_of 1 m ≡ 0) × ((ps : List Push) × IsLead push_cmp (Reaches board) m ps × (length ps ≡ 0))
-    leads zero m at = (one_share m, ([], subst (λ x. IsLead push_cmp (Reaches board) x []) (same_Some n m at) lead, refl))
+    leads : (r : ℕ) (m : Scene) → slice_get (n ∷ []) r ≡ Some m → (share_of shares m ≡ share) × ((ps : List Push) × IsLead push_cmp (Reaches board) m ps × (length ps ≡ 0))
+    leads zero m at = (ap (share_of shares) (sym (same_Some n m at)) ∙ own, ([], subst (λ x. IsLead push_cmp (Reaches board) x []) (same_Some n m at) lead, refl))
     leads (suc r) m at = absurd (none-some m at)
 
     past : (r s : ℕ) (l : Scene) → r < s → slice_get (n ∷ []) s ≡ Some l → ⊥
@@ -71,9 +71,25 @@ first_layer board level n safe norm fits = record {
     fit zero m o at = subst (FitsLevel board) (ap (λ (x : Closed). x.0) (same_Some (n, None) (m, o) at)) fits
     fit (suc i) m o at = absurd (none-some (m, o) at)
 
+-- layer 0 of another share is empty
+pub other_layer : (board : Board) → IsLevel board → (shares share : ℕ) (n : Scene) → Undoomed board (start board) → IsNorm board (start board) n → ¬ (share_of shares n ≡ share) → IsShareOfLayer board shares share 0 []
+other_layer board level shares share n safe norm other = record {
+  layer = record {
+    leads = λ r m at. absurd (none-some m at);
+    rise = λ r s m l ps qs lt at_r at_s. absurd (none-some m at_r);
+    whole = λ ps m reach long part. absurd (other (ap (share_of shares) (same ps m reach long) ∙ part));
+  };
+  origins = λ i m o at. absurd (none-some (m, o) at);
+  fits = λ i m o at. absurd (none-some (m, o) at);
+}
+  where
+    same : (ps : List Push) (m : Scene) → Reaches board ps m → length ps ≡ 0 → n ≡ m
+    same [] m reach long = (level_laws board level).same [] n m ([], start board, stay safe, norm) reach
+    same (p ∷ ps) m reach long = absurd (omega arith)
+
 -- where the start is doomed layer 0 is empty
-pub doomed_layer : (board : Board) → Doomed board (start board).boxes → IsShareOfLayer board 1 0 0 []
-doomed_layer board doomed = record {
+pub doomed_layer : (board : Board) (shares share : ℕ) → Doomed board (start board).boxes → IsShareOfLayer board shares share 0 []
+doomed_layer board shares share doomed = record {
   layer = record {
     leads = λ r m at. absurd (none-some m at);
     rise = λ r s m l ps qs lt at_r at_s. absurd (none-some m at_r);
@@ -123,7 +139,7 @@ drop_none (x ∷ xs) = refl
 -- ---- a new book, on the fields
 
 module _ (board : Board) (limit workers share shares : ℕ) (starts tallies : List ℕ) (es : List Closed) (claimed done : List Bool) (waiting : List (Entry Scene Push))
-    (one : shares ≡ 1) (dealt : share < shares) (layer : IsShareOfLayer board 1 0 0 es × (length es ≤ 1))
+    (layer : IsShareOfLayer board shares share 0 es × (length es ≤ 1))
     (starts_are : starts ≡ replicate 1 0) (tallies_are : tallies ≡ replicate workers 0) (no_claims : claimed ≡ []) (none_done : done ≡ []) (none_waits : waiting ≡ []) where
   abbrev fresh : BookView
   fresh = record { level = board; limit = limit; workers = workers; share = share; shares = shares; closed = cut_at starts es; begun = false; claimed = claimed; done = done; waiting = waiting; tallies = tallies; over = false }
@@ -131,16 +147,10 @@ module _ (board : Board) (limit workers share shares : ℕ) (starts tallies : Li
   closed_is : cut_at starts es ≡ es ∷ []
   closed_is = ap (λ s. cut_at s es) starts_are ∙ ap (λ xs. xs ∷ []) (drop_none es)
 
-  share_is : IsShareOfLayer board shares share 0 es
-  share_is = subst (λ n. IsShareOfLayer board n share 0 es) (sym one) (subst (λ s. IsShareOfLayer board 1 s 0 es) (zero_is share (omega arith)) layer.0)
-    where
-      zero_is : (s : ℕ) → s < 1 → 0 ≡ s
-      zero_is s lt = omega arith
-
   pub fresh_lawful : IsLevel board → AreBounds limit workers share shares → IsLawfulBook fresh
   fresh_lawful level bounds = subst IsLawfulBook
       (λ i. record { level = board; limit = limit; workers = workers; share = share; shares = shares; closed = sym closed_is i; begun = false; claimed = sym no_claims i; done = sym none_done i; waiting = sym none_waits i; tallies = sym tallies_are i; over = false })
-      (lawful_new board limit workers share shares es level bounds share_is (omega (arith, layer.1, bounds.limits.0)))
+      (lawful_new board limit workers share shares es level bounds layer.0 (omega (arith, layer.1, bounds.limits.0)))
 
   pub fresh_cuts : AreCuts starts (length es)
   fresh_cuts = subst (λ s. AreCuts s (length es)) (sym starts_are) (record { first = refl; rise = λ j p q at next. absurd (none-some q next); within = λ j p at. within j p at })
@@ -152,7 +162,7 @@ module _ (board : Board) (limit workers share shares : ℕ) (starts tallies : Li
   pub fresh_new : IsNew board limit workers share shares fresh
   fresh_new = record {
     made_with = (refl, refl, refl, refl, refl);
-    closed = (es, closed_is, share_is);
+    closed = (es, closed_is, layer.0);
     begun = refl;
     nothing = (no_claims, none_done, none_waits);
     tallies = tallies_are;

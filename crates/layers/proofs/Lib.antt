@@ -2,6 +2,7 @@ pub mod lemmas
 pub mod Packing
 pub mod Open
 pub mod Reaching
+pub mod Rests
 pub mod Gathering
 pub mod Offers
 pub mod Appending
@@ -10,3 +11,6 @@ pub mod Tails
 pub mod Flat
 pub mod First
 pub mod Histories
+pub mod Ordered
+pub mod Merged
+pub mod Joined

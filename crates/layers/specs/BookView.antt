@@ -38,6 +38,10 @@ pub record BookView : Type 0 where
 abbrev pub last_layer : BookView → ℕ
 last_layer v = length v.closed - 1
 
+-- the last closed list
+abbrev pub last_list : BookView → List Closed
+last_list v = slice_index_or v.closed (last_layer v) []
+
 -- the positions of a closed list
 abbrev pub places_of : List Closed → List Scene
 places_of es = map (λ e. e.0) es
@@ -66,6 +70,11 @@ pub record IsShareOfLayer (level : Board) (shares share k : ℕ) (es : List Clos
   pub layer : IsLayer push_cmp (Reaches level) (λ j m. share_of shares m ≡ share) k (places_of es)
   pub origins : (i : ℕ) (m : Scene) (o : Option (Origin Push)) → slice_get es i ≡ Some (m, o) → HasClosedOrigin level k m o
   pub fits : (i : ℕ) (m : Scene) (o : Option (Origin Push)) → slice_get es i ≡ Some (m, o) → FitsLevel level m
+
+-- the lists are all the shares of layer k, share 0 first
+pub record AreSharesOfLayer (level : Board) (shares k : ℕ) (lists : List (List Closed)) : Type 0 where
+  pub all : length lists ≡ shares
+  pub each : (t : ℕ) (es : List Closed) → slice_get lists t ≡ Some es → IsShareOfLayer level shares t k es
 
 -- the rank was handed back
 abbrev pub IsDone : BookView → ℕ → Type 0
@@ -102,3 +111,7 @@ pub record IsLawfulBook (v : BookView) : Type 0 where
   pub tallies : (length v.tallies ≡ v.workers) × (sum v.tallies ≡ total (take (last_layer v) wholes) + count_by (λ b. b) v.done)
   pub within : total v.closed + length v.waiting ≤ v.limit
   pub over : v.over ≡ true → IsPassed v × ((r : ℕ) × (r < length v.done) × (slice_index_or v.done r true ≡ false))
+
+-- each of the books is lawful
+abbrev pub AreLawfulBooks : List BookView → Type 0
+AreLawfulBooks books = (i : ℕ) (v : BookView) → slice_get books i ≡ Some v → IsLawfulBook v

@@ -208,12 +208,16 @@ CloseRefused v CloseOutOfMemory = AllDone v
 
 -- ---- join
 
+-- the book is share i beside the first one: of the same level, limit and number of shares, at the same last closed layer
+abbrev pub IsShareBeside : BookView → ℕ → BookView → Type 0
+IsShareBeside first i v = (v.share ≡ i) × (v.level ≡ first.level) × (v.limit ≡ first.limit) × (v.shares ≡ first.shares) × (length v.closed ≡ length first.closed)
+
 -- the books are all the shares, in order, of one level, limit and number of shares, at the same last closed layer
 pub record AreAllShares (books : List BookView) : Type 0 where
   pub first : BookView
   pub head : slice_get books 0 ≡ Some first
   pub all : length books ≡ first.shares
-  pub each : (i : ℕ) (v : BookView) → slice_get books i ≡ Some v → (v.share ≡ i) × (v.level ≡ first.level) × (v.limit ≡ first.limit) × (v.shares ≡ first.shares) × (length v.closed ≡ length first.closed)
+  pub each : (i : ℕ) (v : BookView) → slice_get books i ≡ Some v → IsShareBeside first i v
 
 -- the layer is that of the books' level, at their last closed layer
 abbrev pub IsJoinOf : List BookView → LayerView → Type 0

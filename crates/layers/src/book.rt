@@ -2,12 +2,13 @@ ghost use Rattle.std.specs.Prelude.{◌≡◌, ◌+◌, ◌-◌, ◌*◌, ◌<�
 ghost use Rattle.grid.specs.Board.{start};
 ghost use Rattle.grid.specs.Lawful.{box_count};
 ghost use Rattle.grid.specs.States.{FitsLevel};
-ghost use Rattle.layers.specs.BookView.{IsLawfulBook, IsShareOfLayer, last_layer};
+ghost use Rattle.layers.specs.BookView.{AreBounds, IsLawfulBook, IsShareOfLayer, last_layer};
 ghost use Rattle.layers.specs.Books.{IsNew, BookRefused, closed_place};
 ghost use Rattle.layers.specs.inside.BookInside.{AreCuts, IsPiece};
 ghost use Rattle.layers.specs.FoundView.{first_entries};
 ghost use Rattle.std.specs.Arc.{arc_value};
 
+use crate::entering::share_of;
 use crate::fault::BookFault;
 use crate::found::Found;
 use crate::limits::{MAX_SHARES, MAX_WORKERS};
@@ -80,7 +81,7 @@ impl Book {
         requires limit { 1 ≤ limit }
         requires workers { (1 ≤ workers) × (workers ≤ MAX_WORKERS + 1) }
         requires share { share < shares }
-        requires shares { shares ≡ 1 }
+        requires shares { shares ≤ MAX_SHARES }
         ensures ok { IfOk result (λ book. IsNew (arc_value level) limit workers share shares book) }
         ensures variant { MatchResult result (λ book. box_count (arc_value level) ≤ MAX_BOXES) (λ fault. BookRefused (arc_value level) fault) }
     {
@@ -89,8 +90,31 @@ impl Book {
         let Some(start) = Position::start(&level) else {
             return Err(BookFault::TooManyBoxes);
         };
-        let first = first_position(alloc, &level, &start)?;
-        let found = Found::of(alloc, level.boxes(), &first)?;
+        let first = first_position(alloc, &level, &start, share, shares)?;
+        match Book::with_first(alloc, level, &first, limit, workers, share, shares) {
+            Ok(book) => Ok(book),
+            Err(_) => Err(BookFault::OutOfMemory),
+        }
+    }
+
+    // A book whose layer 0 is the first position, if there is one.
+    fn with_first(
+        alloc: Global,
+        level: Arc<Level>,
+        first: &Option<Position>,
+        limit: u32,
+        workers: u8,
+        share: u8,
+        shares: u8,
+    ) -> Result<Book, AllocError>
+        requires bounds { AreBounds limit workers share shares }
+        requires few { box_count (arc_value level) ≤ MAX_BOXES }
+        requires layer { IsShareOfLayer (arc_value level) shares share 0 (first_entries first.now) }
+        requires boxes { IfSome first.now (λ m. length m.boxes ≡ box_count (arc_value level)) }
+        ensures { IfOk result (λ book. IsNew (arc_value level) limit workers share shares book) }
+    {
+        level.tell();
+        let found = Found::of(alloc, level.boxes(), first)?;
         let mut starts = Vec::new(alloc);
         starts.resize(1, 0)?;
         let mut tallies = Vec::new(alloc);
@@ -195,15 +219,19 @@ impl Book {
     }
 }
 
-// The position of layer 0: the start's normal position, or none where the start is doomed.
+// The share's position of layer 0: the start's normal position, or none where the start is doomed or that position is
+// of another share.
 fn first_position(
     alloc: Global,
     level: &Level,
     first: &Position,
+    share: u8,
+    shares: u8,
 ) -> Result<Option<Position>, AllocError>
     requires start { first.now ≡ start level.now }
     requires fits { FitsLevel level.now first.now }
-    ensures layer { IfOk result (λ normal. IsShareOfLayer level.now 1 0 0 (first_entries normal)) }
+    requires shares { 0 < shares }
+    ensures layer { IfOk result (λ normal. IsShareOfLayer level.now shares share 0 (first_entries normal)) }
     ensures boxes { IfOk result (λ normal. IfSome normal (λ m. length m.boxes ≡ box_count level.now)) }
 {
     level.tell();
@@ -212,7 +240,11 @@ fn first_position(
     if doomed(level, &dead, first, &mut scratch) {
         return Ok(None);
     }
-    Ok(Some(normal(level, first, &mut scratch)))
+    let position = normal(level, first, &mut scratch);
+    if share_of(&position, shares) != share {
+        return Ok(None);
+    }
+    Ok(Some(position))
 }
 
 // Where a piece of a list that is cut at these places begins and ends; `None` exactly beyond the pieces.

@@ -1,9 +1,9 @@
 //! What a book has found, with keys as wide as its level's boxes want.
-ghost use Rattle.std.specs.Prelude.{◌≡◌, ℕ, ◌+◌, ◌<◌, ◌≤◌, [], length, map, drop, fold, option_map, slice_get, IfOk, IfSome, OnOk, OnErr};
-ghost use Rattle.layers.specs.BookView.{origins_of};
+ghost use Rattle.std.specs.Prelude.{◌≡◌, ℕ, ◌+◌, ◌<◌, ◌≤◌, [], length, map, drop, fold, option_map, slice_get, IfOk, IfSome, OnOk, OnErr, Some};
+ghost use Rattle.layers.specs.BookView.{Closed, origins_of};
 ghost use Rattle.layers.specs.Books.{IsSortedAppend, is_wanted_in, entered};
-ghost use Rattle.layers.specs.FoundView.{HaveFew, first_entries};
-ghost use Rattle.layers.specs.inside.Insides.{squares_of};
+ghost use Rattle.layers.specs.FoundView.{HaveFew, first_entries, origin_in};
+ghost use Rattle.layers.specs.inside.Insides.{IsCopied, squares_of};
 
 use crate::origin::{MOST_RANKS, Origin};
 use crate::parcel::Successor;
@@ -101,6 +101,37 @@ impl Found {
             Tables::Middle(table) => table.closed_at(place),
             Tables::Wide(table) => table.closed_at(place),
             Tables::Widest(table) => table.closed_at(place),
+        }
+    }
+
+    /// The origin of the closed position at a place; `None` exactly beyond them.
+    pub(crate) fn origin_at(&self, place: usize) -> Option<Origin>
+        ensures { result ≡ option_map (λ e. origin_in e.1) (slice_get self.now.seen place) }
+    {
+        match &self.tables {
+            Tables::Narrow(table) => table.origin_at(place),
+            Tables::Middle(table) => table.origin_at(place),
+            Tables::Wide(table) => table.origin_at(place),
+            Tables::Widest(table) => table.origin_at(place),
+        }
+    }
+
+    /// Appends the squares of the closed position at a place, and its origin if it has one. The only error is that
+    /// memory was refused.
+    pub(crate) fn copy_at(
+        &self,
+        place: usize,
+        squares: &mut Vec<Square>,
+        origins: &mut Vec<Origin>,
+    ) -> Result<(), AllocError>
+        requires { place < length self.now.seen }
+        ensures { OnOk result ((e : Closed) → slice_get self.now.seen place ≡ Some e → IsCopied e squares.old.items squares.new.items origins.old.items origins.new.items) }
+    {
+        match &self.tables {
+            Tables::Narrow(table) => table.copy_at(place, squares, origins),
+            Tables::Middle(table) => table.copy_at(place, squares, origins),
+            Tables::Wide(table) => table.copy_at(place, squares, origins),
+            Tables::Widest(table) => table.copy_at(place, squares, origins),
         }
     }
 

@@ -1,15 +1,18 @@
-ghost use Rattle.std.specs.Prelude.{◌≡◌, ◌≤◌, IfOk, MatchResult, drop, length, map, take};
-ghost use Rattle.layers.specs.BookView.{last_layer, origins_of};
-ghost use Rattle.layers.specs.Books.{IsJoinOf, JoinRefused};
-ghost use Rattle.layers.specs.inside.Insides.{squares_of};
+ghost use Rattle.std.specs.Prelude.{◌≡◌, ◌↔◌, IsTrue, IfOk, MatchResult, ◌≤◌, Some, ◌∷◌, [], map, slice_get};
+ghost use Rattle.grid.specs.Lawful.{box_count};
+ghost use Rattle.layers.specs.declared.limits.TheConstants.{MOST_POSITIONS};
+ghost use Rattle.layers.specs.Reaching.{total};
+ghost use Rattle.std.specs.Bool.{MatchBool};
+ghost use Rattle.layers.specs.BookView.{AreLawfulBooks, last_layer, last_list};
+ghost use Rattle.layers.specs.Books.{AreAllShares, IsJoinOf, IsShareBeside, JoinRefused};
+ghost use Rattle.layers.specs.inside.Merging.{AreMerged};
 
 use crate::book::{Book, last_start};
 use crate::fault::JoinFault;
-use crate::key::Key;
 use crate::layer::Layer;
-use crate::origin::{ClosedOrigin, Origin};
+use crate::merging::merge;
+use crate::origin::Origin;
 use grid::{MAX_BOXES, Square};
-use indexmap::IndexMap;
 use std::alloc::{AllocError, Global};
 use std::sync::Arc;
 
@@ -17,69 +20,111 @@ impl Layer {
     /// The last closed layer of the books, which are all the shares in order. The only errors are that they are not,
     /// and that memory was refused.
     pub fn join(alloc: Global, books: &[Book]) -> Result<Layer, JoinFault>
-        requires { length books.now ≤ 1 }
         ensures { MatchResult result (λ layer. IsJoinOf books.now layer) (λ fault. JoinRefused books.now fault) }
     {
-        let Some(book) = books.first() else {
+        let Some(first) = books.first() else {
             return Err(JoinFault::NotWhole);
         };
-        book.tell();
-        if book.shares() != 1 {
+        if !are_all_shares(books, first) {
             return Err(JoinFault::NotWhole);
         }
-        match book.last_list(alloc) {
+        match join_all(alloc, books, first) {
             Ok(layer) => Ok(layer),
             Err(_) => Err(JoinFault::OutOfMemory),
         }
     }
 }
 
+// Whether the books, the first of which is given, are all the shares, in order.
+fn are_all_shares(books: &[Book], first: &Book) -> bool
+    requires { slice_get books.now 0 ≡ Some first.now }
+    ensures { MatchBool result (AreAllShares books.now) (¬ (AreAllShares books.now)) }
+{
+    if books.len() != first.shares() as usize {
+        return false;
+    }
+    for place in 0..books.len() {
+        if !books[place].is_share_beside(first, place) {
+            return false;
+        }
+    }
+    true
+}
+
+// The last closed layer of all the shares, the first of which is given.
+fn join_all(alloc: Global, books: &[Book], first: &Book) -> Result<Layer, AllocError>
+    requires first { slice_get books.now 0 ≡ Some first.now }
+    requires all { AreAllShares books.now }
+    ensures { IfOk result (λ layer. IsJoinOf books.now layer) }
+{
+    tell_all(books);
+    let boxes = first.boxes();
+    let (count, squares, origins) = merged_rows(alloc, books, boxes)?;
+    let level = Arc::try_clone(&first.level)?;
+    let number = first.layer();
+    Ok(Layer {
+        level,
+        number,
+        count,
+        squares,
+        origins,
+    })
+}
+
+// How many positions the last closed lists of the books have, their squares and their origins, merged by the origins.
+fn merged_rows(
+    alloc: Global,
+    books: &[Book],
+    boxes: usize,
+) -> Result<(usize, Vec<Square>, Vec<Origin>), AllocError>
+    requires boxes { boxes ≤ MAX_BOXES }
+    requires few { total (map last_list books.now) ≤ MOST_POSITIONS }
+    ensures { IfOk result (λ r. AreMerged (map last_list books.now) r.0 r.1.items r.2.items) }
+{
+    match books {
+        [book] => book.last_rows(alloc),
+        _ => merge(alloc, books, boxes),
+    }
+}
+
+// Tells what is true of every book.
+fn tell_all(books: &[Book])
+    ensures { AreLawfulBooks books.now }
+{
+    for place in 0..books.len() {
+        books[place].tell();
+    }
+}
+
 impl Book {
-    // The last closed layer of a book that holds all positions.
-    fn last_list(&self, alloc: Global) -> Result<Layer, AllocError>
-        requires { self.now.shares ≡ 1 }
-        ensures { IfOk result (λ layer. (layer.level ≡ self.now.level) × (layer.number ≡ last_layer self.now)) }
+    // The number of boxes of a position.
+    fn boxes(&self) -> usize
+        ensures boxes { result ≡ box_count self.now.level }
+        ensures few { result ≤ MAX_BOXES }
+    {
+        self.level.boxes()
+    }
+
+    // Whether the book is the share with a number beside another book.
+    fn is_share_beside(&self, first: &Book, place: usize) -> bool
+        ensures { IsTrue result ↔ IsShareBeside first.now place self.now }
+    {
+        if self.share as usize != place || !self.is_of(first.level()) {
+            return false;
+        }
+        if self.limit != first.limit || self.shares != first.shares {
+            return false;
+        }
+        self.starts.len() == first.starts.len()
+    }
+
+    // The squares of the positions of the last closed list and their origins, and how many they are.
+    fn last_rows(&self, alloc: Global) -> Result<(usize, Vec<Square>, Vec<Origin>), AllocError>
+        ensures { IfOk result (λ r. AreMerged (last_list self.now ∷ []) r.0 r.1.items r.2.items) }
     {
         let from = last_start(self.starts.as_slice());
         let count = self.found.closed_len() - from;
         let (squares, origins) = self.found.closed_from(alloc, from)?;
-        Ok(Layer {
-            level: Arc::try_clone(&self.level)?,
-            number: self.starts.len() as u64 - 1,
-            count,
-            squares,
-            origins,
-        })
+        Ok((count, squares, origins))
     }
-}
-
-/// What stands in a map from a place up to another: the squares of the positions, which have at most so many boxes, and
-/// the origins of those that have one.
-pub(crate) fn copy_from<const N: usize>(
-    alloc: Global,
-    table: &IndexMap<Key<N>, ClosedOrigin>,
-    boxes: usize,
-    from: usize,
-    to: usize,
-) -> Result<(Vec<Square>, Vec<Origin>), AllocError>
-    requires width { N ≤ MAX_BOXES }
-    requires order { from ≤ to }
-    requires within { to ≤ length table.now.entries }
-    requires boxes { boxes ≤ MAX_BOXES }
-    ensures squares { IfOk result (λ r. r.0.items ≡ squares_of (map (λ e. e.0) (drop from (take to table.now.entries)))) }
-    ensures origins { IfOk result (λ r. r.1.items ≡ origins_of (drop from (take to table.now.entries))) }
-{
-    let count = to - from;
-    let mut squares = Vec::with_capacity(alloc, count.saturating_mul(boxes + 1))?;
-    let mut origins = Vec::with_capacity(alloc, count)?;
-    for place in from..to {
-        if let Some((key, origin)) = table.get_index(place) {
-            squares.extend_from_slice(key.boxes())?;
-            squares.push(key.player())?;
-            if let Some(origin) = origin.get() {
-                origins.push(origin)?;
-            }
-        }
-    }
-    Ok((squares, origins))
 }

@@ -1,10 +1,11 @@
 //! Laws of books that callers may rely on. Each is the contract of a function that does nothing.
-ghost use Rattle.std.specs.Prelude.{◌≡◌, ℕ, List, length};
-ghost use Rattle.grid.specs.Board.{Board};
+ghost use Rattle.std.specs.Prelude.{◌≡◌, ℕ, ◌<◌, ◌≤◌, List, length, map, sum_by};
+ghost use Rattle.grid.specs.Board.{Board, Scene};
 ghost use Rattle.grid.specs.Lawful.{IsLevel};
-ghost use Rattle.layers.specs.BookView.{BookView, AreBounds, IsLawfulBook};
+ghost use Rattle.layers.specs.Reaching.{AreLayersOf, IsLayerOf, total};
+ghost use Rattle.layers.specs.BookView.{BookView, Closed, AreBounds, AreSharesOfLayer, AreLawfulBooks, IsLawfulBook, IsShareOfLayer, last_layer, last_list};
 ghost use Rattle.layers.specs.LayerView.{LayerView, IsWhole};
-ghost use Rattle.layers.specs.Books.{HasBegun, IsNew};
+ghost use Rattle.layers.specs.Books.{AreAllShares, HasBegun, IsNew};
 ghost use Rattle.layers.specs.Events.{Event, History, AreMadeAlike, KeepsClosed, CloseAlike};
 
 /// After any list of begins, claims, hand backs, reopens and closes, each with any of its answers, a book that was
@@ -32,4 +33,18 @@ pub fn the_order_of_events_leaves_no_trace()
 /// left them.
 pub fn a_begun_book_has_the_ranks_of_its_layer()
     ensures { (book : BookView) (layer : LayerView) → IsLawfulBook book → IsWhole layer → HasBegun book layer → length book.done ≡ length layer.places }
+{}
+
+/// A layer has as many positions as all its shares together, and one share has no more than the layer.
+pub fn the_shares_make_up_the_layer()
+    ensures sum { (level : Board) (shares k : ℕ) (lists : List (List Closed)) (layer : List Scene) → IsLevel level → 0 < shares → AreSharesOfLayer level shares k lists → IsLayerOf level k layer → total lists ≡ length layer }
+    ensures part { (level : Board) (shares share k : ℕ) (list : List Closed) (layer : List Scene) → IsLevel level → IsShareOfLayer level shares share k list → IsLayerOf level k layer → length list ≤ length layer }
+{}
+
+/// Lawful books that are all the shares hold all the shares of their last closed layer, and together they have closed
+/// as many positions as lie in the layers up to it.
+pub fn the_books_of_all_shares_hold_the_layers()
+    ensures last { (books : List BookView) (all : AreAllShares books) → AreLawfulBooks books → AreSharesOfLayer all.first.level all.first.shares (last_layer all.first) (map last_list books) }
+    ensures total { (books : List BookView) (all : AreAllShares books) → AreLawfulBooks books → (layers : List (List Scene)) → AreLayersOf all.first.level layers → length layers ≡ length all.first.closed → total layers ≡ sum_by (λ book. total book.closed) books }
+    ensures part { (book : BookView) (layers : List (List Scene)) → IsLawfulBook book → AreLayersOf book.level layers → length book.closed ≤ length layers → total book.closed ≤ total layers }
 {}

@@ -4,6 +4,7 @@
 
 mod book;
 mod closing;
+mod copying;
 mod entering;
 mod events;
 mod expansion;
@@ -14,6 +15,7 @@ mod key;
 pub mod laws;
 mod layer;
 mod limits;
+mod merging;
 mod origin;
 mod parcel;
 mod parents;

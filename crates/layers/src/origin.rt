@@ -58,6 +58,19 @@ impl Origin {
         Origin(place * DIRECTIONS + number_of(dir))
     }
 
+    /// An origin that none comes before.
+    pub(crate) fn lowest() -> Origin
+        ensures { result ≡ origin_in None }
+    {
+        Origin::new(
+            0,
+            Push {
+                square: Square(0),
+                dir: Dir::D,
+            },
+        )
+    }
+
     /// The rank and the push.
     pub(crate) fn parts(self) -> (u64, Push)
         ensures { result ≡ self }
@@ -133,13 +146,7 @@ impl ClosedOrigin {
     {
         match self.get() {
             Some(origin) => origin,
-            None => Origin::new(
-                0,
-                Push {
-                    square: Square(0),
-                    dir: Dir::D,
-                },
-            ),
+            None => Origin::lowest(),
         }
     }
 

@@ -1,15 +1,15 @@
 //! What a book has found, in one map with keys of one width: the closed positions, and after them those that stand open.
-ghost use Rattle.std.specs.Prelude.{◌≡◌, ℕ, ◌+◌, ◌<◌, ◌≤◌, ◌&&◌, ◌||◌, [], ◌++◌, not, is_some, length, map, drop, fold, option_map, slice_get, IfOk, IfSome, OnOk, OnErr};
+ghost use Rattle.std.specs.Prelude.{◌≡◌, ℕ, ◌+◌, ◌<◌, ◌≤◌, ◌&&◌, ◌||◌, [], ◌++◌, not, is_some, length, map, drop, fold, option_map, slice_get, IfOk, IfSome, OnOk, OnErr, Some};
 ghost use Rattle.std.specs.List.{list_any};
-ghost use Rattle.layers.specs.BookView.{origin_of, origins_of};
+ghost use Rattle.layers.specs.BookView.{Closed, origin_of, origins_of};
 ghost use Rattle.layers.specs.Books.{IsSortedAppend, is_wanted_in, entered};
-ghost use Rattle.layers.specs.FoundView.{HaveFew, first_entries};
-ghost use Rattle.layers.specs.inside.Insides.{squares_of};
+ghost use Rattle.layers.specs.FoundView.{HaveFew, first_entries, origin_in};
+ghost use Rattle.layers.specs.inside.Insides.{IsCopied, squares_of};
 ghost use Rattle.layers.specs.Origins.{same_scene};
 
 use crate::closing::arrange;
 use crate::entering::{enter_all, is_among, share_of};
-use crate::join::copy_from;
+use crate::copying::{copy_entry, copy_from};
 use crate::key::Key;
 use crate::origin::{ClosedOrigin, MOST_RANKS, Origin};
 use crate::parcel::Successor;
@@ -94,6 +94,34 @@ impl<const N: usize> Table<N> {
         }
         let (key, _) = self.table.get_index(place)?;
         Some(key.position())
+    }
+
+    /// The origin of the closed position at a place; `None` exactly beyond them.
+    pub(crate) fn origin_at(&self, place: usize) -> Option<Origin>
+        ensures { result ≡ option_map (λ e. origin_in e.1) (slice_get self.now.seen place) }
+    {
+        if place >= self.start {
+            return None;
+        }
+        let (_, origin) = self.table.get_index(place)?;
+        Some(origin.opened())
+    }
+
+    /// Appends the squares of the closed position at a place, and its origin if it has one. The only error is that
+    /// memory was refused.
+    pub(crate) fn copy_at(
+        &self,
+        place: usize,
+        squares: &mut Vec<Square>,
+        origins: &mut Vec<Origin>,
+    ) -> Result<(), AllocError>
+        requires { place < length self.now.seen }
+        ensures { OnOk result ((e : Closed) → slice_get self.now.seen place ≡ Some e → IsCopied e squares.old.items squares.new.items origins.old.items origins.new.items) }
+    {
+        let Some((key, origin)) = self.table.get_index(place) else {
+            unreachable!()
+        };
+        copy_entry(key, *origin, squares, origins)
     }
 
     /// What is closed from a place on: the squares of the positions, one after the other, and the origins of those that

@@ -1,6 +1,7 @@
 //! Worked examples of layers and books.
 mod orders;
 mod refusals;
+mod shares;
 mod traces;
 
 use area::Scratch;

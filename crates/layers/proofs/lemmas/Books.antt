@@ -247,7 +247,7 @@ take_short [] (suc n) le = refl
 take_short (x ∷ xs) zero le = absurd (omega arith)
 take_short (x ∷ xs) (suc n) le = ap (λ zs. x ∷ zs) (take_short xs n (omega arith))
 
-total-push : {A : Type 0} (xss : List (List A)) (xs : List A) → total (xss ++ xs ∷ []) ≡ total xss + length xs
+pub total-push : {A : Type 0} (xss : List (List A)) (xs : List A) → total (xss ++ xs ∷ []) ≡ total xss + length xs
 total-push [] xs = omega arith
 total-push (ys ∷ xss) xs = omega (arith, sum_by_first length ys (xss ++ xs ∷ []), sum_by_first length ys xss, total-push xss xs)
 

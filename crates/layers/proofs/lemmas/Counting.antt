@@ -1,10 +1,11 @@
 -- How many: lists without repetition, and lists of lists cut short.
-use Rattle.std.proofs.Common.{◌≡◌, ℕ, zero, suc, ◌≤◌, List, [], ◌∷◌, length, take, Some, ◌⊎◌, inl, inr, refl, sym, ap, ◌∙◌, arith}
+use Rattle.std.proofs.Common.{◌≡◌, ℕ, zero, suc, ◌+◌, ◌*◌, ◌^◌, ◌<◌, ◌≤◌, List, [], ◌∷◌, ◌++◌, length, map, take, sum_by, Some, ◌⊎◌, inl, inr, refl, sym, ap, ◌∙◌, arith}
+use Rattle.std.proofs.lemmas.List.{length-append}
 use Rattle.std.proofs.lemmas.Option.{same_Some, none-some}
 use Rattle.std.specs.Prelude.{slice_get}
 use Rattle.layers.specs.Layered.{IsIn}
 use Rattle.layers.specs.Reaching.{total}
-use Rattle.layers.proofs.lemmas.Lists.{Distinct, sum_by_first}
+use Rattle.layers.proofs.lemmas.Lists.{Distinct, at_before, sum_by_first}
 
 -- ---- lists without repetition
 
@@ -71,3 +72,69 @@ totals_upto [] yss few each = omega arith
 totals_upto (xs ∷ xss) [] few each = absurd (omega arith)
 totals_upto (xs ∷ xss) (ys ∷ yss) few each =
     omega (arith, sum_by_first length xs xss, sum_by_first length ys yss, each zero xs ys refl refl, totals_upto xss yss (omega arith) (λ j us vs at_u at_v. each (suc j) us vs at_u at_v))
+
+-- ---- all elements of a list of lists
+
+abbrev pub flat : {A : Type 0} → List (List A) → List A
+flat [] = []
+flat (xs ∷ xss) = xs ++ flat xss
+
+pub length-flat : {A : Type 0} (xss : List (List A)) → length (flat xss) ≡ total xss
+length-flat [] = refl
+length-flat (xs ∷ xss) = omega (arith, length-append xs (flat xss), length-flat xss, sum_by_first length xs xss)
+
+-- what stands in two lists, one after the other
+at-append : {A : Type 0} (xs ys : List A) (i : ℕ) (a : A) → slice_get (xs ++ ys) i ≡ Some a → (slice_get xs i ≡ Some a) ⊎ ((j : ℕ) × (i ≡ length xs + j) × (slice_get ys j ≡ Some a))
+at-append [] ys i a e = inr (i, omega arith, e)
+at-append (x ∷ xs) ys zero a e = inl e
+at-append (x ∷ xs) ys (suc i) a e = elim (at-append xs ys i a e) [ inl w ↦ inl w | inr w ↦ inr (w.0, omega (arith, w.1), w.2) ]
+
+at_past : {A : Type 0} (xs ys : List A) (i : ℕ) (a : A) → slice_get ys i ≡ Some a → IsIn (xs ++ ys) a
+at_past [] ys i a e = (i, e)
+at_past (x ∷ xs) ys i a e = let w = at_past xs ys i a e in (suc w.0, w.1)
+
+-- an element of one of the lists, and in which list an element is
+pub in_flat : {A : Type 0} (xss : List (List A)) (j : ℕ) (xs : List A) (a : A) → slice_get xss j ≡ Some xs → IsIn xs a → IsIn (flat xss) a
+in_flat [] j xs a at i = absurd (none-some xs at)
+in_flat (ys ∷ xss) zero xs a at (i, at_i) = (i, at_before ys (flat xss) i a (ap (λ zs. slice_get zs i) (same_Some ys xs at) ∙ at_i))
+in_flat (ys ∷ xss) (suc j) xs a at i = let w = in_flat xss j xs a at i in at_past ys (flat xss) w.0 a w.1
+
+pub of_flat : {A : Type 0} (xss : List (List A)) (a : A) → IsIn (flat xss) a → (j : ℕ) × (xs : List A) × (slice_get xss j ≡ Some xs) × IsIn xs a
+of_flat [] a i = absurd (none-some a i.1)
+of_flat (xs ∷ xss) a (i, at) = elim (at-append xs (flat xss) i a at) [
+  | inl w ↦ (zero, xs, refl, (i, w))
+  | inr w ↦ (let u = of_flat xss a (w.0, w.2) in (suc u.0, u.1, u.2, u.3))
+]
+
+-- no element stands twice where none does in one list, nor in two
+pub flat_distinct : {A : Type 0} (xss : List (List A)) → ((j : ℕ) (xs : List A) → slice_get xss j ≡ Some xs → Distinct xs) →
+    ((i j : ℕ) (xs ys : List A) (a : A) → slice_get xss i ≡ Some xs → slice_get xss j ≡ Some ys → IsIn xs a → IsIn ys a → i ≡ j) → Distinct (flat xss)
+flat_distinct [] each apart i j a at_i at_j = absurd (none-some a at_i)
+flat_distinct {A} (xs ∷ xss) each apart i j a at_i at_j = elim (at-append xs (flat xss) i a at_i) [
+  | inl first ↦ elim (at-append xs (flat xss) j a at_j) [
+    | inl second ↦ each zero xs refl i j a first second
+    | inr second ↦ absurd (other i first (second.0, second.2))
+  ]
+  | inr first ↦ elim (at-append xs (flat xss) j a at_j) [
+    | inl second ↦ absurd (other j second (first.0, first.2))
+    | inr second ↦ (let e = flat_distinct xss (λ k. each (suc k)) (λ k l us vs b at_u at_v in_u in_v. omega (arith, apart (suc k) (suc l) us vs b at_u at_v in_u in_v)) first.0 second.0 a first.2 second.2 in
+        omega (arith, first.1, second.1, e))
+  ]
+]
+  where
+    other : (k : ℕ) → slice_get xs k ≡ Some a → IsIn (flat xss) a → ⊥
+    other k here there = let u = of_flat xss a there in omega (arith, apart zero (suc u.0) xs u.1 a refl u.2 (k, here) u.3)
+
+-- a sum over elements of how many each makes
+pub total-map : {A B : Type 0} (f : A → List B) (xs : List A) → total (map f xs) ≡ sum_by (λ x. length (f x)) xs
+total-map f [] = refl
+total-map f (x ∷ xs) = omega (arith, sum_by_first length (f x) (map f xs), sum_by_first (λ y. length (f y)) x xs, total-map f xs)
+
+pub sum_by-same : {A : Type 0} (f g : A → ℕ) (xs : List A) → ((x : A) → f x ≡ g x) → sum_by f xs ≡ sum_by g xs
+sum_by-same f g [] same = refl
+sum_by-same f g (x ∷ xs) same = omega (arith, sum_by_first f x xs, sum_by_first g x xs, same x, sum_by-same f g xs same)
+
+-- a sum of numbers of 32 bits
+pub sum_by-word : {A : Type 0} (f : A → ℕ) (xs : List A) → ((i : ℕ) (x : A) → slice_get xs i ≡ Some x → f x < 2 ^ 32) → sum_by f xs ≤ length xs * 4294967295
+sum_by-word f [] small = omega arith
+sum_by-word f (x ∷ xs) small = omega (arith, sum_by_first f x xs, small zero x refl, sum_by-word f xs (λ i y at. small (suc i) y at))

@@ -9,11 +9,11 @@ use layers::{Parcel, Successor};
 use std::alloc::Global;
 use std::process::Abort;
 
-const ONE_LAYERS: &[&[Place]] = &[&[(&[7], 6, None)], &[(&[8], 6, Some((0, 7, Dir::R)))]];
+pub(super) const ONE_LAYERS: &[&[Place]] = &[&[(&[7], 6, None)], &[(&[8], 6, Some((0, 7, Dir::R)))]];
 
 const CORNER_END: &[Place] = &[(&[6], 7, Some((0, 11, Dir::U)))];
 
-const CORNER_LAYERS: &[&[Place]] = &[
+pub(super) const CORNER_LAYERS: &[&[Place]] = &[
     &[(&[12], 6, None)],
     &[
         (&[11], 6, Some((0, 12, Dir::L))),
@@ -22,7 +22,7 @@ const CORNER_LAYERS: &[&[Place]] = &[
     CORNER_END,
 ];
 
-const HALL_LAYERS: &[&[Place]] = &[
+pub(super) const HALL_LAYERS: &[&[Place]] = &[
     &[(&[8], 7, None)],
     &[
         (&[7], 8, Some((0, 8, Dir::L))),
@@ -30,7 +30,7 @@ const HALL_LAYERS: &[&[Place]] = &[
     ],
 ];
 
-const TWO_ENDS_LAYERS: &[&[Place]] = &[
+pub(super) const TWO_ENDS_LAYERS: &[&[Place]] = &[
     &[(&[9, 11], 10, None)],
     &[
         (&[8, 11], 9, Some((0, 9, Dir::L))),
@@ -39,7 +39,7 @@ const TWO_ENDS_LAYERS: &[&[Place]] = &[
     &[(&[8, 12], 9, Some((0, 11, Dir::R)))],
 ];
 
-const THERE_AND_BACK_LAYERS: &[&[Place]] = &[
+pub(super) const THERE_AND_BACK_LAYERS: &[&[Place]] = &[
     &[(&[19], 17, None)],
     &[(&[20], 17, Some((0, 19, Dir::R)))],
     &[(&[21], 12, Some((0, 20, Dir::R)))],

@@ -1,7 +1,7 @@
 use Rattle.std.proofs.Common.{◌≡◌, map, drop, take}
 use Rattle.layers.specs.BookView.{origins_of}
 use Rattle.layers.specs.inside.Insides.{squares_of}
-use Rattle.layers.proofs.join.copy_from.Given as goal
+use Rattle.layers.proofs.copying.copy_from.Given as goal
 
 abbrev pub invariant-loop-place : goal.invariant-loop-place
 invariant-loop-place g l =

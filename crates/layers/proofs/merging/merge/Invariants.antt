@@ -1,0 +1,13 @@
+use Rattle.std.proofs.Common.{◌≡◌, map, List}
+use Rattle.layers.specs.Reaching.{total}
+use Rattle.layers.specs.BookView.{Closed, last_list, places_of, origins_of}
+use Rattle.layers.specs.inside.Insides.{squares_of}
+use Rattle.layers.specs.inside.Merging.{Takes}
+use Rattle.layers.proofs.merging.merge.Given as goal
+
+abbrev pub invariant-loop-place : goal.invariant-loop-place
+invariant-loop-place l =
+    (taken : List Closed) × Takes (map last_list l.books) taken l.rests.items × (l.squares.items ≡ squares_of (places_of taken)) × (l.origins.items ≡ origins_of taken)
+
+abbrev pub decreases-loop-place : goal.decreases-loop-place
+decreases-loop-place l = total l.rests.items
