@@ -66,6 +66,14 @@ impl Scratch {
         has(&self.reached, square)
     }
 
+    /// Whether the last flood went round a box on the square. Nothing is said of it once the memory was lent to another
+    /// call.
+    pub fn has_box(&self, square: Square) -> bool
+        ensures { result ≡ contains self.now.boxes square }
+    {
+        has(&self.boxes, square)
+    }
+
     // The least square that the last flood reached.
     pub(crate) fn least(&self) -> Square
         requires { (q : ℕ) × (contains self.now.reached q ≡ true) }

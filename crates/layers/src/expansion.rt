@@ -101,6 +101,7 @@ fn possible_pushes(
     requires room { scratch.old.size ≡ length level.now.cells }
     ensures pushes { ArePushes level.now position.now result.items }
     ensures flooded { IsAreaOf level.now position.now scratch.new.reached }
+    ensures boxes { scratch.new.boxes ≡ position.now.boxes }
     ensures size { scratch.new.size ≡ scratch.old.size }
 {
     area::flood(level, position, scratch);
@@ -201,6 +202,7 @@ fn successors_by(
     requires dead_of_level { dead.now ≡ level.now }
     requires room { scratch.old.size ≡ length level.now.cells }
     requires flooded { IsAreaOf level.now position.now scratch.old.reached }
+    requires boxes { scratch.old.boxes ≡ position.now.boxes }
     requires pushes { ArePushes level.now position.now pushes.now }
     requires bound { length pushes.now ≤ MAX_SUCCESSORS }
     requires empty { successors.old.items ≡ [] }
@@ -228,6 +230,7 @@ fn append_successor(
     requires dead_of_level { dead.now ≡ level.now }
     requires room { scratch.old.size ≡ length level.now.cells }
     requires flooded { IsAreaOf level.now position.now scratch.old.reached }
+    requires boxes { scratch.old.boxes ≡ position.now.boxes }
     requires possible { CanPush level.now position.now push }
     requires place { length successors.old.items < MAX_SUCCESSORS }
     ensures appended { IsAppended level.now position.now push successors.old.items successors.new.items }
@@ -270,6 +273,7 @@ fn make_push(
     requires dead_of_level { dead.now ≡ level.now }
     requires room { scratch.old.size ≡ length level.now.cells }
     requires flooded { IsAreaOf level.now position.now scratch.old.reached }
+    requires boxes { scratch.old.boxes ≡ position.now.boxes }
     requires possible { CanPush level.now position.now push }
     ensures some { IsTrue result → IsSuccessor level.now position.now push moved.new × FitsLevel level.now moved.new }
     ensures none { result ≡ false → (m : Scene) → ¬ (IsSuccessor level.now position.now push m) }
@@ -279,7 +283,7 @@ fn make_push(
     let ahead = level.next(square, dir);
     moved.copy_from(position);
     moved.push(square, ahead);
-    if !doom::is_loose(level, dead, moved, ahead)
+    if !doom::is_loose(level, dead, scratch, Push { square, dir })
         && doom::doomed_after(level, dead, moved, Push { square, dir }, scratch)
     {
         return false;
