@@ -9,10 +9,7 @@ use crate::dead::Dead;
 use crate::peel::has_frozen;
 use area::Scratch;
 use area::bits::put_all;
-use grid::{Level, MAX_SQUARES, Position, Square, WORD_BITS};
-
-/// The most words that a set of squares has.
-pub(crate) const MOST_WORDS: usize = (MAX_SQUARES + WORD_BITS - 1) / WORD_BITS;
+use grid::{Level, Position, Square};
 
 /// Whether the boxes of the position are doomed: a box stands on a dead square, or some of the boxes, at least one of
 /// them off goal, are frozen, each blocked on both axes by a wall or another of them, or by two dead squares. From no
@@ -25,9 +22,8 @@ pub fn doomed(level: &Level, dead: &Dead, position: &Position, scratch: &mut Scr
     ensures lost { IsTrue result → AreLost level.now position.now.boxes }
     ensures kept { scratch.new ≡ scratch.old }
 {
-    let _ = scratch;
     let boxes = position.boxes();
-    any_dead(dead, boxes) || any_frozen(level, dead, boxes)
+    any_dead(dead, boxes) || any_frozen(dead, boxes, scratch)
 }
 
 /// Whether one of the boxes stands on a dead square.
@@ -38,15 +34,14 @@ fn any_dead(dead: &Dead, boxes: &[Square]) -> bool
 }
 
 /// Whether some of the boxes, at least one of them off goal, are frozen.
-fn any_frozen(level: &Level, dead: &Dead, boxes: &[Square]) -> bool
+fn any_frozen(dead: &Dead, boxes: &[Square], scratch: &mut Scratch) -> bool
     requires inside { StandInside dead.now boxes.now }
-    requires dead_of_level { dead.now ≡ level.now }
-    ensures { IsTrue result ↔ ((members : Squares) × IsFrozen dead.now boxes.now members) }
+    requires room { scratch.old.size ≡ length dead.now.cells }
+    ensures frozen { IsTrue result ↔ ((members : Squares) × IsFrozen dead.now boxes.now members) }
+    ensures kept { scratch.new ≡ scratch.old }
 {
-    level.tell();
     let goals = dead.goals();
-    let mut words = [0; MOST_WORDS];
-    let members = &mut words[..goals.len()];
+    let members = &mut area::lent_words(scratch)[..goals.len()];
     put_all(boxes, members);
     has_frozen(dead, members)
 }
