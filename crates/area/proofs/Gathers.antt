@@ -83,21 +83,21 @@ module _ (board : Board) (masks : List StepMasks) (words : List ℕ) (place : �
       ∙ masked (word_bit side j) (has_bit words (next board (64 * place + j) (opposite d))) (word_bit (word_for d (get_or masks place e)) j) (can_enter board d (64 * place + j)) (mask_bit board masks d place j e are inside lt) same
 
   -- so the word gathered from the four sides has the squares onto which a step leads from the set
-  pub entered_bits : (r l d u by : ℕ) → board.cols ≡ by
-      → ((i : ℕ) → i + 1 ≡ 64 * place + j → word_bit r j ≡ has_bit words i)
-      → ((i : ℕ) → i ≡ 64 * place + j + 1 → word_bit l j ≡ has_bit words i)
+  pub entered_bits : (d l r u by : ℕ) → board.cols ≡ by
       → ((i : ℕ) → i + by ≡ 64 * place + j → word_bit d j ≡ has_bit words i)
+      → ((i : ℕ) → i ≡ 64 * place + j + 1 → word_bit l j ≡ has_bit words i)
+      → ((i : ℕ) → i + 1 ≡ 64 * place + j → word_bit r j ≡ has_bit words i)
       → ((i : ℕ) → i ≡ 64 * place + j + by → word_bit u j ≡ has_bit words i)
-      → word_bit (bit_or (bit_or (bit_or (bit_and r (get_or masks place e).r) (bit_and l (get_or masks place e).l)) (bit_and d (get_or masks place e).d)) (bit_and u (get_or masks place e).u)) j ≡ is_entered board words (64 * place + j)
-  entered_bits r l d u by cols on_r on_l on_d on_u =
+      → word_bit (bit_or (bit_or (bit_or (bit_and d (get_or masks place e).d) (bit_and l (get_or masks place e).l)) (bit_and r (get_or masks place e).r)) (bit_and u (get_or masks place e).u)) j ≡ is_entered board words (64 * place + j)
+  entered_bits d l r u by cols on_d on_l on_r on_u =
       let m : StepMasks = get_or masks place e in
       let q : ℕ = 64 * place + j in
-      word_bit-or (bit_or (bit_or (bit_and r m.r) (bit_and l m.l)) (bit_and d m.d)) (bit_and u m.u) j
-      ∙ (ap (λ (x : Bool). x || word_bit (bit_and u m.u) j) (word_bit-or (bit_or (bit_and r m.r) (bit_and l m.l)) (bit_and d m.d) j ∙ ap (λ (x : Bool). x || word_bit (bit_and d m.d) j) (word_bit-or (bit_and r m.r) (bit_and l m.l) j))
+      word_bit-or (bit_or (bit_or (bit_and d m.d) (bit_and l m.l)) (bit_and r m.r)) (bit_and u m.u) j
+      ∙ (ap (λ (x : Bool). x || word_bit (bit_and u m.u) j) (word_bit-or (bit_or (bit_and d m.d) (bit_and l m.l)) (bit_and r m.r) j ∙ ap (λ (x : Bool). x || word_bit (bit_and r m.r) j) (word_bit-or (bit_and d m.d) (bit_and l m.l) j))
       ∙ four
-      (one_way R r (λ h. on_r (next board q L) (source_R board q h)))
-      (one_way L l (λ h. on_l (next board q R) (source_L board q h)))
       (one_way D d (λ h. on_d (next board q U) (let s = source_D board q h in omega arith)))
+      (one_way L l (λ h. on_l (next board q R) (source_L board q h)))
+      (one_way R r (λ h. on_r (next board q L) (source_R board q h)))
       (one_way U u (λ h. on_u (next board q D) (let s = source_U board q h in omega arith))))
     where
       four : {a b c f w x y z : Bool} → a ≡ w → b ≡ x → c ≡ y → f ≡ z → (((a || b) || c) || f) ≡ ((w || x) || (y || z))

@@ -19,13 +19,13 @@ use Rattle.area.proofs.lemmas.Growing.{or_bit, and_bit, bit_or_left, bit_or_righ
 
 -- a square that a step enters comes by one of the four directions
 came_one_way : (board : Board) (words : List ℕ) (q : ℕ) → is_entered board words q ≡ true → (d : Dir) × (comes_by board words d q ≡ true)
-came_one_way board words q h = elim (or_cases (comes_by board words R q || comes_by board words L q) (comes_by board words D q || comes_by board words U q) h) [
-  | inl across ↦ elim (or_cases (comes_by board words R q) (comes_by board words L q) across) [
-    | inl x ↦ (R, x)
+came_one_way board words q h = elim (or_cases (comes_by board words D q || comes_by board words L q) (comes_by board words R q || comes_by board words U q) h) [
+  | inl early ↦ elim (or_cases (comes_by board words D q) (comes_by board words L q) early) [
+    | inl x ↦ (D, x)
     | inr x ↦ (L, x)
   ]
-  | inr along ↦ elim (or_cases (comes_by board words D q) (comes_by board words U q) along) [
-    | inl x ↦ (D, x)
+  | inr late ↦ elim (or_cases (comes_by board words R q) (comes_by board words U q) late) [
+    | inl x ↦ (R, x)
     | inr x ↦ (U, x)
   ]
 ]
@@ -110,7 +110,7 @@ module _ (board : Board) (masks : List StepMasks) (boxes old : List ℕ) (place 
         let p = passes d j h in
         keeps d (64 * place + j) p.2 p.1 (ap test (source p.1) ∙ start)
 
-    pub passes_on : PassesOn (λ j. test (64 * place + j)) board.cols (bit_and (get_or masks place e).r open_bits) (bit_and (get_or masks place e).l open_bits) (bit_and (get_or masks place e).d open_bits) (bit_and (get_or masks place e).u open_bits)
+    pub passes_on : PassesOn (λ j. test (64 * place + j)) board.cols (bit_and (get_or masks place e).d open_bits) (bit_and (get_or masks place e).l open_bits) (bit_and (get_or masks place e).r open_bits) (bit_and (get_or masks place e).u open_bits)
     passes_on = record {
       on_right = λ i j step h start. onto R i j h (λ can. (let s = source_R board (64 * place + j) can in omega arith)) start;
       on_left = λ i j step h start. onto L i j h (λ can. (let s = source_L board (64 * place + j) can in omega arith)) start;
@@ -130,7 +130,7 @@ module _ (board : Board) (masks : List StepMasks) (boxes old : List ℕ) (place 
           keeps w.0 (64 * place + j) (open_clear j lt p.1) parts.0 (all (next board (64 * place + j) (opposite w.0)) parts.1))
     ]
 
-  module _ (filled by : ℕ) (fits : filled < 2 ^ 64) (cols : board.cols ≡ by) (grown : IsGrown first_bits filled (λ test. PassesOn test by (bit_and (get_or masks place e).r open_bits) (bit_and (get_or masks place e).l open_bits) (bit_and (get_or masks place e).d open_bits) (bit_and (get_or masks place e).u open_bits))) where
+  module _ (filled by : ℕ) (fits : filled < 2 ^ 64) (cols : board.cols ≡ by) (grown : IsGrown first_bits filled (λ test. PassesOn test by (bit_and (get_or masks place e).d open_bits) (bit_and (get_or masks place e).l open_bits) (bit_and (get_or masks place e).r open_bits) (bit_and (get_or masks place e).u open_bits))) where
     here_now : get_or (set old place filled) place 0 ≡ filled
     here_now = get_or-set_same old place filled 0 (omega arith)
 
@@ -145,8 +145,8 @@ module _ (board : Board) (masks : List StepMasks) (boxes old : List ℕ) (place 
       | inr ne ↦ inr (has_bit-parts (set old place filled) q ∙ (ap (λ (w : ℕ). word_bit w (q % 64)) (get_or-set_other old place (q / 64) filled 0 ne) ∙ sym (has_bit-parts old q)))
     ]
 
-    passes_by : (test : ℕ → Bool) → IsKept board boxes test → PassesOn (λ j. test (64 * place + j)) by (bit_and (get_or masks place e).r open_bits) (bit_and (get_or masks place e).l open_bits) (bit_and (get_or masks place e).d open_bits) (bit_and (get_or masks place e).u open_bits)
-    passes_by test keeps = subst (λ (n : ℕ). PassesOn (λ j. test (64 * place + j)) n (bit_and (get_or masks place e).r open_bits) (bit_and (get_or masks place e).l open_bits) (bit_and (get_or masks place e).d open_bits) (bit_and (get_or masks place e).u open_bits)) cols (passes_on test keeps)
+    passes_by : (test : ℕ → Bool) → IsKept board boxes test → PassesOn (λ j. test (64 * place + j)) by (bit_and (get_or masks place e).d open_bits) (bit_and (get_or masks place e).l open_bits) (bit_and (get_or masks place e).r open_bits) (bit_and (get_or masks place e).u open_bits)
+    passes_by test keeps = subst (λ (n : ℕ). PassesOn (λ j. test (64 * place + j)) n (bit_and (get_or masks place e).d open_bits) (bit_and (get_or masks place e).l open_bits) (bit_and (get_or masks place e).r open_bits) (bit_and (get_or masks place e).u open_bits)) cols (passes_on test keeps)
 
     grows : IsGrowing board boxes old (set old place filled)
     grows = record {

@@ -14,7 +14,7 @@ pub fn has(words: &[u64], square: Square) -> bool
     ensures { result ≡ has_bit words.now square }
 {
     let place = square.0 as usize / WORD_BITS;
-    place < words.len() && words[place] >> (square.0 as usize % WORD_BITS) & 1 == 1
+    place < words.len() && (words[place] >> (square.0 as usize % WORD_BITS)) & 1 == 1
 }
 
 /// Puts a square into the set.
@@ -148,7 +148,7 @@ pub(crate) fn slid_up(here: u64, low: u64, near: usize) -> u64
     ensures here { (i j : ℕ) → j < WORD_BITS → i + near ≡ j → word_bit result j ≡ word_bit here i }
     ensures low { (i j : ℕ) → i < WORD_BITS → i + near ≡ j + WORD_BITS → word_bit result j ≡ word_bit low i }
 {
-    here << near | low >> 1 >> (WORD_BITS - 1 - near)
+    (here << near) | ((low >> 1) >> (WORD_BITS - 1 - near))
 }
 
 // The bits of two words in a row, so many places further down; what of them comes to stand in the lower one.
@@ -158,5 +158,5 @@ pub(crate) fn slid_down(here: u64, high: u64, near: usize) -> u64
     ensures here { (i j : ℕ) → i < WORD_BITS → i ≡ j + near → word_bit result j ≡ word_bit here i }
     ensures high { (i j : ℕ) → j < WORD_BITS → i + WORD_BITS ≡ j + near → word_bit result j ≡ word_bit high i }
 {
-    here >> near | high << 1 << (WORD_BITS - 1 - near)
+    (here >> near) | ((high << 1) << (WORD_BITS - 1 - near))
 }

@@ -174,14 +174,14 @@ fn settle(
     let StepMasks { d, l, r, u } = masks[place];
     let old = reached[place];
     let open = !boxes[place];
-    if old | (d | l | r | u) & open == old {
+    if old | ((d | l | r | u) & open) == old {
         return false;
     }
-    let first = old | entered(masks, cols, reached, place) & open;
+    let first = old | (entered(masks, cols, reached, place) & open);
     if first == old {
         return false;
     }
-    reached[place] = fill(first, r & open, l & open, d & open, u & open, cols);
+    reached[place] = fill(first, d & open, l & open, r & open, u & open, cols);
     true
 }
 
@@ -193,17 +193,17 @@ fn entered(masks: &[StepMasks], cols: usize, reached: &[u64], place: usize) -> u
     ensures { (board : Board) → AreMasks board masks.now → board.cols ≡ cols → (j : ℕ) → j < WORD_BITS → word_bit result j ≡ is_entered board reached.now (WORD_BITS * place + j) }
 {
     let StepMasks { d, l, r, u } = masks[place];
-    before(reached, place, 1) & r
-        | after(reached, place, 1) & l
-        | before(reached, place, cols) & d
-        | after(reached, place, cols) & u
+    (before(reached, place, cols) & d)
+        | (after(reached, place, 1) & l)
+        | (before(reached, place, 1) & r)
+        | (after(reached, place, cols) & u)
 }
 
 // Adds to a word what steps lead to within it, onto the squares that the masks have for each direction. Runs along the
 // rows spare rounds where rooms are wide.
 #[inline(always)]
-fn fill(word: u64, right: u64, left: u64, down: u64, up: u64, cols: usize) -> u64
-    ensures { IsGrown word result (λ test. PassesOn test cols right left down up) }
+fn fill(word: u64, down: u64, left: u64, right: u64, up: u64, cols: usize) -> u64
+    ensures { IsGrown word result (λ test. PassesOn test cols down left right up) }
 {
     let mut word = word;
     loop {
@@ -226,7 +226,7 @@ fn run_up(word: u64, mask: u64) -> u64
     ensures { IsGrown word result (λ test. PassesUp test 1 mask) }
 {
     let one = step_up(word, mask, 1);
-    step_up(one, mask & mask << 1, 2)
+    step_up(one, mask & (mask << 1), 2)
 }
 
 // Adds to a word up to three steps to the left.
@@ -235,7 +235,7 @@ fn run_down(word: u64, mask: u64) -> u64
     ensures { IsGrown word result (λ test. PassesDown test 1 mask) }
 {
     let one = step_down(word, mask, 1);
-    step_down(one, mask & mask >> 1, 2)
+    step_down(one, mask & (mask >> 1), 2)
 }
 
 // Adds to a word the bits of the mask that are so many places above its own.
@@ -244,7 +244,7 @@ fn step_up(word: u64, mask: u64, by: usize) -> u64
     ensures { IsGrown word result (λ test. PassesUp test by mask) }
 {
     if by < WORD_BITS {
-        word | word << by & mask
+        word | ((word << by) & mask)
     } else {
         word
     }
@@ -256,7 +256,7 @@ fn step_down(word: u64, mask: u64, by: usize) -> u64
     ensures { IsGrown word result (λ test. PassesDown test by mask) }
 {
     if by < WORD_BITS {
-        word | word >> by & mask
+        word | ((word >> by) & mask)
     } else {
         word
     }

@@ -18,4 +18,4 @@ pub use floods::{flood, normal};
 pub use groups::group;
 pub use pushes::{PushMasks, pushable};
 pub use route::walk;
-pub use scratch::Scratch;
+pub use scratch::{Scratch, lent_words};

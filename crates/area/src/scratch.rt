@@ -1,5 +1,8 @@
-ghost use Rattle.std.specs.Prelude.{◌≡◌, ℕ, ◌<◌, ◌≤◌, true, IfOk, length, slice_index};
+ghost use Rattle.std.specs.Prelude.{◌≡◌, ℕ, ◌+◌, ◌<◌, ◌≤◌, true, IfOk, length, slice_index};
+ghost use Rattle.std.specs.Borrow.{Lends, sem, Array, u64 as word};
+ghost use Rattle.grid.specs.Masks.{word_count};
 ghost use Rattle.grid.specs.Squares.{contains};
+ghost use Rattle.area.specs.contracts.scratch.Scratch.{the_row};
 ghost use Rattle.area.specs.inside.Detours.{IsLeastWith};
 ghost use Rattle.area.specs.inside.Spread.{AreWithin};
 
@@ -14,7 +17,7 @@ pub(crate) const GREATEST_BASE: u32 = 1 << 31;
 /// The memory that floods and searches for walks work in, made once for all levels of the same rows and columns.
 ///
 /// A flood makes a set of squares as bits of words; it has the boxes' squares so, too. The spare sets are for a flood
-/// that leaves what the last one reached, and its boxes.
+/// that leaves what the last one reached, and its boxes; two more are lent to callers.
 ///
 /// For a search each square has a mark. In one search the boxes have the mark `base`, the squares that it reaches have
 /// greater marks, and all others lesser ones; the next search takes a greater `base`, so nothing needs to be cleared.
@@ -27,6 +30,7 @@ pub struct Scratch {
     pub(crate) boxes: Vec<u64>,
     pub(crate) spare: Vec<u64>,
     pub(crate) spare_boxes: Vec<u64>,
+    lent: Vec<u64>,
 }
 
 impl Model for Scratch {
@@ -56,6 +60,7 @@ impl Scratch {
             boxes: empty_set(alloc, words)?,
             spare: empty_set(alloc, words)?,
             spare_boxes: empty_set(alloc, words)?,
+            lent: empty_set(alloc, words + words)?,
         })
     }
 
@@ -64,6 +69,14 @@ impl Scratch {
         ensures { result ≡ contains self.now.reached square }
     {
         has(&self.reached, square)
+    }
+
+    /// Whether the last flood went round a box on the square. Nothing is said of it once the memory was lent to another
+    /// call.
+    pub fn has_box(&self, square: Square) -> bool
+        ensures { result ≡ contains self.now.boxes square }
+    {
+        has(&self.boxes, square)
     }
 
     // The least square that the last flood reached.
@@ -81,6 +94,14 @@ impl Scratch {
     {
         least_but(&self.reached, but, more)
     }
+}
+
+/// Lends the words of two sets of squares, one after the other. What is written there does not show.
+pub fn lent_words(scratch: &mut Scratch) -> &mut [u64]
+    ensures* writes_back { sem 𝓛 (Lends the_row (Array word 0) scratch.entry result (λ w. scratch.old)) }
+    ensures size { length result.now ≡ word_count scratch.old.size + word_count scratch.old.size }
+{
+    scratch.lent.as_mut_slice()
 }
 
 // A mark of 0 for each of so many squares.

@@ -1,5 +1,5 @@
 -- Where walls and dead squares alone hold a box, as bits of words.
-use Rattle.std.proofs.Common.{◌≡◌, ◌↔◌, ◌<◌, ◌+◌, ◌-◌, ◌*◌, ℕ, Bool, true, false, eqb, ltb, ◌||◌, List, length, get_or, refl, sym, ap, subst, ◌∙◌, inl, inr, arith, add-one, replicate}
+use Rattle.std.proofs.Common.{◌≡◌, ◌≢◌, ◌↔◌, ◌<◌, ◌≤◌, ◌+◌, ◌-◌, ◌*◌, ℕ, Bool, true, false, eqb, ltb, ◌||◌, List, length, get_or, refl, sym, ap, subst, ◌∙◌, inl, inr, arith, add-one, replicate}
 use Rattle.std.specs.Int.RustNames.{bit_or}
 use Rattle.std.proofs.lemmas.Bool.{false≢true, cond_both, or_cases, or_left, or_right, cases_eq, eqb-true, eq-eqb, ltb-false}
 use Rattle.grid.specs.declared.dir.Dir.{Dir}
@@ -35,6 +35,12 @@ apart_along board cols same = subst (IsApart board D) (sym same) (λ q loose. (
   below_of board q (inside_grid board (next board q D) (floor_ahead board q D loose)),
   above_of board q (inside_grid board (next board q U) (floor_behind board q D loose)),
 ))
+
+-- the squares beside one that nothing holds fast are others
+pub other_beside : (board : Board) (q : ℕ) (d : Dir) (by : ℕ) → 1 ≤ by → IsApart board d by → ¬ (IsFast board q d) → (next board q d ≢ q) × (next board q (opposite d) ≢ q)
+other_beside board q d by some apart loose =
+    let (after, before) = apart q loose in
+    (λ same. omega (arith, some, after, same), λ same. omega (arith, some, before, same))
 
 -- ---- what holds a box among the members of a set
 

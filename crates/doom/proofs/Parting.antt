@@ -1,10 +1,9 @@
 -- Frozen boxes, and those of them that hang together with one box.
-use Rattle.std.proofs.Common.{◌≡◌, ◌↔◌, ◌+◌, ◌/◌, ◌≤◌, ◌⊎◌, ◌&&◌, ℕ, Bool, true, false, not, List, IsTrue, length, ◌≢◌, sym, ap, subst, ◌∙◌, inl, inr, arith}
+use Rattle.std.proofs.Common.{◌≡◌, ◌↔◌, ◌⊎◌, ◌&&◌, ℕ, Bool, true, false, not, List, IsTrue, length, ◌≢◌, sym, ap, subst, ◌∙◌, inl, inr, arith}
 use Rattle.std.proofs.lemmas.Bool.{and_from, and_parts, cases_Bool, cases_lt, not-true, true≢false}
 use Rattle.grid.specs.declared.dir.Dir.{Dir}
-use Rattle.grid.specs.declared.limits.TheConstants.{MAX_SQUARES}
 use Rattle.grid.specs.Board.{Board, is_goal, is_wall, next, opposite}
-use Rattle.grid.specs.Masks.{has_bit, word_count}
+use Rattle.grid.specs.Masks.{has_bit}
 use Rattle.grid.specs.Squares.{Squares, contains, insert, remove}
 use Rattle.grid.proofs.lemmas.Squares.{contains-insert_cases, contains-remove_parts}
 use Rattle.grid.proofs.lemmas.Steps.{inside_grid, next_back}
@@ -15,14 +14,6 @@ use Rattle.doom.specs.Deadlocks.{Doomed, IsDead, IsFrozen, IsHeld}
 use Rattle.doom.specs.Pushed.{AreOthersFrozen, DoomedFrom, IsGroupFrozen}
 use Rattle.doom.specs.inside.Peeling.{IsWithin}
 use Rattle.doom.proofs.Passes.{bit_member, member_bit}
-
--- there is room for the words of a level
-pub words_fit : (dead level : Board) (n : ℕ) → length level.cells ≤ MAX_SQUARES → dead ≡ level → n ≡ word_count (length dead.cells) → n ≤ 64
-unfolding word_count
-words_fit dead level n few same size =
-    let cells : length dead.cells ≡ length level.cells = ap (λ (b : Board). length b.cells) same in
-    let count : n ≡ (length dead.cells + 63) / 64 = size in
-    omega (arith, few, cells, count)
 
 -- boxes that are frozen among some are so among more
 pub frozen_among : (board : Board) (few more frozen : Squares) → IsWithin frozen more → IsFrozen board few frozen → IsFrozen board more frozen

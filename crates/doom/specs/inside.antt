@@ -1,5 +1,4 @@
 -- What keeps the books of the code: what its loops keep, what fields hold, why it ends. No report rests on it.
 pub mod Holding
-pub mod Neighbours
 pub mod Peeling
 pub mod Pulling

@@ -7,7 +7,6 @@ ghost use Rattle.doom.specs.Deadlocks.{Doomed, IsFrozen};
 ghost use Rattle.doom.specs.Pushed.{AreOthersFrozen, ComeUndoomed, DoomedFrom, IsGroupFrozen};
 
 use crate::dead::Dead;
-use crate::freeze::MOST_WORDS;
 use crate::peel::has_frozen;
 use area::Scratch;
 use grid::{Level, Position, Push, Square};
@@ -32,37 +31,54 @@ pub fn doomed_after(
     ensures lost { IsTrue result → AreLost level.now position.now.boxes }
     ensures kept { scratch.new ≡ scratch.old }
 {
-    let _ = scratch;
     let Push { square, dir } = push;
-    is_doomed_from(level, dead, position.boxes(), level.next(square, dir))
+    is_doomed_from(
+        level,
+        dead,
+        position.boxes(),
+        level.next(square, dir),
+        scratch,
+    )
 }
 
 /// Whether the square is dead, or some of the boxes that hang together with the one on it, at least one of them off
 /// goal, are frozen.
-fn is_doomed_from(level: &Level, dead: &Dead, boxes: &[Square], square: Square) -> bool
+fn is_doomed_from(
+    level: &Level,
+    dead: &Dead,
+    boxes: &[Square],
+    square: Square,
+    scratch: &mut Scratch,
+) -> bool
     requires clear { (q : ℕ) → contains boxes.now q ≡ true → is_wall level.now q ≡ false }
     requires there { contains boxes.now square ≡ true }
     requires dead_of_level { dead.now ≡ level.now }
+    requires room { scratch.old.size ≡ length level.now.cells }
     ensures from { IsTrue result ↔ DoomedFrom level.now boxes.now square }
     ensures others { (members : Squares) → IsFrozen level.now boxes.now members → IsTrue result ⊎ AreOthersFrozen level.now boxes.now square }
+    ensures kept { scratch.new ≡ scratch.old }
 {
-    dead.is_dead(square) || is_group_frozen(level, dead, boxes, square)
+    dead.is_dead(square) || is_group_frozen(level, dead, boxes, square, scratch)
 }
 
 /// Whether some of the boxes that hang together with the one on the square, at least one of them off goal, are frozen.
-fn is_group_frozen(level: &Level, dead: &Dead, boxes: &[Square], square: Square) -> bool
+fn is_group_frozen(
+    level: &Level,
+    dead: &Dead,
+    boxes: &[Square],
+    square: Square,
+    scratch: &mut Scratch,
+) -> bool
     requires clear { (q : ℕ) → contains boxes.now q ≡ true → is_wall level.now q ≡ false }
     requires there { contains boxes.now square ≡ true }
     requires dead_of_level { dead.now ≡ level.now }
+    requires room { scratch.old.size ≡ length level.now.cells }
     ensures group { IsTrue result ↔ IsGroupFrozen level.now boxes.now square }
     ensures others { (members : Squares) → IsFrozen level.now boxes.now members → IsTrue result ⊎ AreOthersFrozen level.now boxes.now square }
+    ensures kept { scratch.new ≡ scratch.old }
 {
-    level.tell();
     let goals = dead.goals();
-    let mut words = [0; MOST_WORDS];
-    let mut other_words = [0; MOST_WORDS];
-    let members = &mut words[..goals.len()];
-    let others = &mut other_words[..goals.len()];
+    let (members, others) = area::lent_words(scratch).split_at_mut(goals.len());
     area::group(level, boxes, square, others, members);
     has_frozen(dead, members)
 }

@@ -3,11 +3,10 @@
 
 mod after;
 mod dead;
-mod firm;
 mod freeze;
 mod holds;
 pub mod laws;
-mod neighbours;
+mod loose;
 mod peel;
 mod pulls;
 #[cfg(test)]
@@ -15,4 +14,5 @@ mod tests;
 
 pub use after::doomed_after;
 pub use dead::Dead;
-pub use freeze::{doomed, is_loose};
+pub use freeze::doomed;
+pub use loose::is_loose;

@@ -81,7 +81,7 @@ fn has_other(members: &[u64], others: &[u64]) -> bool
     ensures { IsTrue result ↔ ((q : ℕ) × (has_bit members.now q ≡ true) × (has_bit others.now q ≡ false)) }
 {
     for place in 0..members.len() {
-        if members[place] & !others[place] != 0 {
+        if (members[place] & !others[place]) != 0 {
             return true;
         }
     }

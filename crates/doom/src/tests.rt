@@ -189,33 +189,34 @@ fn a_box_on_a_dead_square_elsewhere_is_not_looked_at(rt: HostRuntime) -> Result<
 }
 
 #[test]
-fn boxes_are_loose_or_not(rt: HostRuntime) -> Result<(), Fail> {
+fn pushed_boxes_are_loose_or_not(rt: HostRuntime) -> Result<(), Fail> {
     let rows = [
-        (PUSH_RIGHT, 7, true),
-        (PUSH_RIGHT, 8, false),
-        (PAIR_AT_WALL, 8, false),
-        (PAIR_AT_WALL, 9, false),
-        (COLUMN_AT_WALL, 11, false),
-        (COLUMN_AT_WALL, 16, false),
-        (BESIDE_A_FREE_BOX, 17, true),
-        (BESIDE_A_FREE_BOX, 18, true),
-        (ABOVE_A_FREE_BOX, 17, true),
-        (ABOVE_A_FREE_BOX, 22, true),
-        (CORNER, 12, true),
-        (BETWEEN_DEAD, 17, false),
-        (TWO_ENDS, 9, true),
-        (TWO_ENDS, 10, false),
+        (PUSH_RIGHT, 7, Dir::R, false),
+        (TWO_ENDS, 9, Dir::L, false),
+        (TWO_ENDS, 9, Dir::R, false),
+        (PAIR_AT_WALL, 8, Dir::L, false),
+        (COLUMN_AT_WALL, 11, Dir::U, false),
+        (COLUMN_AT_WALL, 11, Dir::R, true),
+        (BESIDE_A_FREE_BOX, 17, Dir::D, true),
+        (BESIDE_A_FREE_BOX, 18, Dir::R, false),
+        (ABOVE_A_FREE_BOX, 17, Dir::U, true),
+        (ABOVE_A_FREE_BOX, 22, Dir::R, true),
+        (ABOVE_A_FREE_BOX, 22, Dir::D, false),
+        (THERE_AND_BACK, 19, Dir::R, true),
     ];
-    for (row, (board, square, want)) in rows.into_iter().enumerate() {
+    for (row, (board, square, dir, want)) in rows.into_iter().enumerate() {
         let level = level_of(&rt, rt.alloc(), board)?;
         let dead = Dead::of(rt.alloc(), &level)?;
+        let mut scratch = Scratch::new(rt.alloc(), &level)?;
         let position = Position::start(&level).ok_or("too many boxes")?;
         assert!(rt; position.fits(&level));
-        assert_eq!(rt;
-            is_loose(&level, &dead, &position, Square(square)),
-            want,
-            "row {row}"
-        );
+        assert!(rt; usize::from(square) < level.squares());
+        area::flood(&level, &position, &mut scratch);
+        let push = Push {
+            square: Square(square),
+            dir,
+        };
+        assert_eq!(rt; is_loose(&level, &dead, &scratch, push), want, "row {row}");
     }
     Ok(())
 }

@@ -66,5 +66,5 @@ fn with_bit(word: u64, place: usize, set: bool) -> u64
     requires { place < WORD_BITS }
     ensures { (i : ℕ) → bit_at result i ≡ (if set && (i == place) then 1 else bit_at word i) }
 {
-    if set { word | 1 << place } else { word }
+    if set { word | (1 << place) } else { word }
 }

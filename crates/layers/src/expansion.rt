@@ -102,6 +102,7 @@ fn possible_pushes(
     requires room { scratch.old.size ≡ length level.now.cells }
     ensures pushes { ArePushes level.now position.now result.items }
     ensures flooded { IsAreaOf level.now position.now scratch.new.reached }
+    ensures boxes { scratch.new.boxes ≡ position.now.boxes }
     ensures size { scratch.new.size ≡ scratch.old.size }
 {
     area::flood(level, position, scratch);
@@ -182,7 +183,7 @@ fn push_if(
     ensures pushes { (board : Board) (reach : Reach) → ((word_bit word bit ≡ true) ↔ Allows board reach (record { square = square; dir = dir })) → AreAllowedBefore board reach square (dir_number dir) pushes.old.items → AreAllowedBefore board reach square (dir_number dir + 1) pushes.new.items }
     ensures bound { length pushes.new.items ≤ length pushes.old.items + 1 }
 {
-    if word >> bit & 1 == 1 {
+    if (word >> bit) & 1 == 1 {
         pushes.push(Push { square, dir });
     }
 }
@@ -202,6 +203,7 @@ fn successors_by(
     requires dead_of_level { dead.now ≡ level.now }
     requires room { scratch.old.size ≡ length level.now.cells }
     requires flooded { IsAreaOf level.now position.now scratch.old.reached }
+    requires boxes { scratch.old.boxes ≡ position.now.boxes }
     requires pushes { ArePushes level.now position.now pushes.now }
     requires bound { length pushes.now ≤ MAX_SUCCESSORS }
     requires empty { successors.old.items ≡ [] }
@@ -229,6 +231,7 @@ fn append_successor(
     requires dead_of_level { dead.now ≡ level.now }
     requires room { scratch.old.size ≡ length level.now.cells }
     requires flooded { IsAreaOf level.now position.now scratch.old.reached }
+    requires boxes { scratch.old.boxes ≡ position.now.boxes }
     requires possible { CanPush level.now position.now push }
     requires place { length successors.old.items < MAX_SUCCESSORS }
     ensures appended { IsAppended level.now position.now push successors.old.items successors.new.items }
@@ -271,6 +274,7 @@ fn make_push(
     requires dead_of_level { dead.now ≡ level.now }
     requires room { scratch.old.size ≡ length level.now.cells }
     requires flooded { IsAreaOf level.now position.now scratch.old.reached }
+    requires boxes { scratch.old.boxes ≡ position.now.boxes }
     requires possible { CanPush level.now position.now push }
     ensures some { IsTrue result → IsSuccessor level.now position.now push moved.new × FitsLevel level.now moved.new }
     ensures none { result ≡ false → (m : Scene) → ¬ (IsSuccessor level.now position.now push m) }
@@ -280,7 +284,7 @@ fn make_push(
     let ahead = level.next(square, dir);
     moved.copy_from(position);
     moved.push(square, ahead);
-    if !doom::is_loose(level, dead, moved, ahead)
+    if !doom::is_loose(level, dead, scratch, Push { square, dir })
         && doom::doomed_after(level, dead, moved, Push { square, dir }, scratch)
     {
         return false;

@@ -31,10 +31,10 @@ words_few n words e le = omega (arith, e, le)
 
 -- a square that comes by one of the directions is entered
 entered_by : (board : Board) (words : List ℕ) (d : Dir) (q : ℕ) → comes_by board words d q ≡ true → is_entered board words q ≡ true
-entered_by board words D q h = or_right (comes_by board words R q || comes_by board words L q) (comes_by board words D q || comes_by board words U q) (or_left (comes_by board words D q) (comes_by board words U q) h)
-entered_by board words L q h = or_left (comes_by board words R q || comes_by board words L q) (comes_by board words D q || comes_by board words U q) (or_right (comes_by board words R q) (comes_by board words L q) h)
-entered_by board words R q h = or_left (comes_by board words R q || comes_by board words L q) (comes_by board words D q || comes_by board words U q) (or_left (comes_by board words R q) (comes_by board words L q) h)
-entered_by board words U q h = or_right (comes_by board words R q || comes_by board words L q) (comes_by board words D q || comes_by board words U q) (or_right (comes_by board words D q) (comes_by board words U q) h)
+entered_by board words D q h = or_left (comes_by board words D q || comes_by board words L q) (comes_by board words R q || comes_by board words U q) (or_left (comes_by board words D q) (comes_by board words L q) h)
+entered_by board words L q h = or_left (comes_by board words D q || comes_by board words L q) (comes_by board words R q || comes_by board words U q) (or_right (comes_by board words D q) (comes_by board words L q) h)
+entered_by board words R q h = or_right (comes_by board words D q || comes_by board words L q) (comes_by board words R q || comes_by board words U q) (or_left (comes_by board words R q) (comes_by board words U q) h)
+entered_by board words U q h = or_right (comes_by board words D q || comes_by board words L q) (comes_by board words R q || comes_by board words U q) (or_right (comes_by board words R q) (comes_by board words U q) h)
 
 module _ (board : Board) (s : Scene) (boxes old new : List ℕ) (scene : IsScene board s) (stand : (q : ℕ) → is_wall board q ≡ false → has_bit boxes q ≡ contains s.boxes q) (begun : has_bit old s.player ≡ true) (within : (q : ℕ) → has_bit old q ≡ true → Area board s q) (growing : IsGrowing board boxes old new) where
   -- what is reached is of the area

@@ -107,11 +107,11 @@ run_grown_down word one end mask g h =
     grown_then word one end (λ test. PassesDown test 1 mask) g (grown_by one end (λ test. PassesDown test 2 (bit_and mask (mask / 2 ^ 1))) (λ test. PassesDown test 1 mask) (λ test pass. down_twice test 1 mask 2 refl pass) h)
 
 -- a round of steps in all four directions
-pub round_grown : (first word right left down up by rightward leftward downward upward : ℕ) → IsGrown first word (λ test. PassesOn test by right left down up) → IsGrown word rightward (λ test. PassesUp test 1 right) → IsGrown word leftward (λ test. PassesDown test 1 left) → IsGrown (bit_or rightward leftward) downward (λ test. PassesUp test by down) → IsGrown (bit_or rightward leftward) upward (λ test. PassesDown test by up) → IsGrown word (bit_or downward upward) (λ test. PassesOn test by right left down up) × IsGrown first (bit_or downward upward) (λ test. PassesOn test by right left down up)
-round_grown first word right left down up by rightward leftward downward upward g r l d u = (last, grown_then first word (bit_or downward upward) P g last)
+pub round_grown : (first word down left right up by rightward leftward downward upward : ℕ) → IsGrown first word (λ test. PassesOn test by down left right up) → IsGrown word rightward (λ test. PassesUp test 1 right) → IsGrown word leftward (λ test. PassesDown test 1 left) → IsGrown (bit_or rightward leftward) downward (λ test. PassesUp test by down) → IsGrown (bit_or rightward leftward) upward (λ test. PassesDown test by up) → IsGrown word (bit_or downward upward) (λ test. PassesOn test by down left right up) × IsGrown first (bit_or downward upward) (λ test. PassesOn test by down left right up)
+round_grown first word down left right up by rightward leftward downward upward g r l d u = (last, grown_then first word (bit_or downward upward) P g last)
   where
     P : (ℕ → Bool) → Type 0
-    P = λ test. PassesOn test by right left down up
+    P = λ test. PassesOn test by down left right up
 
     row : ℕ
     row = bit_or rightward leftward

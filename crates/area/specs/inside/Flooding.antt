@@ -14,7 +14,7 @@ comes_by board words d q = can_enter board d q && has_bit words (next board q (o
 -- a step leads onto the square from a square of the set
 abbrev pub is_entered : Board → List ℕ → ℕ → Bool
 is_entered board words q =
-    (comes_by board words R q || comes_by board words L q) || (comes_by board words D q || comes_by board words U q)
+    (comes_by board words D q || comes_by board words L q) || (comes_by board words R q || comes_by board words U q)
 
 -- no step leads out of the set onto the square, unless a box stands there
 abbrev pub IsSettled : Board → List ℕ → List ℕ → ℕ → Type 0
@@ -71,10 +71,10 @@ abbrev pub PassesDown : (ℕ → Bool) → ℕ → ℕ → Type 0
 PassesDown test by mask = (i j : ℕ) → j + by ≡ i → word_bit mask j ≡ true → test i ≡ true → test j ≡ true
 
 -- the test passes on along each of the four directions, where the masks have a 1
-pub record PassesOn (test : ℕ → Bool) (by right left down up : ℕ) : Type 0 where
-  pub on_right : PassesUp test 1 right
-  pub on_left : PassesDown test 1 left
+pub record PassesOn (test : ℕ → Bool) (by down left right up : ℕ) : Type 0 where
   pub on_down : PassesUp test by down
+  pub on_left : PassesDown test 1 left
+  pub on_right : PassesUp test 1 right
   pub on_up : PassesDown test by up
 
 -- what is added to a word: no 1 is lost, and whatever passes on as said stays true of each 1

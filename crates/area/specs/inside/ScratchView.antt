@@ -1,5 +1,5 @@
 -- What contracts see of the fields of a scratch, and what the fields keep.
-use Rattle.std.specs.Prelude.{◌≡◌, ◌≤◌, length}
+use Rattle.std.specs.Prelude.{◌≡◌, ◌+◌, ◌≤◌, length}
 use Rattle.grid.specs.declared.limits.TheConstants.{MAX_SQUARES}
 use Rattle.grid.specs.Masks.{word_count}
 use Rattle.area.specs.declared.scratch.Scratch.TheInside.{Inside}
@@ -12,7 +12,7 @@ abbrev pub view_of : Inside → Reach
 view_of a = record { size = length a.marks.items; reached = squares_of a.reached.items; boxes = squares_of a.boxes.items }
 
 -- there is a mark and a place in the queue for each square, and the marks are small enough for one more search; each set
--- has the words that the squares take
+-- has the words that the squares take, and what is lent has those of two
 pub record IsReady (a : Inside) : Type 0 where
   pub places : length a.queue.items ≡ length a.marks.items
   pub small : length a.marks.items ≤ MAX_SQUARES
@@ -22,3 +22,4 @@ pub record IsReady (a : Inside) : Type 0 where
   pub boxes_words : length a.boxes.items ≡ word_count (length a.marks.items)
   pub spare_words : length a.spare.items ≡ word_count (length a.marks.items)
   pub spare_boxes_words : length a.spare_boxes.items ≡ word_count (length a.marks.items)
+  pub lent_words : length a.lent.items ≡ word_count (length a.marks.items) + word_count (length a.marks.items)

@@ -22,7 +22,7 @@ returns-then-any_dead-clause-lost c found =
 decided : (c : goal.After-any_frozen) → IsTrue c.any_frozen.result ↔ Doomed c.args.level.now c.args.position.now.boxes
 decided c =
     let tells = subst (λ (given : Squares). IsTrue c.any_frozen.result ↔ ((members : Squares) × IsFrozen c.args.level.now given members)) c.boxes-boxes.ensures.squares
-    (subst (λ (board : Board). IsTrue c.any_frozen.result ↔ ((members : Squares) × IsFrozen board c.boxes-boxes.result.now members)) c.requires.dead_of_level c.any_frozen.ensures) in (
+    (subst (λ (board : Board). IsTrue c.any_frozen.result ↔ ((members : Squares) × IsFrozen board c.boxes-boxes.result.now members)) c.requires.dead_of_level c.any_frozen.ensures.frozen) in (
       λ found. inr (tells.0 found),
       λ lost. elim lost [
         | inl (q, there, dead) ↦ absurd (false≢true (c.if-any_dead.ensures.1 (q, ap (λ given. contains given q) c.boxes-boxes.ensures.squares ∙ there, subst (λ given. IsDead given q) (sym c.requires.dead_of_level) dead)))

@@ -1,6 +1,6 @@
-use Rattle.std.proofs.Common.{◌≡◌, ◌↔◌, ℕ, IsTrue, true, refl, sym, ap, subst, ◌∙◌}
+use Rattle.std.proofs.Common.{◌≡◌, ℕ, true, refl, sym, ap, subst, ◌∙◌}
 use Rattle.std.proofs.lemmas.Bool.{false≢true}
-use Rattle.grid.specs.Squares.{contains, remove}
+use Rattle.grid.specs.Squares.{Squares, contains, insert, remove}
 use Rattle.grid.proofs.lemmas.Squares.{contains-insert_here}
 use Rattle.grid.specs.Board.{Scene, next}
 use Rattle.grid.specs.States.{FitsLevel}
@@ -44,10 +44,8 @@ returns-then-doomed_after-clause-none c = λ no m come.
     let bad : Doomed c.args.level.now c.push.new.self.boxes = (c.if-doomed_after.ensures.same (c.args.position.now.boxes, ap (λ (s : Scene). s.boxes) moved, c.requires.undoomed)).0 refl in
     (come_by c.args.level.now c.args.position.now c.requires.fits.scene c.args.push m come).safe (subst (λ (s : Scene). Doomed c.args.level.now s.boxes) moved bad)
 
-pub is_loose-requires-clause-fits : goal.is_loose-requires-clause-fits
-is_loose-requires-clause-fits c =
-    let moved : c.push.new.self ≡ after_push c.args.level.now c.args.position.now c.args.push = cc in
-    subst (FitsLevel c.args.level.now) (sym moved) (after_fits c.args.level.now c.args.position.now c.requires.fits.scene c.args.push c.requires.fits c.requires.possible)
+pub is_loose-requires-clause-inside : goal.is_loose-requires-clause-inside
+is_loose-requires-clause-inside c = inside_grid c.args.level.now c.args.push.square (c.requires.fits.scene.boxes c.args.push.square c.requires.possible.there)
 
 pub normalise_after-requires-clause-fits : goal.normalise_after-requires-clause-fits
 normalise_after-requires-clause-fits c =
@@ -65,10 +63,9 @@ returns-clause-some c =
           let same : c.push.new.self.boxes ≡ after.boxes = ap (λ (s : Scene). s.boxes) moved in
           false≢true ((w.if-doomed_after.ensures.same (n.boxes, same, c.requires.undoomed)).1 (subst (λ (s : Scene). Doomed board s.boxes) (sym moved) bad))
       | else-not-is_loose-via-else-not-is_loose w ↦
-          let loose : IsLoose board c.push.new.self.boxes c.next-ahead.result = c.is_loose.ensures.0 w.if-not-is_loose.false in
-          let there : c.next-ahead.result ≡ next board c.args.push.square c.args.push.dir = cc in
+          let loose = c.is_loose.ensures.0 w.if-not-is_loose.false in
           loose_dooms_nothing board n.boxes c.args.push.square (next board c.args.push.square c.args.push.dir) c.requires.undoomed
-          (subst (IsLoose board after.boxes) there (subst (λ (s : Scene). IsLoose board s.boxes c.next-ahead.result) moved loose))
+          (subst (λ (boxes : Squares). IsLoose board (insert (remove boxes c.args.push.square) (next board c.args.push.square c.args.push.dir)) (next board c.args.push.square c.args.push.dir)) c.requires.boxes loose)
     ] in
     λ done. (successor_is board n c.requires.fits.scene c.args.push c.requires.undoomed c.requires.possible safe c.normalise_after.new.after (subst (λ (s : Scene). IsNorm board s c.normalise_after.new.after) moved c.normalise_after.ensures.norm), c.normalise_after.ensures.fits)
 

@@ -43,3 +43,6 @@ returns-clause-successors c =
 pub append_successor-requires-clause-flooded : goal.append_successor-requires-clause-flooded
 append_successor-requires-clause-flooded c =
     subst (λ (s : Reach). IsAreaOf c.args.level.now c.args.position.now s.reached) (sym c.loop-push.invariant.3) c.requires.flooded
+
+pub append_successor-requires-clause-boxes : goal.append_successor-requires-clause-boxes
+append_successor-requires-clause-boxes c = ap (λ (s : Reach). s.boxes) c.loop-push.invariant.3 ∙ c.requires.boxes

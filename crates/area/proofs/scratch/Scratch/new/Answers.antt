@@ -16,4 +16,5 @@ invariant_of-result c =
       boxes_words = c.in_ok-empty_set-2.ensures ∙ words;
       spare_words = c.in_ok-empty_set-3.ensures ∙ words;
       spare_boxes_words = c.in_ok-empty_set-4.ensures ∙ words;
+      lent_words = (let given = c.in_ok-empty_set-5.ensures in omega (arith, given, words));
     }

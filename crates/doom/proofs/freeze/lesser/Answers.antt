@@ -1,8 +1,0 @@
-use Rattle.std.proofs.Common.{ℕ, ltb, count_by, ap, ◌∙◌}
-use Rattle.std.proofs.lemmas.List.{take_all}
-use Rattle.doom.proofs.freeze.lesser.Goals as goal
-
-pub returns : goal.returns
-returns c =
-    let xs = c.args.boxes.now in
-    c.loop-other.invariant ∙ ap (count_by (λ (x : ℕ). ltb x c.args.square)) (take_all c.loop-other.other-index xs c.loop-other-test.false)
