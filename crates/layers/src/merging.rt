@@ -27,7 +27,7 @@ impl<'a> Model for Rest<'a> {
     ghost use Rattle.std.specs.Prelude.{◌≡◌, ◌≤◌, List, drop, length};
     ghost use Rattle.layers.specs.BookView.{Closed};
     ghost use Rattle.layers.specs.inside.Insides.{IsCopied};
-ghost use Rattle.layers.specs.inside.Merging.{first_origin};
+    ghost use Rattle.layers.specs.inside.Merging.{first_origin};
 
     ghost Value = { List Closed };
 
