@@ -114,19 +114,31 @@ module _ (rests : List (List Closed)) (place : ℕ) (list : List Closed) (at : s
     | inl less ↦ before t f more less at_t
     | inr e ↦ none-some (origin_in f.1) (sym none ∙ here_is t f more e at_t)
   ]
-  least_kept (Some s) bound before none = (before.0, before.1, before.2, before.3, λ t f more lt at_t. elim (upto t lt) [
-    | inl less ↦ before.4 t f more less at_t
-    | inr e ↦ absurd (none-some (origin_in f.1) (sym none ∙ here_is t f more e at_t))
-  ])
+  least_kept (Some s) bound before none = (
+    before.0,
+    before.1,
+    before.2,
+    before.3,
+    λ t f more lt at_t. elim (upto t lt) [
+      | inl less ↦ before.4 t f more less at_t
+      | inr e ↦ absurd (none-some (origin_in f.1) (sym none ∙ here_is t f more e at_t))
+    ],
+  )
 
   -- nor does one that begins with no lesser origin
   pub least_passed : (least : Option ℕ) (bound o : Origin Push) → IsLeastSoFar rests place least bound → is_some least ≡ true → first_origin list ≡ Some o → is_lt (origin_cmp push_cmp o bound) ≡ false → IsLeastSoFar rests (place + 1) least bound
   least_passed None bound o before some first later = absurd (true≢false (sym some))
-  least_passed (Some s) bound o before some first later = (before.0, before.1, before.2, before.3, λ t f more lt at_t. elim (upto t lt) [
-    | inl less ↦ before.4 t f more less at_t
-    | inr e ↦ (let same : o ≡ origin_in f.1 = same_Some o (origin_in f.1) (sym first ∙ here_is t f more e at_t) in
-        (λ i. is_gt (origin_cmp push_cmp (sym before.3 i) (sym same i))) ∙ no_greater bound o later)
-  ])
+  least_passed (Some s) bound o before some first later = (
+    before.0,
+    before.1,
+    before.2,
+    before.3,
+    λ t f more lt at_t. elim (upto t lt) [
+      | inl less ↦ before.4 t f more less at_t
+      | inr e ↦ (let same : o ≡ origin_in f.1 = same_Some o (origin_in f.1) (sym first ∙ here_is t f more e at_t) in
+          (λ i. is_gt (origin_cmp push_cmp (sym before.3 i) (sym same i))) ∙ no_greater bound o later)
+    ],
+  )
 
   -- one that begins with a lesser origin is chosen
   pub least_chosen : (least : Option ℕ) (bound o : Origin Push) → IsLeastSoFar rests place least bound → (is_some least ≡ false) ⊎ (is_lt (origin_cmp push_cmp o bound) ≡ true) → first_origin list ≡ Some o → IsLeastSoFar rests (place + 1) (Some place) o

@@ -8,8 +8,8 @@ ghost use Rattle.layers.specs.inside.Insides.{IsCopied, squares_of};
 ghost use Rattle.layers.specs.Origins.{same_scene};
 
 use crate::closing::arrange;
-use crate::entering::{enter_all, is_among, share_of};
 use crate::copying::{copy_entry, copy_from};
+use crate::entering::{enter_all, is_among, share_of};
 use crate::key::Key;
 use crate::origin::{ClosedOrigin, MOST_RANKS, Origin};
 use crate::parcel::Successor;

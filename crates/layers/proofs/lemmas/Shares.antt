@@ -126,8 +126,8 @@ module _ (books : List BookView) (all : AreAllShares books) (lawful : AreLawfulB
   book_distinct t v at = flat_distinct (map places_of v.closed)
       (λ j ms at_j. let x = list_of t v at j ms at_j in subst (λ zs. Distinct zs) x.2 (place_unique (level_laws first.level first_book.level) j (places_of x.0) x.1.layer))
       (λ i j ms ns m at_m at_n in_m in_n. let x = list_of t v at i ms at_m in
-          let y = list_of t v at j ns at_n in
-          layers_apart (level_laws first.level first_book.level) i j (places_of x.0) (places_of y.0) x.1.layer y.1.layer m (in_m.0, ap (λ zs. slice_get zs in_m.0) x.2 ∙ in_m.1) (in_n.0, ap (λ zs. slice_get zs in_n.0) y.2 ∙ in_n.1))
+      let y = list_of t v at j ns at_n in
+      layers_apart (level_laws first.level first_book.level) i j (places_of x.0) (places_of y.0) x.1.layer y.1.layer m (in_m.0, ap (λ zs. slice_get zs in_m.0) x.2 ∙ in_m.1) (in_n.0, ap (λ zs. slice_get zs in_n.0) y.2 ∙ in_n.1))
 
   -- a position that a book has closed is of its share, and its lead is as long as its layer's number
   lead_closed : (t : ℕ) (v : BookView) → slice_get books t ≡ Some v → (m : Scene) → IsIn (book_places v) m → (share_of first.shares m ≡ t) × ((j : ℕ) × (j < length v.closed) × ((ps : List Push) × IsLeadOf first.level m ps × (length ps ≡ j)))
@@ -144,8 +144,8 @@ module _ (books : List BookView) (all : AreAllShares books) (lawful : AreLawfulB
   closed_distinct = flat_distinct all_closed
       (λ t ms at. let x = at_map book_places books t ms at in subst (λ zs. Distinct zs) x.2 (book_distinct t x.0 x.1))
       (λ s t ms ns m at_m at_n in_m in_n. let x = at_map book_places books s ms at_m in
-          let y = at_map book_places books t ns at_n in
-          sym (lead_closed s x.0 x.1 m (in_m.0, ap (λ zs. slice_get zs in_m.0) x.2 ∙ in_m.1)).0 ∙ (lead_closed t y.0 y.1 m (in_n.0, ap (λ zs. slice_get zs in_n.0) y.2 ∙ in_n.1)).0)
+      let y = at_map book_places books t ns at_n in
+      sym (lead_closed s x.0 x.1 m (in_m.0, ap (λ zs. slice_get zs in_m.0) x.2 ∙ in_m.1)).0 ∙ (lead_closed t y.0 y.1 m (in_n.0, ap (λ zs. slice_get zs in_n.0) y.2 ∙ in_n.1)).0)
 
   module _ (layers : List (List Scene)) (are : AreLayersOf first.level layers) (long : length layers ≡ length first.closed) where
     layers_distinct : Distinct (flat layers)

@@ -9,7 +9,10 @@ use layers::{Parcel, Successor};
 use std::alloc::Global;
 use std::process::Abort;
 
-pub(super) const ONE_LAYERS: &[&[Place]] = &[&[(&[7], 6, None)], &[(&[8], 6, Some((0, 7, Dir::R)))]];
+pub(super) const ONE_LAYERS: &[&[Place]] = &[
+    &[(&[7], 6, None)],
+    &[(&[8], 6, Some((0, 7, Dir::R)))],
+];
 
 const CORNER_END: &[Place] = &[(&[6], 7, Some((0, 11, Dir::U)))];
 
