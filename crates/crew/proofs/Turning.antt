@@ -37,3 +37,7 @@ pub turned_over : (before after : BookView) (trail : List (List (Origin Push))) 
 turned_over before after trail positions count layer looked lawful (alike, over, closed) =
     over_limit before.level before.limit count (trail ++ layer.origins ∷ []) after looked.looked lawful (sym alike.0) (sym alike.1) over
     (omega (arith, looked.closed, closed, length-append trail (layer.origins ∷ [])))
+
+-- the trail with the layer's parents
+pub grown : (trail all : List (List (Origin Push))) (parents : List (Origin Push)) (layer : LayerView) → all ≡ trail ++ parents ∷ [] → parents ≡ layer.origins → all ≡ trail ++ layer.origins ∷ []
+grown trail all parents layer is same = is ∙ ap (λ (o : List (Origin Push)). trail ++ o ∷ []) same
