@@ -1,0 +1,51 @@
+/* Loaded before the C library (LD_PRELOAD), it takes workers away from a program. The threads that it starts, but for the
+   first LOST_AFTER ones, are refused; and so is each request for memory that is made in a thread but the first one, from
+   the request on whose number LOST_MEMORY gives, counted over all these threads from 1. */
+#define _GNU_SOURCE
+#include <dlfcn.h>
+#include <errno.h>
+#include <pthread.h>
+#include <stddef.h>
+#include <stdlib.h>
+#include <unistd.h>
+
+extern void *__libc_malloc(size_t size);
+extern void *__libc_calloc(size_t count, size_t size);
+extern void *__libc_realloc(void *old, size_t size);
+extern void *__libc_memalign(size_t align, size_t size);
+
+typedef int (*Start)(pthread_t *, const pthread_attr_t *, void *(*)(void *), void *);
+
+static unsigned long after = -1UL, from = -1UL, started, asked;
+static Start start;
+
+__attribute__((constructor)) static void begin(void) {
+    const char *threads = getenv("LOST_AFTER"), *memory = getenv("LOST_MEMORY");
+    start = (Start)dlsym(RTLD_NEXT, "pthread_create");
+    if (threads) after = strtoul(threads, NULL, 10);
+    if (memory) from = strtoul(memory, NULL, 10);
+}
+
+int pthread_create(pthread_t *thread, const pthread_attr_t *kind, void *(*body)(void *), void *argument) {
+    if (__atomic_fetch_add(&started, 1, __ATOMIC_SEQ_CST) >= after) return EAGAIN;
+    return start(thread, kind, body, argument);
+}
+
+static int is_refused(void) {
+    if (from == -1UL || gettid() == getpid()) return 0;
+    if (__atomic_add_fetch(&asked, 1, __ATOMIC_SEQ_CST) < from) return 0;
+    errno = ENOMEM;
+    return 1;
+}
+
+void *malloc(size_t size) { return is_refused() ? NULL : __libc_malloc(size); }
+void *calloc(size_t count, size_t size) { return is_refused() ? NULL : __libc_calloc(count, size); }
+void *realloc(void *old, size_t size) { return is_refused() ? NULL : __libc_realloc(old, size); }
+void *aligned_alloc(size_t align, size_t size) { return is_refused() ? NULL : __libc_memalign(align, size); }
+
+int posix_memalign(void **out, size_t align, size_t size) {
+    void *block = is_refused() ? NULL : __libc_memalign(align, size);
+    if (block == NULL) return ENOMEM;
+    *out = block;
+    return 0;
+}
