@@ -2,7 +2,7 @@
 use Rattle.std.specs.Prelude.{◌≡◌, ℕ, ◌<◌, Bool, true, Any, length, Some}
 use Rattle.layers.specs.LayerView.{LayerView}
 use Rattle.layers.specs.ParcelView.{ParcelView}
-use Rattle.layers.specs.BookView.{BookView, last_layer}
+use Rattle.layers.specs.BookView.{BookView, IsLawfulBook, last_layer}
 use Rattle.layers.specs.Books.{HandBackRefused, after_refusal}
 use Rattle.claims.specs.declared.views.Hand.{Hand}
 use Rattle.claims.specs.Hands.{LedgerView, DrawerView, Drew}
@@ -72,3 +72,12 @@ EndsWith worker hand NoPlace = HasSeenTaken worker hand
 EndsWith worker hand (Refused refusal) = Unit {0}
 EndsWith worker hand Stopped = Unit {0}
 EndsWith worker hand Foreign = Unit {0}
+
+-- a worker ends as refused only where a lawful book of its own did not accept a parcel of the layer, and as foreign only
+-- where the book was not its own
+abbrev pub WasAnswered : LayerView → ℕ → End → Type 0
+WasAnswered layer worker (Refused refusal) = (book : BookView) × (parcel : ParcelView) × IsLawfulBook book × IsOfLayer layer parcel × HandEnds layer worker book parcel (Refused refusal)
+WasAnswered layer worker Foreign = (book : BookView) × IsLawfulBook book × ¬ (IsOwn layer worker book)
+WasAnswered layer worker Drained = Unit {0}
+WasAnswered layer worker NoPlace = Unit {0}
+WasAnswered layer worker Stopped = Unit {0}

@@ -1,7 +1,8 @@
 ghost use Rattle.std.specs.Prelude.{◌≡◌, ◌<◌, ◌≤◌, IsNone, IfErr, IfOk, OnOk, length};
 ghost use Rattle.layers.specs.Books.{MayEnter, with_parcel};
 ghost use Rattle.claims.specs.declared.views.Hand.{Hand};
-ghost use Rattle.crew.specs.Work.{IsOwn, IsOfLayer, IsAtPlace, HasDrawn, DrawEnds, HandEnds, after_end, MayEnd, EndsWith};
+ghost use Rattle.crew.specs.Work.{IsOwn, IsOfLayer, IsAtPlace, HasDrawn, DrawEnds, HandEnds, after_end, MayEnd, EndsWith, WasAnswered};
+ghost use Rattle.layers.specs.LayerView.{LayerView};
 
 use crate::end::End;
 use crate::gate::Gate;
@@ -17,7 +18,9 @@ use std::sync::{Mutex, Wait};
 ///
 /// What is behind the lock may be any book, so under the lock the worker asks for level, layer and its own number
 /// again. It ends with [`End::Stopped`] only where the gate may stop a worker, with [`End::Drained`] only where its
-/// drawer has its place and is spent out, and with [`End::NoPlace`] only where its drawer has seen that place taken.
+/// drawer has its place and is spent out, with [`End::NoPlace`] only where its drawer has seen that place taken, with
+/// [`End::Refused`] only where a book of its own did not accept a parcel of the layer, for that reason, and with
+/// [`End::Foreign`] only where the book was not its own.
 pub fn work<R: Wait, G: Gate>(
     rt: &R,
     layer: &Layer,
@@ -36,6 +39,7 @@ pub fn work<R: Wait, G: Gate>(
     requires place { worker < PLACES }
     ensures end { MayEnd G.may_stop result }
     ensures hand { EndsWith worker drawer.new.hand result }
+    ensures answered { WasAnswered layer.now worker result }
     ensures ledger { drawer.new.ledger ≡ ledger.now }
     ensures size { scratch.new.size ≡ scratch.old.size }
 {
@@ -74,6 +78,7 @@ fn draw<G: Gate>(
     ensures within { IfOk result (λ rank. rank < length layer.now.places) }
     ensures end { IfErr result (λ end. MayEnd G.may_stop end) }
     ensures hand { IfErr result (λ end. EndsWith worker drawer.new.hand end) }
+    ensures answered { IfErr result (λ end. WasAnswered layer.now worker end) }
     ensures place { IsAtPlace ledger.now worker drawer.new }
 {
     let rank = draw_rank(layer, ledger, drawer, worker)?;
@@ -108,6 +113,7 @@ fn hand_back<R: Wait, G: Gate>(
     requires { IsOfLayer layer.now parcel.now }
     ensures end { IfErr result (λ end. MayEnd G.may_stop end) }
     ensures hand { (hand : Hand) → IfErr result (λ end. EndsWith worker hand end) }
+    ensures answered { IfErr result (λ end. WasAnswered layer.now worker end) }
 {
     let handed = hand_in(&mut *book.lock(rt), layer, worker, parcel);
     handed?;
@@ -118,6 +124,7 @@ fn hand_back<R: Wait, G: Gate>(
 fn pass<G: Gate>(gate: &G, layer: u64, worker: u8, nth: &mut u64) -> Result<(), End>
     ensures end { IfErr result (λ end. MayEnd G.may_stop end) }
     ensures hand { (hand : Hand) → IfErr result (λ end. EndsWith worker hand end) }
+    ensures answered { (layer : LayerView) → IfErr result (λ end. WasAnswered layer worker end) }
 {
     *nth = nth.saturating_add(1);
     if gate.pass(layer, worker, *nth) {
@@ -133,8 +140,10 @@ fn hand_in(book: &mut Book, layer: &Layer, worker: u8, parcel: &Parcel<'_>) -> R
     ensures may { OnOk result (IsOwn layer.now worker book.old × MayEnter book.old parcel.now) }
     ensures ok { OnOk result (book.new ≡ with_parcel book.old worker parcel.now) }
     ensures end { IfErr result (λ end. HandEnds layer.now worker book.old parcel.now end) }
+    ensures answered { IfErr result (λ end. WasAnswered layer.now worker end) }
     ensures kept { IfErr result (λ end. book.new ≡ after_end book.old end) }
 {
+    book.tell();
     if worker >= book.workers() {
         return Err(End::Foreign);
     }

@@ -4,3 +4,7 @@ use Rattle.crew.proofs.worker.draw.Goals as goal
 pub returns-in_err-pass-clause-hand : goal.returns-in_err-pass-clause-hand
 returns-in_err-pass-clause-hand g c =
     let hand = c.in_err-pass.ensures.hand c.draw_rank.new.drawer.hand in search (rules, hand)
+
+pub returns-in_err-pass-clause-answered : goal.returns-in_err-pass-clause-answered
+returns-in_err-pass-clause-answered g c =
+    let answered = c.in_err-pass.ensures.answered c.args.layer.now in search (rules, answered)
