@@ -31,8 +31,8 @@ pub const SOLVE_NOTES: &str = "\
 The first line is the verdict; where the level is solved, the second one is the
 solution in LURD notation.
 
-A position takes up to 250 bytes and 1 to 5 microseconds. So the default limit
-needs at most about 250 MB and 5 seconds, and 100000000 positions 25 GB and 10 to
+A position takes up to 150 bytes and 1 to 5 microseconds. So the default limit
+needs at most about 150 MB and 5 seconds, and 100000000 positions 15 GB and 10 to
 15 minutes.
 
 Examples:
