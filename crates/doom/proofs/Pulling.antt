@@ -1,6 +1,6 @@
--- Pulls from the goals find exactly the live squares.
-use Rattle.std.proofs.Common.{◌≡◌, ◌≢◌, ◌<◌, ◌≤◌, ◌+◌, ◌*◌, ◌++◌, ℕ, zero, suc, Bool, true, false, cond, List, [], ◌∷◌, length, get_or, set, replicate, refl, sym, ap, subst, ◌∙◌, ◌⊎◌, inl, inr, arith, length-append, length-set, get_or-set_other, get_or-set_same}
-use Rattle.std.proofs.lemmas.List.{set-get_or, length-replicate}
+-- Pulls from the goals, turn after turn, find exactly the least numbers of pushes.
+use Rattle.std.proofs.Common.{◌≡◌, ◌≢◌, ◌<◌, ◌≤◌, ◌+◌, ◌++◌, ℕ, zero, suc, true, false, cond, is_some, MatchOption, Option, Some, None, List, [], ◌∷◌, length, map, get_or, set, replicate, refl, sym, ap, subst, ◌∙◌, ◌⊎◌, inl, inr, arith, length-append, length-set, get_or-set_other, get_or-set_same}
+use Rattle.std.proofs.lemmas.List.{length-replicate}
 use Rattle.std.proofs.lemmas.Bool.{false≢true}
 use Rattle.std.proofs.lemmas.Bool.Decides.{eqb_tells}
 use Rattle.grid.specs.declared.dir.Dir.{Dir}
@@ -10,8 +10,9 @@ use Rattle.grid.specs.declared.cell.Cell.TheVariants.{Wall, Floor, Goal, Box, Bo
 use Rattle.grid.specs.Squares.{contains}
 use Rattle.grid.specs.Board.{Board, wall_cell, goal_cell, is_wall, is_goal, next, opposite, dir_number}
 use Rattle.grid.proofs.lemmas.Steps.{next_back, opposite_twice, inside_grid}
-use Rattle.doom.specs.Deadlocks.{Live, home, onward}
-use Rattle.doom.specs.inside.Pulling.{is_marked, AreLiveFlags, CanPull, Marks, Pulls, IsSpread, IsFilling}
+use Rattle.doom.specs.Deadlocks.{Live, home, onward, IsDead}
+use Rattle.doom.specs.Bounds.{IsFar, pushes_of}
+use Rattle.doom.specs.inside.Pulling.{is_marked, far_at, AreLiveFlags, AreDistances, CanPull, Marks, Pulls, HasWay, IsKnownWithin, IsSpread, IsFilling, DueBut, IsDue, unknown}
 use Rattle.doom.proofs.Peeling.{contains-push_cases, contains-push_kept, contains-push_last}
 
 -- a goal is no wall, and so no live square is
@@ -32,193 +33,268 @@ pub live_floor : (board : Board) (q : ℕ) → Live board q → is_wall board q 
 live_floor board q (home goal) = goal_floor board q goal
 live_floor board q (onward d floor ahead behind live) = floor
 
--- a live square makes those live that a box can be pulled to from it
-pub live_pulled : (board : Board) (q : ℕ) (d : Dir) → Live board q → CanPull board q d → Live board (next board q d)
-live_pulled board q d live (from, behind) =
-    let back = next_back board q d (live_floor board q live) from in
-    onward (opposite d) from (ap (is_wall board) back ∙ live_floor board q live)
-    (ap (λ e. is_wall board (next board (next board q d) e)) (opposite_twice d) ∙ behind)
-    (subst (Live board) (sym back) live)
+-- a pull makes a way one push longer
+pub way_pulled : (board : Board) (q n : ℕ) (d : Dir) → HasWay board q n → CanPull board q d → HasWay board (next board q d) (suc n)
+way_pulled board q n d (way, count) (from, behind) =
+    let back = next_back board q d (live_floor board q way) from in
+    let moved : HasWay board (next board (next board q d) (opposite d)) n = subst (λ x. HasWay board x n) (sym back) (way, count) in
+    (
+      onward (opposite d) from (ap (is_wall board) back ∙ live_floor board q way)
+      (ap (λ e. is_wall board (next board (next board q d) e)) (opposite_twice d) ∙ behind)
+      moved.0,
+      ap suc moved.1,
+    )
 
--- a set of flags that has the goals and is closed under pulls has all live squares
-pub live_marked : (board : Board) (flags : List Bool) → ((q : ℕ) → is_goal board q ≡ true → is_marked flags q ≡ true) → ((q : ℕ) (d : Dir) → is_marked flags q ≡ true → CanPull board q d → is_marked flags (next board q d) ≡ true) → (q : ℕ) → Live board q → is_marked flags q ≡ true
-live_marked board flags goals closed q (home goal) = goals q goal
-live_marked board flags goals closed q (onward d floor ahead behind live) =
+-- where the goals are known and pulls lead to what is known, each way is as long as the distance at least
+pub known_within : (board : Board) (far : List (Option ℕ)) → ((q : ℕ) → is_goal board q ≡ true → far_at far q ≡ Some 0) → ((q n : ℕ) (d : Dir) → far_at far q ≡ Some n → CanPull board q d → IsKnownWithin far (next board q d) (suc n)) → (q : ℕ) (way : Live board q) → IsKnownWithin far q (pushes_of way)
+known_within board far goals closed q (home goal) = (0, goals q goal, omega arith)
+known_within board far goals closed q (onward d floor ahead behind way) =
     let back = next_back board q d floor ahead in
-    subst (λ p. is_marked flags p ≡ true) back
-    (closed (next board q d) (opposite d) (live_marked board flags goals closed (next board q d) live)
-    (ap (is_wall board) back ∙ floor, ap (λ p. is_wall board (next board p (opposite d))) back ∙ behind))
+    let (n, at, le) = known_within board far goals closed (next board q d) way in
+    let pulled = closed (next board q d) n (opposite d) at (ap (is_wall board) back ∙ floor, ap (λ p. is_wall board (next board p (opposite d))) back ∙ behind) in
+    let (m, known, more) = subst (λ p. IsKnownWithin far p (suc n)) back pulled in
+    (m, known, omega (arith, le, more))
 
--- where nothing is pending, the marked squares are the live ones
-pub filled : (board : Board) (flags : List Bool) → IsFilling board flags [] → AreLiveFlags board flags
-filled board flags spread = record {
+some_injective : (far : List (Option ℕ)) (q m n : ℕ) → far_at far q ≡ Some m → far_at far q ≡ Some n → m ≡ n
+some_injective far q m n one other = same (sym one ∙ other)
+  where
+    value : Option ℕ → ℕ
+    value None = 0
+    value (Some x) = x
+
+    same : Some m ≡ Some n → m ≡ n
+    same e = ap value e
+
+none_not_some : (far : List (Option ℕ)) (q n : ℕ) → far_at far q ≡ None → far_at far q ≡ Some n → ⊥
+none_not_some far q n none known = false≢true (ap is_some (sym none ∙ known))
+
+-- where nothing is left to do, the distances are those of the squares
+pub filled : (board : Board) (k : ℕ) (far : List (Option ℕ)) → IsFilling board k far [] [] → AreDistances board far
+filled board k far spread = record {
   size = spread.size;
-  right = λ q. (spread.sound q, live_marked board flags (λ g goal. spread.goals g tt goal) closed q);
+  known = λ q n at. (
+    spread.sound q n at,
+    λ way. let (m, known, le) = least q way in subst (λ x. x ≤ pushes_of way) (some_injective far q m n known at) le,
+  );
+  dead = λ q none way. let (m, known, le) = least q way in none_not_some far q m none known;
 }
   where
-    closed : (q : ℕ) (d : Dir) → is_marked flags q ≡ true → CanPull board q d → is_marked flags (next board q d) ≡ true
-    closed q d marked pull = elim (spread.closed q marked) [ inl none ↦ absurd (false≢true none) | inr all ↦ all d tt pull ]
+    closed : (q n : ℕ) (d : Dir) → far_at far q ≡ Some n → CanPull board q d → IsKnownWithin far (next board q d) (suc n)
+    closed q n d at pull = elim (spread.closed q n at) [
+      | inl none ↦ absurd (false≢true none)
+      | inr (inl none) ↦ absurd (false≢true none)
+      | inr (inr all) ↦ all d tt pull
+    ]
 
--- what a flag that is set reads
-marked_here : (flags : List Bool) (q : ℕ) → q < length flags → is_marked (set flags q true) q ≡ true
-marked_here flags q lt = get_or-set_same flags q true false lt
+    least : (q : ℕ) (way : Live board q) → IsKnownWithin far q (pushes_of way)
+    least q way = known_within board far (λ g goal. spread.goals g tt goal) closed q way
 
-marked_kept : (flags : List Bool) (q x : ℕ) → is_marked flags x ≡ true → q < length flags → is_marked (set flags q true) x ≡ true
-marked_kept flags q x marked lt = elim (eqb_tells x q) [
-  | inl same ↦ subst (λ y. is_marked (set flags q true) y ≡ true) (sym same.1) (marked_here flags q lt)
-  | inr other ↦ get_or-set_other flags q x true false other.1 ∙ marked
+-- what the list tells of a square
+pub distance_of : (board : Board) (far : List (Option ℕ)) (q : ℕ) (o : Option ℕ) → o ≡ far_at far q → AreDistances board far → MatchOption o (IsDead board q) (λ n. IsFar board q n)
+distance_of board far q None e distances = distances.dead q (sym e)
+distance_of board far q (Some n) e distances = distances.known q n (sym e)
+
+-- the squares whose distance is known are the live ones
+pub flags_right : (board : Board) (far : List (Option ℕ)) → AreDistances board far → AreLiveFlags board (map (λ x. is_some x) far)
+flags_right board far distances = record {
+  size = sizes far ∙ distances.size;
+  right = λ q. (
+    λ marked. by_entry q (far_at far q) refl (sym (flag far q) ∙ marked),
+    λ way. by_way q way (far_at far q) refl,
+  );
+}
+  where
+    sizes : (xs : List (Option ℕ)) → length (map (λ x. is_some x) xs) ≡ length xs
+    sizes [] = refl
+    sizes (x ∷ xs) = ap suc (sizes xs)
+
+    flag : (xs : List (Option ℕ)) (q : ℕ) → is_marked (map (λ x. is_some x) xs) q ≡ is_some (far_at xs q)
+    flag [] q = refl
+    flag (x ∷ xs) zero = refl
+    flag (x ∷ xs) (suc q) = flag xs q
+
+    by_entry : (q : ℕ) (o : Option ℕ) → far_at far q ≡ o → is_some (far_at far q) ≡ true → Live board q
+    by_entry q None at some = absurd (false≢true (sym (ap is_some at) ∙ some))
+    by_entry q (Some n) at some = (distances.known q n at).0.0
+
+    by_way : (q : ℕ) → Live board q → (o : Option ℕ) → far_at far q ≡ o → is_marked (map (λ x. is_some x) far) q ≡ true
+    by_way q way None at = absurd (distances.dead q at way)
+    by_way q way (Some n) at = flag far q ∙ ap is_some at
+
+-- ---- a square is marked
+
+-- it was known, and nothing changes, or it was not
+marks_split : (k q : ℕ) (far far' : List (Option ℕ)) (marked marked' : List ℕ) → Marks k q far marked far' marked' → ((n : ℕ) × (far_at far q ≡ Some n) × (far' ≡ far) × (marked' ≡ marked)) ⊎ ((far_at far q ≡ None) × (far' ≡ set far q (Some k)) × (marked' ≡ marked ++ q ∷ []))
+marks_split k q far far' marked marked' (a, p) = by_entry (far_at far q) refl
+  where
+    by_entry : (o : Option ℕ) → far_at far q ≡ o → ((n : ℕ) × (far_at far q ≡ Some n) × (far' ≡ far) × (marked' ≡ marked)) ⊎ ((far_at far q ≡ None) × (far' ≡ set far q (Some k)) × (marked' ≡ marked ++ q ∷ []))
+    by_entry (Some n) at = inl (n, at, a ∙ ap (λ o. cond (is_some o) far (set far q (Some k))) at, p ∙ ap (λ o. cond (is_some o) marked (marked ++ q ∷ [])) at)
+    by_entry None at = inr (at, a ∙ ap (λ o. cond (is_some o) far (set far q (Some k))) at, p ∙ ap (λ o. cond (is_some o) marked (marked ++ q ∷ [])) at)
+
+-- what a list reads where an entry was set
+set_here : (far : List (Option ℕ)) (q k : ℕ) → q < length far → far_at (set far q (Some k)) q ≡ Some k
+set_here far q k lt = get_or-set_same far q (Some k) None lt
+
+set_kept : (far : List (Option ℕ)) (q k x n : ℕ) → far_at far q ≡ None → far_at far x ≡ Some n → far_at (set far q (Some k)) x ≡ Some n
+set_kept far q k x n none at = elim (eqb_tells x q) [
+  | inl same ↦ absurd (none_not_some far q n none (sym (ap (far_at far) same.1) ∙ at))
+  | inr other ↦ get_or-set_other far q x (Some k) None other.1 ∙ at
 ]
 
-marked_cases : (flags : List Bool) (q x : ℕ) → is_marked (set flags q true) x ≡ true → (x ≡ q) ⊎ (is_marked flags x ≡ true)
-marked_cases flags q x marked = elim (eqb_tells x q) [
-  | inl same ↦ inl same.1
-  | inr other ↦ inr (sym (get_or-set_other flags q x true false other.1) ∙ marked)
+set_cases : (far : List (Option ℕ)) (q k x n : ℕ) → q < length far → far_at (set far q (Some k)) x ≡ Some n → ((x ≡ q) × (n ≡ k)) ⊎ (far_at far x ≡ Some n)
+set_cases far q k x n lt at = elim (eqb_tells x q) [
+  | inl same ↦ inl (same.1, some_injective (set far q (Some k)) q n k (sym (ap (far_at (set far q (Some k))) same.1) ∙ at) (set_here far q k lt))
+  | inr other ↦ inr (sym (get_or-set_other far q x (Some k) None other.1) ∙ at)
 ]
-
--- how many flags are not set
-abbrev pub unmarked : List Bool → ℕ
-unmarked [] = 0
-unmarked (true ∷ flags) = unmarked flags
-unmarked (false ∷ flags) = suc (unmarked flags)
-
-unmarked_less : (flags : List Bool) (q : ℕ) → q < length flags → is_marked flags q ≡ false → suc (unmarked (set flags q true)) ≡ unmarked flags
-unmarked_less [] q lt off = absurd (omega arith)
-unmarked_less (true ∷ flags) zero lt off = absurd (false≢true (sym off))
-unmarked_less (false ∷ flags) zero lt off = refl
-unmarked_less (true ∷ flags) (suc q) lt off = unmarked_less flags q (omega arith) off
-unmarked_less (false ∷ flags) (suc q) lt off = ap suc (unmarked_less flags q (omega arith) off)
-
--- how much is left to do: each pending square, and two for each that is not marked
-abbrev pub work : List Bool → List ℕ → ℕ
-work flags pending = length pending + 2 * unmarked flags
-
-unmarked_same : (flags : List Bool) (q : ℕ) → is_marked flags q ≡ true → set flags q true ≡ flags
-unmarked_same flags q on = ap (set flags q) (sym on) ∙ set-get_or flags q false
-
--- one more square marked
-marks_with : (q : ℕ) (flags flags' : List Bool) (pending pending' : List ℕ) (b : Bool) → is_marked flags q ≡ b → Marks q flags pending flags' pending' → (flags' ≡ set flags q true) × (pending' ≡ cond b pending (pending ++ q ∷ []))
-marks_with q flags flags' pending pending' b is (a, p) = (a, p ∙ ap (λ v. cond v pending (pending ++ q ∷ [])) is)
-
-pub marks_here : (q : ℕ) (flags flags' : List Bool) (pending pending' : List ℕ) → q < length flags → Marks q flags pending flags' pending' → is_marked flags' q ≡ true
-marks_here q flags flags' pending pending' lt (a, p) = ap (λ fs. is_marked fs q) a ∙ marked_here flags q lt
-
-pub marks_kept : (q x : ℕ) (flags flags' : List Bool) (pending pending' : List ℕ) → q < length flags → Marks q flags pending flags' pending' → is_marked flags x ≡ true → is_marked flags' x ≡ true
-marks_kept q x flags flags' pending pending' lt (a, p) marked = ap (λ fs. is_marked fs x) a ∙ marked_kept flags q x marked lt
-
--- it is pending, or was marked before
-marks_pending : (q x : ℕ) (flags flags' : List Bool) (pending pending' : List ℕ) → Marks q flags pending flags' pending' → is_marked flags' x ≡ true → (contains pending' x ≡ true) ⊎ (is_marked flags x ≡ true)
-marks_pending q x flags flags' pending pending' (a, p) marked =
-    elim (marked_cases flags q x (sym (ap (λ fs. is_marked fs x) a) ∙ marked)) [
-      | inl same ↦ by_flag (is_marked flags q) refl same
-      | inr before ↦ inr before
-    ]
-  where
-    by_flag : (b : Bool) → is_marked flags q ≡ b → x ≡ q → (contains pending' x ≡ true) ⊎ (is_marked flags x ≡ true)
-    by_flag true on same = inr (ap (is_marked flags) same ∙ on)
-    by_flag false off same =
-        let w = marks_with q flags flags' pending pending' false off (a, p) in
-        inl (ap (λ ys. contains ys x) w.1 ∙ ap (contains (pending ++ q ∷ [])) same ∙ contains-push_last pending q)
-
-marks_waits : (q x : ℕ) (flags flags' : List Bool) (pending pending' : List ℕ) → Marks q flags pending flags' pending' → contains pending x ≡ true → contains pending' x ≡ true
-marks_waits q x flags flags' pending pending' (a, p) there = by_flag (is_marked flags q) refl
-  where
-    by_flag : (b : Bool) → is_marked flags q ≡ b → contains pending' x ≡ true
-    by_flag true on = ap (λ ys. contains ys x) (marks_with q flags flags' pending pending' true on (a, p)).1 ∙ there
-    by_flag false off = ap (λ ys. contains ys x) (marks_with q flags flags' pending pending' false off (a, p)).1 ∙ contains-push_kept pending q x there
-
-marks_waiting : (q x : ℕ) (flags flags' : List Bool) (pending pending' : List ℕ) → Marks q flags pending flags' pending' → contains pending' x ≡ true → (contains pending x ≡ true) ⊎ (q ≡ x)
-marks_waiting q x flags flags' pending pending' (a, p) there = by_flag (is_marked flags q) refl
-  where
-    by_flag : (b : Bool) → is_marked flags q ≡ b → (contains pending x ≡ true) ⊎ (q ≡ x)
-    by_flag true on = inl (sym (ap (λ ys. contains ys x) (marks_with q flags flags' pending pending' true on (a, p)).1) ∙ there)
-    by_flag false off = contains-push_cases pending q x (sym (ap (λ ys. contains ys x) (marks_with q flags flags' pending pending' false off (a, p)).1) ∙ there)
-
-pub marks_work : (q : ℕ) (flags flags' : List Bool) (pending pending' : List ℕ) → q < length flags → Marks q flags pending flags' pending' → work flags' pending' ≤ work flags pending
-marks_work q flags flags' pending pending' lt (a, p) = by_flag (is_marked flags q) refl
-  where
-    by_flag : (b : Bool) → is_marked flags q ≡ b → work flags' pending' ≤ work flags pending
-    by_flag true on =
-        let w = marks_with q flags flags' pending pending' true on (a, p) in
-        rw (w.0, w.1, unmarked_same flags q on) (omega arith)
-    by_flag false off =
-        let w = marks_with q flags flags' pending pending' false off (a, p) in
-        let less = unmarked_less flags q lt off in
-        rw (w.0, w.1) (omega (arith, length-append pending (q ∷ [])))
-
--- marking a live square keeps what the filling keeps
-pub spread_mark : (board : Board) (Asked : ℕ → Type 0) (Due : ℕ → Dir → Type 0) (q : ℕ) (flags flags' : List Bool) (pending pending' : List ℕ) → q < length flags → Live board q → Marks q flags pending flags' pending' → IsSpread board Asked Due flags pending → IsSpread board Asked Due flags' pending'
-spread_mark board Asked Due q flags flags' pending pending' lt live marks spread = record {
-  size = ap length marks.0 ∙ length-set flags q true ∙ spread.size;
-  sound = λ x marked. elim (marked_cases flags q x (sym (ap (λ fs. is_marked fs x) marks.0) ∙ marked)) [
-    | inl same ↦ subst (Live board) (sym same) live
-    | inr before ↦ spread.sound x before
-  ];
-  goals = λ x asked goal. kept x (spread.goals x asked goal);
-  waiting = λ x there. elim (marks_waiting q x flags flags' pending pending' marks there) [
-    | inl before ↦ kept x (spread.waiting x before)
-    | inr same ↦ subst (λ y. is_marked flags' y ≡ true) same (marks_here q flags flags' pending pending' lt marks)
-  ];
-  closed = λ x marked. elim (marks_pending q x flags flags' pending pending' marks marked) [
-    | inl there ↦ inl there
-    | inr before ↦ elim (spread.closed x before) [
-      | inl there ↦ inl (marks_waits q x flags flags' pending pending' marks there)
-      | inr pulled ↦ inr (λ d due pull. kept (next board x d) (pulled d due pull))
-    ]
-  ];
-}
-  where
-    kept : (x : ℕ) → is_marked flags x ≡ true → is_marked flags' x ≡ true
-    kept x marked = marks_kept q x flags flags' pending pending' lt marks marked
-
--- at the start nothing is marked
-pub spread_none : (board : Board) → IsSpread board (λ q. q < 0) (λ _ _. Unit {0}) (replicate (length board.cells) false) []
-spread_none board = record {
-  size = length-replicate (length board.cells) false;
-  sound = λ q marked. absurd (none (length board.cells) q marked);
-  goals = λ q asked goal. absurd (omega arith);
-  waiting = λ q there. absurd (false≢true there);
-  closed = λ q marked. absurd (none (length board.cells) q marked);
-}
-  where
-    none : (n q : ℕ) → ¬ (is_marked (replicate n false) q ≡ true)
-    none zero q marked = false≢true marked
-    none (suc n) zero marked = false≢true marked
-    none (suc n) (suc q) marked = none n q marked
 
 -- what is said of equal lists
-pub spread_along : (board : Board) (Asked : ℕ → Type 0) (Due : ℕ → Dir → Type 0) (flags flags' : List Bool) (pending pending' : List ℕ) → flags' ≡ flags → pending' ≡ pending → IsSpread board Asked Due flags pending → IsSpread board Asked Due flags' pending'
-spread_along board Asked Due flags flags' pending pending' same still spread =
-    subst (λ ys. IsSpread board Asked Due flags' ys) (sym still) (subst (λ fs. IsSpread board Asked Due fs pending) (sym same) spread)
+pub spread_along : (board : Board) (Asked : ℕ → Type 0) (Due : ℕ → Dir → Type 0) (k : ℕ) (far far' : List (Option ℕ)) (due marked marked' : List ℕ) → far' ≡ far → marked' ≡ marked → IsSpread board Asked Due k far due marked → IsSpread board Asked Due k far' due marked'
+spread_along board Asked Due k far far' due marked marked' same still spread =
+    subst (λ ys. IsSpread board Asked Due k far' due ys) (sym still) (subst (λ fs. IsSpread board Asked Due k fs due marked) (sym same) spread)
+
+spread_set : (board : Board) (Asked : ℕ → Type 0) (Due : ℕ → Dir → Type 0) (k q : ℕ) (far : List (Option ℕ)) (due marked : List ℕ) → q < length far → HasWay board q k → far_at far q ≡ None → IsSpread board Asked Due k far due marked → IsSpread board Asked Due k (set far q (Some k)) due (marked ++ q ∷ [])
+spread_set board Asked Due k q far due marked lt way none spread = record {
+  size = length-set far q (Some k) ∙ spread.size;
+  sound = λ x n at. elim (set_cases far q k x n lt at) [
+    | inl same ↦ subst (λ y. HasWay board y n) (sym same.0) (subst (HasWay board q) (sym same.1) way)
+    | inr old ↦ spread.sound x n old
+  ];
+  goals = λ x asked goal. kept x 0 (spread.goals x asked goal);
+  most = λ x n at. elim (set_cases far q k x n lt at) [
+    | inl same ↦ omega (arith, same.1)
+    | inr old ↦ spread.most x n old
+  ];
+  before = λ x there. let (n, at, e) = spread.before x there in (n, kept x n at, e);
+  last = λ x there. elim (contains-push_cases marked q x there) [
+    | inl old ↦ kept x k (spread.last x old)
+    | inr same ↦ subst (λ y. far_at (set far q (Some k)) y ≡ Some k) same (set_here far q k lt)
+  ];
+  closed = λ x n at. elim (set_cases far q k x n lt at) [
+    | inl same ↦ inr (inl (subst (λ y. contains (marked ++ q ∷ []) y ≡ true) (sym same.0) (contains-push_last marked q)))
+    | inr old ↦ elim (spread.closed x n old) [
+      | inl there ↦ inl there
+      | inr (inl there) ↦ inr (inl (contains-push_kept marked q x there))
+      | inr (inr pulled) ↦ inr (inr (λ d asked pull. let (m, known, le) = pulled d asked pull in (m, kept (next board x d) m known, le)))
+    ]
+  ];
+}
+  where
+    kept : (x n : ℕ) → far_at far x ≡ Some n → far_at (set far q (Some k)) x ≡ Some n
+    kept x n at = set_kept far q k x n none at
+
+-- marking a square that has a way of k pushes keeps what a turn keeps
+pub spread_mark : (board : Board) (Asked : ℕ → Type 0) (Due : ℕ → Dir → Type 0) (k q : ℕ) (far far' : List (Option ℕ)) (due marked marked' : List ℕ) → q < length far → HasWay board q k → Marks k q far marked far' marked' → IsSpread board Asked Due k far due marked → IsSpread board Asked Due k far' due marked'
+spread_mark board Asked Due k q far far' due marked marked' lt way marks spread =
+    elim (marks_split k q far far' marked marked' marks) [
+      | inl (n, at, same, still) ↦ spread_along board Asked Due k far far' due marked marked' same still spread
+      | inr (none, same, still) ↦ spread_along board Asked Due k (set far q (Some k)) far' due (marked ++ q ∷ []) marked' same still (spread_set board Asked Due k q far due marked lt way none spread)
+    ]
+
+-- and the square is known then
+pub marks_here : (board : Board) (Asked : ℕ → Type 0) (Due : ℕ → Dir → Type 0) (k q : ℕ) (far far' : List (Option ℕ)) (due marked marked' : List ℕ) → q < length far → Marks k q far marked far' marked' → IsSpread board Asked Due k far due marked → IsKnownWithin far' q k
+marks_here board Asked Due k q far far' due marked marked' lt marks spread =
+    elim (marks_split k q far far' marked marked' marks) [
+      | inl (n, at, same, still) ↦ (n, ap (λ fs. far_at fs q) same ∙ at, spread.most q n at)
+      | inr (none, same, still) ↦ (k, ap (λ fs. far_at fs q) same ∙ set_here far q k lt, omega arith)
+    ]
+
+unknown_less : (far : List (Option ℕ)) (q k : ℕ) → q < length far → far_at far q ≡ None → suc (unknown (set far q (Some k))) ≡ unknown far
+unknown_less [] q k lt none = absurd (omega arith)
+unknown_less (Some n ∷ far) zero k lt none = absurd (false≢true (ap is_some (sym none)))
+unknown_less (None ∷ far) zero k lt none = refl
+unknown_less (Some n ∷ far) (suc q) k lt none = unknown_less far q k (omega arith) none
+unknown_less (None ∷ far) (suc q) k lt none = ap suc (unknown_less far q k (omega arith) none)
+
+pub marks_count : (k q : ℕ) (far far' : List (Option ℕ)) (marked marked' : List ℕ) → q < length far → Marks k q far marked far' marked' → length marked' + unknown far' ≤ length marked + unknown far
+marks_count k q far far' marked marked' lt marks =
+    elim (marks_split k q far far' marked marked' marks) [
+      | inl (n, at, same, still) ↦ rw (same, still) (omega arith)
+      | inr (none, same, still) ↦ rw (same, still) (omega (arith, unknown_less far q k lt none, length-append marked (q ∷ [])))
+    ]
+
+-- ---- the goals
+
+-- what has a property that no number has is no number
+pub only_none : (P : Option ℕ → Type 0) → ((n : ℕ) → P (Some n) → ⊥) → (y : Option ℕ) → P y → y ≡ None
+only_none P never None p = refl
+only_none P never (Some n) p = absurd (never n p)
+
+-- at the start nothing is known
+pub spread_none : (board : Board) → IsSpread board (λ q. q < 0) (λ _ _. Unit {0}) 0 (replicate (length board.cells) None) [] []
+spread_none board = record {
+  size = length-replicate (length board.cells) None;
+  sound = λ q n at. absurd (none (length board.cells) q n at);
+  goals = λ q asked goal. absurd (omega arith);
+  most = λ q n at. absurd (none (length board.cells) q n at);
+  before = λ q there. absurd (false≢true there);
+  last = λ q there. absurd (false≢true there);
+  closed = λ q n at. absurd (none (length board.cells) q n at);
+}
+  where
+    none : (size q n : ℕ) → ¬ (far_at (replicate size None) q ≡ Some n)
+    none zero q n at = false≢true (ap is_some at)
+    none (suc size) zero n at = false≢true (ap is_some at)
+    none (suc size) (suc q) n at = none size q n at
 
 -- one more square was asked for
-pub spread_more : (board : Board) (i : ℕ) (flags : List Bool) (pending : List ℕ) → (is_goal board i ≡ true → is_marked flags i ≡ true) → IsSpread board (λ q. q < i) (λ _ _. Unit {0}) flags pending → IsSpread board (λ q. q < i + 1) (λ _ _. Unit {0}) flags pending
-spread_more board i flags pending here spread = record {
+pub spread_more : (board : Board) (i : ℕ) (far : List (Option ℕ)) (marked : List ℕ) → (is_goal board i ≡ true → IsKnownWithin far i 0) → IsSpread board (λ q. q < i) (λ _ _. Unit {0}) 0 far [] marked → IsSpread board (λ q. q < i + 1) (λ _ _. Unit {0}) 0 far [] marked
+spread_more board i far marked here spread = record {
   size = spread.size;
   sound = spread.sound;
   goals = λ q asked goal. elim (eqb_tells q i) [
-    | inl same ↦ subst (λ y. is_marked flags y ≡ true) (sym same.1) (here (subst (λ y. is_goal board y ≡ true) same.1 goal))
+    | inl same ↦ subst (λ y. far_at far y ≡ Some 0) (sym same.1) (nought (here (subst (λ y. is_goal board y ≡ true) same.1 goal)))
     | inr other ↦ spread.goals q (below q i asked other.1) goal
   ];
-  waiting = spread.waiting;
+  most = spread.most;
+  before = spread.before;
+  last = spread.last;
   closed = spread.closed;
 }
   where
     below : (q i : ℕ) → q < i + 1 → q ≢ i → q < i
     below q i lt ne = omega arith
 
+    nought : IsKnownWithin far i 0 → far_at far i ≡ Some 0
+    nought (n, at, le) = let none : n ≡ 0 = omega (arith, le) in at ∙ ap Some none
+
 -- all squares were asked for
-pub spread_goals : (board : Board) (i : ℕ) (flags : List Bool) (pending : List ℕ) → length board.cells ≤ i → IsSpread board (λ q. q < i) (λ _ _. Unit {0}) flags pending → IsFilling board flags pending
-spread_goals board i flags pending all spread = record {
+pub spread_goals : (board : Board) (i : ℕ) (far : List (Option ℕ)) (marked : List ℕ) → length board.cells ≤ i → IsSpread board (λ q. q < i) (λ _ _. Unit {0}) 0 far [] marked → IsFilling board 0 far [] marked
+spread_goals board i far marked all spread = record {
   size = spread.size;
   sound = spread.sound;
   goals = λ q asked goal. let lt = inside_grid board q (goal_floor board q goal) in spread.goals q (omega arith) goal;
-  waiting = spread.waiting;
+  most = spread.most;
+  before = spread.before;
+  last = spread.last;
   closed = spread.closed;
 }
 
--- from the square s a box was pulled in the first k directions, from all others in all
-abbrev pub DueBut : ℕ → ℕ → ℕ → Dir → Type 0
-DueBut s k q d = q ≡ s → dir_number d < k
+-- with a goal marked, fewer squares are unknown than there are
+pub few_unknown : (board : Board) (far : List (Option ℕ)) (marked : List ℕ) → IsFilling board 0 far [] marked → unknown far ≤ length board.cells
+few_unknown board far marked filling = subst (λ n. unknown far ≤ n) filling.size (at_most far)
+  where
+    at_most : (xs : List (Option ℕ)) → unknown xs ≤ length xs
+    at_most [] = omega arith
+    at_most (Some n ∷ xs) = let le = at_most xs in omega (arith, le)
+    at_most (None ∷ xs) = let le = at_most xs in omega (arith, le)
+
+-- ---- a turn
+
+-- what was marked last is due in the next turn
+pub spread_turn : (board : Board) (k : ℕ) (far : List (Option ℕ)) (marked : List ℕ) → IsFilling board k far [] marked → IsFilling board (suc k) far marked []
+spread_turn board k far marked spread = record {
+  size = spread.size;
+  sound = spread.sound;
+  goals = spread.goals;
+  most = λ q n at. let le = spread.most q n at in omega (arith, le);
+  before = λ q there. (k, spread.last q there, refl);
+  last = λ q there. absurd (false≢true there);
+  closed = λ q n at. elim (spread.closed q n at) [
+    | inl none ↦ absurd (false≢true none)
+    | inr (inl there) ↦ inl there
+    | inr (inr pulled) ↦ inr (inr pulled)
+  ];
+}
 
 -- directions of one number are one
 same_dir : (d e : Dir) → dir_number d ≡ dir_number e → d ≡ e
@@ -239,73 +315,105 @@ same_dir U L h = absurd (omega arith)
 same_dir U R h = absurd (omega arith)
 same_dir U U h = refl
 
--- a pending square is taken up
-pub spread_pop : (board : Board) (s : ℕ) (flags : List Bool) (pending pending' : List ℕ) → pending ≡ pending' ++ s ∷ [] → IsFilling board flags pending → IsSpread board (λ _. Unit {0}) (DueBut s 0) flags pending'
-spread_pop board s flags pending pending' popped spread = record {
-  size = spread.size;
-  sound = spread.sound;
-  goals = spread.goals;
-  waiting = λ q there. spread.waiting q (ap (λ ys. contains ys q) popped ∙ contains-push_kept pending' s q there);
-  closed = λ q marked. elim (spread.closed q marked) [
-    | inl there ↦ elim (contains-push_cases pending' s q (sym (ap (λ ys. contains ys q) popped) ∙ there)) [
-      | inl before ↦ inl before
-      | inr same ↦ inr (λ d due. let none : dir_number d < 0 = due (sym same) in absurd (omega arith))
-    ]
-    | inr pulled ↦ inr (λ d due. pulled d tt)
-  ];
+-- a square that is due is taken up
+pub spread_pop : (board : Board) (k s : ℕ) (far : List (Option ℕ)) (due due' marked : List ℕ) → due ≡ due' ++ s ∷ [] → IsFilling board k far due marked → IsDue board k s 0 far due' marked
+spread_pop board k s far due due' marked popped spread = record {
+  here = spread.before s (ap (λ ys. contains ys s) popped ∙ contains-push_last due' s);
+  spread = record {
+    size = spread.size;
+    sound = spread.sound;
+    goals = spread.goals;
+    most = spread.most;
+    before = λ q there. spread.before q (ap (λ ys. contains ys q) popped ∙ contains-push_kept due' s q there);
+    last = spread.last;
+    closed = λ q n at. elim (spread.closed q n at) [
+      | inl there ↦ elim (contains-push_cases due' s q (sym (ap (λ ys. contains ys q) popped) ∙ there)) [
+        | inl old ↦ inl old
+        | inr same ↦ inr (inr (λ d due. let none : dir_number d < 0 = due (sym same) in absurd (omega arith)))
+      ]
+      | inr (inl there) ↦ inr (inl there)
+      | inr (inr pulled) ↦ inr (inr (λ d due. pulled d tt))
+    ];
+  };
 }
 
-pub popped_live : (board : Board) (s : ℕ) (flags : List Bool) (pending pending' : List ℕ) → pending ≡ pending' ++ s ∷ [] → IsFilling board flags pending → Live board s
-popped_live board s flags pending pending' popped spread =
-    spread.sound s (spread.waiting s (ap (λ ys. contains ys s) popped ∙ contains-push_last pending' s))
-
 -- one direction more, where a box cannot be pulled or was
-spread_due : (board : Board) (s k : ℕ) (d : Dir) (flags : List Bool) (pending : List ℕ) → dir_number d ≡ k → (CanPull board s d → is_marked flags (next board s d) ≡ true) → IsSpread board (λ _. Unit {0}) (DueBut s k) flags pending → IsSpread board (λ _. Unit {0}) (DueBut s (k + 1)) flags pending
-spread_due board s k d flags pending number done spread = record {
-  size = spread.size;
-  sound = spread.sound;
-  goals = spread.goals;
-  waiting = spread.waiting;
-  closed = λ q marked. elim (spread.closed q marked) [
-    | inl there ↦ inl there
-    | inr pulled ↦ inr (λ e due pull. elim (eqb_tells q s) [
-      | inl same ↦ elim (eqb_tells (dir_number e) k) [
-        | inl last ↦ subst (λ p. is_marked flags p ≡ true) (sym (ap (λ p. next board p e) same.1 ∙ ap (next board s) (same_dir e d (last.1 ∙ sym number))))
-            (done (subst (λ p. CanPull board s p) (same_dir e d (last.1 ∙ sym number)) (subst (λ p. CanPull board p e) same.1 pull)))
-        | inr early ↦ pulled e (λ _. earlier (dir_number e) k (due same.1) early.1) pull
-      ]
-      | inr other ↦ pulled e (λ same. absurd (other.1 same)) pull
-    ])
-  ];
+spread_due : (board : Board) (k s i : ℕ) (d : Dir) (far : List (Option ℕ)) (due marked : List ℕ) → dir_number d ≡ i → (CanPull board s d → IsKnownWithin far (next board s d) k) → IsDue board k s i far due marked → IsDue board k s (i + 1) far due marked
+spread_due board k s i d far due marked number done before = record {
+  here = before.here;
+  spread = record {
+    size = before.spread.size;
+    sound = before.spread.sound;
+    goals = before.spread.goals;
+    most = before.spread.most;
+    before = before.spread.before;
+    last = before.spread.last;
+    closed = λ q n at. elim (before.spread.closed q n at) [
+      | inl there ↦ inl there
+      | inr (inl there) ↦ inr (inl there)
+      | inr (inr pulled) ↦ inr (inr (λ e due pull. elim (eqb_tells q s) [
+        | inl same ↦ elim (eqb_tells (dir_number e) i) [
+          | inl last ↦
+              let turned = same_dir e d (last.1 ∙ sym number) in
+              let known = done (subst (λ p. CanPull board s p) turned (subst (λ p. CanPull board p e) same.1 pull)) in
+              subst (λ p. IsKnownWithin far p (suc n)) (sym (ap (λ p. next board p e) same.1 ∙ ap (next board s) turned))
+              (subst (IsKnownWithin far (next board s d)) (steps n (subst (λ y. far_at far y ≡ Some n) same.1 at)) known)
+          | inr early ↦ pulled e (λ _. earlier (dir_number e) i (due same.1) early.1) pull
+        ]
+        | inr other ↦ pulled e (λ same. absurd (other.1 same)) pull
+      ]))
+    ];
+  };
 }
   where
     earlier : (m n : ℕ) → m < n + 1 → m ≢ n → m < n
     earlier m n lt ne = omega arith
 
--- a pull in the next direction
-pub spread_pull : (board : Board) (s k : ℕ) (d : Dir) (flags flags' : List Bool) (pending pending' : List ℕ) → dir_number d ≡ k → Live board s → Pulls board s d flags pending flags' pending' → IsSpread board (λ _. Unit {0}) (DueBut s k) flags pending → IsSpread board (λ _. Unit {0}) (DueBut s (k + 1)) flags' pending'
-spread_pull board s k d flags flags' pending pending' number live (inl (pull, marks)) spread =
-    let lt : next board s d < length flags = subst (λ n. next board s d < n) (sym spread.size) (inside_grid board (next board s d) pull.0) in
-    spread_due board s k d flags' pending' number (λ _. marks_here (next board s d) flags flags' pending pending' lt marks)
-    (spread_mark board (λ _. Unit {0}) (DueBut s k) (next board s d) flags flags' pending pending' lt (live_pulled board s d live pull) marks spread)
-spread_pull board s k d flags flags' pending pending' number live (inr (stuck, same, still)) spread =
-    spread_along board (λ _. Unit {0}) (DueBut s (k + 1)) flags flags' pending pending' same still (spread_due board s k d flags pending number (λ pull. absurd (stuck pull)) spread)
+    steps : (n : ℕ) → far_at far s ≡ Some n → k ≡ suc n
+    steps n at = let (j, known, e) = before.here in sym e ∙ ap suc (some_injective far s j n known at)
 
-pub pull_work : (board : Board) (s : ℕ) (d : Dir) (flags flags' : List Bool) (pending pending' : List ℕ) → length flags ≡ length board.cells → Pulls board s d flags pending flags' pending' → work flags' pending' ≤ work flags pending
-pull_work board s d flags flags' pending pending' size (inl (pull, marks)) =
-    marks_work (next board s d) flags flags' pending pending' (subst (λ n. next board s d < n) (sym size) (inside_grid board (next board s d) pull.0)) marks
-pull_work board s d flags flags' pending pending' size (inr (stuck, same, still)) = rw (same, still) (omega arith)
+-- the square that is due keeps its distance where another is marked
+here_kept : (k q s : ℕ) (far far' : List (Option ℕ)) (marked marked' : List ℕ) → Marks k q far marked far' marked' → (n : ℕ) × (far_at far s ≡ Some n) × (suc n ≡ k) → (n : ℕ) × (far_at far' s ≡ Some n) × (suc n ≡ k)
+here_kept k q s far far' marked marked' marks (n, at, e) =
+    elim (marks_split k q far far' marked marked' marks) [
+      | inl (m, old, same, still) ↦ (n, ap (λ fs. far_at fs s) same ∙ at, e)
+      | inr (none, same, still) ↦ (n, ap (λ fs. far_at fs s) same ∙ set_kept far q k s n none at, e)
+    ]
+
+-- a pull in the next direction
+pub spread_pull : (board : Board) (k s i : ℕ) (d : Dir) (far far' : List (Option ℕ)) (due marked marked' : List ℕ) → dir_number d ≡ i → Pulls board k s d far marked far' marked' → IsDue board k s i far due marked → IsDue board k s (i + 1) far' due marked'
+spread_pull board k s i d far far' due marked marked' number (inl (pull, marks)) before =
+    let lt : next board s d < length far = subst (λ n. next board s d < n) (sym before.spread.size) (inside_grid board (next board s d) pull.0) in
+    let (n, at, e) = before.here in
+    let way : HasWay board (next board s d) k = subst (HasWay board (next board s d)) e (way_pulled board s n d (before.spread.sound s n at) pull) in
+    spread_due board k s i d far' due marked' number
+    (λ _. marks_here board (λ _. Unit {0}) (DueBut s i) k (next board s d) far far' due marked marked' lt marks before.spread)
+    (record {
+      here = here_kept k (next board s d) s far far' marked marked' marks before.here;
+      spread = spread_mark board (λ _. Unit {0}) (DueBut s i) k (next board s d) far far' due marked marked' lt way marks before.spread;
+    })
+spread_pull board k s i d far far' due marked marked' number (inr (stuck, same, still)) before =
+    subst (λ ys. IsDue board k s (i + 1) far' due ys) (sym still)
+    (subst (λ fs. IsDue board k s (i + 1) fs due marked) (sym same) (spread_due board k s i d far due marked number (λ pull. absurd (stuck pull)) before))
+
+pub pull_count : (board : Board) (k s : ℕ) (d : Dir) (far far' : List (Option ℕ)) (marked marked' : List ℕ) → length far ≡ length board.cells → Pulls board k s d far marked far' marked' → length marked' + unknown far' ≤ length marked + unknown far
+pull_count board k s d far far' marked marked' size (inl (pull, marks)) =
+    marks_count k (next board s d) far far' marked marked' (subst (λ n. next board s d < n) (sym size) (inside_grid board (next board s d) pull.0)) marks
+pull_count board k s d far far' marked marked' size (inr (stuck, same, still)) = rw (same, still) (omega arith)
 
 -- all directions were taken
-pub spread_all : (board : Board) (s : ℕ) (flags : List Bool) (pending : List ℕ) → IsSpread board (λ _. Unit {0}) (DueBut s 4) flags pending → IsFilling board flags pending
-spread_all board s flags pending spread = record {
-  size = spread.size;
-  sound = spread.sound;
-  goals = spread.goals;
-  waiting = spread.waiting;
-  closed = λ q marked. elim (spread.closed q marked) [
+pub spread_all : (board : Board) (k s : ℕ) (far : List (Option ℕ)) (due marked : List ℕ) → IsDue board k s 4 far due marked → IsFilling board k far due marked
+spread_all board k s far due marked before = record {
+  size = before.spread.size;
+  sound = before.spread.sound;
+  goals = before.spread.goals;
+  most = before.spread.most;
+  before = before.spread.before;
+  last = before.spread.last;
+  closed = λ q n at. elim (before.spread.closed q n at) [
     | inl there ↦ inl there
-    | inr pulled ↦ inr (λ d due pull. pulled d (λ _. four d) pull)
+    | inr (inl there) ↦ inr (inl there)
+    | inr (inr pulled) ↦ inr (inr (λ d due pull. pulled d (λ _. four d) pull))
   ];
 }
   where

@@ -1,3 +1,4 @@
+pub mod Bounds
 pub mod Deadlocks
 pub mod Lost
 pub mod Loose

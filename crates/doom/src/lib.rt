@@ -2,6 +2,7 @@
 #![tactic(auto)]
 
 mod after;
+mod bound;
 mod dead;
 mod freeze;
 mod holds;
@@ -13,6 +14,7 @@ mod pulls;
 mod tests;
 
 pub use after::doomed_after;
+pub use bound::Bound;
 pub use dead::Dead;
 pub use freeze::doomed;
 pub use loose::is_loose;

@@ -1,71 +1,124 @@
-ghost use Rattle.std.specs.Prelude.{◌≡◌, ◌<◌, OnOk, IfOk, vec_len, length};
-ghost use Rattle.doom.specs.inside.Pulling.{AreLiveFlags, IsFilling, Marks, Pulls};
+//! From which squares a lone box can be pushed to a goal, and how far it is: found from the goals, backwards, by pulls.
+ghost use Rattle.std.specs.Prelude.{◌≡◌, ◌+◌, ◌<◌, ◌≤◌, Some, OnOk, IfOk, [], vec_len, length};
+ghost use Rattle.doom.specs.inside.Pulling.{AreDistances, AreLiveFlags, IsDue, IsFilling, IsTurn, Marks, Pulls, far_at, unknown};
 
 use grid::{Dir, Level, Square};
 use std::alloc::{AllocError, Global};
+use std::mem;
 
 /// For each square of the level, whether it is live: a lone box on it can be pushed to some goal.
 pub(crate) fn live_flags(alloc: Global, level: &Level) -> Result<Vec<bool>, AllocError>
     ensures { IfOk result (λ flags. AreLiveFlags level.now flags.items) }
 {
-    let mut found = Found::goals(alloc, level)?;
-    while let Some(square) = found.pending.pop() {
-        for dir in Dir::ALL {
-            found.pull(level, square, dir)?;
-        }
+    let far = distances(alloc, level)?;
+    let mut flags = Vec::with_capacity(alloc, far.len())?;
+    for steps in far.as_slice() {
+        flags.push(steps.is_some())?;
     }
-    Ok(found.live)
+    Ok(flags)
 }
 
-/// The squares that were found to be live, and those of them that no box was pulled from yet.
+/// For each square of the level the least number of pushes that bring a lone box on it to a goal; none where there are
+/// no such pushes.
+pub(crate) fn distances(alloc: Global, level: &Level) -> Result<Vec<Option<u16>>, AllocError>
+    ensures { IfOk result (λ far. AreDistances level.now far.items) }
+{
+    let mut found = Found::goals(alloc, level)?;
+    level.tell();
+    let mut steps = 0;
+    while !found.marked.is_empty() {
+        steps += 1;
+        mem::swap(&mut found.due, &mut found.marked);
+        found.turn(level, steps)?;
+    }
+    Ok(found.far)
+}
+
+/// The distances that were found so far, the squares that were found last but for one push, from which no box was
+/// pulled yet, and those found last.
 #[derive(Drop)]
 struct Found {
-    live: Vec<bool>,
-    pending: Vec<Square>,
+    far: Vec<Option<u16>>,
+    due: Vec<Square>,
+    marked: Vec<Square>,
 }
 
 impl Found {
-    /// The goals, which are live.
+    /// The goals, which need no push.
     fn goals(alloc: Global, level: &Level) -> Result<Found, AllocError>
-        ensures { IfOk result (λ found. IsFilling level.now found.live.items found.pending.items) }
+        ensures filling { IfOk result (λ found. IsFilling level.now 0 found.far.items [] found.marked.items) }
+        ensures due { IfOk result (λ found. found.due.items ≡ []) }
     {
         level.tell();
         let squares = level.squares();
         let mut found = Found {
-            live: vec![in alloc; false; squares]?,
-            pending: Vec::with_capacity(alloc, squares)?,
+            far: vec![in alloc; None; squares]?,
+            due: Vec::with_capacity(alloc, squares)?,
+            marked: Vec::with_capacity(alloc, squares)?,
         };
         for index in 0..squares {
             let square = Square(index as u16);
             if level.is_goal(square) {
-                found.mark(square)?;
+                found.mark(square, 0)?;
             }
         }
         Ok(found)
     }
 
-    /// Pulls a box one square on from a live square, where it and the player have room: that square is live too.
-    fn pull(&mut self, level: &Level, square: Square, dir: Dir) -> Result<(), AllocError>
+    /// Pulls a box from each square that is due, whose distance is one less than `steps`.
+    fn turn(&mut self, level: &Level, steps: u16) -> Result<(), AllocError>
+        requires before { IsFilling level.now steps self.old.far.items self.old.due.items self.old.marked.items }
+        ensures { OnOk result (IsTurn level.now steps self.old.far.items self.old.marked.items self.new.far.items self.new.due.items self.new.marked.items) }
+    {
+        while let Some(square) = self.due.pop() {
+            self.pull_around(level, square, steps)?;
+        }
+        Ok(())
+    }
+
+    /// Pulls a box one square on from a square in each direction.
+    fn pull_around(&mut self, level: &Level, square: Square, steps: u16) -> Result<(), AllocError>
+        requires before { IsDue level.now steps square 0 self.old.far.items self.old.due.items self.old.marked.items }
+        ensures after { OnOk result (IsFilling level.now steps self.new.far.items self.new.due.items self.new.marked.items) }
+        ensures due { self.new.due.items ≡ self.old.due.items }
+        ensures count { OnOk result (vec_len self.new.marked + unknown self.new.far.items ≤ vec_len self.old.marked + unknown self.old.far.items) }
+    {
+        for dir in Dir::ALL {
+            self.pull(level, square, dir, steps)?;
+        }
+        Ok(())
+    }
+
+    /// Pulls a box one square on, where it and the player have room: where no distance is known there, it is `steps`.
+    fn pull(
+        &mut self,
+        level: &Level,
+        square: Square,
+        dir: Dir,
+        steps: u16,
+    ) -> Result<(), AllocError>
         requires inside { square < length level.now.cells }
-        requires size { vec_len self.old.live ≡ length level.now.cells }
-        ensures { OnOk result (Pulls level.now square dir self.old.live.items self.old.pending.items self.new.live.items self.new.pending.items) }
+        requires size { vec_len self.old.far ≡ length level.now.cells }
+        ensures pulls { OnOk result (Pulls level.now steps square dir self.old.far.items self.old.marked.items self.new.far.items self.new.marked.items) }
+        ensures due { self.new.due.items ≡ self.old.due.items }
     {
         let from = level.next(square, dir);
         if level.is_wall(from) || level.is_wall(level.next(from, dir)) {
             return Ok(());
         }
-        self.mark(from)
+        self.mark(from, steps)
     }
 
-    /// Notes that a square is live.
-    fn mark(&mut self, square: Square) -> Result<(), AllocError>
-        requires { square < vec_len self.old.live }
-        ensures { OnOk result (Marks square self.old.live.items self.old.pending.items self.new.live.items self.new.pending.items) }
+    /// Notes the distance of a square, unless one is known.
+    fn mark(&mut self, square: Square, steps: u16) -> Result<(), AllocError>
+        requires { square < vec_len self.old.far }
+        ensures marks { OnOk result (Marks steps square self.old.far.items self.old.marked.items self.new.far.items self.new.marked.items) }
+        ensures due { self.new.due.items ≡ self.old.due.items }
     {
         let index = square.0 as usize;
-        if !self.live[index] {
-            self.pending.push(square)?;
-            self.live[index] = true;
+        if self.far[index].is_none() {
+            self.marked.push(square)?;
+            self.far[index] = Some(steps);
         }
         Ok(())
     }

@@ -1,7 +1,7 @@
 ghost use Rattle.std.specs.Prelude.{◌≡◌, length};
 
 use crate::laws::{a_loose_box_dooms_nothing, doomed_are_lost, solution_is_safe};
-use crate::{Dead, doomed, doomed_after, is_loose};
+use crate::{Bound, Dead, doomed, doomed_after, is_loose};
 use area::Scratch;
 use grid::{Cell, Dir, Level, Position, Push, Square};
 use std::alloc::Global;
@@ -101,6 +101,27 @@ fn live_squares_are_those_that_reach_a_goal(rt: HostRuntime) -> Result<(), Fail>
                 "square {index}"
             );
         }
+    }
+    Ok(())
+}
+
+#[test]
+fn a_box_needs_pushes(rt: HostRuntime) -> Result<(), Fail> {
+    let level = level_of(&rt, rt.alloc(), THERE_AND_BACK)?;
+    let bound = Bound::of(rt.alloc(), &level)?;
+    let rows = [
+        (17, Some(0)),
+        (18, Some(1)),
+        (19, Some(2)),
+        (20, Some(3)),
+        (21, Some(4)),
+        (22, None),
+        (12, None),
+    ];
+    for (square, pushes) in rows {
+        let position = Position::of(&[Square(square)], Square(28)).ok_or("no position")?;
+        assert!(rt; position.fits(&level));
+        assert_eq!(rt; bound.lower(&position), pushes, "square {square}");
     }
     Ok(())
 }

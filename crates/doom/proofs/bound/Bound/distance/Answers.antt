@@ -1,0 +1,6 @@
+use Rattle.std.proofs.Common.{rules}
+use Rattle.doom.proofs.Pulling.{distance_of}
+use Rattle.doom.proofs.bound.Bound.distance.Goals as goal
+
+pub returns : goal.returns
+returns c = search (rules, distance_of)
