@@ -1,5 +1,5 @@
 -- Layer 0, and a new book.
-use Rattle.std.proofs.Common.{◌≡◌, ℕ, zero, suc, ◌<◌, ◌≤◌, false, List, [], ◌∷◌, length, sum, drop, replicate, Bool, Option, Some, None, inl, refl, sym, ap, subst, ◌∙◌, arith}
+use Rattle.std.proofs.Common.{◌≡◌, ℕ, zero, suc, ◌<◌, ◌≤◌, false, List, [], ◌∷◌, ◌++◌, length, sum, drop, replicate, Bool, Option, Some, None, inl, inr, refl, sym, ap, subst, ◌∙◌, arith}
 use Rattle.std.proofs.lemmas.List.{length-replicate}
 use Rattle.std.proofs.lemmas.Option.{same_Some, none-some}
 use Rattle.std.specs.Prelude.{slice_get}
@@ -19,10 +19,10 @@ use Rattle.layers.specs.Reaching.{Reaches}
 use Rattle.layers.specs.Origins.{share_of}
 use Rattle.layers.specs.BookView.{BookView, Closed, IsShareOfLayer, AreBounds, IsLawfulBook}
 use Rattle.layers.specs.FoundView.{first_entries}
-use Rattle.layers.specs.inside.BookInside.{cut_at, AreCuts}
-use Rattle.layers.specs.Books.{IsNew}
+use Rattle.layers.specs.inside.BookInside.{cut_at, AreCuts, IsFirst}
+use Rattle.layers.specs.Books.{AreNewInOrder, IsNew}
 use Rattle.layers.proofs.lemmas.Books.{level_laws}
-use Rattle.layers.proofs.lemmas.Lists.{sum_by_first}
+use Rattle.layers.proofs.lemmas.Lists.{at-push, sum_by_first}
 use Rattle.layers.proofs.lemmas.Orders.{shortlex_shorter}
 
 -- with one share each position is of it
@@ -99,6 +99,20 @@ doomed_layer board shares share doomed = record {
   fits = λ i m o at. absurd (none-some (m, o) at);
 }
 
+-- layer 0 of a share by the first position of the level
+pub share_without : (board : Board) (shares share : ℕ) (first : Option Scene) → IsFirst board first → first ≡ None → IsShareOfLayer board shares share 0 []
+share_without board shares share first is none = doomed_layer board shares share (subst (IsFirst board) none is)
+
+pub share_with : (board : Board) → IsLevel board → (shares share : ℕ) (first : Option Scene) (m : Scene) → IsFirst board first → first ≡ Some m → share_of shares m ≡ share → IsShareOfLayer board shares share 0 ((m, None) ∷ [])
+share_with board level shares share first m is some own =
+    let w : IsFirst board (Some m) = subst (IsFirst board) some is in
+    first_layer board level shares share m w.0 w.1 w.2 own
+
+pub share_beside : (board : Board) → IsLevel board → (shares share : ℕ) (first : Option Scene) (m : Scene) → IsFirst board first → first ≡ Some m → ¬ (share_of shares m ≡ share) → IsShareOfLayer board shares share 0 []
+share_beside board level shares share first m is some other =
+    let w : IsFirst board (Some m) = subst (IsFirst board) some is in
+    other_layer board level shares share m w.0 w.1 other
+
 pub first_few : (m : Option Scene) → length (first_entries m) ≤ 1
 first_few None = omega arith
 first_few (Some m) = omega arith
@@ -168,3 +182,10 @@ module _ (board : Board) (limit workers share shares : ℕ) (starts tallies : Li
     tallies = tallies_are;
     over = refl;
   }
+
+-- ---- new books, one share after the other
+pub one_share_more : (board : Board) (limit workers share shares : ℕ) (books : List BookView) (book : BookView) → length books ≡ share → AreNewInOrder board limit workers shares books → IsNew board limit workers share shares book → AreNewInOrder board limit workers shares (books ++ book ∷ [])
+one_share_more board limit workers share shares books book long before last = λ i v at. elim (at-push books book i v at) [
+  | inl old ↦ before i v old
+  | inr new ↦ subst (λ k. IsNew board limit workers k shares v) (sym (new.0 ∙ long)) (subst (IsNew board limit workers share shares) (sym new.1) last)
+]

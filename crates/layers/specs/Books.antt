@@ -39,6 +39,14 @@ pub record IsNew (level : Board) (limit workers share shares : ℕ) (v : BookVie
   pub tallies : v.tallies ≡ replicate workers 0
   pub over : v.over ≡ false
 
+-- each of the books is new, and is the share of its place in the list
+abbrev pub AreNewInOrder : Board → ℕ → ℕ → ℕ → List BookView → Type 0
+AreNewInOrder level limit workers shares books = (i : ℕ) (v : BookView) → slice_get books i ≡ Some v → IsNew level limit workers i shares v
+
+-- the new books of all shares, share 0 first
+abbrev pub AreNewShares : Board → ℕ → ℕ → ℕ → List BookView → Type 0
+AreNewShares level limit workers shares books = (length books ≡ shares) × AreNewInOrder level limit workers shares books
+
 -- why no book is made
 abbrev pub BookRefused : Board → BookFault → Type 0
 BookRefused board TooManyBoxes = MAX_BOXES < box_count board

@@ -3,8 +3,8 @@ ghost use Rattle.grid.specs.Board.{start};
 ghost use Rattle.grid.specs.Lawful.{box_count};
 ghost use Rattle.grid.specs.States.{FitsLevel};
 ghost use Rattle.layers.specs.BookView.{AreBounds, IsLawfulBook, IsShareOfLayer, last_layer};
-ghost use Rattle.layers.specs.Books.{IsNew, BookRefused, closed_place};
-ghost use Rattle.layers.specs.inside.BookInside.{AreCuts, IsPiece};
+ghost use Rattle.layers.specs.Books.{AreNewShares, IsNew, BookRefused, closed_place};
+ghost use Rattle.layers.specs.inside.BookInside.{AreCuts, IsFirst, IsPiece};
 ghost use Rattle.layers.specs.FoundView.{first_entries};
 ghost use Rattle.std.specs.Arc.{arc_value};
 
@@ -90,14 +90,49 @@ impl Book {
         let Some(start) = Position::start(&level) else {
             return Err(BookFault::TooManyBoxes);
         };
-        let first = first_position(alloc, &level, &start, share, shares)?;
+        let dead = Dead::of(alloc, &level)?;
+        let mut scratch = Scratch::new(alloc, &level)?;
+        let first = first_position(&level, &dead, &start, &mut scratch);
         match Book::with_first(alloc, level, &first, limit, workers, share, shares) {
             Ok(book) => Ok(book),
             Err(_) => Err(BookFault::OutOfMemory),
         }
     }
 
-    // A book whose layer 0 is the first position, if there is one.
+    /// The books of all shares of the level's positions, share 0 first, each as [`Book::of`] makes it. What all of them
+    /// want is found once, by the dead squares and the scratch that are lent. The only errors are that the level has
+    /// more boxes than [`MAX_BOXES`](grid::MAX_BOXES), and that memory was refused.
+    pub fn of_all_shares(
+        alloc: Global,
+        level: &Arc<Level>,
+        dead: &Dead,
+        limit: u32,
+        workers: u8,
+        shares: u8,
+        scratch: &mut Scratch,
+    ) -> Result<Vec<Book>, BookFault>
+        requires dead_of_level { dead.now ≡ arc_value level.now }
+        requires limit { 1 ≤ limit }
+        requires workers { (1 ≤ workers) × (workers ≤ MAX_WORKERS + 1) }
+        requires shares { (1 ≤ shares) × (shares ≤ MAX_SHARES) }
+        requires room { scratch.old.size ≡ length (arc_value level.now).cells }
+        ensures ok { IfOk result (λ books. AreNewShares (arc_value level.now) limit workers shares books.items) }
+        ensures variant { MatchResult result (λ books. box_count (arc_value level.now) ≤ MAX_BOXES) (λ fault. BookRefused (arc_value level.now) fault) }
+        ensures size { scratch.new.size ≡ scratch.old.size }
+    {
+        level.tell();
+        level.tell_start();
+        let Some(start) = Position::start(level) else {
+            return Err(BookFault::TooManyBoxes);
+        };
+        let first = first_position(level, dead, &start, scratch);
+        match all_with_first(alloc, level, &first, limit, workers, shares) {
+            Ok(books) => Ok(books),
+            Err(_) => Err(BookFault::OutOfMemory),
+        }
+    }
+
+    // A book whose layer 0 is the first position of the level, if there is one and it is of the share.
     fn with_first(
         alloc: Global,
         level: Arc<Level>,
@@ -109,12 +144,12 @@ impl Book {
     ) -> Result<Book, AllocError>
         requires bounds { AreBounds limit workers share shares }
         requires few { box_count (arc_value level) ≤ MAX_BOXES }
-        requires layer { IsShareOfLayer (arc_value level) shares share 0 (first_entries first.now) }
-        requires boxes { IfSome first.now (λ m. length m.boxes ≡ box_count (arc_value level)) }
+        requires first { IsFirst (arc_value level) first.now }
         ensures { IfOk result (λ book. IsNew (arc_value level) limit workers share shares book) }
     {
         level.tell();
-        let found = Found::of(alloc, level.boxes(), first)?;
+        let own = first_of_share(&level, first, share, shares);
+        let found = Found::of(alloc, level.boxes(), &own)?;
         let mut starts = Vec::new(alloc);
         starts.resize(1, 0)?;
         let mut tallies = Vec::new(alloc);
@@ -219,32 +254,72 @@ impl Book {
     }
 }
 
-// The share's position of layer 0: the start's normal position, or none where the start is doomed or that position is
-// of another share.
-fn first_position(
+// The books of all shares, share 0 first, where the first position of the level is found already.
+fn all_with_first(
     alloc: Global,
+    level: &Arc<Level>,
+    first: &Option<Position>,
+    limit: u32,
+    workers: u8,
+    shares: u8,
+) -> Result<Vec<Book>, AllocError>
+    requires limit { 1 ≤ limit }
+    requires workers { (1 ≤ workers) × (workers ≤ MAX_WORKERS + 1) }
+    requires shares { (1 ≤ shares) × (shares ≤ MAX_SHARES) }
+    requires few { box_count (arc_value level.now) ≤ MAX_BOXES }
+    requires first { IsFirst (arc_value level.now) first.now }
+    ensures { IfOk result (λ books. AreNewShares (arc_value level.now) limit workers shares books.items) }
+{
+    let mut books = Vec::with_capacity(alloc, shares as usize)?;
+    for share in 0..shares {
+        let level = Arc::try_clone(level)?;
+        let book = Book::with_first(alloc, level, first, limit, workers, share, shares)?;
+        books.push(book)?;
+    }
+    Ok(books)
+}
+
+// The first position of a level: the start's normal position, or none where the start is doomed.
+fn first_position(
     level: &Level,
-    first: &Position,
+    dead: &Dead,
+    position: &Position,
+    scratch: &mut Scratch,
+) -> Option<Position>
+    requires start { position.now ≡ start level.now }
+    requires fits { FitsLevel level.now position.now }
+    requires dead_of_level { dead.now ≡ level.now }
+    requires room { scratch.old.size ≡ length level.now.cells }
+    ensures first { IsFirst level.now result }
+    ensures size { scratch.new.size ≡ scratch.old.size }
+{
+    if doomed(level, dead, position, scratch) {
+        return None;
+    }
+    let normal = normal(level, position, scratch);
+    Some(normal)
+}
+
+// The share's position of layer 0: the first position, if there is one and it is of the share.
+fn first_of_share(
+    level: &Level,
+    first: &Option<Position>,
     share: u8,
     shares: u8,
-) -> Result<Option<Position>, AllocError>
-    requires start { first.now ≡ start level.now }
-    requires fits { FitsLevel level.now first.now }
+) -> Option<Position>
+    requires first { IsFirst level.now first.now }
     requires shares { 0 < shares }
-    ensures layer { IfOk result (λ normal. IsShareOfLayer level.now shares share 0 (first_entries normal)) }
-    ensures boxes { IfOk result (λ normal. IfSome normal (λ m. length m.boxes ≡ box_count level.now)) }
+    ensures layer { IsShareOfLayer level.now shares share 0 (first_entries result) }
+    ensures boxes { IfSome result (λ m. length m.boxes ≡ box_count level.now) }
 {
     level.tell();
-    let dead = Dead::of(alloc, level)?;
-    let mut scratch = Scratch::new(alloc, level)?;
-    if doomed(level, &dead, first, &mut scratch) {
-        return Ok(None);
+    let Some(position) = first else {
+        return None;
+    };
+    if share_of(position, shares) != share {
+        return None;
     }
-    let position = normal(level, first, &mut scratch);
-    if share_of(&position, shares) != share {
-        return Ok(None);
-    }
-    Ok(Some(position))
+    Some(position.copy())
 }
 
 // Where a piece of a list that is cut at these places begins and ends; `None` exactly beyond the pieces.

@@ -1,8 +1,12 @@
 -- What contracts see of a book's fields, and what is true of them.
-use Rattle.std.specs.Prelude.{◌≡◌, ℕ, suc, ◌<◌, ◌≤◌, List, [], ◌∷◌, take, drop, length, slice_get, Some, None, ◌⊎◌}
+use Rattle.std.specs.Prelude.{◌≡◌, ℕ, suc, ◌<◌, ◌≤◌, List, [], ◌∷◌, take, drop, length, slice_get, Option, Some, None, ◌⊎◌}
 use Rattle.std.specs.Arc.{arc_value}
+use Rattle.grid.specs.Board.{Board, Scene, start}
 use Rattle.grid.specs.Lawful.{box_count}
+use Rattle.grid.specs.States.{FitsLevel}
 use Rattle.grid.specs.declared.limits.TheConstants.{MAX_BOXES}
+use Rattle.area.specs.Area.{IsNorm}
+use Rattle.doom.specs.Deadlocks.{Doomed, Undoomed}
 use Rattle.layers.specs.declared.book.Book.TheInside.{Inside}
 use Rattle.layers.specs.BookView.{BookView, IsLawfulBook}
 use Rattle.layers.specs.Books.{IsTaken}
@@ -28,6 +32,11 @@ book_view a = record {
   tallies = a.tallies.items;
   over = a.over;
 }
+
+-- the first position of a level: the start's normal position, or none where the start is doomed
+abbrev pub IsFirst : Board → Option Scene → Type 0
+IsFirst board None = Doomed board (start board).boxes
+IsFirst board (Some m) = Undoomed board (start board) × IsNorm board (start board) m × FitsLevel board m
 
 -- the places at which a list is cut: the first one is its beginning, and they do not fall
 pub record AreCuts (starts : List ℕ) (len : ℕ) : Type 0 where
