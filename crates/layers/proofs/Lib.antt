@@ -12,5 +12,6 @@ pub mod Flat
 pub mod First
 pub mod Histories
 pub mod Ordered
+pub mod Exchanging
 pub mod Merged
 pub mod Joined

@@ -32,12 +32,12 @@ at-set (w ∷ xs) (suc s) (suc t) x y z here at = elim (at-set xs s t x y z here
 ]
 
 -- what stood elsewhere still stands, and the new one in its place
-set-at : {A : Type 0} (xs : List A) (s : ℕ) (x y : A) → slice_get xs s ≡ Some x → slice_get (set xs s y) s ≡ Some y
+pub set-at : {A : Type 0} (xs : List A) (s : ℕ) (x y : A) → slice_get xs s ≡ Some x → slice_get (set xs s y) s ≡ Some y
 set-at [] s x y here = absurd (none-some x here)
 set-at (w ∷ xs) zero x y here = refl
 set-at (w ∷ xs) (suc s) x y here = set-at xs s x y here
 
-set_elsewhere : {A : Type 0} (xs : List A) (s t : ℕ) (y z : A) → t ≢ s → slice_get xs t ≡ Some z → slice_get (set xs s y) t ≡ Some z
+pub set_elsewhere : {A : Type 0} (xs : List A) (s t : ℕ) (y z : A) → t ≢ s → slice_get xs t ≡ Some z → slice_get (set xs s y) t ≡ Some z
 set_elsewhere [] s t y z ne at = absurd (none-some z at)
 set_elsewhere (w ∷ xs) zero zero y z ne at = absurd (ne refl)
 set_elsewhere (w ∷ xs) zero (suc t) y z ne at = at

@@ -19,9 +19,9 @@ use Rattle.layers.specs.Openings.{Origin, origin_cmp, Entry}
 use Rattle.layers.specs.Origins.{same_scene, share_of}
 use Rattle.layers.specs.BookView.{Closed, origin_of}
 use Rattle.layers.specs.declared.parcel.Successor.{Successor}
-use Rattle.layers.specs.Books.{closed_entry, is_wanted_in, offered, entered, RiseByOrigin, IsSortedAppend, AreNew}
+use Rattle.layers.specs.Books.{closed_entry, is_wanted_in, offered, entered, RiseByOrigin, IsSortedAppend}
 use Rattle.layers.specs.FoundView.{FoundView, found_view, open_entry, seen_of, open_of, IsFound, is_least, keeps}
-use Rattle.layers.proofs.Offers.{same_true, offered-kept, offered-less, offered_first}
+use Rattle.layers.proofs.Offers.{offered-kept, offered-less, offered_first}
 use Rattle.grid.proofs.lemmas.Orders.{push_cmp_total}
 use Rattle.layers.proofs.Open.{origin_total}
 use Rattle.layers.proofs.lemmas.Lists.{at-push}
@@ -386,34 +386,3 @@ risen start es found distinct rise = (
   rise,
   split start es found,
 )
-
-seen_place : (m : Scene) (p : Option (Origin Push)) (start : ℕ) (es : List Closed) → lookup (same_scene m) (take start es) ≡ Some p → (j : ℕ) × (j < start) × (slice_get (keys_of es) j ≡ Some m)
-seen_place m p zero es e = absurd (none-some p e)
-seen_place m p (suc start) [] e = absurd (none-some p e)
-seen_place m p (suc start) (x ∷ es) e = go (same_scene m x.0) refl e (seen_place m p start es)
-  where
-    go : (b : Bool) → same_scene m x.0 ≡ b → cond b (Some x.1) (lookup (same_scene m) (take start es)) ≡ Some p → (lookup (same_scene m) (take start es) ≡ Some p → (j : ℕ) × (j < start) × (slice_get (keys_of es) j ≡ Some m)) → (j : ℕ) × (j < suc start) × (slice_get (keys_of (x ∷ es)) j ≡ Some m)
-    go true f g t = (zero, omega arith, ap (λ (y : Scene). Some y) (sym (same_true m x.0 f)))
-    go false f g t = let w = t g in (suc w.0, omega (arith, w.1), w.2)
-
-open_place : (start : ℕ) (es : List Closed) (i : ℕ) (x : Entry Scene Push) → slice_get (open_of start es) i ≡ Some x → (j : ℕ) × (start ≤ j) × (slice_get (keys_of es) j ≡ Some x.0)
-open_place zero [] i x e = absurd (none-some x e)
-open_place zero (y ∷ es) zero x e = (zero, omega arith, ap (λ (z : Entry Scene Push). Some z.0) (same_Some (open_entry y) x e))
-open_place zero (y ∷ es) (suc i) x e = let w = open_place zero es i x (ap (λ zs. slice_get (map open_entry zs) i) (drop_none es) ∙ e) in (suc w.0, omega arith, w.2)
-  where
-    drop_none : (zs : List Closed) → drop 0 zs ≡ zs
-    drop_none [] = refl
-    drop_none (z ∷ zs) = refl
-open_place (suc start) [] i x e = absurd (none-some x e)
-open_place (suc start) (y ∷ es) i x e = let w = open_place start es i x e in (suc w.0, omega (arith, w.1), w.2)
-
--- none that stands open is closed
-pub open_fresh : (start : ℕ) (es : List Closed) → IsDistinct same_scene (keys_of es) → AreNew (seen_of start es) (open_of start es)
-open_fresh start es distinct i m o at = go (lookup (same_scene m) (seen_of start es)) refl
-  where
-    go : (f : Option (Option (Origin Push))) → lookup (same_scene m) (seen_of start es) ≡ f → lookup (same_scene m) (seen_of start es) ≡ None
-    go None e = e
-    go (Some p) e =
-        let x = seen_place m p start es e in
-        let y = open_place start es i (m, o) at in
-        absurd (omega (arith, x.1, y.1, distinct_from (keys_of es) distinct x.0 y.0 m x.2 y.2))

@@ -186,10 +186,6 @@ RiseByOrigin es = (i j : ℕ) (x y : Entry Scene Push) → i < j → slice_get e
 abbrev pub AreReordered : List (Entry Scene Push) → List (Entry Scene Push) → Type 0
 AreReordered before after = (length after ≡ length before) × ((m : Scene) → origin_of after m ≡ origin_of before m) × AreDistinct (map (λ e. e.0) after)
 
--- no entry's position was seen
-abbrev pub AreNew : List Closed → List (Entry Scene Push) → Type 0
-AreNew seen es = (i : ℕ) (m : Scene) (o : Origin Push) → slice_get es i ≡ Some (m, o) → lookup (same_scene m) seen ≡ None
-
 -- what stood open is appended to what was seen, in the order of the origins
 abbrev pub IsSortedAppend : List Closed → List (Entry Scene Push) → List Closed → Type 0
 IsSortedAppend seen waiting after = (es : List (Entry Scene Push)) × AreReordered waiting es × RiseByOrigin es × (after ≡ seen ++ map closed_entry es)

@@ -3,3 +3,4 @@ pub mod BookInside
 pub mod Insides
 pub mod Packed
 pub mod Merging
+pub mod Placing

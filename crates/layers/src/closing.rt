@@ -1,22 +1,21 @@
 //! What stands open becomes a closed layer, in the map that holds it behind what is closed.
-ghost use Rattle.std.specs.Prelude.{◌≡◌, ℕ, ◌<◌, ◌≤◌, [], ◌∷◌, ◌++◌, length, map, true, false, slice_get, slice_index_or, vec_len, Some, OnOk, OnErr, IfOk, IsPermutation};
+ghost use Rattle.std.specs.Prelude.{◌≡◌, ℕ, ◌+◌, ◌<◌, ◌≤◌, List, [], ◌∷◌, ◌++◌, length, map, true, false, slice_get, slice_index_or, vec_len, Some, OnOk, OnErr, IfOk, IsPermutation};
 ghost use Rattle.std.specs.List.{IsDistinct};
 ghost use Rattle.grid.specs.Board.{push_cmp};
 ghost use Rattle.layers.specs.Openings.{origin_cmp};
 ghost use Rattle.layers.specs.Origins.{same_scene};
 ghost use Rattle.std.specs.Bool.{MatchBool};
 ghost use Rattle.std.specs.Vec.{vec_capacity};
-ghost use Rattle.indexmap.specs.IndexMap.{spare};
-ghost use Rattle.layers.specs.Distances.{AreDistinct};
 ghost use Rattle.layers.specs.BookView.{Closed};
-ghost use Rattle.layers.specs.Books.{RiseByOrigin, AreNew, closed_entry, IsSortedAppend};
+ghost use Rattle.layers.specs.Books.{RiseByOrigin, IsSortedAppend};
 ghost use Rattle.layers.specs.FoundView.{IsFound, open_of, origin_in, seen_of};
+ghost use Rattle.layers.specs.inside.Placing.{AreApart, AreAtTargets, AreTargets, HaveAllPlaces, RowsRise, rows_of};
 
 use crate::key::Key;
 use crate::origin::{ClosedOrigin, Origin};
 use grid::MAX_BOXES;
 use indexmap::IndexMap;
-use std::alloc::AllocError;
+use std::alloc::{AllocError, Global};
 use std::cmp::Ordering;
 
 /// Whether each mark is set.
@@ -54,9 +53,8 @@ pub(crate) fn arrange<const N: usize>(
     }
     let mut rows = rows_from(table, start)?;
     sort_rows(&mut rows);
-    table.reserve(rows.len())?;
-    table.truncate(start);
-    append_rows(table, rows.as_slice());
+    let targets = targets_of(*table.allocator(), rows.as_slice())?;
+    exchange(table, start, targets);
     Ok(())
 }
 
@@ -90,49 +88,68 @@ fn origin_at<const N: usize>(table: &IndexMap<Key<N>, ClosedOrigin>, place: usiz
     closed.opened()
 }
 
-// What stands open.
+// The rows of what stands open.
 fn rows_from<const N: usize>(
     table: &IndexMap<Key<N>, ClosedOrigin>,
     start: usize,
-) -> Result<Vec<(Key<N>, Origin)>, AllocError>
+) -> Result<Vec<(Origin, usize)>, AllocError>
     requires width { N ≤ MAX_BOXES }
     requires within { start ≤ length table.now.entries }
-    ensures { IfOk result (λ rows. rows.items ≡ open_of start table.now.entries) }
+    ensures { IfOk result (λ rows. rows.items ≡ rows_of 0 (open_of start table.now.entries)) }
 {
     let mut rows = Vec::with_capacity(*table.allocator(), table.len() - start)?;
     for place in start..table.len() {
-        if let Some((key, closed)) = table.get_index(place) {
-            rows.push((key.copy(), closed.opened()))?;
-        }
+        rows.push((origin_at(table, place), place - start))?;
     }
     Ok(rows)
 }
 
-// Puts entries into the order of the origins.
-fn sort_rows<const N: usize>(rows: &mut Vec<(Key<N>, Origin)>)
-    requires { N ≤ MAX_BOXES }
-    ensures sorted { RiseByOrigin rows.new.items }
+// Puts rows into the order of the origins.
+fn sort_rows(rows: &mut Vec<(Origin, usize)>)
+    ensures sorted { RowsRise rows.new.items }
     ensures same { IsPermutation rows.old.items rows.new.items }
 {
     rows.sort_unstable_by(
-        |row: &(Key<N>, Origin), other: &(Key<N>, Origin)| -> Ordering
-            ensures { result ≡ origin_cmp push_cmp row.now.1 other.now.1 }
-        { row.1.compare(other.1) },
+        |row: &(Origin, usize), other: &(Origin, usize)| -> Ordering
+            ensures { result ≡ origin_cmp push_cmp row.now.0 other.now.0 }
+        { row.0.compare(other.0) },
     );
 }
 
-// Appends entries to what is closed.
-fn append_rows<const N: usize>(
+// The target of each place, which is where its row stands.
+fn targets_of(alloc: Global, rows: &[(Origin, usize)]) -> Result<Vec<usize>, AllocError>
+    requires { HaveAllPlaces rows.now }
+    ensures { IfOk result (λ targets. AreTargets rows.now targets.items) }
+{
+    let mut targets = vec![in alloc; 0; rows.len()]?;
+    for target in 0..rows.len() {
+        let (_, place) = rows[target];
+        targets[place] = target;
+    }
+    Ok(targets)
+}
+
+// Brings each entry from the start on to its target, by exchanges of two.
+fn exchange<const N: usize>(
     table: &mut IndexMap<Key<N>, ClosedOrigin>,
-    rows: &[(Key<N>, Origin)],
+    start: usize,
+    targets: Vec<usize>,
 )
     requires width { N ≤ MAX_BOXES }
-    requires room { length rows.now ≤ spare table.old }
-    requires new { AreNew table.old.entries rows.now }
-    requires distinct { AreDistinct (map (λ e. e.0) rows.now) }
-    ensures { table.new.entries ≡ table.old.entries ++ map closed_entry rows.now }
+    requires all { length table.old.entries ≡ start + length targets.items }
+    requires apart { AreApart targets.items }
+    ensures { (others : List Closed) → AreAtTargets start table.old.entries targets.items others → table.new.entries ≡ seen_of start table.old.entries ++ others }
 {
-    for (key, origin) in rows {
-        let _ = table.insert(key.copy(), ClosedOrigin::of(Some(*origin)));
+    let open = table.len() - start;
+    let mut targets = targets;
+    let mut place = 0;
+    while place < open {
+        let target = targets[place];
+        if target == place {
+            place += 1;
+        } else {
+            table.swap_indices(start + place, start + target);
+            targets.swap(place, target);
+        }
     }
 }

@@ -1,29 +1,25 @@
 -- What stands open, sorted and appended to what was seen.
-use Rattle.std.proofs.Common.{◌≡◌, ℕ, zero, suc, ◌<◌, Bool, true, false, cond, List, [], ◌∷◌, ◌++◌, map, take, Result, Ok, Err, is_err, Option, Some, None, refl, sym, ap, ◌∙◌, if◌then◌else◌, inl, inr, arith}
+use Rattle.std.proofs.Common.{◌≡◌, ℕ, zero, suc, ◌<◌, true, false, List, [], ◌∷◌, ◌++◌, map, take, Result, Ok, Err, is_err, Option, Some, None, refl, sym, ap, ◌∙◌, inl, inr, arith}
 use Rattle.std.proofs.lemmas.Bool.{cases_lt}
-use Rattle.std.proofs.lemmas.List.{append_assoc}
 use Rattle.std.proofs.lemmas.List.Sorted.{sorted_far, ranks_by, length_permutation, IsPermutation-map, IsPermutation-sym, Contains-permutation}
 use Rattle.std.proofs.lemmas.Map.Keys.{apart_from_distinct, IsDistinct-IsPermutation}
-use Rattle.std.proofs.lemmas.Option.{same_Some, none-some, slice_get-get_or, slice_get_within, get_or_from_slice_get}
+use Rattle.std.proofs.lemmas.Option.{same_Some, slice_get-get_or, slice_get_within, get_or_from_slice_get}
 use Rattle.std.specs.Prelude.{slice_get, OnOk, OnErr}
 use Rattle.std.specs.List.{IsDistinct}
 use Rattle.std.specs.List.Sorted.{IsSortedBy, IsPermutation}
-use Rattle.std.specs.Map.{lookup}
 use Rattle.std.specs.declared.cmp.Ordering.{Ordering}
 use Rattle.std.specs.declared.cmp.Ordering.TheVariants.{Less, Equal, Greater}
 use Rattle.std.specs.Ordering.{ordering_reverse, is_gt, is_lt}
-use Rattle.indexmap.specs.IndexMap.{insert_entry}
 use Rattle.grid.specs.declared.square.Push.{Push}
 use Rattle.grid.specs.Board.{Scene, push_cmp}
 use Rattle.grid.proofs.lemmas.Orders.{push_cmp_total}
 use Rattle.layers.specs.Layered.{IsIn}
 use Rattle.layers.specs.Openings.{Origin, origin_cmp, Entry}
 use Rattle.layers.specs.Origins.{same_scene}
-use Rattle.layers.specs.BookView.{Closed, origin_of}
-use Rattle.layers.specs.Books.{RiseByOrigin, AreReordered, AreNew, closed_entry}
-use Rattle.layers.proofs.lemmas.Exchange.{at_map, map_at}
+use Rattle.layers.specs.BookView.{origin_of}
+use Rattle.layers.specs.Books.{AreReordered}
 use Rattle.layers.proofs.lemmas.Lists.{Distinct}
-use Rattle.layers.proofs.Offers.{same_true, same_itself, same_flipped, open_places, origin-listed, listed-origin}
+use Rattle.layers.proofs.Offers.{same_itself, same_flipped, open_places, origin-listed, listed-origin}
 use Rattle.layers.proofs.Open.{origin_total}
 
 -- keys that a map keeps apart are distinct
@@ -41,14 +37,13 @@ distinct_from ks distinct i j a at_i at_j = elim (cases_lt i j) [
         let h = get_or_from_slice_get ks l a a at_l in cc
 
 -- what is sorted by its origins rises by them
-pub rise_from_sorted : {A : Type 0} (entry : A → Entry Scene Push) (xs : List A) → IsSortedBy (λ a b. is_lt (origin_cmp push_cmp (entry a).1 (entry b).1)) xs → RiseByOrigin (map entry xs)
-rise_from_sorted {A} entry xs sorted i j x y lt at_i at_j =
-    let a = at_map entry xs i x at_i in let b = at_map entry xs j y at_j in
+pub rise_from_sorted : {A : Type 0} (origin : A → Origin Push) (xs : List A) → IsSortedBy (λ a b. is_lt (origin_cmp push_cmp (origin a) (origin b))) xs →
+    (i j : ℕ) (x y : A) → i < j → slice_get xs i ≡ Some x → slice_get xs j ≡ Some y → is_gt (origin_cmp push_cmp (origin x) (origin y)) ≡ false
+rise_from_sorted {A} origin xs sorted i j x y lt at_i at_j =
     let total = origin_total push_cmp_total in
-    let far = sorted_far (λ a b. is_lt (origin_cmp push_cmp (entry a).1 (entry b).1)) (ranks_by total (λ (z : A). (entry z).1)) xs sorted i j a.0 (omega arith) (slice_get_within xs j b.0 b.1) in
-    let read : is_lt (origin_cmp push_cmp (entry b.0).1 (entry a.0).1) ≡ false = (λ n. is_lt (origin_cmp push_cmp (entry (sym (get_or_from_slice_get xs j b.0 a.0 b.1) n)).1 (entry (sym (get_or_from_slice_get xs i a.0 a.0 a.1) n)).1)) ∙ far in
-    let f : is_lt (origin_cmp push_cmp y.1 x.1) ≡ false = (λ n. is_lt (origin_cmp push_cmp (sym b.2 n).1 (sym a.2 n).1)) ∙ read in
-    ap is_gt (total.antisymm x.1 y.1) ∙ turned (origin_cmp push_cmp y.1 x.1) f
+    let far = sorted_far (λ a b. is_lt (origin_cmp push_cmp (origin a) (origin b))) (ranks_by total (λ (z : A). origin z)) xs sorted i j x (omega arith) (slice_get_within xs j y at_j) in
+    let read : is_lt (origin_cmp push_cmp (origin y) (origin x)) ≡ false = (λ n. is_lt (origin_cmp push_cmp (origin (sym (get_or_from_slice_get xs j y x at_j) n)) (origin (sym (get_or_from_slice_get xs i x x at_i) n)))) ∙ far in
+    ap is_gt (total.antisymm (origin x) (origin y)) ∙ turned (origin_cmp push_cmp (origin y) (origin x)) read
   where
     turned : (o : Ordering) → is_lt o ≡ false → is_gt (ordering_reverse o) ≡ false
     turned Less e = cc
@@ -60,10 +55,6 @@ pub moved : {A : Type 0} (x : A) (xs ys : List A) → IsPermutation xs ys → Is
 moved x xs ys same w =
     let there = Contains-permutation xs ys x same (w.0, slice_get_within xs w.0 x w.1, get_or_from_slice_get xs w.0 x x w.1) in
     (there.0, slice_get-get_or ys there.0 x there.1 ∙ ap Some there.2)
-
--- and none of them was seen, if none was before
-pub reordered_new : (seen : List Closed) (es ys : List (Entry Scene Push)) → IsPermutation es ys → AreNew seen es → AreNew seen ys
-reordered_new seen es ys same new i m o at = let w = moved (m, o) ys es (IsPermutation-sym es ys same) (i, at) in new w.0 m o w.1
 
 -- entries in another order, none twice, are the same to look up
 pub reordered : (es ys : List (Entry Scene Push)) → IsDistinct same_scene (open_places es) → IsPermutation es ys → AreReordered es ys
@@ -101,55 +92,6 @@ take_push (x ∷ xs) (suc n) a e = ap (λ ys. x ∷ ys) (take_push xs n a e)
 pub map-push : {A B : Type 0} (f : A → B) (xs : List A) (a : A) → map f (xs ++ a ∷ []) ≡ map f xs ++ f a ∷ []
 map-push f [] a = refl
 map-push f (x ∷ xs) a = ap (λ ys. f x ∷ ys) (map-push f xs a)
-
-lookup-append : {X : Type 0} (m : Scene) (xs ys : List (Scene × X)) → lookup (same_scene m) xs ≡ None → lookup (same_scene m) (xs ++ ys) ≡ lookup (same_scene m) ys
-lookup-append m [] ys e = refl
-lookup-append {X} m (x ∷ xs) ys e = go (same_scene m x.0) e (lookup-append m xs ys)
-  where
-    go : (b : Bool) → cond b (Some x.1) (lookup (same_scene m) xs) ≡ None → (lookup (same_scene m) xs ≡ None → lookup (same_scene m) (xs ++ ys) ≡ lookup (same_scene m) ys) → cond b (Some x.1) (lookup (same_scene m) (xs ++ ys)) ≡ lookup (same_scene m) ys
-    go true f t = absurd (none-some x.1 (sym f))
-    go false f t = t f
-
-lookup-listed : (m : Scene) (xs : List (Entry Scene Push)) (p : Option (Origin Push)) → lookup (same_scene m) (map closed_entry xs) ≡ Some p → IsIn (open_places xs) m
-lookup-listed m [] p e = absurd (none-some p e)
-lookup-listed m (x ∷ xs) p e = go (same_scene m x.0) refl e (lookup-listed m xs p)
-  where
-    go : (b : Bool) → same_scene m x.0 ≡ b → cond b (Some (Some x.1)) (lookup (same_scene m) (map closed_entry xs)) ≡ Some p → (lookup (same_scene m) (map closed_entry xs) ≡ Some p → IsIn (open_places xs) m) → IsIn (open_places (x ∷ xs)) m
-    go true f g t = (zero, ap (λ (y : Scene). Some y) (sym (same_true m x.0 f)))
-    go false f g t = let w = t g in (suc w.0, w.1)
-
-insert_last : {X : Type 0} (m : Scene) (v : X) (xs : List (Scene × X)) → lookup (same_scene m) xs ≡ None → insert_entry same_scene xs m v ≡ xs ++ (m, v) ∷ []
-insert_last m v [] e = refl
-insert_last {X} m v (x ∷ xs) e = go (same_scene m x.0) e (insert_last m v xs)
-  where
-    go : (b : Bool) → cond b (Some x.1) (lookup (same_scene m) xs) ≡ None → (lookup (same_scene m) xs ≡ None → insert_entry same_scene xs m v ≡ xs ++ (m, v) ∷ []) → (if b then (x.0, v) ∷ xs else x ∷ insert_entry same_scene xs m v) ≡ x ∷ (xs ++ (m, v) ∷ [])
-    go true f t = absurd (none-some x.1 (sym f))
-    go false f t = ap (λ ys. x ∷ ys) (t f)
-
--- the next entry comes last
-pub appended : (seen : List Closed) (es : List (Entry Scene Push)) (place : ℕ) (m : Scene) (o : Origin Push) → AreNew seen es → Distinct (open_places es) → slice_get es place ≡ Some (m, o) →
-    insert_entry same_scene (seen ++ map closed_entry (take place es)) m (Some o) ≡ seen ++ map closed_entry (take (suc place) es)
-appended seen es place m o new distinct at =
-    insert_last m (Some o) (seen ++ map closed_entry (take place es)) (lookup-append m seen (map closed_entry (take place es)) (new place m o at) ∙ none (lookup (same_scene m) (map closed_entry (take place es))) refl)
-    ∙ append_assoc seen (map closed_entry (take place es)) ((m, Some o) ∷ [])
-    ∙ ap (λ xs. seen ++ xs) (sym (map-push closed_entry (take place es) (m, o)) ∙ ap (map closed_entry) (sym (take_push es place (m, o) at)))
-  where
-    here : slice_get (open_places es) place ≡ Some m
-    here = map_at (λ e. e.0) es place (m, o) at
-
-    later : (xs : List (Entry Scene Push)) (n : ℕ) → open_places (take n xs) ≡ take n (open_places xs)
-    later [] zero = refl
-    later [] (suc n) = refl
-    later (x ∷ xs) zero = refl
-    later (x ∷ xs) (suc n) = ap (λ ys. x.0 ∷ ys) (later xs n)
-
-    none : (found : Option (Option (Origin Push))) → lookup (same_scene m) (map closed_entry (take place es)) ≡ found → lookup (same_scene m) (map closed_entry (take place es)) ≡ None
-    none None e = e
-    none (Some p) e =
-        let w = lookup-listed m (take place es) p e in
-        let t = take_at (open_places es) place w.0 m (ap (λ xs. slice_get xs w.0) (sym (later es place)) ∙ w.1) in
-        let i = distinct w.0 place m t.0 here in
-        absurd (omega (arith, t.1))
 
 -- what a result says when it is no error
 pub ok_is : {T E : Type 0} {P : Type 0} (r : Result T E) → false ≡ is_err r → OnOk r P → P
