@@ -1,43 +1,48 @@
 -- A turn of a search with workers.
-use Rattle.std.proofs.Common.{◌≡◌, ℕ, ◌+◌, ◌-◌, ◌<◌, ◌≤◌, List, [], ◌∷◌, ◌++◌, length, Option, None, Some, sym, ap, subst, ◌∙◌, arith}
-use Rattle.std.proofs.lemmas.List.{length-append}
+use Rattle.std.proofs.Common.{◌≡◌, ℕ, ◌+◌, List, [], ◌∷◌, ◌++◌, length, Some, refl, sym, subst}
+use Rattle.std.specs.Prelude.{slice_get}
 use Rattle.grid.specs.declared.square.Push.{Push}
+use Rattle.grid.specs.Board.{Board}
 use Rattle.layers.specs.Openings.{Origin}
 use Rattle.layers.specs.LayerView.{LayerView}
-use Rattle.layers.specs.BookView.{BookView, IsLawfulBook}
+use Rattle.layers.specs.BookView.{BookView}
+use Rattle.layers.specs.Books.{AreAllShares, IsJoinOf, MayBegin}
 use Rattle.solo.specs.Answers.{IsAnswer}
 use Rattle.solo.specs.inside.Searched.{IsLookedAt}
-use Rattle.solo.specs.inside.Turns.{IsBetweenTurns, IsLastOf, WorkAnswer}
-use Rattle.solo.proofs.lemmas.Turns.{over_limit}
 use Rattle.solo.specs.declared.answer.Answer.TheVariants.{Limit}
 use Rattle.solo.specs.declared.turn.Worked.TheVariants.{Through, Over}
-use Rattle.crew.specs.inside.Turning.{HasLooked}
+use Rattle.solo.proofs.lemmas.Turns.{all_shares, may_begin, next_of, trail_grown, turn_on, turn_over}
+use Rattle.crew.specs.Configured.{IsWithinLimits}
+use Rattle.crew.specs.declared.config.Config.{Config}
+use Rattle.crew.specs.inside.Turning.{ArePausedBy, AreWorkedBy}
 
--- the layer that the book closed last was looked at
-pub has_looked : (book : BookView) (trail : List (List (Origin Push))) (positions count : ℕ) (layer : LayerView) → IsBetweenTurns book trail positions → IsLastOf book layer → IsLookedAt layer.level book.limit (trail ++ layer.origins ∷ []) count → (0 < length layer.places) × (length layer.places ≤ book.limit) → count ≡ positions + length layer.places → HasLooked book trail positions count layer
-has_looked book trail positions count layer turn last looked ranks counted = record {
-  looked = subst (λ board. IsLookedAt board book.limit (trail ++ layer.origins ∷ []) count) last.0 looked;
-  more = omega (arith, ranks.0, counted);
-  last = last;
-  few = ranks.1;
-  closed = turn.next;
-}
+module _ (config : Config) (board : Board) (books : List BookView) (trail : List (List (Origin Push))) (positions : ℕ) (limits : IsWithinLimits config) (turn : ArePausedBy config board books trail positions) where
+  -- the books can be joined
+  pub joinable : AreAllShares books
+  joinable = all_shares board config.limit (config.workers + 1) config.locks books trail positions limits.locks.0 turn
 
--- a book that has closed the next layer is between two turns again
-pub turned_on : (before after : BookView) (trail all : List (List (Origin Push))) (positions count : ℕ) (layer : LayerView) → IsBetweenTurns before trail positions → HasLooked before trail positions count layer → all ≡ trail ++ layer.origins ∷ [] → WorkAnswer before Through after → IsBetweenTurns after all count
-turned_on before after trail all positions count layer turn looked is (alike, begun, closed) = record {
-  all = sym alike.4 ∙ turn.all;
-  begun = begun;
-  next = omega (arith, ap length is, length-append trail (layer.origins ∷ []), looked.closed, closed);
-  looked = subst (λ ls. IsLookedAt after.level after.limit ls count) (sym is) (subst (λ limit. IsLookedAt after.level limit (trail ++ layer.origins ∷ []) count) alike.1 (subst (λ board. IsLookedAt board before.limit (trail ++ layer.origins ∷ []) count) alike.0 looked.looked));
-}
+  -- their last closed layer is the next one of the level
+  pub next_layer : (layer : LayerView) → IsJoinOf books layer → (layer.level ≡ board) × (layer.number ≡ length trail)
+  next_layer layer join = next_of board config.limit (config.workers + 1) config.locks books trail positions layer limits.locks.0 turn join
 
--- where the book came to be over, the answer is the limit
-pub turned_over : (before after : BookView) (trail : List (List (Origin Push))) (positions count : ℕ) (layer : LayerView) → HasLooked before trail positions count layer → IsLawfulBook after → WorkAnswer before Over after → IsAnswer before.level before.limit Limit
-turned_over before after trail positions count layer looked lawful (alike, over, closed) =
-    over_limit before.level before.limit count (trail ++ layer.origins ∷ []) after looked.looked lawful (sym alike.0) (sym alike.1) over
-    (omega (arith, looked.closed, closed, length-append trail (layer.origins ∷ [])))
+  -- each of them may begin it
+  pub begins : (layer : LayerView) → IsJoinOf books layer → (i : ℕ) (v : BookView) → slice_get books i ≡ Some v → MayBegin v layer
+  begins layer join = may_begin board config.limit (config.workers + 1) config.locks books trail positions layer turn (next_layer layer join)
 
--- the trail with the layer's parents
-pub grown : (trail all : List (List (Origin Push))) (parents : List (Origin Push)) (layer : LayerView) → all ≡ trail ++ parents ∷ [] → parents ≡ layer.origins → all ≡ trail ++ layer.origins ∷ []
-grown trail all parents layer is same = is ∙ ap (λ (o : List (Origin Push)). trail ++ o ∷ []) same
+  -- the layers before it were looked at
+  pub looked_before : (layer : LayerView) → IsJoinOf books layer → IsLookedAt layer.level config.limit trail positions
+  looked_before layer join = subst (λ b. IsLookedAt b config.limit trail positions) (sym (next_layer layer join).0) turn.looked
+
+  -- once it was looked at, and its ranks are done in books that came back, these are between two turns again
+  pub goes_on : (layer : LayerView) (count : ℕ) (after : List BookView) (all : List (List (Origin Push))) (parents : List (Origin Push)) → IsJoinOf books layer → IsLookedAt layer.level config.limit (trail ++ layer.origins ∷ []) count → AreWorkedBy config layer Through after → all ≡ trail ++ parents ∷ [] → parents ≡ layer.origins → ArePausedBy config board after all count
+  goes_on layer count after all parents join looked worked is same =
+      let next = next_layer layer join in
+      subst (λ b. ArePausedBy config b after all count) next.0
+      (trail_grown layer.level config.limit (config.workers + 1) config.locks after trail all parents count layer is same
+      (turn_on layer.level config.limit (config.workers + 1) config.locks after trail count layer (refl, next.1) looked worked))
+
+  -- or one of them is over, and the answer is the limit
+  pub ends_over : (layer : LayerView) (count : ℕ) (after : List BookView) → IsJoinOf books layer → IsLookedAt layer.level config.limit (trail ++ layer.origins ∷ []) count → AreWorkedBy config layer Over after → IsAnswer board config.limit Limit
+  ends_over layer count after join looked worked =
+      let next = next_layer layer join in
+      subst (λ b. IsAnswer b config.limit Limit) next.0 (turn_over layer.level config.limit (config.workers + 1) config.locks after trail count layer (refl, next.1) looked worked)

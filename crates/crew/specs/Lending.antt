@@ -1,18 +1,15 @@
--- What is compared when a book comes back from workers.
-use Rattle.std.specs.Prelude.{◌≡◌}
+-- What is compared when the books come back from workers.
+use Rattle.std.specs.Prelude.{◌≡◌, ℕ, ◌+◌, List, length, slice_get, Some}
 use Rattle.layers.specs.LayerView.{LayerView}
 use Rattle.layers.specs.BookView.{BookView}
-use Rattle.layers.specs.Books.{HasBegun}
-use Rattle.crew.specs.declared.lent.Terms.{Terms}
+use Rattle.solo.specs.inside.Turns.{IsDealt, IsWorkingOn}
+use Rattle.crew.specs.declared.config.Config.{Config}
 
--- the book was made with these numbers
-pub record AreTerms (book : BookView) (terms : Terms) : Type 0 where
-  pub limit : terms.limit ≡ book.limit
-  pub workers : terms.workers ≡ book.workers
-  pub share : terms.share ≡ book.share
-  pub shares : terms.shares ≡ book.shares
+-- the book is the share of a place, made by the configuration for the layer's level, and it is at work on the layer
+abbrev pub ComesBack : Config → LayerView → ℕ → BookView → Type 0
+ComesBack config layer place book = IsDealt layer.level config.limit (config.workers + 1) config.locks place book × IsWorkingOn layer book
 
--- the book was made with these numbers, and it is at work on the layer
-pub record ComesBack (terms : Terms) (layer : LayerView) (book : BookView) : Type 0 where
-  pub made : AreTerms book terms
-  pub begun : HasBegun book layer
+-- the books are all the shares in order, made by the configuration for the layer's level, and each is at work on the layer
+pub record ComeBack (config : Config) (layer : LayerView) (books : List BookView) : Type 0 where
+  pub all : length books ≡ config.locks
+  pub each : (i : ℕ) (v : BookView) → slice_get books i ≡ Some v → ComesBack config layer i v

@@ -1,7 +1,7 @@
 ghost use Rattle.std.specs.Prelude.{◌↔◌, IsTrue};
 ghost use Rattle.crew.specs.Configured.{IsWithinLimits};
 
-use layers::MAX_WORKERS;
+use layers::{MAX_SHARES, MAX_WORKERS};
 
 /// How a level is solved: by how many workers, over how many locks, and under which limit of positions.
 #[derive(Clone, Copy, PartialEq, Eq, Debug)]
@@ -12,10 +12,15 @@ pub struct Config {
 }
 
 impl Config {
-    /// Whether there are 1 to [`MAX_WORKERS`](layers::MAX_WORKERS) workers, and the limit is at least 1.
+    /// Whether there are 1 to [`MAX_WORKERS`](layers::MAX_WORKERS) workers and 1 to
+    /// [`MAX_SHARES`](layers::MAX_SHARES) locks, and the limit is at least 1.
     pub fn is_within_limits(&self) -> bool
         ensures { IsTrue result ↔ IsWithinLimits self.now }
     {
-        1 <= self.workers && self.workers <= MAX_WORKERS && 1 <= self.limit
+        1 <= self.workers
+            && self.workers <= MAX_WORKERS
+            && 1 <= self.locks
+            && self.locks <= MAX_SHARES
+            && 1 <= self.limit
     }
 }

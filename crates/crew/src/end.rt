@@ -5,11 +5,11 @@ use layers::Refusal;
 pub enum End {
     /// No rank of the layer was left to draw.
     Drained,
-    /// The book did not accept a parcel.
+    /// A book did not accept a parcel.
     Refused(Refusal),
     /// The gate did not let it go on.
     Stopped,
-    /// The book behind the lock is of another level, at another layer, or not made for a worker of its number.
+    /// A book behind its lock is of another level, at another layer, or not made for a worker of its number.
     Foreign,
     /// Another drawer has its place in the ledger.
     NoPlace,

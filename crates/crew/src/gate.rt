@@ -1,7 +1,7 @@
 ghost use Rattle.std.specs.Prelude.{◌≡◌, Bool, false, true};
 
 /// What a worker asks after each of its events, while it holds no lock. An event is a draw that gives a rank, or a
-/// parcel that was accepted.
+/// parcel that one book accepted.
 pub trait Gate {
     /// Whether the gate may ever stop a worker.
     ghost may_stop: { Bool };

@@ -1,38 +1,104 @@
-ghost use Rattle.std.specs.Prelude.{◌↔◌, IsTrue};
-ghost use Rattle.crew.specs.Lending.{AreTerms, ComesBack};
+//! Books that are lent to workers, each behind a lock of its own, and taken back.
+ghost use Rattle.std.specs.Prelude.{◌≡◌, ◌↔◌, ◌<◌, ◌^◌, ◌≤◌, IsTrue, IfOk, length};
+ghost use Rattle.std.specs.Bool.{MatchBool};
+ghost use Rattle.claims.specs.Hands.{newcomer};
+ghost use Rattle.crew.specs.Configured.{IsWithinLimits};
+ghost use Rattle.crew.specs.Lending.{ComesBack, ComeBack};
 
+use crate::config::Config;
+use crate::gate::Gate;
+use crate::workers::work_all;
+use claims::{Drawer, Ledger, PLACES};
+use doom::Dead;
 use layers::{Book, Layer};
+use std::alloc::{AllocError, Global};
+use std::sync::{Mutex, Wait};
+use std::thread::Threads;
 
-// The numbers that a book was made with.
-#[derive(Clone, Copy)]
-pub(crate) struct Terms {
-    limit: u32,
+// Lends the books to so many workers for a layer, and gives what is behind the locks once all of them have ended. The
+// only error is that memory was refused.
+pub(crate) fn lend<R: Threads + Wait + Sync, G: Gate + Sync>(
+    rt: &R,
+    alloc: Global,
+    books: Vec<Book>,
+    layer: &Layer,
+    dead: &Dead,
     workers: u8,
-    share: u8,
-    shares: u8,
+    gate: &G,
+) -> Result<Vec<Book>, AllocError>
+    requires dead_of_level { dead.now ≡ layer.now.level }
+    requires ranks { length layer.now.places < 2 ^ 32 }
+    requires places { workers ≤ PLACES }
+{
+    let (ledger, drawer) = ledger_of(alloc, layer)?;
+    let locks = lock_each(alloc, books)?;
+    work_all(
+        rt,
+        alloc,
+        locks.as_slice(),
+        layer,
+        dead,
+        &ledger,
+        drawer,
+        workers,
+        gate,
+    );
+    unlock_each(alloc, locks)
 }
 
-// The numbers that the book was made with.
-pub(crate) fn terms_of(book: &Book) -> Terms
-    ensures { AreTerms book.now result }
+// A ledger of the layer's ranks, and a drawer without a place. The only error is that memory was refused.
+fn ledger_of(alloc: Global, layer: &Layer) -> Result<(Ledger, Drawer), AllocError>
+    requires { length layer.now.places < 2 ^ 32 }
+    ensures { IfOk result (λ made. (made.0.len ≡ length layer.now.places) × (made.1 ≡ newcomer made.0)) }
 {
-    Terms {
-        limit: book.limit(),
-        workers: book.workers(),
-        share: book.share(),
-        shares: book.shares(),
+    Ledger::new(alloc, layer.len() as u32)
+}
+
+// Each of the books behind a lock of its own, in order. The only error is that memory was refused.
+fn lock_each(alloc: Global, books: Vec<Book>) -> Result<Vec<Mutex<Book>>, AllocError> {
+    let mut locks = Vec::with_capacity(alloc, books.len())?;
+    for book in books {
+        locks.push(Mutex::new(book))?;
     }
+    Ok(locks)
 }
 
-// Whether a book that comes back may be the one that was lent: it is of the layer's level, was made with these
-// numbers, and is at work on the layer.
-pub(crate) fn comes_back(book: &Book, terms: &Terms, layer: &Layer) -> bool
-    ensures { IsTrue result ↔ ComesBack terms.now layer.now book.now }
+// What is behind each of the locks, in order. The only error is that memory was refused.
+fn unlock_each(alloc: Global, locks: Vec<Mutex<Book>>) -> Result<Vec<Book>, AllocError> {
+    let mut books = Vec::with_capacity(alloc, locks.len())?;
+    for lock in locks {
+        books.push(lock.into_inner())?;
+    }
+    Ok(books)
+}
+
+// Whether these may be the books that were lent: they are all the shares in order, made by the configuration for the
+// layer's level, and each is at work on the layer.
+pub(crate) fn come_back(books: &[Book], config: Config, layer: &Layer) -> bool
+    requires { IsWithinLimits config }
+    ensures { MatchBool result (ComeBack config layer.now books.now) (¬ (ComeBack config layer.now books.now)) }
 {
-    book.limit() == terms.limit
-        && book.workers() == terms.workers
-        && book.share() == terms.share
-        && book.shares() == terms.shares
+    if books.len() != config.locks as usize {
+        return false;
+    }
+    for place in 0..books.len() {
+        if !comes_back(&books[place], place, config, layer) {
+            return false;
+        }
+    }
+    true
+}
+
+// Whether a book may be the one that was lent in a place.
+fn comes_back(book: &Book, place: usize, config: Config, layer: &Layer) -> bool
+    requires { IsWithinLimits config }
+    ensures { IsTrue result ↔ ComesBack config layer.now place book.now }
+{
+    book.tell();
+    book.limit() == config.limit
+        && book.workers() == config.workers + 1
+        && book.share() as usize == place
+        && book.shares() == config.locks
         && book.layer() == layer.number()
         && book.has_begun()
         && *book.level() == *layer.level()

@@ -1,5 +1,6 @@
-//! Workers that draw the ranks of a layer from a ledger and share the book of its level behind a lock, and the solution
-//! of a level with the fewest pushes, found by any number of them: the answer is that of one.
+//! Workers that draw the ranks of a layer from a ledger and share the books of its level, each behind a lock of its own,
+//! and the solution of a level with the fewest pushes, found by any number of them over any number of books: the answer
+//! is that of one.
 #![tactic(auto)]
 
 mod config;

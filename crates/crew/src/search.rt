@@ -1,11 +1,11 @@
-ghost use Rattle.std.specs.Prelude.{◌≡◌, ◌+◌, ◌≤◌, [], IfOk, IfSome, MatchResult, length};
+ghost use Rattle.std.specs.Prelude.{◌≡◌, ◌+◌, ◌<◌, ◌≤◌, [], IfOk, IfSome, MatchResult, length};
 ghost use Rattle.std.specs.Arc.{arc_value};
 ghost use Rattle.grid.specs.Lawful.{box_count};
 ghost use Rattle.layers.specs.Books.{IsNew};
 ghost use Rattle.solo.specs.Answers.{IsAnswer};
-ghost use Rattle.solo.specs.inside.Turns.{IsBetweenTurns};
 ghost use Rattle.crew.specs.Configured.{IsWithinLimits};
 ghost use Rattle.crew.specs.Solving.{SolveRefused};
+ghost use Rattle.crew.specs.inside.Turning.{AreNewShares, ArePausedBy};
 
 use crate::config::Config;
 use crate::gate::Gate;
@@ -20,14 +20,14 @@ use std::sync::{Arc, Wait};
 use std::thread::Threads;
 
 /// The solution of the level with the fewest pushes, or that it has none, or that more than the configuration's limit
-/// of positions are needed to say so, found by as many workers as the configuration says. The answer is that of
-/// [`solve_alone`], whatever the number of workers, the gate, and the order in which the workers draw ranks and come to
-/// the lock.
+/// of positions are needed to say so, found by as many workers as the configuration says over as many books, each of a
+/// share of the positions and behind a lock of its own. The answer is that of [`solve_alone`], whatever the numbers of
+/// workers and locks, the gate, and the order in which the workers draw ranks and come to the locks.
 ///
 /// [`SolveFault::BadConfig`] exactly where a number of the configuration is outside its limits, before everything
 /// else; [`SolveFault::TooManyBoxes`] where the level has more boxes than [`MAX_BOXES`](grid::MAX_BOXES); and
 /// [`SolveFault::OutOfMemory`] where memory was refused to the caller's own work. A worker that cannot be started, is
-/// refused memory or is stopped ends, and what it left is done by the caller. Waits for the lock and for the workers.
+/// refused memory or is stopped ends, and what it left is done by the caller. Waits for the locks and for the workers.
 pub fn solve<R: Threads + Wait + Sync, G: Gate + Sync>(
     rt: &R,
     alloc: Global,
@@ -35,7 +35,6 @@ pub fn solve<R: Threads + Wait + Sync, G: Gate + Sync>(
     config: Config,
     gate: &G,
 ) -> Result<Answer, SolveFault>
-    requires { config.locks ≡ 1 }
     ensures answer { IfOk result (λ answer. IsAnswer (arc_value level.now) config.limit answer) }
     ensures boxes { MatchResult result (λ answer. IsWithinLimits config × (box_count (arc_value level.now) ≤ MAX_BOXES)) (λ fault. SolveRefused config (arc_value level.now) fault) }
 {
@@ -52,8 +51,8 @@ pub fn solve<R: Threads + Wait + Sync, G: Gate + Sync>(
     }
 }
 
-// The answer that the layers of a level give; `None` where another book came back than was lent. The only error is
-// that memory was refused.
+// The answer that the layers of a level give; `None` where other books came back than were lent. The only error is that
+// memory was refused.
 fn search<R: Threads + Wait + Sync, G: Gate + Sync>(
     rt: &R,
     alloc: Global,
@@ -65,57 +64,86 @@ fn search<R: Threads + Wait + Sync, G: Gate + Sync>(
     requires boxes { box_count (arc_value level.now) ≤ MAX_BOXES }
     ensures { IfOk result (λ found. IfSome found (λ answer. IsAnswer (arc_value level.now) config.limit answer)) }
 {
-    let book = new_book(alloc, level, config)?;
+    let books = new_books(alloc, level, config)?;
     let dead = Dead::of(alloc, level)?;
     let mut scratch = Scratch::new(alloc, level)?;
-    all_turns(rt, alloc, book, &dead, &mut scratch, gate)
+    all_turns(rt, alloc, books, &dead, &mut scratch, config, gate)
 }
 
-// A book for all positions, for the workers and the caller, whose number is the last one. The only error is that
-// memory was refused.
-fn new_book(alloc: Global, level: &Arc<Level>, config: Config) -> Result<Book, AllocError>
+// A book for each share of the positions, for the workers and the caller, whose number is the last one. The only error
+// is that memory was refused.
+fn new_books(alloc: Global, level: &Arc<Level>, config: Config) -> Result<Vec<Book>, AllocError>
     requires limits { IsWithinLimits config }
     requires boxes { box_count (arc_value level.now) ≤ MAX_BOXES }
-    ensures { IfOk result (λ book. IsNew (arc_value level.now) config.limit (config.workers + 1) 0 1 book) }
+    ensures { IfOk result (λ books. AreNewShares (arc_value level.now) config.limit (config.workers + 1) config.locks books.items) }
+{
+    let mut books = Vec::with_capacity(alloc, config.locks as usize)?;
+    for share in 0..config.locks {
+        let book = new_book(alloc, level, config, share)?;
+        books.push(book)?;
+    }
+    Ok(books)
+}
+
+// The book of a share. The only error is that memory was refused.
+fn new_book(
+    alloc: Global,
+    level: &Arc<Level>,
+    config: Config,
+    share: u8,
+) -> Result<Book, AllocError>
+    requires limits { IsWithinLimits config }
+    requires boxes { box_count (arc_value level.now) ≤ MAX_BOXES }
+    requires share { share < config.locks }
+    ensures { IfOk result (λ book. IsNew (arc_value level.now) config.limit (config.workers + 1) share config.locks book) }
 {
     let level = Arc::try_clone(level)?;
-    match Book::of(alloc, level, config.limit, config.workers + 1, 0, 1) {
+    match Book::of(
+        alloc,
+        level,
+        config.limit,
+        config.workers + 1,
+        share,
+        config.locks,
+    ) {
         Ok(book) => Ok(book),
         Err(BookFault::TooManyBoxes) => unreachable!(),
         Err(BookFault::OutOfMemory) => Err(AllocError),
     }
 }
 
-// Looks at layer after layer until there is an answer; `None` where another book came back than was lent. The only
+// Looks at layer after layer until there is an answer; `None` where other books came back than were lent. The only
 // error is that memory was refused.
 fn all_turns<R: Threads + Wait + Sync, G: Gate + Sync>(
     rt: &R,
     alloc: Global,
-    first: Book,
+    first: Vec<Book>,
     dead: &Dead,
     scratch: &mut Scratch,
+    config: Config,
     gate: &G,
 ) -> Result<Option<Answer>, AllocError>
-    requires first { IsBetweenTurns first [] 0 }
-    requires dead_of_level { dead.now ≡ first.level }
-    requires room { scratch.old.size ≡ length first.level.cells }
-    ensures { IfOk result (λ found. IfSome found (λ answer. IsAnswer first.level first.limit answer)) }
+    requires limits { IsWithinLimits config }
+    requires first { ArePausedBy config dead.now first.items [] 0 }
+    requires room { scratch.old.size ≡ length dead.now.cells }
+    ensures { IfOk result (λ found. IfSome found (λ answer. IsAnswer dead.now config.limit answer)) }
 {
     let mut trail = Vec::new(alloc);
     let mut positions = 0;
-    let mut book = first;
+    let mut books = first;
     loop {
         match turn(
             rt,
             alloc,
-            book,
+            books,
             &mut trail,
             &mut positions,
             dead,
             scratch,
+            config,
             gate,
         )? {
-            Turned::Onward(next) => book = next,
+            Turned::Onward(next) => books = next,
             Turned::Found(answer) => return Ok(Some(answer)),
             Turned::Foreign => return Ok(None),
         }

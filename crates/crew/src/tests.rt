@@ -4,7 +4,7 @@ mod draws;
 
 use crate::{Config, Free, Gate, solve};
 use grid::{Cell, Level, MAX_BOXES};
-use layers::MAX_WORKERS;
+use layers::{MAX_SHARES, MAX_WORKERS};
 use solo::{Answer, SolveFault};
 use std::alloc::Global;
 use std::process::Abort;
@@ -27,9 +27,10 @@ const HELD_LAYER: u64 = 1;
 const NOBODY: u64 = u64::MAX;
 
 /// A gate that counts the events of each layer, and in one layer holds the worker that drew first until a parcel
-/// of another worker was accepted there.
+/// of another worker was accepted there by one of the books, of which there are so many.
 #[derive(Drop)]
 struct Holding {
+    locks: u8,
     held: AtomicU64,
     freed: AtomicU64,
     ran_out: AtomicU64,
@@ -37,8 +38,9 @@ struct Holding {
 }
 
 impl Holding {
-    fn new() -> Holding {
+    fn new(locks: u8) -> Holding {
         Holding {
+            locks,
             held: AtomicU64::new(NOBODY),
             freed: AtomicU64::new(0),
             ran_out: AtomicU64::new(0),
@@ -67,9 +69,9 @@ impl Gate for Holding {
         if layer != HELD_LAYER {
             return true;
         }
-        // of each worker's events the odd ones are draws, the even ones parcels that were accepted
+        // each draw of a worker is followed by a parcel that each of the books accepted
         let me = worker as u64;
-        if nth % 2 == 0 {
+        if nth % (self.locks as u64 + 1) != 1 {
             let held = self.held.load(Ordering::SeqCst);
             if held != NOBODY && held != me {
                 self.freed.store(1, Ordering::SeqCst);
@@ -128,70 +130,92 @@ fn home_of(rt: &impl Abort, alloc: Global, boxes: usize) -> Arc<Level> {
     Arc::new(alloc, level).expect(rt, "memory")
 }
 
-/// A configuration of one lock.
-fn config_of(workers: u8, limit: u32) -> Config
-    ensures { result.locks ≡ 1 }
-{
-    Config {
-        workers,
-        locks: 1,
+/// What two workers answer to the level over so many locks, and how often each layer's gate was asked.
+fn held(rt: &HostRuntime, locks: u8, limit: u32) -> (Result<Answer, SolveFault>, [u64; 3]) {
+    let level = level_of(rt, rt.alloc(), TWO_ENDS);
+    let gate = Holding::new(locks);
+    let config = Config {
+        workers: 2,
+        locks,
         limit,
-    }
-}
-
-#[test]
-fn workers_share_a_layer(rt: HostRuntime) {
-    let level = level_of(&rt, rt.alloc(), TWO_ENDS);
-    let gate = Holding::new();
-    let answer = solve(&rt, rt.alloc(), &level, config_of(2, 1_000_000), &gate);
-    assert!(&rt;
-        matches!(
-            &answer,
-            Ok(Answer::Solved {
-                pushes: 2,
-                positions: 4,
-                ..
-            })
-        )
-    );
-    assert_eq!(&rt;
+    };
+    let answer = solve(rt, rt.alloc(), &level, config, &gate);
+    assert_eq!(rt;
         gate.ran_out.load(Ordering::SeqCst),
         0,
         "the worker that was held is let go"
     );
-    for (layer, count) in [(0, 2), (1, 4), (2, 0)] {
-        assert_eq!(&rt;
-            gate.calls[layer].load(Ordering::SeqCst),
-            count,
-            "calls in layer {layer}"
+    let calls = [
+        gate.calls[0].load(Ordering::SeqCst),
+        gate.calls[1].load(Ordering::SeqCst),
+        gate.calls[2].load(Ordering::SeqCst),
+    ];
+    (answer, calls)
+}
+
+#[test]
+fn workers_share_a_layer(rt: HostRuntime) {
+    for (locks, expected) in [(1, [2, 4, 0]), (2, [3, 6, 0])] {
+        let (answer, calls) = held(&rt, locks, 1_000_000);
+        assert!(&rt;
+            matches!(
+                &answer,
+                Ok(Answer::Solved {
+                    pushes: 2,
+                    positions: 4,
+                    ..
+                })
+            )
         );
+        assert_eq!(&rt; calls, expected, "{locks} locks");
     }
+}
+
+#[test]
+fn the_limit_is_counted_over_all_books(rt: HostRuntime) {
+    // the layers hold 4 positions, each of the two books 2, and both accept each parcel
+    let (answer, calls) = held(&rt, 2, 3);
+    assert!(&rt; matches!(&answer, Ok(Answer::Limit)));
+    assert_eq!(&rt; calls, [3, 6, 0]);
 }
 
 #[test]
 fn configurations_outside_the_limits(rt: HostRuntime) {
     for boxes in [1, MAX_BOXES + 1] {
         let level = home_of(&rt, rt.alloc(), boxes);
-        for (workers, limit) in [
-            (0, 1_000_000),
-            (MAX_WORKERS + 1, 1_000_000),
-            (1, 0),
-            (0, 0),
-            (u8::MAX, 1),
+        for (workers, locks, limit) in [
+            (0, 1, 1_000_000),
+            (MAX_WORKERS + 1, 1, 1_000_000),
+            (u8::MAX, 1, 1),
+            (1, 0, 1_000_000),
+            (1, MAX_SHARES + 1, 1_000_000),
+            (1, u8::MAX, 1),
+            (1, 1, 0),
+            (0, 0, 0),
         ] {
-            let answer = solve(&rt, rt.alloc(), &level, config_of(workers, limit), &Free);
+            let config = Config {
+                workers,
+                locks,
+                limit,
+            };
+            let answer = solve(&rt, rt.alloc(), &level, config, &Free);
             assert!(&rt;
                 matches!(answer, Err(SolveFault::BadConfig)),
-                "{workers} workers, limit {limit}"
+                "{workers} workers, {locks} locks, limit {limit}"
             );
         }
     }
     let many = home_of(&rt, rt.alloc(), MAX_BOXES + 1);
-    for workers in [1, MAX_WORKERS] {
-        let answer = solve(&rt, rt.alloc(), &many, config_of(workers, 1), &Free);
+    for (workers, locks) in [(1, 1), (MAX_WORKERS, MAX_SHARES)] {
+        let config = Config {
+            workers,
+            locks,
+            limit: 1,
+        };
+        let answer = solve(&rt, rt.alloc(), &many, config, &Free);
         assert!(&rt;
             matches!(answer, Err(SolveFault::TooManyBoxes)),
-            "{workers} workers"
+            "{workers} workers, {locks} locks"
         );
     }
 }

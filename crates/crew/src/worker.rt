@@ -13,19 +13,19 @@ use layers::{Book, Layer, Parcel, Refusal, expand, expand_into};
 use std::sync::{Mutex, Wait};
 
 /// Works on a layer as one worker, until it ends: draws a rank, expands it while no lock is held, and hands the parcel
-/// back under the lock. Its place in the ledger is its number. After each draw that gives a rank and each accepted
-/// parcel it asks the gate, with no lock held.
+/// back to each of the books in order, under one lock at a time. Its place in the ledger is its number. After each draw
+/// that gives a rank, and each parcel that a book accepted, it asks the gate, with no lock held.
 ///
-/// What is behind the lock may be any book, so under the lock the worker asks for level, layer and its own number
+/// What is behind a lock may be any book, so under the lock the worker asks for level, layer and its own number
 /// again. It ends with [`End::Stopped`] only where the gate may stop a worker, with [`End::Drained`] only where its
 /// drawer has its place and is spent out, with [`End::NoPlace`] only where its drawer has seen that place taken, with
 /// [`End::Refused`] only where a book of its own did not accept a parcel of the layer, for that reason, and with
-/// [`End::Foreign`] only where the book was not its own.
+/// [`End::Foreign`] only where a book was not its own.
 pub fn work<R: Wait, G: Gate>(
     rt: &R,
     layer: &Layer,
     dead: &Dead,
-    book: &Mutex<Book>,
+    books: &[Mutex<Book>],
     ledger: &Ledger,
     drawer: &mut Drawer,
     worker: u8,
@@ -53,7 +53,7 @@ pub fn work<R: Wait, G: Gate>(
     };
     let mut parcel = expand(layer, dead, rank, scratch);
     for _ in rt.forever() {
-        if let Err(end) = hand_back(rt, layer, book, worker, &parcel, gate, &mut nth) {
+        if let Err(end) = hand_back(rt, layer, books, worker, &parcel, gate, &mut nth) {
             return end;
         }
         match draw(layer, ledger, drawer, worker, gate, &mut nth) {
@@ -100,8 +100,29 @@ fn draw_rank(layer: &Layer, ledger: &Ledger, drawer: &mut Drawer, worker: u8) ->
     }
 }
 
-// Hands a parcel back under the lock, and then passes the gate.
+// Hands a parcel back to each of the books in order.
 fn hand_back<R: Wait, G: Gate>(
+    rt: &R,
+    layer: &Layer,
+    books: &[Mutex<Book>],
+    worker: u8,
+    parcel: &Parcel<'_>,
+    gate: &G,
+    nth: &mut u64,
+) -> Result<(), End>
+    requires { IsOfLayer layer.now parcel.now }
+    ensures end { IfErr result (λ end. MayEnd G.may_stop end) }
+    ensures hand { (hand : Hand) → IfErr result (λ end. EndsWith worker hand end) }
+    ensures answered { IfErr result (λ end. WasAnswered layer.now worker end) }
+{
+    for book in books {
+        hand_to(rt, layer, book, worker, parcel, gate, nth)?;
+    }
+    Ok(())
+}
+
+// Hands a parcel back to one book under its lock, and then passes the gate.
+fn hand_to<R: Wait, G: Gate>(
     rt: &R,
     layer: &Layer,
     book: &Mutex<Book>,

@@ -12,26 +12,24 @@ use std::sync::{Mutex, Wait};
 use std::thread;
 use std::thread::Threads;
 
-// Lends the book and the ledger to so many workers, each with a drawer of its own, and gives what is behind the lock
-// once all of them have ended. A worker that cannot be started does nothing.
+// Lends the books and the ledger to so many workers, each with a drawer of its own, and waits until all of them have
+// ended. A worker that cannot be started does nothing.
 pub(crate) fn work_all<R: Threads + Wait + Sync, G: Gate + Sync>(
     rt: &R,
     alloc: Global,
-    book: Book,
+    books: &[Mutex<Book>],
     layer: &Layer,
     dead: &Dead,
     ledger: &Ledger,
     drawer: Drawer,
     workers: u8,
     gate: &G,
-) -> Book
+)
     requires dead_of_level { dead.now ≡ layer.now.level }
     requires ranks { ledger.now.len ≤ length layer.now.places }
     requires drawer { drawer ≡ newcomer ledger.now }
     requires places { workers ≤ PLACES }
 {
-    let lock = Mutex::new(book);
-    let shared = &lock;
     thread::scope(
         thread::scope_env(),
         rt,
@@ -51,12 +49,11 @@ pub(crate) fn work_all<R: Threads + Wait + Sync, G: Gate + Sync>(
                         requires ranks { ledger.now.len ≤ length layer.now.places }
                         requires drawer { own ≡ newcomer ledger.now }
                         requires place { worker < PLACES }
-                    { help(rt, alloc, layer, dead, shared, ledger, own, worker, gate) },
+                    { help(rt, alloc, layer, dead, books, ledger, own, worker, gate) },
                 );
             }
         },
     );
-    lock.into_inner()
 }
 
 // Works on a layer as one worker with a scratch of its own. How it ends decides nothing, and a worker that gets no
@@ -66,7 +63,7 @@ fn help<R: Wait, G: Gate>(
     alloc: Global,
     layer: &Layer,
     dead: &Dead,
-    book: &Mutex<Book>,
+    books: &[Mutex<Book>],
     ledger: &Ledger,
     drawer: Drawer,
     worker: u8,
@@ -83,7 +80,7 @@ fn help<R: Wait, G: Gate>(
             rt,
             layer,
             dead,
-            book,
+            books,
             ledger,
             &mut own,
             worker,

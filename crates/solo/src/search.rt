@@ -2,19 +2,19 @@ ghost use Rattle.std.specs.Prelude.{◌≡◌, ℕ, ◌<◌, ◌≤◌, IfNone, 
 ghost use Rattle.std.specs.Arc.{arc_value};
 ghost use Rattle.grid.specs.Lawful.{box_count};
 ghost use Rattle.grid.specs.declared.limits.TheConstants.{MAX_BOXES};
-ghost use Rattle.layers.specs.Books.{IsNew, MayBegin};
-ghost use Rattle.layers.specs.Events.{AreMadeAlike};
+ghost use Rattle.layers.specs.Books.{IsNew};
 ghost use Rattle.solo.specs.Answers.{IsAnswer};
 ghost use Rattle.solo.specs.Refusals.{SolveRefused};
-ghost use Rattle.solo.specs.inside.Turns.{IsBetweenTurns, WorkAnswer};
+ghost use Rattle.solo.specs.inside.Turns.{AreBetweenTurns};
 
 use crate::answer::{Answer, SolveFault};
-use crate::turn::{Worked, begin, finish, last_layer, look};
+use crate::turn::{Worked, begin_each, finish_each, last_layer, look};
 use area::Scratch;
 use doom::Dead;
 use grid::{Level, MAX_BOXES};
-use layers::{Book, BookFault, Layer, Parents};
+use layers::{Book, BookFault, Parents};
 use std::alloc::{AllocError, Global};
+use std::slice;
 use std::sync::Arc;
 
 /// The solution of the level with the fewest pushes, or that it has none, or that more than `limit` positions are
@@ -46,7 +46,13 @@ fn search(alloc: Global, level: &Arc<Level>, limit: u32) -> Result<Answer, Alloc
     let mut book = new_book(alloc, level, limit)?;
     let dead = Dead::of(alloc, level)?;
     let mut scratch = Scratch::new(alloc, level)?;
-    all_turns(alloc, &mut book, &dead, &mut scratch)
+    all_turns(
+        alloc,
+        slice::from_mut(&mut book),
+        &dead,
+        &mut scratch,
+        limit,
+    )
 }
 
 // A book for all positions and one worker. The only error is that memory was refused.
@@ -65,77 +71,60 @@ fn new_book(alloc: Global, level: &Arc<Level>, limit: u32) -> Result<Book, Alloc
 // Makes turn after turn until there is an answer. The only error is that memory was refused.
 fn all_turns(
     alloc: Global,
-    book: &mut Book,
+    books: &mut [Book],
     dead: &Dead,
     scratch: &mut Scratch,
+    limit: u32,
 ) -> Result<Answer, AllocError>
-    requires first { IsBetweenTurns book.old [] 0 }
-    requires dead_of_level { dead.now ≡ book.old.level }
-    requires room { scratch.old.size ≡ length book.old.level.cells }
-    ensures { IfOk result (λ answer. IsAnswer book.old.level book.old.limit answer) }
+    requires first { AreBetweenTurns dead.now limit 1 1 books.old [] 0 }
+    requires room { scratch.old.size ≡ length dead.now.cells }
+    ensures { IfOk result (λ answer. IsAnswer dead.now limit answer) }
 {
     let mut trail = Vec::new(alloc);
     let mut positions = 0;
     loop {
-        let found = turn(alloc, book, &mut trail, &mut positions, dead, scratch)?;
+        let found = turn(
+            alloc,
+            books,
+            &mut trail,
+            &mut positions,
+            dead,
+            scratch,
+            limit,
+        )?;
         if let Some(answer) = found {
             return Ok(answer);
         }
     }
 }
 
-// Looks at the last layer that the book closed, and does its ranks where it gives no answer. The only error is that
-// memory was refused.
+// Looks at the last layer that the books closed, and does its ranks as their one worker where it gives no answer. The
+// only error is that memory was refused.
 fn turn(
     alloc: Global,
-    book: &mut Book,
+    books: &mut [Book],
     trail: &mut Vec<Parents>,
     positions: &mut u64,
     dead: &Dead,
     scratch: &mut Scratch,
+    limit: u32,
 ) -> Result<Option<Answer>, AllocError>
-    requires turn { IsBetweenTurns book.old trail.old.items positions.old }
-    requires dead_of_level { dead.now ≡ book.old.level }
-    requires room { scratch.old.size ≡ length book.old.level.cells }
-    ensures answer { IfOk result (λ found. IfSome found (λ answer. IsAnswer book.old.level book.old.limit answer)) }
-    ensures onward { IfOk result (λ found. IfNone found (AreMadeAlike book.old book.new × IsBetweenTurns book.new trail.new.items positions.new × (positions.old < positions.new))) }
+    requires turn { AreBetweenTurns dead.now limit 1 1 books.old trail.old.items positions.old }
+    requires room { scratch.old.size ≡ length dead.now.cells }
+    ensures answer { IfOk result (λ found. IfSome found (λ answer. IsAnswer dead.now limit answer)) }
+    ensures onward { IfOk result (λ found. IfNone found (AreBetweenTurns dead.now limit 1 1 books.new trail.new.items positions.new × (positions.old < positions.new))) }
     ensures size { scratch.new.size ≡ scratch.old.size }
 {
-    let layer = last_layer(alloc, book)?;
-    let found = look(
-        alloc,
-        trail.as_slice(),
-        positions,
-        &layer,
-        book.limit(),
-        scratch,
-    )?;
+    let layer = last_layer(alloc, books)?;
+    let found = look(alloc, trail.as_slice(), positions, &layer, limit, scratch)?;
     if let Some(answer) = found {
         return Ok(Some(answer));
     }
-    let worked = work(book, &layer, dead, scratch)?;
+    begin_each(books, &layer)?;
+    let worked = finish_each(books, &layer, dead, scratch, 0)?;
     trail.push(Parents::of(layer))?;
-    book.tell();
     match worked {
         Worked::Over => Ok(Some(Answer::Limit)),
         Worked::Through => Ok(None),
     }
-}
-
-// Does all ranks of the last closed layer, as the one worker. The only error is that memory was refused.
-fn work(
-    book: &mut Book,
-    layer: &Layer,
-    dead: &Dead,
-    scratch: &mut Scratch,
-) -> Result<Worked, AllocError>
-    requires may { MayBegin book.old layer.now }
-    requires dead_of_level { dead.now ≡ layer.now.level }
-    requires room { scratch.old.size ≡ length layer.now.level.cells }
-    ensures worked { IfOk result (λ worked. WorkAnswer book.old worked book.new) }
-    ensures size { scratch.new.size ≡ scratch.old.size }
-{
-    book.tell();
-    begin(book, layer)?;
-    finish(book, layer, dead, scratch, 0)
 }

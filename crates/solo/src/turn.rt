@@ -1,12 +1,12 @@
 //! The turns of a search, for one worker and for several: each looks at the next layer, and where that gives no answer
 //! has its ranks done until the layer after it is closed. The only error is that memory was refused.
 ghost use Rattle.std.specs.Prelude.{◌≡◌, ◌+◌, ◌-◌, ◌<◌, ◌≤◌, ℕ, List, [], ◌∷◌, ◌++◌, Some, true, false, IfNone, IfOk, IfSome, MatchBool, OnErr, OnOk, length, slice_get};
-ghost use Rattle.layers.specs.BookView.{Closed};
-ghost use Rattle.layers.specs.Books.{AllDone, HasBegun, IsAtWork, MayBegin, with_begun, with_closed, with_parcel};
+ghost use Rattle.layers.specs.BookView.{BookView, Closed};
+ghost use Rattle.layers.specs.Books.{AllDone, AreAllShares, HasBegun, IsAtWork, IsJoinOf, MayBegin, with_begun, with_closed, with_parcel};
 ghost use Rattle.solo.specs.Answers.{IsAnswer};
 ghost use Rattle.solo.specs.Leads.{IsFirstSolved};
 ghost use Rattle.solo.specs.inside.Searched.{HaveBefore, IsLookedAt};
-ghost use Rattle.solo.specs.inside.Turns.{IsLastOf, IsStillAt, WorkAnswer, with_over};
+ghost use Rattle.solo.specs.inside.Turns.{HaveBegun, IsStillAt, MayBeWorked, MayHaveBegun, WorkAnswer, WorkAnswers, with_over};
 
 use crate::answer::Answer;
 use crate::goals::first_solved;
@@ -17,7 +17,6 @@ use layers::{
     BeginFault, Book, CloseFault, JoinFault, Layer, Parcel, Parents, Refusal, expand, expand_into,
 };
 use std::alloc::{AllocError, Global};
-use std::slice;
 
 /// How the last ranks of a layer ended.
 #[derive(Clone, Copy, PartialEq, Eq, Debug)]
@@ -92,17 +91,29 @@ fn solved(
     })
 }
 
-/// The last layer that a book of all positions has closed.
-pub fn last_layer(alloc: Global, book: &Book) -> Result<Layer, AllocError>
-    requires { book.now.shares ≡ 1 }
-    ensures { IfOk result (λ layer. IsLastOf book.now layer) }
+/// The last layer that the books have closed, which are all the shares in order.
+pub fn last_layer(alloc: Global, books: &[Book]) -> Result<Layer, AllocError>
+    requires { AreAllShares books.now }
+    ensures { IfOk result (λ layer. IsJoinOf books.now layer) }
 {
-    book.tell();
-    match Layer::join(alloc, slice::from_ref(book)) {
+    match Layer::join(alloc, books) {
         Ok(layer) => Ok(layer),
         Err(JoinFault::NotWhole) => unreachable!(),
         Err(JoinFault::OutOfMemory) => Err(AllocError),
     }
+}
+
+/// Opens the ranks of the last closed layer in each of the books. After an error some of them have begun, and the others
+/// are as they were.
+pub fn begin_each(books: &mut [Book], layer: &Layer) -> Result<(), AllocError>
+    requires { (i : ℕ) (v : BookView) → slice_get books.old i ≡ Some v → MayBegin v layer.now }
+    ensures ok { OnOk result (HaveBegun books.old (length layer.now.places) books.new) }
+    ensures err { OnErr result (MayHaveBegun books.old (length layer.now.places) books.new) }
+{
+    for place in 0..books.len() {
+        begin(&mut books[place], layer)?;
+    }
+    Ok(())
 }
 
 /// Opens the ranks of the last closed layer. An error leaves the book as it was.
@@ -116,6 +127,35 @@ pub fn begin(book: &mut Book, layer: &Layer) -> Result<(), AllocError>
         Err(BeginFault::OutOfMemory) => Err(AllocError),
         Err(_) => unreachable!(),
     }
+}
+
+/// Does as one of the workers whatever is left of the last closed layer in each of the books, one after the other, and
+/// closes the next one there; until one of them is over, or comes to be. After an error each book is as it was, still at
+/// work on that layer, perhaps with more of its ranks done, or has closed the next one.
+pub fn finish_each(
+    books: &mut [Book],
+    layer: &Layer,
+    dead: &Dead,
+    scratch: &mut Scratch,
+    worker: u8,
+) -> Result<Worked, AllocError>
+    requires begun { (i : ℕ) (v : BookView) → slice_get books.old i ≡ Some v → HasBegun v layer.now }
+    requires worker { (i : ℕ) (v : BookView) → slice_get books.old i ≡ Some v → worker < v.workers }
+    requires dead_of_level { dead.now ≡ layer.now.level }
+    requires room { scratch.old.size ≡ length layer.now.level.cells }
+    ensures worked { IfOk result (λ worked. WorkAnswers books.old worked books.new) }
+    ensures err { OnErr result (MayBeWorked books.old layer.now books.new) }
+    ensures size { scratch.new.size ≡ scratch.old.size }
+{
+    for place in 0..books.len() {
+        let worked = finish(&mut books[place], layer, dead, scratch, worker)?;
+        books[place].tell();
+        match worked {
+            Worked::Through => {}
+            Worked::Over => return Ok(Worked::Over),
+        }
+    }
+    Ok(Worked::Through)
 }
 
 /// Does as one of the workers whatever is left of the last closed layer, whoever claimed it, and closes the next one;

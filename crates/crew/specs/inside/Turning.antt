@@ -1,35 +1,33 @@
--- How a turn of a search with workers ends.
-use Rattle.std.specs.Prelude.{◌≡◌, ℕ, suc, ◌<◌, ◌≤◌, List, [], ◌∷◌, ◌++◌, length}
+-- The books of a search with workers, and how a turn of it ends.
+use Rattle.std.specs.Prelude.{◌≡◌, ℕ, ◌+◌, ◌<◌, List, length, slice_get, Some}
 use Rattle.grid.specs.declared.square.Push.{Push}
-use Rattle.layers.specs.LayerView.{LayerView}
+use Rattle.grid.specs.Board.{Board}
 use Rattle.layers.specs.BookView.{BookView}
+use Rattle.layers.specs.Books.{IsNew}
+use Rattle.layers.specs.LayerView.{LayerView}
 use Rattle.layers.specs.Openings.{Origin}
-use Rattle.layers.specs.Events.{AreMadeAlike}
 use Rattle.solo.specs.Answers.{IsAnswer}
-use Rattle.solo.specs.inside.Searched.{IsLookedAt}
-use Rattle.solo.specs.inside.Turns.{IsBetweenTurns, IsLastOf}
-use Rattle.crew.specs.declared.turns.Next.{Next}
-use Rattle.crew.specs.declared.turns.Next.TheVariants.{Layer, Found as FoundIn}
+use Rattle.solo.specs.inside.Turns.{AreBetweenTurns, AreWorked}
+use Rattle.solo.specs.declared.turn.Worked.{Worked}
+use Rattle.crew.specs.declared.config.Config.{Config}
 use Rattle.crew.specs.declared.turns.Turned.{Turned}
 use Rattle.crew.specs.declared.turns.Turned.TheVariants.{Onward, Found, Foreign}
 
--- the last layer that the book closed was looked at too, and gives no answer: it is not empty, and no longer than the
--- limit
-pub record HasLooked (book : BookView) (trail : List (List (Origin Push))) (before positions : ℕ) (layer : LayerView) : Type 0 where
-  pub looked : IsLookedAt book.level book.limit (trail ++ layer.origins ∷ []) positions
-  pub more : before < positions
-  pub last : IsLastOf book layer
-  pub few : length layer.places ≤ book.limit
-  pub closed : length book.closed ≡ suc (length trail)
+-- the books are new, and all the shares of the level in order, made with this limit and for so many workers
+abbrev pub AreNewShares : Board → ℕ → ℕ → ℕ → List BookView → Type 0
+AreNewShares level limit workers shares books = (length books ≡ shares) × ((i : ℕ) (v : BookView) → slice_get books i ≡ Some v → IsNew level limit workers i shares v)
 
--- what a look at the last layer that the book closed gives
-abbrev pub NextAnswer : BookView → List (List (Origin Push)) → ℕ → ℕ → Next → Type 0
-NextAnswer book trail before positions (Layer layer) = HasLooked book trail before positions layer
-NextAnswer book trail before positions (FoundIn answer) = IsAnswer book.level book.limit answer
+-- the books of a search by the configuration are between two turns
+abbrev pub ArePausedBy : Config → Board → List BookView → List (List (Origin Push)) → ℕ → Type 0
+ArePausedBy config board books trail positions = AreBetweenTurns board config.limit (config.workers + 1) config.locks books trail positions
 
--- how a turn ends: the search goes on with a book that has closed the next layer; or there is an answer; or another
--- book came back
-abbrev pub TurnAnswer : BookView → List (List (Origin Push)) → ℕ → ℕ → Turned → Type 0
-TurnAnswer book trail before positions (Onward next) = AreMadeAlike book next × IsBetweenTurns next trail positions × (before < positions)
-TurnAnswer book trail before positions (Found answer) = IsAnswer book.level book.limit answer
-TurnAnswer book trail before positions Foreign = Unit {0}
+-- the books of a search by the configuration were at work on the layer, and this is how its last ranks left them
+abbrev pub AreWorkedBy : Config → LayerView → Worked → List BookView → Type 0
+AreWorkedBy config layer worked books = AreWorked layer.level config.limit (config.workers + 1) config.locks layer worked books
+
+-- how a turn ends: the search goes on with books that have closed the next layer; or there is an answer; or other books
+-- came back
+abbrev pub TurnAnswer : Config → Board → List (List (Origin Push)) → ℕ → ℕ → Turned → Type 0
+TurnAnswer config board trail before positions (Onward books) = ArePausedBy config board books.items trail positions × (before < positions)
+TurnAnswer config board trail before positions (Found answer) = IsAnswer board config.limit answer
+TurnAnswer config board trail before positions Foreign = Unit {0}

@@ -56,7 +56,7 @@ fn worked<R: Wait + Abort>(
         rt,
         layer,
         &dead,
-        &lock,
+        slice::from_ref(&lock),
         ledger,
         &mut own,
         0,

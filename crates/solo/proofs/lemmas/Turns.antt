@@ -1,20 +1,21 @@
 -- From one turn of a search to the next, and what a book that is over says.
-use Rattle.std.proofs.Common.{◌≡◌, ℕ, true, List, [], ◌∷◌, ◌++◌, length, refl, sym, ap, subst, ◌∙◌, arith}
+use Rattle.std.proofs.Common.{◌≡◌, ℕ, zero, suc, ◌≤◌, true, false, List, [], ◌∷◌, ◌++◌, length, get_or, Some, refl, sym, ap, subst, ◌∙◌, arith}
+use Rattle.std.specs.Prelude.{slice_get}
 use Rattle.std.proofs.lemmas.List.{length-append, length-map}
-use Rattle.std.proofs.lemmas.Option.{none-some}
+use Rattle.std.proofs.lemmas.Option.{none-some, same_Some, slice_get-get_or, slice_get_within}
 use Rattle.grid.specs.Board.{Board}
 use Rattle.grid.specs.Lawful.{IsLevel}
 use Rattle.grid.specs.declared.square.Push.{Push}
 use Rattle.layers.specs.Openings.{Origin}
 use Rattle.layers.specs.Reaching.{IsLayerOf}
 use Rattle.layers.specs.LayerView.{LayerView}
-use Rattle.layers.specs.BookView.{BookView, IsLawfulBook, last_layer}
+use Rattle.layers.specs.BookView.{BookView, IsLawfulBook}
 use Rattle.layers.specs.Distances.{IsAtDistance}
-use Rattle.layers.specs.Books.{IsNew}
+use Rattle.layers.specs.Books.{AreAllShares, IsJoinOf, IsNew, MayBegin, with_begun}
 use Rattle.layers.proofs.lemmas.Shares.{closed_upto}
 use Rattle.solo.specs.Answers.{IsAnswer}
 use Rattle.solo.specs.inside.Searched.{IsLookedAt, places_of}
-use Rattle.solo.specs.inside.Turns.{IsBetweenTurns, IsLastOf, WorkAnswer}
+use Rattle.solo.specs.inside.Turns.{AreBetweenTurns, AreDealt, AreWorked, AreWorkingOn, HaveBegun, IsDealt, IsWorkingOn, WorkAnswer}
 use Rattle.solo.specs.declared.answer.Answer.TheVariants.{Limit}
 use Rattle.solo.specs.declared.turn.Worked.TheVariants.{Through, Over}
 use Rattle.solo.proofs.ReadingBack.{trail_long}
@@ -30,30 +31,85 @@ none_looked board limit = record {
   within = omega arith;
 }
 
+-- new books are before the first turn
+pub first_turn : (board : Board) (limit workers shares : ℕ) (books : List BookView) → length books ≡ shares → ((i : ℕ) (v : BookView) → slice_get books i ≡ Some v → IsNew board limit workers i shares v) → AreBetweenTurns board limit workers shares books [] 0
+first_turn board limit workers shares books all new = record {
+  dealt = record { all = all; each = λ i v at. (new i v at).made_with };
+  paused = λ i v at. ((new i v at).begun, ap length (new i v at).closed.1);
+  looked = none_looked board limit;
+}
+
 -- a new book of all positions is before the first turn
-pub first_turn : (board : Board) (limit workers share : ℕ) (book : BookView) → IsNew board limit workers share 1 book → IsBetweenTurns book [] 0
-first_turn board limit workers share book new = record {
-  all = new.made_with.4;
-  begun = new.begun;
-  next = ap length new.closed.1;
-  looked = none_looked book.level book.limit;
-}
-
--- the number of the last closed layer
-pub next_number : (book : BookView) (trail : List (List (Origin Push))) (positions : ℕ) (layer : LayerView) → IsBetweenTurns book trail positions → IsLastOf book layer → layer.number ≡ length trail
-next_number book trail positions layer turn last = last.1 ∙ before
+pub first_of_one : (board : Board) (limit workers : ℕ) (book : BookView) → IsNew board limit workers 0 1 book → AreBetweenTurns board limit workers 1 (book ∷ []) [] 0
+first_of_one board limit workers book new = first_turn board limit workers 1 (book ∷ []) refl each
   where
-    before : last_layer book ≡ length trail
-    before = omega (arith, turn.next)
+    each : (i : ℕ) (v : BookView) → slice_get (book ∷ []) i ≡ Some v → IsNew board limit workers i 1 v
+    each zero v at = subst (IsNew board limit workers 0 1) (same_Some book v at) new
+    each (suc i) v at = absurd (none-some v at)
 
--- once the next layer was looked at and its ranks are done, the book is between two turns again
-pub turn_on : (before after : BookView) (trail all : List (List (Origin Push))) (positions count : ℕ) (layer : LayerView) → IsBetweenTurns before trail positions → IsLastOf before layer → IsLookedAt layer.level before.limit all count → all ≡ trail ++ layer.origins ∷ [] → WorkAnswer before Through after → IsBetweenTurns after all count
-turn_on before after trail all positions count layer turn last looked is (alike, begun, closed) = record {
-  all = sym alike.4 ∙ turn.all;
-  begun = begun;
-  next = omega (arith, ap length is, length-append trail (layer.origins ∷ []), turn.next, closed);
-  looked = subst (λ limit. IsLookedAt after.level limit all count) alike.1 (subst (λ board. IsLookedAt board before.limit all count) (last.0 ∙ alike.0) looked);
+-- ---- between two turns
+
+-- the books can be joined
+pub all_shares : (board : Board) (limit workers shares : ℕ) (books : List BookView) (trail : List (List (Origin Push))) (positions : ℕ) → 1 ≤ shares → AreBetweenTurns board limit workers shares books trail positions → AreAllShares books
+all_shares board limit workers shares [] trail positions some turn = absurd (omega (arith, turn.dealt.all))
+all_shares board limit workers shares (first ∷ books) trail positions some turn =
+    let d = turn.dealt.each 0 first refl in record {
+      first = first;
+      head = refl;
+      all = turn.dealt.all ∙ sym d.4;
+      each = λ i v at. (let e = turn.dealt.each i v at in (e.3, e.0 ∙ sym d.0, e.1 ∙ sym d.1, e.4 ∙ sym d.4, (turn.paused i v at).1 ∙ sym (turn.paused 0 first refl).1));
+    }
+
+-- the layer that they have closed last is the next one of the level
+pub next_of : (board : Board) (limit workers shares : ℕ) (books : List BookView) (trail : List (List (Origin Push))) (positions : ℕ) (layer : LayerView) → 1 ≤ shares → AreBetweenTurns board limit workers shares books trail positions → IsJoinOf books layer → (layer.level ≡ board) × (layer.number ≡ length trail)
+next_of board limit workers shares [] trail positions layer some turn join = absurd (omega (arith, turn.dealt.all))
+next_of board limit workers shares (first ∷ books) trail positions layer some turn join =
+    let last = join.1 first refl in (last.0 ∙ (turn.dealt.each 0 first refl).0, omega (arith, last.1, (turn.paused 0 first refl).1))
+
+-- and each of them may begin it
+pub may_begin : (board : Board) (limit workers shares : ℕ) (books : List BookView) (trail : List (List (Origin Push))) (positions : ℕ) (layer : LayerView) → AreBetweenTurns board limit workers shares books trail positions → (layer.level ≡ board) × (layer.number ≡ length trail) → (i : ℕ) (v : BookView) → slice_get books i ≡ Some v → MayBegin v layer
+may_begin board limit workers shares books trail positions layer turn next i v at =
+    (next.0 ∙ sym (turn.dealt.each i v at).0, omega (arith, next.1, (turn.paused i v at).1), (turn.paused i v at).0)
+
+-- then they are at work on it
+pub at_work : (board : Board) (limit workers shares : ℕ) (books after : List BookView) (trail : List (List (Origin Push))) (positions ranks : ℕ) (layer : LayerView) → AreBetweenTurns board limit workers shares books trail positions → (layer.level ≡ board) × (layer.number ≡ length trail) → HaveBegun books ranks after → AreDealt board limit workers shares after × AreWorkingOn layer after
+at_work board limit workers shares books after trail positions ranks layer turn next begun = (
+  record { all = begun.0 ∙ turn.dealt.all; each = λ i w at. subst (IsDealt board limit workers shares i) (from i w at).2 (turn.dealt.each i (from i w at).0 (from i w at).1) },
+  λ i w at. subst (IsWorkingOn layer) (from i w at).2 (working i (from i w at).0 (from i w at).1),
+)
+  where
+    from : (i : ℕ) (w : BookView) → slice_get after i ≡ Some w → (v : BookView) × (slice_get books i ≡ Some v) × (with_begun v ranks ≡ w)
+    from i w at =
+        let there : slice_get books i ≡ Some (get_or books i w) = slice_get-get_or books i w (omega (arith, slice_get_within after i w at, begun.0)) in
+        (get_or books i w, there, same_Some (with_begun (get_or books i w) ranks) w (sym (begun.1 i (get_or books i w) there) ∙ at))
+
+    working : (i : ℕ) (v : BookView) → slice_get books i ≡ Some v → IsWorkingOn layer (with_begun v ranks)
+    working i v at = (((may_begin board limit workers shares books trail positions layer turn next i v at).0, (may_begin board limit workers shares books trail positions layer turn next i v at).1, refl), omega (arith, next.1, (turn.paused i v at).1))
+
+-- once the next layer was looked at and its ranks are done, the books are between two turns again
+pub turn_on : (board : Board) (limit workers shares : ℕ) (after : List BookView) (trail : List (List (Origin Push))) (count : ℕ) (layer : LayerView) → (layer.level ≡ board) × (layer.number ≡ length trail) → IsLookedAt layer.level limit (trail ++ layer.origins ∷ []) count → AreWorked board limit workers shares layer Through after → AreBetweenTurns board limit workers shares after (trail ++ layer.origins ∷ []) count
+turn_on board limit workers shares after trail count layer next looked (before, dealt, working, (same, left)) = record {
+  dealt = record { all = same ∙ dealt.all; each = λ i w at. (through i w at).0 };
+  paused = λ i w at. ((through i w at).1, (through i w at).2);
+  looked = subst (λ b. IsLookedAt b limit (trail ++ layer.origins ∷ []) count) next.0 looked;
 }
+  where
+    left_so : (i : ℕ) (v w : BookView) → slice_get before i ≡ Some v → WorkAnswer v Through w → IsDealt board limit workers shares i w × (w.begun ≡ false) × (length w.closed ≡ suc (length (trail ++ layer.origins ∷ [])))
+    left_so i v w at (alike, begun, closed) =
+        let d = dealt.each i v at in
+        ((sym alike.0 ∙ d.0, sym alike.1 ∙ d.1, sym alike.2 ∙ d.2, sym alike.3 ∙ d.3, sym alike.4 ∙ d.4), begun, omega (arith, closed, (working i v at).1, next.1, length-append trail (layer.origins ∷ [])))
+
+    through : (i : ℕ) (w : BookView) → slice_get after i ≡ Some w → IsDealt board limit workers shares i w × (w.begun ≡ false) × (length w.closed ≡ suc (length (trail ++ layer.origins ∷ [])))
+    through i w at =
+        let v = get_or before i w in
+        let there : slice_get before i ≡ Some v = slice_get-get_or before i w (omega (arith, slice_get_within after i w at, same)) in
+        let l = left i v there in
+        left_so i v w there (subst (WorkAnswer v Through) (same_Some l.0 w (sym l.1 ∙ at)) l.2)
+
+-- with the parents that were kept
+pub trail_grown : (board : Board) (limit workers shares : ℕ) (after : List BookView) (trail all : List (List (Origin Push))) (parents : List (Origin Push)) (count : ℕ) (layer : LayerView) → all ≡ trail ++ parents ∷ [] → parents ≡ layer.origins → AreBetweenTurns board limit workers shares after (trail ++ layer.origins ∷ []) count → AreBetweenTurns board limit workers shares after all count
+trail_grown board limit workers shares after trail all parents count layer is same turn =
+    subst (λ ls. AreBetweenTurns board limit workers shares after ls count) (sym (is ∙ ap (λ (o : List (Origin Push)). trail ++ o ∷ []) same)) turn
 
 -- where a book is over, and the layers that it has closed were looked at, the answer is the limit
 pub over_limit : (board : Board) (limit positions : ℕ) (trail : List (List (Origin Push))) (book : BookView) → IsLookedAt board limit trail positions → IsLawfulBook book → book.level ≡ board → book.limit ≡ limit → book.over ≡ true → length book.closed ≡ length trail → IsAnswer board limit Limit
@@ -72,8 +128,9 @@ over_limit board limit positions trail book looked lawful level same over long =
       unsolved = searched_bound board (places_of layers) (subst IsLevel level lawful.level) searched;
     }
 
--- so it is where the ranks of the layer that was looked at last were done until the book was over
-pub turn_over : (before after : BookView) (trail all : List (List (Origin Push))) (positions count : ℕ) (layer : LayerView) → IsBetweenTurns before trail positions → IsLastOf before layer → IsLookedAt layer.level before.limit all count → all ≡ trail ++ layer.origins ∷ [] → IsLawfulBook after → WorkAnswer before Over after → IsAnswer before.level before.limit Limit
-turn_over before after trail all positions count layer turn last looked is lawful (alike, over, closed) =
-    over_limit before.level before.limit count all after (subst (λ board. IsLookedAt board before.limit all count) last.0 looked) lawful (sym alike.0) (sym alike.1) over
-    (omega (arith, ap length is, length-append trail (layer.origins ∷ []), turn.next, closed))
+-- so it is where the ranks of the layer that was looked at last were done until one of the books was over
+pub turn_over : (board : Board) (limit workers shares : ℕ) (after : List BookView) (trail : List (List (Origin Push))) (count : ℕ) (layer : LayerView) → (layer.level ≡ board) × (layer.number ≡ length trail) → IsLookedAt layer.level limit (trail ++ layer.origins ∷ []) count → AreWorked board limit workers shares layer Over after → IsAnswer board limit Limit
+turn_over board limit workers shares after trail count layer next looked (before, dealt, working, (i, v, at, (w, there, (alike, over, closed), lawful))) =
+    let d = dealt.each i v at in
+    over_limit board limit count (trail ++ layer.origins ∷ []) w (subst (λ b. IsLookedAt b limit (trail ++ layer.origins ∷ []) count) next.0 looked) lawful (sym alike.0 ∙ d.0) (sym alike.1 ∙ d.1) over
+    (omega (arith, closed, (working i v at).1, next.1, length-append trail (layer.origins ∷ [])))

@@ -1,32 +1,92 @@
--- What a search keeps between two turns, each of which looks at the next layer and does its ranks.
+-- What a search keeps between two turns, each of which looks at the next layer and does its ranks, and what its books are
+-- meanwhile: one for each share of the positions.
 use Rattle.std.specs.Prelude.{◌≡◌, ℕ, suc, ◌⊎◌, true, false, List, length, slice_get, slice_index_or, Some}
 use Rattle.grid.specs.declared.square.Push.{Push}
+use Rattle.grid.specs.Board.{Board}
 use Rattle.layers.specs.LayerView.{LayerView}
 use Rattle.layers.specs.Openings.{Origin}
 use Rattle.layers.specs.ParcelView.{ParcelView}
-use Rattle.layers.specs.BookView.{BookView, IsDone, last_layer}
-use Rattle.layers.specs.Books.{HasBegun}
+use Rattle.layers.specs.BookView.{BookView, IsDone, IsLawfulBook}
+use Rattle.layers.specs.Books.{HasBegun, with_begun}
 use Rattle.layers.specs.Events.{AreMadeAlike}
 use Rattle.solo.specs.inside.Searched.{IsLookedAt}
 use Rattle.solo.specs.declared.turn.Worked.{Worked}
 use Rattle.solo.specs.declared.turn.Worked.TheVariants.{Through, Over}
 
--- the layer is the last one that the book closed
-abbrev pub IsLastOf : BookView → LayerView → Type 0
-IsLastOf book layer = (layer.level ≡ book.level) × (layer.number ≡ last_layer book)
+-- ---- the books of a search
 
--- between two turns the book, which holds all positions, has closed one layer more than were looked at, and has not
--- begun it
-pub record IsBetweenTurns (book : BookView) (trail : List (List (Origin Push))) (positions : ℕ) : Type 0 where
-  pub all : book.shares ≡ 1
-  pub begun : book.begun ≡ false
-  pub next : length book.closed ≡ suc (length trail)
-  pub looked : IsLookedAt book.level book.limit trail positions
+-- the book is a share of the level, made with this limit and for so many workers
+abbrev pub IsDealt : Board → ℕ → ℕ → ℕ → ℕ → BookView → Type 0
+IsDealt board limit workers shares share v = (v.level ≡ board) × (v.limit ≡ limit) × (v.workers ≡ workers) × (v.share ≡ share) × (v.shares ≡ shares)
+
+-- the books are all the shares of the level in order, made with this limit and for so many workers
+pub record AreDealt (board : Board) (limit workers shares : ℕ) (books : List BookView) : Type 0 where
+  pub all : length books ≡ shares
+  pub each : (i : ℕ) (v : BookView) → slice_get books i ≡ Some v → IsDealt board limit workers shares i v
+
+-- each of the books has closed so many layers, and not begun the last of them
+abbrev pub ArePaused : ℕ → List BookView → Type 0
+ArePaused closed books = (i : ℕ) (v : BookView) → slice_get books i ≡ Some v → (v.begun ≡ false) × (length v.closed ≡ closed)
+
+-- the book is at work on the layer, which it has closed last
+abbrev pub IsWorkingOn : LayerView → BookView → Type 0
+IsWorkingOn layer v = HasBegun v layer × (length v.closed ≡ suc layer.number)
+
+-- each of the books is at work on the layer
+abbrev pub AreWorkingOn : LayerView → List BookView → Type 0
+AreWorkingOn layer books = (i : ℕ) (v : BookView) → slice_get books i ≡ Some v → IsWorkingOn layer v
+
+-- between two turns each of the books, which are all the shares, has closed one layer more than were looked at, and has
+-- not begun it
+pub record AreBetweenTurns (board : Board) (limit workers shares : ℕ) (books : List BookView) (trail : List (List (Origin Push))) (positions : ℕ) : Type 0 where
+  pub dealt : AreDealt board limit workers shares books
+  pub paused : ArePaused (suc (length trail)) books
+  pub looked : IsLookedAt board limit trail positions
+
+-- ---- a layer begins
+
+-- each of the books has begun so many ranks
+abbrev pub HaveBegun : List BookView → ℕ → List BookView → Type 0
+HaveBegun before ranks after = (length after ≡ length before) × ((i : ℕ) (v : BookView) → slice_get before i ≡ Some v → slice_get after i ≡ Some (with_begun v ranks))
+
+-- each of the books is as it was, or has begun so many ranks
+abbrev pub MayHaveBegun : List BookView → ℕ → List BookView → Type 0
+MayHaveBegun before ranks after =
+    (length after ≡ length before) × ((i : ℕ) (v : BookView) → slice_get before i ≡ Some v → (slice_get after i ≡ Some v) ⊎ (slice_get after i ≡ Some (with_begun v ranks)))
+
+-- ---- the ranks of a layer are done
 
 -- how the last ranks of a layer leave a book: it has closed the next layer, and not begun it; or it is over its limit
 abbrev pub WorkAnswer : BookView → Worked → BookView → Type 0
 WorkAnswer before Through after = AreMadeAlike before after × (after.begun ≡ false) × (length after.closed ≡ suc (length before.closed))
 WorkAnswer before Over after = AreMadeAlike before after × (after.over ≡ true) × (length after.closed ≡ length before.closed)
+
+-- the book at a place was left so
+abbrev pub IsLeft : List BookView → Worked → List BookView → ℕ → BookView → Type 0
+IsLeft before worked after i v = (w : BookView) × (slice_get after i ≡ Some w) × WorkAnswer v worked w × IsLawfulBook w
+
+-- how they leave several books: each has closed the next layer; or one of them is over its limit
+abbrev pub WorkAnswers : List BookView → Worked → List BookView → Type 0
+WorkAnswers before Through after = (length after ≡ length before) × ((i : ℕ) (v : BookView) → slice_get before i ≡ Some v → IsLeft before Through after i v)
+WorkAnswers before Over after = (i : ℕ) × (v : BookView) × (slice_get before i ≡ Some v) × IsLeft before Over after i v
+
+-- all the shares were at work on the layer, and this is how its last ranks left them
+abbrev pub AreWorked : Board → ℕ → ℕ → ℕ → LayerView → Worked → List BookView → Type 0
+AreWorked board limit workers shares layer worked after =
+    (before : List BookView) × AreDealt board limit workers shares before × AreWorkingOn layer before × WorkAnswers before worked after
+
+-- the book is at work on the layer, and was made as it was before, with the same closed layers
+pub record IsStillAt (before : BookView) (layer : LayerView) (book : BookView) : Type 0 where
+  pub alike : AreMadeAlike before book
+  pub closed : book.closed ≡ before.closed
+  pub begun : HasBegun book layer
+  pub ranks : length book.done ≡ length layer.places
+
+-- how they may be left where memory was refused: each as it was; or still at work; or with the next layer closed
+abbrev pub MayBeWorked : List BookView → LayerView → List BookView → Type 0
+MayBeWorked before layer after =
+    (length after ≡ length before)
+    × ((i : ℕ) (v : BookView) → slice_get before i ≡ Some v → (w : BookView) × (slice_get after i ≡ Some w) × ((w ≡ v) ⊎ IsStillAt v layer w ⊎ WorkAnswer v Through w))
 
 -- the parcel is of a rank of the layer
 abbrev pub IsOfRank : LayerView → ℕ → ParcelView → Type 0
@@ -35,13 +95,6 @@ IsOfRank layer rank parcel = (parcel.level ≡ layer.level) × (parcel.layer ≡
 -- each rank that is claimed is done, but for one at most
 abbrev pub AreDoneBut : BookView → ℕ → Type 0
 AreDoneBut book rank = (r : ℕ) → slice_index_or book.claimed r false ≡ true → IsDone book r ⊎ (r ≡ rank)
-
--- the book is at work on the layer, and was made as it was before, with the same closed layers
-pub record IsStillAt (before : BookView) (layer : LayerView) (book : BookView) : Type 0 where
-  pub alike : AreMadeAlike before book
-  pub closed : book.closed ≡ before.closed
-  pub begun : HasBegun book layer
-  pub ranks : length book.done ≡ length layer.places
 
 -- the parcel is of the one rank that is claimed and not done
 pub record IsDue (before : BookView) (layer : LayerView) (book : BookView) (parcel : ParcelView) : Type 0 where

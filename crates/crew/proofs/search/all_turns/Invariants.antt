@@ -1,14 +1,12 @@
 use Rattle.std.proofs.Common.{◌≡◌, ◌-◌}
-use Rattle.layers.specs.Events.{AreMadeAlike}
-use Rattle.solo.specs.inside.Turns.{IsBetweenTurns}
+use Rattle.crew.specs.inside.Turning.{ArePausedBy}
 use Rattle.crew.proofs.search.all_turns.Given as goal
 
 abbrev pub invariant-loop-trail : goal.invariant-loop-trail
 invariant-loop-trail g l = record {
-  turn : IsBetweenTurns l.book l.trail.items l.positions;
-  alike : AreMadeAlike l.fn.first l.book;
+  turn : ArePausedBy l.config l.dead l.books.items l.trail.items l.positions;
   size : l.scratch.size ≡ l.fn.scratch.size;
 }
 
 abbrev pub decreases-loop-trail : goal.decreases-loop-trail
-decreases-loop-trail g l = l.book.limit - l.positions
+decreases-loop-trail g l = l.config.limit - l.positions

@@ -1,14 +1,12 @@
 use Rattle.std.proofs.Common.{◌≡◌, ◌-◌}
-use Rattle.layers.specs.Events.{AreMadeAlike}
-use Rattle.solo.specs.inside.Turns.{IsBetweenTurns}
+use Rattle.solo.specs.inside.Turns.{AreBetweenTurns}
 use Rattle.solo.proofs.search.all_turns.Given as goal
 
 abbrev pub invariant-loop-trail : goal.invariant-loop-trail
 invariant-loop-trail l = record {
-  turn : IsBetweenTurns l.book l.trail.items l.positions;
-  same : AreMadeAlike l.fn.book l.book;
+  turn : AreBetweenTurns l.dead l.limit 1 1 l.books l.trail.items l.positions;
   size : l.scratch.size ≡ l.fn.scratch.size;
 }
 
 abbrev pub decreases-loop-trail : goal.decreases-loop-trail
-decreases-loop-trail l = l.book.limit - l.positions
+decreases-loop-trail l = l.limit - l.positions
