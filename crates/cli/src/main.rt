@@ -1,7 +1,6 @@
 //! The program: reads its command line, opens its files and runs an engine.
 #![tactic(auto)]
 
-ghost use Rattle.std.specs.Prelude.{◌≡◌};
 ghost use Rattle.crew.specs.Configured.{IsWithinLimits};
 
 mod help;
@@ -10,7 +9,7 @@ mod trouble;
 
 use clap::error::ErrorKind;
 use crew::Config;
-use layers::MAX_WORKERS;
+use layers::{MAX_SHARES, MAX_WORKERS};
 use request::Request;
 use sokopar::{Reader, RunFault, Writer, run_check, run_dead, run_replay, run_show, run_solve};
 use std::alloc::Global;
@@ -37,14 +36,14 @@ fn open<'a, R: Files>(rt: &R, path: &'a str) -> Result<Reader<R::File>, Trouble<
     }
 }
 
-/// How a level is solved by so many workers, which the command line holds to its range, under a limit of positions.
-fn config_of(workers: NonZeroU32, limit: NonZeroU32) -> Config
-    ensures limits { IsWithinLimits result }
-    ensures locks { result.locks ≡ 1 }
+/// How a level is solved by so many workers over so many locks, which the command line holds to their ranges, under a
+/// limit of positions.
+fn config_of(workers: NonZeroU32, locks: NonZeroU32, limit: NonZeroU32) -> Config
+    ensures { IsWithinLimits result }
 {
     Config {
         workers: workers.get().min(MAX_WORKERS as u32) as u8,
-        locks: 1,
+        locks: locks.get().min(MAX_SHARES as u32) as u8,
         limit: limit.get(),
     }
 }
@@ -82,10 +81,11 @@ fn perform<'a, R: Files + Print + Threads + Wait + Sync>(
             file,
             number,
             workers,
+            locks,
             limit,
         } => {
             let mut source = open(rt, file)?;
-            let config = config_of(workers, limit);
+            let config = config_of(workers, locks, limit);
             run_solve(rt, alloc, &mut source, number.get(), config, &mut sink)
         }
     };

@@ -1,7 +1,7 @@
 use crate::help;
 use clap::error::ErrorKind;
 use clap::{Arg, ArgMatches, Command, Error, value_parser};
-use layers::MAX_WORKERS;
+use layers::{MAX_SHARES, MAX_WORKERS};
 use std::alloc::{AllocError, Global};
 use std::num::NonZeroU32;
 
@@ -28,11 +28,12 @@ pub enum Request<'a> {
         number: NonZeroU32,
         solution: &'a str,
     },
-    /// Solve level N of a collection by some workers under a limit of positions.
+    /// Solve level N of a collection by some workers over some locks, under a limit of positions.
     Solve {
         file: &'a str,
         number: NonZeroU32,
         workers: NonZeroU32,
+        locks: NonZeroU32,
         limit: NonZeroU32,
     },
 }
@@ -42,6 +43,9 @@ const DEFAULT_LIMIT: &str = "1000000";
 
 /// The number of workers where none is given.
 const DEFAULT_WORKERS: &str = "1";
+
+/// The number of locks where none is given.
+const DEFAULT_LOCKS: &str = "1";
 
 /// The operand FILE.
 fn file_operand<'a>(alloc: Global) -> Arg<'a> {
@@ -78,6 +82,16 @@ fn workers_option<'a>(alloc: Global) -> Arg<'a> {
         .value_parser(value_parser!(u32).range(1..=MAX_WORKERS as i64))
 }
 
+/// The option `--locks K`.
+fn locks_option<'a>(alloc: Global) -> Arg<'a> {
+    Arg::new(alloc, "locks")
+        .long("locks")
+        .value_name("K")
+        .help("Keeps the positions behind so many locks")
+        .default_value(DEFAULT_LOCKS)
+        .value_parser(value_parser!(u32).range(1..=MAX_SHARES as i64))
+}
+
 /// The command line that the program understands; `notes` ends its help.
 fn command<'a>(alloc: Global, notes: &'a str) -> Result<Command<'a>, AllocError> {
     let check = Command::new(alloc, "check")
@@ -107,6 +121,7 @@ fn command<'a>(alloc: Global, notes: &'a str) -> Result<Command<'a>, AllocError>
         .arg(file_operand(alloc))?
         .arg(number_operand(alloc))?
         .arg(workers_option(alloc))?
+        .arg(locks_option(alloc))?
         .arg(limit_option(alloc))?;
     Command::new(alloc, "sokopar")
         .bin_name("sokopar")?
@@ -174,11 +189,13 @@ fn request_of<'a>(name: &str, matches: &ArgMatches<'a>) -> Result<Request<'a>, B
     }
     if name == "solve" {
         let workers = number_of(matches, "workers", "--workers <W>")?;
+        let locks = number_of(matches, "locks", "--locks <K>")?;
         let limit = number_of(matches, "limit", "--limit <L>")?;
         return Ok(Request::Solve {
             file,
             number,
             workers,
+            locks,
             limit,
         });
     }

@@ -96,7 +96,6 @@ fn solve_level<R: Threads + Wait + Sync>(
     config: Config,
 ) -> Result<Report, AllocError>
     requires limits { IsWithinLimits config }
-    requires locks { config.locks ≡ 1 }
     ensures { IfOk result (λ report. IsSolveOf config.limit level.now report) }
 {
     let level = Arc::new(alloc, level.copy()?)?;
@@ -118,7 +117,6 @@ pub(crate) fn solve_report<R: Threads + Wait + Sync>(
 ) -> Result<Report, AllocError>
     requires number { 1 ≤ number }
     requires limits { IsWithinLimits config }
-    requires locks { config.locks ≡ 1 }
     ensures { IfOk result (λ report. SolvesOn config.limit number (level_at (map listed_of entries.now) number) report) }
 {
     match level_of(entries, number) {

@@ -13,7 +13,7 @@ mod solved;
 
 use crate::{Paper, Pieces};
 use crew::Config;
-use layers::MAX_WORKERS;
+use layers::{MAX_SHARES, MAX_WORKERS};
 use sokopar::{
     Reader, RunFault, Sink, Source, Writer, run_check, run_dead, run_replay, run_show, run_solve,
 };
@@ -50,6 +50,9 @@ pub(crate) const WELL: Ends = Ends {
     write_fails: 0,
 };
 
+/// So many workers over so many locks.
+pub(crate) type Crew = (u8, u8);
+
 /// What is asked of a collection.
 #[derive(Clone, Copy)]
 pub(crate) enum Command<'a> {
@@ -57,11 +60,12 @@ pub(crate) enum Command<'a> {
     Show(u32),
     Dead(u32),
     Replay(u32, &'a [u8]),
-    Solve(u32, u8, u32),
+    /// The number of a level, of workers and of locks, and a limit of positions.
+    Solve(u32, Crew, u32),
 }
 
-/// Runs the engine of a command. Numbers of levels, of workers and of limits outside their ranges are taken for the
-/// nearest within.
+/// Runs the engine of a command. Numbers of levels, of workers, of locks and of limits outside their ranges are taken for
+/// the nearest within.
 fn perform<R: Threads + Wait + Sync, S: Source, T: Source, K: Sink>(
     rt: &R,
     alloc: Global,
@@ -75,10 +79,10 @@ fn perform<R: Threads + Wait + Sync, S: Source, T: Source, K: Sink>(
         Command::Show(number) => run_show(alloc, source, number.max(1), sink),
         Command::Dead(number) => run_dead(alloc, source, number.max(1), sink),
         Command::Replay(number, _) => run_replay(alloc, source, number.max(1), solution, sink),
-        Command::Solve(number, workers, limit) => {
+        Command::Solve(number, (workers, locks), limit) => {
             let config = Config {
                 workers: workers.max(1).min(MAX_WORKERS),
-                locks: 1,
+                locks: locks.max(1).min(MAX_SHARES),
                 limit: limit.max(1),
             };
             run_solve(rt, alloc, source, number.max(1), config, sink)
@@ -162,21 +166,15 @@ pub(crate) fn replay<R: Threads + Wait + Sync>(
     run(rt, alloc, file, Command::Replay(number, solution), ends)
 }
 
-/// Solves a level of a collection by so many workers under a limit of positions, over these ends.
+/// Solves a level of a collection by a crew under a limit of positions, over these ends.
 pub(crate) fn solve<R: Threads + Wait + Sync>(
     rt: &R,
     alloc: Global,
     file: &[u8],
     number: u32,
-    workers: u8,
+    crew: Crew,
     limit: u32,
     ends: Ends,
 ) -> Outcome {
-    run(
-        rt,
-        alloc,
-        file,
-        Command::Solve(number, workers, limit),
-        ends,
-    )
+    run(rt, alloc, file, Command::Solve(number, crew, limit), ends)
 }

@@ -2,7 +2,7 @@
 use super::plain::{Found, Play, search};
 use super::rooms::{Dice, ROOMS, SHAPES, room};
 use super::solved::{CREWS, DEFAULT_LIMIT};
-use super::{WELL, replay, solve};
+use super::{Crew, WELL, replay, solve};
 use std::alloc::{AllocError, Global};
 use std::sync::Wait;
 use std::test::Fail;
@@ -63,27 +63,27 @@ fn fault_of<R: Threads + Wait + Sync>(
     rt: &R,
     alloc: Global,
     rows: &[u8],
-    workers: u8,
+    crew: Crew,
     found: &Found,
 ) -> Result<Option<&'static str>, AllocError> {
     let Some(report) = report_of(alloc, found)? else {
         return Ok(Some("the slow solver came to no end"));
     };
-    let outcome = solve(rt, alloc, rows, 1, workers, DEFAULT_LIMIT, WELL);
+    let outcome = solve(rt, alloc, rows, 1, crew, DEFAULT_LIMIT, WELL);
     let Some(positions) = positions_in(outcome.text.as_slice(), &report) else {
         return Ok(Some("another answer"));
     };
     if outcome.answer != Ok(report.status) {
         return Ok(Some("another status"));
     }
-    let same = solve(rt, alloc, rows, 1, workers, positions.max(1), WELL);
+    let same = solve(rt, alloc, rows, 1, crew, positions.max(1), WELL);
     if same.text != outcome.text || same.answer != outcome.answer {
         return Ok(Some("another answer under the limit that it needs"));
     }
     if positions > 1 {
         let limit = positions - 1;
         let line = format!(in alloc; "limit {limit} reached\n")?;
-        let less = solve(rt, alloc, rows, 1, workers, limit, WELL);
+        let less = solve(rt, alloc, rows, 1, crew, limit, WELL);
         if less.text.as_slice() != line.as_bytes() || less.answer != Ok(4) {
             return Ok(Some("an answer under a limit that is too low"));
         }
@@ -116,10 +116,10 @@ fn solves_rooms_as_the_slow_solver(rt: HostRuntime) -> Result<(), Fail> {
     let alloc = rt.alloc();
     for rows in ROOMS {
         let found = search(alloc, rows)?;
-        for workers in CREWS {
-            let fault = fault_of(&rt, alloc, rows, workers, &found)?;
+        for (workers, locks) in CREWS {
+            let fault = fault_of(&rt, alloc, rows, (workers, locks), &found)?;
             let shown = std::str::from_utf8(rows).unwrap_or("");
-            assert_eq!(rt; fault, None, "by {workers} workers, for\n{shown}");
+            assert_eq!(rt; fault, None, "by {workers} workers over {locks} locks, for\n{shown}");
         }
     }
     Ok(())
@@ -136,10 +136,10 @@ fn solves_random_rooms_as_the_slow_solver(rt: HostRuntime) -> Result<(), Fail> {
             let level = room(alloc, shape, &mut dice)?;
             let rows = level.as_slice();
             let found = search(alloc, rows)?;
-            for workers in [1, 2, 3, 64] {
-                let fault = fault_of(&rt, alloc, rows, workers, &found)?;
+            for (workers, locks) in [(1, 1), (2, 2), (3, 1), (64, 3)] {
+                let fault = fault_of(&rt, alloc, rows, (workers, locks), &found)?;
                 let shown = std::str::from_utf8(rows).unwrap_or("");
-                assert_eq!(rt; fault, None, "by {workers} workers, for\n{shown}");
+                assert_eq!(rt; fault, None, "by {workers} workers over {locks} locks, for\n{shown}");
             }
             match found {
                 Found::Solution(_) => solvable = solvable.saturating_add(1),

@@ -20,7 +20,7 @@ const COMMANDS: [Command<'static>; 5] = [
     Command::Check,
     Command::Show(1),
     Command::Dead(1),
-    Command::Solve(1, 2, DEFAULT_LIMIT),
+    Command::Solve(1, (2, 2), DEFAULT_LIMIT),
     Command::Replay(1, b"RlR"),
 ];
 

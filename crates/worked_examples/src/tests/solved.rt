@@ -1,5 +1,5 @@
 //! What `solve` writes.
-use super::{WELL, solve};
+use super::{Crew, WELL, solve};
 use crate::boards::{
     APART, CORNER, FROZEN, HALL, ONE, SOLVED, STACKED, THERE_AND_BACK, TWO, TWO_ENDS,
 };
@@ -11,10 +11,19 @@ use std::thread::Threads;
 /// The limit of positions that the program takes where none is given.
 pub(crate) const DEFAULT_LIMIT: u32 = 1_000_000;
 
-/// Numbers of workers that are tried.
-pub(crate) const CREWS: [u8; 4] = [1, 2, 8, 64];
+/// The crews that are tried.
+pub(crate) const CREWS: [Crew; 8] = [
+    (1, 1),
+    (2, 1),
+    (64, 1),
+    (1, 2),
+    (2, 2),
+    (2, 3),
+    (1, 16),
+    (64, 16),
+];
 
-// Checks what solving a board under a limit writes, and the status, by each number of workers.
+// Checks what solving a board under a limit writes, and the status, by each crew.
 fn check_solve(
     rt: &(impl Abort + Threads + Wait + Sync),
     alloc: Global,
@@ -23,8 +32,8 @@ fn check_solve(
     report: &[u8],
     status: u8,
 ) {
-    for workers in CREWS {
-        solve(rt, alloc, file, 1, workers, limit, WELL).is(rt, report, status);
+    for crew in CREWS {
+        solve(rt, alloc, file, 1, crew, limit, WELL).is(rt, report, status);
     }
 }
 
@@ -117,7 +126,7 @@ fn limits_do_not_matter_to_other_reports(rt: HostRuntime) {
     ];
     for (file, number, report) in cases {
         for limit in [1, DEFAULT_LIMIT, u32::MAX] {
-            solve(&rt, rt.alloc(), file, number, 2, limit, WELL).is(&rt, report, 1);
+            solve(&rt, rt.alloc(), file, number, (2, 2), limit, WELL).is(&rt, report, 1);
         }
     }
 }
