@@ -1,11 +1,10 @@
 ghost use Rattle.std.specs.Prelude.{◌≡◌, ◌+◌, ◌<◌, ◌≤◌, [], IfOk, IfSome, MatchResult, length};
 ghost use Rattle.std.specs.Arc.{arc_value};
 ghost use Rattle.grid.specs.Lawful.{box_count};
-ghost use Rattle.layers.specs.Books.{IsNew};
 ghost use Rattle.solo.specs.Answers.{IsAnswer};
 ghost use Rattle.crew.specs.Configured.{IsWithinLimits};
 ghost use Rattle.crew.specs.Solving.{SolveRefused};
-ghost use Rattle.crew.specs.inside.Turning.{AreNewShares, ArePausedBy};
+ghost use Rattle.crew.specs.inside.Turning.{ArePausedBy};
 
 use crate::config::Config;
 use crate::gate::Gate;
@@ -13,7 +12,8 @@ use crate::turns::{Turned, turn};
 use area::Scratch;
 use doom::Dead;
 use grid::{Level, MAX_BOXES};
-use layers::{Book, BookFault};
+use layers::Book;
+use solo::turn::new_books;
 use solo::{Answer, SolveFault, solve_alone};
 use std::alloc::{AllocError, Global};
 use std::sync::{Arc, Wait};
@@ -64,52 +64,19 @@ fn search<R: Threads + Wait + Sync, G: Gate + Sync>(
     requires boxes { box_count (arc_value level.now) ≤ MAX_BOXES }
     ensures { IfOk result (λ found. IfSome found (λ answer. IsAnswer (arc_value level.now) config.limit answer)) }
 {
-    let books = new_books(alloc, level, config)?;
     let dead = Dead::of(alloc, level)?;
     let mut scratch = Scratch::new(alloc, level)?;
-    all_turns(rt, alloc, books, &dead, &mut scratch, config, gate)
-}
-
-// A book for each share of the positions, for the workers and the caller, whose number is the last one. The only error
-// is that memory was refused.
-fn new_books(alloc: Global, level: &Arc<Level>, config: Config) -> Result<Vec<Book>, AllocError>
-    requires limits { IsWithinLimits config }
-    requires boxes { box_count (arc_value level.now) ≤ MAX_BOXES }
-    ensures { IfOk result (λ books. AreNewShares (arc_value level.now) config.limit (config.workers + 1) config.locks books.items) }
-{
-    let mut books = Vec::with_capacity(alloc, config.locks as usize)?;
-    for share in 0..config.locks {
-        let book = new_book(alloc, level, config, share)?;
-        books.push(book)?;
-    }
-    Ok(books)
-}
-
-// The book of a share. The only error is that memory was refused.
-fn new_book(
-    alloc: Global,
-    level: &Arc<Level>,
-    config: Config,
-    share: u8,
-) -> Result<Book, AllocError>
-    requires limits { IsWithinLimits config }
-    requires boxes { box_count (arc_value level.now) ≤ MAX_BOXES }
-    requires share { share < config.locks }
-    ensures { IfOk result (λ book. IsNew (arc_value level.now) config.limit (config.workers + 1) share config.locks book) }
-{
-    let level = Arc::try_clone(level)?;
-    match Book::of(
+    // the books are made for one worker more, whose number is the caller's own
+    let books = new_books(
         alloc,
         level,
+        &dead,
         config.limit,
         config.workers + 1,
-        share,
         config.locks,
-    ) {
-        Ok(book) => Ok(book),
-        Err(BookFault::TooManyBoxes) => unreachable!(),
-        Err(BookFault::OutOfMemory) => Err(AllocError),
-    }
+        &mut scratch,
+    )?;
+    all_turns(rt, alloc, books, &dead, &mut scratch, config, gate)
 }
 
 // Looks at layer after layer until there is an answer; `None` where other books came back than were lent. The only

@@ -2,19 +2,17 @@ ghost use Rattle.std.specs.Prelude.{◌≡◌, ℕ, ◌<◌, ◌≤◌, IfNone, 
 ghost use Rattle.std.specs.Arc.{arc_value};
 ghost use Rattle.grid.specs.Lawful.{box_count};
 ghost use Rattle.grid.specs.declared.limits.TheConstants.{MAX_BOXES};
-ghost use Rattle.layers.specs.Books.{IsNew};
 ghost use Rattle.solo.specs.Answers.{IsAnswer};
 ghost use Rattle.solo.specs.Refusals.{SolveRefused};
 ghost use Rattle.solo.specs.inside.Turns.{AreBetweenTurns};
 
 use crate::answer::{Answer, SolveFault};
-use crate::turn::{Worked, begin_each, finish_each, last_layer, look};
+use crate::turn::{Worked, begin_each, finish_each, last_layer, look, new_books};
 use area::Scratch;
 use doom::Dead;
 use grid::{Level, MAX_BOXES};
-use layers::{Book, BookFault, Parents};
+use layers::{Book, Parents};
 use std::alloc::{AllocError, Global};
-use std::slice;
 use std::sync::Arc;
 
 /// The solution of the level with the fewest pushes, or that it has none, or that more than `limit` positions are
@@ -43,29 +41,16 @@ fn search(alloc: Global, level: &Arc<Level>, limit: u32) -> Result<Answer, Alloc
     requires boxes { box_count (arc_value level.now) ≤ MAX_BOXES }
     ensures { IfOk result (λ answer. IsAnswer (arc_value level.now) limit answer) }
 {
-    let mut book = new_book(alloc, level, limit)?;
     let dead = Dead::of(alloc, level)?;
     let mut scratch = Scratch::new(alloc, level)?;
+    let mut books = new_books(alloc, level, &dead, limit, 1, 1, &mut scratch)?;
     all_turns(
         alloc,
-        slice::from_mut(&mut book),
+        books.as_mut_slice(),
         &dead,
         &mut scratch,
         limit,
     )
-}
-
-// A book for all positions and one worker. The only error is that memory was refused.
-fn new_book(alloc: Global, level: &Arc<Level>, limit: u32) -> Result<Book, AllocError>
-    requires limit { 1 ≤ limit }
-    requires boxes { box_count (arc_value level.now) ≤ MAX_BOXES }
-    ensures { IfOk result (λ book. IsNew (arc_value level.now) limit 1 0 1 book) }
-{
-    match Book::of(alloc, Arc::try_clone(level)?, limit, 1, 0, 1) {
-        Ok(book) => Ok(book),
-        Err(BookFault::TooManyBoxes) => unreachable!(),
-        Err(BookFault::OutOfMemory) => Err(AllocError),
-    }
 }
 
 // Makes turn after turn until there is an answer. The only error is that memory was refused.

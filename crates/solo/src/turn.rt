@@ -1,8 +1,12 @@
 //! The turns of a search, for one worker and for several: each looks at the next layer, and where that gives no answer
 //! has its ranks done until the layer after it is closed. The only error is that memory was refused.
 ghost use Rattle.std.specs.Prelude.{◌≡◌, ◌+◌, ◌-◌, ◌<◌, ◌≤◌, ℕ, List, [], ◌∷◌, ◌++◌, Some, true, false, IfNone, IfOk, IfSome, MatchBool, OnErr, OnOk, length, slice_get};
+ghost use Rattle.std.specs.Arc.{arc_value};
+ghost use Rattle.grid.specs.Lawful.{box_count};
+ghost use Rattle.grid.specs.declared.limits.TheConstants.{MAX_BOXES};
+ghost use Rattle.layers.specs.declared.limits.TheConstants.{MAX_SHARES, MAX_WORKERS};
 ghost use Rattle.layers.specs.BookView.{BookView, Closed};
-ghost use Rattle.layers.specs.Books.{AllDone, AreAllShares, HasBegun, IsAtWork, IsJoinOf, MayBegin, with_begun, with_closed, with_parcel};
+ghost use Rattle.layers.specs.Books.{AllDone, AreAllShares, AreNewShares, HasBegun, IsAtWork, IsJoinOf, MayBegin, with_begun, with_closed, with_parcel};
 ghost use Rattle.solo.specs.Answers.{IsAnswer};
 ghost use Rattle.solo.specs.Leads.{IsFirstSolved};
 ghost use Rattle.solo.specs.inside.Searched.{HaveBefore, IsLookedAt};
@@ -13,10 +17,12 @@ use crate::goals::first_solved;
 use crate::lead::moves_back;
 use area::Scratch;
 use doom::Dead;
+use grid::Level;
 use layers::{
-    BeginFault, Book, CloseFault, JoinFault, Layer, Parcel, Parents, Refusal, expand, expand_into,
+    BeginFault, Book, BookFault, CloseFault, JoinFault, Layer, Parcel, Parents, Refusal, expand, expand_into,
 };
 use std::alloc::{AllocError, Global};
+use std::sync::Arc;
 
 /// How the last ranks of a layer ended.
 #[derive(Clone, Copy, PartialEq, Eq, Debug)]
@@ -25,6 +31,33 @@ pub enum Worked {
     Through,
     /// The book would hold more positions than its limit.
     Over,
+}
+
+/// The new books of all shares of a level's positions, share 0 first, for so many workers. The level has no more boxes
+/// than [`MAX_BOXES`](grid::MAX_BOXES).
+pub fn new_books(
+    alloc: Global,
+    level: &Arc<Level>,
+    dead: &Dead,
+    limit: u32,
+    workers: u8,
+    shares: u8,
+    scratch: &mut Scratch,
+) -> Result<Vec<Book>, AllocError>
+    requires boxes { box_count (arc_value level.now) ≤ MAX_BOXES }
+    requires dead_of_level { dead.now ≡ arc_value level.now }
+    requires limit { 1 ≤ limit }
+    requires workers { (1 ≤ workers) × (workers ≤ MAX_WORKERS + 1) }
+    requires shares { (1 ≤ shares) × (shares ≤ MAX_SHARES) }
+    requires room { scratch.old.size ≡ length (arc_value level.now).cells }
+    ensures books { IfOk result (λ books. AreNewShares (arc_value level.now) limit workers shares books.items) }
+    ensures size { scratch.new.size ≡ scratch.old.size }
+{
+    match Book::of_all_shares(alloc, level, dead, limit, workers, shares, scratch) {
+        Ok(books) => Ok(books),
+        Err(BookFault::TooManyBoxes) => unreachable!(),
+        Err(BookFault::OutOfMemory) => Err(AllocError),
+    }
 }
 
 /// Looks at the next layer of a level, after those whose parents are kept: the answer, if it gives one; otherwise its

@@ -1,9 +1,8 @@
 -- The books of a search with workers, and how a turn of it ends.
-use Rattle.std.specs.Prelude.{◌≡◌, ℕ, ◌+◌, ◌<◌, List, length, slice_get, Some}
+use Rattle.std.specs.Prelude.{ℕ, ◌+◌, ◌<◌, List}
 use Rattle.grid.specs.declared.square.Push.{Push}
 use Rattle.grid.specs.Board.{Board}
 use Rattle.layers.specs.BookView.{BookView}
-use Rattle.layers.specs.Books.{IsNew}
 use Rattle.layers.specs.LayerView.{LayerView}
 use Rattle.layers.specs.Openings.{Origin}
 use Rattle.solo.specs.Answers.{IsAnswer}
@@ -12,10 +11,6 @@ use Rattle.solo.specs.declared.turn.Worked.{Worked}
 use Rattle.crew.specs.declared.config.Config.{Config}
 use Rattle.crew.specs.declared.turns.Turned.{Turned}
 use Rattle.crew.specs.declared.turns.Turned.TheVariants.{Onward, Found, Foreign}
-
--- the books are new, and all the shares of the level in order, made with this limit and for so many workers
-abbrev pub AreNewShares : Board → ℕ → ℕ → ℕ → List BookView → Type 0
-AreNewShares level limit workers shares books = (length books ≡ shares) × ((i : ℕ) (v : BookView) → slice_get books i ≡ Some v → IsNew level limit workers i shares v)
 
 -- the books of a search by the configuration are between two turns
 abbrev pub ArePausedBy : Config → Board → List BookView → List (List (Origin Push)) → ℕ → Type 0

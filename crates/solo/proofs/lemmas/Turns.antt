@@ -1,5 +1,5 @@
 -- From one turn of a search to the next, and what a book that is over says.
-use Rattle.std.proofs.Common.{◌≡◌, ℕ, zero, suc, ◌≤◌, true, false, List, [], ◌∷◌, ◌++◌, length, get_or, Some, refl, sym, ap, subst, ◌∙◌, arith}
+use Rattle.std.proofs.Common.{◌≡◌, ℕ, suc, ◌≤◌, true, false, List, [], ◌∷◌, ◌++◌, length, get_or, Some, refl, sym, ap, subst, ◌∙◌, arith}
 use Rattle.std.specs.Prelude.{slice_get}
 use Rattle.std.proofs.lemmas.List.{length-append, length-map}
 use Rattle.std.proofs.lemmas.Option.{none-some, same_Some, slice_get-get_or, slice_get_within}
@@ -38,14 +38,6 @@ first_turn board limit workers shares books all new = record {
   paused = λ i v at. ((new i v at).begun, ap length (new i v at).closed.1);
   looked = none_looked board limit;
 }
-
--- a new book of all positions is before the first turn
-pub first_of_one : (board : Board) (limit workers : ℕ) (book : BookView) → IsNew board limit workers 0 1 book → AreBetweenTurns board limit workers 1 (book ∷ []) [] 0
-first_of_one board limit workers book new = first_turn board limit workers 1 (book ∷ []) refl each
-  where
-    each : (i : ℕ) (v : BookView) → slice_get (book ∷ []) i ≡ Some v → IsNew board limit workers i 1 v
-    each zero v at = subst (IsNew board limit workers 0 1) (same_Some book v at) new
-    each (suc i) v at = absurd (none-some v at)
 
 -- ---- between two turns
 

@@ -13,4 +13,4 @@ pub all_turns-requires-clause-first : goal.all_turns-requires-clause-first
 all_turns-requires-clause-first g c κs within =
     let config = c.args.config in let books = c.in_ok-books.books.items in
     subst (λ board. ArePausedBy config board books [] 0) (sym (c.in_ok-dead.ensures ∙ c.deref.ensures))
-    (first_turn (arc_value c.args.level.now) config.limit (config.workers + 1) config.locks books c.in_ok-books.ensures.0 c.in_ok-books.ensures.1)
+    (first_turn (arc_value c.args.level.now) config.limit (config.workers + 1) config.locks books c.in_ok-books.ensures.books.0 c.in_ok-books.ensures.books.1)
