@@ -8,9 +8,10 @@ use layers::{MAX_SHARES, MAX_WORKERS};
 use solo::{Answer, SolveFault};
 use std::alloc::Global;
 use std::process::Abort;
-use std::sync::Arc;
 use std::sync::atomic::{AtomicU64, Ordering};
+use std::sync::{Arc, Wait};
 use std::thread;
+use std::thread::Threads;
 
 /// A level by its columns and its cells, row after row.
 type Board = (usize, &'static [u8]);
@@ -131,15 +132,20 @@ fn home_of(rt: &impl Abort, alloc: Global, boxes: usize) -> Arc<Level> {
 }
 
 /// What two workers answer to the level over so many locks, and how often each layer's gate was asked.
-fn held(rt: &HostRuntime, locks: u8, limit: u32) -> (Result<Answer, SolveFault>, [u64; 3]) {
-    let level = level_of(rt, rt.alloc(), TWO_ENDS);
+fn held<R: Threads + Wait + Sync + Abort>(
+    rt: &R,
+    alloc: Global,
+    locks: u8,
+    limit: u32,
+) -> (Result<Answer, SolveFault>, [u64; 3]) {
+    let level = level_of(rt, alloc, TWO_ENDS);
     let gate = Holding::new(locks);
     let config = Config {
         workers: 2,
         locks,
         limit,
     };
-    let answer = solve(rt, rt.alloc(), &level, config, &gate);
+    let answer = solve(rt, alloc, &level, config, &gate);
     assert_eq!(rt;
         gate.ran_out.load(Ordering::SeqCst),
         0,
@@ -156,7 +162,7 @@ fn held(rt: &HostRuntime, locks: u8, limit: u32) -> (Result<Answer, SolveFault>,
 #[test]
 fn workers_share_a_layer(rt: HostRuntime) {
     for (locks, expected) in [(1, [2, 4, 0]), (2, [3, 6, 0])] {
-        let (answer, calls) = held(&rt, locks, 1_000_000);
+        let (answer, calls) = held(&rt, rt.alloc(), locks, 1_000_000);
         assert!(&rt;
             matches!(
                 &answer,
@@ -174,7 +180,7 @@ fn workers_share_a_layer(rt: HostRuntime) {
 #[test]
 fn the_limit_is_counted_over_all_books(rt: HostRuntime) {
     // the layers hold 4 positions, each of the two books 2, and both accept each parcel
-    let (answer, calls) = held(&rt, 2, 3);
+    let (answer, calls) = held(&rt, rt.alloc(), 2, 3);
     assert!(&rt; matches!(&answer, Ok(Answer::Limit)));
     assert_eq!(&rt; calls, [3, 6, 0]);
 }
