@@ -1,5 +1,5 @@
 //! What stands open becomes a closed layer, in the map that holds it behind what is closed.
-ghost use Rattle.std.specs.Prelude.{◌≡◌, ℕ, ◌+◌, ◌<◌, ◌≤◌, List, [], ◌∷◌, ◌++◌, length, map, true, false, slice_get, slice_index_or, vec_len, Some, OnOk, OnErr, IfOk, IsPermutation};
+ghost use Rattle.std.specs.Prelude.{◌≡◌, ℕ, ◌+◌, ◌<◌, ◌≤◌, [], ◌∷◌, ◌++◌, length, map, true, false, slice_get, slice_index_or, vec_len, Some, OnOk, OnErr, IfOk, IsPermutation};
 ghost use Rattle.std.specs.List.{IsDistinct};
 ghost use Rattle.grid.specs.Board.{push_cmp};
 ghost use Rattle.layers.specs.Openings.{origin_cmp};
@@ -9,7 +9,7 @@ ghost use Rattle.std.specs.Vec.{vec_capacity};
 ghost use Rattle.layers.specs.BookView.{Closed};
 ghost use Rattle.layers.specs.Books.{RiseByOrigin, IsSortedAppend};
 ghost use Rattle.layers.specs.FoundView.{IsFound, open_of, origin_in, seen_of};
-ghost use Rattle.layers.specs.inside.Placing.{AreApart, AreAtTargets, AreTargets, HaveAllPlaces, RowsRise, rows_of};
+ghost use Rattle.layers.specs.inside.Placing.{AreApart, AreBrought, AreTargets, HaveAllPlaces, RowsRise, rows_of};
 
 use crate::key::Key;
 use crate::origin::{ClosedOrigin, Origin};
@@ -138,7 +138,7 @@ fn exchange<const N: usize>(
     requires width { N ≤ MAX_BOXES }
     requires all { length table.old.entries ≡ start + length targets.items }
     requires apart { AreApart targets.items }
-    ensures { (others : List Closed) → AreAtTargets start table.old.entries targets.items others → table.new.entries ≡ seen_of start table.old.entries ++ others }
+    ensures { AreBrought start table.old.entries targets.items table.new.entries }
 {
     let open = table.len() - start;
     let mut targets = targets;

@@ -1,10 +1,11 @@
 -- The places of what stands open, and the ones that a close brings it to.
-use Rattle.std.specs.Prelude.{◌≡◌, ℕ, suc, ◌+◌, ◌<◌, false, List, [], ◌∷◌, length, slice_get, Some}
+use Rattle.std.specs.Prelude.{◌≡◌, ℕ, suc, ◌+◌, ◌<◌, false, List, [], ◌∷◌, ◌++◌, length, slice_get, Some}
 use Rattle.std.specs.Ordering.{is_gt}
 use Rattle.grid.specs.declared.square.Push.{Push}
 use Rattle.grid.specs.Board.{Scene, push_cmp}
 use Rattle.layers.specs.Openings.{Origin, Entry, origin_cmp}
 use Rattle.layers.specs.BookView.{Closed}
+use Rattle.layers.specs.FoundView.{seen_of}
 
 -- an origin, and the place of the entry that stands open with it
 abbrev pub Row : Type 0
@@ -35,4 +36,9 @@ pub record AreApart (targets : List ℕ) : Type 0 where
 
 -- the entry at each place behind the start is the one at its target in another list
 abbrev pub AreAtTargets : ℕ → List Closed → List ℕ → List Closed → Type 0
-AreAtTargets start entries targets others = (length others ≡ length targets) × ((x t : ℕ) → slice_get targets x ≡ Some t → slice_get entries (start + x) ≡ slice_get others t)
+AreAtTargets start entries targets others =
+    (length others ≡ length targets) × ((x t : ℕ) → slice_get targets x ≡ Some t → slice_get entries (start + x) ≡ slice_get others t)
+
+-- the entries from the start on were brought to their targets
+abbrev pub AreBrought : ℕ → List Closed → List ℕ → List Closed → Type 0
+AreBrought start before targets after = (others : List Closed) → AreAtTargets start before targets others → after ≡ seen_of start before ++ others
