@@ -25,9 +25,10 @@ def counts(path, many):
         return [int.from_bytes(file.read(8), sys.byteorder) for _ in range(many)]
 
 
-def ran(words, env=None, **more):
-    """The status of a run, its standard output and its standard error."""
-    done = subprocess.run(words, env=env or {}, stdin=subprocess.DEVNULL, capture_output=True, timeout=SECONDS, **more)
+def ran(words, env=None, fed=None, **more):
+    """The status of a run, its standard output and its standard error; bytes that are fed come by a pipe as standard input."""
+    source = {"stdin": subprocess.DEVNULL} if fed is None else {"input": fed}
+    done = subprocess.run(words, env=env or {}, capture_output=True, timeout=SECONDS, **source, **more)
     return done.returncode, done.stdout, done.stderr
 
 
