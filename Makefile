@@ -46,6 +46,8 @@ test: toolchain
 	@cp crates/cli/out/cli target/sokopar
 	@tests/cli/run target/sokopar
 	@tests/workers/run target/sokopar
+	@tests/hostile/run target/sokopar
+	@tests/refusals/run crates/refusals/out/refusals
 	@tests/fuzz/run target/sokopar
 
 bench: all

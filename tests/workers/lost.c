@@ -1,6 +1,6 @@
 /* Loaded before the C library (LD_PRELOAD), it takes workers away from a program. The threads that it starts, but for the
    first LOST_AFTER ones, are refused; and so is each request for memory that is made in a thread but the first one, from
-   the request on whose number LOST_MEMORY gives, counted over all these threads from 1. */
+   the request on whose number LOST_MEMORY gives, counted over all these threads from 1; with LOST_ALONE that one alone. */
 #define _GNU_SOURCE
 #include <dlfcn.h>
 #include <errno.h>
@@ -17,6 +17,7 @@ extern void *__libc_memalign(size_t align, size_t size);
 typedef int (*Start)(pthread_t *, const pthread_attr_t *, void *(*)(void *), void *);
 
 static unsigned long after = -1UL, from = -1UL, started, asked;
+static int alone;
 static Start start;
 
 __attribute__((constructor)) static void begin(void) {
@@ -24,6 +25,7 @@ __attribute__((constructor)) static void begin(void) {
     start = (Start)dlsym(RTLD_NEXT, "pthread_create");
     if (threads) after = strtoul(threads, NULL, 10);
     if (memory) from = strtoul(memory, NULL, 10);
+    alone = getenv("LOST_ALONE") != NULL;
 }
 
 int pthread_create(pthread_t *thread, const pthread_attr_t *kind, void *(*body)(void *), void *argument) {
@@ -33,7 +35,8 @@ int pthread_create(pthread_t *thread, const pthread_attr_t *kind, void *(*body)(
 
 static int is_refused(void) {
     if (from == -1UL || gettid() == getpid()) return 0;
-    if (__atomic_add_fetch(&asked, 1, __ATOMIC_SEQ_CST) < from) return 0;
+    unsigned long number = __atomic_add_fetch(&asked, 1, __ATOMIC_SEQ_CST);
+    if (alone ? number != from : number < from) return 0;
     errno = ENOMEM;
     return 1;
 }

@@ -10,6 +10,7 @@ mod replayed;
 mod rooms;
 mod shown;
 mod solved;
+mod stopped;
 
 use crate::{Paper, Pieces};
 use crew::Config;

@@ -1,0 +1,150 @@
+//! Calls that take no memory.
+ghost use Rattle.std.specs.Prelude.{◌≡◌, length};
+ghost use Rattle.grid.specs.States.{IsScene};
+
+use crate::values::{hand, yard};
+use area::{Scratch, flood, normal};
+use claims::{Drawer, Ledger};
+use doom::{Dead, doomed};
+use grid::{Dir, Level, Position, Square, State};
+use layers::{Book, Layer, expand};
+use std::alloc::Global;
+
+/// Makes the values of each of these calls in turn, and then the call.
+pub(crate) fn calls<R: Print>(rt: &R, alloc: Global) -> Option<()> {
+    let (mut book, layer) = yard(alloc)?;
+    book_calls(rt, alloc, &mut book, &layer)?;
+    level_calls(rt, alloc, &layer)?;
+    ledger_calls(rt, alloc)
+}
+
+// Calls on a book whose rank 1 alone is done.
+fn book_calls<R: Print>(rt: &R, alloc: Global, book: &mut Book, layer: &Layer) -> Option<()> {
+    book.begin(layer).ok()?;
+    hand(alloc, book, layer, 1)?;
+    println!(rt; "made a book").ok()?;
+    claims(rt, book)
+}
+
+// Calls on a level and on a position of a layer.
+fn level_calls<R: Print>(rt: &R, alloc: Global, layer: &Layer) -> Option<()> {
+    start_calls(rt, alloc, layer.level())?;
+    let mut scratch = Scratch::new(alloc, layer.level()).ok()?;
+    position_calls(rt, alloc, layer, &mut scratch)
+}
+
+// Steps from the level's start.
+fn start_calls<R: Print>(rt: &R, alloc: Global, level: &Level) -> Option<()> {
+    let mut state = State::start(alloc, level).ok()?;
+    println!(rt; "made a state").ok()?;
+    steps(rt, level, &mut state)
+}
+
+// Floods and expands a position of a layer.
+fn position_calls<R: Print>(
+    rt: &R,
+    alloc: Global,
+    layer: &Layer,
+    scratch: &mut Scratch,
+) -> Option<()>
+    requires room { scratch.old.size ≡ length layer.now.level.cells }
+{
+    let dead = Dead::of(alloc, layer.level()).ok()?;
+    println!(rt; "made dead squares").ok()?;
+    floods(rt, layer.level(), &layer.position(0)?, &dead, scratch)?;
+    expands(rt, layer, &dead, scratch)
+}
+
+// Expands a position of a layer.
+fn expands<R: Print>(rt: &R, layer: &Layer, dead: &Dead, scratch: &mut Scratch) -> Option<()>
+    requires dead_of_level { dead.now ≡ layer.now.level }
+    requires room { scratch.old.size ≡ length layer.now.level.cells }
+{
+    if layer.len() <= 2 {
+        return None;
+    }
+    let parcel = expand(layer, dead, 2, scratch);
+    println!(rt; "parcel {parcel:?}").ok()
+}
+
+// Draws from a ledger.
+fn ledger_calls<R: Print>(rt: &R, alloc: Global) -> Option<()> {
+    let (ledger, drawer) = Ledger::new(alloc, 2).ok()?;
+    println!(rt; "made a ledger").ok()?;
+    let (first, second) = ledger.split(drawer);
+    draws(rt, &ledger, first, second)
+}
+
+// Claims of a book, freed once.
+fn claims<R: Print>(rt: &R, book: &mut Book) -> Option<()> {
+    for _ in 0..3 {
+        let claim = book.claim();
+        println!(rt; "claim {claim:?}").ok()?;
+    }
+    book.reopen();
+    let claim = book.claim();
+    println!(rt; "claim {claim:?}, left {book:?}").ok()
+}
+
+// Some steps from a state, and whether it is solved then.
+fn steps<R: Print>(rt: &R, level: &Level, state: &mut State) -> Option<()>
+    requires { IsScene level.now state.old }
+{
+    step(rt, level, state, Dir::U)?;
+    step(rt, level, state, Dir::D)?;
+    step(rt, level, state, Dir::L)?;
+    step(rt, level, state, Dir::R)?;
+    let is_solved = state.is_solved(level);
+    println!(rt; "solved {is_solved:?}").ok()
+}
+
+// A step from a state.
+fn step<R: Print>(rt: &R, level: &Level, state: &mut State, dir: Dir) -> Option<()>
+    requires { IsScene level.now state.old }
+    ensures { IsScene level.now state.new }
+{
+    let step = state.step(level, dir);
+    println!(rt; "step {step:?}").ok()
+}
+
+// What a flood of a position reaches, its normal position, and whether it is doomed.
+fn floods<R: Print>(
+    rt: &R,
+    level: &Level,
+    position: &Position,
+    dead: &Dead,
+    scratch: &mut Scratch,
+) -> Option<()>
+    requires dead_of_level { dead.now ≡ level.now }
+    requires room { scratch.old.size ≡ length level.now.cells }
+    ensures size { scratch.new.size ≡ scratch.old.size }
+{
+    if !position.fits(level) {
+        return None;
+    }
+    flood(level, position, scratch);
+    let reached = [11, 33, 99].map(|square| scratch.reaches(Square(square)));
+    let lost = [11, 23, 99].map(|square| dead.is_dead(Square(square)));
+    let normal = normal(level, position, scratch);
+    let is_doomed = doomed(level, dead, position, scratch);
+    println!(rt; "reached {reached:?}, dead {lost:?}, normal {normal:?}, doomed {is_doomed:?}").ok()
+}
+
+// Places and numbers of two drawers of a ledger of two numbers.
+fn draws<R: Print>(rt: &R, ledger: &Ledger, first: Drawer, second: Drawer) -> Option<()>
+    requires first { first.ledger ≡ ledger.now }
+    requires second { second.ledger ≡ ledger.now }
+{
+    let (mut first, mut second) = ledger.meet(first, second);
+    let places = [
+        ledger.enrol(&mut first, 3),
+        ledger.enrol(&mut second, 3),
+        ledger.enrol(&mut second, 4),
+    ];
+    let drawn = [
+        ledger.draw(&mut first),
+        ledger.draw(&mut second),
+        ledger.draw(&mut first),
+    ];
+    println!(rt; "places {places:?}, drawn {drawn:?}").ok()
+}

@@ -1,0 +1,126 @@
+//! Workers that a gate stops change no answer: at each event in turn, at all events, all workers but one.
+ghost use Rattle.std.specs.Prelude.{◌≡◌, true};
+
+use super::solved::DEFAULT_LIMIT;
+use crate::boards::{CORNER, THERE_AND_BACK, TWO_ENDS};
+use crate::books::level_of;
+use crew::{Config, Gate, solve};
+use grid::{Level, Moves};
+use solo::Answer;
+use std::alloc::Global;
+use std::process::Abort;
+use std::sync::{Arc, Wait};
+use std::thread::Threads;
+
+/// A level, its number of layers that are worked on, the most positions of one of them, and its answer: pushes,
+/// positions and moves.
+type Worked = (&'static [u8], u64, u64, (u64, u64, &'static [u8]));
+
+const LEVELS: [Worked; 3] = [
+    (CORNER, 2, 2, (2, 4, b"uLdlU")),
+    (TWO_ENDS, 2, 2, (2, 4, b"LrR")),
+    (THERE_AND_BACK, 6, 1, (6, 7, b"RRdrruLLLL")),
+];
+
+const WORKERS: u8 = 2;
+
+/// When a gate stops a worker.
+#[derive(Clone, Copy)]
+enum Stops {
+    /// At an event of a worker in a layer.
+    At(u64, u8, u64),
+    /// Always.
+    Always,
+    /// Always, but for one worker.
+    Others(u8),
+}
+
+impl Gate for Stops {
+    ghost may_stop = { true };
+
+    fn pass(&self, layer: u64, worker: u8, nth: u64) -> bool {
+        match *self {
+            Stops::At(in_layer, who, event) => layer != in_layer || worker != who || nth != event,
+            Stops::Always => false,
+            Stops::Others(who) => worker == who,
+        }
+    }
+}
+
+#[test]
+fn a_worker_is_stopped_at_each_event(rt: HostRuntime) {
+    for worked in LEVELS {
+        let level = level_of(&rt, rt.alloc(), worked.0);
+        for layer in 0..worked.1 {
+            // each position is drawn and handed back
+            for nth in 1..=worked.2.saturating_mul(2) {
+                check_workers(&rt, rt.alloc(), &level, layer, nth, worked.3);
+            }
+        }
+    }
+}
+
+// Checks the answer where each worker in turn is stopped at an event.
+fn check_workers(
+    rt: &(impl Abort + Threads + Wait + Sync),
+    alloc: Global,
+    level: &Arc<Level>,
+    layer: u64,
+    nth: u64,
+    answer: (u64, u64, &[u8]),
+) {
+    for worker in 0..WORKERS {
+        check_answer(rt, alloc, level, Stops::At(layer, worker, nth), answer);
+    }
+}
+
+#[test]
+fn workers_are_always_stopped(rt: HostRuntime) {
+    for worked in LEVELS {
+        let level = level_of(&rt, rt.alloc(), worked.0);
+        for stops in [Stops::Always, Stops::Others(0), Stops::Others(1)] {
+            check_answer(&rt, rt.alloc(), &level, stops, worked.3);
+        }
+    }
+}
+
+// Checks the answer under a gate: pushes, positions and moves.
+fn check_answer(
+    rt: &(impl Abort + Threads + Wait + Sync),
+    alloc: Global,
+    level: &Arc<Level>,
+    stops: Stops,
+    answer: (u64, u64, &[u8]),
+) {
+    let config = Config {
+        workers: WORKERS,
+        locks: 1,
+        limit: DEFAULT_LIMIT,
+    };
+    let found = solve(rt, alloc, level, config, &stops).expect(rt, "an answer");
+    assert!(rt; is_solution(rt, alloc, &found, answer));
+}
+
+// Whether an answer is the solution with so many pushes and positions and these moves.
+fn is_solution(
+    rt: &impl Abort,
+    alloc: Global,
+    found: &Answer,
+    (pushes, positions, moves): (u64, u64, &[u8]),
+) -> bool {
+    match found {
+        Answer::Solved {
+            moves: letters,
+            pushes: count,
+            positions: total,
+        } => *count == pushes && *total == positions && is_text(rt, alloc, letters, moves),
+        _ => false,
+    }
+}
+
+// Whether moves are written so.
+fn is_text(rt: &impl Abort, alloc: Global, moves: &Moves, text: &[u8]) -> bool {
+    let mut out = Vec::new(alloc);
+    lurd::write(moves, &mut out).expect(rt, "memory");
+    out.as_slice() == text
+}

@@ -1,0 +1,62 @@
+/* Loaded before the C library (LD_PRELOAD), it makes the ends of a program strange. Reads of any file but standard input give at
+   most READ_MOST bytes, and the one whose number, from 1, READ_FAILS gives fails; before the read of number CUT_AT the file CUT_FILE is
+   cut to CUT_TO bytes. Writes to standard output take at most WRITE_MOST bytes, and the one whose number WRITE_FAILS gives
+   fails. The file ENDS_COUNT, 3 numbers of 8 bytes, holds how many reads, writes and bytes read there were: it is mapped, so
+   that it is right however the process ends. */
+#define _GNU_SOURCE
+#include <dlfcn.h>
+#include <errno.h>
+#include <fcntl.h>
+#include <stdlib.h>
+#include <sys/mman.h>
+#include <unistd.h>
+
+typedef ssize_t (*Read)(int, void *, size_t);
+typedef ssize_t (*Write)(int, const void *, size_t);
+
+static Read next_read;
+static Write next_write;
+static unsigned long *seen, read_most, read_fails, cut_at, cut_to, write_most, write_fails;
+
+static unsigned long number(const char *name, unsigned long other) {
+    const char *text = getenv(name);
+    return text ? strtoul(text, NULL, 10) : other;
+}
+
+__attribute__((constructor)) static void begin(void) {
+    const char *path = getenv("ENDS_COUNT");
+    int fd = path ? open(path, O_RDWR | O_CREAT | O_TRUNC, 0600) : -1;
+    if (fd < 0 || ftruncate(fd, 3 * sizeof *seen) != 0) _exit(99);
+    void *place = mmap(NULL, 3 * sizeof *seen, PROT_READ | PROT_WRITE, MAP_SHARED, fd, 0);
+    if (place == MAP_FAILED) _exit(99);
+    close(fd);
+    next_read = (Read)dlsym(RTLD_NEXT, "read");
+    next_write = (Write)dlsym(RTLD_NEXT, "write");
+    read_most = number("READ_MOST", -1UL), read_fails = number("READ_FAILS", 0);
+    cut_at = number("CUT_AT", 0), cut_to = number("CUT_TO", 0);
+    write_most = number("WRITE_MOST", -1UL), write_fails = number("WRITE_FAILS", 0);
+    seen = place;
+}
+
+ssize_t read(int fd, void *bytes, size_t count) {
+    if (!seen || fd == 0) return next_read ? next_read(fd, bytes, count) : -1;
+    seen[0]++;
+    if (seen[0] == cut_at && truncate(getenv("CUT_FILE"), cut_to) != 0) _exit(99);
+    if (seen[0] == read_fails) {
+        errno = EIO;
+        return -1;
+    }
+    ssize_t got = next_read(fd, bytes, count < read_most ? count : read_most);
+    if (got > 0) seen[2] += got;
+    return got;
+}
+
+ssize_t write(int fd, const void *bytes, size_t count) {
+    if (!seen || fd != 1) return next_write ? next_write(fd, bytes, count) : -1;
+    seen[1]++;
+    if (seen[1] == write_fails) {
+        errno = EIO;
+        return -1;
+    }
+    return next_write(fd, bytes, count < write_most ? count : write_most);
+}

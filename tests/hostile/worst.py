@@ -1,0 +1,49 @@
+"""Files that make the program take much memory for each byte, and how much it may take (docs/FORMATS.md has the table)."""
+
+# bytes that a run of any command but `solve` takes at most: so many, and so many for each byte of its files
+FIXED = 8 << 20
+A_BYTE = 340
+
+SIZE = 1 << 20
+ONE = b"#####\n#@$.#\n#####\n"
+
+# a level of 64 rows and 64 columns in as few bytes as there are: most rows have one wall, and floor is filled in
+MOST_CELLS = b"64#|#@*#|4#|" + b"#|" * 60 + b"#\n\n"
+PARTS = {
+    "empty lines": b"\n",
+    "walls": b"#",
+    "rows of many cells": b"9999#|",
+    "lines of one wall": b"#\n",
+    "boards of one wall": b"#\n\n",
+    "boards with names": b";x\n#\n",
+    "boards with titles": b"#\nTitle:x\n",
+    "small levels": b"4#|#@*#|4#\n\n",
+    "levels of many cells": MOST_CELLS,
+}
+
+
+def filled(part, size=SIZE):
+    """A part as often as fits."""
+    return part * (size // len(part))
+
+
+def collections():
+    """The worst files, by their names. A list of boards that is just longer than a power of two has the most room to spare."""
+    yield from ((name, filled(part)) for name, part in PARTS.items())
+    yield "boards of one wall, one more than a power of two", b"#\n\n" * ((1 << 18) + 1)
+
+
+def solutions():
+    """The worst solutions, by their names."""
+    yield "as many moves as a text may have", b"9999l" * 100 + b"100l"
+    yield "blanks", b" " * SIZE
+
+
+def cases():
+    """The name of what is read, the words behind the program's name, where FILE and MOVES are files, and their bytes."""
+    for name, file in collections():
+        yield name, ["check", "FILE"], file, b""
+        for command in ("show", "dead"):
+            yield name, [command, "FILE", "1"], file, b""
+    for name, moves in solutions():
+        yield name, ["replay", "FILE", "1", "MOVES"], ONE, moves
