@@ -24,6 +24,10 @@ const LEVELS: [Worked; 3] = [
 
 const WORKERS: u8 = 2;
 
+/// Numbers of locks that are tried. Each position is drawn once and handed back once to each of so many books.
+const LOCKS: [u8; 3] = [1, 2, 4];
+const MOST_EVENTS: u64 = 5;
+
 /// When a gate stops a worker.
 #[derive(Clone, Copy)]
 enum Stops {
@@ -52,8 +56,7 @@ fn a_worker_is_stopped_at_each_event(rt: HostRuntime) {
     for worked in LEVELS {
         let level = level_of(&rt, rt.alloc(), worked.0);
         for layer in 0..worked.1 {
-            // each position is drawn and handed back
-            for nth in 1..=worked.2.saturating_mul(2) {
+            for nth in 1..=worked.2.saturating_mul(MOST_EVENTS) {
                 check_workers(&rt, rt.alloc(), &level, layer, nth, worked.3);
             }
         }
@@ -84,7 +87,7 @@ fn workers_are_always_stopped(rt: HostRuntime) {
     }
 }
 
-// Checks the answer under a gate: pushes, positions and moves.
+// Checks the answer under a gate, with each number of locks: pushes, positions and moves.
 fn check_answer(
     rt: &(impl Abort + Threads + Wait + Sync),
     alloc: Global,
@@ -92,9 +95,23 @@ fn check_answer(
     stops: Stops,
     answer: (u64, u64, &[u8]),
 ) {
+    for locks in LOCKS {
+        check_locks(rt, alloc, level, stops, locks, answer);
+    }
+}
+
+// Checks the answer under a gate with so many locks.
+fn check_locks(
+    rt: &(impl Abort + Threads + Wait + Sync),
+    alloc: Global,
+    level: &Arc<Level>,
+    stops: Stops,
+    locks: u8,
+    answer: (u64, u64, &[u8]),
+) {
     let config = Config {
         workers: WORKERS,
-        locks: 1,
+        locks,
         limit: DEFAULT_LIMIT,
     };
     let found = solve(rt, alloc, level, config, &stops).expect(rt, "an answer");
