@@ -62,7 +62,7 @@ fn least_aside(level: &Level, position: &Position, scratch: &mut Scratch) -> Squ
         &mut scratch.spare,
         &mut scratch.spare_boxes,
     );
-    least_of(&scratch.spare)
+    least_of(scratch.spare.as_words())
 }
 
 // The same where it is known that the player reaches no square less than a given one: the flood may end there.
@@ -80,7 +80,7 @@ fn least_left(level: &Level, position: &Position, least: Square, scratch: &mut S
         &mut scratch.spare,
         &mut scratch.spare_boxes,
     );
-    least_of(&scratch.spare)
+    least_of(scratch.spare.as_words())
 }
 
 // The same where what the last flood reached, but for the square ahead, is reached still: the flood begins with that.
@@ -100,7 +100,7 @@ fn least_grown(level: &Level, position: &Position, ahead: Square, scratch: &mut 
         &mut scratch.spare,
         &mut scratch.spare_boxes,
     );
-    least_of(&scratch.spare)
+    least_of(scratch.spare.as_words())
 }
 
 // Whether nothing free is beside a box's square but what the last flood reached, and the square ahead. The player

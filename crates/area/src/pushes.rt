@@ -40,8 +40,8 @@ pub fn pushable(level: &Level, scratch: &Scratch, place: usize) -> PushMasks
 {
     let masks = level.step_masks();
     let cols = level.cols();
-    let reached = scratch.reached.as_slice();
-    let boxes = scratch.boxes.as_slice();
+    let reached = scratch.reached.as_words();
+    let boxes = scratch.boxes.as_words();
     if boxes[place] == 0 {
         return NONE;
     }
