@@ -7,7 +7,7 @@ ghost use Rattle.area.specs.After.{IsAreaOf, IsPushed};
 ghost use Rattle.area.specs.inside.Detours.{across, Skirts, IsKnown, GainsNothing, StaysJoined, GoesPast, GoesRound};
 
 use crate::bits::least_of;
-use crate::floods::{flood_on, flood_to, flood_words};
+use crate::floods::{flood_on, flood_sets, flood_to};
 use crate::scratch::Scratch;
 use grid::{Dir, Level, Position, Push, Square};
 
@@ -56,7 +56,7 @@ fn least_aside(level: &Level, position: &Position, scratch: &mut Scratch) -> Squ
     ensures norm { IsNorm level.now position.now (at position.now result) }
     ensures kept { scratch.new ≡ scratch.old }
 {
-    flood_words(
+    flood_sets(
         level,
         position,
         &mut scratch.spare,

@@ -14,7 +14,7 @@ pub(crate) fn has(words: &[u64], square: Square) -> bool
     ensures { result ≡ has_bit words.now square }
 {
     let place = square.0 as usize / WORD_BITS;
-    place < words.len() && (words[place] >> (square.0 as usize % WORD_BITS)) & 1 == 1
+    place < words.len() && ((words[place] >> (square.0 as usize % WORD_BITS)) & 1) == 1
 }
 
 // Puts a square into the set.

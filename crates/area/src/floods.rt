@@ -20,7 +20,7 @@ pub fn flood(level: &Level, position: &Position, scratch: &mut Scratch)
     ensures boxes { scratch.new.boxes ≡ position.now.boxes }
     ensures size { scratch.new.size ≡ scratch.old.size }
 {
-    flood_words(level, position, &mut scratch.reached, &mut scratch.boxes);
+    flood_sets(level, position, &mut scratch.reached, &mut scratch.boxes);
 }
 
 /// The normal position: the same boxes, and the player on the least square that it reaches without a push.
@@ -38,7 +38,7 @@ pub fn normal(level: &Level, position: &Position, scratch: &mut Scratch) -> Posi
 }
 
 // Makes a set of the squares that the player reaches round the boxes, and another of the boxes' squares.
-pub(crate) fn flood_words(
+pub(crate) fn flood_sets(
     level: &Level,
     position: &Position,
     reached: &mut SquareSet,
@@ -194,7 +194,7 @@ fn settle(
     let StepMasks { d, l, r, u } = masks[place];
     let old = reached[place];
     let open = !boxes[place];
-    if old | ((d | l | r | u) & open) == old {
+    if (old | ((d | l | r | u) & open)) == old {
         return false;
     }
     let first = old | (entered(masks, cols, reached, place) & open);
@@ -227,9 +227,9 @@ fn fill(word: u64, down: u64, left: u64, right: u64, up: u64, cols: usize) -> u6
 {
     let mut word = word;
     loop {
-        let rightward = run_up(word, right);
         let leftward = run_down(word, left);
-        let row = rightward | leftward;
+        let rightward = run_up(word, right);
+        let row = leftward | rightward;
         let downward = step_up(row, down, cols);
         let upward = step_down(row, up, cols);
         let next = downward | upward;

@@ -2,9 +2,8 @@ ghost use Rattle.std.specs.Prelude.{◌≡◌, ℕ, ◌*◌, ◌+◌, ◌<◌, �
 ghost use Rattle.grid.specs.Board.{is_wall};
 ghost use Rattle.grid.specs.Masks.{has_bit, word_count};
 ghost use Rattle.grid.specs.Squares.{Squares, contains};
-ghost use Rattle.area.specs.Groups.{HangsWith};
 ghost use Rattle.area.specs.Words.{squares_of, word_bit};
-ghost use Rattle.area.specs.inside.Locking.{AreLocked, HaveRoom, IsHeldBy, IsLargest, IsLook, IsPass};
+ghost use Rattle.area.specs.inside.Locking.{HaveRoom, IsGroup, IsHeldBy, IsLargest, IsLook, IsPass, TellsLocked};
 
 use crate::bits::{after, before};
 use crate::groups::group;
@@ -29,7 +28,7 @@ pub fn any_locked(level: &Level, holds: &Holds, boxes: &[Square], scratch: &mut 
     requires inside { (q : ℕ) → contains boxes.now q ≡ true → q < length level.now.cells }
     requires holds { HaveRoom holds.now (word_count (length level.now.cells)) }
     requires room { scratch.old.size ≡ length level.now.cells }
-    ensures locked { IsTrue result ↔ ((part : Squares) × AreLocked holds.now level.now.cols boxes.now part) }
+    ensures locked { TellsLocked holds.now level.now.cols boxes.now result }
     ensures kept { scratch.new ≡ scratch.old }
 {
     scratch.spare.put_all(boxes);
@@ -48,7 +47,7 @@ pub fn any_locked_with(
     requires there { contains boxes.now square ≡ true }
     requires holds { HaveRoom holds.now (word_count (length level.now.cells)) }
     requires room { scratch.old.size ≡ length level.now.cells }
-    ensures locked { (members : Squares) × ((q : ℕ) → (contains members q ≡ true) ↔ HangsWith level.now boxes.now square q) × (IsTrue result ↔ ((part : Squares) × AreLocked holds.now level.now.cols members part)) }
+    ensures locked { (group : Squares) × IsGroup level.now boxes.now square group × TellsLocked holds.now level.now.cols group result }
     ensures kept { scratch.new ≡ scratch.old }
 {
     group(
@@ -64,7 +63,7 @@ pub fn any_locked_with(
 // Whether some squares of the set are locked. The set keeps the largest set of its squares each of which is held.
 fn has_locked(level: &Level, holds: &Holds, members: &mut SquareSet) -> bool
     requires holds { HaveRoom holds.now (length members.old) }
-    ensures locked { IsTrue result ↔ ((part : Squares) × AreLocked holds.now level.now.cols (squares_of members.old) part) }
+    ensures locked { TellsLocked holds.now level.now.cols (squares_of members.old) result }
     ensures size { length members.new ≡ length members.old }
 {
     has_locked_words(holds, level.cols(), members.as_words_mut())
@@ -73,7 +72,7 @@ fn has_locked(level: &Level, holds: &Holds, members: &mut SquareSet) -> bool
 // The same by words, where the columns are so many.
 fn has_locked_words(holds: &Holds, cols: usize, members: &mut [u64]) -> bool
     requires holds { HaveRoom holds.now (length members.old) }
-    ensures { IsTrue result ↔ ((part : Squares) × AreLocked holds.now cols (squares_of members.old) part) }
+    ensures { TellsLocked holds.now cols (squares_of members.old) result }
 {
     keep_held(holds, cols, members);
     has_other(members, holds.goals.as_words())

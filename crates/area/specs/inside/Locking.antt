@@ -1,9 +1,11 @@
 -- Boxes that hold one another along two axes, by the numbers of their squares.
-use Rattle.std.specs.Prelude.{◌≡◌, ◌<◌, ◌+◌, ◌/◌, ◌↔◌, ◌⊎◌, ℕ, Bool, true, false, List, length, sum_by}
+use Rattle.std.specs.Prelude.{◌≡◌, ◌<◌, ◌+◌, ◌/◌, ◌↔◌, ◌⊎◌, ℕ, Bool, IsTrue, true, false, List, length, sum_by}
 use Rattle.grid.specs.declared.masks.TheConstants.{WORD_BITS}
 use Rattle.grid.specs.Squares.{Squares, contains}
+use Rattle.grid.specs.Board.{Board}
 use Rattle.grid.specs.Masks.{has_bit}
 use Rattle.area.specs.declared.locked.Holds.{Holds}
+use Rattle.area.specs.Groups.{HangsWith}
 use Rattle.area.specs.Words.{squares_of}
 
 -- there are so many words in each set
@@ -33,6 +35,14 @@ pub record AreLocked (holds : Holds) (cols : ℕ) (boxes part : Squares) : Type 
   pub some : AreWithin part boxes
   pub off : (q : ℕ) × (contains part q ≡ true) × (has_bit holds.goals q ≡ false)
   pub held : AreHeld holds cols part
+
+-- the answer says whether some of the boxes are locked
+abbrev pub TellsLocked : Holds → ℕ → Squares → Bool → Type 0
+TellsLocked holds cols boxes told = IsTrue told ↔ ((part : Squares) × AreLocked holds cols boxes part)
+
+-- the boxes that hang together with the one on the square
+abbrev pub IsGroup : Board → Squares → ℕ → Squares → Type 0
+IsGroup board boxes square group = (q : ℕ) → (contains group q ≡ true) ↔ HangsWith board boxes square q
 
 -- the sum of the words
 abbrev pub weight : List ℕ → ℕ
