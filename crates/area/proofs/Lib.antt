@@ -10,3 +10,4 @@ pub mod Spreading
 pub mod UnderWay
 pub mod Visiting
 pub mod Chains
+pub mod Passes

@@ -1,7 +1,8 @@
 -- What a vector holds whose items were lent and written.
-use Rattle.std.proofs.Common.{◌≡◌, ℕ, ◌<◌, ◌++◌, List, length, get_or, take, ap, ◌∙◌, arith}
+use Rattle.std.proofs.Common.{◌≡◌, ℕ, ◌<◌, ◌++◌, List, length, get_or, take, drop, sym, ap, ◌∙◌, arith}
 use Rattle.std.proofs.lemmas.List.{get_or_read}
 use Rattle.std.proofs.Math.Seq.{take-append_seam}
+use Rattle.area.specs.inside.Written.{written_over}
 
 -- all of its items are those that were written
 pub written : (new rest : List ℕ) (len : ℕ) → len ≡ length new → take len (new ++ rest) ≡ new
@@ -14,3 +15,7 @@ read_written new rest len place at item e lt is same =
     let few = ap length w in
     get_or_read (take len (new ++ rest)) place item (omega (arith, lt, few, e)) is 0
     ∙ (ap (λ (xs : List ℕ). get_or xs place 0) w ∙ ap (λ (q : ℕ). get_or new q 0) same)
+
+-- where no fewer words were written than there were, the set holds these
+pub over : (old words : List ℕ) → length words ≡ length old → written_over old words ≡ words
+over old words e = written words (drop (length words) old) (length old) (sym e)

@@ -5,3 +5,5 @@ pub mod Spread
 pub mod Detours
 pub mod Flooding
 pub mod PushWords
+pub mod Written
+pub mod Locking

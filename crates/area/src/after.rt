@@ -7,7 +7,7 @@ ghost use Rattle.area.specs.After.{IsAreaOf, IsPushed};
 ghost use Rattle.area.specs.inside.Detours.{across, Skirts, IsKnown, GainsNothing, StaysJoined, GoesPast, GoesRound};
 
 use crate::bits::least_of;
-use crate::floods::{flood_on, flood_to, flood_words};
+use crate::floods::{flood_on, flood_sets, flood_to};
 use crate::scratch::Scratch;
 use grid::{Dir, Level, Position, Push, Square};
 
@@ -56,13 +56,13 @@ fn least_aside(level: &Level, position: &Position, scratch: &mut Scratch) -> Squ
     ensures norm { IsNorm level.now position.now (at position.now result) }
     ensures kept { scratch.new ≡ scratch.old }
 {
-    flood_words(
+    flood_sets(
         level,
         position,
         &mut scratch.spare,
         &mut scratch.spare_boxes,
     );
-    least_of(&scratch.spare)
+    least_of(scratch.spare.as_words())
 }
 
 // The same where it is known that the player reaches no square less than a given one: the flood may end there.
@@ -80,7 +80,7 @@ fn least_left(level: &Level, position: &Position, least: Square, scratch: &mut S
         &mut scratch.spare,
         &mut scratch.spare_boxes,
     );
-    least_of(&scratch.spare)
+    least_of(scratch.spare.as_words())
 }
 
 // The same where what the last flood reached, but for the square ahead, is reached still: the flood begins with that.
@@ -100,7 +100,7 @@ fn least_grown(level: &Level, position: &Position, ahead: Square, scratch: &mut 
         &mut scratch.spare,
         &mut scratch.spare_boxes,
     );
-    least_of(&scratch.spare)
+    least_of(scratch.spare.as_words())
 }
 
 // Whether nothing free is beside a box's square but what the last flood reached, and the square ahead. The player

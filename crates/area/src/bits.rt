@@ -1,5 +1,5 @@
 //! Sets of squares as bits of words: bit i of word k is the square `WORD_BITS * k + i`.
-ghost use Rattle.std.specs.Prelude.{◌≡◌, ℕ, ◌+◌, ◌-◌, ◌*◌, ◌<◌, ◌≤◌, ◌==◌, ◌||◌, ◌&&◌, not, true, length, slice_index};
+ghost use Rattle.std.specs.Prelude.{◌≡◌, ℕ, ◌+◌, ◌-◌, ◌*◌, ◌<◌, ◌≤◌, ◌==◌, ◌||◌, ◌&&◌, not, true, false, length, slice_index};
 ghost use Rattle.std.specs.Int.{trailing_zeros, w64};
 ghost use Rattle.grid.specs.Masks.{has_bit};
 ghost use Rattle.grid.specs.Squares.{contains};
@@ -8,18 +8,18 @@ ghost use Rattle.area.specs.Words.{squares_of, word_bit};
 
 use grid::{MAX_SQUARES, Square, WORD_BITS};
 
-/// Whether the set has the square.
+// Whether the set has the square.
 #[inline(always)]
-pub fn has(words: &[u64], square: Square) -> bool
+pub(crate) fn has(words: &[u64], square: Square) -> bool
     ensures { result ≡ has_bit words.now square }
 {
     let place = square.0 as usize / WORD_BITS;
-    place < words.len() && (words[place] >> (square.0 as usize % WORD_BITS)) & 1 == 1
+    place < words.len() && ((words[place] >> (square.0 as usize % WORD_BITS)) & 1) == 1
 }
 
-/// Puts a square into the set.
+// Puts a square into the set.
 #[inline(always)]
-pub fn put(square: Square, words: &mut [u64])
+pub(crate) fn put(square: Square, words: &mut [u64])
     requires { square < WORD_BITS * length words.old }
     ensures { (q : ℕ) → has_bit words.new q ≡ (has_bit words.old q || square == q) }
 {
@@ -35,14 +35,23 @@ pub(crate) fn take_out(square: Square, words: &mut [u64])
     words[square.0 as usize / WORD_BITS] &= !(1 << (square.0 as usize % WORD_BITS));
 }
 
-/// Makes the set one of just these squares.
-pub fn put_all(squares: &[Square], words: &mut [u64])
+// Makes the set one of just these squares.
+pub(crate) fn put_all(squares: &[Square], words: &mut [u64])
     requires { (q : ℕ) → contains squares.now q ≡ true → q < WORD_BITS * length words.old }
     ensures { (q : ℕ) → has_bit words.new q ≡ contains squares.now q }
 {
     words.fill(0);
     for square in squares {
         put(*square, words);
+    }
+}
+
+// Makes a set that of the squares that it does not have.
+pub(crate) fn turn_over(words: &mut [u64])
+    ensures { (q : ℕ) → q < WORD_BITS * length words.old → has_bit words.new q ≡ not (has_bit words.old q) }
+{
+    for place in 0..words.len() {
+        words[place] = !words[place];
     }
 }
 
@@ -98,11 +107,13 @@ fn without(place: usize, word: u64, square: Square) -> u64
     }
 }
 
-/// For each square of a word, whether the set has the square so many numbers before it.
+// For each square of a word, whether the set has the square so many numbers before it; none does where there is no such
+// number.
 #[inline(always)]
-pub fn before(words: &[u64], place: usize, by: usize) -> u64
+pub(crate) fn before(words: &[u64], place: usize, by: usize) -> u64
     requires { place < length words.now }
-    ensures { (i j : ℕ) → j < WORD_BITS → i + by ≡ WORD_BITS * place + j → word_bit result j ≡ has_bit words.now i }
+    ensures there { (i j : ℕ) → j < WORD_BITS → i + by ≡ WORD_BITS * place + j → word_bit result j ≡ has_bit words.now i }
+    ensures none { (j : ℕ) → j < WORD_BITS → WORD_BITS * place + j < by → word_bit result j ≡ false }
 {
     let far = by / WORD_BITS;
     let near = by % WORD_BITS;
@@ -111,9 +122,9 @@ pub fn before(words: &[u64], place: usize, by: usize) -> u64
     slid_up(here, low, near)
 }
 
-/// For each square of a word, whether the set has the square so many numbers after it.
+// For each square of a word, whether the set has the square so many numbers after it.
 #[inline(always)]
-pub fn after(words: &[u64], place: usize, by: usize) -> u64
+pub(crate) fn after(words: &[u64], place: usize, by: usize) -> u64
     requires { place < length words.now }
     ensures { (i j : ℕ) → j < WORD_BITS → i ≡ WORD_BITS * place + j + by → word_bit result j ≡ has_bit words.now i }
 {
@@ -128,7 +139,8 @@ pub fn after(words: &[u64], place: usize, by: usize) -> u64
 #[inline(always)]
 fn word_before(words: &[u64], place: usize, far: usize) -> u64
     requires { place < length words.now }
-    ensures { far ≤ place → result ≡ slice_index words.now (place - far) }
+    ensures there { far ≤ place → result ≡ slice_index words.now (place - far) }
+    ensures none { place < far → result ≡ 0 }
 {
     if far <= place { words[place - far] } else { 0 }
 }

@@ -7,8 +7,9 @@ ghost use Rattle.area.specs.Area.{Area, IsNorm};
 ghost use Rattle.area.specs.Words.{word_bit};
 ghost use Rattle.area.specs.inside.Flooding.{is_entered, HasAim, IsGrowing, IsFlooded, IsSettling, IsGrown, PassesUp, PassesDown, PassesOn};
 
-use crate::bits::{after, before, has, put, put_all, take_out};
+use crate::bits::{after, before, has};
 use crate::scratch::Scratch;
+use crate::set::SquareSet;
 use grid::{Level, Position, Square, StepMasks, WORD_BITS};
 
 /// Finds the squares that the player reaches without a push.
@@ -19,7 +20,7 @@ pub fn flood(level: &Level, position: &Position, scratch: &mut Scratch)
     ensures boxes { scratch.new.boxes ≡ position.now.boxes }
     ensures size { scratch.new.size ≡ scratch.old.size }
 {
-    flood_words(level, position, &mut scratch.reached, &mut scratch.boxes);
+    flood_sets(level, position, &mut scratch.reached, &mut scratch.boxes);
 }
 
 /// The normal position: the same boxes, and the player on the least square that it reaches without a push.
@@ -37,17 +38,19 @@ pub fn normal(level: &Level, position: &Position, scratch: &mut Scratch) -> Posi
 }
 
 // Makes a set of the squares that the player reaches round the boxes, and another of the boxes' squares.
-pub(crate) fn flood_words(
+pub(crate) fn flood_sets(
     level: &Level,
     position: &Position,
-    reached: &mut [u64],
-    boxes: &mut [u64],
+    reached: &mut SquareSet,
+    boxes: &mut SquareSet,
 )
     requires fits { FitsLevel level.now position.now }
     requires room { length reached.old ≡ word_count (length level.now.cells) }
     requires places { length boxes.old ≡ word_count (length level.now.cells) }
     ensures reached { (q : ℕ) → (has_bit reached.new q ≡ true) ↔ Area level.now position.now q }
     ensures boxes { (q : ℕ) → has_bit boxes.new q ≡ contains position.now.boxes q }
+    ensures room { length reached.new ≡ length reached.old }
+    ensures places { length boxes.new ≡ length boxes.old }
 {
     flood_to(level, position, &None, reached, boxes);
 }
@@ -58,8 +61,8 @@ pub(crate) fn flood_to(
     level: &Level,
     position: &Position,
     aim: &Option<Square>,
-    reached: &mut [u64],
-    boxes: &mut [u64],
+    reached: &mut SquareSet,
+    boxes: &mut SquareSet,
 )
     requires fits { FitsLevel level.now position.now }
     requires room { length reached.old ≡ word_count (length level.now.cells) }
@@ -68,9 +71,11 @@ pub(crate) fn flood_to(
     ensures within { (q : ℕ) → has_bit reached.new q ≡ true → Area level.now position.now q }
     ensures whole { HasAim aim.now reached.new ⊎ ((q : ℕ) → Area level.now position.now q → has_bit reached.new q ≡ true) }
     ensures boxes { (q : ℕ) → has_bit boxes.new q ≡ contains position.now.boxes q }
+    ensures room { length reached.new ≡ length reached.old }
+    ensures places { length boxes.new ≡ length boxes.old }
 {
-    reached.fill(0);
-    put(position.player(), reached);
+    reached.clear();
+    reached.put(position.player());
     flood_from(level, position, aim, reached, boxes);
 }
 
@@ -79,10 +84,10 @@ pub(crate) fn flood_to(
 pub(crate) fn flood_on(
     level: &Level,
     position: &Position,
-    known: &[u64],
+    known: &SquareSet,
     but: Square,
-    reached: &mut [u64],
-    boxes: &mut [u64],
+    reached: &mut SquareSet,
+    boxes: &mut SquareSet,
 )
     requires fits { FitsLevel level.now position.now }
     requires words { length known.now ≡ word_count (length level.now.cells) }
@@ -90,11 +95,13 @@ pub(crate) fn flood_on(
     requires places { length boxes.old ≡ word_count (length level.now.cells) }
     requires inside { but < length level.now.cells }
     requires known { (q : ℕ) → has_bit known.now q ≡ true → q ≢ but → Area level.now position.now q }
-    ensures { (q : ℕ) → (has_bit reached.new q ≡ true) ↔ Area level.now position.now q }
+    ensures reached { (q : ℕ) → (has_bit reached.new q ≡ true) ↔ Area level.now position.now q }
+    ensures room { length reached.new ≡ length reached.old }
+    ensures places { length boxes.new ≡ length boxes.old }
 {
-    reached.copy_from_slice(known);
-    take_out(but, reached);
-    put(position.player(), reached);
+    reached.copy_from(known);
+    reached.take_out(but);
+    reached.put(position.player());
     flood_from(level, position, &None, reached, boxes);
 }
 
@@ -104,8 +111,8 @@ fn flood_from(
     level: &Level,
     position: &Position,
     aim: &Option<Square>,
-    reached: &mut [u64],
-    boxes: &mut [u64],
+    reached: &mut SquareSet,
+    boxes: &mut SquareSet,
 )
     requires fits { FitsLevel level.now position.now }
     requires room { length reached.old ≡ word_count (length level.now.cells) }
@@ -116,15 +123,28 @@ fn flood_from(
     ensures within { (q : ℕ) → has_bit reached.new q ≡ true → Area level.now position.now q }
     ensures whole { HasAim aim.now reached.new ⊎ ((q : ℕ) → Area level.now position.now q → has_bit reached.new q ≡ true) }
     ensures boxes { (q : ℕ) → has_bit boxes.new q ≡ contains position.now.boxes q }
+    ensures room { length reached.new ≡ length reached.old }
+    ensures places { length boxes.new ≡ length boxes.old }
 {
-    put_all(position.boxes(), boxes);
+    boxes.put_all(position.boxes());
     grow(level, aim, boxes, reached);
 }
 
-// Adds to the set all squares that steps round the boxes lead to. It goes on from word to word, and where a word gained
-// squares, back to the first one that its squares lead into; so before a place no step leads out of the set. Where an
-// aim is given, it may end as soon as the set has that square.
-pub(crate) fn grow(level: &Level, aim: &Option<Square>, boxes: &[u64], reached: &mut [u64])
+// Adds to the set all squares that steps round the boxes lead to. Where an aim is given, it may end as soon as the set has
+// that square.
+pub(crate) fn grow(level: &Level, aim: &Option<Square>, boxes: &SquareSet, reached: &mut SquareSet)
+    requires boxes { length boxes.now ≡ word_count (length level.now.cells) }
+    requires room { length reached.old ≡ word_count (length level.now.cells) }
+    ensures growing { IsGrowing level.now boxes.now reached.old reached.new }
+    ensures ended { HasAim aim.now reached.new ⊎ IsFlooded level.now boxes.now reached.old reached.new }
+    ensures room { length reached.new ≡ length reached.old }
+{
+    grow_words(level, aim, boxes.as_words(), reached.as_words_mut());
+}
+
+// The same by words. It goes on from word to word, and where a word gained squares, back to the first one that its
+// squares lead into; so before a place no step leads out of the set.
+fn grow_words(level: &Level, aim: &Option<Square>, boxes: &[u64], reached: &mut [u64])
     requires boxes { length boxes.now ≡ word_count (length level.now.cells) }
     requires room { length reached.old ≡ word_count (length level.now.cells) }
     ensures growing { IsGrowing level.now boxes.now reached.old reached.new }
@@ -174,7 +194,7 @@ fn settle(
     let StepMasks { d, l, r, u } = masks[place];
     let old = reached[place];
     let open = !boxes[place];
-    if old | ((d | l | r | u) & open) == old {
+    if (old | ((d | l | r | u) & open)) == old {
         return false;
     }
     let first = old | (entered(masks, cols, reached, place) & open);
@@ -207,9 +227,9 @@ fn fill(word: u64, down: u64, left: u64, right: u64, up: u64, cols: usize) -> u6
 {
     let mut word = word;
     loop {
-        let rightward = run_up(word, right);
         let leftward = run_down(word, left);
-        let row = rightward | leftward;
+        let rightward = run_up(word, right);
+        let row = leftward | rightward;
         let downward = step_up(row, down, cols);
         let upward = step_down(row, up, cols);
         let next = downward | upward;

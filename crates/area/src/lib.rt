@@ -2,13 +2,15 @@
 #![tactic(auto)]
 
 mod after;
-pub mod bits;
+mod bits;
 mod floods;
 mod groups;
 pub mod laws;
+mod locked;
 mod pushes;
 mod route;
 mod scratch;
+mod set;
 mod spread;
 #[cfg(test)]
 mod tests;
@@ -16,6 +18,8 @@ mod tests;
 pub use after::normalise_after;
 pub use floods::{flood, normal};
 pub use groups::group;
+pub use locked::{Holds, any_locked, any_locked_with};
 pub use pushes::{PushMasks, pushable};
 pub use route::walk;
-pub use scratch::{Scratch, lent_words};
+pub use scratch::Scratch;
+pub use set::SquareSet;

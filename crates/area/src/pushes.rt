@@ -40,8 +40,8 @@ pub fn pushable(level: &Level, scratch: &Scratch, place: usize) -> PushMasks
 {
     let masks = level.step_masks();
     let cols = level.cols();
-    let reached = scratch.reached.as_slice();
-    let boxes = scratch.boxes.as_slice();
+    let reached = scratch.reached.as_words();
+    let boxes = scratch.boxes.as_words();
     if boxes[place] == 0 {
         return NONE;
     }
@@ -69,7 +69,7 @@ fn pushed_on(
     ensures { (board : Board) → AreMasks board masks.now → GoesOn board dir by → (j : ℕ) → j < WORD_BITS → word_bit result j ≡ can_push board boxes.now reached.now dir (WORD_BITS * place + j) }
 {
     let entered = before(reached, place, by) & mask_for(masks[place], dir);
-    boxes[place] & entered & open_after(masks, boxes, place, dir, by)
+    (boxes[place] & entered) & open_after(masks, boxes, place, dir, by)
 }
 
 // The boxes of a word that can be pushed in a direction that leads so many numbers back.
@@ -88,7 +88,7 @@ fn pushed_back(
     ensures { (board : Board) → AreMasks board masks.now → GoesBack board dir by → (j : ℕ) → j < WORD_BITS → word_bit result j ≡ can_push board boxes.now reached.now dir (WORD_BITS * place + j) }
 {
     let entered = after(reached, place, by) & mask_for(masks[place], dir);
-    boxes[place] & entered & open_before(masks, boxes, place, dir, by)
+    (boxes[place] & entered) & open_before(masks, boxes, place, dir, by)
 }
 
 // For each square of a word, whether the square so many numbers after it is open to a step in the direction.

@@ -1,17 +1,18 @@
--- Where walls and dead squares alone hold a box, as bits of words.
-use Rattle.std.proofs.Common.{◌≡◌, ◌≢◌, ◌↔◌, ◌<◌, ◌≤◌, ◌+◌, ◌-◌, ◌*◌, ℕ, Bool, true, false, eqb, ltb, ◌||◌, List, length, get_or, refl, sym, ap, subst, ◌∙◌, inl, inr, arith, add-one, replicate}
-use Rattle.std.specs.Int.RustNames.{bit_or}
-use Rattle.std.proofs.lemmas.Bool.{false≢true, cond_both, or_cases, or_left, or_right, cases_eq, eqb-true, eq-eqb, ltb-false}
+-- Where walls and dead squares alone hold a box, as sets.
+use Rattle.std.proofs.Common.{◌≡◌, ◌≢◌, ◌↔◌, ◌<◌, ◌≤◌, ◌+◌, ◌-◌, ◌*◌, ℕ, Bool, true, false, eqb, ltb, ◌||◌, List, length, refl, sym, ap, subst, ◌∙◌, inl, inr, arith, add-one, IsTrue}
+use Rattle.std.proofs.lemmas.Bool.{false≢true, cases_Bool, cond_both, or_cases, or_left, or_right, cases_eq, eqb-true, eq-eqb, ltb-false}
 use Rattle.grid.specs.declared.dir.Dir.{Dir}
 use Rattle.grid.specs.declared.dir.Dir.TheVariants.{D, L, R, U}
 use Rattle.grid.specs.Board.{Board, next, opposite}
-use Rattle.grid.specs.Masks.{has_bit}
+use Rattle.grid.specs.Masks.{has_bit, word_count}
 use Rattle.grid.proofs.lemmas.Steps.{inside_grid}
-use Rattle.area.specs.Words.{squares_of, word_bit}
-use Rattle.area.proofs.lemmas.WordBits.{has_bit-at, word_bit-or}
-use Rattle.area.proofs.lemmas.WordSets.{contains-squares_of, none_set}
-use Rattle.doom.specs.Deadlocks.{IsHeld}
-use Rattle.doom.specs.inside.Holding.{IsFast, AreFast, IsApart}
+use Rattle.grid.specs.Squares.{Squares, contains}
+use Rattle.area.specs.declared.locked.Holds.{Holds}
+use Rattle.area.specs.inside.Locking.{AreLocked, HaveRoom, IsHeldBy}
+use Rattle.doom.specs.Deadlocks.{IsFrozen, IsHeld}
+use Rattle.doom.specs.inside.Holding.{IsFast, AreFast, AreHolds, IsApart}
+use Rattle.doom.specs.inside.Peeling.{StandInside}
+use Rattle.doom.proofs.Peeling.{blocked_by_axes}
 use Rattle.doom.proofs.Beside.{held_fast, held_cases, floor_ahead, floor_behind, right_of, left_of}
 
 -- ---- how far off the squares beside one are
@@ -44,35 +45,63 @@ other_beside board q d by some apart loose =
 
 -- ---- what holds a box among the members of a set
 
-pub held_bits : (board : Board) (words : List ℕ) (q by : ℕ) (d : Dir) (fast before after : Bool) → (fast ≡ true) ↔ IsFast board q d → IsApart board d by
-    → ((i : ℕ) → i + by ≡ q → before ≡ has_bit words i) → ((i : ℕ) → i ≡ q + by → after ≡ has_bit words i)
-    → (((fast || before) || after) ≡ true) ↔ IsHeld board (squares_of words) q d
-held_bits board words q by d true before after tells apart on_before on_after =
-    (λ _. held_fast board (squares_of words) q d (tells.0 refl), λ _. refl)
-held_bits board words q by d false before after tells apart on_before on_after = (
-  λ h. elim (or_cases before after h) [
-    | inl b ↦ inr (inl (inr (contains-squares_of words (next board q (opposite d)) ∙ (sym (on_before (next board q (opposite d)) (apart q loose).1) ∙ b))))
-    | inr a ↦ inl (inr (contains-squares_of words (next board q d) ∙ (sym (on_after (next board q d) (apart q loose).0) ∙ a)))
-  ],
-  λ held. elim (held_cases board (squares_of words) q d loose held) [
-    | inl ahead ↦ or_right before after (on_after (next board q d) (apart q loose).0 ∙ (sym (contains-squares_of words (next board q d)) ∙ ahead))
-    | inr behind ↦ or_left before after (on_before (next board q (opposite d)) (apart q loose).1 ∙ (sym (contains-squares_of words (next board q (opposite d))) ∙ behind))
-  ],
-)
-  where
-    loose : ¬ (IsFast board q d)
-    loose f = false≢true (tells.1 f)
+-- a box is held by what the sets tell where walls, members or dead squares hold it
+held_told : (board : Board) (fast : List ℕ) (members : Squares) (q by : ℕ) (d : Dir) → AreFast board d fast → IsApart board d by → q < length board.cells → IsHeldBy fast by members q ↔ IsHeld board members q d
+held_told board fast members q by d are apart inside = elim (cases_Bool (has_bit fast q)) [
+  | inl there ↦ (λ _. held_fast board members q d ((are.right q inside).0 there), λ _. inl there)
+  | inr none ↦
+      (let loose : ¬ (IsFast board q d) = λ f. false≢true (sym none ∙ (are.right q inside).1 f) in
+      let (after, before) = apart q loose in (
+        λ held. elim held [
+          | inl there ↦ absurd (false≢true (sym none ∙ there))
+          | inr (inl h) ↦ inl (inr (ap (contains members) after ∙ h))
+          | inr (inr (p, e, h)) ↦ inr (inl (inr (ap (contains members) (let same : next board q (opposite d) ≡ p = omega (arith, before, e) in same) ∙ h)))
+        ],
+        λ held. elim (held_cases board members q d loose held) [
+          | inl ahead ↦ inr (inl (sym (ap (contains members) after) ∙ ahead))
+          | inr behind ↦ inr (inr (next board q (opposite d), before, behind))
+        ],
+      ))
+]
 
--- the same for a word
-pub held_word : (board : Board) (fast words : List ℕ) (place by : ℕ) (d : Dir) (before after : ℕ) → AreFast board d fast → IsApart board d by → (j : ℕ) → j < 64 → 64 * place + j < length board.cells
-    → ((i : ℕ) → i + by ≡ 64 * place + j → word_bit before j ≡ has_bit words i) → ((i : ℕ) → i ≡ 64 * place + j + by → word_bit after j ≡ has_bit words i)
-    → (word_bit (bit_or (bit_or (get_or fast place 0) before) after) j ≡ true) ↔ IsHeld board (squares_of words) (64 * place + j) d
-held_word board fast words place by d before after are apart j lt inside on_before on_after =
-    let three = word_bit-or (bit_or (get_or fast place 0) before) after j ∙ ap (λ (b : Bool). b || word_bit after j) (word_bit-or (get_or fast place 0) before j) in
-    let here = has_bit-at fast place j lt in
-    let tells = are.right (64 * place + j) inside in
-    let bits = held_bits board words (64 * place + j) by d (word_bit (get_or fast place 0) j) (word_bit before j) (word_bit after j) (λ h. tells.0 (here ∙ h), λ f. sym here ∙ tells.1 f) apart on_before on_after in
-    (λ h. bits.0 (sym three ∙ h), λ h. three ∙ bits.1 h)
+-- the sets have room for all squares
+pub room_of : (board : Board) (holds : Holds) → AreHolds board holds → HaveRoom holds (word_count (length board.cells))
+room_of board holds are = record { across = are.across.size; along = are.along.size; goals = are.goals.size }
+
+-- so boxes that are locked are frozen, and back
+module _ (board : Board) (holds : Holds) (are : AreHolds board holds) (boxes : Squares) (stand : StandInside board boxes) where
+  frozen_as_locked : (part : Squares) → AreLocked holds board.cols boxes part → IsFrozen board boxes part
+  frozen_as_locked part locked =
+      let (x, here, off) = locked.off in
+      record {
+        some = locked.some;
+        off_goal = (x, here, sym (are.goals.right x (stand x (locked.some x here))) ∙ off);
+        blocked = λ q h.
+            (let inside = stand q (locked.some q h) in
+            let (across, along) = locked.held q h in
+            blocked_by_axes board part q
+            ((held_told board holds.across part q 1 R are.across (apart_across board) inside).0 across)
+            ((held_told board holds.along part q board.cols D are.along (apart_along board board.cols refl) inside).0 along));
+      }
+
+  locked_as_frozen : (part : Squares) → IsFrozen board boxes part → AreLocked holds board.cols boxes part
+  locked_as_frozen part frozen =
+      let (x, here, off) = frozen.off_goal in
+      record {
+        some = frozen.some;
+        off = (x, here, are.goals.right x (stand x (frozen.some x here)) ∙ off);
+        held = λ q h.
+            (let inside = stand q (frozen.some q h) in (
+              (held_told board holds.across part q 1 R are.across (apart_across board) inside).1 (frozen.blocked q h R),
+              (held_told board holds.along part q board.cols D are.along (apart_along board board.cols refl) inside).1 (frozen.blocked q h D),
+            ));
+      }
+
+  pub frozen_told : (told : Bool) → IsTrue told ↔ ((part : Squares) × AreLocked holds board.cols boxes part) → IsTrue told ↔ ((part : Squares) × IsFrozen board boxes part)
+  frozen_told told tells = (
+    λ h. (let (part, locked) = tells.0 h in (part, frozen_as_locked part locked)),
+    λ (part, frozen). tells.1 (part, locked_as_frozen part frozen),
+  )
 
 -- ---- sets that are filled square by square
 
@@ -80,8 +109,8 @@ held_word board fast words place by d before after are apart j lt inside on_befo
 abbrev pub IsFilledUpTo : (ℕ → Type 0) → ℕ → List ℕ → Type 0
 IsFilledUpTo P n words = (q : ℕ) → (has_bit words q ≡ true) ↔ ((q < n) × P q)
 
-pub filled_none : (P : ℕ → Type 0) (words : List ℕ) (n : ℕ) → words ≡ replicate n 0 → IsFilledUpTo P 0 words
-filled_none P words n none q = (λ h. absurd (false≢true (sym (none_set words n q none) ∙ h)), λ (lt, p). absurd (omega (arith, lt)))
+pub filled_none : (P : ℕ → Type 0) (words : List ℕ) → ((q : ℕ) → has_bit words q ≡ false) → IsFilledUpTo P 0 words
+filled_none P words none q = (λ h. absurd (false≢true (sym (none q) ∙ h)), λ (lt, p). absurd (omega (arith, lt)))
 
 pub filled_more : (P : ℕ → Type 0) (old new : List ℕ) (n : ℕ) → ((q : ℕ) → has_bit new q ≡ (has_bit old q || eqb n q)) → P n → IsFilledUpTo P n old → IsFilledUpTo P (n + 1) new
 filled_more P old new n put p filled q = (

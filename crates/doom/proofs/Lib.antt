@@ -1,6 +1,5 @@
 pub mod lemmas
 pub mod Peeling
-pub mod Passes
 pub mod Search
 pub mod Pulling
 pub mod Holding

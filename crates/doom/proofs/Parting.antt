@@ -1,30 +1,21 @@
 -- Frozen boxes, and those of them that hang together with one box.
-use Rattle.std.proofs.Common.{◌≡◌, ◌↔◌, ◌⊎◌, ◌&&◌, ℕ, Bool, true, false, not, List, IsTrue, length, ◌≢◌, sym, ap, subst, ◌∙◌, inl, inr, arith}
+use Rattle.std.proofs.Common.{◌≡◌, ◌↔◌, ◌⊎◌, ◌&&◌, ℕ, Bool, true, false, not, IsTrue, length, ◌≢◌, sym, ap, subst, ◌∙◌, inl, inr, arith}
 use Rattle.std.proofs.lemmas.Bool.{and_from, and_parts, cases_Bool, cases_lt, not-true, true≢false}
 use Rattle.grid.specs.declared.dir.Dir.{Dir}
 use Rattle.grid.specs.Board.{Board, is_goal, is_wall, next, opposite}
-use Rattle.grid.specs.Masks.{has_bit}
 use Rattle.grid.specs.Squares.{Squares, contains, insert, remove}
 use Rattle.grid.proofs.lemmas.Squares.{contains-insert_cases, contains-remove_parts}
 use Rattle.grid.proofs.lemmas.Steps.{inside_grid, next_back}
 use Rattle.area.specs.Groups.{HangsWith, itself, onto}
-use Rattle.area.specs.Words.{passing_from, squares_of}
+use Rattle.area.specs.Words.{passing_from}
 use Rattle.area.proofs.lemmas.WordSets.{passing_within, passing_past}
 use Rattle.doom.specs.Deadlocks.{Doomed, IsDead, IsFrozen, IsHeld}
 use Rattle.doom.specs.Pushed.{AreOthersFrozen, DoomedFrom, IsGroupFrozen}
 use Rattle.doom.specs.inside.Peeling.{IsWithin}
-use Rattle.doom.proofs.Passes.{bit_member, member_bit}
 
 -- boxes that are frozen among some are so among more
 pub frozen_among : (board : Board) (few more frozen : Squares) → IsWithin frozen more → IsFrozen board few frozen → IsFrozen board more frozen
 frozen_among board few more frozen within is = record { some = within; off_goal = is.off_goal; blocked = is.blocked }
-
--- where words have just the boxes, what is frozen of the ones is frozen of the others
-pub frozen_of_words : (board : Board) (boxes : Squares) (words : List ℕ) (told : Bool) → ((q : ℕ) → has_bit words q ≡ contains boxes q) → IsTrue told ↔ ((frozen : Squares) × IsFrozen board (squares_of words) frozen) → IsTrue told ↔ ((frozen : Squares) × IsFrozen board boxes frozen)
-frozen_of_words board boxes words told are tells = (
-  λ h. (let (frozen, is) = tells.0 h in (frozen, frozen_among board (squares_of words) boxes frozen (λ q m. sym (are q) ∙ member_bit words q (is.some q m)) is)),
-  λ (frozen, is). tells.1 (frozen, frozen_among board boxes (squares_of words) frozen (λ q m. bit_member words q (are q ∙ is.some q m)) is),
-)
 
 -- what hangs together with a box is a box
 pub hangs_there : {board : Board} {boxes : Squares} {p q : ℕ} → HangsWith board boxes p q → contains boxes q ≡ true
@@ -94,20 +85,20 @@ module _ (board : Board) (boxes members : Squares) (clear : (q : ℕ) → contai
 
 -- ---- what is told of a group
 
-module _ (board : Board) (boxes : Squares) (square : ℕ) (words : List ℕ) (told : Bool) (are : (q : ℕ) → (has_bit words q ≡ true) ↔ HangsWith board boxes square q)
-    (tells : IsTrue told ↔ ((frozen : Squares) × IsFrozen board (squares_of words) frozen)) where
+module _ (board : Board) (boxes : Squares) (square : ℕ) (group : Squares) (told : Bool) (are : (q : ℕ) → (contains group q ≡ true) ↔ HangsWith board boxes square q)
+    (tells : IsTrue told ↔ ((frozen : Squares) × IsFrozen board group frozen)) where
   pub group_told : IsTrue told ↔ IsGroupFrozen board boxes square
   group_told = (
     λ h.
         (let (frozen, is) = tells.0 h in
-        let hang : (m : ℕ) → contains frozen m ≡ true → HangsWith board boxes square m = λ m there. (are m).0 (member_bit words m (is.some m there)) in
-        (frozen, frozen_among board (squares_of words) boxes frozen (λ m there. hangs_there (hang m there)) is, hang)),
-    λ (frozen, is, hang). tells.1 (frozen, frozen_among board boxes (squares_of words) frozen (λ m there. bit_member words m ((are m).1 (hang m there))) is),
+        let hang : (m : ℕ) → contains frozen m ≡ true → HangsWith board boxes square m = λ m there. (are m).0 (is.some m there) in
+        (frozen, frozen_among board group boxes frozen (λ m there. hangs_there (hang m there)) is, hang)),
+    λ (frozen, is, hang). tells.1 (frozen, frozen_among board boxes group frozen (λ m there. (are m).1 (hang m there)) is),
   )
 
   pub others_told : ((q : ℕ) → contains boxes q ≡ true → is_wall board q ≡ false) → (members : Squares) → IsFrozen board boxes members → IsTrue told ⊎ AreOthersFrozen board boxes square
-  others_told clear members frozen = elim (parted board boxes members clear frozen (has_bit words) square are) [
-    | inl group ↦ inl (group_told.1 group)
+  others_told clear members frozen = elim (parted board boxes members clear frozen (contains group) square are) [
+    | inl hangs ↦ inl (group_told.1 hangs)
     | inr others ↦ inr others
   ]
 

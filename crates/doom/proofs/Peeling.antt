@@ -5,9 +5,9 @@ use Rattle.std.proofs.lemmas.Bool.{false≢true, eqb-true}
 use Rattle.grid.specs.declared.dir.Dir.{Dir}
 use Rattle.grid.specs.declared.dir.Dir.TheVariants.{D, L, R, U}
 use Rattle.grid.specs.Squares.{Squares, contains}
-use Rattle.grid.specs.Board.{Board, is_goal}
-use Rattle.doom.specs.Deadlocks.{IsHeld, IsBlocked, IsFrozen}
-use Rattle.doom.specs.inside.Peeling.{IsWithin, AreBlocked, IsLargestBlocked}
+use Rattle.grid.specs.Board.{Board}
+use Rattle.doom.specs.Deadlocks.{IsHeld, IsBlocked}
+use Rattle.doom.specs.inside.Peeling.{IsWithin}
 
 -- what blocks a square among some blocks it among more
 pub held_by_more : (board : Board) (few more : Squares) (q : ℕ) (d : Dir) → IsWithin few more → IsHeld board few q d → IsHeld board more q d
@@ -29,15 +29,6 @@ blocked_by_axes board members q across along D = along
 blocked_by_axes board members q across along L = held_back across
 blocked_by_axes board members q across along R = across
 blocked_by_axes board members q across along U = held_back along
-
--- some of the boxes are frozen exactly where the largest blocked set has a member off goal
-pub frozen_by_largest : (board : Board) (boxes members : Squares) → IsLargestBlocked board boxes members → ((q : ℕ) × (contains members q ≡ true) × (is_goal board q ≡ false)) ↔ ((frozen : Squares) × IsFrozen board boxes frozen)
-frozen_by_largest board boxes members largest = (
-  λ off. (members, record { some = largest.some; off_goal = off; blocked = largest.blocked }),
-  λ (others, frozen).
-      let (q, other, off) = frozen.off_goal in
-      (q, largest.largest others frozen.some frozen.blocked q other, off),
-)
 
 -- a square is in a list with one more where it is in the list or is the one more
 contains-push : (xs : Squares) (x q : ℕ) → contains (xs ++ x ∷ []) q ≡ (contains xs q || eqb x q)
@@ -64,8 +55,3 @@ contains-push_last xs x = contains-push xs x x ∙ ap (λ b. contains xs x || b)
     or_true : (b : Bool) → (b || true) ≡ true
     or_true true = refl
     or_true false = refl
-
--- some of the boxes, which every set of boxes that blocks itself is within
-pub record IsPeeling (board : Board) (boxes members : Squares) : Type 0 where
-  pub some : IsWithin members boxes
-  pub largest : (others : Squares) → IsWithin others boxes → AreBlocked board others → IsWithin others members

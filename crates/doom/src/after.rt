@@ -7,7 +7,6 @@ ghost use Rattle.doom.specs.Deadlocks.{Doomed, IsFrozen};
 ghost use Rattle.doom.specs.Pushed.{AreOthersFrozen, ComeUndoomed, DoomedFrom, IsGroupFrozen};
 
 use crate::dead::Dead;
-use crate::peel::has_frozen;
 use area::Scratch;
 use grid::{Level, Position, Push, Square};
 
@@ -77,8 +76,5 @@ fn is_group_frozen(
     ensures others { (members : Squares) → IsFrozen level.now boxes.now members → IsTrue result ⊎ AreOthersFrozen level.now boxes.now square }
     ensures kept { scratch.new ≡ scratch.old }
 {
-    let goals = dead.goals();
-    let (members, others) = area::lent_words(scratch).split_at_mut(goals.len());
-    area::group(level, boxes, square, others, members);
-    has_frozen(dead, members)
+    area::any_locked_with(level, dead.holds(), boxes, square, scratch)
 }

@@ -6,9 +6,7 @@ ghost use Rattle.doom.specs.Lost.{AreLost};
 ghost use Rattle.doom.specs.inside.Peeling.{StandInside};
 
 use crate::dead::Dead;
-use crate::peel::has_frozen;
 use area::Scratch;
-use area::bits::put_all;
 use grid::{Level, Position, Square};
 
 /// Whether the boxes of the position are doomed: a box stands on a dead square, or some of the boxes, at least one of
@@ -23,7 +21,7 @@ pub fn doomed(level: &Level, dead: &Dead, position: &Position, scratch: &mut Scr
     ensures kept { scratch.new ≡ scratch.old }
 {
     let boxes = position.boxes();
-    any_dead(dead, boxes) || any_frozen(dead, boxes, scratch)
+    any_dead(dead, boxes) || any_frozen(level, dead, boxes, scratch)
 }
 
 /// Whether one of the boxes stands on a dead square.
@@ -34,14 +32,12 @@ fn any_dead(dead: &Dead, boxes: &[Square]) -> bool
 }
 
 /// Whether some of the boxes, at least one of them off goal, are frozen.
-fn any_frozen(dead: &Dead, boxes: &[Square], scratch: &mut Scratch) -> bool
-    requires inside { StandInside dead.now boxes.now }
-    requires room { scratch.old.size ≡ length dead.now.cells }
-    ensures frozen { IsTrue result ↔ ((members : Squares) × IsFrozen dead.now boxes.now members) }
+fn any_frozen(level: &Level, dead: &Dead, boxes: &[Square], scratch: &mut Scratch) -> bool
+    requires inside { StandInside level.now boxes.now }
+    requires dead_of_level { dead.now ≡ level.now }
+    requires room { scratch.old.size ≡ length level.now.cells }
+    ensures frozen { IsTrue result ↔ ((members : Squares) × IsFrozen level.now boxes.now members) }
     ensures kept { scratch.new ≡ scratch.old }
 {
-    let goals = dead.goals();
-    let members = &mut area::lent_words(scratch)[..goals.len()];
-    put_all(boxes, members);
-    has_frozen(dead, members)
+    area::any_locked(level, dead.holds(), boxes, scratch)
 }

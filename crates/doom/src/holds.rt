@@ -1,47 +1,59 @@
 ghost use Rattle.std.specs.Prelude.{◌≡◌, ◌<◌, ◌↔◌, IsTrue, IfOk, length};
 ghost use Rattle.doom.specs.inside.Pulling.{AreLiveFlags, is_marked};
-ghost use Rattle.doom.specs.inside.Holding.{IsFast, AreFast, AreGoals};
+ghost use Rattle.doom.specs.inside.Holding.{IsFast, AreFast, AreGoals, AreHolds};
 
-use area::bits::put;
-use grid::{Dir, Level, Square, WORD_BITS};
+use area::{Holds, SquareSet};
+use grid::{Dir, Level, Square};
 use std::alloc::{AllocError, Global};
 
+/// Where walls or dead squares alone hold a box on each axis, and the goals. The only error is that memory was refused.
+pub(crate) fn holds_of(alloc: Global, level: &Level, live: &[bool]) -> Result<Holds, AllocError>
+    requires { AreLiveFlags level.now live.now }
+    ensures { IfOk result (λ holds. AreHolds level.now holds) }
+{
+    Ok(Holds {
+        across: fast_squares(alloc, level, live, Dir::R)?,
+        along: fast_squares(alloc, level, live, Dir::D)?,
+        goals: goal_squares(alloc, level)?,
+    })
+}
+
 /// The set of the squares on which walls or dead squares alone hold a box on the axis of the direction.
-pub(crate) fn fast_squares(
+fn fast_squares(
     alloc: Global,
     level: &Level,
     live: &[bool],
     dir: Dir,
-) -> Result<Vec<u64>, AllocError>
+) -> Result<SquareSet, AllocError>
     requires { AreLiveFlags level.now live.now }
-    ensures { IfOk result (λ words. AreFast level.now dir words.items) }
+    ensures { IfOk result (λ set. AreFast level.now dir set) }
 {
     level.tell();
     let squares = level.squares();
-    let mut words = vec![in alloc; 0; squares.div_ceil(WORD_BITS)]?;
+    let mut set = SquareSet::none(alloc, squares)?;
     for index in 0..squares {
         let square = Square(index as u16);
         if is_fast(level, live, square, dir) {
-            put(square, words.as_mut_slice());
+            set.put(square);
         }
     }
-    Ok(words)
+    Ok(set)
 }
 
 /// The set of the squares that have a goal.
-pub(crate) fn goal_squares(alloc: Global, level: &Level) -> Result<Vec<u64>, AllocError>
-    ensures { IfOk result (λ words. AreGoals level.now words.items) }
+fn goal_squares(alloc: Global, level: &Level) -> Result<SquareSet, AllocError>
+    ensures { IfOk result (λ set. AreGoals level.now set) }
 {
     level.tell();
     let squares = level.squares();
-    let mut words = vec![in alloc; 0; squares.div_ceil(WORD_BITS)]?;
+    let mut set = SquareSet::none(alloc, squares)?;
     for index in 0..squares {
         let square = Square(index as u16);
         if level.is_goal(square) {
-            put(square, words.as_mut_slice());
+            set.put(square);
         }
     }
-    Ok(words)
+    Ok(set)
 }
 
 /// Whether the square has, on the axis of the direction, a wall beside it or two dead squares.

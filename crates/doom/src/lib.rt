@@ -8,7 +8,6 @@ mod freeze;
 mod holds;
 pub mod laws;
 mod loose;
-mod peel;
 mod pulls;
 #[cfg(test)]
 mod tests;

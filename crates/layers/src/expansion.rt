@@ -183,7 +183,7 @@ fn push_if(
     ensures pushes { (board : Board) (reach : Reach) → ((word_bit word bit ≡ true) ↔ Allows board reach (record { square = square; dir = dir })) → AreAllowedBefore board reach square (dir_number dir) pushes.old.items → AreAllowedBefore board reach square (dir_number dir + 1) pushes.new.items }
     ensures bound { length pushes.new.items ≤ length pushes.old.items + 1 }
 {
-    if (word >> bit) & 1 == 1 {
+    if ((word >> bit) & 1) == 1 {
         pushes.push(Push { square, dir });
     }
 }

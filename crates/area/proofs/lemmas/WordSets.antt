@@ -192,6 +192,13 @@ contains-squares_of words q = elim (cases_lt q (64 * length words)) [
     past ge (inl h) = absurd (let lt = has_bit_inside words q h in omega arith)
     past ge (inr h) = h
 
+-- a member by its bit, and back
+pub member_bit : (words : List ℕ) (q : ℕ) → contains (squares_of words) q ≡ true → has_bit words q ≡ true
+member_bit words q h = sym (contains-squares_of words q) ∙ h
+
+pub bit_member : (words : List ℕ) (q : ℕ) → has_bit words q ≡ true → contains (squares_of words) q ≡ true
+bit_member words q h = contains-squares_of words q ∙ h
+
 -- the numbers in the list rise
 pub passing_rise : (test : ℕ → Bool) (k n : ℕ) → rises_from k (passing_from test k n) ≡ true
 passing_rise test k zero = refl

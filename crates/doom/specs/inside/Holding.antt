@@ -1,8 +1,10 @@
 -- Where a box is held whatever other boxes there are.
 use Rattle.std.specs.Prelude.{◌≡◌, ◌↔◌, ◌+◌, ◌<◌, ℕ, true, List, [], length}
 use Rattle.grid.specs.declared.dir.Dir.{Dir}
+use Rattle.grid.specs.declared.dir.Dir.TheVariants.{D, R}
 use Rattle.grid.specs.Board.{Board, is_goal, next, opposite}
 use Rattle.grid.specs.Masks.{has_bit, word_count}
+use Rattle.area.specs.declared.locked.Holds.{Holds}
 use Rattle.doom.specs.Deadlocks.{IsHeld}
 
 -- a wall, or two dead squares, hold a box on the square on the axis of d
@@ -18,6 +20,12 @@ pub record AreFast (board : Board) (d : Dir) (words : List ℕ) : Type 0 where
 pub record AreGoals (board : Board) (words : List ℕ) : Type 0 where
   pub size : length words ≡ word_count (length board.cells)
   pub right : (q : ℕ) → q < length board.cells → has_bit words q ≡ is_goal board q
+
+-- the sets say where walls or dead squares alone hold a box on each axis, and which squares have a goal
+pub record AreHolds (board : Board) (holds : Holds) : Type 0 where
+  pub across : AreFast board R holds.across
+  pub along : AreFast board D holds.along
+  pub goals : AreGoals board holds.goals
 
 -- the squares beside one on the axis of d are so many numbers after it and before it, unless a box there is held anyway
 abbrev pub IsApart : Board → Dir → ℕ → Type 0

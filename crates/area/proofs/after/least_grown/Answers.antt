@@ -1,24 +1,23 @@
-use Rattle.std.proofs.Common.{length, drop, ap, ◌∙◌, arith}
+use Rattle.std.proofs.Common.{length, refl, ap, ◌∙◌}
 use Rattle.area.specs.Reach.{Reach}
 use Rattle.area.proofs.lemmas.Flooding.{words_few, area_seen, norm_of_least}
 use Rattle.area.proofs.lemmas.Norms.{area_here}
-use Rattle.area.proofs.Seams.{written}
 use Rattle.area.proofs.lemmas.WordSets.{listed}
 use Rattle.area.proofs.after.least_grown.Goals as goal
 
 pub least_of-requires-clause-some : goal.least_of-requires-clause-some
 least_of-requires-clause-some c =
-    let same = c.deref-2.ensures.value ∙ written c.flood_on.new.reached (drop (length c.flood_on.new.reached) c.scratch.inside.spare.items) c.scratch.inside.spare.len (omega arith) in
-    (c.args.position.now.player, (area_seen c.args.level.now c.args.position.now c.flood_on.new.reached c.deref-2.result.now c.flood_on.ensures same c.args.position.now.player).1 (area_here c.args.level.now c.args.position.now))
+    let same = c.as_words.ensures in
+    (c.args.position.now.player, (area_seen c.args.level.now c.args.position.now c.flood_on.new.reached c.as_words.result.now c.flood_on.ensures.reached same c.args.position.now.player).1 (area_here c.args.level.now c.args.position.now))
 
 pub least_of-requires-clause-small : goal.least_of-requires-clause-small
 least_of-requires-clause-small c =
-    words_few (length c.scratch.inside.marks.items) (length c.deref-2.result.now) (let s = c.scratch.invariant.spare_words in omega (arith, s)) c.scratch.invariant.small
+    words_few (length c.scratch.inside.marks.items) (length c.as_words.result.now) (ap length c.as_words.ensures ∙ (c.flood_on.ensures.room ∙ c.scratch.invariant.spare_words)) c.scratch.invariant.small
 
 pub returns-clause-norm : goal.returns-clause-norm
 returns-clause-norm c =
-    let same = c.deref-2.ensures.value ∙ written c.flood_on.new.reached (drop (length c.flood_on.new.reached) c.scratch.inside.spare.items) c.scratch.inside.spare.len (omega arith) in
-    norm_of_least c.args.level.now c.args.position.now c.deref-2.result.now c.least_of.result (area_seen c.args.level.now c.args.position.now c.flood_on.new.reached c.deref-2.result.now c.flood_on.ensures same) c.least_of.ensures.reached c.least_of.ensures.least
+    let same = c.as_words.ensures in
+    norm_of_least c.args.level.now c.args.position.now c.as_words.result.now c.least_of.result (area_seen c.args.level.now c.args.position.now c.flood_on.new.reached c.as_words.result.now c.flood_on.ensures.reached same) c.least_of.ensures.reached c.least_of.ensures.least
 
 pub flood_on-requires-clause-known : goal.flood_on-requires-clause-known
-flood_on-requires-clause-known c = λ q there. c.requires.known q (listed c.scratch.inside.reached.items c.deref.result.now c.args.scratch.now.reached q (ap (λ (r : Reach). r.reached) c.scratch.view_is) c.deref.ensures.value ∙ there)
+flood_on-requires-clause-known c = λ q there. c.requires.known q (listed c.scratch.inside.reached c.scratch.inside.reached c.args.scratch.now.reached q (ap (λ (r : Reach). r.reached) c.scratch.view_is) refl ∙ there)

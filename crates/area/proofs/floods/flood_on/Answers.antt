@@ -1,4 +1,4 @@
-use Rattle.std.proofs.Common.{◌≡◌, ◌≢◌, ℕ, true, not, eqb, length, List, inl, inr, sym, ap, subst, ◌∙◌, arith}
+use Rattle.std.proofs.Common.{◌≡◌, ◌≢◌, ℕ, true, not, eqb, length, List, inl, inr, sym, ap, subst, ◌∙◌}
 use Rattle.std.proofs.lemmas.Bool.{or_cases, and_parts, eqb-true, eq-eqb, true≢false}
 use Rattle.grid.specs.Board.{is_wall}
 use Rattle.grid.specs.Masks.{has_bit}
@@ -9,22 +9,22 @@ use Rattle.area.proofs.lemmas.Norms.{area_here}
 use Rattle.area.proofs.floods.flood_on.Goals as goal
 
 pub take_out-requires : goal.take_out-requires
-take_out-requires c = words_enough (length c.args.level.now.cells) (length c.copy_from_slice.new.self) c.args.but (let r = c.requires.room in omega (arith, r)) c.requires.inside
+take_out-requires c = words_enough (length c.args.level.now.cells) (length c.copy_from.new.self) c.args.but (ap length c.copy_from.ensures ∙ c.requires.words) c.requires.inside
 
 pub put-requires : goal.put-requires
 put-requires c =
-    words_enough (length c.args.level.now.cells) (length c.take_out.new.words) c.player.result (let r = c.requires.room in omega (arith, r)) (inside_grid c.args.level.now c.player.result (ap (is_wall c.args.level.now) c.player.ensures ∙ c.requires.fits.scene.player.0))
+    words_enough (length c.args.level.now.cells) (length c.take_out.new.self) c.player.result (c.take_out.ensures.size ∙ (ap length c.copy_from.ensures ∙ c.requires.words)) (inside_grid c.args.level.now c.player.result (ap (is_wall c.args.level.now) c.player.ensures ∙ c.requires.fits.scene.player.0))
 
 pub flood_from-requires-clause-within : goal.flood_from-requires-clause-within
-flood_from-requires-clause-within c = λ q h. elim (or_cases (has_bit c.take_out.new.words q) (eqb c.player.result q) (sym (c.put.ensures q) ∙ h)) [
+flood_from-requires-clause-within c = λ q h. elim (or_cases (has_bit c.take_out.new.self q) (eqb c.player.result q) (sym (c.put.ensures.put q) ∙ h)) [
   | inl old ↦
-      (let p = and_parts (has_bit c.copy_from_slice.new.self q) (not (eqb c.args.but q)) (sym (c.take_out.ensures q) ∙ old) in
-      let there : has_bit c.args.known.now q ≡ true = ap (λ (ws : List ℕ). has_bit ws q) (sym c.copy_from_slice.ensures.after) ∙ p.0 in
+      (let p = and_parts (has_bit c.copy_from.new.self q) (not (eqb c.args.but q)) (sym (c.take_out.ensures.out q) ∙ old) in
+      let there : has_bit c.args.known.now q ≡ true = ap (λ (ws : List ℕ). has_bit ws q) (sym c.copy_from.ensures) ∙ p.0 in
       let other : q ≢ c.args.but = λ e. true≢false (sym p.1 ∙ ap not (eq-eqb c.args.but q (sym e))) in
       c.requires.known q there other)
   | inr own ↦
       subst (Area c.args.level.now c.args.position.now) (sym c.player.ensures ∙ eqb-true c.player.result q own) (area_here c.args.level.now c.args.position.now)
 ]
 
-pub returns : goal.returns
-returns c = whole_area c.args.level.now c.args.position.now c.flood_from.new.reached c.flood_from.ensures.within c.flood_from.ensures.whole
+pub returns-clause-reached : goal.returns-clause-reached
+returns-clause-reached c = whole_area c.args.level.now c.args.position.now c.flood_from.new.reached c.flood_from.ensures.within c.flood_from.ensures.whole

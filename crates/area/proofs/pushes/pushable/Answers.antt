@@ -23,14 +23,14 @@ returns c = λ d j lt.
     masks : PushMasks
     masks = record { d = c.pushed_on.result; l = c.pushed_back.result; r = c.pushed_on-2.result; u = c.pushed_back-2.result }
 
-    stand : (x : ℕ) → contains c.args.scratch.now.boxes x ≡ has_bit c.as_slice-boxes.result.now x
-    stand x = listed c.scratch.inside.boxes.items c.as_slice-boxes.result.now c.args.scratch.now.boxes x (ap (λ (r : Reach). r.boxes) c.scratch.view_is) c.as_slice-boxes.ensures.value
+    stand : (x : ℕ) → contains c.args.scratch.now.boxes x ≡ has_bit c.as_words-boxes.result.now x
+    stand x = listed c.scratch.inside.boxes c.as_words-boxes.result.now c.args.scratch.now.boxes x (ap (λ (r : Reach). r.boxes) c.scratch.view_is) c.as_words-boxes.ensures
 
-    seen : (x : ℕ) → contains c.args.scratch.now.reached x ≡ has_bit c.as_slice-reached.result.now x
-    seen x = listed c.scratch.inside.reached.items c.as_slice-reached.result.now c.args.scratch.now.reached x (ap (λ (r : Reach). r.reached) c.scratch.view_is) c.as_slice-reached.ensures.value
+    seen : (x : ℕ) → contains c.args.scratch.now.reached x ≡ has_bit c.as_words-reached.result.now x
+    seen x = listed c.scratch.inside.reached c.as_words-reached.result.now c.args.scratch.now.reached x (ap (λ (r : Reach). r.reached) c.scratch.view_is) c.as_words-reached.ensures
 
-    tell : (e : Dir) (i word : ℕ) → word_bit word i ≡ can_push c.args.level.now c.as_slice-boxes.result.now c.as_slice-reached.result.now e (64 * c.args.place + i) → (word_bit word i ≡ true) ↔ IsPushable c.args.level.now c.args.scratch.now.boxes c.args.scratch.now.reached e (64 * c.args.place + i)
-    tell e i word bit = pushable_bit c.args.level.now c.args.scratch.now.boxes c.args.scratch.now.reached c.as_slice-boxes.result.now c.as_slice-reached.result.now e (64 * c.args.place + i) (word_bit word i) stand seen c.requires.boxes c.requires.reached bit
+    tell : (e : Dir) (i word : ℕ) → word_bit word i ≡ can_push c.args.level.now c.as_words-boxes.result.now c.as_words-reached.result.now e (64 * c.args.place + i) → (word_bit word i ≡ true) ↔ IsPushable c.args.level.now c.args.scratch.now.boxes c.args.scratch.now.reached e (64 * c.args.place + i)
+    tell e i word bit = pushable_bit c.args.level.now c.args.scratch.now.boxes c.args.scratch.now.reached c.as_words-boxes.result.now c.as_words-reached.result.now e (64 * c.args.place + i) (word_bit word i) stand seen c.requires.boxes c.requires.reached bit
 
 pub returns-then-boxes-place-eq0 : goal.returns-then-boxes-place-eq0
 returns-then-boxes-place-eq0 c = λ d j lt.
@@ -39,8 +39,8 @@ returns-then-boxes-place-eq0 c = λ d j lt.
     none : PushMasks
     none = record { d = 0; l = 0; r = 0; u = 0 }
 
-    stand : (x : ℕ) → contains c.args.scratch.now.boxes x ≡ has_bit c.as_slice-boxes.result.now x
-    stand x = listed c.scratch.inside.boxes.items c.as_slice-boxes.result.now c.args.scratch.now.boxes x (ap (λ (r : Reach). r.boxes) c.scratch.view_is) c.as_slice-boxes.ensures.value
+    stand : (x : ℕ) → contains c.args.scratch.now.boxes x ≡ has_bit c.as_words-boxes.result.now x
+    stand x = listed c.scratch.inside.boxes c.as_words-boxes.result.now c.args.scratch.now.boxes x (ap (λ (r : Reach). r.boxes) c.scratch.view_is) c.as_words-boxes.ensures
 
     nothing : (e : Dir) (i : ℕ) → i < 64 → (word_bit 0 i ≡ true) ↔ IsPushable c.args.level.now c.args.scratch.now.boxes c.args.scratch.now.reached e (64 * c.args.place + i)
-    nothing e i lt = none_pushable c.args.level.now c.args.scratch.now.boxes c.args.scratch.now.reached c.as_slice-boxes.result.now c.args.place i e stand c.if-boxes-place-eq0.true lt
+    nothing e i lt = none_pushable c.args.level.now c.args.scratch.now.boxes c.args.scratch.now.reached c.as_words-boxes.result.now c.args.place i e stand c.if-boxes-place-eq0.true lt

@@ -1,17 +1,15 @@
 use Rattle.std.proofs.Common.{◌↔◌, IsTrue, inl, inr, sym, ap, subst, ◌∙◌}
 use Rattle.std.proofs.lemmas.Bool.{false≢true}
 use Rattle.grid.specs.Squares.{Squares, contains}
-use Rattle.grid.specs.Board.{Board}
 use Rattle.grid.proofs.lemmas.Steps.{inside_grid}
 use Rattle.doom.specs.Deadlocks.{IsDead, IsFrozen, Doomed}
-use Rattle.doom.specs.inside.Peeling.{StandInside}
 use Rattle.doom.proofs.lemmas.Soundness.{doomed_are_lost}
 use Rattle.doom.proofs.freeze.doomed.Goals as goal
 
 pub any_frozen-requires-clause-inside : goal.any_frozen-requires-clause-inside
-any_frozen-requires-clause-inside c = subst (λ (board : Board). StandInside board c.boxes-boxes.result.now) (sym c.requires.dead_of_level) (λ q there.
+any_frozen-requires-clause-inside c = λ q there.
     let there' = ap (λ boxes. contains boxes q) (sym c.boxes-boxes.ensures.squares) ∙ there in
-    inside_grid c.args.level.now q (c.requires.fits.scene.boxes q there'))
+    inside_grid c.args.level.now q (c.requires.fits.scene.boxes q there')
 
 pub returns-then-any_dead-clause-lost : goal.returns-then-any_dead-clause-lost
 returns-then-any_dead-clause-lost c found =
@@ -22,7 +20,7 @@ returns-then-any_dead-clause-lost c found =
 decided : (c : goal.After-any_frozen) → IsTrue c.any_frozen.result ↔ Doomed c.args.level.now c.args.position.now.boxes
 decided c =
     let tells = subst (λ (given : Squares). IsTrue c.any_frozen.result ↔ ((members : Squares) × IsFrozen c.args.level.now given members)) c.boxes-boxes.ensures.squares
-    (subst (λ (board : Board). IsTrue c.any_frozen.result ↔ ((members : Squares) × IsFrozen board c.boxes-boxes.result.now members)) c.requires.dead_of_level c.any_frozen.ensures.frozen) in (
+    c.any_frozen.ensures.frozen in (
       λ found. inr (tells.0 found),
       λ lost. elim lost [
         | inl (q, there, dead) ↦ absurd (false≢true (c.if-any_dead.ensures.1 (q, ap (λ given. contains given q) c.boxes-boxes.ensures.squares ∙ there, subst (λ given. IsDead given q) (sym c.requires.dead_of_level) dead)))

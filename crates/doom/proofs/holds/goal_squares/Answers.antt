@@ -1,13 +1,12 @@
-use Rattle.std.proofs.Common.{◌≡◌, ◌+◌, ◌/◌, true, length, replicate, ap, ◌∙◌, arith}
-use Rattle.std.proofs.lemmas.List.{length-replicate}
+use Rattle.std.proofs.Common.{◌≡◌, true, length, ap, ◌∙◌, arith}
 use Rattle.grid.specs.Board.{is_goal}
 use Rattle.grid.specs.Masks.{word_count}
+use Rattle.area.proofs.lemmas.Flooding.{words_enough}
 use Rattle.doom.proofs.Holding.{filled_none}
 use Rattle.doom.proofs.holds.goal_squares.Goals as goal
 
 pub loop-index-init : goal.loop-index-init
-unfolding word_count
-loop-index-init c =
-    let items : c.in_ok-words.words.items ≡ replicate c.div_ceil.result 0 = c.in_ok-words.ensures.items_if_clones_equal (λ y e. e) in
-    let size : c.div_ceil.result ≡ (length c.args.level.now.cells + 63) / 64 = omega arith in
-    (ap length items ∙ length-replicate c.div_ceil.result 0 ∙ size, filled_none (λ q. is_goal c.args.level.now q ≡ true) c.in_ok-words.words.items c.div_ceil.result items)
+loop-index-init c = (c.in_ok-set.ensures.size ∙ ap word_count c.squares-squares.ensures, filled_none (λ q. is_goal c.args.level.now q ≡ true) _ c.in_ok-set.ensures.none)
+
+pub put-requires : goal.put-requires
+put-requires c = words_enough (length c.args.level.now.cells) (length c.loop-index.set) c.loop-index.index c.loop-index.invariant.0 (omega (arith, c.loop-index-test.true, c.squares-squares.ensures))

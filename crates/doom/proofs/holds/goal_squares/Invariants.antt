@@ -5,4 +5,4 @@ use Rattle.doom.proofs.Holding.{IsFilledUpTo}
 use Rattle.doom.proofs.holds.goal_squares.Given as goal
 
 abbrev pub invariant-loop-index : goal.invariant-loop-index
-invariant-loop-index l = (length l.words.items ≡ word_count (length l.level.cells)) × IsFilledUpTo (λ q. is_goal l.level q ≡ true) l.index l.words.items
+invariant-loop-index l = (length l.set ≡ word_count (length l.level.cells)) × IsFilledUpTo (λ q. is_goal l.level q ≡ true) l.index l.set

@@ -6,15 +6,13 @@ use Rattle.area.proofs.scratch.Scratch.new.Goals as goal
 pub invariant_of-result : goal.invariant_of-result
 invariant_of-result c =
     let size = c.in_ok-zeros.ensures.size ∙ c.squares.ensures in
-    let words = c.step_masks-words.ensures.size ∙ sym (ap word_count size) in
     record {
       places = search rules;
       small = (let s = level_squares c.args.level.now c.tell.ensures in search (rules, s));
       base = omega arith;
       within = λ q. omega (arith, c.in_ok-zeros.ensures.low q);
-      reached_words = c.in_ok-empty_set.ensures ∙ words;
-      boxes_words = c.in_ok-empty_set-2.ensures ∙ words;
-      spare_words = c.in_ok-empty_set-3.ensures ∙ words;
-      spare_boxes_words = c.in_ok-empty_set-4.ensures ∙ words;
-      lent_words = (let given = c.in_ok-empty_set-5.ensures in omega (arith, given, words));
+      reached_words = c.in_ok-none.ensures.size ∙ (ap word_count c.squares-3.ensures ∙ sym (ap word_count size));
+      boxes_words = c.in_ok-none-2.ensures.size ∙ (ap word_count c.squares-4.ensures ∙ sym (ap word_count size));
+      spare_words = c.in_ok-none-3.ensures.size ∙ (ap word_count c.squares-5.ensures ∙ sym (ap word_count size));
+      spare_boxes_words = c.in_ok-none-4.ensures.size ∙ (ap word_count c.squares-6.ensures ∙ sym (ap word_count size));
     }

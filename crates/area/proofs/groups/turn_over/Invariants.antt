@@ -1,5 +1,0 @@
-use Rattle.area.proofs.Chains.{AreTurned}
-use Rattle.area.proofs.groups.turn_over.Given as goal
-
-abbrev pub invariant-loop-place : goal.invariant-loop-place
-invariant-loop-place l = AreTurned l.fn.words l.place l.words

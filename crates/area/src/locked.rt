@@ -1,0 +1,141 @@
+ghost use Rattle.std.specs.Prelude.{◌≡◌, ℕ, ◌*◌, ◌+◌, ◌<◌, ◌↔◌, IsTrue, true, false, length};
+ghost use Rattle.grid.specs.Board.{is_wall};
+ghost use Rattle.grid.specs.Masks.{has_bit, word_count};
+ghost use Rattle.grid.specs.Squares.{Squares, contains};
+ghost use Rattle.area.specs.Words.{squares_of, word_bit};
+ghost use Rattle.area.specs.inside.Locking.{HaveRoom, IsGroup, IsHeldBy, IsLargest, IsLook, IsPass, TellsLocked};
+
+use crate::bits::{after, before};
+use crate::groups::group;
+use crate::scratch::Scratch;
+use crate::set::SquareSet;
+use grid::{Level, Square, WORD_BITS};
+
+/// Where boxes of a level are held whatever other boxes there are, and where they may be.
+#[derive(Debug, Drop)]
+pub struct Holds {
+    /// The squares on which a box is held on the axis across.
+    pub across: SquareSet,
+    /// The squares on which a box is held on the axis along.
+    pub along: SquareSet,
+    /// The squares on which a box may be held.
+    pub goals: SquareSet,
+}
+
+/// Whether some of the boxes are locked: each of them is held on both axes, by what holds it anyway or by another of them
+/// beside it, and at least one stands where none may be held. Takes no memory.
+pub fn any_locked(level: &Level, holds: &Holds, boxes: &[Square], scratch: &mut Scratch) -> bool
+    requires inside { (q : ℕ) → contains boxes.now q ≡ true → q < length level.now.cells }
+    requires holds { HaveRoom holds.now (word_count (length level.now.cells)) }
+    requires room { scratch.old.size ≡ length level.now.cells }
+    ensures locked { TellsLocked holds.now level.now.cols boxes.now result }
+    ensures kept { scratch.new ≡ scratch.old }
+{
+    scratch.spare.put_all(boxes);
+    has_locked(level, holds, &mut scratch.spare)
+}
+
+/// The same of the boxes that hang together with the one on the square. Takes no memory.
+pub fn any_locked_with(
+    level: &Level,
+    holds: &Holds,
+    boxes: &[Square],
+    square: Square,
+    scratch: &mut Scratch,
+) -> bool
+    requires clear { (q : ℕ) → contains boxes.now q ≡ true → is_wall level.now q ≡ false }
+    requires there { contains boxes.now square ≡ true }
+    requires holds { HaveRoom holds.now (word_count (length level.now.cells)) }
+    requires room { scratch.old.size ≡ length level.now.cells }
+    ensures locked { (group : Squares) × IsGroup level.now boxes.now square group × TellsLocked holds.now level.now.cols group result }
+    ensures kept { scratch.new ≡ scratch.old }
+{
+    group(
+        level,
+        boxes,
+        square,
+        &mut scratch.spare_boxes,
+        &mut scratch.spare,
+    );
+    has_locked(level, holds, &mut scratch.spare)
+}
+
+// Whether some squares of the set are locked. The set keeps the largest set of its squares each of which is held.
+fn has_locked(level: &Level, holds: &Holds, members: &mut SquareSet) -> bool
+    requires holds { HaveRoom holds.now (length members.old) }
+    ensures locked { TellsLocked holds.now level.now.cols (squares_of members.old) result }
+    ensures size { length members.new ≡ length members.old }
+{
+    has_locked_words(holds, level.cols(), members.as_words_mut())
+}
+
+// The same by words, where the columns are so many.
+fn has_locked_words(holds: &Holds, cols: usize, members: &mut [u64]) -> bool
+    requires holds { HaveRoom holds.now (length members.old) }
+    ensures { TellsLocked holds.now cols (squares_of members.old) result }
+{
+    keep_held(holds, cols, members);
+    has_other(members, holds.goals.as_words())
+}
+
+// Leaves of the set its largest subset each of whose squares is held.
+fn keep_held(holds: &Holds, cols: usize, members: &mut [u64])
+    requires holds { HaveRoom holds.now (length members.old) }
+    ensures { IsLargest holds.now cols (squares_of members.old) (squares_of members.new) }
+{
+    while peel(holds, cols, members) {}
+}
+
+// Looks at each word once, and takes out the squares that are not held; says whether one went.
+fn peel(holds: &Holds, cols: usize, members: &mut [u64]) -> bool
+    requires holds { HaveRoom holds.now (length members.old) }
+    ensures { IsPass holds.now cols members.old members.new result }
+{
+    let mut went = false;
+    for place in 0..members.len() {
+        went |= peel_word(holds, cols, members, place);
+    }
+    went
+}
+
+// Takes out of one word the squares that are not held; says whether one went. In large rooms most words have none.
+#[inline(always)]
+fn peel_word(holds: &Holds, cols: usize, members: &mut [u64], place: usize) -> bool
+    requires place { place < length members.old }
+    requires holds { HaveRoom holds.now (length members.old) }
+    ensures { IsLook holds.now cols place members.old members.new result }
+{
+    let old = members[place];
+    if old == 0 {
+        return false;
+    }
+    let across = held(holds.across.as_words(), members, place, 1);
+    let along = held(holds.along.as_words(), members, place, cols);
+    let kept = (old & across) & along;
+    members[place] = kept;
+    kept != old
+}
+
+// For each square of a word, whether a box there is held on an axis: anyway, or by a member so many numbers before or
+// after it.
+#[inline(always)]
+fn held(fast: &[u64], members: &[u64], place: usize, by: usize) -> u64
+    requires place { place < length members.now }
+    requires room { length fast.now ≡ length members.now }
+    ensures { (j : ℕ) → j < WORD_BITS → (word_bit result j ≡ true) ↔ IsHeldBy fast.now by (squares_of members.now) (WORD_BITS * place + j) }
+{
+    (fast[place] | before(members, place, by)) | after(members, place, by)
+}
+
+// Whether a square of the one set is none of the other.
+fn has_other(members: &[u64], others: &[u64]) -> bool
+    requires { length members.now ≡ length others.now }
+    ensures { IsTrue result ↔ ((q : ℕ) × (has_bit members.now q ≡ true) × (has_bit others.now q ≡ false)) }
+{
+    for place in 0..members.len() {
+        if (members[place] & !others[place]) != 0 {
+            return true;
+        }
+    }
+    false
+}
