@@ -15,7 +15,8 @@ use Rattle.crew.specs.declared.turns.Turned.TheVariants.{Onward, Found, Foreign}
 
 -- the books are new, and all the shares of the level in order, made with this limit and for so many workers
 abbrev pub AreNewShares : Board → ℕ → ℕ → ℕ → List BookView → Type 0
-AreNewShares level limit workers shares books = (length books ≡ shares) × ((i : ℕ) (v : BookView) → slice_get books i ≡ Some v → IsNew level limit workers i shares v)
+AreNewShares level limit workers shares books =
+    (length books ≡ shares) × ((i : ℕ) (v : BookView) → slice_get books i ≡ Some v → IsNew level limit workers i shares v)
 
 -- the books of a search by the configuration are between two turns
 abbrev pub ArePausedBy : Config → Board → List BookView → List (List (Origin Push)) → ℕ → Type 0
