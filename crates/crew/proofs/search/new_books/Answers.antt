@@ -1,4 +1,4 @@
-use Rattle.std.proofs.Common.{◌≡◌, ◌+◌, length, arith}
+use Rattle.std.proofs.Common.{◌+◌, arith}
 use Rattle.std.specs.Arc.{arc_value}
 use Rattle.crew.proofs.Starting.{none_made, one_more}
 use Rattle.crew.proofs.search.new_books.Goals as goal
