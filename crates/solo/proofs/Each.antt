@@ -7,7 +7,7 @@ use Rattle.std.proofs.lemmas.Option.{get_or_from_slice_get, same_Some, slice_get
 use Rattle.layers.specs.LayerView.{LayerView}
 use Rattle.layers.specs.BookView.{BookView, IsLawfulBook}
 use Rattle.layers.specs.Books.{with_begun}
-use Rattle.solo.specs.inside.Turns.{HaveBegun, IsLeft, IsStillAt, MayBeWorked, MayHaveBegun, WorkAnswer, WorkAnswers}
+use Rattle.solo.specs.inside.Turns.{HaveBegun, IsStillAt, MayBeWorked, MayHaveBegun, WorkAnswer, WorkAnswers}
 use Rattle.solo.specs.declared.turn.Worked.TheVariants.{Through, Over}
 
 -- ---- results
@@ -104,7 +104,7 @@ may_have_begun before ranks place books v w at is so = (more.same, λ i x at_x. 
 
     each : (i : ℕ) (x : BookView) → slice_get before i ≡ Some x → (slice_get (set books place w) i ≡ Some x) ⊎ (slice_get (set books place w) i ≡ Some (with_begun x ranks))
     each i x at_x = (let c = some_changed (MayBegunWith ranks) before (place + 1) (set books place w) (λ y. inl refl) more i x at_x in
-      elim c.2 [ inl same ↦ inl (c.1 ∙ ap (λ (z : BookView). Some z) same) | inr begun ↦ inr (c.1 ∙ ap (λ (z : BookView). Some z) begun) ])
+        elim c.2 [ inl same ↦ inl (c.1 ∙ ap (λ (z : BookView). Some z) same) | inr begun ↦ inr (c.1 ∙ ap (λ (z : BookView). Some z) begun) ])
 
 -- ---- finish
 

@@ -4,7 +4,7 @@ ghost use Rattle.grid.specs.Lawful.{box_count};
 ghost use Rattle.grid.specs.declared.limits.TheConstants.{MAX_BOXES};
 ghost use Rattle.solo.specs.Answers.{IsAnswer};
 ghost use Rattle.solo.specs.Refusals.{SolveRefused};
-ghost use Rattle.solo.specs.inside.Turns.{AreBetweenTurns};
+ghost use Rattle.solo.specs.inside.Turns.{AreBetweenTurns, GoesOn};
 
 use crate::answer::{Answer, SolveFault};
 use crate::turn::{Worked, begin_each, finish_each, last_layer, look, new_books};
@@ -97,7 +97,7 @@ fn turn(
     requires turn { AreBetweenTurns dead.now limit 1 1 books.old trail.old.items positions.old }
     requires room { scratch.old.size ≡ length dead.now.cells }
     ensures answer { IfOk result (λ found. IfSome found (λ answer. IsAnswer dead.now limit answer)) }
-    ensures onward { IfOk result (λ found. IfNone found (AreBetweenTurns dead.now limit 1 1 books.new trail.new.items positions.new × (positions.old < positions.new))) }
+    ensures onward { IfOk result (λ found. IfNone found (GoesOn dead.now limit books.new trail.new.items positions.old positions.new)) }
     ensures size { scratch.new.size ≡ scratch.old.size }
 {
     let layer = last_layer(alloc, books)?;

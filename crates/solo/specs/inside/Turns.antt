@@ -1,6 +1,6 @@
 -- What a search keeps between two turns, each of which looks at the next layer and does its ranks, and what its books are
 -- meanwhile: one for each share of the positions.
-use Rattle.std.specs.Prelude.{◌≡◌, ℕ, suc, ◌⊎◌, true, false, List, length, slice_get, slice_index_or, Some}
+use Rattle.std.specs.Prelude.{◌≡◌, ℕ, suc, ◌<◌, ◌⊎◌, true, false, List, length, slice_get, slice_index_or, Some}
 use Rattle.grid.specs.declared.square.Push.{Push}
 use Rattle.grid.specs.Board.{Board}
 use Rattle.layers.specs.LayerView.{LayerView}
@@ -43,16 +43,22 @@ pub record AreBetweenTurns (board : Board) (limit workers shares : ℕ) (books :
   pub paused : ArePaused (suc (length trail)) books
   pub looked : IsLookedAt board limit trail positions
 
+-- the search of one worker over one book goes on: between two turns, with more positions counted
+abbrev pub GoesOn : Board → ℕ → List BookView → List (List (Origin Push)) → ℕ → ℕ → Type 0
+GoesOn board limit books trail before positions = AreBetweenTurns board limit 1 1 books trail positions × (before < positions)
+
 -- ---- a layer begins
 
 -- each of the books has begun so many ranks
 abbrev pub HaveBegun : List BookView → ℕ → List BookView → Type 0
-HaveBegun before ranks after = (length after ≡ length before) × ((i : ℕ) (v : BookView) → slice_get before i ≡ Some v → slice_get after i ≡ Some (with_begun v ranks))
+HaveBegun before ranks after =
+    (length after ≡ length before) × ((i : ℕ) (v : BookView) → slice_get before i ≡ Some v → slice_get after i ≡ Some (with_begun v ranks))
 
 -- each of the books is as it was, or has begun so many ranks
 abbrev pub MayHaveBegun : List BookView → ℕ → List BookView → Type 0
 MayHaveBegun before ranks after =
-    (length after ≡ length before) × ((i : ℕ) (v : BookView) → slice_get before i ≡ Some v → (slice_get after i ≡ Some v) ⊎ (slice_get after i ≡ Some (with_begun v ranks)))
+    (length after ≡ length before)
+    × ((i : ℕ) (v : BookView) → slice_get before i ≡ Some v → (slice_get after i ≡ Some v) ⊎ (slice_get after i ≡ Some (with_begun v ranks)))
 
 -- ---- the ranks of a layer are done
 
@@ -67,7 +73,8 @@ IsLeft before worked after i v = (w : BookView) × (slice_get after i ≡ Some w
 
 -- how they leave several books: each has closed the next layer; or one of them is over its limit
 abbrev pub WorkAnswers : List BookView → Worked → List BookView → Type 0
-WorkAnswers before Through after = (length after ≡ length before) × ((i : ℕ) (v : BookView) → slice_get before i ≡ Some v → IsLeft before Through after i v)
+WorkAnswers before Through after =
+    (length after ≡ length before) × ((i : ℕ) (v : BookView) → slice_get before i ≡ Some v → IsLeft before Through after i v)
 WorkAnswers before Over after = (i : ℕ) × (v : BookView) × (slice_get before i ≡ Some v) × IsLeft before Over after i v
 
 -- all the shares were at work on the layer, and this is how its last ranks left them
@@ -86,7 +93,8 @@ pub record IsStillAt (before : BookView) (layer : LayerView) (book : BookView) :
 abbrev pub MayBeWorked : List BookView → LayerView → List BookView → Type 0
 MayBeWorked before layer after =
     (length after ≡ length before)
-    × ((i : ℕ) (v : BookView) → slice_get before i ≡ Some v → (w : BookView) × (slice_get after i ≡ Some w) × ((w ≡ v) ⊎ IsStillAt v layer w ⊎ WorkAnswer v Through w))
+    × ((i : ℕ) (v : BookView) → slice_get before i ≡ Some v
+    → (w : BookView) × (slice_get after i ≡ Some w) × ((w ≡ v) ⊎ IsStillAt v layer w ⊎ WorkAnswer v Through w))
 
 -- the parcel is of a rank of the layer
 abbrev pub IsOfRank : LayerView → ℕ → ParcelView → Type 0

@@ -74,9 +74,8 @@ returns-in-Through-clause-turned g c =
     let looked : IsLookedAt layer.level config.limit (trail ++ layer.origins ∷ []) count = subst (λ ls. IsLookedAt layer.level config.limit (ls ++ layer.origins ∷ []) count) c.as_slice-2.ensures.value found in
     let some : (0 < length layer.places) × (length layer.places ≤ config.limit) = subst (λ found. IfNone found ((0 < length layer.places) × (length layer.places ≤ config.limit))) c.in_default.is c.in_ok-found.ensures.ranks in
     let counted : count ≡ positions + length layer.places = subst (λ found. IfNone found (count ≡ positions + length layer.places)) c.in_default.is c.in_ok-found.ensures.count in
-    let work : AreWorkedBy config layer worked after.items = subst (λ back. IfSome back (λ b. AreWorkedBy config layer b.0 b.1.items)) c.in-Some-back.is c.in_ok-back.ensures.worked in
-    (
+    let work : AreWorkedBy config layer worked after.items = subst (λ back. IfSome back (λ b. AreWorkedBy config layer b.0 b.1.items)) c.in-Some-back.is c.in_ok-back.ensures.worked in (
       goes_on config c.args.dead.now c.args.books.items trail positions c.requires.limits c.requires.turn layer count after.items c.push.new.self.items c.of.result join looked
-      (subst (λ w. AreWorkedBy config layer w after.items) c.in-Through.is work) c.in_ok-push.ensures.items c.of.ensures,
+          (subst (λ w. AreWorkedBy config layer w after.items) c.in-Through.is work) c.in_ok-push.ensures.items c.of.ensures,
       omega (arith, some.0, counted),
     )

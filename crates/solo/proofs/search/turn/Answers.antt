@@ -3,8 +3,7 @@ use Rattle.std.specs.Prelude.{IfNone, IfSome}
 use Rattle.grid.specs.Board.{Board}
 use Rattle.solo.specs.Answers.{IsAnswer}
 use Rattle.solo.specs.inside.Searched.{IsLookedAt}
-use Rattle.solo.specs.inside.Turns.{AreBetweenTurns, AreDealt, AreWorked, AreWorkingOn, WorkAnswers}
-use Rattle.solo.specs.declared.turn.Worked.TheVariants.{Through, Over}
+use Rattle.solo.specs.inside.Turns.{WorkAnswers}
 use Rattle.solo.proofs.lemmas.Turns.{all_shares, at_work, may_begin, next_of, trail_grown, turn_on, turn_over}
 use Rattle.solo.proofs.search.turn.Goals as goal
 
@@ -80,9 +79,8 @@ returns-in-Through-clause-onward c =
     let found : IsLookedAt layer.level limit (c.as_slice.result.now ++ layer.origins ∷ []) count = subst (λ found. IfNone found (IsLookedAt layer.level limit (c.as_slice.result.now ++ layer.origins ∷ []) count)) c.in_default.is c.in_ok-found.ensures.looked in
     let looked : IsLookedAt layer.level limit (trail ++ layer.origins ∷ []) count = subst (λ ls. IsLookedAt layer.level limit (ls ++ layer.origins ∷ []) count) c.as_slice.ensures.value found in
     let some : (0 < length layer.places) × (length layer.places ≤ limit) = subst (λ found. IfNone found ((0 < length layer.places) × (length layer.places ≤ limit))) c.in_default.is c.in_ok-found.ensures.ranks in
-    let counted : count ≡ positions + length layer.places = subst (λ found. IfNone found (count ≡ positions + length layer.places)) c.in_default.is c.in_ok-found.ensures.count in
-    (
+    let counted : count ≡ positions + length layer.places = subst (λ found. IfNone found (count ≡ positions + length layer.places)) c.in_default.is c.in_ok-found.ensures.count in (
       trail_grown board limit 1 1 after trail c.push.new.self.items c.of.result count layer c.in_ok-push.ensures.items c.of.ensures
-      (turn_on board limit 1 1 after trail count layer next looked (mid, working.0, working.1, subst (λ worked. WorkAnswers mid worked after) c.in-Through.is c.in_ok-worked.ensures.worked)),
+          (turn_on board limit 1 1 after trail count layer next looked (mid, working.0, working.1, subst (λ worked. WorkAnswers mid worked after) c.in-Through.is c.in_ok-worked.ensures.worked)),
       omega (arith, some.0, counted),
     )

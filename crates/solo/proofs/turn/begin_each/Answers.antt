@@ -1,5 +1,4 @@
-use Rattle.std.proofs.Common.{◌≡◌, ◌<◌, length, get_or, Some, arith}
-use Rattle.std.specs.Prelude.{slice_get}
+use Rattle.std.proofs.Common.{length, get_or, arith}
 use Rattle.solo.proofs.Each.{HasBegunWith, have_begun, may_have_begun, next_kept, on_err, one_changed}
 use Rattle.solo.proofs.turn.begin_each.Goals as goal
 
@@ -12,7 +11,7 @@ pub returns-in_err-begin-clause-err : goal.returns-in_err-begin-clause-err
 returns-in_err-begin-clause-err c =
     let books = c.loop-place.books in let place = c.loop-place.place in let d = c.index-books-place.result in let ranks = length c.args.layer.now.places in
     on_err c.from_residual.result (may_have_begun c.args.books.now ranks place books (get_or books place d) c.begin.new.book
-        (next_kept (HasBegunWith ranks) c.args.books.now place books d (omega (arith, c.loop-place-test.true)) c.loop-place.invariant) c.in_err-begin.ensures.err c.loop-place.invariant)
+    (next_kept (HasBegunWith ranks) c.args.books.now place books d (omega (arith, c.loop-place-test.true)) c.loop-place.invariant) c.in_err-begin.ensures.err c.loop-place.invariant)
 
 pub loop-place-preserved : goal.loop-place-preserved
 loop-place-preserved c =

@@ -1,5 +1,4 @@
-use Rattle.std.proofs.Common.{◌≡◌, ◌<◌, ◌∙◌, length, get_or, Some, subst, arith}
-use Rattle.std.specs.Prelude.{slice_get}
+use Rattle.std.proofs.Common.{◌∙◌, get_or, subst, arith}
 use Rattle.solo.specs.inside.Turns.{WorkAnswer}
 use Rattle.solo.proofs.Each.{IsThrough, are_through, may_be_worked, next_kept, on_err, one_changed, one_over, read_back}
 use Rattle.solo.proofs.turn.finish_each.Goals as goal
@@ -18,7 +17,7 @@ pub returns-in_err-worked-clause-err : goal.returns-in_err-worked-clause-err
 returns-in_err-worked-clause-err c =
     let books = c.loop-place.books in let place = c.loop-place.place in let d = c.index-books-place.result in
     on_err c.from_residual.result (may_be_worked c.args.books.now c.args.layer.now place books (get_or books place d) c.finish.new.book
-        (next_kept IsThrough c.args.books.now place books d (omega (arith, c.loop-place-test.true)) c.loop-place.invariant.through) c.in_err-worked.ensures.err c.loop-place.invariant.through)
+    (next_kept IsThrough c.args.books.now place books d (omega (arith, c.loop-place-test.true)) c.loop-place.invariant.through) c.in_err-worked.ensures.err c.loop-place.invariant.through)
 
 pub returns-in-Over-clause-worked : goal.returns-in-Over-clause-worked
 returns-in-Over-clause-worked c =
@@ -33,11 +32,10 @@ pub loop-place-preserved : goal.loop-place-preserved
 loop-place-preserved c =
     let books = c.loop-place.books in let place = c.loop-place.place in let d = c.index-books-place.result in let after = c.finish.new.book in record {
       through = one_changed IsThrough c.args.books.now place books (get_or books place d) after c.loop-place.invariant.through
-      (next_kept IsThrough c.args.books.now place books d (omega (arith, c.loop-place-test.true)) c.loop-place.invariant.through)
-      (
-        subst (λ worked. WorkAnswer (get_or books place d) worked after) c.in-Through.is c.in_ok-worked.ensures.worked,
-        read_back c.args.books.now place books after c.index-books-place-in-loop-place.result (omega (arith, c.loop-place-test.true)) c.loop-place.invariant.through.same c.tell.ensures,
-      );
+          (next_kept IsThrough c.args.books.now place books d (omega (arith, c.loop-place-test.true)) c.loop-place.invariant.through) (
+            subst (λ worked. WorkAnswer (get_or books place d) worked after) c.in-Through.is c.in_ok-worked.ensures.worked,
+            read_back c.args.books.now place books after c.index-books-place-in-loop-place.result (omega (arith, c.loop-place-test.true)) c.loop-place.invariant.through.same c.tell.ensures,
+          );
       size = c.finish.ensures.size ∙ c.loop-place.invariant.size;
     }
 
