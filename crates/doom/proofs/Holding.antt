@@ -1,5 +1,5 @@
 -- Where walls and dead squares alone hold a box, as sets.
-use Rattle.std.proofs.Common.{◌≡◌, ◌≢◌, ◌↔◌, ◌<◌, ◌≤◌, ◌+◌, ◌-◌, ◌*◌, ℕ, Bool, true, false, eqb, ltb, ◌||◌, List, length, refl, sym, ap, subst, ◌∙◌, inl, inr, arith, add-one, IsTrue}
+use Rattle.std.proofs.Common.{◌≡◌, ◌≢◌, ◌↔◌, ◌<◌, ◌≤◌, ◌+◌, ◌-◌, ℕ, Bool, true, false, eqb, ltb, ◌||◌, List, length, refl, sym, ap, subst, ◌∙◌, inl, inr, arith, add-one, IsTrue}
 use Rattle.std.proofs.lemmas.Bool.{false≢true, cases_Bool, cond_both, or_cases, or_left, or_right, cases_eq, eqb-true, eq-eqb, ltb-false}
 use Rattle.grid.specs.declared.dir.Dir.{Dir}
 use Rattle.grid.specs.declared.dir.Dir.TheVariants.{D, L, R, U}

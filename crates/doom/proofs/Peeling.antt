@@ -1,5 +1,5 @@
 -- Boxes that nothing blocks are in no frozen set.
-use Rattle.std.proofs.Common.{◌≡◌, ◌↔◌, ◌==◌, ◌||◌, ◌++◌, ℕ, Bool, true, false, eqb, [], ◌∷◌, refl, sym, ap, ◌∙◌, ◌⊎◌, inl, inr, eq-eqb}
+use Rattle.std.proofs.Common.{◌≡◌, ◌==◌, ◌||◌, ◌++◌, ℕ, Bool, true, false, eqb, [], ◌∷◌, refl, sym, ap, ◌∙◌, ◌⊎◌, inl, inr, eq-eqb}
 use Rattle.std.proofs.lemmas.List.Folds.{list_any-append}
 use Rattle.std.proofs.lemmas.Bool.{false≢true, eqb-true}
 use Rattle.grid.specs.declared.dir.Dir.{Dir}

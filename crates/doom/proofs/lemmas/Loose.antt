@@ -8,7 +8,7 @@ use Rattle.grid.proofs.lemmas.Steps.{inside_grid}
 use Rattle.doom.specs.Deadlocks.{IsDead, IsBlocked, IsFrozen}
 use Rattle.doom.specs.Loose.{IsLoose, LooseDoomsNothing}
 use Rattle.doom.proofs.Peeling.{held_by_more}
-use Rattle.doom.proofs.Pulling.{live_floor}
+use Rattle.doom.proofs.Ways.{live_floor}
 
 -- a box that came to rest where it is loose is in no frozen set
 free_of_frozen : (board : Board) (boxes members : Squares) (q r : ℕ) → IsLoose board boxes q → IsFrozen board boxes members → q ≡ r → ¬ (IsBlocked board members r)

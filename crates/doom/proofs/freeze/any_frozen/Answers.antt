@@ -1,6 +1,5 @@
-use Rattle.std.proofs.Common.{◌↔◌, IsTrue, length, sym, ap, subst, ◌∙◌}
+use Rattle.std.proofs.Common.{subst}
 use Rattle.grid.specs.Board.{Board}
-use Rattle.grid.specs.Masks.{word_count}
 use Rattle.doom.specs.inside.Holding.{AreHolds}
 use Rattle.doom.proofs.Holding.{frozen_told, room_of}
 use Rattle.doom.proofs.freeze.any_frozen.Goals as goal

@@ -2,7 +2,8 @@ use Rattle.std.proofs.Common.{◌≡◌, [], length, subst, arith}
 use Rattle.std.proofs.lemmas.Grind.{common_steps}
 use Rattle.std.proofs.lemmas.List.{nil_from_length}
 use Rattle.doom.specs.inside.Pulling.{IsFilling}
-use Rattle.doom.proofs.Pulling.{filled, few_unknown}
+use Rattle.doom.proofs.Pulling.{few_unknown}
+use Rattle.doom.proofs.Ways.{filled}
 use Rattle.doom.proofs.pulls.distances.Goals as goal
 
 pub loop-steps-init : goal.loop-steps-init
