@@ -32,11 +32,10 @@ live_floor board q (onward d floor ahead behind live) = floor
 pub way_pulled : (board : Board) (q n : ℕ) (d : Dir) → HasWay board q n → CanPull board q d → HasWay board (next board q d) (suc n)
 way_pulled board q n d (way, count) (from, behind) =
     let back = next_back board q d (live_floor board q way) from in
-    let moved : HasWay board (next board (next board q d) (opposite d)) n = subst (λ x. HasWay board x n) (sym back) (way, count) in
-    (
+    let moved : HasWay board (next board (next board q d) (opposite d)) n = subst (λ x. HasWay board x n) (sym back) (way, count) in (
       onward (opposite d) from (ap (is_wall board) back ∙ live_floor board q way)
-      (ap (λ e. is_wall board (next board (next board q d) e)) (opposite_twice d) ∙ behind)
-      moved.0,
+          (ap (λ e. is_wall board (next board (next board q d) e)) (opposite_twice d) ∙ behind)
+          moved.0,
       ap suc moved.1,
     )
 

@@ -44,13 +44,7 @@ fn search(alloc: Global, level: &Arc<Level>, limit: u32) -> Result<Answer, Alloc
     let dead = Dead::of(alloc, level)?;
     let mut scratch = Scratch::new(alloc, level)?;
     let mut books = new_books(alloc, level, &dead, limit, 1, 1, &mut scratch)?;
-    all_turns(
-        alloc,
-        books.as_mut_slice(),
-        &dead,
-        &mut scratch,
-        limit,
-    )
+    all_turns(alloc, books.as_mut_slice(), &dead, &mut scratch, limit)
 }
 
 // Makes turn after turn until there is an answer. The only error is that memory was refused.

@@ -19,7 +19,8 @@ use area::Scratch;
 use doom::Dead;
 use grid::Level;
 use layers::{
-    BeginFault, Book, BookFault, CloseFault, JoinFault, Layer, Parcel, Parents, Refusal, expand, expand_into,
+    BeginFault, Book, BookFault, CloseFault, JoinFault, Layer, Parcel, Parents, Refusal, expand,
+    expand_into,
 };
 use std::alloc::{AllocError, Global};
 use std::sync::Arc;

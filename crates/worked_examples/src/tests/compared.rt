@@ -119,7 +119,11 @@ fn solves_rooms_as_the_slow_solver(rt: HostRuntime) -> Result<(), Fail> {
         for (workers, locks) in CREWS {
             let fault = fault_of(&rt, alloc, rows, (workers, locks), &found)?;
             let shown = std::str::from_utf8(rows).unwrap_or("");
-            assert_eq!(rt; fault, None, "by {workers} workers over {locks} locks, for\n{shown}");
+            assert_eq!(rt;
+                fault,
+                None,
+                "by {workers} workers over {locks} locks, for\n{shown}"
+            );
         }
     }
     Ok(())
@@ -139,7 +143,11 @@ fn solves_random_rooms_as_the_slow_solver(rt: HostRuntime) -> Result<(), Fail> {
             for (workers, locks) in [(1, 1), (2, 2), (3, 1), (64, 3)] {
                 let fault = fault_of(&rt, alloc, rows, (workers, locks), &found)?;
                 let shown = std::str::from_utf8(rows).unwrap_or("");
-                assert_eq!(rt; fault, None, "by {workers} workers over {locks} locks, for\n{shown}");
+                assert_eq!(rt;
+                    fault,
+                    None,
+                    "by {workers} workers over {locks} locks, for\n{shown}"
+                );
             }
             match found {
                 Found::Solution(_) => solvable = solvable.saturating_add(1),

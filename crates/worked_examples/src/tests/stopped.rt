@@ -26,6 +26,7 @@ const WORKERS: u8 = 2;
 
 /// Numbers of locks that are tried. Each position is drawn once and handed back once to each of so many books.
 const LOCKS: [u8; 3] = [1, 2, 4];
+
 const MOST_EVENTS: u64 = 5;
 
 /// When a gate stops a worker.
