@@ -1,5 +1,5 @@
 ghost use Rattle.std.specs.Prelude.{◌≡◌, length};
-ghost use Rattle.grid.specs.States.{FitsLevel};
+ghost use Rattle.grid.specs.States.{FitsLevel, IsScene};
 
 use crate::laws::{
     an_area_has_one_normal_form, each_state_has_one_normal_form, walks_go_both_ways,
@@ -9,7 +9,6 @@ use crate::{Scratch, flood, normal, normalise_after, pushable, walk};
 use grid::{Cell, Dir, Level, Moves, Position, Push, Square, State, Step};
 use std::alloc::Global;
 use std::process::Abort;
-use std::test::Fail;
 
 const HALL: (usize, &[u8]) = (6, b"#######.$  ##    ##   @#######");
 
@@ -43,15 +42,15 @@ fn cell_of(byte: u8) -> Cell {
     }
 }
 
-fn level_of(rt: &impl Abort, alloc: Global, board: (usize, &[u8])) -> Result<Level, Fail> {
+fn level_of(rt: &impl Abort, alloc: Global, board: (usize, &[u8])) -> Level {
     let (cols, bytes) = board;
     let mut cells = Vec::new(alloc);
     for byte in bytes {
-        cells.push(cell_of(*byte))?;
+        cells.push(cell_of(*byte)).expect(rt, "memory");
     }
     assert!(rt; cols >= 1);
     assert!(rt; cells.len() % cols == 0);
-    Ok(Level::from_cells(alloc, cols, cells)?)
+    Level::from_cells(alloc, cols, cells).expect(rt, "a level")
 }
 
 fn letter_of(dir: Dir) -> u8 {
@@ -71,24 +70,33 @@ fn is_text(moves: &Moves, text: &[u8]) -> bool {
 }
 
 #[test]
-fn normal_positions_have_the_least_square_of_the_area(rt: HostRuntime) -> Result<(), Fail> {
+fn normal_positions_have_the_least_square_of_the_area(rt: HostRuntime) {
     let rows: [((usize, &[u8]), u16, u16, u16); 3] = [
         (HALL, 8, 22, 7),
         (LOOP, 21, 20, 12),
         (LOOP, 19, 18, 17),
     ];
     for (board, box_square, player, least) in rows {
-        let level = level_of(&rt, rt.alloc(), board)?;
-        let mut scratch = Scratch::new(rt.alloc(), &level)?;
-        let Some(position) = Position::of(&[Square(box_square)], Square(player)) else {
-            return Err(Fail::new("no position"));
-        };
-        assert!(rt; position.fits(&level));
-        let found = normal(&level, &position, &mut scratch);
-        assert_eq!(rt; found.boxes(), [Square(box_square)].as_slice());
-        assert_eq!(rt; found.player(), Square(least));
+        let level = level_of(&rt, rt.alloc(), board);
+        let position = Position::of(&[Square(box_square)], Square(player)).expect(
+            &rt,
+            "a position",
+        );
+        let found = normal_of(&rt, rt.alloc(), &level, &position);
+        assert!(&rt; stands(&found, box_square, least));
     }
-    Ok(())
+}
+
+// The normal form of a position.
+fn normal_of(rt: &impl Abort, alloc: Global, level: &Level, position: &Position) -> Position {
+    let mut scratch = Scratch::new(alloc, level).expect(rt, "memory");
+    assert!(rt; position.fits(level));
+    normal(level, position, &mut scratch)
+}
+
+// Whether a position has one box and the player on these squares.
+fn stands(position: &Position, box_square: u16, player: u16) -> bool {
+    position.boxes() == [Square(box_square)].as_slice() && position.player() == Square(player)
 }
 
 // Whether the square at a place, or one beside it, was reached.
@@ -108,28 +116,44 @@ fn plain_flood(
     alloc: Global,
     board: (usize, &[u8]),
     position: &Position,
-) -> Result<Vec<bool>, Fail> {
-    let (cols, bytes) = board;
+) -> Vec<bool> {
+    let (_, bytes) = board;
     let mut reached = Vec::new(alloc);
     for place in 0..bytes.len() {
-        reached.push(place == position.player().0 as usize)?;
+        reached
+            .push(place == position.player().0 as usize)
+            .expect(rt, "memory");
     }
     for _ in bytes {
-        let mut more = Vec::new(alloc);
-        for (place, byte) in bytes.iter().enumerate() {
-            let is_box = position
-                .boxes()
-                .iter()
-                .any(|square| square.0 as usize == place);
-            let is_free = *byte != b'#' && !is_box;
-            more.push(is_free && is_beside(rt, cols, reached.as_slice(), place))?;
-        }
+        let more = spread(rt, alloc, board, position, reached.as_slice());
         if more.as_slice() == reached.as_slice() {
             break;
         }
         reached = more;
     }
-    Ok(reached)
+    reached
+}
+
+// What is reached, and the free squares beside it.
+fn spread(
+    rt: &impl Abort,
+    alloc: Global,
+    board: (usize, &[u8]),
+    position: &Position,
+    reached: &[bool],
+) -> Vec<bool> {
+    let (cols, bytes) = board;
+    let mut more = Vec::new(alloc);
+    for (place, byte) in bytes.iter().enumerate() {
+        let is_box = position
+            .boxes()
+            .iter()
+            .any(|square| square.0 as usize == place);
+        let is_free = *byte != b'#' && !is_box;
+        more.push(is_free && is_beside(rt, cols, reached, place))
+            .expect(rt, "memory");
+    }
+    more
 }
 
 // Floods twice in the same memory, and compares what is reached with a plain flood.
@@ -139,53 +163,69 @@ fn compare(
     board: (usize, &[u8]),
     level: &Level,
     position: &Position,
-) -> Result<(), Fail> {
-    let Some(first) = Position::start(level) else {
-        return Err(Fail::new("no position"));
-    };
+) {
+    let first = Position::start(level).expect(rt, "a position");
+    let mut scratch = Scratch::new(alloc, level).expect(rt, "memory");
+    flood_twice(rt, level, &first, position, &mut scratch);
+    let reached = plain_flood(rt, alloc, board, position);
+    compare_reached(rt, &scratch, reached.as_slice());
+}
+
+fn flood_twice(
+    rt: &impl Abort,
+    level: &Level,
+    first: &Position,
+    position: &Position,
+    scratch: &mut Scratch,
+)
+    requires room { scratch.old.size ≡ length level.now.cells }
+{
     assert!(rt; first.fits(level) && position.fits(level));
-    let mut scratch = Scratch::new(alloc, level)?;
-    flood(level, &first, &mut scratch);
-    flood(level, position, &mut scratch);
-    let reached = plain_flood(rt, alloc, board, position)?;
+    flood(level, first, scratch);
+    flood(level, position, scratch);
+}
+
+fn compare_reached(rt: &impl Abort, scratch: &Scratch, reached: &[bool]) {
     for place in 0..100u16 {
-        let expected = reached
-            .as_slice()
-            .get(place as usize)
-            .map_or(false, |flag| *flag);
+        let expected = reached.get(place as usize).map_or(false, |flag| *flag);
         assert_eq!(rt; scratch.reaches(Square(place)), expected, "square {place}");
     }
-    Ok(())
 }
 
 #[test]
-fn floods_with_one_box_reach_what_a_plain_flood_reaches(rt: HostRuntime) -> Result<(), Fail> {
+fn floods_with_one_box_reach_what_a_plain_flood_reaches(rt: HostRuntime) {
     for board in [HALL, LOOP, ROOMS] {
-        let level = level_of(&rt, rt.alloc(), board)?;
+        let level = level_of(&rt, rt.alloc(), board);
         for number in 0..6400u16 {
             let boxes = [Square(number / 80)];
-            if let Some(position) = Position::of(&boxes, Square(number % 80)) {
-                if position.fits(&level) {
-                    compare(&rt, rt.alloc(), board, &level, &position)?;
-                }
-            }
+            compare_with(&rt, rt.alloc(), board, &level, &boxes, Square(number % 80));
         }
     }
-    Ok(())
 }
 
 #[test]
-fn floods_with_two_boxes_reach_what_a_plain_flood_reaches(rt: HostRuntime) -> Result<(), Fail> {
-    let level = level_of(&rt, rt.alloc(), PAIR)?;
+fn floods_with_two_boxes_reach_what_a_plain_flood_reaches(rt: HostRuntime) {
+    let level = level_of(&rt, rt.alloc(), PAIR);
     for number in 0..27000u16 {
         let boxes = [Square(number / 900), Square(number / 30 % 30)];
-        if let Some(position) = Position::of(&boxes, Square(number % 30)) {
-            if position.fits(&level) {
-                compare(&rt, rt.alloc(), PAIR, &level, &position)?;
-            }
+        compare_with(&rt, rt.alloc(), PAIR, &level, &boxes, Square(number % 30));
+    }
+}
+
+// The same, where boxes and player make a position of the level.
+fn compare_with(
+    rt: &impl Abort,
+    alloc: Global,
+    board: (usize, &[u8]),
+    level: &Level,
+    boxes: &[Square],
+    player: Square,
+) {
+    if let Some(position) = Position::of(boxes, player) {
+        if position.fits(level) {
+            compare(rt, alloc, board, level, &position);
         }
     }
-    Ok(())
 }
 
 // The normal position after a push from somewhere in the area, by a flood of the position before it; none where the
@@ -213,7 +253,7 @@ fn pushed(level: &Level, position: &Position, push: Push, scratch: &mut Scratch)
 }
 
 #[test]
-fn after_a_push_the_normal_position_is_that_of_a_flood(rt: HostRuntime) -> Result<(), Fail> {
+fn after_a_push_the_normal_position_is_that_of_a_flood(rt: HostRuntime) {
     let rows: [((usize, &[u8]), u16, u16, Dir, u16, u16); 5] = [
         (HALL, 8, 9, Dir::L, 7, 8),
         (HALL, 9, 10, Dir::L, 8, 7),
@@ -222,23 +262,25 @@ fn after_a_push_the_normal_position_is_that_of_a_flood(rt: HostRuntime) -> Resul
         (LOOP, 20, 19, Dir::R, 21, 12),
     ];
     for (board, from, player, dir, to, least) in rows {
-        let level = level_of(&rt, rt.alloc(), board)?;
-        let mut scratch = Scratch::new(rt.alloc(), &level)?;
-        let Some(position) = Position::of(&[Square(from)], Square(player)) else {
-            return Err(Fail::new("no position"));
-        };
-        assert!(rt; position.fits(&level));
-        let push = Push {
-            square: Square(from),
-            dir,
-        };
-        let Some(found) = pushed(&level, &position, push, &mut scratch) else {
-            return Err(Fail::new("no push"));
-        };
-        assert_eq!(rt; found.boxes(), [Square(to)].as_slice());
-        assert_eq!(rt; found.player(), Square(least));
+        let level = level_of(&rt, rt.alloc(), board);
+        let position = Position::of(&[Square(from)], Square(player)).expect(&rt, "a position");
+        let found = pushed_from(&rt, rt.alloc(), &level, &position, Square(from), dir);
+        assert!(&rt; stands(&found, to, least));
     }
-    Ok(())
+}
+
+// The normal position after a push that is possible.
+fn pushed_from(
+    rt: &impl Abort,
+    alloc: Global,
+    level: &Level,
+    position: &Position,
+    square: Square,
+    dir: Dir,
+) -> Position {
+    let mut scratch = Scratch::new(alloc, level).expect(rt, "memory");
+    assert!(rt; position.fits(level));
+    pushed(level, position, Push { square, dir }, &mut scratch).expect(rt, "a push")
 }
 
 // Whether just these boxes of a word can be pushed down, left, right and up.
@@ -261,7 +303,7 @@ fn are_pushable(
 }
 
 #[test]
-fn boxes_are_pushed_from_reached_squares_onto_free_ones(rt: HostRuntime) -> Result<(), Fail> {
+fn boxes_are_pushed_from_reached_squares_onto_free_ones(rt: HostRuntime) {
     let rows: [((usize, &[u8]), [u16; 2], u16, usize, [u64; 4]); 8] = [
         (PAIR, [13, 20], 7, 0, [1 << 13, 1 << 20, 0, 0]),
         (PAIR, [8, 9], 7, 0, [0, 0, 0, 0]),
@@ -273,44 +315,52 @@ fn boxes_are_pushed_from_reached_squares_onto_free_ones(rt: HostRuntime) -> Resu
         (FIELD, [12, 64], 11, 1, [1, 1, 1, 1]),
     ];
     for (board, boxes, player, place, expected) in rows {
-        let level = level_of(&rt, rt.alloc(), board)?;
-        let mut scratch = Scratch::new(rt.alloc(), &level)?;
+        let level = level_of(&rt, rt.alloc(), board);
         let [first, second] = boxes;
-        let Some(position) = Position::of(&[Square(first), Square(second)], Square(player)) else {
-            return Err(Fail::new("no position"));
-        };
-        assert!(rt; position.fits(&level));
-        assert!(rt;
-            are_pushable(&level, &position, place, &mut scratch, expected),
-            "player {player}, word {place}"
+        let position = Position::of(&[Square(first), Square(second)], Square(player)).expect(
+            &rt,
+            "a position",
         );
+        check_pushable(&rt, rt.alloc(), &level, &position, place, expected);
     }
-    Ok(())
+}
+
+fn check_pushable(
+    rt: &impl Abort,
+    alloc: Global,
+    level: &Level,
+    position: &Position,
+    place: usize,
+    expected: [u64; 4],
+) {
+    let mut scratch = Scratch::new(alloc, level).expect(rt, "memory");
+    assert!(rt; position.fits(level));
+    assert!(rt;
+        are_pushable(level, position, place, &mut scratch, expected),
+        "word {place}"
+    );
 }
 
 #[test]
-fn a_flood_stops_at_walls_and_boxes(rt: HostRuntime) -> Result<(), Fail> {
-    let level = level_of(&rt, rt.alloc(), LOOP)?;
-    let mut scratch = Scratch::new(rt.alloc(), &level)?;
-    let Some(position) = Position::start(&level) else {
-        return Err(Fail::new("no position"));
-    };
-    assert!(rt; position.fits(&level));
+fn a_flood_stops_at_walls_and_boxes(rt: HostRuntime) {
+    let level = level_of(&rt, rt.alloc(), LOOP);
+    let position = Position::start(&level).expect(&rt, "a position");
+    let mut scratch = Scratch::new(rt.alloc(), &level).expect(&rt, "memory");
+    assert!(&rt; position.fits(&level));
     flood(&level, &position, &mut scratch);
     for place in 0..100 {
-        assert_eq!(rt;
+        assert_eq!(&rt;
             scratch.reaches(Square(place)),
             place == 17 || place == 18,
             "square {place}"
         );
     }
-    Ok(())
 }
 
 #[test]
-fn walks_are_the_least_of_the_shortest(rt: HostRuntime) -> Result<(), Fail> {
-    let level = level_of(&rt, rt.alloc(), HALL)?;
-    let state = State::start(rt.alloc(), &level)?;
+fn walks_are_the_least_of_the_shortest(rt: HostRuntime) {
+    let level = level_of(&rt, rt.alloc(), HALL);
+    let state = State::start(rt.alloc(), &level).expect(&rt, "memory");
     let rows: [(u16, bool, &[u8]); 4] = [
         (9, true, b"luu"),
         (22, true, b""),
@@ -318,30 +368,34 @@ fn walks_are_the_least_of_the_shortest(rt: HostRuntime) -> Result<(), Fail> {
         (0, false, b""),
     ];
     for (to, reached, text) in rows {
-        let mut scratch = Scratch::new(rt.alloc(), &level)?;
+        let mut scratch = Scratch::new(rt.alloc(), &level).expect(&rt, "memory");
         let mut moves = Moves::new(rt.alloc());
-        assert_eq!(rt;
-            walk(&level, &state, Square(to), &mut scratch, &mut moves)?,
-            reached
-        );
-        assert!(rt; is_text(&moves, text), "to {to}");
+        let found = walk(&level, &state, Square(to), &mut scratch, &mut moves);
+        assert!(&rt; matches!(found, Ok(found) if found == reached), "to {to}");
+        assert!(&rt; is_text(&moves, text), "to {to}");
     }
-    Ok(())
 }
 
 #[test]
-fn walks_begin_where_the_state_has_come_to(rt: HostRuntime) -> Result<(), Fail> {
-    let level = level_of(&rt, rt.alloc(), LOOP)?;
-    let mut scratch = Scratch::new(rt.alloc(), &level)?;
-    let mut state = State::start(rt.alloc(), &level)?;
-    assert_eq!(rt; state.step(&level, Dir::R), Step::Pushed);
-    assert_eq!(rt; state.step(&level, Dir::R), Step::Pushed);
-    let mut moves = Moves::new(rt.alloc());
-    assert!(rt; walk(&level, &state, Square(22), &mut scratch, &mut moves)?);
+fn walks_begin_where_the_state_has_come_to(rt: HostRuntime) {
+    let level = level_of(&rt, rt.alloc(), LOOP);
+    let mut state = State::start(rt.alloc(), &level).expect(&rt, "memory");
+    assert_eq!(&rt; state.step(&level, Dir::R), Step::Pushed);
+    assert_eq!(&rt; state.step(&level, Dir::R), Step::Pushed);
+    check_walks(&rt, rt.alloc(), &level, &state);
+}
+
+fn check_walks(rt: &impl Abort, alloc: Global, level: &Level, state: &State)
+    requires { IsScene level.now state.now }
+{
+    let mut scratch = Scratch::new(alloc, level).expect(rt, "memory");
+    let mut moves = Moves::new(alloc);
+    let there = walk(level, state, Square(22), &mut scratch, &mut moves);
+    assert!(rt; matches!(there, Ok(true)));
     assert!(rt; is_text(&moves, b"drru"));
-    assert!(rt; !walk(&level, &state, Square(21), &mut scratch, &mut moves)?);
+    let box_square = walk(level, state, Square(21), &mut scratch, &mut moves);
+    assert!(rt; matches!(box_square, Ok(false)));
     assert!(rt; is_text(&moves, b"drru"));
-    Ok(())
 }
 
 #[test]

@@ -1,12 +1,13 @@
 ghost use Rattle.std.specs.Prelude.{◌≡◌, length};
 
-use crate::laws::{a_loose_box_dooms_nothing, doomed_are_lost, solution_is_safe};
+use crate::laws::{
+    a_loose_box_dooms_nothing, a_push_lessens_the_bound_by_one, doomed_are_lost, solution_is_safe,
+};
 use crate::{Bound, Dead, doomed, doomed_after, is_loose};
 use area::Scratch;
 use grid::{Cell, Dir, Level, Position, Push, Square};
 use std::alloc::Global;
 use std::process::Abort;
-use std::test::Fail;
 
 const PUSH_RIGHT: (usize, &[u8]) = (5, b"######@$.######");
 
@@ -70,19 +71,19 @@ fn cell_of(byte: u8) -> Cell {
     }
 }
 
-fn level_of(rt: &impl Abort, alloc: Global, board: (usize, &[u8])) -> Result<Level, Fail> {
+fn level_of(rt: &impl Abort, alloc: Global, board: (usize, &[u8])) -> Level {
     let (cols, bytes) = board;
     let mut cells = Vec::new(alloc);
     for byte in bytes {
-        cells.push(cell_of(*byte))?;
+        cells.push(cell_of(*byte)).expect(rt, "memory");
     }
     assert!(rt; cols >= 1);
     assert!(rt; cells.len() % cols == 0);
-    Ok(Level::from_cells(alloc, cols, cells)?)
+    Level::from_cells(alloc, cols, cells).expect(rt, "a level")
 }
 
 #[test]
-fn live_squares_are_those_that_reach_a_goal(rt: HostRuntime) -> Result<(), Fail> {
+fn live_squares_are_those_that_reach_a_goal(rt: HostRuntime) {
     let rows: [((usize, &[u8]), &[u16]); 6] = [
         (PUSH_RIGHT, &[7, 8]),
         (CORNER, &[6, 7, 11, 12]),
@@ -92,23 +93,26 @@ fn live_squares_are_those_that_reach_a_goal(rt: HostRuntime) -> Result<(), Fail>
         (THERE_AND_BACK, &[17, 18, 19, 20, 21]),
     ];
     for (board, live) in rows {
-        let level = level_of(&rt, rt.alloc(), board)?;
-        let dead = Dead::of(rt.alloc(), &level)?;
-        for index in 0..64 {
-            assert_eq!(rt;
-                !dead.is_dead(Square(index)),
-                live.contains(&index),
-                "square {index}"
-            );
-        }
+        let level = level_of(&rt, rt.alloc(), board);
+        let dead = Dead::of(rt.alloc(), &level).expect(&rt, "memory");
+        check_live(&rt, &dead, live);
     }
-    Ok(())
+}
+
+fn check_live(rt: &impl Abort, dead: &Dead, live: &[u16]) {
+    for index in 0..64 {
+        assert_eq!(rt;
+            !dead.is_dead(Square(index)),
+            live.contains(&index),
+            "square {index}"
+        );
+    }
 }
 
 #[test]
-fn a_box_needs_pushes(rt: HostRuntime) -> Result<(), Fail> {
-    let level = level_of(&rt, rt.alloc(), THERE_AND_BACK)?;
-    let bound = Bound::of(rt.alloc(), &level)?;
+fn a_box_needs_pushes(rt: HostRuntime) {
+    let level = level_of(&rt, rt.alloc(), THERE_AND_BACK);
+    let bound = Bound::of(rt.alloc(), &level).expect(&rt, "memory");
     let rows = [
         (17, Some(0)),
         (18, Some(1)),
@@ -119,15 +123,21 @@ fn a_box_needs_pushes(rt: HostRuntime) -> Result<(), Fail> {
         (12, None),
     ];
     for (square, pushes) in rows {
-        let position = Position::of(&[Square(square)], Square(28)).ok_or("no position")?;
-        assert!(rt; position.fits(&level));
-        assert_eq!(rt; bound.lower(&position), pushes, "square {square}");
+        check_lower(&rt, &level, &bound, square, pushes);
     }
-    Ok(())
+}
+
+// What the bound says of one box on a square, while the player stands on another.
+fn check_lower(rt: &impl Abort, level: &Level, bound: &Bound, square: u16, pushes: Option<u32>)
+    requires { bound.now ≡ level.now }
+{
+    let position = Position::of(&[Square(square)], Square(28)).expect(rt, "a position");
+    assert!(rt; position.fits(level));
+    assert_eq!(rt; bound.lower(&position), pushes, "square {square}");
 }
 
 #[test]
-fn starts_are_doomed_or_not(rt: HostRuntime) -> Result<(), Fail> {
+fn starts_are_doomed_or_not(rt: HostRuntime) {
     let rows = [
         (PAIR_AT_WALL, true),
         (COLUMN_AT_WALL, true),
@@ -146,18 +156,18 @@ fn starts_are_doomed_or_not(rt: HostRuntime) -> Result<(), Fail> {
         (ALL_HOME, false),
     ];
     for (row, (board, want)) in rows.into_iter().enumerate() {
-        let level = level_of(&rt, rt.alloc(), board)?;
-        let dead = Dead::of(rt.alloc(), &level)?;
-        let mut scratch = Scratch::new(rt.alloc(), &level)?;
-        let position = Position::start(&level).ok_or("too many boxes")?;
-        assert!(rt; position.fits(&level));
-        assert_eq!(rt;
-            doomed(&level, &dead, &position, &mut scratch),
-            want,
-            "row {row}"
-        );
+        let level = level_of(&rt, rt.alloc(), board);
+        assert_eq!(&rt; is_doomed(&rt, rt.alloc(), &level), want, "row {row}");
     }
-    Ok(())
+}
+
+// Whether the start of a level is doomed.
+fn is_doomed(rt: &impl Abort, alloc: Global, level: &Level) -> bool {
+    let dead = Dead::of(alloc, level).expect(rt, "memory");
+    let mut scratch = Scratch::new(alloc, level).expect(rt, "memory");
+    let position = Position::start(level).expect(rt, "few boxes");
+    assert!(rt; position.fits(level));
+    doomed(level, &dead, &position, &mut scratch)
 }
 
 // What the freeze tests say of the start of a level where a push from square 17 leads: of the pushed box's group, and of
@@ -189,28 +199,25 @@ fn asked(
 }
 
 #[test]
-fn three_boxes_freeze_one_another(rt: HostRuntime) -> Result<(), Fail> {
-    let level = level_of(&rt, rt.alloc(), THREE_FROZEN)?;
-    assert_eq!(rt; told(&rt, rt.alloc(), &level, Dir::L), (true, true));
-    Ok(())
+fn three_boxes_freeze_one_another(rt: HostRuntime) {
+    let level = level_of(&rt, rt.alloc(), THREE_FROZEN);
+    assert_eq!(&rt; told(&rt, rt.alloc(), &level, Dir::L), (true, true));
 }
 
 #[test]
-fn three_boxes_are_free(rt: HostRuntime) -> Result<(), Fail> {
-    let level = level_of(&rt, rt.alloc(), THREE_FREE)?;
-    assert_eq!(rt; told(&rt, rt.alloc(), &level, Dir::R), (false, false));
-    Ok(())
+fn three_boxes_are_free(rt: HostRuntime) {
+    let level = level_of(&rt, rt.alloc(), THREE_FREE);
+    assert_eq!(&rt; told(&rt, rt.alloc(), &level, Dir::R), (false, false));
 }
 
 #[test]
-fn a_box_on_a_dead_square_elsewhere_is_not_looked_at(rt: HostRuntime) -> Result<(), Fail> {
-    let level = level_of(&rt, rt.alloc(), DEAD_ELSEWHERE)?;
-    assert_eq!(rt; told(&rt, rt.alloc(), &level, Dir::R), (false, true));
-    Ok(())
+fn a_box_on_a_dead_square_elsewhere_is_not_looked_at(rt: HostRuntime) {
+    let level = level_of(&rt, rt.alloc(), DEAD_ELSEWHERE);
+    assert_eq!(&rt; told(&rt, rt.alloc(), &level, Dir::R), (false, true));
 }
 
 #[test]
-fn pushed_boxes_are_loose_or_not(rt: HostRuntime) -> Result<(), Fail> {
+fn pushed_boxes_are_loose_or_not(rt: HostRuntime) {
     let rows = [
         (PUSH_RIGHT, 7, Dir::R, false),
         (TWO_ENDS, 9, Dir::L, false),
@@ -226,27 +233,28 @@ fn pushed_boxes_are_loose_or_not(rt: HostRuntime) -> Result<(), Fail> {
         (THERE_AND_BACK, 19, Dir::R, true),
     ];
     for (row, (board, square, dir, want)) in rows.into_iter().enumerate() {
-        let level = level_of(&rt, rt.alloc(), board)?;
-        let dead = Dead::of(rt.alloc(), &level)?;
-        let mut scratch = Scratch::new(rt.alloc(), &level)?;
-        let position = Position::start(&level).ok_or("too many boxes")?;
-        assert!(rt; position.fits(&level));
-        assert!(rt; usize::from(square) < level.squares());
-        area::flood(&level, &position, &mut scratch);
-        let push = Push {
-            square: Square(square),
-            dir,
-        };
-        assert_eq!(rt; is_loose(&level, &dead, &scratch, push), want, "row {row}");
+        let level = level_of(&rt, rt.alloc(), board);
+        let found = is_loose_after(&rt, rt.alloc(), &level, Square(square), dir);
+        assert_eq!(&rt; found, want, "row {row}");
     }
-    Ok(())
+}
+
+// Whether a push from the start of a level leaves its box loose.
+fn is_loose_after(rt: &impl Abort, alloc: Global, level: &Level, square: Square, dir: Dir) -> bool {
+    let dead = Dead::of(alloc, level).expect(rt, "memory");
+    let mut scratch = Scratch::new(alloc, level).expect(rt, "memory");
+    let position = Position::start(level).expect(rt, "few boxes");
+    assert!(rt; position.fits(level));
+    assert!(rt; usize::from(square.0) < level.squares());
+    area::flood(level, &position, &mut scratch);
+    is_loose(level, &dead, &scratch, Push { square, dir })
 }
 
 #[test]
-fn laws_can_be_called(rt: HostRuntime) -> Result<(), Fail> {
-    let level = level_of(&rt, rt.alloc(), PUSH_RIGHT)?;
+fn laws_can_be_called(rt: HostRuntime) {
+    let level = level_of(&rt, rt.alloc(), PUSH_RIGHT);
     doomed_are_lost(&level);
     solution_is_safe(&level);
     a_loose_box_dooms_nothing(&level);
-    Ok(())
+    a_push_lessens_the_bound_by_one(&level);
 }
