@@ -11,3 +11,4 @@ pub mod UnderWay
 pub mod Visiting
 pub mod Chains
 pub mod Passes
+pub mod PushLists

@@ -1,8 +1,8 @@
 -- Boxes that nothing holds are taken out word by word; what is left holds itself, and is the largest set that does.
-use Rattle.std.proofs.Common.{◌≡◌, ◌≢◌, ◌↔◌, ◌<◌, ◌≤◌, ◌+◌, ◌-◌, ◌*◌, ◌/◌, ◌%◌, ◌^◌, ◌⊎◌, ℕ, Bool, true, false, not, eqb, ◌||◌, List, IsTrue, length, get_or, set, refl, sym, ap, subst, ◌∙◌, inl, inr, arith}
+use Rattle.std.proofs.Common.{◌≡◌, ◌≢◌, ◌↔◌, ◌<◌, ◌≤◌, ◌+◌, ◌-◌, ◌*◌, ◌/◌, ◌%◌, ◌^◌, ℕ, Bool, true, false, not, eqb, ◌||◌, List, IsTrue, length, get_or, set, refl, sym, ap, subst, ◌∙◌, inl, inr, arith}
 use Rattle.std.specs.Int.{bit_not, trailing_zeros, w64}
 use Rattle.std.specs.Int.RustNames.{bit_and, bit_or}
-use Rattle.std.proofs.lemmas.Bool.{false≢true, true≢false, cases_eq, cases_lt, cases_Bool, or_cases, or_left, or_right, eqb-true, eqb-false, not-true, not_from_false}
+use Rattle.std.proofs.lemmas.Bool.{false≢true, true≢false, cases_eq, cases_lt, or_cases, or_left, or_right, eqb-true, eqb-false, not-true, not_from_false}
 use Rattle.std.proofs.lemmas.List.{get_or-set_same, get_or-set_other, set-get_or}
 use Rattle.std.proofs.lemmas.List.Sums.{sum_by-set}
 use Rattle.std.proofs.lemmas.Nat.{and_le_l}
@@ -12,7 +12,7 @@ use Rattle.area.specs.declared.locked.Holds.{Holds}
 use Rattle.area.specs.Words.{word_bit, squares_of}
 use Rattle.area.specs.inside.Locking.{AreHeld, AreLocked, AreWithin, IsHeldBy, IsHeldTwice, IsLargest, IsLook, IsPass, weight}
 use Rattle.area.proofs.lemmas.WordBits.{word_bit-not, word_bit-or, word_bit-zero, has_bit-at, has_bit-parts, has_bit_inside, square_parts}
-use Rattle.area.proofs.lemmas.WordSets.{bit_member, contains-squares_of, lowest_bit, member_bit}
+use Rattle.area.proofs.lemmas.WordSets.{bit_member, lowest_bit, member_bit}
 use Rattle.area.proofs.lemmas.Growing.{and_bit, bit_and_from}
 
 -- ---- what holds a square

@@ -5,3 +5,4 @@ pub mod Norms
 pub mod Pushing
 pub mod Growing
 pub mod Flooding
+pub mod PushOrder

@@ -2,7 +2,7 @@ pub mod After
 pub mod Area
 pub mod Groups
 pub mod LeastWalks
-pub mod Pushable
+pub mod Pushes
 pub mod Reach
 pub mod Words
 pub mod inside

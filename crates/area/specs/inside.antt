@@ -5,5 +5,7 @@ pub mod Spread
 pub mod Detours
 pub mod Flooding
 pub mod PushWords
+pub mod Pushable
+pub mod PushLists
 pub mod Written
 pub mod Locking

@@ -3,7 +3,7 @@ ghost use Rattle.grid.specs.declared.dir.Dir.{Dir};
 ghost use Rattle.grid.specs.Board.{Board, is_wall};
 ghost use Rattle.grid.specs.Masks.{AreMasks, word_count, word_for};
 ghost use Rattle.grid.specs.Squares.{contains};
-ghost use Rattle.area.specs.Pushable.{IsPushable, push_word};
+ghost use Rattle.area.specs.inside.Pushable.{IsPushable, push_word};
 ghost use Rattle.area.specs.inside.PushWords.{GoesOn, GoesBack, is_open, can_push};
 ghost use Rattle.area.specs.Words.{word_bit};
 
@@ -14,11 +14,11 @@ use grid::{Dir, Level, StepMasks, WORD_BITS};
 /// For [`WORD_BITS`] squares in a row, from a multiple of it on: for each direction a bit for each square whose box can
 /// be pushed in that direction. The lowest bit is the first square's.
 #[derive(Clone, Copy, PartialEq, Eq, Debug)]
-pub struct PushMasks {
-    pub d: u64,
-    pub l: u64,
-    pub r: u64,
-    pub u: u64,
+pub(crate) struct PushMasks {
+    pub(crate) d: u64,
+    pub(crate) l: u64,
+    pub(crate) r: u64,
+    pub(crate) u: u64,
 }
 
 // No box can be pushed.
@@ -31,7 +31,7 @@ const NONE: PushMasks = PushMasks {
 
 /// Which boxes of the last flood someone on the squares that it reached can push, of those on the squares of the word at
 /// a place.
-pub fn pushable(level: &Level, scratch: &Scratch, place: usize) -> PushMasks
+pub(crate) fn pushable(level: &Level, scratch: &Scratch, place: usize) -> PushMasks
     requires room { scratch.now.size ≡ length level.now.cells }
     requires inside { place < word_count (length level.now.cells) }
     requires boxes { (q : ℕ) → contains scratch.now.boxes q ≡ true → is_wall level.now q ≡ false }

@@ -5,7 +5,8 @@ use crate::laws::{
     an_area_has_one_normal_form, each_state_has_one_normal_form, walks_go_both_ways,
     what_boxes_decide_lasts,
 };
-use crate::{Scratch, flood, normal, normalise_after, pushable, walk};
+use crate::pushes::pushable;
+use crate::{Scratch, flood, normal, normalise_after, walk};
 use grid::{Cell, Dir, Level, Moves, Position, Push, Square, State, Step};
 use std::alloc::Global;
 use std::process::Abort;

@@ -1,23 +1,19 @@
-ghost use Rattle.std.specs.Prelude.{◌≡◌, ℕ, ◌+◌, ◌*◌, ◌<◌, ◌≤◌, ◌↔◌, IsTrue, true, false, [], length, slice_get, Some};
-ghost use Rattle.area.specs.Reach.{Reach};
-ghost use Rattle.area.specs.Words.{word_bit};
-ghost use Rattle.grid.specs.Board.{Board, Scene, dir_number, is_wall};
-ghost use Rattle.grid.specs.Masks.{word_count};
+ghost use Rattle.std.specs.Prelude.{◌≡◌, ◌<◌, ◌≤◌, IsTrue, false, [], length, slice_get, Some};
+ghost use Rattle.grid.specs.Board.{Scene};
 ghost use Rattle.grid.specs.States.{FitsLevel};
-ghost use Rattle.grid.specs.Squares.{contains};
 ghost use Rattle.doom.specs.Deadlocks.{Undoomed};
 ghost use Rattle.layers.specs.ParcelView.{AreSuccessors, FitLevel, IsAppended, IsParcel};
 ghost use Rattle.layers.specs.Origins.{IsSuccessor};
-ghost use Rattle.layers.specs.Expansion.{CanPush, ArePushes, AreAllowedBefore, Allows, TellsPushes, count_below};
+ghost use Rattle.area.specs.Pushes.{ArePushes, CanPush};
 ghost use Rattle.area.specs.After.{IsAreaOf};
 
 use crate::layer::Layer;
 use crate::limits::MAX_SUCCESSORS;
 use crate::parcel::{Parcel, Successor};
-use area::{PushMasks, Scratch};
+use area::Scratch;
 use arrayvec::ArrayVec;
 use doom::Dead;
-use grid::{Dir, Level, MAX_BOXES, Position, Push, Square, WORD_BITS};
+use grid::{Level, Position, Push};
 
 /// The undoomed successors of the position with a rank of the layer, in the order of their pushes. Takes no memory.
 pub fn expand<'a>(layer: &'a Layer, dead: &Dead, rank: u64, scratch: &mut Scratch) -> Parcel<'a>
@@ -81,7 +77,7 @@ fn successors_of(
     layer.tell();
     let level = layer.level();
     let position = layer.place(rank);
-    let pushes = possible_pushes(level, &position, scratch);
+    let pushes = area::possible_pushes(level, &position, scratch);
     successors_by(
         level,
         dead,
@@ -90,102 +86,6 @@ fn successors_of(
         scratch,
         successors,
     );
-}
-
-// The pushes that the player can make after walks that push nothing, in their order.
-fn possible_pushes(
-    level: &Level,
-    position: &Position,
-    scratch: &mut Scratch,
-) -> ArrayVec<Push, MAX_SUCCESSORS>
-    requires fits { FitsLevel level.now position.now }
-    requires room { scratch.old.size ≡ length level.now.cells }
-    ensures pushes { ArePushes level.now position.now result.items }
-    ensures flooded { IsAreaOf level.now position.now scratch.new.reached }
-    ensures boxes { scratch.new.boxes ≡ position.now.boxes }
-    ensures size { scratch.new.size ≡ scratch.old.size }
-{
-    area::flood(level, position, scratch);
-    tell_few(position);
-    let words = level.step_masks().len();
-    let mut pushes = ArrayVec::new();
-    for place in 0..words {
-        push_word(level, scratch, place, &mut pushes);
-    }
-    pushes
-}
-
-// Tells that a position has no more boxes than there may be.
-fn tell_few(position: &Position)
-    ensures { length position.now.boxes ≤ MAX_BOXES }
-{
-    let _ = position.boxes();
-}
-
-// Appends the pushes of the boxes on the squares of one word, of those that the last flood allows, in their order.
-fn push_word(
-    level: &Level,
-    scratch: &Scratch,
-    place: usize,
-    pushes: &mut ArrayVec<Push, MAX_SUCCESSORS>,
-)
-    requires room { scratch.now.size ≡ length level.now.cells }
-    requires inside { place < word_count (length level.now.cells) }
-    requires boxes { (q : ℕ) → contains scratch.now.boxes q ≡ true → is_wall level.now q ≡ false }
-    requires reached { (q : ℕ) → contains scratch.now.reached q ≡ true → q < length level.now.cells }
-    requires few { length scratch.now.boxes ≤ MAX_BOXES }
-    requires before { AreAllowedBefore level.now scratch.now (WORD_BITS * place) 0 pushes.old.items }
-    requires bound { length pushes.old.items ≤ 4 * count_below scratch.now.boxes (WORD_BITS * place) }
-    ensures before { AreAllowedBefore level.now scratch.now (WORD_BITS * (place + 1)) 0 pushes.new.items }
-    ensures bound { length pushes.new.items ≤ 4 * count_below scratch.now.boxes (WORD_BITS * (place + 1)) }
-{
-    level.tell();
-    let masks = area::pushable(level, scratch, place);
-    let mut left = masks.d | masks.l | masks.r | masks.u;
-    while left != 0 {
-        let bit = left.trailing_zeros() as usize;
-        let square = Square((WORD_BITS * place + bit) as u16);
-        push_box(&masks, bit, square, pushes);
-        left &= !(1 << bit);
-    }
-}
-
-// Appends the pushes of the box on a square that the masks have at a bit, in their order.
-#[inline(always)]
-fn push_box(
-    masks: &PushMasks,
-    bit: usize,
-    square: Square,
-    pushes: &mut ArrayVec<Push, MAX_SUCCESSORS>,
-)
-    requires inside { bit < WORD_BITS }
-    requires room { length pushes.old.items + 4 ≤ MAX_SUCCESSORS }
-    ensures pushes { (board : Board) (reach : Reach) → TellsPushes board reach masks.now bit square → AreAllowedBefore board reach square 0 pushes.old.items → AreAllowedBefore board reach (square + 1) 0 pushes.new.items }
-    ensures bound { length pushes.new.items ≤ length pushes.old.items + 4 }
-{
-    push_if(masks.d, bit, square, Dir::D, pushes);
-    push_if(masks.l, bit, square, Dir::L, pushes);
-    push_if(masks.r, bit, square, Dir::R, pushes);
-    push_if(masks.u, bit, square, Dir::U, pushes);
-}
-
-// Appends the push of the box on a square in a direction, if the word has the bit.
-#[inline(always)]
-fn push_if(
-    word: u64,
-    bit: usize,
-    square: Square,
-    dir: Dir,
-    pushes: &mut ArrayVec<Push, MAX_SUCCESSORS>,
-)
-    requires inside { bit < WORD_BITS }
-    requires room { length pushes.old.items < MAX_SUCCESSORS }
-    ensures pushes { (board : Board) (reach : Reach) → ((word_bit word bit ≡ true) ↔ Allows board reach (record { square = square; dir = dir })) → AreAllowedBefore board reach square (dir_number dir) pushes.old.items → AreAllowedBefore board reach square (dir_number dir + 1) pushes.new.items }
-    ensures bound { length pushes.new.items ≤ length pushes.old.items + 1 }
-{
-    if ((word >> bit) & 1) == 1 {
-        pushes.push(Push { square, dir });
-    }
 }
 
 // Fills an empty list with what the pushes lead to, but for doomed positions, where the last flood was that of the

@@ -13,7 +13,7 @@ use Rattle.grid.specs.Masks.{AreMasks, has_bit, can_enter, word_for, words_for}
 use Rattle.grid.specs.Squares.{Squares, contains}
 use Rattle.grid.proofs.lemmas.Steps.{inside_grid, next_back}
 use Rattle.area.specs.Area.{Area}
-use Rattle.area.specs.Pushable.{IsPushable}
+use Rattle.area.specs.inside.Pushable.{IsPushable}
 use Rattle.area.specs.inside.PushWords.{GoesOn, GoesBack, is_open, can_push}
 use Rattle.area.specs.Words.{word_bit}
 use Rattle.area.specs.inside.Flooding.{comes_by}

@@ -1,5 +1,5 @@
 -- What contracts see of the fields of a scratch, and what the fields keep.
-use Rattle.std.specs.Prelude.{◌≡◌, ◌+◌, ◌≤◌, length}
+use Rattle.std.specs.Prelude.{◌≡◌, ◌≤◌, length}
 use Rattle.grid.specs.declared.limits.TheConstants.{MAX_SQUARES}
 use Rattle.grid.specs.Masks.{word_count}
 use Rattle.area.specs.declared.scratch.Scratch.TheInside.{Inside}

@@ -17,7 +17,8 @@ use Rattle.area.proofs.lemmas.Norms.{norm_unique, norm_along_walk}
 use Rattle.doom.specs.Deadlocks.{Doomed, Undoomed}
 use Rattle.layers.specs.Reaching.{Reaches, IsLayerOf}
 use Rattle.layers.specs.Origins.{IsSuccessor}
-use Rattle.layers.specs.Expansion.{CanPush, after_push}
+use Rattle.layers.specs.Expansion.{after_push}
+use Rattle.area.specs.Pushes.{CanPush}
 
 module _ (board : Board) (n : Scene) (scene : IsScene board n) (p : Push) where
   -- the state from which the push is made

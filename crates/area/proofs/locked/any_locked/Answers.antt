@@ -1,4 +1,4 @@
-use Rattle.std.proofs.Common.{length, sym, ap, ◌∙◌}
+use Rattle.std.proofs.Common.{length, ap, ◌∙◌}
 use Rattle.grid.specs.Masks.{word_count}
 use Rattle.area.proofs.Passes.{locked_of_words}
 use Rattle.area.proofs.lemmas.Flooding.{words_enough}

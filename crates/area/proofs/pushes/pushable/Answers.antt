@@ -5,7 +5,7 @@ use Rattle.area.specs.declared.pushes.PushMasks.{PushMasks}
 use Rattle.grid.specs.Masks.{has_bit}
 use Rattle.grid.specs.Squares.{contains}
 use Rattle.area.specs.Reach.{Reach}
-use Rattle.area.specs.Pushable.{IsPushable, push_word}
+use Rattle.area.specs.inside.Pushable.{IsPushable, push_word}
 use Rattle.area.specs.inside.PushWords.{can_push}
 use Rattle.area.specs.Words.{word_bit}
 use Rattle.area.proofs.lemmas.Pushing.{on_down, on_right, back_left, back_up, pushable_bit, none_pushable, each_way}

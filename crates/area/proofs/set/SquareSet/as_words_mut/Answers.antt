@@ -1,4 +1,4 @@
-use Rattle.std.proofs.Common.{◌≡◌, ℕ, ◌++◌, List, length, take, drop, refl, ap, ◌∙◌, rules}
+use Rattle.std.proofs.Common.{ℕ, ◌++◌, List, length, take, drop, refl, ap, ◌∙◌, rules}
 use Rattle.area.specs.inside.Written.{written_over}
 use Rattle.area.proofs.set.SquareSet.as_words_mut.Goals as goal
 

@@ -5,8 +5,8 @@ use Rattle.grid.specs.Masks.{word_count}
 use Rattle.grid.proofs.lemmas.Levels.{level_squares}
 use Rattle.area.proofs.lemmas.Flooding.{words_few}
 use Rattle.area.proofs.lemmas.WordSets.{lowest_bit, cleared_bit}
-use Rattle.layers.proofs.Gathering.{cleared_less, word_here, word_room, word_more, word_last}
-use Rattle.layers.proofs.expansion.push_word.Goals as goal
+use Rattle.area.proofs.PushLists.{cleared_less, word_here, word_room, word_more, word_last}
+use Rattle.area.proofs.possible.push_word.Goals as goal
 
 pub overflow_mul-square : goal.overflow_mul-square
 overflow_mul-square c =

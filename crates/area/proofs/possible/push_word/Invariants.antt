@@ -1,5 +1,5 @@
-use Rattle.layers.proofs.Gathering.{IsInWord}
-use Rattle.layers.proofs.expansion.push_word.Given as goal
+use Rattle.area.proofs.PushLists.{IsInWord}
+use Rattle.area.proofs.possible.push_word.Given as goal
 
 abbrev pub invariant-loop-left : goal.invariant-loop-left
 invariant-loop-left l = IsInWord l.level l.scratch l.masks l.place l.left l.pushes.items

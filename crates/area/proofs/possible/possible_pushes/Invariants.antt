@@ -1,6 +1,6 @@
 use Rattle.std.proofs.Common.{◌*◌, ◌≤◌, length}
-use Rattle.layers.specs.Expansion.{AreAllowedBefore, count_below}
-use Rattle.layers.proofs.expansion.possible_pushes.Given as goal
+use Rattle.area.specs.inside.PushLists.{AreAllowedBefore, count_below}
+use Rattle.area.proofs.possible.possible_pushes.Given as goal
 
 abbrev pub invariant-loop-place : goal.invariant-loop-place
 invariant-loop-place l =

@@ -4,9 +4,9 @@ use Rattle.std.proofs.lemmas.Bool.{eq-eqb, ne_eqb, true≢false}
 use Rattle.grid.specs.declared.square.Push.{Push}
 use Rattle.grid.specs.Board.{dir_number}
 use Rattle.area.proofs.lemmas.WordBits.{word_bit_tested}
-use Rattle.layers.specs.Expansion.{AreAllowedBefore}
-use Rattle.layers.proofs.Gathering.{before_more, before_same}
-use Rattle.layers.proofs.expansion.push_if.Goals as goal
+use Rattle.area.specs.inside.PushLists.{AreAllowedBefore}
+use Rattle.area.proofs.PushLists.{before_more, before_same}
+use Rattle.area.proofs.possible.push_if.Goals as goal
 
 pub returns-then-word-bit-eq1-clause-pushes : goal.returns-then-word-bit-eq1-clause-pushes
 returns-then-word-bit-eq1-clause-pushes c = λ board reach tells before.

@@ -1,6 +1,6 @@
 use Rattle.grid.specs.declared.dir.Dir.TheVariants.{D, L, R, U}
-use Rattle.layers.proofs.Gathering.{past_last}
-use Rattle.layers.proofs.expansion.push_box.Goals as goal
+use Rattle.area.proofs.PushLists.{past_last}
+use Rattle.area.proofs.possible.push_box.Goals as goal
 
 pub returns-clause-pushes : goal.returns-clause-pushes
 returns-clause-pushes c = λ board reach tells before.

@@ -1,7 +1,7 @@
 use Rattle.std.proofs.Common.{◌*◌, length, arith}
 use Rattle.area.proofs.lemmas.Pushing.{reached_inside}
-use Rattle.layers.proofs.Gathering.{all_allowed, words_cover}
-use Rattle.layers.proofs.expansion.possible_pushes.Goals as goal
+use Rattle.area.proofs.PushLists.{all_allowed, words_cover}
+use Rattle.area.proofs.possible.possible_pushes.Goals as goal
 
 pub push_word-requires-clause-reached : goal.push_word-requires-clause-reached
 push_word-requires-clause-reached c = reached_inside c.args.level.now c.args.position.now c.flood.new.scratch.reached c.requires.fits.scene c.flood.ensures.reached
