@@ -5,11 +5,12 @@ use crate::laws::{
     an_area_has_one_normal_form, each_state_has_one_normal_form, walks_go_both_ways,
     what_boxes_decide_lasts,
 };
-use crate::pushes::pushable;
 use crate::{Scratch, flood, normal, normalise_after, walk};
 use grid::{Cell, Dir, Level, Moves, Position, Push, Square, State, Step};
 use std::alloc::Global;
 use std::process::Abort;
+
+mod pushes;
 
 const HALL: (usize, &[u8]) = (6, b"#######.$  ##    ##   @#######");
 
@@ -23,15 +24,6 @@ const ROOMS: (usize, &[u8]) = (
     10,
     b"  ####     ##  ####  # $    #  # .## @#  ########   #  #      ####    ",
 );
-
-// A field that begins anew on a second word of squares, with two boxes.
-const FIELD: (usize, &[u8]) = (
-    10,
-    b"###########@$.     ##  $.    ##        ##        ##        ##        ##        ###########",
-);
-
-// The boxes of its word that go along the rows.
-const ENDS: u64 = 1 << 12 | 1 << 63;
 
 fn cell_of(byte: u8) -> Cell {
     match byte {
@@ -282,64 +274,6 @@ fn pushed_from(
     let mut scratch = Scratch::new(alloc, level).expect(rt, "memory");
     assert!(rt; position.fits(level));
     pushed(level, position, Push { square, dir }, &mut scratch).expect(rt, "a push")
-}
-
-// Whether just these boxes of a word can be pushed down, left, right and up.
-fn are_pushable(
-    level: &Level,
-    position: &Position,
-    place: usize,
-    scratch: &mut Scratch,
-    expected: [u64; 4],
-) -> bool
-    requires fits { FitsLevel level.now position.now }
-    requires room { scratch.old.size ≡ length level.now.cells }
-{
-    flood(level, position, scratch);
-    if place >= level.step_masks().len() {
-        return false;
-    }
-    let masks = pushable(level, scratch, place);
-    [masks.d, masks.l, masks.r, masks.u] == expected
-}
-
-#[test]
-fn boxes_are_pushed_from_reached_squares_onto_free_ones(rt: HostRuntime) {
-    let rows: [((usize, &[u8]), [u16; 2], u16, usize, [u64; 4]); 8] = [
-        (PAIR, [13, 20], 7, 0, [1 << 13, 1 << 20, 0, 0]),
-        (PAIR, [8, 9], 7, 0, [0, 0, 0, 0]),
-        (PAIR, [9, 15], 7, 0, [0, 1 << 9, 1 << 9, 0]),
-        (FIELD, [12, 63], 11, 0, [1 << 63, ENDS, ENDS, 1 << 63]),
-        (FIELD, [12, 63], 11, 1, [0, 0, 0, 0]),
-        (FIELD, [63, 64], 11, 0, [1 << 63, 0, 0, 1 << 63]),
-        (FIELD, [63, 64], 11, 1, [1, 0, 0, 1]),
-        (FIELD, [12, 64], 11, 1, [1, 1, 1, 1]),
-    ];
-    for (board, boxes, player, place, expected) in rows {
-        let level = level_of(&rt, rt.alloc(), board);
-        let [first, second] = boxes;
-        let position = Position::of(&[Square(first), Square(second)], Square(player)).expect(
-            &rt,
-            "a position",
-        );
-        check_pushable(&rt, rt.alloc(), &level, &position, place, expected);
-    }
-}
-
-fn check_pushable(
-    rt: &impl Abort,
-    alloc: Global,
-    level: &Level,
-    position: &Position,
-    place: usize,
-    expected: [u64; 4],
-) {
-    let mut scratch = Scratch::new(alloc, level).expect(rt, "memory");
-    assert!(rt; position.fits(level));
-    assert!(rt;
-        are_pushable(level, position, place, &mut scratch, expected),
-        "word {place}"
-    );
 }
 
 #[test]

@@ -1,30 +1,18 @@
 -- How the list of the successors by the first pushes grows, and the parcel of a rank.
-use Rattle.std.proofs.Common.{◌≡◌, ℕ, zero, suc, ◌+◌, ◌-◌, ◌*◌, ◌%◌, ◌^◌, ◌<◌, ◌≤◌, ◌↔◌, Bool, true, false, not, eqb, ltb, cond, ◌&&◌, ◌||◌, List, [], ◌∷◌, ◌++◌, length, Some, ◌⊎◌, inl, inr, refl, sym, ap, subst, ◌∙◌, arith}
-use Rattle.std.specs.Int.{bit_not, w64}
-use Rattle.std.specs.Int.RustNames.{bit_and, bit_or}
-use Rattle.std.proofs.lemmas.Nat.{and_le_l}
-use Rattle.std.proofs.lemmas.Bool.{cases_lt, cases_eq, and_parts, and_from, eq-eqb, ne_eqb, lt-ltb, le-ltb, true≢false}
-use Rattle.std.proofs.lemmas.Option.{same_Some, none-some, slice_get_within}
+use Rattle.std.proofs.Common.{◌≡◌, ℕ, ◌+◌, ◌<◌, ◌≤◌, List, [], ◌∷◌, ◌++◌, length, Some, ◌⊎◌, inl, inr, sym, ap, subst, ◌∙◌, arith}
+use Rattle.std.proofs.lemmas.Bool.{cases_lt}
+use Rattle.std.proofs.lemmas.Option.{same_Some, slice_get_within}
 use Rattle.std.specs.Prelude.{slice_get}
-use Rattle.std.specs.declared.cmp.Ordering.{Ordering}
 use Rattle.std.specs.declared.cmp.Ordering.TheVariants.{Less}
-use Rattle.std.specs.Ordering.{ordering_then}
-use Rattle.grid.specs.declared.dir.Dir.{Dir}
-use Rattle.grid.specs.declared.dir.Dir.TheVariants.{D, L, R, U}
 use Rattle.grid.specs.declared.square.Push.{Push}
-use Rattle.grid.specs.Masks.{word_count}
-use Rattle.grid.specs.Squares.{Squares, contains}
-use Rattle.grid.specs.Board.{Board, Scene, IsFree, next, opposite, dir_number, dir_cmp, push_cmp}
+use Rattle.grid.specs.Board.{Board, Scene, push_cmp}
 use Rattle.grid.specs.States.{IsScene, FitsLevel}
 use Rattle.grid.specs.Lawful.{IsLevel}
-use Rattle.grid.proofs.lemmas.Orders.{nat_cmp-less, nat_cmp-same}
-use Rattle.grid.proofs.lemmas.Steps.{inside_grid}
 use Rattle.layers.specs.declared.parcel.Successor.{Successor}
 use Rattle.layers.specs.LayerView.{LayerView, IsWhole}
 use Rattle.layers.specs.ParcelView.{AreSuccessors, FitLevel, IsParcel}
 use Rattle.layers.specs.Reaching.{IsLayerOf}
 use Rattle.layers.specs.Origins.{IsSuccessor}
-use Rattle.area.specs.After.{IsAreaOf}
 use Rattle.layers.proofs.lemmas.Successors.{successor_unique}
 use Rattle.area.specs.Pushes.{CanPush, AreAll, ArePushes}
 use Rattle.area.proofs.lemmas.PushOrder.{pushed_at, all_none, all_same, all_push}

@@ -1,0 +1,98 @@
+ghost use Rattle.std.specs.Prelude.{◌≡◌, length};
+ghost use Rattle.grid.specs.States.{FitsLevel};
+
+use super::{PAIR, level_of};
+use crate::{Scratch, possible_pushes};
+use grid::{Dir, Level, Position, Square};
+use std::alloc::Global;
+use std::process::Abort;
+
+// A field that begins anew on a second word of squares, with two boxes.
+const FIELD: (usize, &[u8]) = (
+    10,
+    b"###########@$.     ##  $.    ##        ##        ##        ##        ##        ###########",
+);
+
+// Whether the position allows just these pushes, in this order.
+fn allows(
+    level: &Level,
+    position: &Position,
+    scratch: &mut Scratch,
+    expected: &[(u16, Dir)],
+) -> bool
+    requires fits { FitsLevel level.now position.now }
+    requires room { scratch.old.size ≡ length level.now.cells }
+{
+    let pushes = possible_pushes(level, position, scratch);
+    if pushes.len() != expected.len() {
+        return false;
+    }
+    for (push, (square, dir)) in pushes.iter().zip(expected) {
+        if push.square != Square(*square) || push.dir != *dir {
+            return false;
+        }
+    }
+    true
+}
+
+#[test]
+fn boxes_are_pushed_from_reached_squares_onto_free_ones(rt: HostRuntime) {
+    let rows: [((usize, &[u8]), [u16; 2], u16, &[(u16, Dir)]); 6] = [
+        (PAIR, [13, 20], 7, &[(13, Dir::D), (20, Dir::L)]),
+        (PAIR, [8, 9], 7, &[]),
+        (PAIR, [9, 15], 7, &[(9, Dir::L), (9, Dir::R)]),
+        (
+            FIELD,
+            [12, 63],
+            11,
+            &[
+                (12, Dir::L),
+                (12, Dir::R),
+                (63, Dir::D),
+                (63, Dir::L),
+                (63, Dir::R),
+                (63, Dir::U),
+            ],
+        ),
+        (
+            FIELD,
+            [63, 64],
+            11,
+            &[(63, Dir::D), (63, Dir::U), (64, Dir::D), (64, Dir::U)],
+        ),
+        (
+            FIELD,
+            [12, 64],
+            11,
+            &[
+                (12, Dir::L),
+                (12, Dir::R),
+                (64, Dir::D),
+                (64, Dir::L),
+                (64, Dir::R),
+                (64, Dir::U),
+            ],
+        ),
+    ];
+    for (board, boxes, player, expected) in rows {
+        let level = level_of(&rt, rt.alloc(), board);
+        let [first, second] = boxes;
+        let position = Position::of(&[Square(first), Square(second)], Square(player)).expect(
+            &rt,
+            "a position",
+        );
+        check_pushes(&rt, rt.alloc(), &level, &position, expected);
+    }
+}
+
+fn check_pushes(
+    rt: &impl Abort,
+    alloc: Global,
+    level: &Level,
+    position: &Position,
+    expected: &[(u16, Dir)],
+) {
+    let mut scratch = Scratch::new(alloc, level).expect(rt, "memory");
+    assert!(rt; position.fits(level));
+    assert!(rt; allows(level, position, &mut scratch, expected));
+}
