@@ -18,16 +18,18 @@ use grid::{Dir, Level, MAX_BOXES, Position, Push, Square, WORD_BITS};
 /// The greatest number of pushes that a position allows: one of each box in each direction.
 pub const MAX_PUSHES: usize = 4 * MAX_BOXES;
 
-/// The pushes that the player can make after walks that push nothing, in their order: of the boxes by rising squares, and
-/// of each box down, left, right, up. Takes no memory. The scratch is left with the flood of the position.
+/// Makes a list that of the pushes that the player can make after walks that push nothing, in their order: of the boxes by
+/// rising squares, and of each box down, left, right, up. What the list held is not cleared one by one, so what is done
+/// goes by the pushes that there are. Takes no memory. The scratch is left with the flood of the position.
 pub fn possible_pushes(
     level: &Level,
     position: &Position,
     scratch: &mut Scratch,
-) -> ArrayVec<Push, MAX_PUSHES>
+    pushes: &mut ArrayVec<Push, MAX_PUSHES>,
+)
     requires fits { FitsLevel level.now position.now }
     requires room { scratch.old.size ≡ length level.now.cells }
-    ensures pushes { ArePushes level.now position.now result.items }
+    ensures pushes { ArePushes level.now position.now pushes.new.items }
     ensures flooded { IsAreaOf level.now position.now scratch.new.reached }
     ensures boxes { scratch.new.boxes ≡ position.now.boxes }
     ensures size { scratch.new.size ≡ scratch.old.size }
@@ -35,11 +37,10 @@ pub fn possible_pushes(
     flood(level, position, scratch);
     tell_few(position);
     let words = level.step_masks().len();
-    let mut pushes = ArrayVec::new();
+    pushes.clear();
     for place in 0..words {
-        push_word(level, scratch, place, &mut pushes);
+        push_word(level, scratch, place, pushes);
     }
-    pushes
 }
 
 // Tells that a position has no more boxes than there may be.

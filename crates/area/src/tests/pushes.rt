@@ -3,6 +3,7 @@ ghost use Rattle.grid.specs.States.{FitsLevel};
 
 use super::{PAIR, level_of};
 use crate::{Scratch, possible_pushes};
+use arrayvec::ArrayVec;
 use grid::{Dir, Level, Position, Square};
 use std::alloc::Global;
 use std::process::Abort;
@@ -23,7 +24,8 @@ fn allows(
     requires fits { FitsLevel level.now position.now }
     requires room { scratch.old.size ≡ length level.now.cells }
 {
-    let pushes = possible_pushes(level, position, scratch);
+    let mut pushes = ArrayVec::new();
+    possible_pushes(level, position, scratch, &mut pushes);
     if pushes.len() != expected.len() {
         return false;
     }
