@@ -19,8 +19,8 @@ use grid::{Dir, Level, MAX_BOXES, Position, Push, Square, WORD_BITS};
 pub const MAX_PUSHES: usize = 4 * MAX_BOXES;
 
 /// Makes a list that of the pushes that the player can make after walks that push nothing, in their order: of the boxes by
-/// rising squares, and of each box down, left, right, up. What the list held is not cleared one by one, so what is done
-/// goes by the pushes that there are. Takes no memory. The scratch is left with the flood of the position.
+/// rising squares, and of each box down, left, right, up. The list is there already, so that nothing large is made for
+/// each position. Takes no memory. The scratch is left with the flood of the position.
 pub fn possible_pushes(
     level: &Level,
     position: &Position,

@@ -21,12 +21,15 @@ const WIDE: usize = 27;
 
 const BROAD: usize = 35;
 
+const BROAD: usize = 35;
+
 // What is found, with keys of one of the widths.
 #[derive(Debug, Drop)]
 pub(crate) enum Tables {
     Narrow(Table<NARROW>),
     Middle(Table<MIDDLE>),
     Wide(Table<WIDE>),
+    Broad(Table<BROAD>),
     Broad(Table<BROAD>),
     Widest(Table<MAX_BOXES>),
 }
@@ -67,6 +70,8 @@ impl Found {
             Tables::Wide(Table::of(alloc, boxes, first)?)
         } else if boxes <= BROAD {
             Tables::Broad(Table::of(alloc, boxes, first)?)
+        } else if boxes <= BROAD {
+            Tables::Broad(Table::of(alloc, boxes, first)?)
         } else {
             Tables::Widest(Table::of(alloc, boxes, first)?)
         };
@@ -82,6 +87,7 @@ impl Found {
             Tables::Middle(table) => table.closed_len(),
             Tables::Wide(table) => table.closed_len(),
             Tables::Broad(table) => table.closed_len(),
+            Tables::Broad(table) => table.closed_len(),
             Tables::Widest(table) => table.closed_len(),
         }
     }
@@ -94,6 +100,7 @@ impl Found {
             Tables::Narrow(table) => table.open_len(),
             Tables::Middle(table) => table.open_len(),
             Tables::Wide(table) => table.open_len(),
+            Tables::Broad(table) => table.open_len(),
             Tables::Broad(table) => table.open_len(),
             Tables::Widest(table) => table.open_len(),
         }
@@ -108,6 +115,7 @@ impl Found {
             Tables::Middle(table) => table.closed_at(place),
             Tables::Wide(table) => table.closed_at(place),
             Tables::Broad(table) => table.closed_at(place),
+            Tables::Broad(table) => table.closed_at(place),
             Tables::Widest(table) => table.closed_at(place),
         }
     }
@@ -120,6 +128,7 @@ impl Found {
             Tables::Narrow(table) => table.origin_at(place),
             Tables::Middle(table) => table.origin_at(place),
             Tables::Wide(table) => table.origin_at(place),
+            Tables::Broad(table) => table.origin_at(place),
             Tables::Broad(table) => table.origin_at(place),
             Tables::Widest(table) => table.origin_at(place),
         }
@@ -141,6 +150,7 @@ impl Found {
             Tables::Middle(table) => table.copy_at(place, squares, origins),
             Tables::Wide(table) => table.copy_at(place, squares, origins),
             Tables::Broad(table) => table.copy_at(place, squares, origins),
+            Tables::Broad(table) => table.copy_at(place, squares, origins),
             Tables::Widest(table) => table.copy_at(place, squares, origins),
         }
     }
@@ -161,6 +171,7 @@ impl Found {
             Tables::Middle(table) => table.closed_from(alloc, from),
             Tables::Wide(table) => table.closed_from(alloc, from),
             Tables::Broad(table) => table.closed_from(alloc, from),
+            Tables::Broad(table) => table.closed_from(alloc, from),
             Tables::Widest(table) => table.closed_from(alloc, from),
         }
     }
@@ -176,6 +187,7 @@ impl Found {
             Tables::Narrow(table) => table.count_new(share, shares, successors),
             Tables::Middle(table) => table.count_new(share, shares, successors),
             Tables::Wide(table) => table.count_new(share, shares, successors),
+            Tables::Broad(table) => table.count_new(share, shares, successors),
             Tables::Broad(table) => table.count_new(share, shares, successors),
             Tables::Widest(table) => table.count_new(share, shares, successors),
         }
@@ -200,6 +212,7 @@ impl Found {
             Tables::Middle(table) => table.enter_all(share, shares, rank, successors),
             Tables::Wide(table) => table.enter_all(share, shares, rank, successors),
             Tables::Broad(table) => table.enter_all(share, shares, rank, successors),
+            Tables::Broad(table) => table.enter_all(share, shares, rank, successors),
             Tables::Widest(table) => table.enter_all(share, shares, rank, successors),
         }
     }
@@ -215,6 +228,7 @@ impl Found {
             Tables::Narrow(table) => table.close(),
             Tables::Middle(table) => table.close(),
             Tables::Wide(table) => table.close(),
+            Tables::Broad(table) => table.close(),
             Tables::Broad(table) => table.close(),
             Tables::Widest(table) => table.close(),
         }
