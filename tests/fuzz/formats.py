@@ -234,33 +234,3 @@ def replay(data, number, solution):
     letters, fault = letters_of(solution)
     status, words = (1, fault) if fault else verdict(board, letters)
     return status, line(words)
-
-
-def fewest_pushes(board, most):
-    """The fewest pushes that solve a level, or None where nothing does; by the rules alone, over all states. It gives up with
-    an answer of -1 beyond so many states."""
-    layer, seen, pushes = {(board.player, frozenset(board.boxes))}, set(), 0
-    while layer:
-        after, waiting = set(), list(layer)
-        while waiting:
-            state = waiting.pop()
-            if state in seen:
-                continue
-            seen.add(state)
-            player, boxes = state
-            if boxes <= board.goals:
-                return pushes
-            if len(seen) > most:
-                return -1
-            for step in DIRS.values():
-                ahead = moved(player, step)
-                if board.is_wall(ahead):
-                    continue
-                if ahead not in boxes:
-                    waiting.append((ahead, boxes))
-                    continue
-                beyond = moved(ahead, step)
-                if not board.is_wall(beyond) and beyond not in boxes:
-                    after.add((ahead, boxes - {ahead} | {beyond}))
-        layer, pushes = after - seen, pushes + 1
-    return None

@@ -27,22 +27,20 @@ pub(crate) fn level_of(rt: &impl Abort, alloc: Global, text: &[u8]) -> Arc<Level
     Arc::new(alloc, entry.board.expect(rt, "a level")).expect(rt, "memory")
 }
 
-/// A book of the level with three workers, which holds all positions.
-pub(crate) fn book_of(rt: &impl Abort, alloc: Global, level: &Arc<Level>, limit: u32) -> Book {
+/// A book of a level with three workers, which holds all positions.
+pub(crate) fn book_of(rt: &impl Abort, alloc: Global, text: &[u8], limit: u32) -> Book {
     assert!(rt; limit >= 1);
-    let level = Arc::try_clone(level).expect(rt, "memory");
-    Book::of(alloc, level, limit, 3, 0, 1).expect(rt, "a book")
+    Book::of(alloc, level_of(rt, alloc, text), limit, 3, 0, 1).expect(rt, "a book")
 }
 
-/// The last closed layer of a book.
+/// The last closed layer of a book of all positions.
 pub(crate) fn joined(rt: &impl Abort, alloc: Global, book: &Book) -> Layer {
     Layer::join(alloc, slice::from_ref(book)).expect(rt, "a layer")
 }
 
 /// Layer 0 of a level.
 pub(crate) fn start_of(rt: &impl Abort, alloc: Global, text: &[u8]) -> Layer {
-    let level = level_of(rt, alloc, text);
-    joined(rt, alloc, &book_of(rt, alloc, &level, AMPLE))
+    joined(rt, alloc, &book_of(rt, alloc, text, AMPLE))
 }
 
 /// The parcel of a rank of a layer.
@@ -52,9 +50,9 @@ pub(crate) fn parcel_of<'a>(
     layer: &'a Layer,
     rank: u64,
 ) -> Parcel<'a> {
+    assert!(rt; rank < layer.len());
     let dead = Dead::of(alloc, layer.level()).expect(rt, "memory");
     let mut scratch = Scratch::new(alloc, layer.level()).expect(rt, "memory");
-    assert!(rt; rank < layer.len());
     expand(layer, &dead, rank, &mut scratch)
 }
 
@@ -77,58 +75,63 @@ pub(crate) fn tally(rt: &impl Abort, book: &Book, worker: u8) -> u64 {
     book.tally(worker)
 }
 
-/// The ranks of a layer in order.
-pub(crate) fn ranks_of(rt: &impl Abort, alloc: Global, layer: &Layer) -> Vec<u64> {
-    let mut ranks = Vec::new(alloc);
-    for rank in 0..layer.len() {
-        ranks.push(rank).expect(rt, "memory");
-    }
-    ranks
-}
-
-/// The layer after the one that a book has closed last, once the parcels have come in this order of ranks.
-pub(crate) fn next_layer(
+/// How many positions a book closes once each rank of its last layer was handed back to it, from the last one if turned.
+pub(crate) fn work_through(
     rt: &impl Abort,
     alloc: Global,
     book: &mut Book,
     layer: &Layer,
-    ranks: &[u64],
-) -> Layer {
+    turned: bool,
+) -> u64 {
     book.begin(layer).expect(rt, "a begin");
-    for rank in ranks {
-        hand_back(rt, alloc, book, 0, layer, *rank).expect(rt, "an accepted parcel");
+    let len = layer.len();
+    for place in 0..len {
+        let rank = if turned { len - 1 - place } else { place };
+        hand_back(rt, alloc, book, 0, layer, rank).expect(rt, "an accepted parcel");
     }
-    book.close().expect(rt, "a close");
-    joined(rt, alloc, book)
+    book.close().expect(rt, "a close").count
 }
 
-/// Whether a layer holds exactly these positions, in their order.
-pub(crate) fn is_layer(layer: &Layer, places: &[Place]) -> bool {
-    layer.len() == places.len() as u64
-        && places
-            .iter()
-            .enumerate()
-            .all(|(rank, place)| has_place(layer, rank as u64, place))
+/// Closes the next layer of a book of all positions.
+pub(crate) fn turn(rt: &impl Abort, alloc: Global, book: &mut Book) {
+    let layer = joined(rt, alloc, book);
+    work_through(rt, alloc, book, &layer, false);
 }
 
-// Whether a layer has the place at a rank.
-fn has_place(layer: &Layer, rank: u64, place: &Place) -> bool {
+/// Checks that a layer holds exactly these positions, in their order.
+pub(crate) fn check_places(rt: &impl Abort, layer: &Layer, places: &[Place]) {
+    assert_eq!(rt; layer.len(), places.len() as u64);
+    let mut rank: u64 = 0;
+    for place in places {
+        check_place(rt, layer, rank, *place);
+        rank = rank.saturating_add(1);
+    }
+}
+
+// Checks a rank of a layer.
+fn check_place(rt: &impl Abort, layer: &Layer, rank: u64, place: Place) {
     let (boxes, player, parent) = place;
-    let parent = parent.map(|(rank, square, dir)| (rank, push_of(square, dir)));
-    layer.parent(rank) == parent
-        && layer
-            .position(rank)
-            .is_some_and(|position| is_position(&position, boxes, *player))
+    let parent = match parent {
+        Some((rank, square, dir)) => Some((rank, push_of(square, dir))),
+        None => None,
+    };
+    assert_eq!(rt; layer.parent(rank), parent);
+    let position = layer.position(rank).expect(rt, "a position");
+    assert!(rt; is_position(&position, boxes, player));
 }
 
 /// Whether a position has these boxes and this player.
 pub(crate) fn is_position(position: &Position, boxes: &[u16], player: u16) -> bool {
-    position.player() == Square(player)
-        && position
-            .boxes()
-            .iter()
-            .map(|square| square.0)
-            .eq(boxes.iter().copied())
+    let squares = position.boxes();
+    if position.player() != Square(player) || squares.len() != boxes.len() {
+        return false;
+    }
+    for place in 0..boxes.len() {
+        if squares[place] != Square(boxes[place]) {
+            return false;
+        }
+    }
+    true
 }
 
 /// The push of the box on a square in a direction.

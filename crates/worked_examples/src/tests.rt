@@ -1,13 +1,9 @@
 mod asserts;
 mod checked;
-mod compared;
 mod failing;
 mod large;
 mod mapped;
-mod ordered;
-mod plain;
 mod replayed;
-mod rooms;
 mod shown;
 mod solved;
 mod stopped;
@@ -19,6 +15,7 @@ use sokopar::{
     Reader, RunFault, Sink, Source, Writer, run_check, run_dead, run_replay, run_show, run_solve,
 };
 use std::alloc::Global;
+use std::process::Abort;
 use std::sync::Wait;
 use std::thread::Threads;
 
@@ -123,59 +120,14 @@ pub(crate) fn run<R: Threads + Wait + Sync>(
     }
 }
 
-/// Checks a collection over these ends.
-pub(crate) fn check<R: Threads + Wait + Sync>(
+/// Checks what a command writes of a collection, and its status.
+pub(crate) fn writes<R: Threads + Wait + Sync + Abort>(
     rt: &R,
     alloc: Global,
     file: &[u8],
-    ends: Ends,
-) -> Outcome {
-    run(rt, alloc, file, Command::Check, ends)
-}
-
-/// Shows a level of a collection over these ends.
-pub(crate) fn show<R: Threads + Wait + Sync>(
-    rt: &R,
-    alloc: Global,
-    file: &[u8],
-    number: u32,
-    ends: Ends,
-) -> Outcome {
-    run(rt, alloc, file, Command::Show(number), ends)
-}
-
-/// Shows the dead squares of a level of a collection over these ends.
-pub(crate) fn dead<R: Threads + Wait + Sync>(
-    rt: &R,
-    alloc: Global,
-    file: &[u8],
-    number: u32,
-    ends: Ends,
-) -> Outcome {
-    run(rt, alloc, file, Command::Dead(number), ends)
-}
-
-/// Replays a solution on a level of a collection over these ends.
-pub(crate) fn replay<R: Threads + Wait + Sync>(
-    rt: &R,
-    alloc: Global,
-    file: &[u8],
-    number: u32,
-    solution: &[u8],
-    ends: Ends,
-) -> Outcome {
-    run(rt, alloc, file, Command::Replay(number, solution), ends)
-}
-
-/// Solves a level of a collection by a crew under a limit of positions, over these ends.
-pub(crate) fn solve<R: Threads + Wait + Sync>(
-    rt: &R,
-    alloc: Global,
-    file: &[u8],
-    number: u32,
-    crew: Crew,
-    limit: u32,
-    ends: Ends,
-) -> Outcome {
-    run(rt, alloc, file, Command::Solve(number, crew, limit), ends)
+    command: Command<'_>,
+    report: &[u8],
+    status: u8,
+) {
+    run(rt, alloc, file, command, WELL).is(rt, report, status);
 }

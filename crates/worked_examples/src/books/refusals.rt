@@ -1,31 +1,171 @@
 //! What a book answers to doubled, late, foreign and unclaimed parcels, and at its limit.
-use super::{AMPLE, book_of, hand_back, joined, level_of, next_layer, start_of, tally};
+use super::{AMPLE, book_of, hand_back, joined, start_of, tally, work_through};
 use crate::boards::{ONE, TWO_ENDS};
 use layers::{BeginFault, Book, Claim, CloseFault, Closed, Layer, Refusal};
 use std::alloc::Global;
 use std::process::Abort;
 
-// A book of the level with boxes at two ends that has closed layer 1, layer 0, and that layer.
-fn two_ends(rt: &impl Abort, alloc: Global, limit: u32) -> (Book, Layer, Layer) {
-    let level = level_of(rt, alloc, TWO_ENDS);
-    let mut book = book_of(rt, alloc, &level, limit);
-    let start = joined(rt, alloc, &book);
-    let layer = next_layer(rt, alloc, &mut book, &start, &[0]);
-    (book, start, layer)
+/// Where a parcel is from: the layer that the book has closed last, layer 0, or layer 0 of another level.
+#[derive(Clone, Copy)]
+enum Origin {
+    Last,
+    First,
+    Foreign,
 }
 
-// Whether a book at work on layer 0 tells that worker 1 alone has handed back a rank.
-fn is_handed_once(rt: &impl Abort, book: &Book) -> bool {
-    book.layer() == 0
-        && book.has_begun()
-        && [0, 1, 2].map(|worker| tally(rt, book, worker)) == [0, 1, 0]
-        && book.closed_at(0, 0).is_some()
-        && book.closed_at(0, 1).is_none()
-        && book.closed_at(1, 0).is_none()
+/// What is done with a book, and what it answers.
+#[derive(Clone, Copy)]
+enum Event {
+    /// Its last layer is begun.
+    Begins(Result<(), BeginFault>),
+    /// A rank is claimed.
+    Claims(Option<Claim>),
+    /// A worker hands back the parcel of a rank.
+    Takes(Origin, u8, u64, Result<(), Refusal>),
+    /// Claims are freed.
+    Reopens,
+    /// The next layer is closed.
+    Closes(Result<Closed, CloseFault>),
+    /// It is asked for its last layer, whether it has begun, and how many ranks its workers have handed back.
+    Tells(u64, bool, [u64; 3]),
+}
+
+/// A parcel comes twice, and then one of another level.
+const ONCE: &[Event] = &[
+    Event::Begins(Ok(())),
+    Event::Takes(Origin::Last, 1, 0, Ok(())),
+    Event::Tells(0, true, [0, 1, 0]),
+    Event::Takes(Origin::Last, 2, 0, Err(Refusal::Double)),
+    Event::Tells(0, true, [0, 1, 0]),
+    Event::Takes(Origin::Foreign, 0, 0, Err(Refusal::OtherLevel)),
+    Event::Tells(0, true, [0, 1, 0]),
+    Event::Closes(Ok(Closed { layer: 1, count: 2 })),
+    Event::Tells(1, false, [0, 1, 0]),
+];
+
+/// A claim never comes back.
+const CLAIMED: &[Event] = &[
+    Event::Claims(None),
+    Event::Begins(Ok(())),
+    Event::Claims(Some(Claim { layer: 0, rank: 0 })),
+    Event::Claims(None),
+    Event::Closes(Err(CloseFault::NotAll)),
+    Event::Reopens,
+    Event::Claims(Some(Claim { layer: 0, rank: 0 })),
+];
+
+/// Parcels come before the layer has begun, of another layer, unclaimed, twice, and of another level; a layer is begun twice, and
+/// closed too early.
+const STRANGE: &[Event] = &[
+    Event::Takes(Origin::Last, 0, 0, Err(Refusal::NoSuchRank)),
+    Event::Takes(Origin::First, 0, 0, Err(Refusal::OtherLayer)),
+    Event::Begins(Ok(())),
+    Event::Begins(Err(BeginFault::OtherLayer)),
+    Event::Takes(Origin::Last, 0, 1, Ok(())),
+    Event::Takes(Origin::Last, 0, 1, Err(Refusal::Double)),
+    Event::Takes(Origin::Foreign, 0, 0, Err(Refusal::OtherLevel)),
+    Event::Claims(Some(Claim { layer: 1, rank: 0 })),
+    Event::Claims(None),
+    Event::Reopens,
+    Event::Claims(Some(Claim { layer: 1, rank: 0 })),
+    Event::Closes(Err(CloseFault::NotAll)),
+    Event::Takes(Origin::Last, 0, 0, Ok(())),
+    Event::Closes(Ok(Closed { layer: 2, count: 1 })),
+];
+
+/// A parcel brings the book over its limit.
+const OVER: &[Event] = &[
+    Event::Begins(Ok(())),
+    Event::Takes(Origin::Last, 0, 0, Err(Refusal::Over)),
+    Event::Takes(Origin::Last, 0, 0, Err(Refusal::Over)),
+    Event::Takes(Origin::Foreign, 0, 0, Err(Refusal::OtherLevel)),
+    Event::Closes(Err(CloseFault::NotAll)),
+];
+
+#[test]
+fn a_book_that_has_closed_layer_0_answers(rt: HostRuntime) {
+    let foreign = start_of(&rt, rt.alloc(), ONE);
+    for events in [ONCE, CLAIMED] {
+        check_book(&rt, rt.alloc(), AMPLE, &foreign, false, events);
+    }
+}
+
+#[test]
+fn a_book_that_has_closed_layer_1_answers(rt: HostRuntime) {
+    let foreign = start_of(&rt, rt.alloc(), ONE);
+    for (limit, events) in [(AMPLE, STRANGE), (3, OVER)] {
+        check_book(&rt, rt.alloc(), limit, &foreign, true, events);
+    }
+}
+
+// Checks the book of the level with boxes at two ends, after it has closed layer 1 if told so.
+fn check_book(
+    rt: &impl Abort,
+    alloc: Global,
+    limit: u32,
+    foreign: &Layer,
+    goes_on: bool,
+    events: &[Event],
+) {
+    let mut book = book_of(rt, alloc, TWO_ENDS, limit);
+    let first = joined(rt, alloc, &book);
+    if goes_on {
+        check_next(rt, alloc, &mut book, &first, foreign, events);
+    } else {
+        check_events(rt, alloc, &mut book, [&first, &first, foreign], events);
+    }
+}
+
+// Checks a book after it has closed layer 1.
+fn check_next(
+    rt: &impl Abort,
+    alloc: Global,
+    book: &mut Book,
+    first: &Layer,
+    foreign: &Layer,
+    events: &[Event],
+) {
+    work_through(rt, alloc, book, first, false);
+    let last = joined(rt, alloc, book);
+    check_events(rt, alloc, book, [&last, first, foreign], events);
+}
+
+// Checks what a book answers to each of these events in turn: its last layer, layer 0, and that of another level are given.
+fn check_events(
+    rt: &impl Abort,
+    alloc: Global,
+    book: &mut Book,
+    layers: [&Layer; 3],
+    events: &[Event],
+) {
+    for event in events {
+        check_event(rt, alloc, book, layers, *event);
+    }
+}
+
+// Checks what a book answers to an event.
+fn check_event(rt: &impl Abort, alloc: Global, book: &mut Book, layers: [&Layer; 3], event: Event) {
+    let [last, first, foreign] = layers;
+    match event {
+        Event::Begins(answer) => assert_eq!(rt; book.begin(last), answer),
+        Event::Claims(answer) => assert_eq!(rt; book.claim(), answer),
+        Event::Takes(Origin::Last, worker, rank, answer) => {
+            check_parcel(rt, alloc, book, worker, last, rank, answer);
+        }
+        Event::Takes(Origin::First, worker, rank, answer) => {
+            check_parcel(rt, alloc, book, worker, first, rank, answer);
+        }
+        Event::Takes(Origin::Foreign, worker, rank, answer) => {
+            check_parcel(rt, alloc, book, worker, foreign, rank, answer);
+        }
+        Event::Reopens => book.reopen(),
+        Event::Closes(answer) => assert_eq!(rt; book.close(), answer),
+        Event::Tells(layer, begun, tallies) => check_told(rt, book, layer, begun, tallies),
+    }
 }
 
 // Checks what a book answers where a worker hands back a rank of a layer.
-fn check_answer(
+fn check_parcel(
     rt: &impl Abort,
     alloc: Global,
     book: &mut Book,
@@ -37,100 +177,9 @@ fn check_answer(
     assert_eq!(rt; hand_back(rt, alloc, book, worker, layer, rank), answer);
 }
 
-#[test]
-fn a_rank_is_accepted_once(rt: HostRuntime) {
-    let level = level_of(&rt, rt.alloc(), TWO_ENDS);
-    let mut book = book_of(&rt, rt.alloc(), &level, AMPLE);
-    let layer = joined(&rt, rt.alloc(), &book);
-    let foreign = start_of(&rt, rt.alloc(), ONE);
-    check_once(&rt, rt.alloc(), &mut book, &layer, &foreign);
-}
-
-// Checks a book of one rank that is handed back twice, and then one of another level.
-fn check_once(rt: &impl Abort, alloc: Global, book: &mut Book, layer: &Layer, foreign: &Layer) {
-    assert_eq!(rt; book.begin(layer), Ok(()));
-    check_answer(rt, alloc, book, 1, layer, 0, Ok(()));
-    assert!(rt; is_handed_once(rt, book));
-    check_answer(rt, alloc, book, 2, layer, 0, Err(Refusal::Double));
-    assert!(rt; is_handed_once(rt, book));
-    check_answer(rt, alloc, book, 0, foreign, 0, Err(Refusal::OtherLevel));
-    assert!(rt; is_handed_once(rt, book));
-    assert_eq!(rt; book.close(), Ok(Closed { layer: 1, count: 2 }));
-}
-
-#[test]
-fn a_claim_that_never_comes_back_is_freed(rt: HostRuntime) {
-    let level = level_of(&rt, rt.alloc(), TWO_ENDS);
-    let mut book = book_of(&rt, rt.alloc(), &level, AMPLE);
-    let layer = joined(&rt, rt.alloc(), &book);
-    assert_eq!(&rt; book.claim(), None);
-    assert_eq!(&rt; book.begin(&layer), Ok(()));
-    check_last_claim(&rt, &mut book, Claim { layer: 0, rank: 0 });
-}
-
-// Checks a book with one rank that is neither claimed nor done: the rank is claimed, freed, and claimed again.
-fn check_last_claim(rt: &impl Abort, book: &mut Book, claim: Claim) {
-    assert_eq!(rt; book.claim(), Some(claim));
-    assert_eq!(rt; book.claim(), None);
-    assert_eq!(rt; book.close(), Err(CloseFault::NotAll));
-    book.reopen();
-    assert_eq!(rt; book.claim(), Some(claim));
-}
-
-#[test]
-fn strange_parcels_are_refused(rt: HostRuntime) {
-    let (mut book, start, layer) = two_ends(&rt, rt.alloc(), AMPLE);
-    let foreign = start_of(&rt, rt.alloc(), ONE);
-    check_answer(
-        &rt,
-        rt.alloc(),
-        &mut book,
-        0,
-        &layer,
-        0,
-        Err(Refusal::NoSuchRank),
-    );
-    check_answer(
-        &rt,
-        rt.alloc(),
-        &mut book,
-        0,
-        &start,
-        0,
-        Err(Refusal::OtherLayer),
-    );
-    check_strange(&rt, rt.alloc(), &mut book, &layer, &foreign);
-    check_last_rank(&rt, rt.alloc(), &mut book, &layer);
-}
-
-// Checks a book that begins layer 1: its rank 1 is accepted once, and no parcel of another level.
-fn check_strange(rt: &impl Abort, alloc: Global, book: &mut Book, layer: &Layer, foreign: &Layer) {
-    assert_eq!(rt; book.begin(layer), Ok(()));
-    assert_eq!(rt; book.begin(layer), Err(BeginFault::OtherLayer));
-    check_answer(rt, alloc, book, 0, layer, 1, Ok(()));
-    check_answer(rt, alloc, book, 0, layer, 1, Err(Refusal::Double));
-    check_answer(rt, alloc, book, 0, foreign, 0, Err(Refusal::OtherLevel));
-}
-
-// Checks a book whose rank 0 of layer 1 alone is not done: the rank is claimed, handed back, and closed.
-fn check_last_rank(rt: &impl Abort, alloc: Global, book: &mut Book, layer: &Layer) {
-    check_last_claim(rt, book, Claim { layer: 1, rank: 0 });
-    check_answer(rt, alloc, book, 0, layer, 0, Ok(()));
-    assert_eq!(rt; book.close(), Ok(Closed { layer: 2, count: 1 }));
-}
-
-#[test]
-fn a_book_at_its_limit_is_over(rt: HostRuntime) {
-    let (mut book, _start, layer) = two_ends(&rt, rt.alloc(), 3);
-    let foreign = start_of(&rt, rt.alloc(), ONE);
-    check_over(&rt, rt.alloc(), &mut book, &layer, &foreign);
-}
-
-// Checks a book that the next parcel of a layer brings over its limit.
-fn check_over(rt: &impl Abort, alloc: Global, book: &mut Book, layer: &Layer, foreign: &Layer) {
-    assert_eq!(rt; book.begin(layer), Ok(()));
-    check_answer(rt, alloc, book, 0, layer, 0, Err(Refusal::Over));
-    check_answer(rt, alloc, book, 0, layer, 0, Err(Refusal::Over));
-    check_answer(rt, alloc, book, 0, foreign, 0, Err(Refusal::OtherLevel));
-    assert_eq!(rt; book.close(), Err(CloseFault::NotAll));
+// Checks what a book tells of itself.
+fn check_told(rt: &impl Abort, book: &Book, layer: u64, begun: bool, tallies: [u64; 3]) {
+    assert_eq!(rt; (book.layer(), book.has_begun()), (layer, begun));
+    let told = [tally(rt, book, 0), tally(rt, book, 1), tally(rt, book, 2)];
+    assert_eq!(rt; told, tallies);
 }

@@ -2,7 +2,7 @@
 use super::traces::{
     CORNER_LAYERS, HALL_LAYERS, ONE_LAYERS, THERE_AND_BACK_LAYERS, TWO_ENDS_LAYERS,
 };
-use super::{AMPLE, Place, hand_back, is_layer, is_position, level_of};
+use super::{AMPLE, Place, check_places, is_position, level_of, work_through};
 use crate::boards::{CORNER, HALL, ONE, THERE_AND_BACK, TWO_ENDS};
 use layers::{Book, JoinFault, Layer};
 use std::alloc::Global;
@@ -35,22 +35,26 @@ fn shares_of(rt: &impl Abort, alloc: Global, text: &[u8], shares: u8) -> Vec<Boo
     books
 }
 
-// How many positions a book closes once each rank of the layer was handed back to it.
-fn close_share(rt: &impl Abort, alloc: Global, book: &mut Book, layer: &Layer) -> u64 {
-    book.begin(layer).expect(rt, "a begin");
-    for rank in 0..layer.len() {
-        hand_back(rt, alloc, book, 0, layer, rank).expect(rt, "an accepted parcel");
-    }
-    book.close().expect(rt, "a close").count
-}
-
-// How many positions the books close together.
-fn close_all(rt: &impl Abort, alloc: Global, books: &mut [Book], layer: &Layer) -> u64 {
+// How many positions the books close together once each rank of the layer was handed back to them.
+fn close_all(
+    rt: &impl Abort,
+    alloc: Global,
+    books: &mut [Book],
+    layer: &Layer,
+    turned: bool,
+) -> u64 {
     let mut count: u64 = 0;
     for place in 0..books.len() {
-        count = count.saturating_add(close_share(rt, alloc, &mut books[place], layer));
+        let closed = work_through(rt, alloc, &mut books[place], layer, turned);
+        count = count.saturating_add(closed);
     }
     count
+}
+
+// Closes the next layer of all the books.
+fn turn(rt: &impl Abort, alloc: Global, books: &mut [Book]) {
+    let layer = joined(rt, alloc, books);
+    close_all(rt, alloc, books, &layer, false);
 }
 
 // The last closed layer of all the books.
@@ -58,20 +62,44 @@ fn joined(rt: &impl Abort, alloc: Global, books: &[Book]) -> Layer {
     Layer::join(alloc, books).expect(rt, "a layer")
 }
 
-// Checks the layers of a level whose positions are dealt to so many shares.
-fn check_layers(rt: &impl Abort, alloc: Global, text: &[u8], layers: &[&[Place]], shares: u8) {
+// A way to come to the layers of a level: the number of shares that its positions are dealt to, and whether parcels come from
+// the last rank on.
+type Way = (u8, bool);
+
+// Checks the layers of a level.
+fn check_layers(rt: &impl Abort, alloc: Global, text: &[u8], layers: &[&[Place]], way: Way) {
+    let (shares, turned) = way;
     let mut books = shares_of(rt, alloc, text, shares);
     for (number, places) in layers.iter().enumerate() {
-        let layer = joined(rt, alloc, books.as_slice());
-        assert_eq!(rt; layer.number(), number as u64);
-        assert!(rt; is_layer(&layer, places));
-        let count = close_all(rt, alloc, books.as_mut_slice(), &layer);
-        assert_eq!(rt; joined(rt, alloc, books.as_slice()).len(), count);
+        check_layer(
+            rt,
+            alloc,
+            books.as_mut_slice(),
+            number as u64,
+            places,
+            turned,
+        );
     }
 }
 
+// Checks the last layer of all the books, and closes the next one.
+fn check_layer(
+    rt: &impl Abort,
+    alloc: Global,
+    books: &mut [Book],
+    number: u64,
+    places: &[Place],
+    turned: bool,
+) {
+    let layer = joined(rt, alloc, books);
+    assert_eq!(rt; layer.number(), number);
+    check_places(rt, &layer, places);
+    let count = close_all(rt, alloc, books, &layer, turned);
+    assert_eq!(rt; joined(rt, alloc, books).len(), count);
+}
+
 #[test]
-fn joined_layers_are_those_of_the_worked_examples(rt: HostRuntime) {
+fn layers_are_those_of_the_worked_examples(rt: HostRuntime) {
     let cases = [
         (ONE, ONE_LAYERS),
         (CORNER, CORNER_LAYERS),
@@ -81,7 +109,8 @@ fn joined_layers_are_those_of_the_worked_examples(rt: HostRuntime) {
     ];
     for (text, layers) in cases {
         for shares in [1, 2, 3, 16] {
-            check_layers(&rt, rt.alloc(), text, layers, shares);
+            check_layers(&rt, rt.alloc(), text, layers, (shares, false));
+            check_layers(&rt, rt.alloc(), text, layers, (shares, true));
         }
     }
 }
@@ -99,10 +128,8 @@ fn holds(book: &Book, layer: u64, place: Option<(&[u16], u16)>) -> bool {
 // The books of the level with boxes at two ends in two shares, once layer 2 is closed.
 fn two_ends(rt: &impl Abort, alloc: Global) -> Vec<Book> {
     let mut books = shares_of(rt, alloc, TWO_ENDS, 2);
-    for _ in 0..2 {
-        let layer = joined(rt, alloc, books.as_slice());
-        close_all(rt, alloc, books.as_mut_slice(), &layer);
-    }
+    turn(rt, alloc, books.as_mut_slice());
+    turn(rt, alloc, books.as_mut_slice());
     books
 }
 
@@ -128,8 +155,7 @@ fn check_two_ends(rt: &impl Abort, books: &[Book]) {
 #[test]
 fn the_least_rank_may_come_from_a_later_share(rt: HostRuntime) {
     let mut books = shares_of(&rt, rt.alloc(), CORNER, 3);
-    let layer = joined(&rt, rt.alloc(), books.as_slice());
-    close_all(&rt, rt.alloc(), books.as_mut_slice(), &layer);
+    turn(&rt, rt.alloc(), books.as_mut_slice());
     check_corner(&rt, rt.alloc(), books.as_slice());
 }
 
@@ -205,13 +231,13 @@ fn check_unlike(rt: &impl Abort, alloc: Global, one: Book, other: Book) {
 #[test]
 fn books_at_unlike_layers_are_not_joined(rt: HostRuntime) {
     let mut books = shares_of(&rt, rt.alloc(), TWO_ENDS, 2);
-    let layer = joined(&rt, rt.alloc(), books.as_slice());
-    check_behind(&rt, rt.alloc(), books.as_mut_slice(), &layer);
+    check_behind(&rt, rt.alloc(), books.as_mut_slice());
 }
 
 // Checks that the books are not joined once the first one has closed a layer more.
-fn check_behind(rt: &impl Abort, alloc: Global, books: &mut [Book], layer: &Layer) {
+fn check_behind(rt: &impl Abort, alloc: Global, books: &mut [Book]) {
     assert!(rt; !books.is_empty());
-    close_share(rt, alloc, &mut books[0], layer);
+    let layer = joined(rt, alloc, books);
+    work_through(rt, alloc, &mut books[0], &layer, false);
     assert!(rt; is_refused(alloc, books));
 }

@@ -1,10 +1,6 @@
 //! What `check` writes.
-use super::{WELL, check};
+use super::{Command, writes};
 use crate::boards::{ONE, TWO};
-use std::alloc::Global;
-use std::process::Abort;
-use std::sync::Wait;
-use std::thread::Threads;
 
 #[test]
 fn checks_boards(rt: HostRuntime) {
@@ -99,75 +95,89 @@ fn checks_boards(rt: HostRuntime) {
         ),
     ];
     for (file, report, status) in cases {
-        check(&rt, rt.alloc(), file, WELL).is(&rt, report, status);
+        writes(&rt, rt.alloc(), file, Command::Check, report, status);
     }
 }
 
 #[test]
 fn checks_every_beginning(rt: HostRuntime) {
     // From how many bytes to how many, and what is written then.
-    let cases: [(usize, usize, &[u8]); 13] = [
-        (0, 6, b"0 levels, 0 good\n"),
-        (7, 13, b"1 line 2 fault 3 NoPlayer one\n1 levels, 0 good\n"),
-        (14, 14, b"1 line 2 fault 5 NoBox one\n1 levels, 0 good\n"),
+    let cases: [(usize, usize, &[u8], u8); 13] = [
+        (0, 6, b"0 levels, 0 good\n", 0),
+        (
+            7,
+            13,
+            b"1 line 2 fault 3 NoPlayer one\n1 levels, 0 good\n",
+            1,
+        ),
+        (14, 14, b"1 line 2 fault 5 NoBox one\n1 levels, 0 good\n", 1),
         (
             15,
             15,
             b"1 line 2 fault 6 Counts 1 0 one\n1 levels, 0 good\n",
+            1,
         ),
-        (16, 21, b"1 line 2 fault 7 Open one\n1 levels, 0 good\n"),
-        (22, 25, b"1 line 2 ok 3x5 1 boxes one\n1 levels, 1 good\n"),
+        (16, 21, b"1 line 2 fault 7 Open one\n1 levels, 0 good\n", 1),
+        (
+            22,
+            25,
+            b"1 line 2 ok 3x5 1 boxes one\n1 levels, 1 good\n",
+            0,
+        ),
         (
             26,
             31,
             b"1 line 2 ok 3x5 1 boxes one\n2 line 6 fault 3 NoPlayer\n2 levels, 1 good\n",
+            1,
         ),
         (
             32,
             32,
             b"1 line 2 ok 3x5 1 boxes one\n2 line 6 fault 5 NoBox\n2 levels, 1 good\n",
+            1,
         ),
         (
             33,
             33,
             b"1 line 2 ok 3x5 1 boxes one\n2 line 6 fault 6 Counts 1 0\n2 levels, 1 good\n",
+            1,
         ),
         (
             34,
             47,
             b"1 line 2 ok 3x5 1 boxes one\n2 line 6 fault 7 Open\n2 levels, 1 good\n",
+            1,
         ),
         (
             48,
             48,
             b"1 line 2 ok 3x5 1 boxes one\n2 line 6 fault 7 Open t\n2 levels, 1 good\n",
+            1,
         ),
         (
             49,
             49,
             b"1 line 2 ok 3x5 1 boxes one\n2 line 6 fault 7 Open tw\n2 levels, 1 good\n",
+            1,
         ),
         (
             50,
             50,
             b"1 line 2 ok 3x5 1 boxes one\n2 line 6 fault 7 Open two\n2 levels, 1 good\n",
+            1,
         ),
     ];
     assert_eq!(rt; TWO.len(), 50);
-    for (first, last, report) in cases {
+    for (first, last, report, status) in cases {
         for length in first..=last {
-            check_beginning(&rt, rt.alloc(), length, report);
+            writes(
+                &rt,
+                rt.alloc(),
+                &TWO[..length.min(50)],
+                Command::Check,
+                report,
+                status,
+            );
         }
     }
-}
-
-// Checks so many bytes of the two boards.
-fn check_beginning(
-    rt: &(impl Abort + Threads + Wait + Sync),
-    alloc: Global,
-    length: usize,
-    report: &[u8],
-) {
-    let outcome = check(rt, alloc, TWO.get(..length).unwrap_or(b""), WELL);
-    assert_eq!(rt; outcome.text.as_slice(), report, "after {length} bytes");
 }

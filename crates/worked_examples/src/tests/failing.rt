@@ -1,6 +1,6 @@
 //! Ends that fail, at each read and each write in turn.
 use super::solved::DEFAULT_LIMIT;
-use super::{Command, Ends, WELL, replay, run};
+use super::{Command, Ends, WELL, run};
 use crate::boards::{ONE, TWO};
 use sokopar::RunFault;
 use std::alloc::Global;
@@ -15,72 +15,88 @@ const DRIPPING: Ends = Ends {
     ..WELL
 };
 
-/// A command of each engine.
-const COMMANDS: [Command<'static>; 5] = [
-    Command::Check,
-    Command::Show(1),
-    Command::Dead(1),
-    Command::Solve(1, (2, 2), DEFAULT_LIMIT),
-    Command::Replay(1, b"RlR"),
+/// A command with a solution text.
+const REPLAY: Command<'static> = Command::Replay(1, b"RlR");
+
+/// A command of each engine, with what it writes of the two boards.
+const COMMANDS: [(Command<'static>, &[u8], u8); 5] = [
+    (
+        Command::Check,
+        b"1 line 2 ok 3x5 1 boxes one\n2 line 6 fault 7 Open two\n2 levels, 1 good\n",
+        1,
+    ),
+    (Command::Show(1), ONE, 0),
+    (Command::Dead(1), b"#####\n#x .#\n#####\n", 0),
+    (
+        Command::Solve(1, (2, 2), DEFAULT_LIMIT),
+        b"solved 1 pushes, 1 moves, 2 positions\nR\n",
+        0,
+    ),
+    (REPLAY, b"wrong case at 3\n", 1),
 ];
 
 #[test]
-fn fails_at_each_read(rt: HostRuntime) {
-    for command in COMMANDS {
-        let reads = run(&rt, rt.alloc(), TWO, command, DRIPPING).reads;
-        for at in 1..=reads {
-            check_read(&rt, rt.alloc(), command, at);
-        }
+fn moves_a_byte_at_a_time(rt: HostRuntime) {
+    for (command, report, status) in COMMANDS {
+        let outcome = run(&rt, rt.alloc(), TWO, command, DRIPPING);
+        outcome.is(&rt, report, status);
+        assert_eq!(&rt; (outcome.reads, outcome.writes), (51, report.len()));
     }
 }
 
-// Checks a command whose read of this number fails: it reads no more.
-fn check_read(
-    rt: &(impl Abort + Threads + Wait + Sync),
-    alloc: Global,
-    command: Command<'_>,
-    at: usize,
-) {
-    let ends = Ends {
-        read_fails: at,
-        ..DRIPPING
-    };
-    let outcome = run(rt, alloc, TWO, command, ends);
-    outcome.is_fault(rt, RunFault::Read);
-    assert_eq!(rt; outcome.reads, at);
+#[test]
+fn fails_at_each_read(rt: HostRuntime) {
+    for (command, _, _) in COMMANDS {
+        for at in 1..=51 {
+            let ends = Ends {
+                read_fails: at,
+                ..DRIPPING
+            };
+            check_fault(&rt, rt.alloc(), command, ends, (at, 0));
+        }
+    }
 }
 
 #[test]
 fn fails_at_each_read_of_a_solution(rt: HostRuntime) {
-    let reads = replay(&rt, rt.alloc(), ONE, 1, b"RlR", DRIPPING).solution_reads;
-    assert_eq!(&rt; reads, 4);
-    for at in 1..=reads {
+    for at in 1..=4 {
         let ends = Ends {
             solution_fails: at,
             ..DRIPPING
         };
-        replay(&rt, rt.alloc(), ONE, 1, b"RlR", ends).is_fault(&rt, RunFault::Read);
+        check_fault(&rt, rt.alloc(), REPLAY, ends, (51, at));
     }
+}
+
+// Checks a command one of whose reads fails, after so many reads of the collection and of the solution: it reads no more.
+fn check_fault(
+    rt: &(impl Abort + Threads + Wait + Sync),
+    alloc: Global,
+    command: Command<'_>,
+    ends: Ends,
+    reads: (usize, usize),
+) {
+    let outcome = run(rt, alloc, TWO, command, ends);
+    outcome.is_fault(rt, RunFault::Read);
+    assert_eq!(rt; (outcome.reads, outcome.solution_reads), reads);
 }
 
 #[test]
 fn fails_at_each_write(rt: HostRuntime) {
-    for command in COMMANDS {
-        let whole = run(&rt, rt.alloc(), TWO, command, DRIPPING);
-        assert_eq!(&rt; whole.writes, whole.text.len());
-        for written in 0..whole.writes {
-            check_write(&rt, rt.alloc(), command, written, whole.text.as_slice());
+    for (command, report, _) in COMMANDS {
+        for written in 0..report.len() {
+            check_write(&rt, rt.alloc(), command, written, &report[..written]);
         }
     }
 }
 
-// Checks a command whose write after so many fails: it has written as many bytes of its whole text.
+// Checks a command whose write after so many bytes fails: it has written these, a beginning of its report.
 fn check_write(
     rt: &(impl Abort + Threads + Wait + Sync),
     alloc: Global,
     command: Command<'_>,
     written: usize,
-    whole: &[u8],
+    beginning: &[u8],
 ) {
     let ends = Ends {
         write_fails: written.saturating_add(1),
@@ -88,7 +104,7 @@ fn check_write(
     };
     let outcome = run(rt, alloc, TWO, command, ends);
     assert_eq!(rt; outcome.answer, Err(RunFault::Write));
-    assert_eq!(rt; Some(outcome.text.as_slice()), whole.get(..written));
+    assert_eq!(rt; outcome.text.as_slice(), beginning);
 }
 
 #[test]
@@ -97,7 +113,7 @@ fn takes_no_byte(rt: HostRuntime) {
         write_most: 0,
         ..WELL
     };
-    for command in COMMANDS {
+    for (command, _, _) in COMMANDS {
         run(&rt, rt.alloc(), TWO, command, ends).is_fault(&rt, RunFault::Write);
     }
 }

@@ -1,5 +1,5 @@
 //! What `dead` writes.
-use super::{WELL, dead};
+use super::{Command, writes};
 use crate::boards::{STACKED, TWO};
 
 #[test]
@@ -22,6 +22,6 @@ fn shows_dead_squares(rt: HostRuntime) {
         (TWO, 3, b"no level 3\n", 1),
     ];
     for (file, number, report, status) in cases {
-        dead(&rt, rt.alloc(), file, number, WELL).is(&rt, report, status);
+        writes(&rt, rt.alloc(), file, Command::Dead(number), report, status);
     }
 }

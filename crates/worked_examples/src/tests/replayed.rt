@@ -1,7 +1,6 @@
 //! What `replay` writes.
-use super::{Ends, WELL, replay};
+use super::{Command, Ends, WELL, run, writes};
 use crate::boards::{CORNER, HALL, ONE, THERE_AND_BACK, TWO, TWO_ENDS};
-use sokopar::RunFault;
 use std::alloc::Global;
 use std::process::Abort;
 use std::sync::Wait;
@@ -34,7 +33,14 @@ fn replays_solutions(rt: HostRuntime) {
     ];
     for (solution, report, status) in cases {
         for file in [ONE, b"#####\r\n#@$.#\r\n#####\r\n".as_slice()] {
-            replay(&rt, rt.alloc(), file, 1, solution, WELL).is(&rt, report, status);
+            writes(
+                &rt,
+                rt.alloc(),
+                file,
+                Command::Replay(1, solution),
+                report,
+                status,
+            );
         }
     }
 }
@@ -53,42 +59,67 @@ fn replays_longer_solutions(rt: HostRuntime) {
         ),
     ];
     for (file, solution, report) in cases {
-        replay(&rt, rt.alloc(), file, 1, solution, WELL).is(&rt, report, 0);
+        writes(
+            &rt,
+            rt.alloc(),
+            file,
+            Command::Replay(1, solution),
+            report,
+            0,
+        );
     }
 }
 
 #[test]
 fn counts_moves(rt: HostRuntime) {
-    let alloc = rt.alloc();
-    let mut most = repeated(&rt, alloc, b"9999r", 100);
-    most.extend_from_slice(b"100r").expect(&rt, "memory");
-    replay(&rt, alloc, ONE, 1, most.as_slice(), WELL).is(&rt, b"wrong case at 1\n", 1);
-    let more = repeated(&rt, alloc, b"9999r", 101);
-    replay(&rt, alloc, ONE, 1, more.as_slice(), WELL).is(&rt, b"too many moves\n", 1);
+    let cases: [(usize, &[u8], &[u8]); 2] = [
+        (100, b"100r", b"wrong case at 1\n"),
+        (101, b"", b"too many moves\n"),
+    ];
+    for (times, last, report) in cases {
+        check_many(&rt, rt.alloc(), times, last, report);
+    }
+}
+
+// Checks a solution of so many times 9,999 letters, and some at its end.
+fn check_many(
+    rt: &(impl Abort + Threads + Wait + Sync),
+    alloc: Global,
+    times: usize,
+    last: &[u8],
+    report: &[u8],
+) {
+    let mut solution = repeated(rt, alloc, b"9999r", times);
+    solution.extend_from_slice(last).expect(rt, "memory");
+    let command = Command::Replay(1, solution.as_slice());
+    writes(rt, alloc, ONE, command, report, 1);
 }
 
 #[test]
 fn reads_a_solution_only_for_a_lawful_level(rt: HostRuntime) {
+    let cases: [(&[u8], u32, &[u8]); 3] = [
+        (TWO, 2, b"fault 7 Open\n"),
+        (TWO, 3, b"no level 3\n"),
+        (b"", 1, b"no level 1\n"),
+    ];
+    for (file, number, report) in cases {
+        check_unread(&rt, rt.alloc(), file, number, report);
+    }
+}
+
+// Checks a level that is faulty or missing, and a solution whose first read would fail: it is not read.
+fn check_unread(
+    rt: &(impl Abort + Threads + Wait + Sync),
+    alloc: Global,
+    file: &[u8],
+    number: u32,
+    report: &[u8],
+) {
     let ends = Ends {
         solution_fails: 1,
         ..WELL
     };
-    let cases: [(u32, &[u8]); 2] = [(2, b"fault 7 Open\n"), (3, b"no level 3\n")];
-    for (number, report) in cases {
-        check_unread(&rt, rt.alloc(), number, ends, report);
-    }
-    replay(&rt, rt.alloc(), TWO, 1, b"R", ends).is_fault(&rt, RunFault::Read);
-}
-
-// Checks a level of the two boards for which the solution is not read.
-fn check_unread(
-    rt: &(impl Abort + Threads + Wait + Sync),
-    alloc: Global,
-    number: u32,
-    ends: Ends,
-    report: &[u8],
-) {
-    let outcome = replay(rt, alloc, TWO, number, b"R", ends);
+    let outcome = run(rt, alloc, file, Command::Replay(number, b"R"), ends);
     outcome.is(rt, report, 1);
     assert_eq!(rt; outcome.solution_reads, 0);
 }

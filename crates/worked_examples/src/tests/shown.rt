@@ -1,5 +1,5 @@
 //! What `show` writes.
-use super::{WELL, show};
+use super::{Command, writes};
 use crate::boards::{ONE, TWO};
 
 #[test]
@@ -14,6 +14,6 @@ fn shows_levels(rt: HostRuntime) {
         (TWO, u32::MAX, b"no level 4294967295\n", 1),
     ];
     for (file, number, report, status) in cases {
-        show(&rt, rt.alloc(), file, number, WELL).is(&rt, report, status);
+        writes(&rt, rt.alloc(), file, Command::Show(number), report, status);
     }
 }

@@ -1,5 +1,5 @@
 //! What `solve` writes.
-use super::{Crew, WELL, solve};
+use super::{Command, Crew, writes};
 use crate::boards::{
     APART, CORNER, FROZEN, HALL, ONE, SOLVED, STACKED, THERE_AND_BACK, TWO, TWO_ENDS,
 };
@@ -33,7 +33,14 @@ fn check_solve(
     status: u8,
 ) {
     for crew in CREWS {
-        solve(rt, alloc, file, 1, crew, limit, WELL).is(rt, report, status);
+        writes(
+            rt,
+            alloc,
+            file,
+            Command::Solve(1, crew, limit),
+            report,
+            status,
+        );
     }
 }
 
@@ -131,7 +138,14 @@ fn limits_do_not_matter_to_other_reports(rt: HostRuntime) {
     ];
     for (file, number, report) in cases {
         for limit in [1, DEFAULT_LIMIT, u32::MAX] {
-            solve(&rt, rt.alloc(), file, number, (2, 2), limit, WELL).is(&rt, report, 1);
+            writes(
+                &rt,
+                rt.alloc(),
+                file,
+                Command::Solve(number, (2, 2), limit),
+                report,
+                1,
+            );
         }
     }
 }
