@@ -7,6 +7,7 @@ mod config;
 mod end;
 mod gate;
 mod lent;
+mod lots;
 mod search;
 #[cfg(test)]
 mod tests;
