@@ -3,6 +3,7 @@
 //! is that of one.
 #![tactic(auto)]
 
+mod closing;
 mod config;
 mod end;
 mod gate;

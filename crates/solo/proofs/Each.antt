@@ -18,7 +18,7 @@ on_err (Err e) p = p
 
 -- ---- a list with one element changed
 
-set_here : {A : Type 0} (xs : List A) (p : ℕ) (y : A) → p < length xs → slice_get (set xs p y) p ≡ Some y
+pub set_here : {A : Type 0} (xs : List A) (p : ℕ) (y : A) → p < length xs → slice_get (set xs p y) p ≡ Some y
 set_here [] p y lt = absurd (omega arith)
 set_here (x ∷ xs) zero y lt = refl
 set_here (x ∷ xs) (suc p) y lt = set_here xs p y (omega arith)
