@@ -113,7 +113,7 @@ abbrev pub IsThrough : BookView → BookView → Type 0
 IsThrough v w = WorkAnswer v Through w × IsLawfulBook w
 
 -- the book is as it was, still at work, or has closed the next layer
-abbrev MayBeLeft : LayerView → BookView → BookView → Type 0
+abbrev pub MayBeLeft : LayerView → BookView → BookView → Type 0
 MayBeLeft layer v w = (w ≡ v) ⊎ IsStillAt v layer w ⊎ WorkAnswer v Through w
 
 pub are_through : (before : List BookView) (place : ℕ) (books : List BookView) → length books ≤ place → HaveChangedUpTo IsThrough before place books → WorkAnswers before Through books

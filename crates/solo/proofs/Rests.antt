@@ -1,15 +1,17 @@
 -- Books some of which closed the next layer ahead, one place after the other.
-use Rattle.std.proofs.Common.{◌≡◌, ℕ, ◌≤◌, List, [], ◌∷◌, length, set, Some, inr, refl, sym, subst, arith}
+use Rattle.std.proofs.Common.{◌≡◌, ℕ, ◌+◌, ◌≤◌, Bool, true, false, List, [], ◌∷◌, length, set, Some, inl, inr, refl, sym, subst, arith}
+use Rattle.std.specs.Bool.{MatchBool}
 use Rattle.std.specs.Prelude.{slice_get}
 use Rattle.std.proofs.lemmas.List.{length-append}
 use Rattle.std.proofs.lemmas.Option.{slice_get_within}
+use Rattle.layers.specs.LayerView.{LayerView}
 use Rattle.layers.specs.BookView.{BookView, Closed, IsLawfulBook}
 use Rattle.layers.specs.Books.{IsClosedBy, with_closed}
 use Rattle.layers.specs.declared.book.Closed.{Closed as Report}
-use Rattle.solo.specs.inside.Turns.{WorkAnswer}
+use Rattle.solo.specs.inside.Turns.{IsStillAt, MayBeWorked, WorkAnswer}
 use Rattle.solo.specs.inside.Rests.{MayBeClosed, RestAnswer, RestAnswers}
 use Rattle.solo.specs.declared.turn.Worked.TheVariants.{Through, Over}
-use Rattle.solo.proofs.Each.{HaveChangedUpTo, all_changed, set_here}
+use Rattle.solo.proofs.Each.{HaveChangedUpTo, MayBeLeft, all_changed, one_changed, set_here, some_changed, weaker}
 
 -- a close that was accepted
 pub closed_ahead : (before after : BookView) (report : Report) → IsClosedBy before report after → MayBeClosed before after
@@ -29,3 +31,14 @@ rests_through before place books all so = (so.same, λ i v at. (let c = all_chan
 pub rest_over : (before : List BookView) (place : ℕ) (books : List BookView) (v w : BookView) → slice_get before place ≡ Some v → RestAnswer v Over w → IsLawfulBook w → HaveChangedUpTo IsRestThrough before place books → RestAnswers before Over (set books place w)
 rest_over before place books v w at over lawful so =
     (place, v, at, (w, set_here books place w (omega (arith, slice_get_within before place v at, so.same)), over, lawful))
+
+-- a finish that was refused left its book at work
+pub rest_may_be_worked : (before : List BookView) (layer : LayerView) (place : ℕ) (books : List BookView) (v w : BookView) → slice_get before place ≡ Some v → IsStillAt v layer w → HaveChangedUpTo IsRestThrough before place books → MayBeWorked before layer (set books place w)
+rest_may_be_worked before layer place books v w at still so = (more.same, λ i x at_x. some_changed (MayBeLeft layer) before (place + 1) (set books place w) (λ y. inl refl) more i x at_x)
+  where
+    left : (b : Bool) (x y : BookView) → MatchBool b (WorkAnswer x Through y) ((Through ≡ Through) × (y ≡ x)) → MayBeLeft layer x y
+    left true x y through = inr (inr through)
+    left false x y kept = inl kept.1
+
+    more : HaveChangedUpTo (MayBeLeft layer) before (place + 1) (set books place w)
+    more = one_changed (MayBeLeft layer) before place books v w (weaker IsRestThrough (MayBeLeft layer) before place books (λ x y e. left x.begun x y e.0) so) at (inr (inl still))

@@ -194,7 +194,7 @@ pub fn finish_each(
 }
 
 /// Does what [`finish`] does in each of the books that has not closed the next layer already, one after the other; until
-/// one of them is over, or comes to be.
+/// one of them is over, or comes to be. After an error each book is as after one of [`finish_each`].
 pub fn finish_rest(
     books: &mut [Book],
     layer: &Layer,
@@ -207,6 +207,7 @@ pub fn finish_rest(
     requires dead_of_level { dead.now ≡ layer.now.level }
     requires room { scratch.old.size ≡ length layer.now.level.cells }
     ensures worked { IfOk result (λ worked. RestAnswers books.old worked books.new) }
+    ensures err { OnErr result (MayBeWorked books.old layer.now books.new) }
     ensures size { scratch.new.size ≡ scratch.old.size }
 {
     for place in 0..books.len() {
@@ -233,6 +234,7 @@ fn finish_begun(
     requires dead_of_level { dead.now ≡ layer.now.level }
     requires room { scratch.old.size ≡ length layer.now.level.cells }
     ensures worked { IfOk result (λ worked. RestAnswer book.old worked book.new) }
+    ensures err { OnErr result (IsStillAt book.old layer.now book.new) }
     ensures size { scratch.new.size ≡ scratch.old.size }
 {
     if !book.has_begun() {

@@ -1,7 +1,7 @@
 use Rattle.std.proofs.Common.{get_or, subst, ◌∙◌, arith}
 use Rattle.solo.specs.inside.Rests.{RestAnswer}
-use Rattle.solo.proofs.Each.{next_kept, one_changed, read_back}
-use Rattle.solo.proofs.Rests.{IsRestThrough, rest_over, rests_through}
+use Rattle.solo.proofs.Each.{next_kept, on_err, one_changed, read_back}
+use Rattle.solo.proofs.Rests.{IsRestThrough, rest_may_be_worked, rest_over, rests_through}
 use Rattle.solo.proofs.turn.finish_rest.Goals as goal
 
 pub finish_begun-requires-clause-begun : goal.finish_begun-requires-clause-begun
@@ -13,6 +13,12 @@ pub finish_begun-requires-clause-worker : goal.finish_begun-requires-clause-work
 finish_begun-requires-clause-worker c =
     let books = c.loop-place.books in let place = c.loop-place.place in let d = c.index-books-place.result in
     c.requires.worker place (get_or books place d) (next_kept IsRestThrough c.args.books.now place books d (omega (arith, c.loop-place-test.true)) c.loop-place.invariant.through)
+
+pub returns-in_err-worked-clause-err : goal.returns-in_err-worked-clause-err
+returns-in_err-worked-clause-err c =
+    let books = c.loop-place.books in let place = c.loop-place.place in let d = c.index-books-place.result in
+    on_err c.from_residual.result (rest_may_be_worked c.args.books.now c.args.layer.now place books (get_or books place d) c.finish_begun.new.book
+    (next_kept IsRestThrough c.args.books.now place books d (omega (arith, c.loop-place-test.true)) c.loop-place.invariant.through) c.in_err-worked.ensures.err c.loop-place.invariant.through)
 
 pub returns-in-Over-clause-worked : goal.returns-in-Over-clause-worked
 returns-in-Over-clause-worked c =
