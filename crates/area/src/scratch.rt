@@ -59,6 +59,11 @@ impl Scratch {
         })
     }
 
+    /// The allocator that its memory comes from.
+    pub fn allocator(&self) -> Global {
+        *self.queue.allocator()
+    }
+
     /// Whether the last flood reached the square. Nothing is said of it once the memory was lent to another call.
     pub fn reaches(&self, square: Square) -> bool
         ensures { result ≡ contains self.now.reached square }

@@ -1,2 +1,3 @@
 -- What keeps the books of the code: what its loops keep, and what its functions say to each other.
+pub mod Lots
 pub mod Turning

@@ -3,10 +3,12 @@
 //! is that of one.
 #![tactic(auto)]
 
+mod closing;
 mod config;
 mod end;
 mod gate;
 mod lent;
+mod lots;
 mod search;
 #[cfg(test)]
 mod tests;

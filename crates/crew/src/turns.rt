@@ -5,6 +5,7 @@ ghost use Rattle.layers.specs.Books.{MayBegin};
 ghost use Rattle.crew.specs.Configured.{IsWithinLimits};
 ghost use Rattle.crew.specs.inside.Turning.{ArePausedBy, AreWorkedBy, TurnAnswer};
 
+use crate::closing::finish_all;
 use crate::config::Config;
 use crate::gate::Gate;
 use crate::lent::{come_back, lend};
@@ -12,7 +13,7 @@ use area::Scratch;
 use doom::Dead;
 use layers::{Book, Layer, Parents};
 use solo::Answer;
-use solo::turn::{Worked, begin_each, finish_each, last_layer, look};
+use solo::turn::{Worked, begin_each, last_layer, look};
 use std::alloc::{AllocError, Global};
 use std::sync::Wait;
 use std::thread::Threads;
@@ -97,6 +98,6 @@ fn work_through<R: Threads + Wait + Sync, G: Gate + Sync>(
     if !come_back(back.as_slice(), config, layer) {
         return Ok(None);
     }
-    let worked = finish_each(back.as_mut_slice(), layer, dead, scratch, own)?;
+    let worked = finish_all(rt, back.as_mut_slice(), layer, dead, scratch, own)?;
     Ok(Some((worked, back)))
 }

@@ -1,19 +1,24 @@
-ghost use Rattle.std.specs.Prelude.{◌≡◌, ◌<◌, ◌≤◌, IsNone, IfErr, IfOk, OnOk, length};
+ghost use Rattle.std.specs.Prelude.{◌≡◌, ◌<◌, ◌≤◌, [], ◌∷◌, ◌++◌, IsNone, IfErr, IfOk, OnErr, OnOk, length, vec_capacity};
 ghost use Rattle.layers.specs.Books.{MayEnter, with_parcel};
 ghost use Rattle.claims.specs.declared.views.Hand.{Hand};
 ghost use Rattle.crew.specs.Work.{IsOwn, IsOfLayer, IsAtPlace, HasDrawn, DrawEnds, HandEnds, after_end, MayEnd, EndsWith, WasAnswered};
+ghost use Rattle.crew.specs.declared.end.End.TheVariants.{Stopped};
+ghost use Rattle.crew.specs.inside.Lots.{AreOfLayer, IfDrained};
 ghost use Rattle.layers.specs.LayerView.{LayerView};
 
 use crate::end::End;
 use crate::gate::Gate;
+use crate::lots::{fill, lot_size};
 use area::Scratch;
 use claims::{Drawer, Ledger, PLACES};
 use doom::Dead;
 use layers::{Book, Layer, Parcel, Refusal, expand, expand_into};
+use std::slice::from_ref;
 use std::sync::{Mutex, Wait};
 
-/// Works on a layer as one worker, until it ends: draws a rank, expands it while no lock is held, and hands the parcel
-/// back to each of the books in order, under one lock at a time. Its place in the ledger is its number. After each draw
+/// Works on a layer as one worker, until it ends: draws a lot of ranks, expands each of them while no lock is held, and
+/// hands the parcels back to each of the books in order, under one lock at a time and each under a lock of its own. A lot
+/// is one rank or a few, fewer in a small layer and toward the end of a large one. Its place in the ledger is its number. After each draw
 /// that gives a rank, and each parcel that a book accepted, it asks the gate, with no lock held.
 ///
 /// What is behind a lock may be any book, so under the lock the worker asks for level, layer and its own number
@@ -47,16 +52,52 @@ pub fn work<R: Wait, G: Gate>(
         return End::NoPlace;
     }
     let mut nth = 0;
-    let rank = match draw(layer, ledger, drawer, worker, gate, &mut nth) {
+    let size = lot_size(layer.len());
+    if size > 1 {
+        if let Ok(parcels) = Vec::with_capacity(scratch.allocator(), size) {
+            return by_lots(
+                rt, layer, dead, books, ledger, drawer, worker, scratch, gate, &mut nth, parcels,
+            );
+        }
+    }
+    by_ones(
+        rt, layer, dead, books, ledger, drawer, worker, scratch, gate, &mut nth,
+    )
+}
+
+// Draws rank after rank, and hands the parcel of each back before it draws the next.
+fn by_ones<R: Wait, G: Gate>(
+    rt: &R,
+    layer: &Layer,
+    dead: &Dead,
+    books: &[Mutex<Book>],
+    ledger: &Ledger,
+    drawer: &mut Drawer,
+    worker: u8,
+    scratch: &mut Scratch,
+    gate: &G,
+    nth: &mut u64,
+) -> End
+    requires dead_of_level { dead.now ≡ layer.now.level }
+    requires room { scratch.old.size ≡ length layer.now.level.cells }
+    requires ranks { ledger.now.len ≤ length layer.now.places }
+    requires place { IsAtPlace ledger.now worker drawer.old }
+    ensures end { MayEnd G.may_stop result }
+    ensures hand { EndsWith worker drawer.new.hand result }
+    ensures answered { WasAnswered layer.now worker result }
+    ensures ledger { drawer.new.ledger ≡ ledger.now }
+    ensures size { scratch.new.size ≡ scratch.old.size }
+{
+    let rank = match draw(layer, ledger, drawer, worker, gate, nth) {
         Ok(rank) => rank,
         Err(end) => return end,
     };
     let mut parcel = expand(layer, dead, rank, scratch);
     for _ in rt.forever() {
-        if let Err(end) = hand_back(rt, layer, books, worker, &parcel, gate, &mut nth) {
+        if let Err(end) = hand_back(rt, layer, books, worker, from_ref(&parcel), gate, nth) {
             return end;
         }
-        match draw(layer, ledger, drawer, worker, gate, &mut nth) {
+        match draw(layer, ledger, drawer, worker, gate, nth) {
             Ok(rank) => expand_into(layer, dead, rank, scratch, &mut parcel),
             Err(end) => return end,
         }
@@ -64,8 +105,57 @@ pub fn work<R: Wait, G: Gate>(
     unreachable!()
 }
 
+// Draws lot after lot, and hands the parcels of each back before it draws the next. They are kept in this list, which has
+// room for one at least.
+fn by_lots<'a, R: Wait, G: Gate>(
+    rt: &R,
+    layer: &'a Layer,
+    dead: &Dead,
+    books: &[Mutex<Book>],
+    ledger: &Ledger,
+    drawer: &mut Drawer,
+    worker: u8,
+    scratch: &mut Scratch,
+    gate: &G,
+    nth: &mut u64,
+    mut parcels: Vec<Parcel<'a>>,
+) -> End
+    requires dead_of_level { dead.now ≡ layer.now.level }
+    requires room { scratch.old.size ≡ length layer.now.level.cells }
+    requires ranks { ledger.now.len ≤ length layer.now.places }
+    requires place { IsAtPlace ledger.now worker drawer.old }
+    requires capacity { 0 < vec_capacity parcels }
+    ensures end { MayEnd G.may_stop result }
+    ensures hand { EndsWith worker drawer.new.hand result }
+    ensures answered { WasAnswered layer.now worker result }
+    ensures ledger { drawer.new.ledger ≡ ledger.now }
+    ensures size { scratch.new.size ≡ scratch.old.size }
+{
+    for _ in rt.forever() {
+        let filled = match fill(
+            layer,
+            dead,
+            ledger,
+            drawer,
+            worker,
+            scratch,
+            gate,
+            nth,
+            &mut parcels,
+        ) {
+            Ok(filled) => filled,
+            Err(end) => return end,
+        };
+        let lot = &parcels.as_slice()[..filled];
+        if let Err(end) = hand_back(rt, layer, books, worker, lot, gate, nth) {
+            return end;
+        }
+    }
+    unreachable!()
+}
+
 // Draws a rank of the layer, and then passes the gate.
-fn draw<G: Gate>(
+pub(crate) fn draw<G: Gate>(
     layer: &Layer,
     ledger: &Ledger,
     drawer: &mut Drawer,
@@ -76,6 +166,8 @@ fn draw<G: Gate>(
     requires ranks { ledger.now.len ≤ length layer.now.places }
     requires place { IsAtPlace ledger.now worker drawer.old }
     ensures within { IfOk result (λ rank. rank < length layer.now.places) }
+    ensures drawn { IfOk result (λ rank. drawer.new.hand.numbers ≡ drawer.old.hand.numbers ++ rank ∷ []) }
+    ensures none { IfErr result (λ end. IfDrained end (drawer.new.hand.numbers ≡ drawer.old.hand.numbers)) }
     ensures end { IfErr result (λ end. MayEnd G.may_stop end) }
     ensures hand { IfErr result (λ end. EndsWith worker drawer.new.hand end) }
     ensures answered { IfErr result (λ end. WasAnswered layer.now worker end) }
@@ -91,6 +183,7 @@ fn draw_rank(layer: &Layer, ledger: &Ledger, drawer: &mut Drawer, worker: u8) ->
     requires ranks { ledger.now.len ≤ length layer.now.places }
     requires place { IsAtPlace ledger.now worker drawer.old }
     ensures ok { IfOk result (λ rank. HasDrawn layer.now ledger.now drawer.old.hand rank drawer.new.hand) }
+    ensures none { OnErr result (drawer.new.hand.numbers ≡ drawer.old.hand.numbers) }
     ensures end { IfErr result (λ end. DrawEnds worker drawer.new.hand end) }
     ensures place { IsAtPlace ledger.now worker drawer.new }
 {
@@ -100,22 +193,43 @@ fn draw_rank(layer: &Layer, ledger: &Ledger, drawer: &mut Drawer, worker: u8) ->
     }
 }
 
-// Hands a parcel back to each of the books in order.
+// Hands the parcels of a lot back to each of the books in order.
 fn hand_back<R: Wait, G: Gate>(
     rt: &R,
     layer: &Layer,
     books: &[Mutex<Book>],
     worker: u8,
-    parcel: &Parcel<'_>,
+    lot: &[Parcel<'_>],
     gate: &G,
     nth: &mut u64,
 ) -> Result<(), End>
-    requires { IsOfLayer layer.now parcel.now }
+    requires { AreOfLayer layer.now lot.now }
     ensures end { IfErr result (λ end. MayEnd G.may_stop end) }
     ensures hand { (hand : Hand) → IfErr result (λ end. EndsWith worker hand end) }
     ensures answered { IfErr result (λ end. WasAnswered layer.now worker end) }
 {
     for book in books {
+        hand_lot(rt, layer, book, worker, lot, gate, nth)?;
+    }
+    Ok(())
+}
+
+// Hands the parcels of a lot back to one book, in order.
+fn hand_lot<R: Wait, G: Gate>(
+    rt: &R,
+    layer: &Layer,
+    book: &Mutex<Book>,
+    worker: u8,
+    lot: &[Parcel<'_>],
+    gate: &G,
+    nth: &mut u64,
+) -> Result<(), End>
+    requires { AreOfLayer layer.now lot.now }
+    ensures end { IfErr result (λ end. MayEnd G.may_stop end) }
+    ensures hand { (hand : Hand) → IfErr result (λ end. EndsWith worker hand end) }
+    ensures answered { IfErr result (λ end. WasAnswered layer.now worker end) }
+{
+    for parcel in lot {
         hand_to(rt, layer, book, worker, parcel, gate, nth)?;
     }
     Ok(())
@@ -143,6 +257,7 @@ fn hand_to<R: Wait, G: Gate>(
 
 // Counts one more event, and asks the gate.
 fn pass<G: Gate>(gate: &G, layer: u64, worker: u8, nth: &mut u64) -> Result<(), End>
+    ensures stops { IfErr result (λ end. end ≡ Stopped) }
     ensures end { IfErr result (λ end. MayEnd G.may_stop end) }
     ensures hand { (hand : Hand) → IfErr result (λ end. EndsWith worker hand end) }
     ensures answered { (layer : LayerView) → IfErr result (λ end. WasAnswered layer worker end) }

@@ -18,7 +18,7 @@ on_err (Err e) p = p
 
 -- ---- a list with one element changed
 
-set_here : {A : Type 0} (xs : List A) (p : ℕ) (y : A) → p < length xs → slice_get (set xs p y) p ≡ Some y
+pub set_here : {A : Type 0} (xs : List A) (p : ℕ) (y : A) → p < length xs → slice_get (set xs p y) p ≡ Some y
 set_here [] p y lt = absurd (omega arith)
 set_here (x ∷ xs) zero y lt = refl
 set_here (x ∷ xs) (suc p) y lt = set_here xs p y (omega arith)
@@ -113,7 +113,7 @@ abbrev pub IsThrough : BookView → BookView → Type 0
 IsThrough v w = WorkAnswer v Through w × IsLawfulBook w
 
 -- the book is as it was, still at work, or has closed the next layer
-abbrev MayBeLeft : LayerView → BookView → BookView → Type 0
+abbrev pub MayBeLeft : LayerView → BookView → BookView → Type 0
 MayBeLeft layer v w = (w ≡ v) ⊎ IsStillAt v layer w ⊎ WorkAnswer v Through w
 
 pub are_through : (before : List BookView) (place : ℕ) (books : List BookView) → length books ≤ place → HaveChangedUpTo IsThrough before place books → WorkAnswers before Through books

@@ -5,6 +5,7 @@ pub mod LeastPlays
 pub mod Limits
 pub mod Looking
 pub mod ReadingBack
+pub mod Rests
 pub mod Solved
 pub mod Solving
 pub mod Uniqueness

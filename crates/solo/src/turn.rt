@@ -10,6 +10,7 @@ ghost use Rattle.layers.specs.Books.{AllDone, AreAllShares, AreNewShares, HasBeg
 ghost use Rattle.solo.specs.Answers.{IsAnswer};
 ghost use Rattle.solo.specs.Leads.{IsFirstSolved};
 ghost use Rattle.solo.specs.inside.Searched.{HaveBefore, IsLookedAt};
+ghost use Rattle.solo.specs.inside.Rests.{MayBeClosed, RestAnswer, RestAnswers};
 ghost use Rattle.solo.specs.inside.Turns.{HaveBegun, IsStillAt, MayBeWorked, MayHaveBegun, WorkAnswer, WorkAnswers, with_over};
 
 use crate::answer::Answer;
@@ -192,6 +193,56 @@ pub fn finish_each(
     Ok(Worked::Through)
 }
 
+/// Does what [`finish`] does in each of the books that has not closed the next layer already, one after the other; until
+/// one of them is over, or comes to be. After an error each book is as after one of [`finish_each`].
+pub fn finish_rest(
+    books: &mut [Book],
+    layer: &Layer,
+    dead: &Dead,
+    scratch: &mut Scratch,
+    worker: u8,
+) -> Result<Worked, AllocError>
+    requires begun { (i : ℕ) (v : BookView) → slice_get books.old i ≡ Some v → v.begun ≡ true → HasBegun v layer.now }
+    requires worker { (i : ℕ) (v : BookView) → slice_get books.old i ≡ Some v → worker < v.workers }
+    requires dead_of_level { dead.now ≡ layer.now.level }
+    requires room { scratch.old.size ≡ length layer.now.level.cells }
+    ensures worked { IfOk result (λ worked. RestAnswers books.old worked books.new) }
+    ensures err { OnErr result (MayBeWorked books.old layer.now books.new) }
+    ensures size { scratch.new.size ≡ scratch.old.size }
+{
+    for place in 0..books.len() {
+        let worked = finish_begun(&mut books[place], layer, dead, scratch, worker)?;
+        books[place].tell();
+        match worked {
+            Worked::Through => (),
+            Worked::Over => return Ok(Worked::Over),
+        }
+    }
+    Ok(Worked::Through)
+}
+
+// The same for one book.
+fn finish_begun(
+    book: &mut Book,
+    layer: &Layer,
+    dead: &Dead,
+    scratch: &mut Scratch,
+    worker: u8,
+) -> Result<Worked, AllocError>
+    requires begun { book.old.begun ≡ true → HasBegun book.old layer.now }
+    requires worker { worker < book.old.workers }
+    requires dead_of_level { dead.now ≡ layer.now.level }
+    requires room { scratch.old.size ≡ length layer.now.level.cells }
+    ensures worked { IfOk result (λ worked. RestAnswer book.old worked book.new) }
+    ensures err { OnErr result (IsStillAt book.old layer.now book.new) }
+    ensures size { scratch.new.size ≡ scratch.old.size }
+{
+    if !book.has_begun() {
+        return Ok(Worked::Through);
+    }
+    finish(book, layer, dead, scratch, worker)
+}
+
 /// Does as one of the workers whatever is left of the last closed layer, whoever claimed it, and closes the next one;
 /// unless the book is over, or comes to be. After an error the book is still at work on that layer, perhaps with more of
 /// its ranks done.
@@ -267,6 +318,14 @@ fn enter(book: &mut Book, worker: u8, parcel: &Parcel<'_>) -> Result<bool, Alloc
         Err(Refusal::OutOfMemory) => Err(AllocError),
         Err(_) => unreachable!(),
     }
+}
+
+/// Closes the next layer ahead of [`finish`], where each rank is done. Where one is not, or memory is refused, the book
+/// stays as it was.
+pub fn close_ahead(book: &mut Book)
+    ensures { MayBeClosed book.old book.new }
+{
+    let _ = book.close();
 }
 
 // Closes the next layer, once each rank is done.

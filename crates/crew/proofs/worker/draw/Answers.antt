@@ -1,4 +1,5 @@
-use Rattle.std.proofs.Common.{rules}
+use Rattle.std.proofs.Common.{◌≡◌, rules}
+use Rattle.crew.proofs.Drawing.{stopped_not_drained}
 use Rattle.crew.proofs.worker.draw.Goals as goal
 
 pub returns-in_err-pass-clause-hand : goal.returns-in_err-pass-clause-hand
@@ -8,3 +9,7 @@ returns-in_err-pass-clause-hand g c =
 pub returns-in_err-pass-clause-answered : goal.returns-in_err-pass-clause-answered
 returns-in_err-pass-clause-answered g c =
     let answered = c.in_err-pass.ensures.answered c.args.layer.now in search (rules, answered)
+
+pub returns-in_err-pass-clause-none : goal.returns-in_err-pass-clause-none
+returns-in_err-pass-clause-none g c =
+    let none = stopped_not_drained (c.draw_rank.new.drawer.hand.numbers ≡ c.args.drawer.now.hand.numbers) _ c.in_err-pass.ensures.stops in search (rules, none)

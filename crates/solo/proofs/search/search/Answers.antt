@@ -1,4 +1,4 @@
-use Rattle.std.proofs.Common.{◌≡◌, [], IfOk, sym, subst, ◌∙◌}
+use Rattle.std.proofs.Common.{[], IfOk, sym, subst, ◌∙◌}
 use Rattle.std.specs.Arc.{arc_value}
 use Rattle.solo.specs.Answers.{IsAnswer}
 use Rattle.solo.specs.inside.Turns.{AreBetweenTurns}

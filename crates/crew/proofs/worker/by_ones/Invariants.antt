@@ -1,6 +1,6 @@
 use Rattle.std.proofs.Common.{◌≡◌}
 use Rattle.crew.specs.Work.{IsOfLayer, IsAtPlace}
-use Rattle.crew.proofs.worker.work.Given as goal
+use Rattle.crew.proofs.worker.by_ones.Given as goal
 
 abbrev pub invariant-loop : goal.invariant-loop
 invariant-loop g l =

@@ -1,0 +1,34 @@
+-- What a worker draws and hands back at a time.
+use Rattle.std.specs.Prelude.{◌≡◌, ℕ, ◌+◌, ◌≤◌, List, [], ◌∷◌, ◌++◌, length, map, slice_get, take, Some}
+use Rattle.layers.specs.LayerView.{LayerView}
+use Rattle.layers.specs.ParcelView.{ParcelView}
+use Rattle.claims.specs.declared.views.Hand.{Hand}
+use Rattle.crew.specs.Work.{IsOfLayer}
+use Rattle.crew.specs.declared.end.End.{End}
+use Rattle.crew.specs.declared.end.End.TheVariants.{Drained, Refused, Stopped, Foreign, NoPlace}
+
+-- the parcel is of a rank of the layer
+abbrev pub IsOfRank : LayerView → ℕ → ParcelView → Type 0
+IsOfRank layer rank parcel = IsOfLayer layer parcel × (parcel.rank ≡ rank)
+
+-- each parcel is of the layer
+abbrev pub AreOfLayer : LayerView → List ParcelView → Type 0
+AreOfLayer layer lot = (i : ℕ) (parcel : ParcelView) → slice_get lot i ≡ Some parcel → IsOfLayer layer parcel
+
+-- behind what stood before a place comes a parcel of the rank
+abbrev pub IsPut : LayerView → ℕ → ℕ → List ParcelView → List ParcelView → Type 0
+IsPut layer rank place before after =
+    (parcel : ParcelView) × IsOfRank layer rank parcel × (take (place + 1) after ≡ take place before ++ parcel ∷ []) × (place + 1 ≤ length after)
+
+-- a lot: the parcels of exactly the ranks that the hand has drawn since, in order
+pub record IsLot (layer : LayerView) (before : Hand) (lot : List ParcelView) (after : Hand) : Type 0 where
+  pub of : AreOfLayer layer lot
+  pub drawn : after.numbers ≡ before.numbers ++ map (λ parcel. parcel.rank) lot
+
+-- P, if the worker is drained
+abbrev pub IfDrained : End → Type 0 → Type 0
+IfDrained Drained P = P
+IfDrained (Refused refusal) P = Unit {0}
+IfDrained Stopped P = Unit {0}
+IfDrained Foreign P = Unit {0}
+IfDrained NoPlace P = Unit {0}
