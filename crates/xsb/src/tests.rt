@@ -59,10 +59,7 @@ fn text_lines(rt: HostRuntime) -> Result<(), Fail> {
 #[test]
 fn sizes(rt: HostRuntime) -> Result<(), Fail> {
     let alloc = rt.alloc();
-    assert_eq!(rt;
-        only_shape(alloc, b"255#|#@$.250-#|255#")?,
-        Ok((3, 255, 1))
-    );
+    assert_eq!(rt; only_shape(alloc, b"255#|#@$.250-#|255#")?, Ok((3, 255, 1)));
     assert_eq!(rt;
         only_shape(alloc, b"256#|#@$.251-#|256#")?,
         Err(LevelFault::TooWide)
