@@ -5,5 +5,6 @@ pub mod Equality
 pub mod Settle
 pub mod Bits
 pub mod Words
+pub mod Kept
 pub mod Edges
 mod Examples

@@ -2,3 +2,4 @@
 pub mod Filling
 pub mod PlanView
 pub mod LevelView
+pub mod BoxesView

@@ -2,6 +2,7 @@
 #![tactic(auto)]
 
 mod around;
+mod boxes;
 mod cell;
 mod dir;
 mod fault;

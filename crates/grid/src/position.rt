@@ -6,7 +6,7 @@ ghost use Rattle.grid.specs.States.{FitsLevel};
 ghost use Rattle.grid.specs.Squares.{is_rising, contains, insert, remove};
 
 use crate::level::Level;
-use crate::limits::MAX_BOXES;
+use crate::limits::{MAX_BOXES, MAX_SQUARES};
 use crate::square::Square;
 use arrayvec::ArrayVec;
 use std::alloc::AllocError;
@@ -152,8 +152,7 @@ impl Position {
         requires free { contains self.old.boxes to ≡ false }
         ensures { self.new ≡ record { boxes = insert (remove self.old.boxes from) to; player = from } }
     {
-        let left = place_of(self.boxes.as_slice(), from);
-        settle(self.boxes.as_mut_slice(), left, to);
+        move_square(self.boxes.as_mut_slice(), from, to);
         self.player = from;
     }
 }
@@ -198,7 +197,7 @@ fn first_boxes(level: &Level) -> ArrayVec<Square, MAX_BOXES>
 }
 
 // Whether the square is one of these. All are looked at, so that the processor looks at several at once.
-fn is_among(squares: &[Square], square: Square) -> bool
+pub(crate) fn is_among(squares: &[Square], square: Square) -> bool
     ensures { result ≡ contains squares.now square }
 {
     let mut found = false;
@@ -230,10 +229,22 @@ fn rises(squares: &[Square]) -> bool
     true
 }
 
+// Puts one square in the place of another, where the list rises.
+pub(crate) fn move_square(squares: &mut [Square], from: Square, to: Square)
+    requires rising { is_rising squares.old ≡ true }
+    requires bound { length squares.old ≤ MAX_SQUARES }
+    requires there { contains squares.old from ≡ true }
+    requires free { contains squares.old to ≡ false }
+    ensures { squares.new ≡ insert (remove squares.old from) to }
+{
+    let left = place_of(squares, from);
+    settle(squares, left, to);
+}
+
 // How many of the rising squares are less than this one. All are looked at, so that no end of a loop has to be foreseen.
 fn place_of(squares: &[Square], square: Square) -> usize
     requires rising { is_rising squares.now ≡ true }
-    requires bound { length squares.now ≤ MAX_BOXES }
+    requires bound { length squares.now ≤ MAX_SQUARES }
     ensures { result ≡ prefix_len (λ x. nat_lt x square) squares.now }
 {
     let mut lesser: u16 = 0;

@@ -1,12 +1,11 @@
-ghost use Rattle.std.specs.Prelude.{◌≡◌, ℕ, ◌↔◌, IsTrue, IfOk, map};
-ghost use Rattle.grid.specs.Board.{Board, Scene, IsFree, IsSolved, start, box_cell};
+ghost use Rattle.std.specs.Prelude.{◌≡◌, ◌↔◌, IsTrue, IfOk};
+ghost use Rattle.grid.specs.Board.{IsFree, IsSolved, start};
 ghost use Rattle.grid.specs.States.{IsScene, Steps};
 ghost use Rattle.grid.specs.Squares.{contains};
 
-use crate::cell::Cell;
+use crate::boxes::Boxes;
 use crate::dir::Dir;
 use crate::level::Level;
-use crate::limits::MAX_SQUARES;
 use crate::square::Square;
 use std::alloc::{AllocError, Global};
 use std::marker::Model;
@@ -25,21 +24,16 @@ pub enum Step {
 /// A state of a level, with any number of boxes: where they stand, and the player's square.
 #[derive(Debug, Drop)]
 pub struct State {
-    flags: Vec<bool>,
+    boxes: Boxes,
     player: Square,
 }
 
 impl Model for State {
-    ghost use Rattle.std.specs.Prelude.{◌≡◌, length};
     ghost use Rattle.grid.specs.Board.{Scene};
-    ghost use Rattle.grid.specs.Marks.{marked};
-    ghost use Rattle.grid.specs.declared.limits.TheConstants.{MAX_SQUARES};
 
     ghost Value = { Scene };
 
-    ghost view = { λ a. record { boxes = marked a.flags.items; player = a.player } };
-
-    ghost invariant = { λ a. length a.flags.items ≡ MAX_SQUARES };
+    ghost view = { λ a. record { boxes = a.boxes; player = a.player } };
 }
 
 impl State {
@@ -49,10 +43,8 @@ impl State {
         ensures scene { IfOk result (λ s. IsScene level.now s) }
     {
         level.tell();
-        let mut flags = box_flags(alloc, level.cells())?;
-        flags.resize(MAX_SQUARES, false)?;
         Ok(State {
-            flags,
+            boxes: Boxes::of(alloc, level)?,
             player: level.player(),
         })
     }
@@ -63,7 +55,6 @@ impl State {
         ensures steps { Steps level.now self.old dir result self.new }
         ensures scene { IsScene level.now self.new }
     {
-        level.tell();
         let ahead = level.next(self.player, dir);
         if level.is_wall(ahead) {
             return Step::Blocked;
@@ -76,8 +67,7 @@ impl State {
         if level.is_wall(beyond) || self.has_box(beyond) {
             return Step::Blocked;
         }
-        self.flags[ahead.0 as usize] = false;
-        self.flags[beyond.0 as usize] = true;
+        self.boxes.shift(ahead, beyond);
         self.player = ahead;
         Step::Pushed
     }
@@ -87,10 +77,9 @@ impl State {
         requires { IsScene level.now self.now }
         ensures { IsTrue result ↔ IsSolved level.now self.now }
     {
-        let flags = self.flags.as_slice();
         let cells = level.cells();
         for (i, cell) in cells.iter().enumerate() {
-            if flags[i] && !cell.has_goal() {
+            if self.has_box(Square(i as u16)) && !cell.has_goal() {
                 return false;
             }
         }
@@ -101,9 +90,7 @@ impl State {
     pub fn has_box(&self, square: Square) -> bool
         ensures { result ≡ contains self.now.boxes square }
     {
-        self.flags
-            .get(square.0 as usize)
-            .map_or(false, |flag| *flag)
+        self.boxes.has(square)
     }
 
     /// Sets the player down on a square that has neither wall nor box.
@@ -122,11 +109,4 @@ impl State {
     {
         self.player
     }
-}
-
-// A flag for each cell: whether it has a box.
-fn box_flags(alloc: Global, cells: &[Cell]) -> Result<Vec<bool>, AllocError>
-    ensures { IfOk result (λ flags. flags.items ≡ map box_cell cells.now) }
-{
-    cells.iter().map(|cell| cell.has_box()).collect(alloc)
 }

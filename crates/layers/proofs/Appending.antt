@@ -1,19 +1,20 @@
--- A list whose last element was made in its place.
-use Rattle.std.proofs.Common.{◌≡◌, ℕ, List, [], ◌∷◌, ◌++◌, length, get_or, take, set, sym, ap, ◌∙◌}
-use Rattle.std.proofs.lemmas.List.{set_at, length-append}
-use Rattle.std.proofs.Math.Seq.{take-append_seam, get_or-append_seam}
+-- A list of slots that are written over in turn, of which the first so many count.
+use Rattle.std.proofs.Common.{◌≡◌, ℕ, ◌+◌, ◌<◌, List, [], ◌∷◌, ◌++◌, length, take, drop, set, sym, ap, ◌∙◌}
+use Rattle.std.proofs.lemmas.List.{length-set, take-set, take_more_set}
+use Rattle.std.proofs.Math.Seq.{take-append_seam}
 
--- what is written over the element that came last, where all elements are lent
-pub made_last : {A : Type 0} (lent xs rest : List A) (first last : A) (place whole : ℕ) → lent ≡ xs ++ first ∷ [] → place ≡ length xs → whole ≡ length (xs ++ first ∷ []) → take whole (set lent place last ++ rest) ≡ xs ++ last ∷ []
-made_last lent xs rest first last place whole is at size =
-    let written : set lent place last ≡ xs ++ last ∷ [] = ap (λ ys. set ys place last) is ∙ set_at xs first [] last place (sym at) in
-    let same : whole ≡ length (xs ++ last ∷ []) = size ∙ (length-append xs (first ∷ []) ∙ sym (length-append xs (last ∷ []))) in
-    ap (λ ys. take whole (ys ++ rest)) written ∙ (ap (λ n. take n ((xs ++ last ∷ []) ++ rest)) same ∙ take-append_seam (xs ++ last ∷ []) rest)
+module _ {A : Type 0} (old slots lent : List A) (count : ℕ) (s : A) (inside : count < length slots) (kept : take count slots ≡ take count old) (same : lent ≡ slots) where
+  -- what the slots hold after one of them was written while all were lent
+  slots_written : take (length slots) (set lent count s ++ drop (length (set lent count s)) slots) ≡ set slots count s
+  slots_written =
+      let size : length (set lent count s) ≡ length slots = length-set lent count s ∙ ap length same in
+      ap (λ n. take n (set lent count s ++ drop (length (set lent count s)) slots)) (sym size)
+      ∙ (take-append_seam (set lent count s) (drop (length (set lent count s)) slots) ∙ ap (λ xs. set xs count s) same)
 
--- what stood there before
-pub stood_last : {A : Type 0} (lent xs : List A) (first d : A) (place : ℕ) → lent ≡ xs ++ first ∷ [] → place ≡ length xs → get_or lent place d ≡ first
-stood_last lent xs first d place is at = ap (λ ys. get_or ys place d) is ∙ (ap (λ n. get_or (xs ++ first ∷ []) n d) at ∙ get_or-append_seam xs first [] d)
+  -- the next slot is written and counts
+  pub slot_more : take (count + 1) (take (length slots) (set lent count s ++ drop (length (set lent count s)) slots)) ≡ take count old ++ s ∷ []
+  slot_more = ap (take (count + 1)) slots_written ∙ (take_more_set slots count s inside ∙ ap (λ (xs : List A). xs ++ s ∷ []) kept)
 
--- and what is left where it is taken away again
-pub taken_last : {A : Type 0} (xs : List A) (last : A) (place : ℕ) → place ≡ length xs → take place (xs ++ last ∷ []) ≡ xs
-taken_last xs last place at = ap (λ n. take n (xs ++ last ∷ [])) at ∙ take-append_seam xs (last ∷ [])
+  -- the next slot is written and does not count
+  pub slot_same : take count (take (length slots) (set lent count s ++ drop (length (set lent count s)) slots)) ≡ take count old
+  slot_same = ap (take count) slots_written ∙ (take-set slots count s ∙ kept)

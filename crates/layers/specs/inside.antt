@@ -4,3 +4,4 @@ pub mod Insides
 pub mod Packed
 pub mod Merging
 pub mod Placing
+pub mod ParcelInside

@@ -1,4 +1,4 @@
-ghost use Rattle.std.specs.Prelude.{◌≡◌, ℕ, ◌+◌, ◌*◌, ◌<◌, ◌≤◌, ◌↔◌, IsTrue, true, false, [], length, slice_get, Some};
+ghost use Rattle.std.specs.Prelude.{◌≡◌, ℕ, ◌+◌, ◌*◌, ◌<◌, ◌≤◌, ◌↔◌, IsTrue, true, false, length, take, slice_get, Some};
 ghost use Rattle.area.specs.Reach.{Reach};
 ghost use Rattle.area.specs.Words.{word_bit};
 ghost use Rattle.grid.specs.Board.{Board, Scene, dir_number, is_wall};
@@ -10,6 +10,7 @@ ghost use Rattle.layers.specs.ParcelView.{AreSuccessors, FitLevel, IsAppended, I
 ghost use Rattle.layers.specs.Origins.{IsSuccessor};
 ghost use Rattle.layers.specs.Expansion.{CanPush, ArePushes, AreAllowedBefore, Allows, TellsPushes, count_below};
 ghost use Rattle.area.specs.After.{IsAreaOf};
+ghost use Rattle.layers.specs.inside.ParcelInside.{parcel_of};
 
 use crate::layer::Layer;
 use crate::limits::MAX_SUCCESSORS;
@@ -28,13 +29,16 @@ pub fn expand<'a>(layer: &'a Layer, dead: &Dead, rank: u64, scratch: &mut Scratc
     ensures successors { (n : Scene) → slice_get layer.now.places rank ≡ Some n → AreSuccessors layer.now.level n result.successors }
     ensures size { scratch.new.size ≡ scratch.old.size }
 {
+    let mut pushes = ArrayVec::new();
     let mut parcel = Parcel {
         level: layer.level(),
         layer: layer.number(),
         rank,
-        successors: ArrayVec::new(),
+        slots: ArrayVec::new(),
+        count: 0,
+        pushes: ArrayVec::new(),
     };
-    successors_of(layer, dead, rank, scratch, &mut parcel.successors);
+    parcel.count = successors_of(layer, dead, rank, scratch, &mut pushes, &mut parcel.slots);
     parcel
 }
 
@@ -57,50 +61,52 @@ pub fn expand_into<'a>(
     parcel.level = layer.level();
     parcel.layer = layer.number();
     parcel.rank = rank;
-    parcel.successors.clear();
-    successors_of(layer, dead, rank, scratch, &mut parcel.successors);
+    parcel.count = successors_of(
+        layer,
+        dead,
+        rank,
+        scratch,
+        &mut parcel.pushes,
+        &mut parcel.slots,
+    );
 }
 
-// Fills an empty list with the undoomed successors of the position with a rank of the layer, in the order of their
-// pushes.
+// Writes the undoomed successors of the position with a rank of the layer over the first slots, in the order of their
+// pushes, and tells how many there are. What the slots and the pushes held is not cleared, so what is done goes by the
+// successors, and not by how many there may be.
 fn successors_of(
     layer: &Layer,
     dead: &Dead,
     rank: u64,
     scratch: &mut Scratch,
-    successors: &mut ArrayVec<Successor, MAX_SUCCESSORS>,
-)
+    pushes: &mut ArrayVec<Push, MAX_SUCCESSORS>,
+    slots: &mut ArrayVec<Successor, MAX_SUCCESSORS>,
+) -> usize
     requires within { rank < length layer.now.places }
     requires dead_of_level { dead.now ≡ layer.now.level }
     requires room { scratch.old.size ≡ length layer.now.level.cells }
-    requires empty { successors.old.items ≡ [] }
-    ensures parcel { IsParcel (record { level = layer.now.level; layer = layer.now.number; rank = rank; successors = successors.new.items }) }
-    ensures successors { (n : Scene) → slice_get layer.now.places rank ≡ Some n → AreSuccessors layer.now.level n successors.new.items }
+    ensures filled { result ≤ length slots.new.items }
+    ensures parcel { IsParcel (parcel_of layer.now.level layer.now.number rank slots.new.items result) }
+    ensures successors { (n : Scene) → slice_get layer.now.places rank ≡ Some n → AreSuccessors layer.now.level n (take result slots.new.items) }
     ensures size { scratch.new.size ≡ scratch.old.size }
 {
     layer.tell();
     let level = layer.level();
     let position = layer.place(rank);
-    let pushes = possible_pushes(level, &position, scratch);
-    successors_by(
-        level,
-        dead,
-        &position,
-        pushes.as_slice(),
-        scratch,
-        successors,
-    );
+    possible_pushes(level, &position, scratch, pushes);
+    successors_by(level, dead, &position, pushes.as_slice(), scratch, slots)
 }
 
-// The pushes that the player can make after walks that push nothing, in their order.
+// Lists the pushes that the player can make after walks that push nothing, in their order.
 fn possible_pushes(
     level: &Level,
     position: &Position,
     scratch: &mut Scratch,
-) -> ArrayVec<Push, MAX_SUCCESSORS>
+    pushes: &mut ArrayVec<Push, MAX_SUCCESSORS>,
+)
     requires fits { FitsLevel level.now position.now }
     requires room { scratch.old.size ≡ length level.now.cells }
-    ensures pushes { ArePushes level.now position.now result.items }
+    ensures pushes { ArePushes level.now position.now pushes.new.items }
     ensures flooded { IsAreaOf level.now position.now scratch.new.reached }
     ensures boxes { scratch.new.boxes ≡ position.now.boxes }
     ensures size { scratch.new.size ≡ scratch.old.size }
@@ -108,11 +114,10 @@ fn possible_pushes(
     area::flood(level, position, scratch);
     tell_few(position);
     let words = level.step_masks().len();
-    let mut pushes = ArrayVec::new();
+    pushes.clear();
     for place in 0..words {
-        push_word(level, scratch, place, &mut pushes);
+        push_word(level, scratch, place, pushes);
     }
-    pushes
 }
 
 // Tells that a position has no more boxes than there may be.
@@ -188,16 +193,16 @@ fn push_if(
     }
 }
 
-// Fills an empty list with what the pushes lead to, but for doomed positions, where the last flood was that of the
-// position.
+// Writes what the pushes lead to over the first slots, but for doomed positions, where the last flood was that of the
+// position, and tells how many there are.
 fn successors_by(
     level: &Level,
     dead: &Dead,
     position: &Position,
     pushes: &[Push],
     scratch: &mut Scratch,
-    successors: &mut ArrayVec<Successor, MAX_SUCCESSORS>,
-)
+    slots: &mut ArrayVec<Successor, MAX_SUCCESSORS>,
+) -> usize
     requires fits { FitsLevel level.now position.now }
     requires undoomed { Undoomed level.now position.now }
     requires dead_of_level { dead.now ≡ level.now }
@@ -206,26 +211,30 @@ fn successors_by(
     requires boxes { scratch.old.boxes ≡ position.now.boxes }
     requires pushes { ArePushes level.now position.now pushes.now }
     requires bound { length pushes.now ≤ MAX_SUCCESSORS }
-    requires empty { successors.old.items ≡ [] }
-    ensures successors { AreSuccessors level.now position.now successors.new.items }
-    ensures fits { FitLevel level.now successors.new.items }
+    ensures filled { result ≤ length slots.new.items }
+    ensures successors { AreSuccessors level.now position.now (take result slots.new.items) }
+    ensures fits { FitLevel level.now (take result slots.new.items) }
     ensures kept { scratch.new ≡ scratch.old }
 {
+    let mut count = 0;
     for push in pushes {
-        append_successor(level, dead, position, *push, scratch, successors);
+        count = append_successor(level, dead, position, *push, scratch, slots, count);
     }
+    count
 }
 
-// Appends what a push leads to, where the last flood was that of the position before it; nothing exactly where that is
-// doomed. The position is made in its place in the list, so that it is not copied there.
+// Writes what a push leads to after the first so many slots, where the last flood was that of the position before it,
+// and tells how many are held then; none more exactly where that is doomed. The position is made in its slot, so that
+// it is not copied there.
 fn append_successor(
     level: &Level,
     dead: &Dead,
     position: &Position,
     push: Push,
     scratch: &mut Scratch,
-    successors: &mut ArrayVec<Successor, MAX_SUCCESSORS>,
-)
+    slots: &mut ArrayVec<Successor, MAX_SUCCESSORS>,
+    count: usize,
+) -> usize
     requires fits { FitsLevel level.now position.now }
     requires undoomed { Undoomed level.now position.now }
     requires dead_of_level { dead.now ≡ level.now }
@@ -233,30 +242,76 @@ fn append_successor(
     requires flooded { IsAreaOf level.now position.now scratch.old.reached }
     requires boxes { scratch.old.boxes ≡ position.now.boxes }
     requires possible { CanPush level.now position.now push }
-    requires place { length successors.old.items < MAX_SUCCESSORS }
-    ensures appended { IsAppended level.now position.now push successors.old.items successors.new.items }
+    requires place { count < MAX_SUCCESSORS }
+    requires filled { count ≤ length slots.old.items }
+    ensures filled { result ≤ length slots.new.items }
+    ensures bound { result ≤ count + 1 }
+    ensures appended { IsAppended level.now position.now push (take count slots.old.items) (take result slots.new.items) }
     ensures kept { scratch.new ≡ scratch.old }
 {
     let Push { square, dir } = push;
     if dead.is_dead(level.next(square, dir)) {
-        return;
+        return count;
     }
-    let place = successors.len();
-    successors.push(Successor {
-        push: Push { square, dir },
-        position: Position::default(),
-    });
-    let made = make_push(
+    have_slot(slots, count);
+    let made = make_successor(
         level,
         dead,
         position,
         Push { square, dir },
         scratch,
-        &mut successors.as_mut_slice()[place].position,
+        &mut slots.as_mut_slice()[count],
     );
     if !made {
-        successors.truncate(place);
+        return count;
     }
+    count + 1
+}
+
+// Makes a slot after the first so many, where there is none yet.
+fn have_slot(slots: &mut ArrayVec<Successor, MAX_SUCCESSORS>, count: usize)
+    requires place { count < MAX_SUCCESSORS }
+    requires filled { count ≤ length slots.old.items }
+    ensures place { count < length slots.new.items }
+    ensures kept { take count slots.new.items ≡ take count slots.old.items }
+{
+    if count == slots.len() {
+        slots.push(Successor::default());
+    }
+}
+
+// Writes a push and what it leads to into a slot, where the last flood was that of the position before it; `false`
+// exactly where that is doomed.
+fn make_successor(
+    level: &Level,
+    dead: &Dead,
+    position: &Position,
+    push: Push,
+    scratch: &mut Scratch,
+    slot: &mut Successor,
+) -> bool
+    requires fits { FitsLevel level.now position.now }
+    requires undoomed { Undoomed level.now position.now }
+    requires dead_of_level { dead.now ≡ level.now }
+    requires room { scratch.old.size ≡ length level.now.cells }
+    requires flooded { IsAreaOf level.now position.now scratch.old.reached }
+    requires boxes { scratch.old.boxes ≡ position.now.boxes }
+    requires possible { CanPush level.now position.now push }
+    ensures push { slot.new.push ≡ push }
+    ensures some { IsTrue result → IsSuccessor level.now position.now push slot.new.position × FitsLevel level.now slot.new.position }
+    ensures none { result ≡ false → (m : Scene) → ¬ (IsSuccessor level.now position.now push m) }
+    ensures kept { scratch.new ≡ scratch.old }
+{
+    let Push { square, dir } = push;
+    slot.push = Push { square, dir };
+    make_push(
+        level,
+        dead,
+        position,
+        Push { square, dir },
+        scratch,
+        &mut slot.position,
+    )
 }
 
 // Makes a position what a push leads to, where the last flood was that of the position before it; `false` exactly where

@@ -19,17 +19,23 @@ pub struct Parcel<'a> {
     pub(crate) level: &'a Level,
     pub(crate) layer: u64,
     pub(crate) rank: u64,
-    pub(crate) successors: ArrayVec<Successor, MAX_SUCCESSORS>,
+    // the first so many hold the successors; the others are there to be written over
+    pub(crate) slots: ArrayVec<Successor, MAX_SUCCESSORS>,
+    pub(crate) count: usize,
+    // the pushes that are tried for a rank
+    pub(crate) pushes: ArrayVec<Push, MAX_SUCCESSORS>,
 }
 
 impl<'a> Model for Parcel<'a> {
+    ghost use Rattle.std.specs.Prelude.{◌≤◌, length};
     ghost use Rattle.layers.specs.ParcelView.{ParcelView, IsParcel};
+    ghost use Rattle.layers.specs.inside.ParcelInside.{parcel_of};
 
     ghost Value = { ParcelView };
 
-    ghost view = { λ a. record { level = a.level.now; layer = a.layer; rank = a.rank; successors = a.successors.items } };
+    ghost view = { λ a. parcel_of a.level.now a.layer a.rank a.slots.items a.count };
 
-    ghost invariant = { λ a. IsParcel (record { level = a.level.now; layer = a.layer; rank = a.rank; successors = a.successors.items }) };
+    ghost invariant = { λ a. (a.count ≤ length a.slots.items) × IsParcel (parcel_of a.level.now a.layer a.rank a.slots.items a.count) };
 }
 
 impl<'a> Parcel<'a> {
@@ -37,7 +43,7 @@ impl<'a> Parcel<'a> {
     pub fn tell(&self)
         ensures { IsParcel self.now }
     {
-        let _ = &self.successors;
+        let _ = &self.slots;
     }
 
     /// The level.
@@ -65,6 +71,6 @@ impl<'a> Parcel<'a> {
     pub fn successors(&self) -> &[Successor]
         ensures { result.now ≡ self.now.successors }
     {
-        self.successors.as_slice()
+        &self.slots.as_slice()[..self.count]
     }
 }

@@ -1,15 +1,13 @@
 -- Steps of loops that collect places, and edits of rising lists at a place.
-use Rattle.std.proofs.Common.{◌≡◌, ◌≢◌, ℕ, zero, suc, ◌+◌, ◌<◌, ◌≤◌, Bool, true, false, cond, eqb, ltb, ◌||◌, List, [], ◌∷◌, ◌++◌, length, get_or, set, take, map, replicate, count_by, refl, sym, ap, subst, ◌∙◌, arith}
+use Rattle.std.proofs.Common.{◌≡◌, ◌≢◌, ℕ, suc, ◌+◌, ◌<◌, ◌≤◌, Bool, true, false, cond, eqb, ltb, ◌||◌, List, [], ◌∷◌, ◌++◌, length, get_or, take, count_by, refl, sym, ap, subst, ◌∙◌, arith}
 use Rattle.std.specs.List.{prefix_len, list_any, insert as insert_at, remove as remove_at}
 use Rattle.std.proofs.lemmas.Bool.{eqb-true, eqb-false, eq-eqb, ltb-true, ltb-false, le-ltb, or_right, true≢false, false≢true}
-use Rattle.std.proofs.lemmas.List.{take_more, take_all, append-nil, length-take-le}
+use Rattle.std.proofs.lemmas.List.{take_more, length-take-le}
 use Rattle.std.proofs.lemmas.List.Sums.{count_by_more_yes, sum_by-cons, sum_by-take-le}
 use Rattle.grid.specs.Squares.{Squares, rises_from, is_rising, contains, remove, insert, places_from}
-use Rattle.grid.specs.declared.dir.Dir.{Dir}
-use Rattle.grid.specs.Board.{Board, Scene, IsFree, Pushes, box_cell, is_wall, next, start_boxes}
-use Rattle.grid.specs.Marks.{marked}
+use Rattle.grid.specs.Board.{Board, is_wall}
 use Rattle.grid.proofs.lemmas.Squares.{rises_from-parts, contains-below, remove_out}
-use Rattle.grid.proofs.Marked.{marked-map, marked-moved, places_from-append, places_push_yes, places_push_no, length-places_from}
+use Rattle.grid.proofs.Marked.{places_push_yes, places_push_no, length-places_from}
 
 module _ {A : Type 0} (test : A → Bool) (xs : List A) (i : ℕ) (d : A) (inside : i < length xs) where
   -- one element more that passes
@@ -70,29 +68,6 @@ place_inside (x ∷ xs) q here = at (ltb x q) (eqb x q) (ltb-true x q) (eqb-true
     at true true less same here' induct = absurd (omega (arith, less refl, same refl))
     at true false less same here' induct = let h = induct here' in omega arith
     at false eq less same here' induct = omega arith
-
-none_from : (k n : ℕ) → places_from (λ b. b) k (replicate n false) ≡ []
-none_from k zero = refl
-none_from k (suc n) = none_from (suc k) n
-
--- flags of the boxes, and unset flags after them, mark the squares of the first boxes
-pub marked_start : (board : Board) (flags all : List Bool) (n m : ℕ) → flags ≡ map box_cell board.cells → length flags ≤ n → all ≡ take n flags ++ replicate m false → marked all ≡ start_boxes board
-unfolding marked
-marked_start board flags all n m fe le ae =
-    let front : take n flags ≡ flags = take_all n flags le in
-    ap (places_from (λ b. b) 0) (ae ∙ ap (λ (xs : List Bool). xs ++ replicate m false) front)
-    ∙ (places_from-append (λ b. b) 0 flags (replicate m false)
-    ∙ (ap (λ (xs : Squares). places_from (λ b. b) 0 flags ++ xs) (none_from (0 + length flags) m)
-    ∙ (append-nil (places_from (λ b. b) 0 flags)
-    ∙ (ap (places_from (λ b. b) 0) fe ∙ marked-map box_cell board.cells))))
-
--- a push, on flags
-pub push_flags : (board : Board) (flags : List Bool) (s : Scene) (player : ℕ) (d : Dir) (q r p : ℕ) → record { boxes = marked flags; player = player } ≡ s → q ≡ next board player d → r ≡ next board q d → q ≡ p → contains (marked flags) q ≡ true → IsFree board (marked flags) r → r < length flags → Pushes board s d (record { boxes = marked (set (set flags q false) r true); player = p })
-push_flags board flags s player d q r p se qe re pe here free fits =
-    let re' : r ≡ next board (next board player d) d = re ∙ ap (λ (x : ℕ). next board x d) qe in
-    let me = marked-moved flags q r fits in
-    let after : Scene = record { boxes = marked (set (set flags q false) r true); player = p } in
-    subst (λ (t : Scene). Pushes board t d after) se (subst (λ (x : ℕ). contains (marked flags) x ≡ true) qe here, subst (λ (x : ℕ). IsFree board (marked flags) x) re' free, cc)
 
 -- where no square of a list is a wall, no member is
 pub no_wall : (board : Board) (xs : Squares) (q : ℕ) → list_any (is_wall board) xs ≡ false → contains xs q ≡ true → is_wall board q ≡ false

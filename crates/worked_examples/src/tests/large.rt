@@ -33,17 +33,17 @@ fn replays_the_longest_solutions(rt: HostRuntime) {
 #[test]
 fn checks_tall_and_wide_boards(rt: HostRuntime) {
     let report = b"1 line 1 fault 2 TooWide\n1 levels, 0 good\n".as_slice();
-    check(&rt, rt.alloc(), b"65#|#@$.60-#|65#\n", WELL).is(&rt, report, 1);
+    check(&rt, rt.alloc(), b"256#|#@$.251-#|256#\n", WELL).is(&rt, report, 1);
     check_walls(
         &rt,
         rt.alloc(),
-        65,
+        256,
         b"1 line 1 fault 1 TooTall\n1 levels, 0 good\n",
     );
     check_walls(
         &rt,
         rt.alloc(),
-        64,
+        255,
         b"1 line 1 fault 3 NoPlayer\n1 levels, 0 good\n",
     );
 }

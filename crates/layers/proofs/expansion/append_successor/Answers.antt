@@ -1,11 +1,10 @@
-use Rattle.std.proofs.Common.{ℕ, length, take, slice_index_or, refl, ap, subst, ◌∙◌, inl, inr}
+use Rattle.std.proofs.Common.{ℕ, inl, inr, refl, subst}
 use Rattle.grid.specs.Squares.{remove}
 use Rattle.grid.specs.Board.{next}
 use Rattle.grid.proofs.lemmas.Squares.{contains-insert_here}
 use Rattle.grid.proofs.lemmas.Steps.{inside_grid}
 use Rattle.doom.specs.Deadlocks.{IsDead}
-use Rattle.layers.specs.declared.parcel.Successor.{Successor}
-use Rattle.layers.proofs.Appending.{made_last, stood_last, taken_last}
+use Rattle.layers.proofs.Appending.{slot_more, slot_same}
 use Rattle.layers.proofs.lemmas.Successors.{come_by}
 use Rattle.layers.proofs.expansion.append_successor.Goals as goal
 
@@ -20,21 +19,19 @@ returns-then-is_dead-clause-appended c =
     let dead : IsDead board ahead = subst (λ (q : ℕ). IsDead board q) c.next.ensures (subst (λ b. IsDead b c.next.result) c.requires.dead_of_level (c.is_dead.ensures.dead.0 c.if-is_dead.true)) in
     inr (refl, λ m come. (come_by board n c.requires.fits.scene c.args.push m come).safe (inl (ahead, contains-insert_here (remove n.boxes c.args.push.square) ahead, dead)))
 
-pub returns-else-not-made-clause-appended : goal.returns-else-not-made-clause-appended
-returns-else-not-made-clause-appended c =
-    let xs = c.args.successors.now.items in
-    let lent = c.as_mut_slice.result.now in
-    let is = c.as_mut_slice.ensures.value ∙ c.push.ensures.items in
-    let stood = stood_last lent xs _ c.index-as_mut_slice-place.result c.len-place.result is c.len-place.ensures.value in
-    let s : Successor = record { push = (slice_index_or lent c.len-place.result c.index-as_mut_slice-place.result).push; position = c.make_push-made.new.moved } in
-    let come = c.make_push-made.ensures.some c.if-not-made.false in
-    inl (s, made_last lent xs _ _ s c.len-place.result (length c.push.new.self.items) is c.len-place.ensures.value (ap length c.push.ensures.items), ap (λ (x : Successor). x.push) stood, come.0, come.1)
-
 pub returns-then-not-made-clause-appended : goal.returns-then-not-made-clause-appended
-returns-then-not-made-clause-appended c =
-    let xs = c.args.successors.now.items in
-    let lent = c.as_mut_slice.result.now in
-    let is = c.as_mut_slice.ensures.value ∙ c.push.ensures.items in
-    let s : Successor = record { push = (slice_index_or lent c.len-place.result c.index-as_mut_slice-place.result).push; position = c.make_push-made.new.moved } in
-    let list = made_last lent xs _ _ s c.len-place.result (length c.push.new.self.items) is c.len-place.ensures.value (ap length c.push.ensures.items) in
-    inr (c.truncate.ensures.items ∙ (ap (λ ys. take c.len-place.result ys) list ∙ taken_last xs s c.len-place.result c.len-place.ensures.value), c.make_push-made.ensures.none c.if-not-made.true)
+returns-then-not-made-clause-appended c = inr (
+  slot_same c.args.slots.now.items c.have_slot.new.slots.items c.as_mut_slice.result.now c.args.count c.make_successor-made.new.slot c.have_slot.ensures.place c.have_slot.ensures.kept c.as_mut_slice.ensures.value,
+  c.make_successor-made.ensures.none c.if-not-made.true,
+)
+
+pub returns-clause-appended : goal.returns-clause-appended
+returns-clause-appended c =
+    let come = c.make_successor-made.ensures.some c.if-not-made.false in
+    inl (
+      c.make_successor-made.new.slot,
+      slot_more c.args.slots.now.items c.have_slot.new.slots.items c.as_mut_slice.result.now c.args.count c.make_successor-made.new.slot c.have_slot.ensures.place c.have_slot.ensures.kept c.as_mut_slice.ensures.value,
+      c.make_successor-made.ensures.push,
+      come.0,
+      come.1,
+    )

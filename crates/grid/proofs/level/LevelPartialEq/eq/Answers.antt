@@ -1,4 +1,4 @@
-use Rattle.std.proofs.Common.{◌≡◌, ◌↔◌, Bool, Decides, eqb, sym, ◌∙◌, refl, ap}
+use Rattle.std.proofs.Common.{◌≡◌, Bool, Decides, eqb, sym, ◌∙◌, refl, ap}
 use Rattle.std.proofs.lemmas.Bool.Decides.{same_from_decides}
 use Rattle.std.proofs.lemmas.Slice.Eq.{slice_eq-Decides}
 use Rattle.grid.specs.declared.cell.Cell.{Cell}

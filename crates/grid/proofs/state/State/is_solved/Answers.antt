@@ -1,9 +1,7 @@
-use Rattle.std.proofs.Common.{◌≡◌, ◌<◌, true, false, length, get_or, refl, sym, ap, subst, ◌∙◌, arith}
+use Rattle.std.proofs.Common.{◌≡◌, ◌<◌, true, length, get_or, refl, sym, ap, subst, ◌∙◌, arith}
 use Rattle.std.proofs.lemmas.Bool.{true≢false, false≢true}
 use Rattle.grid.specs.declared.cell.Cell.TheVariants.{Wall}
-use Rattle.grid.specs.Board.{Scene, goal_cell, is_goal}
-use Rattle.grid.specs.Squares.{contains}
-use Rattle.grid.proofs.Marked.{contains-marked}
+use Rattle.grid.specs.Board.{goal_cell, is_goal}
 use Rattle.grid.proofs.lemmas.Steps.{inside_grid}
 use Rattle.grid.proofs.state.State.is_solved.Goals as goal
 
@@ -13,8 +11,7 @@ returns-then-not-has_goal c = (
   λ e. absurd (false≢true e),
   λ solved.
       let q = c.loop-i.i in
-      let flag : get_or c.self.inside.flags.items q false ≡ true = subst (λ xs. get_or xs q false ≡ true) c.as_slice-flags.ensures.value c.if-flags-i.true in
-      let here : contains c.args.self.now.boxes q ≡ true = subst (λ (s : Scene). contains s.boxes q ≡ true) c.self.view_is (contains-marked c.self.inside.flags.items q ∙ flag) in
+      let here = sym c.has_box.ensures ∙ c.if-has_box.true in
       let goal_there : goal_cell (get_or c.cells-cells.result.now q Wall) ≡ true = subst (λ xs. goal_cell (get_or xs q Wall) ≡ true) (sym c.cells-cells.ensures.value) (solved q here) in
       absurd (true≢false (sym goal_there ∙ (sym c.has_goal.ensures ∙ c.if-not-has_goal.true))),
 )
@@ -25,8 +22,6 @@ returns c = (
   λ _. λ q h.
       let inside : q < length c.args.level.now.cells = inside_grid c.args.level.now q (c.requires.boxes q h) in
       let same = ap length c.cells-cells.ensures.value in
-      let flag : get_or c.self.inside.flags.items q false ≡ true = sym (contains-marked c.self.inside.flags.items q) ∙ subst (λ (s : Scene). contains s.boxes q ≡ true) (sym c.self.view_is) h in
-      let flag' : get_or c.as_slice-flags.result.now q false ≡ true = subst (λ xs. get_or xs q false ≡ true) (sym c.as_slice-flags.ensures.value) flag in
-      subst (λ xs. goal_cell (get_or xs q Wall) ≡ true) c.cells-cells.ensures.value (c.loop-i.invariant q (omega (arith, inside, same)) flag'),
+      subst (λ xs. goal_cell (get_or xs q Wall) ≡ true) c.cells-cells.ensures.value (c.loop-i.invariant q (omega (arith, inside, same, c.loop-i-test.false)) h),
   λ _. refl,
 )
