@@ -1,25 +1,44 @@
 //! Calls on books, layers and ledgers.
+use crate::told;
 use crate::values::{
-    THERE_AND_BACK, YARD, book_of, close_book, first_book, level_of, parcel_of, start, work_last,
-    work_through, yard,
+    THERE_AND_BACK, YARD, book_of, close_book, first_book, joined, level_of, parcel_of, start,
+    work_last, work_through, yard,
 };
 use claims::Ledger;
 use layers::{BeginFault, Book, CloseFault, JoinFault, Layer, Parcel, Refusal};
 use std::alloc::Global;
+use std::slice;
 
-/// Begins a layer.
+/// Begins a layer, and claims its ranks.
 pub(crate) fn begin<R: Print>(rt: &R, alloc: Global) -> Option<()> {
     let (mut book, layer) = yard(alloc)?;
-    begin_twice(rt, &mut book, &layer)
+    begin_and_claim(rt, &mut book, &layer)
+}
+
+// Begins a layer, and claims its ranks.
+fn begin_and_claim<R: Print>(rt: &R, book: &mut Book, layer: &Layer) -> Option<()> {
+    begin_twice(rt, book, layer)?;
+    claim_all(rt, book)
+}
+
+// Claims each rank.
+fn claim_all<R: Print>(rt: &R, book: &mut Book) -> Option<()> {
+    for _ in 0..u64::MAX {
+        let Some(claim) = book.claim() else {
+            break;
+        };
+        told::answer(rt, &claim)?;
+    }
+    Some(())
 }
 
 // Begins a layer, and once more where memory is refused.
 fn begin_twice<R: Print>(rt: &R, book: &mut Book, layer: &Layer) -> Option<()> {
-    println!(rt; "left {book:?}").ok()?;
+    told::left(rt, slice::from_ref(book))?;
     for _ in 0..2 {
         let answer = book.begin(layer);
-        println!(rt; "answer {answer:?}").ok()?;
-        println!(rt; "left {book:?}").ok()?;
+        told::answer(rt, &answer)?;
+        told::left(rt, slice::from_ref(book))?;
         if answer != Err(BeginFault::OutOfMemory) {
             break;
         }
@@ -27,16 +46,33 @@ fn begin_twice<R: Print>(rt: &R, book: &mut Book, layer: &Layer) -> Option<()> {
     Some(())
 }
 
-/// Hands each rank of a layer back.
+/// Hands each rank of a layer back, and shows the layer that follows.
 pub(crate) fn hand_back<R: Print>(rt: &R, alloc: Global) -> Option<()> {
     let (mut book, layer) = yard(alloc)?;
-    hand_back_all(rt, alloc, &mut book, &layer)
+    hand_back_and_close(rt, alloc, &mut book, &layer)
+}
+
+// Hands each rank of a layer back, closes the next layer, and shows it.
+fn hand_back_and_close<R: Print>(
+    rt: &R,
+    alloc: Global,
+    book: &mut Book,
+    layer: &Layer,
+) -> Option<()> {
+    hand_back_all(rt, alloc, book, layer)?;
+    show_next(rt, alloc, book)
+}
+
+// Closes a layer whose parcels are there, and shows the next one.
+fn show_next<R: Print>(rt: &R, alloc: Global, book: &mut Book) -> Option<()> {
+    close_book(book)?;
+    told::answer_layer(rt, &joined(alloc, book)?)
 }
 
 // Begins a layer and hands each of its ranks back.
 fn hand_back_all<R: Print>(rt: &R, alloc: Global, book: &mut Book, layer: &Layer) -> Option<()> {
     book.begin(layer).ok()?;
-    println!(rt; "left {book:?}").ok()?;
+    told::left(rt, slice::from_ref(book))?;
     for rank in 0..layer.len() {
         let parcel = parcel_of(alloc, layer, rank)?;
         hand_back_twice(rt, book, &parcel)?;
@@ -51,8 +87,8 @@ fn hand_back_twice<R: Print>(rt: &R, book: &mut Book, parcel: &Parcel<'_>) -> Op
             return None;
         }
         let answer = book.hand_back(0, parcel);
-        println!(rt; "answer {answer:?}").ok()?;
-        println!(rt; "left {book:?}").ok()?;
+        told::answer(rt, &answer)?;
+        told::left(rt, slice::from_ref(book))?;
         if answer != Err(Refusal::OutOfMemory) {
             break;
         }
@@ -78,17 +114,22 @@ fn close_all<R: Print>(rt: &R, alloc: Global, book: &mut Book) -> Option<()> {
 /// Closes a layer whose parcels came from the last one on.
 pub(crate) fn close_turned<R: Print>(rt: &R, alloc: Global) -> Option<()> {
     let (mut book, layer) = yard(alloc)?;
-    work_through(alloc, &mut book, &layer, true)?;
-    close_twice(rt, &mut book)
+    turn_and_close(rt, alloc, &mut book, &layer)
+}
+
+// Hands the ranks of a layer back from the last one on, and closes the next layer.
+fn turn_and_close<R: Print>(rt: &R, alloc: Global, book: &mut Book, layer: &Layer) -> Option<()> {
+    work_through(alloc, book, layer, true)?;
+    close_twice(rt, book)
 }
 
 // Closes a layer, and once more where memory is refused.
 fn close_twice<R: Print>(rt: &R, book: &mut Book) -> Option<()> {
-    println!(rt; "left {book:?}").ok()?;
+    told::left(rt, slice::from_ref(book))?;
     for _ in 0..2 {
         let answer = book.close();
-        println!(rt; "answer {answer:?}").ok()?;
-        println!(rt; "left {book:?}").ok()?;
+        told::answer(rt, &answer)?;
+        told::left(rt, slice::from_ref(book))?;
         if answer != Err(CloseFault::OutOfMemory) {
             break;
         }
@@ -104,20 +145,28 @@ pub(crate) fn join<R: Print>(rt: &R, alloc: Global, shares: u8) -> Option<()> {
 
 // Joins books, and once more where memory is refused.
 fn join_twice<R: Print>(rt: &R, alloc: Global, books: &[Book]) -> Option<()> {
-    println!(rt; "left {books:?}").ok()?;
+    told::left(rt, books)?;
     for _ in 0..2 {
         if !is_refused(rt, &Layer::join(alloc, books))? {
             break;
         }
-        println!(rt; "left {books:?}").ok()?;
+        told::left(rt, books)?;
     }
     Some(())
 }
 
 // Prints what a join answers, and says whether memory was refused.
 fn is_refused<R: Print>(rt: &R, answer: &Result<Layer, JoinFault>) -> Option<bool> {
-    println!(rt; "answer {answer:?}").ok()?;
-    Some(matches!(answer, Err(JoinFault::OutOfMemory)))
+    match answer {
+        Ok(layer) => {
+            told::answer_layer(rt, layer)?;
+            Some(false)
+        }
+        Err(fault) => {
+            told::refusal(rt, fault)?;
+            Some(*fault == JoinFault::OutOfMemory)
+        }
+    }
 }
 
 // The books of all shares of the yard, each of which has closed layer 1.

@@ -2,6 +2,7 @@
 ghost use Rattle.std.specs.Prelude.{◌≡◌, length};
 ghost use Rattle.grid.specs.States.{IsScene};
 
+use crate::told;
 use crate::values::{YARD, level_of};
 use area::Scratch;
 use grid::{Dir, Letter, Level, Moves, Square, State};
@@ -24,8 +25,16 @@ pub(crate) fn read<R: Print>(rt: &R, alloc: Global) -> Option<()> {
 
 // Prints what reading answers, and says whether memory was refused.
 fn is_read_refused<R: Print>(rt: &R, answer: &Result<Vec<Entry>, ReadFault>) -> Option<bool> {
-    println!(rt; "answer {answer:?}").ok()?;
-    Some(matches!(answer, Err(ReadFault::OutOfMemory)))
+    match answer {
+        Ok(entries) => {
+            told::answer_entries(rt, entries.as_slice())?;
+            Some(false)
+        }
+        Err(fault) => {
+            told::refusal(rt, fault)?;
+            Some(*fault == ReadFault::OutOfMemory)
+        }
+    }
 }
 
 /// Writes a level behind bytes that are there.
@@ -44,11 +53,11 @@ fn before(alloc: Global) -> Option<Vec<u8>> {
 
 // Writes a level, and once more where memory is refused.
 fn write_level_twice<R: Print>(rt: &R, level: &Level, out: &mut Vec<u8>) -> Option<()> {
-    println!(rt; "left {out:?}").ok()?;
+    told::left_bytes(rt, out.as_slice())?;
     for _ in 0..2 {
         let answer = xsb::write(level, out);
-        println!(rt; "answer {answer:?}").ok()?;
-        println!(rt; "left {out:?}").ok()?;
+        told::answer(rt, &answer)?;
+        told::left_bytes(rt, out.as_slice())?;
         if answer.is_ok() {
             break;
         }
@@ -68,8 +77,16 @@ pub(crate) fn parse<R: Print>(rt: &R, alloc: Global) -> Option<()> {
 
 // Prints what parsing answers, and says whether memory was refused.
 fn is_parse_refused<R: Print>(rt: &R, answer: &Result<Moves, LurdFault>) -> Option<bool> {
-    println!(rt; "answer {answer:?}").ok()?;
-    Some(matches!(answer, Err(LurdFault::OutOfMemory)))
+    match answer {
+        Ok(moves) => {
+            told::moves(rt, "answer", moves)?;
+            Some(false)
+        }
+        Err(fault) => {
+            told::refusal(rt, fault)?;
+            Some(*fault == LurdFault::OutOfMemory)
+        }
+    }
 }
 
 // So many steps to the left.
@@ -95,11 +112,11 @@ pub(crate) fn write_moves<R: Print>(rt: &R, alloc: Global) -> Option<()> {
 
 // Writes moves, and once more where memory is refused.
 fn write_moves_twice<R: Print>(rt: &R, moves: &Moves, out: &mut Vec<u8>) -> Option<()> {
-    println!(rt; "left {out:?}").ok()?;
+    told::left_bytes(rt, out.as_slice())?;
     for _ in 0..2 {
         let answer = lurd::write(moves, out);
-        println!(rt; "answer {answer:?}").ok()?;
-        println!(rt; "left {out:?}").ok()?;
+        told::answer(rt, &answer)?;
+        told::left_bytes(rt, out.as_slice())?;
         if answer.is_ok() {
             break;
         }
@@ -145,7 +162,7 @@ fn walk_twice<R: Print>(
     requires scene { IsScene level.now state.now }
     requires room { scratch.old.size ≡ length level.now.cells }
 {
-    println!(rt; "left {moves:?}").ok()?;
+    told::moves(rt, "left", moves)?;
     if walk_once(rt, level, state, scratch, moves)? {
         return Some(());
     }
@@ -166,7 +183,7 @@ fn walk_once<R: Print>(
     ensures size { scratch.new.size ≡ scratch.old.size }
 {
     let answer = area::walk(level, state, Square(11), scratch, moves);
-    println!(rt; "answer {answer:?}").ok()?;
-    println!(rt; "left {moves:?}").ok()?;
+    told::answer(rt, &answer)?;
+    told::moves(rt, "left", moves)?;
     Some(answer.is_ok())
 }

@@ -1,10 +1,12 @@
 //! Makes one call of the library over fixed values, and prints what it answers and what it leaves of the values that it was lent.
-//! Where the call is refused memory it is made once more. `tests/refusals` runs it with each request for memory refused in turn.
+//! Where the call is refused memory it is made once more. `tests/refusals` runs it with each request for memory refused in turn, and foretells
+//! each line.
 #![tactic(auto)]
 
 mod books;
 mod letters;
 mod quiet;
+mod told;
 mod values;
 
 use std::alloc::Global;

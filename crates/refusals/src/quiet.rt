@@ -2,6 +2,7 @@
 ghost use Rattle.std.specs.Prelude.{◌≡◌, length};
 ghost use Rattle.grid.specs.States.{IsScene};
 
+use crate::told;
 use crate::values::{hand, yard};
 use area::{Scratch, flood, normal};
 use claims::{Drawer, Ledger};
@@ -9,12 +10,18 @@ use doom::{Dead, doomed};
 use grid::{Dir, Level, Position, Square, State};
 use layers::{Book, Layer, expand};
 use std::alloc::Global;
+use std::slice;
 
 /// Makes the values of each of these calls in turn, and then the call.
 pub(crate) fn calls<R: Print>(rt: &R, alloc: Global) -> Option<()> {
     let (mut book, layer) = yard(alloc)?;
-    book_calls(rt, alloc, &mut book, &layer)?;
-    level_calls(rt, alloc, &layer)?;
+    all_calls(rt, alloc, &mut book, &layer)
+}
+
+// The calls on a book and its last closed layer, and those on a ledger.
+fn all_calls<R: Print>(rt: &R, alloc: Global, book: &mut Book, layer: &Layer) -> Option<()> {
+    book_calls(rt, alloc, book, layer)?;
+    level_calls(rt, alloc, layer)?;
     ledger_calls(rt, alloc)
 }
 
@@ -63,8 +70,7 @@ fn expands<R: Print>(rt: &R, layer: &Layer, dead: &Dead, scratch: &mut Scratch) 
     if layer.len() <= 2 {
         return None;
     }
-    let parcel = expand(layer, dead, 2, scratch);
-    println!(rt; "parcel {parcel:?}").ok()
+    told::parcel(rt, &expand(layer, dead, 2, scratch))
 }
 
 // Draws from a ledger.
@@ -77,13 +83,18 @@ fn ledger_calls<R: Print>(rt: &R, alloc: Global) -> Option<()> {
 
 // Claims of a book, freed once.
 fn claims<R: Print>(rt: &R, book: &mut Book) -> Option<()> {
-    for _ in 0..3 {
-        let claim = book.claim();
-        println!(rt; "claim {claim:?}").ok()?;
-    }
+    claim(rt, book)?;
+    claim(rt, book)?;
+    claim(rt, book)?;
     book.reopen();
+    claim(rt, book)?;
+    told::left(rt, slice::from_ref(book))
+}
+
+// A claim of a book.
+fn claim<R: Print>(rt: &R, book: &mut Book) -> Option<()> {
     let claim = book.claim();
-    println!(rt; "claim {claim:?}, left {book:?}").ok()
+    println!(rt; "claim {claim:?}").ok()
 }
 
 // Some steps from a state, and whether it is solved then.
@@ -123,11 +134,24 @@ fn floods<R: Print>(
         return None;
     }
     flood(level, position, scratch);
-    let reached = [11, 33, 99].map(|square| scratch.reaches(Square(square)));
-    let lost = [11, 23, 99].map(|square| dead.is_dead(Square(square)));
-    let normal = normal(level, position, scratch);
+    told_of(rt, scratch, dead)?;
+    told::position(rt, "normal", &normal(level, position, scratch))?;
     let is_doomed = doomed(level, dead, position, scratch);
-    println!(rt; "reached {reached:?}, dead {lost:?}, normal {normal:?}, doomed {is_doomed:?}").ok()
+    println!(rt; "doomed {is_doomed:?}").ok()
+}
+
+// What a flood reached, and which squares are dead.
+fn told_of<R: Print>(rt: &R, scratch: &Scratch, dead: &Dead) -> Option<()> {
+    told_square(rt, scratch, dead, Square(11))?;
+    told_square(rt, scratch, dead, Square(33))?;
+    told_square(rt, scratch, dead, Square(23))?;
+    told_square(rt, scratch, dead, Square(99))
+}
+
+// Whether a flood reached a square, and whether it is dead.
+fn told_square<R: Print>(rt: &R, scratch: &Scratch, dead: &Dead, square: Square) -> Option<()> {
+    let (reached, lost) = (scratch.reaches(square), dead.is_dead(square));
+    println!(rt; "reached {reached:?}, dead {lost:?}").ok()
 }
 
 // Places and numbers of two drawers of a ledger of two numbers.
