@@ -8,6 +8,7 @@ pub mod Offers
 pub mod Appending
 pub mod Cuts
 pub mod Tails
+pub mod Inboxes
 pub mod Flat
 pub mod First
 pub mod Histories

@@ -18,9 +18,8 @@ use Rattle.grid.specs.Board.{Scene, push_cmp}
 use Rattle.layers.specs.Openings.{Origin, origin_cmp, Entry}
 use Rattle.layers.specs.Origins.{same_scene, share_of}
 use Rattle.layers.specs.BookView.{Closed, origin_of}
-use Rattle.layers.specs.declared.parcel.Successor.{Successor}
-use Rattle.layers.specs.Books.{closed_entry, is_wanted_in, offered, entered, RiseByOrigin, IsSortedAppend}
-use Rattle.layers.specs.FoundView.{FoundView, found_view, open_entry, seen_of, open_of, IsFound, is_least, keeps}
+use Rattle.layers.specs.Books.{closed_entry, is_wanted_in, offered, RiseByOrigin, IsSortedAppend}
+use Rattle.layers.specs.FoundView.{FoundView, found_view, open_entry, seen_of, open_of, IsFound, is_least, keeps, let_in}
 use Rattle.layers.proofs.Offers.{offered-kept, offered-less, offered_first}
 use Rattle.grid.proofs.lemmas.Orders.{push_cmp_total}
 use Rattle.layers.proofs.Open.{origin_total}
@@ -51,8 +50,8 @@ length_seen (suc start) [] le = absurd (omega arith)
 length_seen (suc start) (e ∷ es) le = ap suc (length_seen start es (omega arith))
 
 -- there are as many closed entries as the place says
-pub seen_long : (boxes start : ℕ) (es : List Closed) (v : FoundView) → IsFound start es → found_view boxes start es ≡ v → length v.seen ≡ start
-seen_long boxes start es v found e = ap (λ (u : FoundView). length u.seen) (sym e) ∙ length_seen start es found.within
+pub seen_long : (boxes start : ℕ) (es : List Closed) (inbox : List (Entry Scene Push)) (v : FoundView) → IsFound start es → found_view boxes start es inbox ≡ v → length v.seen ≡ start
+seen_long boxes start es inbox v found e = ap (λ (u : FoundView). length u.seen) (sym e) ∙ length_seen start es found.within
 
 -- an entry stands at each place
 pub entry_at : {A : Type 0} (xs : List A) (i : ℕ) → i < length xs → (x : A) × (slice_get xs i ≡ Some x)
@@ -216,33 +215,18 @@ other_number x y e = grind (arith, nat_tests)
 
 -- ---- entering
 
--- a successor of another share does not enter
-pub entered_other : (seen : List Closed) (shares share rank : ℕ) (ws : List (Entry Scene Push)) (s : Successor) → (share_of shares s.position == share) ≡ false → ws ≡ entered (is_wanted_in seen shares share) rank ws s
-entered_other seen shares share rank ws s e = λ i. if (sym e i) && not (is_some (lookup (same_scene s.position) seen)) then offered ws s.position (rank, s.push) else ws
-
--- nor does one whose offer changes nothing
-pub entered_kept : (seen : List Closed) (shares share rank : ℕ) (ws : List (Entry Scene Push)) (s : Successor) → true ≡ keeps seen ws s.position (rank, s.push) → ws ≡ entered (is_wanted_in seen shares share) rank ws s
-entered_kept seen shares share rank ws s e = go (is_some (lookup (same_scene s.position) seen)) e (origin_of ws s.position) refl
+-- an offer that changes nothing leaves what stands open as it is
+pub let_in_kept : (seen : List Closed) (ws : List (Entry Scene Push)) (m : Scene) (o : Origin Push) → true ≡ keeps seen ws m o → ws ≡ let_in seen ws (m, o)
+let_in_kept seen ws m o e = go (is_some (lookup (same_scene m) seen)) e (origin_of ws m) refl
   where
-    o : Origin Push
-    o = (rank, s.push)
-
-    either : (b : Bool) → offered ws s.position (rank, s.push) ≡ ws → ws ≡ (if b then offered ws s.position (rank, s.push) else ws)
-    either true f = sym f
-    either false f = refl
-
-    none : (a : Bool) → ws ≡ (if a && false then offered ws s.position (rank, s.push) else ws)
-    none true = refl
-    none false = refl
-
     not_true : (b : Bool) → true ≡ not b → b ≡ false
     not_true true f = cc
     not_true false f = refl
 
-    go : (b : Bool) → true ≡ (b || is_least (origin_of ws s.position) (rank, s.push)) → (f : Option (Origin Push)) → origin_of ws s.position ≡ f → ws ≡ (if (share_of shares s.position == share) && not b then offered ws s.position (rank, s.push) else ws)
-    go true t f g = none (share_of shares s.position == share)
-    go false t None g = absurd (let h = t ∙ ap (λ x. is_least x (rank, s.push)) g in cc)
-    go false t (Some p) g = either ((share_of shares s.position == share) && true) (offered-kept ws s.position (rank, s.push) p g (not_true (is_lt (origin_cmp push_cmp (rank, s.push) p)) (t ∙ ap (λ x. is_least x (rank, s.push)) g)))
+    go : (b : Bool) → true ≡ (b || is_least (origin_of ws m) o) → (f : Option (Origin Push)) → origin_of ws m ≡ f → ws ≡ (if b then ws else offered ws m o)
+    go true t f g = refl
+    go false t None g = absurd (let h = t ∙ ap (λ x. is_least x o) g in cc)
+    go false t (Some p) g = sym (offered-kept ws m o p g (not_true (is_lt (origin_cmp push_cmp o p)) (t ∙ ap (λ x. is_least x o) g)))
 
 insert_open : (m : Scene) (o : Origin Push) (ws : List (Entry Scene Push)) → insert_entry same_scene (map closed_entry ws) m (Some o) ≡ map closed_entry (insert_entry same_scene ws m o)
 insert_open m o [] = refl
@@ -262,28 +246,28 @@ insert_past m o (x ∷ seen) ws e = go (same_scene m x.0) e (insert_past m o see
     go false f t = ap (λ xs. x ∷ xs) (t f)
 
 -- one that changes something is inserted
-pub entered_put : (start shares share rank : ℕ) (es new : List Closed) (s : Successor) → IsFound start es → (share_of shares s.position == share) ≡ true → false ≡ keeps (seen_of start es) (open_of start es) s.position (rank, s.push) →
-    new ≡ insert_entry same_scene es s.position (Some (rank, s.push)) → new ≡ seen_of start es ++ map closed_entry (entered (is_wanted_in (seen_of start es) shares share) rank (open_of start es) s)
-entered_put start shares share rank es new s found mine changes put = go (is_some (lookup (same_scene s.position) (seen_of start es))) refl changes (origin_of (open_of start es) s.position) refl
+pub let_in_put : (start : ℕ) (es new : List Closed) (m : Scene) (o : Origin Push) → IsFound start es → false ≡ keeps (seen_of start es) (open_of start es) m o →
+    new ≡ insert_entry same_scene es m (Some o) → new ≡ seen_of start es ++ map closed_entry (let_in (seen_of start es) (open_of start es) (m, o))
+let_in_put start es new m o found changes put = go (is_some (lookup (same_scene m) (seen_of start es))) refl changes (origin_of (open_of start es) m) refl
   where
     not_false : (b : Bool) → false ≡ not b → b ≡ true
     not_false true f = refl
     not_false false f = cc
 
-    all : lookup (same_scene s.position) (seen_of start es) ≡ None → insert_entry same_scene (open_of start es) s.position (rank, s.push) ≡ offered (open_of start es) s.position (rank, s.push) → new ≡ seen_of start es ++ map closed_entry (offered (open_of start es) s.position (rank, s.push))
+    all : lookup (same_scene m) (seen_of start es) ≡ None → insert_entry same_scene (open_of start es) m o ≡ offered (open_of start es) m o → new ≡ seen_of start es ++ map closed_entry (offered (open_of start es) m o)
     all none e =
-        put ∙ ap (λ xs. insert_entry same_scene xs s.position (Some (rank, s.push))) (split start es found) ∙ insert_past s.position (rank, s.push) (seen_of start es) (open_of start es) none
+        put ∙ ap (λ xs. insert_entry same_scene xs m (Some o)) (split start es found) ∙ insert_past m o (seen_of start es) (open_of start es) none
         ∙ ap (λ ws. seen_of start es ++ map closed_entry ws) e
 
-    wanted : is_some (lookup (same_scene s.position) (seen_of start es)) ≡ false → new ≡ seen_of start es ++ map closed_entry (offered (open_of start es) s.position (rank, s.push)) → new ≡ seen_of start es ++ map closed_entry (entered (is_wanted_in (seen_of start es) shares share) rank (open_of start es) s)
-    wanted e f = f ∙ (λ i. seen_of start es ++ map closed_entry (if (sym mine i) && not (sym e i) then offered (open_of start es) s.position (rank, s.push) else open_of start es))
+    wanted : is_some (lookup (same_scene m) (seen_of start es)) ≡ false → new ≡ seen_of start es ++ map closed_entry (offered (open_of start es) m o) → new ≡ seen_of start es ++ map closed_entry (let_in (seen_of start es) (open_of start es) (m, o))
+    wanted e f = f ∙ (λ i. seen_of start es ++ map closed_entry (if (sym e i) then open_of start es else offered (open_of start es) m o))
 
-    go : (b : Bool) → is_some (lookup (same_scene s.position) (seen_of start es)) ≡ b → false ≡ (b || is_least (origin_of (open_of start es) s.position) (rank, s.push)) → (f : Option (Origin Push)) → origin_of (open_of start es) s.position ≡ f →
-        new ≡ seen_of start es ++ map closed_entry (entered (is_wanted_in (seen_of start es) shares share) rank (open_of start es) s)
+    go : (b : Bool) → is_some (lookup (same_scene m) (seen_of start es)) ≡ b → false ≡ (b || is_least (origin_of (open_of start es) m) o) → (f : Option (Origin Push)) → origin_of (open_of start es) m ≡ f →
+        new ≡ seen_of start es ++ map closed_entry (let_in (seen_of start es) (open_of start es) (m, o))
     go true e t f g = cc
-    go false e t None g = wanted e (all (no_some (lookup (same_scene s.position) (seen_of start es)) e) (offered_first (open_of start es) s.position (rank, s.push) g))
-    go false e t (Some p) g = wanted e (all (no_some (lookup (same_scene s.position) (seen_of start es)) e)
-        (offered-less (open_of start es) s.position (rank, s.push) p g (not_false (is_lt (origin_cmp push_cmp (rank, s.push) p)) (t ∙ ap (λ x. is_least x (rank, s.push)) g))))
+    go false e t None g = wanted e (all (no_some (lookup (same_scene m) (seen_of start es)) e) (offered_first (open_of start es) m o g))
+    go false e t (Some p) g = wanted e (all (no_some (lookup (same_scene m) (seen_of start es)) e)
+        (offered-less (open_of start es) m o p g (not_false (is_lt (origin_cmp push_cmp o p)) (t ∙ ap (λ x. is_least x o) g))))
 
 -- ---- the keys of those that stand open
 

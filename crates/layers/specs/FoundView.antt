@@ -1,5 +1,5 @@
 -- What contracts see of the positions that a book has found.
-use Rattle.std.specs.Prelude.{◌≡◌, ℕ, ◌≤◌, Bool, false, ◌||◌, not, is_some, List, [], ◌∷◌, map, take, drop, length, slice_get, Option, Some, None}
+use Rattle.std.specs.Prelude.{◌≡◌, ℕ, ◌≤◌, Bool, false, ◌==◌, ◌||◌, not, is_some, List, [], ◌∷◌, ◌++◌, fold, map, take, drop, length, slice_get, Option, Some, None, if◌then◌else◌}
 use Rattle.std.specs.Map.{lookup}
 use Rattle.std.specs.Ordering.{is_lt}
 use Rattle.grid.specs.declared.dir.Dir.TheVariants.{D}
@@ -7,9 +7,9 @@ use Rattle.grid.specs.declared.square.Push.{Push}
 use Rattle.grid.specs.Board.{Scene, push_cmp}
 use Rattle.layers.specs.declared.parcel.Successor.{Successor}
 use Rattle.layers.specs.Openings.{Origin, Entry, origin_cmp}
-use Rattle.layers.specs.Origins.{same_scene}
+use Rattle.layers.specs.Origins.{same_scene, share_of}
 use Rattle.layers.specs.BookView.{Closed, origin_of}
-use Rattle.layers.specs.Books.{closed_entry}
+use Rattle.layers.specs.Books.{closed_entry, is_wanted_in, entered, offered}
 
 -- how many boxes each has at most, the closed positions in their order, and those that stand open
 pub record FoundView : Type 0 where
@@ -33,8 +33,30 @@ seen_of start es = take start es
 abbrev pub open_of : ℕ → List Closed → List (Entry Scene Push)
 open_of start es = map open_entry (drop start es)
 
-abbrev pub found_view : ℕ → ℕ → List Closed → FoundView
-found_view boxes start es = record { boxes = boxes; seen = seen_of start es; waiting = open_of start es }
+-- an offer enters: its position is offered with its origin, unless it is closed
+abbrev pub let_in : List Closed → List (Entry Scene Push) → Entry Scene Push → List (Entry Scene Push)
+let_in seen waiting e = if is_some (lookup (same_scene e.0) seen) then waiting else offered waiting e.0 e.1
+
+-- what stands open once the offers have entered, one after the other
+abbrev pub all_let_in : List Closed → List (Entry Scene Push) → List (Entry Scene Push) → List (Entry Scene Push)
+all_let_in seen waiting offers = fold (let_in seen) waiting offers
+
+-- what is found: of the entries those before a place are closed, and with those from it on stands open what the inbox has
+abbrev pub found_view : ℕ → ℕ → List Closed → List (Entry Scene Push) → FoundView
+found_view boxes start es inbox = record { boxes = boxes; seen = seen_of start es; waiting = all_let_in (seen_of start es) (open_of start es) inbox }
+
+-- what is found once the wanted successors of a rank have entered
+abbrev pub with_entered : FoundView → ℕ → ℕ → ℕ → List Successor → FoundView
+with_entered v shares share rank ss = record { boxes = v.boxes; seen = v.seen; waiting = fold (entered (is_wanted_in v.seen shares share) rank) v.waiting ss }
+
+-- the offer of a rank's successor, if its position is of the share
+abbrev pub offer_of : ℕ → ℕ → ℕ → Successor → List (Entry Scene Push)
+offer_of shares share rank s = if share_of shares s.position == share then (s.position, (rank, s.push)) ∷ [] else []
+
+-- the offers of a rank's successors
+abbrev pub offers_of : ℕ → ℕ → ℕ → List Successor → List (Entry Scene Push)
+offers_of shares share rank [] = []
+offers_of shares share rank (s ∷ ss) = offer_of shares share rank s ++ offers_of shares share rank ss
 
 -- the place lies within the entries, and each from it on has an origin
 pub record IsFound (start : ℕ) (es : List Closed) : Type 0 where

@@ -1,14 +1,11 @@
-ghost use Rattle.std.specs.Prelude.{◌≡◌, ℕ, ◌+◌, ◌<◌, ◌≤◌, nat_lt, Some, false, slice_get, IfNone, IfSome, IfErr, OnOk, OnErr, IfOk, length};
-ghost use Rattle.grid.specs.Lawful.{box_count};
-ghost use Rattle.layers.specs.FoundView.{HaveFew};
-ghost use Rattle.layers.specs.Reaching.{total};
-ghost use Rattle.layers.specs.Books.{IsAtWork, all_entered, MayBegin, with_begun, BeginRefused, ClaimAnswer, MayEnter, with_parcel, HandBackRefused, after_refusal, with_reopened, IsClosedBy, CloseRefused};
+ghost use Rattle.std.specs.Prelude.{◌≡◌, ◌<◌, Some, false, slice_get, IfNone, IfSome, IfErr, OnOk, OnErr, IfOk, length};
+ghost use Rattle.layers.specs.Books.{IsAtWork, MayBegin, with_begun, BeginRefused, ClaimAnswer, MayEnter, with_parcel, HandBackRefused, after_refusal, with_reopened, IsClosedBy, CloseRefused};
 
 use crate::book::{Book, Claim, Closed};
 use crate::closing::{all_marked, push_within};
 use crate::fault::{BeginFault, CloseFault, Refusal};
 use crate::layer::Layer;
-use crate::parcel::{Parcel, Successor};
+use crate::parcel::Parcel;
 
 impl Book {
     /// Opens the ranks of the last closed layer. An error leaves the book as it was.
@@ -73,7 +70,14 @@ impl Book {
             return Err(refusal);
         }
         let successors = parcel.successors();
-        if self.over || self.passes_limit(successors) {
+        if self.over {
+            return Err(Refusal::Over);
+        }
+        let limit = self.limit as usize;
+        if self
+            .found
+            .passes(limit, self.share, self.shares, successors)
+        {
             self.over = true;
             return Err(Refusal::Over);
         }
@@ -108,19 +112,6 @@ impl Book {
         }
     }
 
-    // Whether the book would hold more positions than its limit once the wanted successors of a rank have entered.
-    fn passes_limit(&self, successors: &[Successor]) -> bool
-        requires { HaveFew (box_count self.now.level) successors.now }
-        ensures { (rank : ℕ) → result ≡ nat_lt self.now.limit (total self.now.closed + length (all_entered self.now rank successors.now)) }
-    {
-        let room = self.limit as usize - (self.found.closed_len() + self.found.open_len());
-        if successors.len() <= room {
-            return false;
-        }
-        let count = self.found.count_new(self.share, self.shares, successors);
-        count > room
-    }
-
     /// Frees the ranks that are claimed and not done.
     pub fn reopen(&mut self)
         ensures { self.new ≡ with_reopened self.old }
@@ -140,7 +131,6 @@ impl Book {
             return Err(CloseFault::NotAll);
         }
         let layer = self.starts.len() as u64;
-        let count = self.found.open_len();
         let start = self.found.closed_len();
         if self.starts.reserve(1).is_err() {
             return Err(CloseFault::OutOfMemory);
@@ -148,6 +138,7 @@ impl Book {
         if self.found.close().is_err() {
             return Err(CloseFault::OutOfMemory);
         }
+        let count = self.found.closed_len() - start;
         push_within(&mut self.starts, start);
         self.claimed.clear();
         self.done.clear();

@@ -1,8 +1,8 @@
 //! What a book has found, with keys as wide as its level's boxes want.
-ghost use Rattle.std.specs.Prelude.{◌≡◌, ℕ, ◌+◌, ◌<◌, ◌≤◌, [], length, map, drop, fold, option_map, slice_get, IfOk, IfSome, OnOk, OnErr, Some};
+ghost use Rattle.std.specs.Prelude.{◌≡◌, ℕ, ◌+◌, ◌<◌, ◌≤◌, [], length, map, drop, nat_lt, option_map, slice_get, IfOk, IfSome, OnOk, OnErr, Some};
 ghost use Rattle.layers.specs.BookView.{Closed, origins_of};
-ghost use Rattle.layers.specs.Books.{IsSortedAppend, is_wanted_in, entered};
-ghost use Rattle.layers.specs.FoundView.{HaveFew, first_entries, origin_in};
+ghost use Rattle.layers.specs.Books.{IsSortedAppend};
+ghost use Rattle.layers.specs.FoundView.{HaveFew, first_entries, origin_in, with_entered};
 ghost use Rattle.layers.specs.inside.Insides.{IsCopied, squares_of};
 
 use crate::origin::{MOST_RANKS, Origin};
@@ -80,18 +80,6 @@ impl Found {
         }
     }
 
-    /// The number of positions that stand open.
-    pub(crate) fn open_len(&self) -> usize
-        ensures { result ≡ length self.now.waiting }
-    {
-        match &self.tables {
-            Tables::Narrow(table) => table.open_len(),
-            Tables::Middle(table) => table.open_len(),
-            Tables::Wide(table) => table.open_len(),
-            Tables::Widest(table) => table.open_len(),
-        }
-    }
-
     /// The closed position at a place; `None` exactly beyond them.
     pub(crate) fn closed_at(&self, place: usize) -> Option<Position>
         ensures { result ≡ option_map (λ e. e.0) (slice_get self.now.seen place) }
@@ -154,18 +142,25 @@ impl Found {
         }
     }
 
-    /// How many positions more stand open once the wanted successors of a rank have entered.
-    pub(crate) fn count_new(&self, share: u8, shares: u8, successors: &[Successor]) -> usize
+    /// Whether there would be more positions than a limit once the wanted successors of a rank have entered.
+    pub(crate) fn passes(
+        &mut self,
+        limit: usize,
+        share: u8,
+        shares: u8,
+        successors: &[Successor],
+    ) -> bool
         requires shares { 0 < shares }
-        requires few { HaveFew self.now.boxes successors.now }
-        ensures count { (rank : ℕ) → length (fold (entered (is_wanted_in self.now.seen shares share) rank) self.now.waiting successors.now) ≡ length self.now.waiting + result }
-        ensures bound { result ≤ length successors.now }
+        requires few { HaveFew self.old.boxes successors.now }
+        requires within { length self.old.seen + length self.old.waiting ≤ limit }
+        ensures passed { (rank : ℕ) → result ≡ nat_lt limit (length self.old.seen + length (with_entered self.old shares share rank successors.now).waiting) }
+        ensures same { self.new ≡ self.old }
     {
-        match &self.tables {
-            Tables::Narrow(table) => table.count_new(share, shares, successors),
-            Tables::Middle(table) => table.count_new(share, shares, successors),
-            Tables::Wide(table) => table.count_new(share, shares, successors),
-            Tables::Widest(table) => table.count_new(share, shares, successors),
+        match &mut self.tables {
+            Tables::Narrow(table) => table.passes(limit, share, shares, successors),
+            Tables::Middle(table) => table.passes(limit, share, shares, successors),
+            Tables::Wide(table) => table.passes(limit, share, shares, successors),
+            Tables::Widest(table) => table.passes(limit, share, shares, successors),
         }
     }
 
@@ -180,7 +175,7 @@ impl Found {
         requires shares { 0 < shares }
         requires rank { rank < MOST_RANKS }
         requires few { HaveFew self.old.boxes successors.now }
-        ensures ok { OnOk result (self.new ≡ record { boxes = self.old.boxes; seen = self.old.seen; waiting = fold (entered (is_wanted_in self.old.seen shares share) rank) self.old.waiting successors.now }) }
+        ensures ok { OnOk result (self.new ≡ with_entered self.old shares share rank successors.now) }
         ensures err { OnErr result (self.new ≡ self.old) }
     {
         match &mut self.tables {

@@ -43,6 +43,18 @@ impl<const N: usize> Key<N> {
         }
     }
 
+    /// An equal key.
+    pub(crate) fn copy(&self) -> Key<N>
+        ensures { result ≡ self.now }
+    {
+        let mut boxes = ArrayVec::new();
+        let _ = boxes.try_extend_from_slice(self.boxes.as_slice());
+        Key {
+            boxes,
+            player: self.player,
+        }
+    }
+
     /// The position.
     pub(crate) fn position(&self) -> Position
         ensures { result ≡ self.now }

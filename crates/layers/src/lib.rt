@@ -10,6 +10,7 @@ mod events;
 mod expansion;
 mod fault;
 mod found;
+mod inbox;
 mod join;
 mod key;
 pub mod laws;

@@ -1,15 +1,15 @@
-//! What a book has found, in one map with keys of one width: the closed positions, and after them those that stand open.
-ghost use Rattle.std.specs.Prelude.{◌≡◌, ℕ, ◌+◌, ◌<◌, ◌≤◌, ◌&&◌, ◌||◌, [], ◌++◌, not, is_some, length, map, drop, fold, option_map, slice_get, IfOk, IfSome, OnOk, OnErr, Some};
-ghost use Rattle.std.specs.List.{list_any};
-ghost use Rattle.layers.specs.BookView.{Closed, origin_of, origins_of};
-ghost use Rattle.layers.specs.Books.{IsSortedAppend, is_wanted_in, entered};
-ghost use Rattle.layers.specs.FoundView.{HaveFew, first_entries, origin_in};
+//! What a book has found, with keys of one width: in a map the closed positions, and after them those that stand open, and
+//! in an inbox those that were offered since.
+ghost use Rattle.std.specs.Prelude.{◌≡◌, ℕ, ◌+◌, ◌<◌, ◌≤◌, [], length, map, drop, nat_lt, option_map, slice_get, IfOk, IfSome, OnOk, OnErr, Some};
+ghost use Rattle.layers.specs.BookView.{Closed, origins_of};
+ghost use Rattle.layers.specs.Books.{IsSortedAppend};
+ghost use Rattle.layers.specs.FoundView.{HaveFew, first_entries, origin_in, with_entered};
 ghost use Rattle.layers.specs.inside.Insides.{IsCopied, squares_of};
-ghost use Rattle.layers.specs.Origins.{same_scene};
 
 use crate::closing::arrange;
 use crate::copying::{copy_entry, copy_from};
-use crate::entering::{enter_all, is_among, share_of};
+use crate::entering::{count_new, enter_all};
+use crate::inbox::{append_all, make_room};
 use crate::key::Key;
 use crate::origin::{ClosedOrigin, MOST_RANKS, Origin};
 use crate::parcel::Successor;
@@ -25,19 +25,22 @@ pub(crate) struct Table<const N: usize> {
     table: IndexMap<Key<N>, ClosedOrigin>,
     // what stands open begins here
     start: usize,
+    // what was offered since and is to enter, for which the map has room
+    inbox: Vec<(Key<N>, Origin)>,
 }
 
 impl<const N: usize> Model for Table<N> {
-    ghost use Rattle.std.specs.Prelude.{◌≤◌};
+    ghost use Rattle.std.specs.Prelude.{◌≤◌, length};
+    ghost use Rattle.indexmap.specs.IndexMap.{spare};
     ghost use Rattle.layers.specs.FoundView.{FoundView, IsFound, found_view};
 
     ghost Value = { FoundView };
 
-    ghost view = { λ a. found_view a.boxes a.start a.table.entries };
+    ghost view = { λ a. found_view a.boxes a.start a.table.entries a.inbox.items };
 
     ghost use Rattle.grid.specs.declared.limits.TheConstants.{MAX_BOXES};
 
-    ghost invariant = { λ a. (N ≤ MAX_BOXES) × (a.boxes ≤ N) × IsFound a.start a.table.entries };
+    ghost invariant = { λ a. (N ≤ MAX_BOXES) × (a.boxes ≤ N) × IsFound a.start a.table.entries × (length a.inbox.items ≤ spare a.table) };
 }
 
 impl<const N: usize> Table<N> {
@@ -68,6 +71,7 @@ impl<const N: usize> Table<N> {
             boxes,
             table,
             start,
+            inbox: Vec::new(alloc),
         })
     }
 
@@ -76,13 +80,6 @@ impl<const N: usize> Table<N> {
         ensures { result ≡ length self.now.seen }
     {
         self.start
-    }
-
-    /// The number of positions that stand open.
-    pub(crate) fn open_len(&self) -> usize
-        ensures { result ≡ length self.now.waiting }
-    {
-        self.table.len() - self.start
     }
 
     /// The closed position at a place; `None` exactly beyond them.
@@ -138,37 +135,27 @@ impl<const N: usize> Table<N> {
         copy_from(alloc, &self.table, self.boxes, from, self.start)
     }
 
-    /// How many positions more stand open once the wanted successors of a rank have entered.
-    pub(crate) fn count_new(&self, share: u8, shares: u8, successors: &[Successor]) -> usize
+    /// Whether there would be more positions than a limit once the wanted successors of a rank have entered.
+    pub(crate) fn passes(
+        &mut self,
+        limit: usize,
+        share: u8,
+        shares: u8,
+        successors: &[Successor],
+    ) -> bool
         requires shares { 0 < shares }
-        requires few { HaveFew self.now.boxes successors.now }
-        ensures count { (rank : ℕ) → length (fold (entered (is_wanted_in self.now.seen shares share) rank) self.now.waiting successors.now) ≡ length self.now.waiting + result }
-        ensures bound { result ≤ length successors.now }
+        requires few { HaveFew self.old.boxes successors.now }
+        requires within { length self.old.seen + length self.old.waiting ≤ limit }
+        ensures passed { (rank : ℕ) → result ≡ nat_lt limit (length self.old.seen + length (with_entered self.old shares share rank successors.now).waiting) }
+        ensures same { self.new ≡ self.old }
     {
-        let mut count = 0;
-        for (place, successor) in successors.iter().enumerate() {
-            if self.is_new(share, shares, &successors[..place], &successor.position) {
-                count += 1;
-            }
-        }
-        count
-    }
-
-    // Whether a successor stands open only once it has entered after those before it.
-    fn is_new(&self, share: u8, shares: u8, before: &[Successor], position: &Position) -> bool
-        requires shares { 0 < shares }
-        requires few { length position.now.boxes ≤ self.now.boxes }
-        ensures { result ≡ (is_wanted_in self.now.seen shares share position.now && not (is_some (origin_of self.now.waiting position.now) || list_any (λ s. same_scene s.position position.now) before.now)) }
-    {
-        let table = &self.table;
-        if share_of(position, shares) != share {
+        let room = limit - self.table.len();
+        if self.inbox.len() + successors.len() <= room {
             return false;
         }
-        let key: Key<N> = Key::of(position);
-        if table.contains_key(&key) {
-            return false;
-        }
-        !is_among(before, position)
+        enter_all(&mut self.table, self.start, &mut self.inbox);
+        let room = limit - self.table.len();
+        count_new(&self.table, self.start, share, shares, successors) > room
     }
 
     /// Enters the wanted successors of a rank, one after the other. An error leaves all as it was.
@@ -182,11 +169,11 @@ impl<const N: usize> Table<N> {
         requires shares { 0 < shares }
         requires rank { rank < MOST_RANKS }
         requires few { HaveFew self.old.boxes successors.now }
-        ensures ok { OnOk result (self.new ≡ record { boxes = self.old.boxes; seen = self.old.seen; waiting = fold (entered (is_wanted_in self.old.seen shares share) rank) self.old.waiting successors.now }) }
+        ensures ok { OnOk result (self.new ≡ with_entered self.old shares share rank successors.now) }
         ensures err { OnErr result (self.new ≡ self.old) }
     {
-        self.table.reserve(successors.len())?;
-        enter_all(&mut self.table, self.start, share, shares, rank, successors);
+        make_room(&mut self.table, self.start, &mut self.inbox, successors)?;
+        append_all(&mut self.inbox, share, shares, rank, successors);
         Ok(())
     }
 
@@ -197,7 +184,9 @@ impl<const N: usize> Table<N> {
         ensures waiting { OnOk result (self.new.waiting ≡ []) }
         ensures err { OnErr result (self.new ≡ self.old) }
     {
-        arrange(&mut self.table, self.start)?;
+        let start = self.start;
+        enter_all(&mut self.table, start, &mut self.inbox);
+        arrange(&mut self.table, start)?;
         self.start = self.table.len();
         Ok(())
     }

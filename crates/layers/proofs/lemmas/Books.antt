@@ -1,5 +1,5 @@
 -- The events of a book keep it lawful.
-use Rattle.std.proofs.Common.{◌≡◌, ℕ, zero, suc, ◌+◌, ◌-◌, ◌<◌, ◌≤◌, Bool, true, false, cond, ◌&&◌, ◌==◌, not, List, [], ◌∷◌, ◌++◌, length, map, fold, sum, take, replicate, count_by, get_or, set, ltb, is_some, Option, Some, None, ◌⊎◌, inl, inr, refl, sym, ap, subst, ◌∙◌, if◌then◌else◌, arith}
+use Rattle.std.proofs.Common.{◌≡◌, ℕ, zero, suc, ◌+◌, ◌-◌, ◌<◌, ◌≤◌, Bool, true, false, cond, ◌&&◌, ◌==◌, not, List, [], ◌∷◌, ◌++◌, length, map, fold, sum, take, replicate, count_by, get_or, set, ltb, Some, ◌⊎◌, inl, inr, refl, sym, ap, subst, ◌∙◌, if◌then◌else◌, arith}
 use Rattle.std.proofs.lemmas.Bool.{cases_lt, true≢false}
 use Rattle.std.proofs.lemmas.Bool.Decides.{nat_tests}
 use Rattle.std.proofs.lemmas.List.Sums.{count_by-le-length}
@@ -28,7 +28,7 @@ use Rattle.layers.specs.BookView.{BookView, Closed, last_layer, places_of, InSha
 use Rattle.layers.specs.Distances.{IsAtDistance}
 use Rattle.layers.specs.Books.{MayBegin, HasBegun, with_begun, offered, is_closed, is_wanted, is_wanted_in, entered, all_entered, with_parcel, IsAtWork, PassesLimit, MayEnter, with_reopened, IsTaken, AllDone, with_closed, closed_entry, RiseByOrigin, AreReordered, IsSortedOpen, IsClosedBy}
 use Rattle.layers.proofs.lemmas.Exchange.{at_map, map_at, lead_unique, found, entry_lead, next_layer}
-use Rattle.layers.proofs.Offers.{same_true, same_since, origin_of-offered, origin_of-other, open_places, offered-distinct, offered-each, listed-origin, origin-listed, length-offered}
+use Rattle.layers.proofs.Offers.{same_true, same_since, origin_of-offered, origin_of-other, open_places, offered-distinct, offered-each, listed-origin, origin-listed}
 use Rattle.layers.proofs.lemmas.Layers.{member, layer_unique}
 use Rattle.layers.specs.declared.book.Book.TheInside.{Inside}
 use Rattle.layers.specs.inside.BookInside.{book_view, cut_at, AreCuts}
@@ -636,38 +636,28 @@ marks_long v book = go v.begun refl
 pub wanted_same : (a : Inside) → AreCuts a.starts.items (length a.found.seen) → is_wanted (book_view a) ≡ is_wanted_in a.found.seen a.shares a.share
 wanted_same a cuts = λ i m. (share_of a.shares m == a.share) && not (any-cuts (same_scene m) a.starts.items a.found.seen cuts i)
 
-length-entered-le : (wanted : Scene → Bool) (rank : ℕ) (ss : List Successor) (es : List (Entry Scene Push)) → length (fold (entered wanted rank) es ss) ≤ length es + length ss
-length-entered-le wanted rank [] es = omega arith
-length-entered-le wanted rank (s ∷ ss) es = omega (arith, length-entered-le wanted rank ss (entered wanted rank es s), one (wanted s.position))
-  where
-    some : (o : Option (Origin Push)) → cond (is_some o) 0 1 ≤ 1
-    some None = omega arith
-    some (Some o) = omega arith
+-- the limit is passed by the fields where it is by the view
+pub limit_same : (a : Inside) → AreCuts a.starts.items (length a.found.seen) → (now : BookView) → book_view a ≡ now → (rank : ℕ) (ss successors : List Successor) → ss ≡ successors → (passes : Bool) →
+    passes ≡ ltb a.limit (length a.found.seen + length (fold (entered (is_wanted_in a.found.seen a.shares a.share) rank) a.found.waiting ss)) → passes ≡ ltb now.limit (total now.closed + length (all_entered now rank successors))
+limit_same a cuts now view rank ss successors same passes e =
+    let held = sym (total-cuts a.starts.items a.found.seen cuts) in
+    let wanted = sym (wanted_same a cuts) in
+    e ∙ (λ i. ltb a.limit (held i + length (fold (entered (wanted i) rank) a.found.waiting ss)))
+    ∙ (λ i. ltb (view i).limit (total (view i).closed + length (all_entered (view i) rank (same i))))
 
-    one : (b : Bool) → length (if b then offered es s.position (rank, s.push) else es) ≤ suc (length es)
-    one true = omega (arith, length-offered es s.position (rank, s.push), some (origin_of es s.position))
-    one false = omega arith
-
--- where there is room for all successors, the limit is not passed
-pub within_limit : (a : Inside) → AreCuts a.starts.items (length a.found.seen) → (rank : ℕ) (ss : List Successor) → length a.found.seen + length a.found.waiting + length ss ≤ a.limit → false ≡ ltb a.limit (total (book_view a).closed + length (all_entered (book_view a) rank ss))
-within_limit a cuts rank ss room =
-    let n = total-cuts a.starts.items a.found.seen cuts in
-    let m = length-entered-le (is_wanted (book_view a)) rank ss a.found.waiting in
-    sym (not_less a.limit (total (book_view a).closed + length (all_entered (book_view a) rank ss)) (omega arith))
+-- where the new positions pass the limit, the book would hold too many
+pub over_limit : (now : BookView) (parcel : ParcelView) → true ≡ ltb now.limit (total now.closed + length (all_entered now parcel.rank parcel.successors)) → PassesLimit now parcel
+over_limit now parcel more = inr (below now.limit (total now.closed + length (all_entered now parcel.rank parcel.successors)) more)
   where
-    not_less : (x y : ℕ) → y ≤ x → ltb x y ≡ false
-    not_less x y le = grind (arith, nat_tests)
+    below : (x y : ℕ) → true ≡ ltb x y → x < y
+    below x y h = grind (arith, nat_tests)
 
--- and otherwise the new positions are counted
-pub counted_limit : (a : Inside) → AreCuts a.starts.items (length a.found.seen) → (rank n held : ℕ) (ss : List Successor) → length (fold (entered (is_wanted_in a.found.seen a.shares a.share) rank) a.found.waiting ss) ≡ length a.found.waiting + n → held ≡ length a.found.seen + length a.found.waiting → held ≤ a.limit →
-    ltb (a.limit - held) n ≡ ltb a.limit (total (book_view a).closed + length (all_entered (book_view a) rank ss))
-counted_limit a cuts rank n held ss count is room =
-    let t = total-cuts a.starts.items a.found.seen cuts in
-    let e = ap (λ w. length (fold (entered w rank) a.found.waiting ss)) (wanted_same a cuts) in
-    shifted a.limit held n (total (book_view a).closed + length (all_entered (book_view a) rank ss)) room (omega arith)
+-- and where they don't, the parcel may enter
+pub may_enter : (now : BookView) (parcel : ParcelView) → IsAtWork now parcel × (slice_get now.done parcel.rank ≡ Some false) → now.over ≡ false → false ≡ ltb now.limit (total now.closed + length (all_entered now parcel.rank parcel.successors)) → MayEnter now parcel
+may_enter now parcel found over less = (found.0, found.1, over, not_below now.limit (total now.closed + length (all_entered now parcel.rank parcel.successors)) less)
   where
-    shifted : (limit h k all : ℕ) → h ≤ limit → all ≡ h + k → ltb (limit - h) k ≡ ltb limit all
-    shifted limit h k all le e = grind (arith, nat_tests)
+    not_below : (x y : ℕ) → false ≡ ltb x y → y ≤ x
+    not_below x y h = grind (arith, nat_tests)
 
 -- ---- a hand back, on the fields
 
@@ -689,26 +679,12 @@ module _ (a : Inside) (book : IsLawfulBook (book_view a)) (cuts : AreCuts a.star
       worker < a.workers → a.over ≡ false → (false ≡ ltb now.limit (total now.closed + length (all_entered now parcel.rank parcel.successors))) →
       IsLawfulBook (record (book_view a) { done = set a.done.items rank true; waiting = waiting; tallies = set a.tallies.items worker tally })
   handed worker rank tally waiting e f g lt over below =
-      let may : MayEnter (book_view a) parcel = (
-        at_work.0,
-        at_work.1,
-        over,
-        subst (λ v. total v.closed + length (all_entered v parcel.rank parcel.successors) ≤ v.limit) (sym view) (not_below now.limit (total now.closed + length (all_entered now parcel.rank parcel.successors)) below),
-      ) in
+      let may : MayEnter (book_view a) parcel = subst (λ v. MayEnter v parcel) (sym view) (may_enter now parcel found (ap (λ (v : BookView). v.over) (sym view) ∙ over) below) in
       subst IsLawfulBook (sym (handed_view worker rank tally waiting e f g ∙ ap (λ v. with_parcel v worker parcel) (sym view))) (lawful_parcel (book_view a) worker parcel book lt is may)
-    where
-      not_below : (x y : ℕ) → false ≡ ltb x y → y ≤ x
-      not_below x y h = grind (arith, nat_tests)
 
   -- where the limit is passed the book is over
-  pub over_lawful : (a.over ≡ true) ⊎ (true ≡ ltb now.limit (total now.closed + length (all_entered now parcel.rank parcel.successors))) → IsLawfulBook (record (book_view a) { over = true })
-  over_lawful passed = lawful_over (book_view a) parcel book is at_work.0 at_work.1 (elim passed [
-    | inl before ↦ inl before
-    | inr more ↦ inr (subst (λ v. v.limit < total v.closed + length (all_entered v parcel.rank parcel.successors)) (sym view) (below now.limit (total now.closed + length (all_entered now parcel.rank parcel.successors)) more))
-  ])
-    where
-      below : (x y : ℕ) → true ≡ ltb x y → x < y
-      below x y h = grind (arith, nat_tests)
+  pub over_lawful : (true ≡ ltb now.limit (total now.closed + length (all_entered now parcel.rank parcel.successors))) → IsLawfulBook (record (book_view a) { over = true })
+  over_lawful more = lawful_over (book_view a) parcel book is at_work.0 at_work.1 (subst (λ v. PassesLimit v parcel) (sym view) (over_limit now parcel more))
 
 -- the successors of a parcel have as many boxes as its level
 pub fits_few : (parcel : ParcelView) → IsParcel parcel → (board : Board) → parcel.level ≡ board → (ss : List Successor) → ss ≡ parcel.successors → HaveFew (box_count board) ss

@@ -1,4 +1,5 @@
-use Rattle.std.proofs.Common.{◌≡◌, ◌++◌, ◌∷◌, [], ℕ, ◌<◌, List, get_or, length, map, true, false, Some, inl, inr, sym, ap, subst, ◌∙◌, arith}
+use Rattle.std.proofs.Common.{◌≡◌, ◌++◌, ◌∷◌, [], ℕ, ◌-◌, ◌<◌, List, get_or, length, map, true, false, Some, inl, inr, sym, ap, subst, ◌∙◌, arith}
+use Rattle.std.proofs.lemmas.List.{length-append, length-map}
 use Rattle.std.specs.Prelude.{slice_get}
 use Rattle.layers.specs.FoundView.{FoundView}
 use Rattle.layers.specs.inside.BookInside.{book_view, cut_at, AreCuts, IsSoundBook}
@@ -72,4 +73,5 @@ returns-clause-ok c =
     let seen_are : c.close.new.self.seen ≡ a.found.seen ++ map closed_entry ys = done.3 in
     let long : c.len-layer.result ≡ length a.starts.items = omega (arith, c.len-layer.ensures) in
     closed_by a c.self.invariant.lawful c.self.invariant.cuts all ys same rise c.push_within.new.places.items c.close.new.self.seen c.clear.new.self.items c.clear-2.new.self.items c.close.new.self.waiting c.closed_len-start.result starts_are n_is seen_are c.clear.ensures.items c.clear-2.ensures.items waits
-    c.args.self.now c.self.view_is c.len-layer.result c.open_len-count.result long c.open_len-count.ensures
+    c.args.self.now c.self.view_is c.len-layer.result (c.closed_len.result - c.closed_len-start.result) long
+    (omega (arith, c.closed_len.ensures, n_is, ap length seen_are, length-append a.found.seen (map closed_entry ys), length-map ys closed_entry, same.0))

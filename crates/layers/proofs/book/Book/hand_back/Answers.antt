@@ -1,36 +1,58 @@
-use Rattle.std.proofs.Common.{◌≡◌, ◌+◌, ◌<◌, List, length, fold, get_or, set, slice_get, true, false, Some, inl, inr, ap, sym, subst, ◌∙◌, arith}
-use Rattle.std.specs.Prelude.{nat_lt}
+use Rattle.std.proofs.Common.{◌≡◌, ◌+◌, ◌<◌, List, length, fold, get_or, set, slice_get, true, false, Some, ap, sym, subst, ◌∙◌, arith}
 use Rattle.grid.specs.Lawful.{box_count}
 use Rattle.layers.specs.BookView.{BookView, Closed, IsLawfulBook}
-use Rattle.layers.specs.FoundView.{FoundView}
+use Rattle.layers.specs.FoundView.{FoundView, with_entered}
 use Rattle.layers.specs.inside.BookInside.{book_view, cut_at, AreCuts, IsSoundBook}
-use Rattle.layers.specs.Books.{IsAtWork, is_wanted_in, entered, all_entered}
-use Rattle.layers.specs.Reaching.{total}
-use Rattle.layers.proofs.lemmas.Books.{few_ranks, handed, handed_view, over_lawful, taken_done, get_or_same, fits_few}
+use Rattle.layers.specs.Books.{IsAtWork, is_wanted_in, entered}
+use Rattle.layers.proofs.Cuts.{total-cuts}
+use Rattle.layers.proofs.lemmas.Books.{few_ranks, handed, handed_view, limit_same, may_enter, over_limit, over_lawful, taken_done, get_or_same, fits_few}
 use Rattle.layers.proofs.lemmas.Closings.{ok_is, err_is}
-use Rattle.layers.proofs.book.Book.hand_back.Goals.{then-self-via-then-self, then-self-via-else-self+then-passes_limit}
 use Rattle.layers.proofs.book.Book.hand_back.Goals as goal
+
+pub passes-requires-clause-few : goal.passes-requires-clause-few
+passes-requires-clause-few c = λ i s at.
+    let found : IsAtWork c.args.self.now c.args.parcel.now × (slice_get c.args.self.now.done c.args.parcel.now.rank ≡ Some false) = c.in_default.ensures.none in
+    let boxes : c.self.inside.found.boxes ≡ box_count c.args.self.now.level = c.self.invariant.boxes ∙ ap (λ (v : BookView). box_count v.level) c.self.view_is in
+    let few = fits_few c.args.parcel.now c.tell.ensures c.args.self.now.level found.0.0 c.successors-successors.result.now c.successors-successors.ensures i s at in
+    omega (arith, few, boxes)
+
+pub passes-requires-clause-within : goal.passes-requires-clause-within
+passes-requires-clause-within c = omega (arith, c.self.invariant.lawful.within, total-cuts c.self.inside.starts.items c.self.inside.found.seen c.self.invariant.cuts)
+
+pub returns-then-self-clause-err : goal.returns-then-self-clause-err
+returns-then-self-clause-err c = λ i. record c.args.self.now { over = (ap (λ (v : BookView). v.over) (sym c.self.view_is) ∙ c.if-self.true) i }
+
+pub returns-then-passes-clause-refusal : goal.returns-then-passes-clause-refusal
+returns-then-passes-clause-refusal c =
+    let a = c.self.inside in let p = c.args.parcel.now in let now = c.args.self.now in
+    let found : IsAtWork now p × (slice_get now.done p.rank ≡ Some false) = c.in_default.ensures.none in
+    let passed = limit_same a c.self.invariant.cuts now c.self.view_is p.rank c.successors-successors.result.now p.successors c.successors-successors.ensures true (c.if-passes.ensures.passed p.rank) in
+    (found.0, found.1, over_limit now p passed)
+
+pub returns-then-is_err-clause-refusal : goal.returns-then-is_err-clause-refusal
+returns-then-is_err-clause-refusal c =
+    let a = c.self.inside in let p = c.args.parcel.now in let now = c.args.self.now in
+    let within = limit_same a c.self.invariant.cuts now c.self.view_is p.rank c.successors-successors.result.now p.successors c.successors-successors.ensures false (c.if-passes.ensures.passed p.rank) in
+    may_enter now p c.in_default.ensures.none (ap (λ (v : BookView). v.over) (sym c.self.view_is) ∙ c.if-self.false) within
+
+pub returns-clause-may : goal.returns-clause-may
+returns-clause-may c =
+    let a = c.self.inside in let p = c.args.parcel.now in let now = c.args.self.now in
+    let within = limit_same a c.self.invariant.cuts now c.self.view_is p.rank c.successors-successors.result.now p.successors c.successors-successors.ensures false (c.if-passes.ensures.passed p.rank) in
+    may_enter now p c.in_default.ensures.none (ap (λ (v : BookView). v.over) (sym c.self.view_is) ∙ c.if-self.false) within
 
 pub invariant_of-self : goal.invariant_of-self
 invariant_of-self c =
     let a = c.self.inside in let p = c.args.parcel.now in let now = c.args.self.now in
     let found : IsAtWork now p × (slice_get now.done p.rank ≡ Some false) = c.in_default.ensures.none in
-    record {
-      lawful = over_lawful a c.self.invariant.lawful c.self.invariant.cuts p c.tell.ensures now c.self.view_is found
-          (elim c.then-self.branch [
-            | then-self-via-then-self w ↦ inl w.if-self.true
-            | then-self-via-else-self+then-passes_limit w ↦ inr (subst (λ ss. true ≡ nat_lt now.limit (total now.closed + length (all_entered now p.rank ss))) c.successors-successors.ensures (w.if-passes_limit.ensures p.rank))
-          ]);
+    let passed = limit_same a c.self.invariant.cuts now c.self.view_is p.rank c.successors-successors.result.now p.successors c.successors-successors.ensures true (c.if-passes.ensures.passed p.rank) in
+    subst (λ (f : FoundView). IsSoundBook (record a { found = f; over = true })) (sym c.passes.ensures.same) (record {
+      lawful = over_lawful a c.self.invariant.lawful c.self.invariant.cuts p c.tell.ensures now c.self.view_is found passed;
       few = c.self.invariant.few;
       boxes = c.self.invariant.boxes;
       cuts = c.self.invariant.cuts;
       taken = c.self.invariant.taken;
-    }
-
-pub passes_limit-requires : goal.passes_limit-requires
-passes_limit-requires c = λ i s at.
-    let found : IsAtWork c.args.self.now c.args.parcel.now × (slice_get c.args.self.now.done c.args.parcel.now.rank ≡ Some false) = c.in_default.ensures.none in
-    fits_few c.args.parcel.now c.tell.ensures c.args.self.now.level found.0.0 c.successors-successors.result.now c.successors-successors.ensures i s at
+    })
 
 pub enter_all-requires-clause-rank : goal.enter_all-requires-clause-rank
 enter_all-requires-clause-rank c =
@@ -44,18 +66,18 @@ enter_all-requires-clause-few c = λ i s at.
     let found : IsAtWork c.args.self.now c.args.parcel.now × (slice_get c.args.self.now.done c.args.parcel.now.rank ≡ Some false) = c.in_default.ensures.none in
     let boxes : c.self.inside.found.boxes ≡ box_count c.args.self.now.level = c.self.invariant.boxes ∙ ap (λ (v : BookView). box_count v.level) c.self.view_is in
     let few = fits_few c.args.parcel.now c.tell.ensures c.args.self.now.level found.0.0 c.successors-successors.result.now c.successors-successors.ensures i s at in
-    omega (arith, few, boxes)
+    omega (arith, few, boxes, ap (λ (f : FoundView). f.boxes) c.passes.ensures.same)
 
 pub invariant_of-self-then-is_err : goal.invariant_of-self-then-is_err
 invariant_of-self-then-is_err c =
-    let kept : c.enter_all.new.self ≡ c.self.inside.found = err_is c.enter_all.result c.if-is_err.ensures.value c.enter_all.ensures.err in
+    let kept : c.enter_all.new.self ≡ c.self.inside.found = err_is c.enter_all.result c.if-is_err.ensures.value c.enter_all.ensures.err ∙ c.passes.ensures.same in
     subst (λ (f : FoundView). IsSoundBook (record c.self.inside { found = f })) (sym kept) c.self.invariant
 
 pub invariant_of-self-2 : goal.invariant_of-self-2
 invariant_of-self-2 c =
     let a = c.self.inside in let p = c.args.parcel.now in let now = c.args.self.now in
     let found : IsAtWork now p × (slice_get now.done p.rank ≡ Some false) = c.in_default.ensures.none in
-    let put = ok_is c.enter_all.result c.if-is_err.ensures.value c.enter_all.ensures.ok in
+    let put = ok_is c.enter_all.result c.if-is_err.ensures.value c.enter_all.ensures.ok ∙ ap (λ (f : FoundView). with_entered f a.shares a.share c.rank.result c.successors-successors.result.now) c.passes.ensures.same in
     let seen : c.enter_all.new.self.seen ≡ a.found.seen = ap (λ (f : FoundView). f.seen) put in
     let waits : c.enter_all.new.self.waiting ≡ fold (entered (is_wanted_in a.found.seen a.shares a.share) p.rank) a.found.waiting p.successors =
     ap (λ (f : FoundView). f.waiting) put ∙ (λ i. fold (entered (is_wanted_in a.found.seen a.shares a.share) (c.rank.ensures i)) a.found.waiting (c.successors-successors.ensures i)) in
@@ -66,7 +88,7 @@ invariant_of-self-2 c =
       lawful = subst (λ (xs : List Closed). IsLawfulBook (record (book_view a) { closed = cut_at a.starts.items xs; done = set a.done.items c.rank-2.result true; waiting = c.enter_all.new.self.waiting; tallies = set a.tallies.items c.args.worker (c.index_mut-2.result.now + 1) })) (sym seen)
           (handed a c.self.invariant.lawful c.self.invariant.cuts p c.tell.ensures now c.self.view_is found c.args.worker c.rank-2.result (c.index_mut-2.result.now + 1) c.enter_all.new.self.waiting
           c.rank-2.ensures tally waits (subst (λ v. c.args.worker < v.workers) (sym c.self.view_is) c.requires) c.if-self.false
-          (subst (λ ss. false ≡ nat_lt now.limit (total now.closed + length (all_entered now p.rank ss))) c.successors-successors.ensures (c.if-passes_limit.ensures p.rank)));
+          (limit_same a c.self.invariant.cuts now c.self.view_is p.rank c.successors-successors.result.now p.successors c.successors-successors.ensures false (c.if-passes.ensures.passed p.rank)));
       few = c.self.invariant.few;
       boxes = ap (λ (f : FoundView). f.boxes) put ∙ c.self.invariant.boxes;
       cuts = subst (λ (xs : List Closed). AreCuts a.starts.items (length xs)) (sym seen) c.self.invariant.cuts;
@@ -75,14 +97,14 @@ invariant_of-self-2 c =
 
 pub returns-then-is_err-clause-err : goal.returns-then-is_err-clause-err
 returns-then-is_err-clause-err c =
-    let kept : c.enter_all.new.self ≡ c.self.inside.found = err_is c.enter_all.result c.if-is_err.ensures.value c.enter_all.ensures.err in
+    let kept : c.enter_all.new.self ≡ c.self.inside.found = err_is c.enter_all.result c.if-is_err.ensures.value c.enter_all.ensures.err ∙ c.passes.ensures.same in
     ap (λ (f : FoundView). book_view (record c.self.inside { found = f })) kept ∙ c.self.view_is
 
 pub returns-clause-ok : goal.returns-clause-ok
 returns-clause-ok c =
     let a = c.self.inside in let p = c.args.parcel.now in let now = c.args.self.now in
     let found : IsAtWork now p × (slice_get now.done p.rank ≡ Some false) = c.in_default.ensures.none in
-    let put = ok_is c.enter_all.result c.if-is_err.ensures.value c.enter_all.ensures.ok in
+    let put = ok_is c.enter_all.result c.if-is_err.ensures.value c.enter_all.ensures.ok ∙ ap (λ (f : FoundView). with_entered f a.shares a.share c.rank.result c.successors-successors.result.now) c.passes.ensures.same in
     let seen : c.enter_all.new.self.seen ≡ a.found.seen = ap (λ (f : FoundView). f.seen) put in
     let waits : c.enter_all.new.self.waiting ≡ fold (entered (is_wanted_in a.found.seen a.shares a.share) p.rank) a.found.waiting p.successors =
     ap (λ (f : FoundView). f.waiting) put ∙ (λ i. fold (entered (is_wanted_in a.found.seen a.shares a.share) (c.rank.ensures i)) a.found.waiting (c.successors-successors.ensures i)) in

@@ -2,15 +2,16 @@ use Rattle.std.proofs.Common.{◌≡◌, ◌+◌, ◌∷◌, [], ◌++◌, cond,
 use Rattle.std.proofs.lemmas.List.{take_more}
 use Rattle.layers.specs.declared.parcel.Successor.{Successor}
 use Rattle.layers.specs.Books.{is_wanted_in, entered}
+use Rattle.layers.specs.FoundView.{seen_of, open_of}
 use Rattle.layers.proofs.Offers.{length-entered}
-use Rattle.layers.proofs.table.Table.count_new.Goals.{then-is_new, else-is_new}
-use Rattle.layers.proofs.table.Table.count_new.Goals as goal
+use Rattle.layers.proofs.entering.count_new.Goals.{then-is_new, else-is_new}
+use Rattle.layers.proofs.entering.count_new.Goals as goal
 
 pub loop-place-preserved : goal.loop-place-preserved
 loop-place-preserved g c =
     let ss = c.args.successors.now in let place = c.loop-place.place in
-    let ws = c.args.self.now.waiting in
-    let wanted = is_wanted_in c.args.self.now.seen c.args.shares c.args.share in
+    let ws = open_of c.args.start c.args.table.now.entries in
+    let wanted = is_wanted_in (seen_of c.args.start c.args.table.now.entries) c.args.shares c.args.share in
     let s : Successor = c.index-successors-place.result in
     let e : take (place + 1) ss ≡ take place ss ++ s ∷ [] = take_more ss place s c.loop-place-test.true ∙ ap (λ (x : Successor). take place ss ++ x ∷ []) (sym c.index-successors-place.is) in
     let step : (rank : ℕ) → length (fold (entered wanted rank) ws (take (place + 1) ss)) ≡ length ws + c.loop-place.count + cond c.is_new.result 1 0 =

@@ -1,0 +1,27 @@
+use Rattle.std.proofs.Common.{◌≡◌, ◌++◌, ◌∷◌, [], List, sym, ◌∙◌, if◌then◌else◌}
+use Rattle.grid.specs.declared.square.Push.{Push}
+use Rattle.grid.specs.Board.{Scene}
+use Rattle.layers.specs.Openings.{Entry}
+use Rattle.layers.specs.Origins.{share_of}
+use Rattle.layers.specs.FoundView.{offer_of}
+use Rattle.layers.specs.declared.parcel.Successor.{Successor}
+use Rattle.layers.proofs.Tails.{same_number, other_number}
+use Rattle.std.proofs.lemmas.List.{append-nil}
+use Rattle.layers.proofs.inbox.append.Goals as goal
+
+pub returns-then-share_of-share-clause-items : goal.returns-then-share_of-share-clause-items
+returns-then-share_of-share-clause-items g c =
+    let s : Successor = c.args.successor.now in
+    let before = c.args.inbox.now.items in
+    let e = other_number (share_of c.args.shares s.position) c.args.share (λ h. c.if-share_of-share.true (c.share_of.ensures ∙ h)) in
+    sym (append-nil before) ∙ (λ i. before ++ (if sym e i then (s.position, (c.args.rank, s.push)) ∷ [] else []))
+
+pub returns-clause-items : goal.returns-clause-items
+returns-clause-items g c =
+    let s : Successor = c.args.successor.now in
+    let before : List (Entry Scene Push) = c.args.inbox.now.items in
+    let e = same_number (share_of c.args.shares s.position) c.args.share (sym c.share_of.ensures ∙ c.if-share_of-share.false) in
+    let here : before ++ (c.of.result, c.new-origin.result) ∷ [] ≡ before ++ (s.position, (c.args.rank, s.push)) ∷ [] = λ i. before ++ (c.of.ensures i, c.new-origin.ensures i) ∷ [] in
+    let wanted : before ++ (s.position, (c.args.rank, s.push)) ∷ [] ≡ before ++ offer_of c.args.shares c.args.share c.args.rank s = λ i. before ++ (if sym e i then (s.position, (c.args.rank, s.push)) ∷ [] else []) in
+    let put : c.push_reserved.new.self.items ≡ before ++ (c.of.result, c.new-origin.result) ∷ [] = c.push_reserved.ensures.items in
+    ◌∙◌ {A = List (Entry Scene Push)} put (◌∙◌ {A = List (Entry Scene Push)} here wanted)

@@ -1,0 +1,101 @@
+//! Offers that wait in an inbox until they enter, many at a time.
+ghost use Rattle.std.specs.Prelude.{◌≡◌, ℕ, ◌+◌, ◌<◌, ◌≤◌, ◌++◌, length, vec_len, OnOk};
+ghost use Rattle.std.specs.Vec.{vec_capacity};
+ghost use Rattle.indexmap.specs.IndexMap.{spare};
+ghost use Rattle.layers.specs.FoundView.{HaveFew, IsFound, found_view, offer_of, offers_of};
+
+use crate::entering::{enter_all, share_of};
+use crate::key::Key;
+use crate::origin::{ClosedOrigin, MOST_RANKS, Origin};
+use crate::parcel::Successor;
+use grid::MAX_BOXES;
+use indexmap::IndexMap;
+use std::alloc::AllocError;
+
+/// So many offers wait before they enter, so that an inbox stays small beside the map.
+const FULL: usize = 256;
+
+/// Makes room for the offers of a rank's successors, in the inbox and in the map that they are to enter; where many
+/// wait already, these enter first. What is found stays as it was. The only error is that memory was refused.
+pub(crate) fn make_room<const N: usize>(
+    table: &mut IndexMap<Key<N>, ClosedOrigin>,
+    start: usize,
+    inbox: &mut Vec<(Key<N>, Origin)>,
+    successors: &[Successor],
+) -> Result<(), AllocError>
+    requires width { N ≤ MAX_BOXES }
+    requires room { length inbox.old.items ≤ spare table.old }
+    requires found { IsFound start table.old.entries }
+    ensures found { IsFound start table.new.entries }
+    ensures same { (boxes : ℕ) → found_view boxes start table.new.entries inbox.new.items ≡ found_view boxes start table.old.entries inbox.old.items }
+    ensures room { length inbox.new.items ≤ spare table.new }
+    ensures ok { OnOk result ((length inbox.new.items + length successors.now ≤ spare table.new) × (vec_len inbox.new + length successors.now ≤ vec_capacity inbox.new)) }
+{
+    enter_if_full(table, start, inbox);
+    let more = successors.len();
+    table.reserve(inbox.len() + more)?;
+    inbox.reserve(more)
+}
+
+// The offers of an inbox enter, if it is full. What is found stays as it was.
+fn enter_if_full<const N: usize>(
+    table: &mut IndexMap<Key<N>, ClosedOrigin>,
+    start: usize,
+    inbox: &mut Vec<(Key<N>, Origin)>,
+)
+    requires width { N ≤ MAX_BOXES }
+    requires room { length inbox.old.items ≤ spare table.old }
+    requires found { IsFound start table.old.entries }
+    ensures found { IsFound start table.new.entries }
+    ensures same { (boxes : ℕ) → found_view boxes start table.new.entries inbox.new.items ≡ found_view boxes start table.old.entries inbox.old.items }
+    ensures room { length inbox.new.items ≤ spare table.new }
+{
+    if inbox.len() >= FULL {
+        enter_all(table, start, inbox);
+    }
+}
+
+/// Appends the offers of a rank's successors that are of the share.
+pub(crate) fn append_all<const N: usize>(
+    inbox: &mut Vec<(Key<N>, Origin)>,
+    share: u8,
+    shares: u8,
+    rank: u64,
+    successors: &[Successor],
+)
+    requires width { N ≤ MAX_BOXES }
+    requires shares { 0 < shares }
+    requires rank { rank < MOST_RANKS }
+    requires few { HaveFew N successors.now }
+    requires room { vec_len inbox.old + length successors.now ≤ vec_capacity inbox.old }
+    ensures { inbox.new.items ≡ inbox.old.items ++ offers_of shares share rank successors.now }
+{
+    for successor in successors {
+        append(inbox, share, shares, rank, successor);
+    }
+}
+
+// Appends the offer of a rank's successor, if it is of the share.
+fn append<const N: usize>(
+    inbox: &mut Vec<(Key<N>, Origin)>,
+    share: u8,
+    shares: u8,
+    rank: u64,
+    successor: &Successor,
+)
+    requires width { N ≤ MAX_BOXES }
+    requires shares { 0 < shares }
+    requires rank { rank < MOST_RANKS }
+    requires few { length successor.now.position.boxes ≤ N }
+    requires room { vec_len inbox.old < vec_capacity inbox.old }
+    ensures items { inbox.new.items ≡ inbox.old.items ++ offer_of shares share rank successor.now }
+    ensures len { vec_len inbox.new ≤ vec_len inbox.old + 1 }
+    ensures capacity { vec_capacity inbox.new ≡ vec_capacity inbox.old }
+{
+    let position = &successor.position;
+    if share_of(position, shares) != share {
+        return;
+    }
+    let origin = Origin::new(rank, successor.push);
+    inbox.push_reserved((Key::of(position), origin));
+}
