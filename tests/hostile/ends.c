@@ -1,7 +1,8 @@
 /* Loaded before the C library (LD_PRELOAD), it makes the ends of a program strange. Reads of any file but standard input give at
    most READ_MOST bytes, and the one whose number, from 1, READ_FAILS gives fails; before the read of number CUT_AT the file CUT_FILE is
    cut to CUT_TO bytes. Writes to standard output take at most WRITE_MOST bytes, and the one whose number WRITE_FAILS gives
-   fails. The file ENDS_COUNT, 3 numbers of 8 bytes, holds how many reads, writes and bytes read there were: it is mapped, so
+   fails. With INTERRUPTED each read and each write, of whatever file, is first interrupted as many times as it says, and these are not
+   counted. The file ENDS_COUNT, 3 numbers of 8 bytes, holds how many reads, writes and bytes read there were: it is mapped, so
    that it is right however the process ends. */
 #define _GNU_SOURCE
 #include <dlfcn.h>
@@ -16,7 +17,7 @@ typedef ssize_t (*Write)(int, const void *, size_t);
 
 static Read next_read;
 static Write next_write;
-static unsigned long *seen, read_most, read_fails, cut_at, cut_to, write_most, write_fails;
+static unsigned long *seen, read_most, read_fails, cut_at, cut_to, write_most, write_fails, interrupted, reads_left, writes_left;
 
 static unsigned long number(const char *name, unsigned long other) {
     const char *text = getenv(name);
@@ -35,10 +36,23 @@ __attribute__((constructor)) static void begin(void) {
     read_most = number("READ_MOST", -1UL), read_fails = number("READ_FAILS", 0);
     cut_at = number("CUT_AT", 0), cut_to = number("CUT_TO", 0);
     write_most = number("WRITE_MOST", -1UL), write_fails = number("WRITE_FAILS", 0);
+    interrupted = number("INTERRUPTED", 0), reads_left = writes_left = interrupted;
     seen = place;
 }
 
+/* Whether a call is interrupted: as many times in a row as was asked for, and then not. */
+static int is_interrupted(unsigned long *left) {
+    if (*left == 0) {
+        *left = interrupted;
+        return 0;
+    }
+    --*left;
+    errno = EINTR;
+    return 1;
+}
+
 ssize_t read(int fd, void *bytes, size_t count) {
+    if (seen && is_interrupted(&reads_left)) return -1;
     if (!seen || fd == 0) return next_read ? next_read(fd, bytes, count) : -1;
     seen[0]++;
     if (seen[0] == cut_at && truncate(getenv("CUT_FILE"), cut_to) != 0) _exit(99);
@@ -52,6 +66,7 @@ ssize_t read(int fd, void *bytes, size_t count) {
 }
 
 ssize_t write(int fd, const void *bytes, size_t count) {
+    if (seen && is_interrupted(&writes_left)) return -1;
     if (!seen || fd != 1) return next_write ? next_write(fd, bytes, count) : -1;
     seen[1]++;
     if (seen[1] == write_fails) {

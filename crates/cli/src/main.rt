@@ -5,6 +5,7 @@ ghost use Rattle.crew.specs.Configured.{IsWithinLimits};
 
 mod help;
 mod request;
+mod steady;
 mod trouble;
 
 use clap::error::ErrorKind;
@@ -20,15 +21,16 @@ use std::rt::Files;
 use std::sync::Wait;
 use std::thread::Threads;
 use std::{env, fs, io};
+use steady::Steady;
 use trouble::Trouble;
 
 /// The exit status of a fault of the command line.
 const USAGE: u8 = 2;
 
 /// Opens a file as a source.
-fn open<'a, R: Files>(rt: &R, path: &'a str) -> Result<Reader<R::File>, Trouble<'a>> {
+fn open<'a, R: Files>(rt: &R, path: &'a str) -> Result<Reader<Steady<R::File>>, Trouble<'a>> {
     match fs::open(rt, path) {
-        Ok(file) => Ok(Reader::new(file)),
+        Ok(file) => Ok(Reader::new(Steady::new(file))),
         Err(error) if error.kind() == io::ErrorKind::OutOfMemory => {
             Err(Trouble::Run(RunFault::OutOfMemory))
         }
@@ -54,7 +56,7 @@ fn perform<'a, R: Files + Print + Threads + Wait + Sync>(
     alloc: Global,
     request: Request<'a>,
 ) -> Result<u8, Trouble<'a>> {
-    let mut sink = Writer::new(io::writer(rt));
+    let mut sink = Writer::new(Steady::new(io::writer(rt)));
     let status = match request {
         Request::Check { file } => {
             let mut source = open(rt, file)?;

@@ -1,0 +1,43 @@
+use std::io;
+use std::io::{ErrorKind, Read, Write};
+
+/// A file or a stream whose reads and writes are made once more where a signal interrupted them.
+#[derive(Drop)]
+pub(crate) struct Steady<E> {
+    end: E,
+}
+
+impl<E: Drop> Steady<E> {
+    /// The same end, made steady.
+    pub(crate) fn new(end: E) -> Steady<E> {
+        Steady { end }
+    }
+}
+
+impl<E: Read + Drop> Read for Steady<E> {
+    fn read(&mut self, buffer: &mut [u8]) -> io::Result<usize> {
+        for _ in 0..u64::MAX {
+            match self.end.read(buffer) {
+                Err(error) if error.kind() == ErrorKind::Interrupted => {}
+                answer => return answer,
+            }
+        }
+        Err(io::Error::from(ErrorKind::Interrupted))
+    }
+}
+
+impl<E: Write + Drop> Write for Steady<E> {
+    fn write(&mut self, bytes: &[u8]) -> io::Result<usize> {
+        for _ in 0..u64::MAX {
+            match self.end.write(bytes) {
+                Err(error) if error.kind() == ErrorKind::Interrupted => {}
+                answer => return answer,
+            }
+        }
+        Err(io::Error::from(ErrorKind::Interrupted))
+    }
+
+    fn flush(&mut self) -> io::Result<()> {
+        self.end.flush()
+    }
+}
