@@ -18,8 +18,8 @@ use std::sync::{Mutex, Wait};
 
 /// Works on a layer as one worker, until it ends: draws a lot of ranks, expands each of them while no lock is held, and
 /// hands the parcels back to each of the books in order, under one lock at a time and each under a lock of its own. A lot
-/// is one rank or a few, fewer in a small layer and toward the end of a large one. Its place in the ledger is its number. After each draw
-/// that gives a rank, and each parcel that a book accepted, it asks the gate, with no lock held.
+/// is one rank or a few, fewer in a small layer and toward the end of a large one. The worker's place in the ledger is its
+/// number. After each draw that gives a rank, and each parcel that a book accepted, it asks the gate, with no lock held.
 ///
 /// What is behind a lock may be any book, so under the lock the worker asks for level, layer and its own number
 /// again. It ends with [`End::Stopped`] only where the gate may stop a worker, with [`End::Drained`] only where its
