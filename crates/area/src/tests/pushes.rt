@@ -3,7 +3,7 @@ ghost use Rattle.grid.specs.States.{FitsLevel};
 
 use super::{PAIR, level_of};
 use crate::{Scratch, possible_pushes};
-use arrayvec::{ArrayVec, ArrayVec};
+use arrayvec::ArrayVec;
 use grid::{Dir, Level, Position, Square};
 use std::alloc::Global;
 use std::process::Abort;
