@@ -1,65 +1,86 @@
-ghost use Rattle.std.specs.Prelude.{◌≡◌, ◌+◌, ◌<◌, ◌≤◌, IsTrue, false, length, take, slice_get, Some};
+ghost use Rattle.std.specs.Prelude.{◌≡◌, ℕ, ◌+◌, ◌<◌, ◌≤◌, IsTrue, MatchOption, None, false, length, take, slice_get, Some};
 ghost use Rattle.grid.specs.Board.{Scene};
 ghost use Rattle.grid.specs.States.{FitsLevel};
 ghost use Rattle.doom.specs.Deadlocks.{Undoomed};
 ghost use Rattle.layers.specs.ParcelView.{AreSuccessors, FitLevel, IsAppended, IsParcel};
 ghost use Rattle.layers.specs.Origins.{IsSuccessor};
+ghost use Rattle.layers.specs.Tasks.{HasBound, uncapped};
 ghost use Rattle.area.specs.Pushes.{ArePushes, CanPush};
 ghost use Rattle.area.specs.After.{IsAreaOf};
 ghost use Rattle.layers.specs.inside.ParcelInside.{parcel_of};
 
 use crate::layer::Layer;
+use crate::pruning::keep_admitted;
 use crate::limits::MAX_SUCCESSORS;
 use crate::parcel::{Parcel, Successor};
 use area::Scratch;
 use arrayvec::ArrayVec;
-use doom::Dead;
+use doom::{Bound, Dead};
 use grid::{Level, Position, Push};
 
-/// The undoomed successors of the position with a rank of the layer, in the order of their pushes. Takes no memory.
-pub fn expand<'a>(layer: &'a Layer, dead: &Dead, rank: u64, scratch: &mut Scratch) -> Parcel<'a>
+/// The undoomed successors of the position with a rank of the layer, in the order of their pushes; where a cap is set,
+/// those alone from which the level may be solved within it, by the bound. Takes no memory.
+pub fn expand<'a>(
+    layer: &'a Layer,
+    dead: &Dead,
+    bound: &Bound,
+    rank: u64,
+    scratch: &mut Scratch,
+) -> Parcel<'a>
     requires within { rank < length layer.now.places }
-    requires dead_of_level { dead.now ≡ layer.now.level }
-    requires room { scratch.old.size ≡ length layer.now.level.cells }
+    requires dead_of_level { dead.now ≡ layer.now.level.board }
+    requires bound_of_level { bound.now ≡ layer.now.level.board }
+    requires room { scratch.old.size ≡ length layer.now.level.board.cells }
     ensures of { (result.level ≡ layer.now.level) × (result.layer ≡ layer.now.number) × (result.rank ≡ rank) }
-    ensures successors { (n : Scene) → slice_get layer.now.places rank ≡ Some n → AreSuccessors layer.now.level n result.successors }
+    ensures successors { (n : Scene) → slice_get layer.now.places rank ≡ Some n → AreSuccessors layer.now.level layer.now.number n result.successors }
     ensures size { scratch.new.size ≡ scratch.old.size }
 {
     let mut pushes = ArrayVec::new();
     let mut parcel = Parcel {
-        level: layer.level(),
+        task: layer.task(),
         layer: layer.number(),
         rank,
         slots: ArrayVec::new(),
         count: 0,
         pushes: ArrayVec::new(),
     };
-    parcel.count = successors_of(layer, dead, rank, scratch, &mut pushes, &mut parcel.slots);
+    parcel.count = successors_of(
+        layer,
+        dead,
+        Some(bound),
+        rank,
+        scratch,
+        &mut pushes,
+        &mut parcel.slots,
+    );
     parcel
 }
 
 /// Makes a parcel that is there the one of another rank, as [`expand`] gives it, so that nothing large is made or
-/// copied. Takes no memory.
+/// copied; a bound is wanted only where a cap is set. Takes no memory.
 pub fn expand_into<'a>(
     layer: &'a Layer,
     dead: &Dead,
+    bound: &Option<Bound>,
     rank: u64,
     scratch: &mut Scratch,
     parcel: &mut Parcel<'a>,
 )
     requires within { rank < length layer.now.places }
-    requires dead_of_level { dead.now ≡ layer.now.level }
-    requires room { scratch.old.size ≡ length layer.now.level.cells }
+    requires dead_of_level { dead.now ≡ layer.now.level.board }
+    requires bound_of_level { HasBound layer.now.level bound.now }
+    requires room { scratch.old.size ≡ length layer.now.level.board.cells }
     ensures of { (parcel.new.level ≡ layer.now.level) × (parcel.new.layer ≡ layer.now.number) × (parcel.new.rank ≡ rank) }
-    ensures successors { (n : Scene) → slice_get layer.now.places rank ≡ Some n → AreSuccessors layer.now.level n parcel.new.successors }
+    ensures successors { (n : Scene) → slice_get layer.now.places rank ≡ Some n → AreSuccessors layer.now.level layer.now.number n parcel.new.successors }
     ensures size { scratch.new.size ≡ scratch.old.size }
 {
-    parcel.level = layer.level();
+    parcel.task = layer.task();
     parcel.layer = layer.number();
     parcel.rank = rank;
     parcel.count = successors_of(
         layer,
         dead,
+        bound.as_ref(),
         rank,
         scratch,
         &mut parcel.pushes,
@@ -67,30 +88,38 @@ pub fn expand_into<'a>(
     );
 }
 
-// Writes the undoomed successors of the position with a rank of the layer over the first slots, in the order of their
-// pushes, and tells how many there are. What the slots and the pushes held is not cleared, so what is done goes by the
+// Writes the undoomed successors of the position with a rank of the layer that are admitted over the first slots, in the
+// order of their pushes, and tells how many there are. What the slots and the pushes held is not cleared, so what is done goes by the
 // successors, and not by how many there may be.
 fn successors_of(
     layer: &Layer,
     dead: &Dead,
+    bound: Option<&Bound>,
     rank: u64,
     scratch: &mut Scratch,
     pushes: &mut ArrayVec<Push, MAX_SUCCESSORS>,
     slots: &mut ArrayVec<Successor, MAX_SUCCESSORS>,
 ) -> usize
     requires within { rank < length layer.now.places }
-    requires dead_of_level { dead.now ≡ layer.now.level }
-    requires room { scratch.old.size ≡ length layer.now.level.cells }
+    requires dead_of_level { dead.now ≡ layer.now.level.board }
+    requires bound_of_level { MatchOption bound (layer.now.level.cap ≡ None) (λ b. b.now ≡ layer.now.level.board) }
+    requires room { scratch.old.size ≡ length layer.now.level.board.cells }
     ensures filled { result ≤ length slots.new.items }
     ensures parcel { IsParcel (parcel_of layer.now.level layer.now.number rank slots.new.items result) }
-    ensures successors { (n : Scene) → slice_get layer.now.places rank ≡ Some n → AreSuccessors layer.now.level n (take result slots.new.items) }
+    ensures successors { (n : Scene) → slice_get layer.now.places rank ≡ Some n → AreSuccessors layer.now.level layer.now.number n (take result slots.new.items) }
     ensures size { scratch.new.size ≡ scratch.old.size }
 {
     layer.tell();
     let level = layer.level();
     let position = layer.place(rank);
     area::possible_pushes(level, &position, scratch, pushes);
-    successors_by(level, dead, &position, pushes.as_slice(), scratch, slots)
+    let count = successors_by(level, dead, &position, pushes.as_slice(), scratch, slots);
+    match (layer.cap(), bound) {
+        (Some(most), Some(bound)) => {
+            keep_admitted(bound, most, layer.number(), slots.as_mut_slice(), count)
+        }
+        _ => count,
+    }
 }
 
 // Writes what the pushes lead to over the first slots, but for doomed positions, where the last flood was that of the
@@ -112,7 +141,7 @@ fn successors_by(
     requires pushes { ArePushes level.now position.now pushes.now }
     requires bound { length pushes.now ≤ MAX_SUCCESSORS }
     ensures filled { result ≤ length slots.new.items }
-    ensures successors { AreSuccessors level.now position.now (take result slots.new.items) }
+    ensures successors { (layer : ℕ) → AreSuccessors (uncapped level.now) layer position.now (take result slots.new.items) }
     ensures fits { FitLevel level.now (take result slots.new.items) }
     ensures kept { scratch.new ≡ scratch.old }
 {

@@ -20,7 +20,9 @@ mod merging;
 mod origin;
 mod parcel;
 mod parents;
+mod pruning;
 mod table;
+mod task;
 
 pub use book::{Book, Claim, Closed};
 pub use expansion::{expand, expand_into};
@@ -29,3 +31,4 @@ pub use layer::Layer;
 pub use limits::{MAX_SHARES, MAX_SUCCESSORS, MAX_WORKERS, MOST_POSITIONS};
 pub use parcel::{Parcel, Successor};
 pub use parents::Parents;
+pub use pruning::bound_for;

@@ -2,6 +2,7 @@ ghost use Rattle.std.specs.Prelude.{◌≡◌};
 ghost use Rattle.layers.specs.ParcelView.{IsParcel};
 
 use crate::limits::MAX_SUCCESSORS;
+use crate::task::Task;
 use arrayvec::ArrayVec;
 use grid::{Level, Position, Push};
 use std::marker::Model;
@@ -13,10 +14,11 @@ pub struct Successor {
     pub position: Position,
 }
 
-/// The undoomed successors of the position with a rank of a layer, in the order of their pushes.
+/// The undoomed successors of the position with a rank of a layer that are admitted in the next one, in the order of their
+/// pushes.
 #[derive(Debug, Drop)]
 pub struct Parcel<'a> {
-    pub(crate) level: &'a Level,
+    pub(crate) task: &'a Task,
     pub(crate) layer: u64,
     pub(crate) rank: u64,
     // the first so many hold the successors; the others are there to be written over
@@ -33,9 +35,9 @@ impl<'a> Model for Parcel<'a> {
 
     ghost Value = { ParcelView };
 
-    ghost view = { λ a. parcel_of a.level.now a.layer a.rank a.slots.items a.count };
+    ghost view = { λ a. parcel_of a.task.now a.layer a.rank a.slots.items a.count };
 
-    ghost invariant = { λ a. (a.count ≤ length a.slots.items) × IsParcel (parcel_of a.level.now a.layer a.rank a.slots.items a.count) };
+    ghost invariant = { λ a. (a.count ≤ length a.slots.items) × IsParcel (parcel_of a.task.now a.layer a.rank a.slots.items a.count) };
 }
 
 impl<'a> Parcel<'a> {
@@ -48,9 +50,23 @@ impl<'a> Parcel<'a> {
 
     /// The level.
     pub fn level(&self) -> &Level
+        ensures { result.now ≡ self.now.level.board }
+    {
+        self.task.level()
+    }
+
+    /// The greatest number of pushes of a solution; `None` where no cap is set.
+    pub fn cap(&self) -> Option<u32>
+        ensures { result ≡ self.now.level.cap }
+    {
+        self.task.cap()
+    }
+
+    // The level with its cap.
+    pub(crate) fn task(&self) -> &Task
         ensures { result.now ≡ self.now.level }
     {
-        self.level
+        self.task
     }
 
     /// The layer's number.
@@ -67,7 +83,7 @@ impl<'a> Parcel<'a> {
         self.rank
     }
 
-    /// The undoomed successors of the position with that rank, in the order of their pushes.
+    /// The undoomed successors of the position with that rank that are admitted in the next layer, in the order of their pushes.
     pub fn successors(&self) -> &[Successor]
         ensures { result.now ≡ self.now.successors }
     {
