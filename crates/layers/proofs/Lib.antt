@@ -16,3 +16,4 @@ pub mod Ordered
 pub mod Exchanging
 pub mod Merged
 pub mod Joined
+pub mod Picking

@@ -114,12 +114,31 @@ fn successors_of(
     let position = layer.place(rank);
     area::possible_pushes(level, &position, scratch, pushes);
     let count = successors_by(level, dead, &position, pushes.as_slice(), scratch, slots);
-    match (layer.cap(), bound) {
-        (Some(most), Some(bound)) => {
-            keep_admitted(bound, most, layer.number(), slots.as_mut_slice(), count)
-        }
-        _ => count,
-    }
+    admitted_of(layer, bound, slots.as_mut_slice(), count)
+}
+
+// Brings those of the first so many successors of a position of the layer to the front that are admitted in the next one,
+// and tells how many they are: where no cap is set, all.
+fn admitted_of(
+    layer: &Layer,
+    bound: Option<&Bound>,
+    slots: &mut [Successor],
+    count: usize,
+) -> usize
+    requires bound_of_level { MatchOption bound (layer.now.level.cap ≡ None) (λ b. b.now ≡ layer.now.level.board) }
+    requires filled { count ≤ length slots.old }
+    requires fits { FitLevel layer.now.level.board (take count slots.old) }
+    ensures filled { result ≤ length slots.new }
+    ensures fits { FitLevel layer.now.level.board (take result slots.new) }
+    ensures successors { (n : Scene) → AreSuccessors (uncapped layer.now.level.board) layer.now.number n (take count slots.old) → AreSuccessors layer.now.level layer.now.number n (take result slots.new) }
+{
+    let Some(most) = layer.cap() else {
+        return count;
+    };
+    let Some(bound) = bound else {
+        return count;
+    };
+    keep_admitted(bound, most, layer.number(), slots, count)
 }
 
 // Writes what the pushes lead to over the first slots, but for doomed positions, where the last flood was that of the

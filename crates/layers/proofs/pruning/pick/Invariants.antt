@@ -1,0 +1,5 @@
+use Rattle.layers.proofs.Picking.{IsPicking}
+use Rattle.layers.proofs.pruning.pick.Given as goal
+
+abbrev pub invariant-loop-place : goal.invariant-loop-place
+invariant-loop-place l = IsPicking l.bound l.most l.initial.slots l.slots l.kept l.place
