@@ -13,6 +13,7 @@ use crate::entering::share_of;
 use crate::fault::BookFault;
 use crate::found::Found;
 use crate::limits::{MAX_SHARES, MAX_WORKERS};
+use crate::pruner::Pruner;
 use crate::pruning::{bound_for, is_admitted};
 use crate::task::Task;
 use area::{Scratch, normal};
@@ -106,26 +107,23 @@ impl Book {
     }
 
     /// The books of all shares of the level's positions, share 0 first, each as [`Book::of`] makes it. What all of them
-    /// want is found once, by the dead squares and the scratch that are lent. The only errors are that the level has
+    /// want is found once, by the pruner, whose cap is theirs, and the scratch that are lent. The only errors are that the level has
     /// more boxes than [`MAX_BOXES`](grid::MAX_BOXES), and that memory was refused.
     pub fn of_all_shares(
         alloc: Global,
         level: &Arc<Level>,
-        cap: Option<u32>,
-        dead: &Dead,
-        bound: &Option<Bound>,
+        pruner: &Pruner,
         limit: u32,
         workers: u8,
         shares: u8,
         scratch: &mut Scratch,
     ) -> Result<Vec<Book>, BookFault>
-        requires dead_of_level { dead.now ≡ arc_value level.now }
-        requires bound_of_level { HasBound (capped (arc_value level.now) cap) bound.now }
+        requires pruner_of_level { pruner.now.board ≡ arc_value level.now }
         requires limit { 1 ≤ limit }
         requires workers { (1 ≤ workers) × (workers ≤ MAX_WORKERS + 1) }
         requires shares { (1 ≤ shares) × (shares ≤ MAX_SHARES) }
         requires room { scratch.old.size ≡ length (arc_value level.now).cells }
-        ensures ok { IfOk result (λ books. AreNewShares (capped (arc_value level.now) cap) limit workers shares books.items) }
+        ensures ok { IfOk result (λ books. AreNewShares pruner.now limit workers shares books.items) }
         ensures variant { MatchResult result (λ books. box_count (arc_value level.now) ≤ MAX_BOXES) (λ fault. BookRefused (arc_value level.now) fault) }
         ensures size { scratch.new.size ≡ scratch.old.size }
     {
@@ -135,10 +133,10 @@ impl Book {
             return Err(BookFault::TooManyBoxes);
         };
         let task = match Arc::try_clone(level) {
-            Ok(level) => Task::of(level, cap),
+            Ok(level) => Task::of(level, pruner.cap()),
             Err(_) => return Err(BookFault::OutOfMemory),
         };
-        let first = first_position(&task, dead, bound, &start, scratch);
+        let first = first_position(&task, pruner.dead(), pruner.bound(), &start, scratch);
         match all_with_first(alloc, &task, &first, limit, workers, shares) {
             Ok(books) => Ok(books),
             Err(_) => Err(BookFault::OutOfMemory),
@@ -327,12 +325,7 @@ fn first_position(
 }
 
 // The share's position of layer 0: the first position, if there is one and it is of the share.
-fn first_of_share(
-    task: &Task,
-    first: &Option<Position>,
-    share: u8,
-    shares: u8,
-) -> Option<Position>
+fn first_of_share(task: &Task, first: &Option<Position>, share: u8, shares: u8) -> Option<Position>
     requires first { IsFirst task.now first.now }
     requires shares { 0 < shares }
     ensures layer { IsShareOfLayer task.now shares share 0 (first_entries result) }

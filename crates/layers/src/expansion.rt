@@ -4,15 +4,16 @@ ghost use Rattle.grid.specs.States.{FitsLevel};
 ghost use Rattle.doom.specs.Deadlocks.{Undoomed};
 ghost use Rattle.layers.specs.ParcelView.{AreSuccessors, FitLevel, IsAppended, IsParcel};
 ghost use Rattle.layers.specs.Origins.{IsSuccessor};
-ghost use Rattle.layers.specs.Tasks.{HasBound, uncapped};
+ghost use Rattle.layers.specs.Tasks.{uncapped};
 ghost use Rattle.area.specs.Pushes.{ArePushes, CanPush};
 ghost use Rattle.area.specs.After.{IsAreaOf};
 ghost use Rattle.layers.specs.inside.ParcelInside.{parcel_of};
 
 use crate::layer::Layer;
-use crate::pruning::keep_admitted;
 use crate::limits::MAX_SUCCESSORS;
 use crate::parcel::{Parcel, Successor};
+use crate::pruner::Pruner;
+use crate::pruning::keep_admitted;
 use area::Scratch;
 use arrayvec::ArrayVec;
 use doom::{Bound, Dead};
@@ -56,19 +57,52 @@ pub fn expand<'a>(
     parcel
 }
 
-/// Makes a parcel that is there the one of another rank, as [`expand`] gives it, so that nothing large is made or
-/// copied; a bound is wanted only where a cap is set. Takes no memory.
+/// The parcel that [`expand`] gives, by a pruner, which has a bound only where a cap is set. Takes no memory.
+pub fn expand_by<'a>(
+    layer: &'a Layer,
+    pruner: &Pruner,
+    rank: u64,
+    scratch: &mut Scratch,
+) -> Parcel<'a>
+    requires within { rank < length layer.now.places }
+    requires pruner_of_level { pruner.now ≡ layer.now.level }
+    requires room { scratch.old.size ≡ length layer.now.level.board.cells }
+    ensures of { (result.level ≡ layer.now.level) × (result.layer ≡ layer.now.number) × (result.rank ≡ rank) }
+    ensures successors { (n : Scene) → slice_get layer.now.places rank ≡ Some n → AreSuccessors layer.now.level layer.now.number n result.successors }
+    ensures size { scratch.new.size ≡ scratch.old.size }
+{
+    let mut pushes = ArrayVec::new();
+    let mut parcel = Parcel {
+        task: layer.task(),
+        layer: layer.number(),
+        rank,
+        slots: ArrayVec::new(),
+        count: 0,
+        pushes: ArrayVec::new(),
+    };
+    parcel.count = successors_of(
+        layer,
+        pruner.dead(),
+        pruner.bound().as_ref(),
+        rank,
+        scratch,
+        &mut pushes,
+        &mut parcel.slots,
+    );
+    parcel
+}
+
+/// Makes a parcel that is there the one of another rank, as [`expand_by`] gives it, so that nothing large is made or
+/// copied. Takes no memory.
 pub fn expand_into<'a>(
     layer: &'a Layer,
-    dead: &Dead,
-    bound: &Option<Bound>,
+    pruner: &Pruner,
     rank: u64,
     scratch: &mut Scratch,
     parcel: &mut Parcel<'a>,
 )
     requires within { rank < length layer.now.places }
-    requires dead_of_level { dead.now ≡ layer.now.level.board }
-    requires bound_of_level { HasBound layer.now.level bound.now }
+    requires pruner_of_level { pruner.now ≡ layer.now.level }
     requires room { scratch.old.size ≡ length layer.now.level.board.cells }
     ensures of { (parcel.new.level ≡ layer.now.level) × (parcel.new.layer ≡ layer.now.number) × (parcel.new.rank ≡ rank) }
     ensures successors { (n : Scene) → slice_get layer.now.places rank ≡ Some n → AreSuccessors layer.now.level layer.now.number n parcel.new.successors }
@@ -79,8 +113,8 @@ pub fn expand_into<'a>(
     parcel.rank = rank;
     parcel.count = successors_of(
         layer,
-        dead,
-        bound.as_ref(),
+        pruner.dead(),
+        pruner.bound().as_ref(),
         rank,
         scratch,
         &mut parcel.pushes,
@@ -119,12 +153,7 @@ fn successors_of(
 
 // Brings those of the first so many successors of a position of the layer to the front that are admitted in the next one,
 // and tells how many they are: where no cap is set, all.
-fn admitted_of(
-    layer: &Layer,
-    bound: Option<&Bound>,
-    slots: &mut [Successor],
-    count: usize,
-) -> usize
+fn admitted_of(layer: &Layer, bound: Option<&Bound>, slots: &mut [Successor], count: usize) -> usize
     requires bound_of_level { MatchOption bound (layer.now.level.cap ≡ None) (λ b. b.now ≡ layer.now.level.board) }
     requires filled { count ≤ length slots.old }
     requires fits { FitLevel layer.now.level.board (take count slots.old) }

@@ -13,7 +13,7 @@ use grid::{Level, Position};
 use std::alloc::{AllocError, Global};
 
 /// The bound of a level, where a cap is set. The only error is that memory was refused.
-pub fn bound_for(
+pub(crate) fn bound_for(
     alloc: Global,
     level: &Level,
     cap: Option<u32>,

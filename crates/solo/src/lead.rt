@@ -25,8 +25,8 @@ pub fn moves_to(
 ) -> Result<Moves, AllocError>
     requires layers { AreFirstLayers layers.now }
     requires rank { rank < length (last_places layers.now) }
-    requires room { scratch.old.size ≡ length (level_of layers.now).cells }
-    ensures lead { IfOk result (λ moves. (n : Scene) → slice_get (last_places layers.now) rank ≡ Some n → WritesLead (level_of layers.now) n moves) }
+    requires room { scratch.old.size ≡ length (level_of layers.now).board.cells }
+    ensures lead { IfOk result (λ moves. (n : Scene) → slice_get (last_places layers.now) rank ≡ Some n → WritesLead (level_of layers.now).board n moves) }
     ensures size { scratch.new.size ≡ scratch.old.size }
 {
     tell_each(layers);
@@ -44,8 +44,8 @@ pub(crate) fn moves_back(
 ) -> Result<Moves, AllocError>
     requires next { IsNextOf trail.now layer.now }
     requires rank { rank < length layer.now.places }
-    requires room { scratch.old.size ≡ length layer.now.level.cells }
-    ensures lead { IfOk result (λ moves. (n : Scene) → slice_get layer.now.places rank ≡ Some n → WritesLead layer.now.level n moves) }
+    requires room { scratch.old.size ≡ length layer.now.level.board.cells }
+    ensures lead { IfOk result (λ moves. (n : Scene) → slice_get layer.now.places rank ≡ Some n → WritesLead layer.now.level.board n moves) }
     ensures size { scratch.new.size ≡ scratch.old.size }
 {
     let pushes = lead_back(alloc, trail, layer, rank)?;
