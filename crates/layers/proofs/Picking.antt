@@ -1,16 +1,14 @@
 -- What is left of the successors under a cap.
-use Rattle.std.proofs.Common.{◌≡◌, ℕ, zero, suc, true, eqb, leb, ◌+◌, ◌<◌, ◌≤◌, List, [], ◌∷◌, ◌++◌, length, take, get_or, set, Option, None, Some, inl, inr, refl, sym, ap, subst, ◌∙◌, arith}
+use Rattle.std.proofs.Common.{◌≡◌, ℕ, zero, suc, true, eqb, leb, ◌+◌, ◌<◌, ◌≤◌, List, [], ◌∷◌, ◌++◌, length, take, get_or, set, Option, Some, inl, inr, refl, sym, ap, subst, ◌∙◌, arith}
 use Rattle.std.proofs.lemmas.Bool.{cases_lt, or_cases, eqb-true}
 use Rattle.std.proofs.lemmas.Bool.Decides.{nat_tests}
 use Rattle.std.proofs.lemmas.List.{take-set-le, take_more_set, length-set}
 use Rattle.std.proofs.lemmas.List.Edits.{length-swap, swap_is}
 use Rattle.std.proofs.lemmas.Option.{none-some, slice_get_within, slice_get-get_or, get_or_from_slice_get}
 use Rattle.std.specs.Prelude.{slice_get}
-use Rattle.std.specs.declared.cmp.Ordering.TheVariants.{Less}
 use Rattle.std.specs.List.{swap}
-use Rattle.grid.specs.declared.square.Push.{Push}
 use Rattle.grid.specs.Squares.{Squares, contains}
-use Rattle.grid.specs.Board.{Board, Scene, push_cmp}
+use Rattle.grid.specs.Board.{Board, Scene}
 use Rattle.grid.specs.States.{FitsLevel}
 use Rattle.doom.specs.Deadlocks.{Live, IsDead}
 use Rattle.doom.specs.Bounds.{IsLower, HaveDead}

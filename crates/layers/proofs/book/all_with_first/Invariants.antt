@@ -1,5 +1,4 @@
 use Rattle.std.proofs.Common.{◌≡◌, length}
-use Rattle.std.specs.Arc.{arc_value}
 use Rattle.layers.specs.Books.{AreNewInOrder}
 use Rattle.layers.proofs.book.all_with_first.Given as goal
 

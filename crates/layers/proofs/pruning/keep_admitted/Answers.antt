@@ -1,5 +1,5 @@
-use Rattle.std.proofs.Common.{◌≡◌, ◌+◌, ◌-◌, take, arith}
-use Rattle.layers.proofs.Picking.{picked_successors, picked_fit, none_admitted, none_fit}
+use Rattle.std.proofs.Common.{◌-◌, take, arith}
+use Rattle.layers.proofs.Picking.{picked_successors, picked_fit}
 use Rattle.layers.proofs.pruning.keep_admitted.Goals as goal
 
 pub returns-clause-fits : goal.returns-clause-fits

@@ -1,6 +1,5 @@
 use Rattle.std.proofs.Common.{◌≡◌, sym, subst, ◌∙◌}
 use Rattle.std.specs.Arc.{arc_value}
-use Rattle.grid.specs.Board.{Board}
 use Rattle.layers.specs.Tasks.{Task, capped}
 use Rattle.layers.specs.Books.{AreNewShares}
 use Rattle.layers.proofs.book.Book.of_all_shares.Goals as goal
