@@ -9,8 +9,7 @@ use crate::config::Config;
 use crate::gate::Gate;
 use crate::workers::work_all;
 use claims::{Drawer, Ledger, PLACES};
-use doom::Dead;
-use layers::{Book, Layer};
+use layers::{Book, Layer, Pruner};
 use std::alloc::{AllocError, Global};
 use std::sync::{Mutex, Wait};
 use std::thread::Threads;
@@ -22,11 +21,11 @@ pub(crate) fn lend<R: Threads + Wait + Sync, G: Gate + Sync>(
     alloc: Global,
     books: Vec<Book>,
     layer: &Layer,
-    dead: &Dead,
+    pruner: &Pruner,
     workers: u8,
     gate: &G,
 ) -> Result<Vec<Book>, AllocError>
-    requires dead_of_level { dead.now ≡ layer.now.level }
+    requires pruner_of_level { pruner.now ≡ layer.now.level }
     requires ranks { length layer.now.places < 2 ^ 32 }
     requires places { workers ≤ PLACES }
 {
@@ -37,7 +36,7 @@ pub(crate) fn lend<R: Threads + Wait + Sync, G: Gate + Sync>(
         alloc,
         locks.as_slice(),
         layer,
-        dead,
+        pruner,
         &ledger,
         drawer,
         workers,
@@ -101,5 +100,5 @@ fn comes_back(book: &Book, place: usize, config: Config, layer: &Layer) -> bool
         && book.shares() == config.locks
         && book.layer() == layer.number()
         && book.has_begun()
-        && *book.level() == *layer.level()
+        && book.is_of_layer(layer)
 }

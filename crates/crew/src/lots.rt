@@ -9,8 +9,7 @@ use crate::gate::Gate;
 use crate::worker::draw;
 use area::Scratch;
 use claims::{Drawer, Ledger};
-use doom::Dead;
-use layers::{Layer, Parcel, expand, expand_into};
+use layers::{Layer, Parcel, Pruner, expand_by, expand_into};
 
 // The greatest number of ranks of a lot.
 const MOST: u64 = 16;
@@ -30,7 +29,7 @@ pub(crate) fn lot_size(left: u64) -> usize
 // how many they are. The lot ends early where no rank is left, and drains the worker where none is left at all.
 pub(crate) fn fill<'a, G: Gate>(
     layer: &'a Layer,
-    dead: &Dead,
+    pruner: &Pruner,
     ledger: &Ledger,
     drawer: &mut Drawer,
     worker: u8,
@@ -39,8 +38,8 @@ pub(crate) fn fill<'a, G: Gate>(
     nth: &mut u64,
     parcels: &mut Vec<Parcel<'a>>,
 ) -> Result<usize, End>
-    requires dead_of_level { dead.now ≡ layer.now.level }
-    requires room { scratch.old.size ≡ length layer.now.level.cells }
+    requires pruner_of_level { pruner.now ≡ layer.now.level }
+    requires room { scratch.old.size ≡ length layer.now.level.board.cells }
     requires ranks { ledger.now.len ≤ length layer.now.places }
     requires place { IsAtPlace ledger.now worker drawer.old }
     requires capacity { 0 < vec_capacity parcels.old }
@@ -54,12 +53,12 @@ pub(crate) fn fill<'a, G: Gate>(
     ensures size { scratch.new.size ≡ scratch.old.size }
 {
     let first = draw(layer, ledger, drawer, worker, gate, nth)?;
-    put(layer, dead, first, scratch, parcels, 0);
+    put(layer, pruner, first, scratch, parcels, 0);
     let size = lot_size(layer.len() - first).min(parcels.capacity());
     let mut filled = 1;
     while filled < size {
         match draw(layer, ledger, drawer, worker, gate, nth) {
-            Ok(rank) => put(layer, dead, rank, scratch, parcels, filled),
+            Ok(rank) => put(layer, pruner, rank, scratch, parcels, filled),
             Err(End::Drained) => return Ok(filled),
             Err(end) => return Err(end),
         }
@@ -71,15 +70,15 @@ pub(crate) fn fill<'a, G: Gate>(
 // Makes the parcel of a rank the one in a place of a list, or behind its last one, where there is room.
 fn put<'a>(
     layer: &'a Layer,
-    dead: &Dead,
+    pruner: &Pruner,
     rank: u64,
     scratch: &mut Scratch,
     parcels: &mut Vec<Parcel<'a>>,
     place: usize,
 )
     requires within { rank < length layer.now.places }
-    requires dead_of_level { dead.now ≡ layer.now.level }
-    requires room { scratch.old.size ≡ length layer.now.level.cells }
+    requires pruner_of_level { pruner.now ≡ layer.now.level }
+    requires room { scratch.old.size ≡ length layer.now.level.board.cells }
     requires place { place ≤ length parcels.old.items }
     requires capacity { place < vec_capacity parcels.old }
     ensures put { IsPut layer.now rank place parcels.old.items parcels.new.items }
@@ -87,27 +86,27 @@ fn put<'a>(
     ensures size { scratch.new.size ≡ scratch.old.size }
 {
     if place < parcels.len() {
-        refill(layer, dead, rank, scratch, parcels.as_mut_slice(), place);
+        refill(layer, pruner, rank, scratch, parcels.as_mut_slice(), place);
     } else {
-        parcels.push_reserved(expand(layer, dead, rank, scratch));
+        parcels.push_reserved(expand_by(layer, pruner, rank, scratch));
     }
 }
 
 // Makes the parcel in a place the one of another rank.
 fn refill<'a>(
     layer: &'a Layer,
-    dead: &Dead,
+    pruner: &Pruner,
     rank: u64,
     scratch: &mut Scratch,
     parcels: &mut [Parcel<'a>],
     place: usize,
 )
     requires within { rank < length layer.now.places }
-    requires dead_of_level { dead.now ≡ layer.now.level }
-    requires room { scratch.old.size ≡ length layer.now.level.cells }
+    requires pruner_of_level { pruner.now ≡ layer.now.level }
+    requires room { scratch.old.size ≡ length layer.now.level.board.cells }
     requires place { place < length parcels.old }
     ensures refilled { (parcel : ParcelView) × IsOfRank layer.now rank parcel × (parcels.new ≡ slice_set parcels.old place parcel) }
     ensures size { scratch.new.size ≡ scratch.old.size }
 {
-    expand_into(layer, dead, rank, scratch, &mut parcels[place]);
+    expand_into(layer, pruner, rank, scratch, &mut parcels[place]);
 }

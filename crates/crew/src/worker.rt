@@ -11,8 +11,7 @@ use crate::gate::Gate;
 use crate::lots::{fill, lot_size};
 use area::Scratch;
 use claims::{Drawer, Ledger, PLACES};
-use doom::Dead;
-use layers::{Book, Layer, Parcel, Refusal, expand, expand_into};
+use layers::{Book, Layer, Parcel, Pruner, Refusal, expand_by, expand_into};
 use std::slice::from_ref;
 use std::sync::{Mutex, Wait};
 
@@ -29,7 +28,7 @@ use std::sync::{Mutex, Wait};
 pub fn work<R: Wait, G: Gate>(
     rt: &R,
     layer: &Layer,
-    dead: &Dead,
+    pruner: &Pruner,
     books: &[Mutex<Book>],
     ledger: &Ledger,
     drawer: &mut Drawer,
@@ -37,8 +36,8 @@ pub fn work<R: Wait, G: Gate>(
     scratch: &mut Scratch,
     gate: &G,
 ) -> End
-    requires dead_of_level { dead.now ≡ layer.now.level }
-    requires room { scratch.old.size ≡ length layer.now.level.cells }
+    requires pruner_of_level { pruner.now ≡ layer.now.level }
+    requires room { scratch.old.size ≡ length layer.now.level.board.cells }
     requires ranks { ledger.now.len ≤ length layer.now.places }
     requires drawer { (drawer.old.ledger ≡ ledger.now) × IsNone drawer.old.hand.place }
     requires place { worker < PLACES }
@@ -56,12 +55,12 @@ pub fn work<R: Wait, G: Gate>(
     if size > 1 {
         if let Ok(parcels) = Vec::with_capacity(scratch.allocator(), size) {
             return by_lots(
-                rt, layer, dead, books, ledger, drawer, worker, scratch, gate, &mut nth, parcels,
+                rt, layer, pruner, books, ledger, drawer, worker, scratch, gate, &mut nth, parcels,
             );
         }
     }
     by_ones(
-        rt, layer, dead, books, ledger, drawer, worker, scratch, gate, &mut nth,
+        rt, layer, pruner, books, ledger, drawer, worker, scratch, gate, &mut nth,
     )
 }
 
@@ -69,7 +68,7 @@ pub fn work<R: Wait, G: Gate>(
 fn by_ones<R: Wait, G: Gate>(
     rt: &R,
     layer: &Layer,
-    dead: &Dead,
+    pruner: &Pruner,
     books: &[Mutex<Book>],
     ledger: &Ledger,
     drawer: &mut Drawer,
@@ -78,8 +77,8 @@ fn by_ones<R: Wait, G: Gate>(
     gate: &G,
     nth: &mut u64,
 ) -> End
-    requires dead_of_level { dead.now ≡ layer.now.level }
-    requires room { scratch.old.size ≡ length layer.now.level.cells }
+    requires pruner_of_level { pruner.now ≡ layer.now.level }
+    requires room { scratch.old.size ≡ length layer.now.level.board.cells }
     requires ranks { ledger.now.len ≤ length layer.now.places }
     requires place { IsAtPlace ledger.now worker drawer.old }
     ensures end { MayEnd G.may_stop result }
@@ -92,13 +91,13 @@ fn by_ones<R: Wait, G: Gate>(
         Ok(rank) => rank,
         Err(end) => return end,
     };
-    let mut parcel = expand(layer, dead, rank, scratch);
+    let mut parcel = expand_by(layer, pruner, rank, scratch);
     for _ in rt.forever() {
         if let Err(end) = hand_back(rt, layer, books, worker, from_ref(&parcel), gate, nth) {
             return end;
         }
         match draw(layer, ledger, drawer, worker, gate, nth) {
-            Ok(rank) => expand_into(layer, dead, rank, scratch, &mut parcel),
+            Ok(rank) => expand_into(layer, pruner, rank, scratch, &mut parcel),
             Err(end) => return end,
         }
     }
@@ -110,7 +109,7 @@ fn by_ones<R: Wait, G: Gate>(
 fn by_lots<'a, R: Wait, G: Gate>(
     rt: &R,
     layer: &'a Layer,
-    dead: &Dead,
+    pruner: &Pruner,
     books: &[Mutex<Book>],
     ledger: &Ledger,
     drawer: &mut Drawer,
@@ -120,8 +119,8 @@ fn by_lots<'a, R: Wait, G: Gate>(
     nth: &mut u64,
     mut parcels: Vec<Parcel<'a>>,
 ) -> End
-    requires dead_of_level { dead.now ≡ layer.now.level }
-    requires room { scratch.old.size ≡ length layer.now.level.cells }
+    requires pruner_of_level { pruner.now ≡ layer.now.level }
+    requires room { scratch.old.size ≡ length layer.now.level.board.cells }
     requires ranks { ledger.now.len ≤ length layer.now.places }
     requires place { IsAtPlace ledger.now worker drawer.old }
     requires capacity { 0 < vec_capacity parcels }
@@ -134,7 +133,7 @@ fn by_lots<'a, R: Wait, G: Gate>(
     for _ in rt.forever() {
         let filled = match fill(
             layer,
-            dead,
+            pruner,
             ledger,
             drawer,
             worker,

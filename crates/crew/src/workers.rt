@@ -5,8 +5,7 @@ use crate::gate::Gate;
 use crate::worker::work;
 use area::Scratch;
 use claims::{Drawer, Ledger, PLACES};
-use doom::Dead;
-use layers::{Book, Layer};
+use layers::{Book, Layer, Pruner};
 use std::alloc::Global;
 use std::sync::{Mutex, Wait};
 use std::thread;
@@ -19,13 +18,13 @@ pub(crate) fn work_all<R: Threads + Wait + Sync, G: Gate + Sync>(
     alloc: Global,
     books: &[Mutex<Book>],
     layer: &Layer,
-    dead: &Dead,
+    pruner: &Pruner,
     ledger: &Ledger,
     drawer: Drawer,
     workers: u8,
     gate: &G,
 )
-    requires dead_of_level { dead.now ≡ layer.now.level }
+    requires pruner_of_level { pruner.now ≡ layer.now.level }
     requires ranks { ledger.now.len ≤ length layer.now.places }
     requires drawer { drawer ≡ newcomer ledger.now }
     requires places { workers ≤ PLACES }
@@ -34,7 +33,7 @@ pub(crate) fn work_all<R: Threads + Wait + Sync, G: Gate + Sync>(
         thread::scope_env(),
         rt,
         |scope|
-            requires dead_of_level { dead.now ≡ layer.now.level }
+            requires pruner_of_level { pruner.now ≡ layer.now.level }
             requires ranks { ledger.now.len ≤ length layer.now.places }
             requires drawer { drawer ≡ newcomer ledger.now }
             requires places { workers ≤ PLACES }
@@ -45,11 +44,11 @@ pub(crate) fn work_all<R: Threads + Wait + Sync, G: Gate + Sync>(
                 rest = kept;
                 let _ = scope.spawn(
                     move ||
-                        requires dead_of_level { dead.now ≡ layer.now.level }
+                        requires pruner_of_level { pruner.now ≡ layer.now.level }
                         requires ranks { ledger.now.len ≤ length layer.now.places }
                         requires drawer { own ≡ newcomer ledger.now }
                         requires place { worker < PLACES }
-                    { help(rt, alloc, layer, dead, books, ledger, own, worker, gate) },
+                    { help(rt, alloc, layer, pruner, books, ledger, own, worker, gate) },
                 );
             }
         },
@@ -62,14 +61,14 @@ fn help<R: Wait, G: Gate>(
     rt: &R,
     alloc: Global,
     layer: &Layer,
-    dead: &Dead,
+    pruner: &Pruner,
     books: &[Mutex<Book>],
     ledger: &Ledger,
     drawer: Drawer,
     worker: u8,
     gate: &G,
 )
-    requires dead_of_level { dead.now ≡ layer.now.level }
+    requires pruner_of_level { pruner.now ≡ layer.now.level }
     requires ranks { ledger.now.len ≤ length layer.now.places }
     requires drawer { drawer ≡ newcomer ledger.now }
     requires place { worker < PLACES }
@@ -79,7 +78,7 @@ fn help<R: Wait, G: Gate>(
         work(
             rt,
             layer,
-            dead,
+            pruner,
             books,
             ledger,
             &mut own,

@@ -12,6 +12,7 @@ ghost use Rattle.std.specs.Arc.{arc_value};
 use crate::entering::share_of;
 use crate::fault::BookFault;
 use crate::found::Found;
+use crate::layer::Layer;
 use crate::limits::{MAX_SHARES, MAX_WORKERS};
 use crate::pruner::Pruner;
 use crate::pruning::{bound_for, is_admitted};
@@ -201,6 +202,13 @@ impl Book {
         ensures { result ≡ self.now.level.cap }
     {
         self.task.cap()
+    }
+
+    /// Whether the book is of a layer's level, with the same cap.
+    pub fn is_of_layer(&self, layer: &Layer) -> bool
+        ensures { IsTrue result ↔ (self.now.level ≡ layer.now.level) }
+    {
+        self.is_of(layer.task())
     }
 
     // Whether the book is of this level with this cap.
