@@ -1,8 +1,8 @@
-ghost use Rattle.std.specs.Prelude.{◌≡◌, ◌++◌, ◌≤◌, OnOk, IfOk, length, map};
+ghost use Rattle.std.specs.Prelude.{◌≡◌, ◌++◌, ◌≤◌, None, OnOk, IfOk, length, map};
 ghost use Rattle.sokopar.specs.Entries.{listed_of};
 ghost use Rattle.sokopar.specs.Listing.{level_at};
 ghost use Rattle.sokopar.specs.Report.{line};
-ghost use Rattle.sokopar.specs.Solving.{too_many_boxes, positions_words, solved_text, answer_report, IsSolveOf, SolvesOn};
+ghost use Rattle.sokopar.specs.Solving.{too_many_boxes, positions_words, none_within, solved_text, answer_report, IsSolveOf, SolvesOn};
 ghost use Rattle.lurd.specs.Text.{bytes_of};
 ghost use Rattle.crew.specs.Configured.{IsWithinLimits};
 
@@ -53,7 +53,7 @@ fn solved(alloc: Global, moves: &Moves, pushes: u64, positions: u64) -> Result<R
 
 /// The report of a level without a solution.
 fn unsolvable(alloc: Global, positions: u64) -> Result<Report, AllocError>
-    ensures { IfOk result (λ report. report ≡ answer_report 0 (Answer.Unsolvable positions)) }
+    ensures { IfOk result (λ report. report ≡ answer_report None 0 (Answer.Unsolvable positions)) }
 {
     let mut text = Text::new(alloc);
     text.put(b"unsolvable")?;
@@ -64,7 +64,7 @@ fn unsolvable(alloc: Global, positions: u64) -> Result<Report, AllocError>
 
 /// The report where the limit was reached.
 fn limit_reached(alloc: Global, limit: u32) -> Result<Report, AllocError>
-    ensures { IfOk result (λ report. report ≡ answer_report limit Answer.Limit) }
+    ensures { IfOk result (λ report. report ≡ answer_report None limit Answer.Limit) }
 {
     let mut text = Text::new(alloc);
     text.put(b"limit ")?;
@@ -73,9 +73,29 @@ fn limit_reached(alloc: Global, limit: u32) -> Result<Report, AllocError>
     Ok(Report::new(text, 4))
 }
 
-/// The report of an answer under a limit of positions.
-fn answer_report(alloc: Global, answer: &Answer, limit: u32) -> Result<Report, AllocError>
-    ensures { IfOk result (λ report. report ≡ answer_report limit answer.now) }
+/// The report that no play solves a level within a cap.
+fn none_within(alloc: Global, cap: Option<u32>, positions: u64) -> Result<Report, AllocError>
+    ensures { IfOk result (λ report. report ≡ none_within cap positions) }
+{
+    let mut text = Text::new(alloc);
+    text.put(b"none within ")?;
+    if let Some(most) = cap {
+        text.put_number(most as usize)?;
+    }
+    text.put(b" pushes")?;
+    put_positions(&mut text, positions)?;
+    text.put(b"\n")?;
+    Ok(Report::new(text, 1))
+}
+
+/// The report of an answer under a cap of pushes and a limit of positions.
+fn answer_report(
+    alloc: Global,
+    answer: &Answer,
+    cap: Option<u32>,
+    limit: u32,
+) -> Result<Report, AllocError>
+    ensures { IfOk result (λ report. report ≡ answer_report cap limit answer.now) }
 {
     match answer {
         Answer::Solved {
@@ -84,6 +104,7 @@ fn answer_report(alloc: Global, answer: &Answer, limit: u32) -> Result<Report, A
             positions,
         } => solved(alloc, moves, *pushes, *positions),
         Answer::Unsolvable { positions } => unsolvable(alloc, *positions),
+        Answer::NoneWithin { positions } => none_within(alloc, cap, *positions),
         Answer::Limit => limit_reached(alloc, limit),
     }
 }
@@ -96,11 +117,11 @@ fn solve_level<R: Threads + Wait + Sync>(
     config: Config,
 ) -> Result<Report, AllocError>
     requires limits { IsWithinLimits config }
-    ensures { IfOk result (λ report. IsSolveOf config.limit level.now report) }
+    ensures { IfOk result (λ report. IsSolveOf config.cap config.limit level.now report) }
 {
     let level = Arc::new(alloc, level.copy()?)?;
     match crew::solve(rt, alloc, &level, config, &Free) {
-        Ok(answer) => answer_report(alloc, &answer, config.limit),
+        Ok(answer) => answer_report(alloc, &answer, config.cap, config.limit),
         Err(SolveFault::TooManyBoxes) => too_many_boxes(alloc),
         Err(SolveFault::OutOfMemory) => Err(AllocError),
         Err(SolveFault::BadConfig) => unreachable!(),
@@ -117,7 +138,7 @@ pub(crate) fn solve_report<R: Threads + Wait + Sync>(
 ) -> Result<Report, AllocError>
     requires number { 1 ≤ number }
     requires limits { IsWithinLimits config }
-    ensures { IfOk result (λ report. SolvesOn config.limit number (level_at (map listed_of entries.now) number) report) }
+    ensures { IfOk result (λ report. SolvesOn config.cap config.limit number (level_at (map listed_of entries.now) number) report) }
 {
     match level_of(entries, number) {
         None => no_level(alloc, number),
