@@ -6,7 +6,7 @@ use crate::tests::{TWO_ENDS, level_of};
 use crate::{End, Free, work};
 use area::Scratch;
 use claims::{Drawer, Ledger};
-use layers::{Book, Claim, Layer, Refusal, Pruner, expand_by};
+use layers::{Book, Claim, Layer, Pruner, Refusal, expand_by};
 use std::alloc::Global;
 use std::process::Abort;
 use std::slice;
