@@ -2,13 +2,13 @@
 
 # bytes that a run of any command but `solve` takes at most: so many, and so many for each byte of its files
 FIXED = 8 << 20
-A_BYTE = 340
+A_BYTE = 1400
 
 SIZE = 1 << 20
 ONE = b"#####\n#@$.#\n#####\n"
 
-# a level of 64 rows and 64 columns in as few bytes as there are: most rows have one wall, and floor is filled in
-MOST_CELLS = b"64#|#@*#|4#|" + b"#|" * 60 + b"#\n\n"
+# a level of 255 rows and 255 columns in as few bytes as there are: most rows have one wall, and floor is filled in
+MOST_CELLS = b"255#|#@*#|4#|" + b"#|" * 251 + b"#\n\n"
 PARTS = {
     "empty lines": b"\n",
     "walls": b"#",

@@ -19,12 +19,15 @@ const MIDDLE: usize = 11;
 
 const WIDE: usize = 27;
 
+const BROAD: usize = 35;
+
 // What is found, with keys of one of the widths.
 #[derive(Debug, Drop)]
 pub(crate) enum Tables {
     Narrow(Table<NARROW>),
     Middle(Table<MIDDLE>),
     Wide(Table<WIDE>),
+    Broad(Table<BROAD>),
     Widest(Table<MAX_BOXES>),
 }
 
@@ -62,6 +65,8 @@ impl Found {
             Tables::Middle(Table::of(alloc, boxes, first)?)
         } else if boxes <= WIDE {
             Tables::Wide(Table::of(alloc, boxes, first)?)
+        } else if boxes <= BROAD {
+            Tables::Broad(Table::of(alloc, boxes, first)?)
         } else {
             Tables::Widest(Table::of(alloc, boxes, first)?)
         };
@@ -76,6 +81,7 @@ impl Found {
             Tables::Narrow(table) => table.closed_len(),
             Tables::Middle(table) => table.closed_len(),
             Tables::Wide(table) => table.closed_len(),
+            Tables::Broad(table) => table.closed_len(),
             Tables::Widest(table) => table.closed_len(),
         }
     }
@@ -88,6 +94,7 @@ impl Found {
             Tables::Narrow(table) => table.closed_at(place),
             Tables::Middle(table) => table.closed_at(place),
             Tables::Wide(table) => table.closed_at(place),
+            Tables::Broad(table) => table.closed_at(place),
             Tables::Widest(table) => table.closed_at(place),
         }
     }
@@ -100,6 +107,7 @@ impl Found {
             Tables::Narrow(table) => table.origin_at(place),
             Tables::Middle(table) => table.origin_at(place),
             Tables::Wide(table) => table.origin_at(place),
+            Tables::Broad(table) => table.origin_at(place),
             Tables::Widest(table) => table.origin_at(place),
         }
     }
@@ -119,6 +127,7 @@ impl Found {
             Tables::Narrow(table) => table.copy_at(place, squares, origins),
             Tables::Middle(table) => table.copy_at(place, squares, origins),
             Tables::Wide(table) => table.copy_at(place, squares, origins),
+            Tables::Broad(table) => table.copy_at(place, squares, origins),
             Tables::Widest(table) => table.copy_at(place, squares, origins),
         }
     }
@@ -138,6 +147,7 @@ impl Found {
             Tables::Narrow(table) => table.closed_from(alloc, from),
             Tables::Middle(table) => table.closed_from(alloc, from),
             Tables::Wide(table) => table.closed_from(alloc, from),
+            Tables::Broad(table) => table.closed_from(alloc, from),
             Tables::Widest(table) => table.closed_from(alloc, from),
         }
     }
@@ -160,6 +170,7 @@ impl Found {
             Tables::Narrow(table) => table.passes(limit, share, shares, successors),
             Tables::Middle(table) => table.passes(limit, share, shares, successors),
             Tables::Wide(table) => table.passes(limit, share, shares, successors),
+            Tables::Broad(table) => table.passes(limit, share, shares, successors),
             Tables::Widest(table) => table.passes(limit, share, shares, successors),
         }
     }
@@ -182,6 +193,7 @@ impl Found {
             Tables::Narrow(table) => table.enter_all(share, shares, rank, successors),
             Tables::Middle(table) => table.enter_all(share, shares, rank, successors),
             Tables::Wide(table) => table.enter_all(share, shares, rank, successors),
+            Tables::Broad(table) => table.enter_all(share, shares, rank, successors),
             Tables::Widest(table) => table.enter_all(share, shares, rank, successors),
         }
     }
@@ -197,6 +209,7 @@ impl Found {
             Tables::Narrow(table) => table.close(),
             Tables::Middle(table) => table.close(),
             Tables::Wide(table) => table.close(),
+            Tables::Broad(table) => table.close(),
             Tables::Widest(table) => table.close(),
         }
     }
