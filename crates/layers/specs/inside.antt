@@ -5,3 +5,4 @@ pub mod Packed
 pub mod Merging
 pub mod Placing
 pub mod ParcelInside
+pub mod Sums

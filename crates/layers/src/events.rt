@@ -83,7 +83,13 @@ impl Book {
         }
         if self
             .found
-            .enter_all(self.share, self.shares, parcel.rank(), successors)
+            .enter_all(
+                self.share,
+                self.shares,
+                parcel.rank(),
+                successors,
+                parcel.sums(),
+            )
             .is_err()
         {
             return Err(Refusal::OutOfMemory);

@@ -1,4 +1,4 @@
-ghost use Rattle.std.specs.Prelude.{◌≡◌, ◌+◌, ◌<◌, ◌≤◌, IsTrue, false, length, take, slice_get, Some};
+ghost use Rattle.std.specs.Prelude.{◌≡◌, ◌+◌, ◌<◌, ◌≤◌, ◌++◌, ◌∷◌, [], IsTrue, false, length, take, slice_get, Some};
 ghost use Rattle.grid.specs.Board.{Scene};
 ghost use Rattle.grid.specs.States.{FitsLevel};
 ghost use Rattle.doom.specs.Deadlocks.{Undoomed};
@@ -7,10 +7,12 @@ ghost use Rattle.layers.specs.Origins.{IsSuccessor};
 ghost use Rattle.area.specs.Pushes.{ArePushes, CanPush};
 ghost use Rattle.area.specs.After.{IsAreaOf};
 ghost use Rattle.layers.specs.inside.ParcelInside.{parcel_of};
+ghost use Rattle.layers.specs.inside.Sums.{AreSums};
 
+use crate::entering::sum_of;
 use crate::layer::Layer;
 use crate::limits::MAX_SUCCESSORS;
-use crate::parcel::{Parcel, Successor};
+use crate::parcel::{Parcel, Slots, Successor};
 use area::Scratch;
 use arrayvec::ArrayVec;
 use doom::Dead;
@@ -30,7 +32,7 @@ pub fn expand<'a>(layer: &'a Layer, dead: &Dead, rank: u64, scratch: &mut Scratc
         level: layer.level(),
         layer: layer.number(),
         rank,
-        slots: ArrayVec::new(),
+        slots: Slots::new(),
         count: 0,
         pushes: ArrayVec::new(),
     };
@@ -76,14 +78,15 @@ fn successors_of(
     rank: u64,
     scratch: &mut Scratch,
     pushes: &mut ArrayVec<Push, MAX_SUCCESSORS>,
-    slots: &mut ArrayVec<Successor, MAX_SUCCESSORS>,
+    slots: &mut Slots,
 ) -> usize
     requires within { rank < length layer.now.places }
     requires dead_of_level { dead.now ≡ layer.now.level }
     requires room { scratch.old.size ≡ length layer.now.level.cells }
-    ensures filled { result ≤ length slots.new.items }
-    ensures parcel { IsParcel (parcel_of layer.now.level layer.now.number rank slots.new.items result) }
-    ensures successors { (n : Scene) → slice_get layer.now.places rank ≡ Some n → AreSuccessors layer.now.level n (take result slots.new.items) }
+    ensures filled { result ≤ length slots.new.successors.items }
+    ensures sums { AreSums (take result slots.new.successors.items) (take result slots.new.sums.items) }
+    ensures parcel { IsParcel (parcel_of layer.now.level layer.now.number rank slots.new.successors.items result) }
+    ensures successors { (n : Scene) → slice_get layer.now.places rank ≡ Some n → AreSuccessors layer.now.level n (take result slots.new.successors.items) }
     ensures size { scratch.new.size ≡ scratch.old.size }
 {
     layer.tell();
@@ -101,7 +104,7 @@ fn successors_by(
     position: &Position,
     pushes: &[Push],
     scratch: &mut Scratch,
-    slots: &mut ArrayVec<Successor, MAX_SUCCESSORS>,
+    slots: &mut Slots,
 ) -> usize
     requires fits { FitsLevel level.now position.now }
     requires undoomed { Undoomed level.now position.now }
@@ -111,9 +114,10 @@ fn successors_by(
     requires boxes { scratch.old.boxes ≡ position.now.boxes }
     requires pushes { ArePushes level.now position.now pushes.now }
     requires bound { length pushes.now ≤ MAX_SUCCESSORS }
-    ensures filled { result ≤ length slots.new.items }
-    ensures successors { AreSuccessors level.now position.now (take result slots.new.items) }
-    ensures fits { FitLevel level.now (take result slots.new.items) }
+    ensures filled { result ≤ length slots.new.successors.items }
+    ensures successors { AreSuccessors level.now position.now (take result slots.new.successors.items) }
+    ensures fits { FitLevel level.now (take result slots.new.successors.items) }
+    ensures sums { AreSums (take result slots.new.successors.items) (take result slots.new.sums.items) }
     ensures kept { scratch.new ≡ scratch.old }
 {
     let mut count = 0;
@@ -132,7 +136,7 @@ fn append_successor(
     position: &Position,
     push: Push,
     scratch: &mut Scratch,
-    slots: &mut ArrayVec<Successor, MAX_SUCCESSORS>,
+    slots: &mut Slots,
     count: usize,
 ) -> usize
     requires fits { FitsLevel level.now position.now }
@@ -143,28 +147,32 @@ fn append_successor(
     requires boxes { scratch.old.boxes ≡ position.now.boxes }
     requires possible { CanPush level.now position.now push }
     requires place { count < MAX_SUCCESSORS }
-    requires filled { count ≤ length slots.old.items }
-    ensures filled { result ≤ length slots.new.items }
+    requires filled { count ≤ length slots.old.successors.items }
+    requires sums { AreSums (take count slots.old.successors.items) (take count slots.old.sums.items) }
+    ensures filled { result ≤ length slots.new.successors.items }
     ensures bound { result ≤ count + 1 }
-    ensures appended { IsAppended level.now position.now push (take count slots.old.items) (take result slots.new.items) }
+    ensures appended { IsAppended level.now position.now push (take count slots.old.successors.items) (take result slots.new.successors.items) }
+    ensures sums { AreSums (take result slots.new.successors.items) (take result slots.new.sums.items) }
     ensures kept { scratch.new ≡ scratch.old }
 {
     let Push { square, dir } = push;
     if dead.is_dead(level.next(square, dir)) {
         return count;
     }
-    have_slot(slots, count);
+    have_slot(&mut slots.successors, count);
     let made = make_successor(
         level,
         dead,
         position,
         Push { square, dir },
         scratch,
-        &mut slots.as_mut_slice()[count],
+        &mut slots.successors.as_mut_slice()[count],
     );
     if !made {
         return count;
     }
+    let sum = sum_of(&slots.successors.as_slice()[count].position);
+    put_sum(&mut slots.sums, count, sum);
     count + 1
 }
 
@@ -177,6 +185,19 @@ fn have_slot(slots: &mut ArrayVec<Successor, MAX_SUCCESSORS>, count: usize)
 {
     if count == slots.len() {
         slots.push(Successor::default());
+    }
+}
+
+// Writes a sum after the first so many.
+fn put_sum(sums: &mut ArrayVec<u32, MAX_SUCCESSORS>, count: usize, sum: u32)
+    requires place { count < MAX_SUCCESSORS }
+    requires filled { count ≤ length sums.old.items }
+    ensures { take (count + 1) sums.new.items ≡ take count sums.old.items ++ sum ∷ [] }
+{
+    if count == sums.len() {
+        sums.push(sum);
+    } else {
+        sums.as_mut_slice()[count] = sum;
     }
 }
 

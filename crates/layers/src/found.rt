@@ -4,6 +4,7 @@ ghost use Rattle.layers.specs.BookView.{Closed, origins_of};
 ghost use Rattle.layers.specs.Books.{IsSortedAppend};
 ghost use Rattle.layers.specs.FoundView.{HaveFew, first_entries, origin_in, with_entered};
 ghost use Rattle.layers.specs.inside.Insides.{IsCopied, squares_of};
+ghost use Rattle.layers.specs.inside.Sums.{AreSums};
 
 use crate::origin::{MOST_RANKS, Origin};
 use crate::parcel::Successor;
@@ -182,19 +183,21 @@ impl Found {
         shares: u8,
         rank: u64,
         successors: &[Successor],
+        sums: &[u32],
     ) -> Result<(), AllocError>
         requires shares { 0 < shares }
         requires rank { rank < MOST_RANKS }
         requires few { HaveFew self.old.boxes successors.now }
+        requires sums { AreSums successors.now sums.now }
         ensures ok { OnOk result (self.new ≡ with_entered self.old shares share rank successors.now) }
         ensures err { OnErr result (self.new ≡ self.old) }
     {
         match &mut self.tables {
-            Tables::Narrow(table) => table.enter_all(share, shares, rank, successors),
-            Tables::Middle(table) => table.enter_all(share, shares, rank, successors),
-            Tables::Wide(table) => table.enter_all(share, shares, rank, successors),
-            Tables::Broad(table) => table.enter_all(share, shares, rank, successors),
-            Tables::Widest(table) => table.enter_all(share, shares, rank, successors),
+            Tables::Narrow(table) => table.enter_all(share, shares, rank, successors, sums),
+            Tables::Middle(table) => table.enter_all(share, shares, rank, successors, sums),
+            Tables::Wide(table) => table.enter_all(share, shares, rank, successors, sums),
+            Tables::Broad(table) => table.enter_all(share, shares, rank, successors, sums),
+            Tables::Widest(table) => table.enter_all(share, shares, rank, successors, sums),
         }
     }
 

@@ -1,5 +1,6 @@
-ghost use Rattle.std.specs.Prelude.{◌≡◌};
+ghost use Rattle.std.specs.Prelude.{◌≡◌, []};
 ghost use Rattle.layers.specs.ParcelView.{IsParcel};
+ghost use Rattle.layers.specs.inside.Sums.{AreSums};
 
 use crate::limits::MAX_SUCCESSORS;
 use arrayvec::ArrayVec;
@@ -13,29 +14,53 @@ pub struct Successor {
     pub position: Position,
 }
 
+/// Successors, and beside each the sum of its squares, in lists of which the first so many count; the others are there to
+/// be written over.
+#[derive(Debug, Drop)]
+pub(crate) struct Slots {
+    pub(crate) successors: ArrayVec<Successor, MAX_SUCCESSORS>,
+    pub(crate) sums: ArrayVec<u32, MAX_SUCCESSORS>,
+}
+
+impl Slots {
+    /// Lists that hold nothing.
+    pub(crate) fn new() -> Slots
+        ensures successors { result.successors.items ≡ [] }
+        ensures sums { result.sums.items ≡ [] }
+    {
+        Slots {
+            successors: ArrayVec::new(),
+            sums: ArrayVec::new(),
+        }
+    }
+}
+
 /// The undoomed successors of the position with a rank of a layer, in the order of their pushes.
 #[derive(Debug, Drop)]
 pub struct Parcel<'a> {
     pub(crate) level: &'a Level,
     pub(crate) layer: u64,
     pub(crate) rank: u64,
-    // the first so many hold the successors; the others are there to be written over
-    pub(crate) slots: ArrayVec<Successor, MAX_SUCCESSORS>,
+    // the first so many of these are the successors and their sums
+    pub(crate) slots: Slots,
     pub(crate) count: usize,
     // the pushes that are tried for a rank
     pub(crate) pushes: ArrayVec<Push, MAX_SUCCESSORS>,
 }
 
 impl<'a> Model for Parcel<'a> {
-    ghost use Rattle.std.specs.Prelude.{◌≤◌, length};
+    ghost use Rattle.std.specs.Prelude.{◌≤◌, length, take};
     ghost use Rattle.layers.specs.ParcelView.{ParcelView, IsParcel};
     ghost use Rattle.layers.specs.inside.ParcelInside.{parcel_of};
+    ghost use Rattle.layers.specs.inside.Sums.{AreSums};
 
     ghost Value = { ParcelView };
 
-    ghost view = { λ a. parcel_of a.level.now a.layer a.rank a.slots.items a.count };
+    ghost view = { λ a. parcel_of a.level.now a.layer a.rank a.slots.successors.items a.count };
 
-    ghost invariant = { λ a. (a.count ≤ length a.slots.items) × IsParcel (parcel_of a.level.now a.layer a.rank a.slots.items a.count) };
+    ghost invariant = { λ a. (a.count ≤ length a.slots.successors.items)
+        × AreSums (take a.count a.slots.successors.items) (take a.count a.slots.sums.items)
+        × IsParcel (parcel_of a.level.now a.layer a.rank a.slots.successors.items a.count) };
 }
 
 impl<'a> Parcel<'a> {
@@ -71,6 +96,13 @@ impl<'a> Parcel<'a> {
     pub fn successors(&self) -> &[Successor]
         ensures { result.now ≡ self.now.successors }
     {
-        &self.slots.as_slice()[..self.count]
+        &self.slots.successors.as_slice()[..self.count]
+    }
+
+    /// The sum of the squares of each successor's position.
+    pub(crate) fn sums(&self) -> &[u32]
+        ensures { AreSums self.now.successors result.now }
+    {
+        &self.slots.sums.as_slice()[..self.count]
     }
 }
