@@ -10,7 +10,8 @@ use crate::worker::draw;
 use area::Scratch;
 use claims::{Drawer, Ledger};
 use doom::Dead;
-use layers::{Layer, Parcel, expand, expand_into};
+use grid::Level;
+use layers::{Layer, Parcel, expand_over, expand_over_into};
 
 // The greatest number of ranks of a lot.
 const MOST: u64 = 16;
@@ -26,10 +27,19 @@ pub(crate) fn lot_size(left: u64) -> usize
     (left / PARTS).clamp(1, MOST) as usize
 }
 
+// Makes room for a lot of so many parcels, in a list that may hold some already. Where memory is refused the list stays as
+// it was.
+pub(crate) fn have_room(parcels: &mut Vec<Parcel<'_>>, size: usize) {
+    if parcels.capacity() < size {
+        let _ = parcels.reserve(size - parcels.len());
+    }
+}
+
 // Draws the ranks of a lot, and puts their parcels into the first places of a list that has room for one at least. Gives
 // how many they are. The lot ends early where no rank is left, and drains the worker where none is left at all.
 pub(crate) fn fill<'a, G: Gate>(
-    layer: &'a Layer,
+    level: &'a Level,
+    layer: &Layer,
     dead: &Dead,
     ledger: &Ledger,
     drawer: &mut Drawer,
@@ -39,6 +49,7 @@ pub(crate) fn fill<'a, G: Gate>(
     nth: &mut u64,
     parcels: &mut Vec<Parcel<'a>>,
 ) -> Result<usize, End>
+    requires level { level.now ≡ layer.now.level }
     requires dead_of_level { dead.now ≡ layer.now.level }
     requires room { scratch.old.size ≡ length layer.now.level.cells }
     requires ranks { ledger.now.len ≤ length layer.now.places }
@@ -54,12 +65,12 @@ pub(crate) fn fill<'a, G: Gate>(
     ensures size { scratch.new.size ≡ scratch.old.size }
 {
     let first = draw(layer, ledger, drawer, worker, gate, nth)?;
-    put(layer, dead, first, scratch, parcels, 0);
+    put(level, layer, dead, first, scratch, parcels, 0);
     let size = lot_size(layer.len() - first).min(parcels.capacity());
     let mut filled = 1;
     while filled < size {
         match draw(layer, ledger, drawer, worker, gate, nth) {
-            Ok(rank) => put(layer, dead, rank, scratch, parcels, filled),
+            Ok(rank) => put(level, layer, dead, rank, scratch, parcels, filled),
             Err(End::Drained) => return Ok(filled),
             Err(end) => return Err(end),
         }
@@ -70,13 +81,15 @@ pub(crate) fn fill<'a, G: Gate>(
 
 // Makes the parcel of a rank the one in a place of a list, or behind its last one, where there is room.
 fn put<'a>(
-    layer: &'a Layer,
+    level: &'a Level,
+    layer: &Layer,
     dead: &Dead,
     rank: u64,
     scratch: &mut Scratch,
     parcels: &mut Vec<Parcel<'a>>,
     place: usize,
 )
+    requires level { level.now ≡ layer.now.level }
     requires within { rank < length layer.now.places }
     requires dead_of_level { dead.now ≡ layer.now.level }
     requires room { scratch.old.size ≡ length layer.now.level.cells }
@@ -87,21 +100,31 @@ fn put<'a>(
     ensures size { scratch.new.size ≡ scratch.old.size }
 {
     if place < parcels.len() {
-        refill(layer, dead, rank, scratch, parcels.as_mut_slice(), place);
+        refill(
+            level,
+            layer,
+            dead,
+            rank,
+            scratch,
+            parcels.as_mut_slice(),
+            place,
+        );
     } else {
-        parcels.push_reserved(expand(layer, dead, rank, scratch));
+        parcels.push_reserved(expand_over(level, layer, dead, rank, scratch));
     }
 }
 
 // Makes the parcel in a place the one of another rank.
 fn refill<'a>(
-    layer: &'a Layer,
+    level: &'a Level,
+    layer: &Layer,
     dead: &Dead,
     rank: u64,
     scratch: &mut Scratch,
     parcels: &mut [Parcel<'a>],
     place: usize,
 )
+    requires level { level.now ≡ layer.now.level }
     requires within { rank < length layer.now.places }
     requires dead_of_level { dead.now ≡ layer.now.level }
     requires room { scratch.old.size ≡ length layer.now.level.cells }
@@ -109,5 +132,5 @@ fn refill<'a>(
     ensures refilled { (parcel : ParcelView) × IsOfRank layer.now rank parcel × (parcels.new ≡ slice_set parcels.old place parcel) }
     ensures size { scratch.new.size ≡ scratch.old.size }
 {
-    expand_into(layer, dead, rank, scratch, &mut parcels[place]);
+    expand_over_into(level, layer, dead, rank, scratch, &mut parcels[place]);
 }

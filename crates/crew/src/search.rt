@@ -7,6 +7,7 @@ ghost use Rattle.crew.specs.Solving.{SolveRefused};
 ghost use Rattle.crew.specs.inside.Turning.{ArePausedBy};
 
 use crate::config::Config;
+use crate::desks::Desks;
 use crate::gate::Gate;
 use crate::turns::{Turned, turn};
 use area::Scratch;
@@ -76,7 +77,17 @@ fn search<R: Threads + Wait + Sync, G: Gate + Sync>(
         config.locks,
         &mut scratch,
     )?;
-    all_turns(rt, alloc, books, &dead, &mut scratch, config, gate)
+    let mut desks = Desks::of(alloc, level, config.workers);
+    all_turns(
+        rt,
+        alloc,
+        books,
+        &dead,
+        &mut scratch,
+        &mut desks,
+        config,
+        gate,
+    )
 }
 
 // Looks at layer after layer until there is an answer; `None` where other books came back than were lent. The only
@@ -87,12 +98,14 @@ fn all_turns<R: Threads + Wait + Sync, G: Gate + Sync>(
     first: Vec<Book>,
     dead: &Dead,
     scratch: &mut Scratch,
+    desks: &mut Desks<'_>,
     config: Config,
     gate: &G,
 ) -> Result<Option<Answer>, AllocError>
     requires limits { IsWithinLimits config }
     requires first { ArePausedBy config dead.now first.items [] 0 }
     requires room { scratch.old.size ≡ length dead.now.cells }
+    requires desks { desks.old ≡ dead.now }
     ensures { IfOk result (λ found. IfSome found (λ answer. IsAnswer dead.now config.limit answer)) }
 {
     let mut trail = Vec::new(alloc);
@@ -107,6 +120,7 @@ fn all_turns<R: Threads + Wait + Sync, G: Gate + Sync>(
             &mut positions,
             dead,
             scratch,
+            desks,
             config,
             gate,
         )? {

@@ -27,17 +27,7 @@ pub fn expand<'a>(layer: &'a Layer, dead: &Dead, rank: u64, scratch: &mut Scratc
     ensures successors { (n : Scene) → slice_get layer.now.places rank ≡ Some n → AreSuccessors layer.now.level n result.successors }
     ensures size { scratch.new.size ≡ scratch.old.size }
 {
-    let mut pushes = ArrayVec::new();
-    let mut parcel = Parcel {
-        level: layer.level(),
-        layer: layer.number(),
-        rank,
-        slots: Slots::new(),
-        count: 0,
-        pushes: ArrayVec::new(),
-    };
-    parcel.count = successors_of(layer, dead, rank, scratch, &mut pushes, &mut parcel.slots);
-    parcel
+    expand_over(layer.level(), layer, dead, rank, scratch)
 }
 
 /// Makes a parcel that is there the one of another rank, as [`expand`] gives it, so that nothing large is made or
@@ -56,7 +46,57 @@ pub fn expand_into<'a>(
     ensures successors { (n : Scene) → slice_get layer.now.places rank ≡ Some n → AreSuccessors layer.now.level n parcel.new.successors }
     ensures size { scratch.new.size ≡ scratch.old.size }
 {
-    parcel.level = layer.level();
+    expand_over_into(layer.level(), layer, dead, rank, scratch, parcel);
+}
+
+/// What [`expand`] gives, in a parcel over a level that is lent for itself and is that of the layer, so that the parcel
+/// may outlive the layer. Takes no memory.
+pub fn expand_over<'a>(
+    level: &'a Level,
+    layer: &Layer,
+    dead: &Dead,
+    rank: u64,
+    scratch: &mut Scratch,
+) -> Parcel<'a>
+    requires level { level.now ≡ layer.now.level }
+    requires within { rank < length layer.now.places }
+    requires dead_of_level { dead.now ≡ layer.now.level }
+    requires room { scratch.old.size ≡ length layer.now.level.cells }
+    ensures of { (result.level ≡ layer.now.level) × (result.layer ≡ layer.now.number) × (result.rank ≡ rank) }
+    ensures successors { (n : Scene) → slice_get layer.now.places rank ≡ Some n → AreSuccessors layer.now.level n result.successors }
+    ensures size { scratch.new.size ≡ scratch.old.size }
+{
+    let mut pushes = ArrayVec::new();
+    let mut parcel = Parcel {
+        level,
+        layer: layer.number(),
+        rank,
+        slots: Slots::new(),
+        count: 0,
+        pushes: ArrayVec::new(),
+    };
+    parcel.count = successors_of(layer, dead, rank, scratch, &mut pushes, &mut parcel.slots);
+    parcel
+}
+
+/// Makes a parcel that is there, of whichever layer, the one that [`expand_over`] gives. Takes no memory.
+pub fn expand_over_into<'a>(
+    level: &'a Level,
+    layer: &Layer,
+    dead: &Dead,
+    rank: u64,
+    scratch: &mut Scratch,
+    parcel: &mut Parcel<'a>,
+)
+    requires level { level.now ≡ layer.now.level }
+    requires within { rank < length layer.now.places }
+    requires dead_of_level { dead.now ≡ layer.now.level }
+    requires room { scratch.old.size ≡ length layer.now.level.cells }
+    ensures of { (parcel.new.level ≡ layer.now.level) × (parcel.new.layer ≡ layer.now.number) × (parcel.new.rank ≡ rank) }
+    ensures successors { (n : Scene) → slice_get layer.now.places rank ≡ Some n → AreSuccessors layer.now.level n parcel.new.successors }
+    ensures size { scratch.new.size ≡ scratch.old.size }
+{
+    parcel.level = level;
     parcel.layer = layer.number();
     parcel.rank = rank;
     parcel.count = successors_of(
