@@ -8,7 +8,8 @@ ghost use Rattle.sokopar.specs.Solving.{IsSolveReport};
 use crate::check::check_report;
 use crate::dead::dead_report;
 use crate::fault::RunFault;
-use crate::listing::read_listing;
+use crate::listing::read_level;
+use crate::reads::read_whole;
 use crate::replay::replay_level;
 use crate::show::show_report;
 use crate::sink::Sink;
@@ -33,7 +34,8 @@ pub fn run_check<S: Source, K: Sink>(
 ) -> Result<u8, RunFault>
     ensures { Runs IsCheckReport (S.seen source.old) (S.seen source.new) (K.seen sink.old) (K.seen sink.new) result }
 {
-    let report = check_report(alloc, read_listing(alloc, source)?.as_slice())?;
+    let bytes = read_whole(alloc, source)?;
+    let report = check_report(alloc, bytes.as_slice())?;
     report.send(sink)
 }
 
@@ -49,7 +51,8 @@ pub fn run_show<S: Source, K: Sink>(
     requires { 1 ≤ number }
     ensures { Runs (IsShowReport number) (S.seen source.old) (S.seen source.new) (K.seen sink.old) (K.seen sink.new) result }
 {
-    let report = show_report(alloc, read_listing(alloc, source)?.as_slice(), number)?;
+    let level = read_level(alloc, source, number)?;
+    let report = show_report(alloc, &level, number)?;
     report.send(sink)
 }
 
@@ -65,7 +68,8 @@ pub fn run_dead<S: Source, K: Sink>(
     requires { 1 ≤ number }
     ensures { Runs (IsDeadReport number) (S.seen source.old) (S.seen source.new) (K.seen sink.old) (K.seen sink.new) result }
 {
-    let report = dead_report(alloc, read_listing(alloc, source)?.as_slice(), number)?;
+    let level = read_level(alloc, source, number)?;
+    let report = dead_report(alloc, &level, number)?;
     report.send(sink)
 }
 
@@ -83,8 +87,8 @@ pub fn run_replay<S: Source, T: Source, K: Sink>(
     requires { 1 ≤ number }
     ensures { Replays number (S.seen source.old) (S.seen source.new) (T.seen solution.old) (T.seen solution.new) (K.seen sink.old) (K.seen sink.new) result }
 {
-    let entries = read_listing(alloc, source)?;
-    let report = replay_level(alloc, entries.as_slice(), number, solution)?;
+    let level = read_level(alloc, source, number)?;
+    let report = replay_level(alloc, &level, number, solution)?;
     report.send(sink)
 }
 
@@ -105,7 +109,7 @@ pub fn run_solve<R: Threads + Wait + Sync, S: Source, K: Sink>(
     requires limits { IsWithinLimits config }
     ensures { Runs (IsSolveReport config.limit number) (S.seen source.old) (S.seen source.new) (K.seen sink.old) (K.seen sink.new) result }
 {
-    let entries = read_listing(alloc, source)?;
-    let report = solve_report(rt, alloc, entries.as_slice(), number, config)?;
+    let chosen = read_level(alloc, source, number)?;
+    let report = solve_report(rt, alloc, &chosen, number, config)?;
     report.send(sink)
 }
