@@ -1,20 +1,22 @@
 -- A collection, as its boards are judged one by one.
-use Rattle.std.proofs.Common.{◌≡◌, ◌≢◌, ℕ, zero, suc, ◌+◌, ◌-◌, ◌<◌, ◌≤◌, Bool, true, false, cond, List, [], ◌∷◌, ◌++◌, length, Option, Some, None, Result, Ok, option_map, slice_get, ◌==◌, if◌then◌else◌, codes, decimal, refl, sym, ap, ◌∙◌, subst, arith, length-append, append_assoc}
+use Rattle.std.proofs.Common.{◌≡◌, ◌≢◌, ℕ, zero, suc, ◌+◌, ◌-◌, ◌<◌, ◌≤◌, Bool, true, false, cond, List, [], ◌∷◌, ◌++◌, length, Option, Some, None, Result, Ok, Err, IfOk, IfErr, ◌⊎◌, inl, inr, option_map, slice_get, ◌==◌, if◌then◌else◌, codes, decimal, refl, sym, ap, ◌∙◌, subst, arith, length-append, append_assoc}
 use Rattle.std.specs.List.{AllZip}
 use Rattle.std.proofs.lemmas.List.{append-nil}
 use Rattle.std.proofs.lemmas.List.Recursion.{is_count_by}
 use Rattle.grid.specs.Board.{Board}
 use Rattle.grid.specs.declared.fault.LevelFault.{LevelFault}
 use Rattle.sokopar.specs.Ends.{Seen}
-use Rattle.sokopar.specs.Runs.{ReadsWhole, ReadsIfSome}
+use Rattle.sokopar.specs.declared.fault.RunFault.{RunFault}
+use Rattle.sokopar.specs.declared.fault.RunFault.TheVariants.{OutOfMemory}
+use Rattle.sokopar.specs.Runs.{ReadsWhole, ReadsIfSome, Stops}
 use Rattle.xsb.specs.Collection.{Found}
 use Rattle.xsb.specs.declared.entry.Entry.{Entry}
 use Rattle.xsb.specs.declared.limits.TheConstants.{MAX_FILE}
 use Rattle.xsb.specs.declared.reader.Collection.{Collection}
 use Rattle.xsb.specs.inside.Progress.{HasRead, GivesNext, lines_left}
 use Rattle.sokopar.specs.Entries.{listed_of}
-use Rattle.sokopar.specs.Listing.{Listed, IsListed, IsListing, is_good, level_at}
-use Rattle.sokopar.specs.Report.{Report, IsReplayOf, ReplaysOn, IsCheckReport, line, check_line, check_lines, good_count}
+use Rattle.sokopar.specs.Listing.{Listed, IsListed, IsListing, IsLevelOf, is_good, level_at}
+use Rattle.sokopar.specs.Report.{Report, IsReplayOf, ReplaysOn, IsReplayReport, IsCheckReport, line, check_line, check_lines, good_count}
 
 -- the boards so far, judged
 pub record HasListed (bytes : List ℕ) (left : Collection) (listing : List Listed) : Type 0 where
@@ -193,3 +195,25 @@ pub replay_read : (old new : Seen) (n : ℕ) (level : Option (Result Board Level
 replay_read old new n level board text report is reads replayed =
     let P : Option (Result Board LevelFault) → Type 0 = λ at. ReplaysOn n at (Some text) report in
     (Some text, reads, subst P (sym is) (text, refl, replayed))
+
+-- the level that was chosen is that of the number
+pub at_number : {E : Type 0} (bytes : List ℕ) (n : ℕ) (chosen : Option (Result Board LevelFault)) (P : Option (Result Board LevelFault) → Report → Type 0) (result : Result Report E)
+    → (listing : List Listed) × IsListing bytes listing × (chosen ≡ level_at listing n) → IfOk result (λ r. P chosen r)
+    → IfOk result (λ r. (listing : List Listed) × IsListing bytes listing × P (level_at listing n) r)
+at_number bytes n chosen P (Ok r) has is = (has.0, has.1, subst (λ at. P at r) has.2 is)
+at_number bytes n chosen P (Err e) has is = tt
+
+pub replayed_at : {E : Type 0} (bytes : List ℕ) (n : ℕ) (chosen : Option (Result Board LevelFault)) (old new : Seen) (result : Result Report E)
+    → (listing : List Listed) × IsListing bytes listing × (chosen ≡ level_at listing n)
+    → IfOk result (λ r. (text : Option (List ℕ)) × ReadsIfSome old new text × ReplaysOn n chosen text r)
+    → IfOk result (λ r. (text : Option (List ℕ)) × ReadsIfSome old new text × IsReplayReport n bytes text r)
+replayed_at bytes n chosen old new (Ok r) has is = (is.0, is.1, (has.0, has.1, subst (λ at. ReplaysOn n at is.0 r) has.2 is.2))
+replayed_at bytes n chosen old new (Err e) has is = tt
+
+pub stopped_at : (bytes : List ℕ) (n : ℕ) (chosen : Option (Result Board LevelFault)) (old new : Seen) (result : Result Report RunFault)
+    → (listing : List Listed) × IsListing bytes listing × (chosen ≡ level_at listing n)
+    → IfErr result (λ f. ((f ≡ OutOfMemory) × (new ≡ old)) ⊎ ((board : Board) × (chosen ≡ Some (Ok board)) × Stops old new f))
+    → IfErr result (λ f. ((f ≡ OutOfMemory) × (new ≡ old)) ⊎ ((board : Board) × IsLevelOf bytes n board × Stops old new f))
+stopped_at bytes n chosen old new (Ok r) has is = tt
+stopped_at bytes n chosen old new (Err f) has (inl memory) = inl memory
+stopped_at bytes n chosen old new (Err f) has (inr stop) = inr (stop.0, (has.0, has.1, sym has.2 ∙ stop.1), stop.2)

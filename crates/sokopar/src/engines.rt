@@ -6,14 +6,13 @@ ghost use Rattle.sokopar.specs.Runs.{Runs, Replays};
 ghost use Rattle.sokopar.specs.Solving.{IsSolveReport};
 
 use crate::check::check_report;
-use crate::dead::dead_report;
+use crate::dead::dead_in;
 use crate::fault::RunFault;
-use crate::listing::read_level;
 use crate::reads::read_whole;
-use crate::replay::replay_level;
-use crate::show::show_report;
+use crate::replay::replay_in;
+use crate::show::show_in;
 use crate::sink::Sink;
-use crate::solve::solve_report;
+use crate::solve::solve_in;
 use crate::source::Source;
 use crew::Config;
 use std::alloc::Global;
@@ -51,8 +50,8 @@ pub fn run_show<S: Source, K: Sink>(
     requires { 1 ≤ number }
     ensures { Runs (IsShowReport number) (S.seen source.old) (S.seen source.new) (K.seen sink.old) (K.seen sink.new) result }
 {
-    let level = read_level(alloc, source, number)?;
-    let report = show_report(alloc, &level, number)?;
+    let bytes = read_whole(alloc, source)?;
+    let report = show_in(alloc, bytes.as_slice(), number)?;
     report.send(sink)
 }
 
@@ -68,8 +67,8 @@ pub fn run_dead<S: Source, K: Sink>(
     requires { 1 ≤ number }
     ensures { Runs (IsDeadReport number) (S.seen source.old) (S.seen source.new) (K.seen sink.old) (K.seen sink.new) result }
 {
-    let level = read_level(alloc, source, number)?;
-    let report = dead_report(alloc, &level, number)?;
+    let bytes = read_whole(alloc, source)?;
+    let report = dead_in(alloc, bytes.as_slice(), number)?;
     report.send(sink)
 }
 
@@ -87,8 +86,8 @@ pub fn run_replay<S: Source, T: Source, K: Sink>(
     requires { 1 ≤ number }
     ensures { Replays number (S.seen source.old) (S.seen source.new) (T.seen solution.old) (T.seen solution.new) (K.seen sink.old) (K.seen sink.new) result }
 {
-    let level = read_level(alloc, source, number)?;
-    let report = replay_level(alloc, &level, number, solution)?;
+    let bytes = read_whole(alloc, source)?;
+    let report = replay_in(alloc, bytes.as_slice(), number, solution)?;
     report.send(sink)
 }
 
@@ -109,7 +108,7 @@ pub fn run_solve<R: Threads + Wait + Sync, S: Source, K: Sink>(
     requires limits { IsWithinLimits config }
     ensures { Runs (IsSolveReport config.limit number) (S.seen source.old) (S.seen source.new) (K.seen sink.old) (K.seen sink.new) result }
 {
-    let chosen = read_level(alloc, source, number)?;
-    let report = solve_report(rt, alloc, &chosen, number, config)?;
+    let bytes = read_whole(alloc, source)?;
+    let report = solve_in(rt, alloc, bytes.as_slice(), number, config)?;
     report.send(sink)
 }

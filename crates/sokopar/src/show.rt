@@ -1,12 +1,13 @@
-ghost use Rattle.std.specs.Prelude.{◌≡◌, ◌≤◌, IfOk};
-ghost use Rattle.sokopar.specs.Report.{no_level, fault_report, shown, show_report};
+ghost use Rattle.std.specs.Prelude.{◌≡◌, ◌≤◌, length, IfOk};
+ghost use Rattle.sokopar.specs.Report.{no_level, fault_report, shown, show_report, IsShowReport};
 
 use crate::check::put_fault;
-use crate::listing::Chosen;
+use crate::listing::{Chosen, level_of};
 use crate::report::Report;
 use crate::text::Text;
 use grid::{Level, LevelFault};
 use std::alloc::{AllocError, Global};
+use xsb::MAX_FILE;
 
 /// The report where there is no level N.
 pub(crate) fn no_level(alloc: Global, number: u32) -> Result<Report, AllocError>
@@ -52,4 +53,14 @@ pub(crate) fn show_report(
         Some(Err(fault)) => fault_report(alloc, *fault),
         Some(Ok(level)) => shown(alloc, level),
     }
+}
+
+/// The report of showing level N of a collection.
+pub(crate) fn show_in(alloc: Global, bytes: &[u8], number: u32) -> Result<Report, AllocError>
+    requires number { 1 ≤ number }
+    requires bound { length bytes.now ≤ MAX_FILE }
+    ensures { IfOk result (λ report. IsShowReport number bytes.now report) }
+{
+    let chosen = level_of(alloc, bytes, number)?;
+    show_report(alloc, &chosen, number)
 }
