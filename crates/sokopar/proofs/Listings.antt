@@ -119,8 +119,8 @@ checked-more {bytes} {text} {first} {levels} {good} last entry more now t is nex
 pub checked-all : {bytes text : List ℕ} {left : Collection} {levels good : ℕ} (last : Collection) (is : HasChecked bytes left text levels good)
     → GivesNext bytes is.so_far.founds last None → (report : Report)
     → report ≡ record {
-        text = text ++ line (decimal levels ++ codes " levels, " ++ decimal good ++ codes " good");
-        status = if good == levels then 0 else 1;
+      text = text ++ line (decimal levels ++ codes " levels, " ++ decimal good ++ codes " good");
+      status = if good == levels then 0 else 1;
     } → IsCheckReport bytes report
 checked-all {bytes} {text} {left} {levels} {good} last is all report made = (
   is.listing,
@@ -128,8 +128,8 @@ checked-all {bytes} {text} {left} {levels} {good} last is all report made = (
   made ∙ ap (λ t. record { text = t ++ line (decimal levels ++ codes " levels, " ++ decimal good ++ codes " good"); status = if good == levels then 0 else 1 }) is.lines
       ∙ ap (λ n. record { text = check_lines 1 is.listing ++ line (decimal n ++ codes " levels, " ++ decimal good ++ codes " good"); status = if good == n then 0 else 1 }) is.count
       ∙ ap (λ n. record {
-          text = check_lines 1 is.listing ++ line (decimal (length is.listing) ++ codes " levels, " ++ decimal n ++ codes " good");
-          status = if n == length is.listing then 0 else 1;
+        text = check_lines 1 is.listing ++ line (decimal (length is.listing) ++ codes " levels, " ++ decimal n ++ codes " good");
+        status = if n == length is.listing then 0 else 1;
       }) is.lawful,
 )
 

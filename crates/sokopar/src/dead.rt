@@ -88,11 +88,7 @@ fn map_of(alloc: Global, level: &Level) -> Result<Report, AllocError>
 }
 
 /// The report of the dead squares of level N.
-pub(crate) fn dead_report(
-    alloc: Global,
-    chosen: &Chosen,
-    number: u32,
-) -> Result<Report, AllocError>
+pub(crate) fn dead_report(alloc: Global, chosen: &Chosen, number: u32) -> Result<Report, AllocError>
     requires { 1 ≤ number }
     ensures { IfOk result (λ report. MapsOn number chosen.now report) }
 {

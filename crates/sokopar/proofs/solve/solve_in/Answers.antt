@@ -1,5 +1,4 @@
 -- The report on the level that was chosen is that on the level of the number.
-use Rattle.std.proofs.Common.{◌≡◌}
 use Rattle.sokopar.specs.Solving.{SolvesOn}
 use Rattle.sokopar.proofs.Listings.{at_number}
 use Rattle.sokopar.proofs.solve.solve_in.Goals as goal
