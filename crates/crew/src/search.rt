@@ -27,8 +27,9 @@ use std::thread::Threads;
 ///
 /// [`SolveFault::BadConfig`] exactly where a number of the configuration is outside its limits, before everything
 /// else; [`SolveFault::TooManyBoxes`] where the level has more boxes than [`MAX_BOXES`](grid::MAX_BOXES); and
-/// [`SolveFault::OutOfMemory`] where memory was refused to the caller's own work. A worker that cannot be started, is
-/// refused memory or is stopped ends, and what it left is done by the caller. Waits for the locks and for the workers.
+/// [`SolveFault::OutOfMemory`] where memory was refused to the caller's own work. A worker for which no thread can be
+/// started works in the caller's; one that is refused memory or is stopped ends, and what it left is done by the caller.
+/// Waits for the locks and for the workers.
 pub fn solve<R: Threads + Wait + Sync, G: Gate + Sync>(
     rt: &R,
     alloc: Global,
