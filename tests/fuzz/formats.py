@@ -3,8 +3,8 @@
 It shares nothing with the program. It is slow and plain, and made for small inputs."""
 import re
 
-MOST_ROWS = MOST_COLUMNS = 64
-MOST_BOXES = 32
+MOST_ROWS = MOST_COLUMNS = 255
+MOST_BOXES = 64
 MOST_MOVES = 1_000_000
 MOST_BYTES = 16_777_216
 MOST_NUMBER = 4_294_967_295

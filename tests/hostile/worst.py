@@ -2,13 +2,14 @@
 
 # bytes that a run of any command but `solve` takes at most: so many, and so many for each byte of its files
 FIXED = 8 << 20
-A_BYTE = 340
+A_BYTE = 20
 
 SIZE = 1 << 20
+MOST = 1 << 24
 ONE = b"#####\n#@$.#\n#####\n"
 
-# a level of 64 rows and 64 columns in as few bytes as there are: most rows have one wall, and floor is filled in
-MOST_CELLS = b"64#|#@*#|4#|" + b"#|" * 60 + b"#\n\n"
+# a level of 255 rows and 255 columns in as few bytes as there are: most rows have one wall, and floor is filled in
+MOST_CELLS = b"255#|#@*#|4#|" + b"#|" * 251 + b"#\n\n"
 PARTS = {
     "empty lines": b"\n",
     "walls": b"#",
@@ -28,9 +29,9 @@ def filled(part, size=SIZE):
 
 
 def collections():
-    """The worst files, by their names. A list of boards that is just longer than a power of two has the most room to spare."""
+    """The worst files, by their names. The one with the longest report for each of its bytes is also tried at the greatest length."""
     yield from ((name, filled(part)) for name, part in PARTS.items())
-    yield "boards of one wall, one more than a power of two", b"#\n\n" * ((1 << 18) + 1)
+    yield "as many boards of one wall as a file has room for", filled(PARTS["boards of one wall"], MOST)
 
 
 def solutions():

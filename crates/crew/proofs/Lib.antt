@@ -1,3 +1,4 @@
+pub mod Dealing
 pub mod Drawing
 pub mod Lending
 pub mod Turning

@@ -1,3 +1,4 @@
 -- What keeps the books of the code: what its loops keep, and what its functions say to each other.
+pub mod Desks
 pub mod Lots
 pub mod Turning

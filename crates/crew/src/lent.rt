@@ -6,15 +6,15 @@ ghost use Rattle.crew.specs.Configured.{IsWithinLimits};
 ghost use Rattle.crew.specs.Lending.{ComesBack, ComeBack};
 
 use crate::config::Config;
+use crate::desks::Desks;
 use crate::gate::Gate;
-use crate::workers::work_all;
-use claims::{Drawer, Ledger, PLACES};
+use claims::{Drawer, Ledger};
 use layers::{Book, Layer, Pruner};
 use std::alloc::{AllocError, Global};
 use std::sync::{Mutex, Wait};
 use std::thread::Threads;
 
-// Lends the books to so many workers for a layer, and gives what is behind the locks once all of them have ended. The
+// Lends the books to the workers at their desks for a layer, and gives what is behind the locks once all of them have ended. The
 // only error is that memory was refused.
 pub(crate) fn lend<R: Threads + Wait + Sync, G: Gate + Sync>(
     rt: &R,
@@ -22,26 +22,17 @@ pub(crate) fn lend<R: Threads + Wait + Sync, G: Gate + Sync>(
     books: Vec<Book>,
     layer: &Layer,
     pruner: &Pruner,
-    workers: u8,
+    desks: &mut Desks<'_>,
     gate: &G,
 ) -> Result<Vec<Book>, AllocError>
     requires pruner_of_level { pruner.now ≡ layer.now.level }
     requires ranks { length layer.now.places < 2 ^ 32 }
-    requires places { workers ≤ PLACES }
+    requires desks { desks.old ≡ layer.now.level.board }
+    ensures desks { desks.new ≡ desks.old }
 {
     let (ledger, drawer) = ledger_of(alloc, layer)?;
     let locks = lock_each(alloc, books)?;
-    work_all(
-        rt,
-        alloc,
-        locks.as_slice(),
-        layer,
-        pruner,
-        &ledger,
-        drawer,
-        workers,
-        gate,
-    );
+    desks.work(rt, layer, pruner, locks.as_slice(), &ledger, drawer, gate);
     unlock_each(alloc, locks)
 }
 

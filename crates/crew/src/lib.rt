@@ -5,6 +5,7 @@
 
 mod closing;
 mod config;
+mod desks;
 mod end;
 mod gate;
 mod lent;

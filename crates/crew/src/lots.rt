@@ -9,7 +9,8 @@ use crate::gate::Gate;
 use crate::worker::draw;
 use area::Scratch;
 use claims::{Drawer, Ledger};
-use layers::{Layer, Parcel, Pruner, expand_by, expand_into};
+use grid::Level;
+use layers::{Layer, Parcel, Pruner, expand_over, expand_over_into};
 
 // The greatest number of ranks of a lot.
 const MOST: u64 = 16;
@@ -25,10 +26,19 @@ pub(crate) fn lot_size(left: u64) -> usize
     (left / PARTS).clamp(1, MOST) as usize
 }
 
+// Makes room for a lot of so many parcels, in a list that may hold some already. Where memory is refused the list stays as
+// it was.
+pub(crate) fn have_room(parcels: &mut Vec<Parcel<'_>>, size: usize) {
+    if parcels.capacity() < size {
+        let _ = parcels.reserve(size - parcels.len());
+    }
+}
+
 // Draws the ranks of a lot, and puts their parcels into the first places of a list that has room for one at least. Gives
 // how many they are. The lot ends early where no rank is left, and drains the worker where none is left at all.
 pub(crate) fn fill<'a, G: Gate>(
-    layer: &'a Layer,
+    level: &'a Level,
+    layer: &Layer,
     pruner: &Pruner,
     ledger: &Ledger,
     drawer: &mut Drawer,
@@ -38,6 +48,7 @@ pub(crate) fn fill<'a, G: Gate>(
     nth: &mut u64,
     parcels: &mut Vec<Parcel<'a>>,
 ) -> Result<usize, End>
+    requires level { level.now ≡ layer.now.level.board }
     requires pruner_of_level { pruner.now ≡ layer.now.level }
     requires room { scratch.old.size ≡ length layer.now.level.board.cells }
     requires ranks { ledger.now.len ≤ length layer.now.places }
@@ -53,12 +64,12 @@ pub(crate) fn fill<'a, G: Gate>(
     ensures size { scratch.new.size ≡ scratch.old.size }
 {
     let first = draw(layer, ledger, drawer, worker, gate, nth)?;
-    put(layer, pruner, first, scratch, parcels, 0);
+    put(level, layer, pruner, first, scratch, parcels, 0);
     let size = lot_size(layer.len() - first).min(parcels.capacity());
     let mut filled = 1;
     while filled < size {
         match draw(layer, ledger, drawer, worker, gate, nth) {
-            Ok(rank) => put(layer, pruner, rank, scratch, parcels, filled),
+            Ok(rank) => put(level, layer, pruner, rank, scratch, parcels, filled),
             Err(End::Drained) => return Ok(filled),
             Err(end) => return Err(end),
         }
@@ -69,13 +80,15 @@ pub(crate) fn fill<'a, G: Gate>(
 
 // Makes the parcel of a rank the one in a place of a list, or behind its last one, where there is room.
 fn put<'a>(
-    layer: &'a Layer,
+    level: &'a Level,
+    layer: &Layer,
     pruner: &Pruner,
     rank: u64,
     scratch: &mut Scratch,
     parcels: &mut Vec<Parcel<'a>>,
     place: usize,
 )
+    requires level { level.now ≡ layer.now.level.board }
     requires within { rank < length layer.now.places }
     requires pruner_of_level { pruner.now ≡ layer.now.level }
     requires room { scratch.old.size ≡ length layer.now.level.board.cells }
@@ -86,21 +99,31 @@ fn put<'a>(
     ensures size { scratch.new.size ≡ scratch.old.size }
 {
     if place < parcels.len() {
-        refill(layer, pruner, rank, scratch, parcels.as_mut_slice(), place);
+        refill(
+            level,
+            layer,
+            pruner,
+            rank,
+            scratch,
+            parcels.as_mut_slice(),
+            place,
+        );
     } else {
-        parcels.push_reserved(expand_by(layer, pruner, rank, scratch));
+        parcels.push_reserved(expand_over(level, layer, pruner, rank, scratch));
     }
 }
 
 // Makes the parcel in a place the one of another rank.
 fn refill<'a>(
-    layer: &'a Layer,
+    level: &'a Level,
+    layer: &Layer,
     pruner: &Pruner,
     rank: u64,
     scratch: &mut Scratch,
     parcels: &mut [Parcel<'a>],
     place: usize,
 )
+    requires level { level.now ≡ layer.now.level.board }
     requires within { rank < length layer.now.places }
     requires pruner_of_level { pruner.now ≡ layer.now.level }
     requires room { scratch.old.size ≡ length layer.now.level.board.cells }
@@ -108,5 +131,5 @@ fn refill<'a>(
     ensures refilled { (parcel : ParcelView) × IsOfRank layer.now rank parcel × (parcels.new ≡ slice_set parcels.old place parcel) }
     ensures size { scratch.new.size ≡ scratch.old.size }
 {
-    expand_into(layer, pruner, rank, scratch, &mut parcels[place]);
+    expand_over_into(level, layer, pruner, rank, scratch, &mut parcels[place]);
 }

@@ -8,6 +8,7 @@ ghost use Rattle.crew.specs.Solving.{SolveRefused};
 ghost use Rattle.crew.specs.inside.Turning.{ArePausedBy};
 
 use crate::config::Config;
+use crate::desks::Desks;
 use crate::gate::Gate;
 use crate::turns::{Turned, turn};
 use area::Scratch;
@@ -20,8 +21,8 @@ use std::sync::{Arc, Wait};
 use std::thread::Threads;
 
 /// The solution of the level with the fewest pushes, or that it has none, within the configuration's cap of pushes if it
-/// has one, or that more than its limit of positions are needed to say so, found by as many workers as the configuration says over as many books, each of a
-/// share of the positions and behind a lock of its own. The answer is that of [`solve_alone`], whatever the numbers of
+/// has one, or that more than its limit of positions are needed to say so, found by as many workers as the configuration
+/// says over as many books, each of a share of the positions and behind a lock of its own. The answer is that of [`solve_alone`], whatever the numbers of
 /// workers and locks, the gate, and the order in which the workers draw ranks and come to the locks.
 ///
 /// [`SolveFault::BadConfig`] exactly where a number of the configuration is outside its limits, before everything
@@ -76,7 +77,17 @@ fn search<R: Threads + Wait + Sync, G: Gate + Sync>(
         config.locks,
         &mut scratch,
     )?;
-    all_turns(rt, alloc, books, &pruner, &mut scratch, config, gate)
+    let mut desks = Desks::of(alloc, level, config.workers);
+    all_turns(
+        rt,
+        alloc,
+        books,
+        &pruner,
+        &mut scratch,
+        &mut desks,
+        config,
+        gate,
+    )
 }
 
 // Looks at layer after layer until there is an answer; `None` where other books came back than were lent. The only
@@ -87,12 +98,14 @@ fn all_turns<R: Threads + Wait + Sync, G: Gate + Sync>(
     first: Vec<Book>,
     pruner: &Pruner,
     scratch: &mut Scratch,
+    desks: &mut Desks<'_>,
     config: Config,
     gate: &G,
 ) -> Result<Option<Answer>, AllocError>
     requires limits { IsWithinLimits config }
     requires first { ArePausedBy config pruner.now first.items [] 0 }
     requires room { scratch.old.size ≡ length pruner.now.board.cells }
+    requires desks { desks.old ≡ pruner.now.board }
     ensures { IfOk result (λ found. IfSome found (λ answer. IsAnswer pruner.now config.limit answer)) }
 {
     let mut trail = Vec::new(alloc);
@@ -107,6 +120,7 @@ fn all_turns<R: Threads + Wait + Sync, G: Gate + Sync>(
             &mut positions,
             pruner,
             scratch,
+            desks,
             config,
             gate,
         )? {

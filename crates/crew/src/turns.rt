@@ -7,6 +7,7 @@ ghost use Rattle.crew.specs.inside.Turning.{ArePausedBy, AreWorkedBy, TurnAnswer
 
 use crate::closing::finish_all;
 use crate::config::Config;
+use crate::desks::Desks;
 use crate::gate::Gate;
 use crate::lent::{come_back, lend};
 use area::Scratch;
@@ -38,14 +39,17 @@ pub(crate) fn turn<R: Threads + Wait + Sync, G: Gate + Sync>(
     positions: &mut u64,
     pruner: &Pruner,
     scratch: &mut Scratch,
+    desks: &mut Desks<'_>,
     config: Config,
     gate: &G,
 ) -> Result<Turned, AllocError>
     requires limits { IsWithinLimits config }
     requires turn { ArePausedBy config pruner.now books.items trail.old.items positions.old }
     requires room { scratch.old.size ≡ length pruner.now.board.cells }
+    requires desks { desks.old ≡ pruner.now.board }
     ensures turned { IfOk result (λ turned. TurnAnswer config pruner.now trail.new.items positions.old positions.new turned) }
     ensures size { scratch.new.size ≡ scratch.old.size }
+    ensures desks { desks.new ≡ desks.old }
 {
     let layer = last_layer(alloc, books.as_slice())?;
     let found = look(
@@ -59,7 +63,7 @@ pub(crate) fn turn<R: Threads + Wait + Sync, G: Gate + Sync>(
     if let Some(answer) = found {
         return Ok(Turned::Found(answer));
     }
-    let back = work_through(rt, alloc, books, &layer, pruner, scratch, config, gate)?;
+    let back = work_through(rt, alloc, books, &layer, pruner, scratch, desks, config, gate)?;
     let Some((worked, after)) = back else {
         return Ok(Turned::Foreign);
     };
@@ -79,6 +83,7 @@ fn work_through<R: Threads + Wait + Sync, G: Gate + Sync>(
     layer: &Layer,
     pruner: &Pruner,
     scratch: &mut Scratch,
+    desks: &mut Desks<'_>,
     config: Config,
     gate: &G,
 ) -> Result<Option<(Worked, Vec<Book>)>, AllocError>
@@ -87,16 +92,18 @@ fn work_through<R: Threads + Wait + Sync, G: Gate + Sync>(
     requires few { length layer.now.places ≤ config.limit }
     requires pruner_of_level { pruner.now ≡ layer.now.level }
     requires room { scratch.old.size ≡ length layer.now.level.board.cells }
+    requires desks { desks.old ≡ layer.now.level.board }
     ensures worked { IfOk result (λ back. IfSome back (λ b. AreWorkedBy config layer.now b.0 b.1.items)) }
     ensures size { scratch.new.size ≡ scratch.old.size }
+    ensures desks { desks.new ≡ desks.old }
 {
     begin_each(books.as_mut_slice(), layer)?;
-    // the caller's own number is the last one
-    let own = config.workers;
-    let mut back = lend(rt, alloc, books, layer, pruner, own, gate)?;
+    let mut back = lend(rt, alloc, books, layer, pruner, desks, gate)?;
     if !come_back(back.as_slice(), config, layer) {
         return Ok(None);
     }
+    // the caller's own number is the last one
+    let own = config.workers;
     let worked = finish_all(rt, back.as_mut_slice(), layer, pruner, scratch, own)?;
     Ok(Some((worked, back)))
 }

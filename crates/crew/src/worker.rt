@@ -8,9 +8,10 @@ ghost use Rattle.layers.specs.LayerView.{LayerView};
 
 use crate::end::End;
 use crate::gate::Gate;
-use crate::lots::{fill, lot_size};
+use crate::lots::{fill, have_room, lot_size};
 use area::Scratch;
 use claims::{Drawer, Ledger, PLACES};
+use grid::Level;
 use layers::{Book, Layer, Parcel, Pruner, Refusal, expand_by, expand_into};
 use std::slice::from_ref;
 use std::sync::{Mutex, Wait};
@@ -47,20 +48,61 @@ pub fn work<R: Wait, G: Gate>(
     ensures ledger { drawer.new.ledger ≡ ledger.now }
     ensures size { scratch.new.size ≡ scratch.old.size }
 {
+    let mut parcels = Vec::new(scratch.allocator());
+    work_at(
+        rt,
+        layer.level(),
+        layer,
+        pruner,
+        books,
+        ledger,
+        drawer,
+        worker,
+        scratch,
+        gate,
+        &mut parcels,
+    )
+}
+
+// Works on a layer as [`work`] does, with parcels that are kept in this list, over a level that is that of the layer. The
+// list grows to a lot of the layer; where that is refused the lots are as small as it is, or one rank.
+pub(crate) fn work_at<'a, R: Wait, G: Gate>(
+    rt: &R,
+    level: &'a Level,
+    layer: &Layer,
+    pruner: &Pruner,
+    books: &[Mutex<Book>],
+    ledger: &Ledger,
+    drawer: &mut Drawer,
+    worker: u8,
+    scratch: &mut Scratch,
+    gate: &G,
+    parcels: &mut Vec<Parcel<'a>>,
+) -> End
+    requires level { level.now ≡ layer.now.level.board }
+    requires pruner_of_level { pruner.now ≡ layer.now.level }
+    requires room { scratch.old.size ≡ length layer.now.level.board.cells }
+    requires ranks { ledger.now.len ≤ length layer.now.places }
+    requires drawer { (drawer.old.ledger ≡ ledger.now) × IsNone drawer.old.hand.place }
+    requires place { worker < PLACES }
+    ensures end { MayEnd G.may_stop result }
+    ensures hand { EndsWith worker drawer.new.hand result }
+    ensures answered { WasAnswered layer.now worker result }
+    ensures ledger { drawer.new.ledger ≡ ledger.now }
+    ensures size { scratch.new.size ≡ scratch.old.size }
+{
     if !ledger.enrol(drawer, worker) {
         return End::NoPlace;
     }
     let mut nth = 0;
-    let size = lot_size(layer.len());
-    if size > 1 {
-        if let Ok(parcels) = Vec::with_capacity(scratch.allocator(), size) {
-            return by_lots(
-                rt, layer, pruner, books, ledger, drawer, worker, scratch, gate, &mut nth, parcels,
-            );
-        }
+    have_room(parcels, lot_size(layer.len()));
+    if parcels.capacity() == 0 {
+        return by_ones(
+            rt, layer, pruner, books, ledger, drawer, worker, scratch, gate, &mut nth,
+        );
     }
-    by_ones(
-        rt, layer, pruner, books, ledger, drawer, worker, scratch, gate, &mut nth,
+    by_lots(
+        rt, level, layer, pruner, books, ledger, drawer, worker, scratch, gate, &mut nth, parcels,
     )
 }
 
@@ -108,7 +150,8 @@ fn by_ones<R: Wait, G: Gate>(
 // room for one at least.
 fn by_lots<'a, R: Wait, G: Gate>(
     rt: &R,
-    layer: &'a Layer,
+    level: &'a Level,
+    layer: &Layer,
     pruner: &Pruner,
     books: &[Mutex<Book>],
     ledger: &Ledger,
@@ -117,13 +160,14 @@ fn by_lots<'a, R: Wait, G: Gate>(
     scratch: &mut Scratch,
     gate: &G,
     nth: &mut u64,
-    mut parcels: Vec<Parcel<'a>>,
+    parcels: &mut Vec<Parcel<'a>>,
 ) -> End
+    requires level { level.now ≡ layer.now.level.board }
     requires pruner_of_level { pruner.now ≡ layer.now.level }
     requires room { scratch.old.size ≡ length layer.now.level.board.cells }
     requires ranks { ledger.now.len ≤ length layer.now.places }
     requires place { IsAtPlace ledger.now worker drawer.old }
-    requires capacity { 0 < vec_capacity parcels }
+    requires capacity { 0 < vec_capacity parcels.old }
     ensures end { MayEnd G.may_stop result }
     ensures hand { EndsWith worker drawer.new.hand result }
     ensures answered { WasAnswered layer.now worker result }
@@ -132,15 +176,7 @@ fn by_lots<'a, R: Wait, G: Gate>(
 {
     for _ in rt.forever() {
         let filled = match fill(
-            layer,
-            pruner,
-            ledger,
-            drawer,
-            worker,
-            scratch,
-            gate,
-            nth,
-            &mut parcels,
+            level, layer, pruner, ledger, drawer, worker, scratch, gate, nth, parcels,
         ) {
             Ok(filled) => filled,
             Err(end) => return end,

@@ -1,90 +1,102 @@
-ghost use Rattle.std.specs.Prelude.{◌≡◌, ◌<◌, ◌≤◌, length};
+//! Workers that run side by side, each at a desk.
+ghost use Rattle.std.specs.Prelude.{◌≡◌, ◌<◌, ◌≤◌, Some, length};
 ghost use Rattle.claims.specs.Hands.{newcomer};
+ghost use Rattle.crew.specs.inside.Desks.{AreRoomy, HaveDrawers};
 
+use crate::desks::Desk;
 use crate::gate::Gate;
-use crate::worker::work;
-use area::Scratch;
-use claims::{Drawer, Ledger, PLACES};
+use crate::worker::work_at;
+use claims::{Ledger, PLACES};
+use grid::Level;
 use layers::{Book, Layer, Pruner};
-use std::alloc::Global;
 use std::sync::{Mutex, Wait};
-use std::thread;
-use std::thread::Threads;
+use std::thread::{Threads, for_each_mut};
 
-// Lends the books and the ledger to so many workers, each with a drawer of its own, and waits until all of them have
-// ended. A worker that cannot be started does nothing.
-pub(crate) fn work_all<R: Threads + Wait + Sync, G: Gate + Sync>(
+// Lends the books and the ledger to a worker at each of the desks, each in a thread of its own where one can be started,
+// and waits until all of them have ended.
+pub(crate) fn work_all<'a, R: Threads + Wait + Sync, G: Gate + Sync>(
     rt: &R,
-    alloc: Global,
-    books: &[Mutex<Book>],
+    desks: &mut [Desk<'a>],
+    level: &'a Level,
     layer: &Layer,
     pruner: &Pruner,
+    books: &[Mutex<Book>],
     ledger: &Ledger,
-    drawer: Drawer,
-    workers: u8,
     gate: &G,
 )
+    requires level { level.now ≡ layer.now.level.board }
     requires pruner_of_level { pruner.now ≡ layer.now.level }
     requires ranks { ledger.now.len ≤ length layer.now.places }
-    requires drawer { drawer ≡ newcomer ledger.now }
-    requires places { workers ≤ PLACES }
+    requires places { length desks.old ≤ PLACES }
+    requires drawers { HaveDrawers ledger.now (length desks.old) desks.old }
+    requires room { AreRoomy (length layer.now.level.board.cells) desks.old }
+    ensures room { AreRoomy (length layer.now.level.board.cells) desks.new }
 {
-    thread::scope(
-        thread::scope_env(),
+    let count = desks.len();
+    if count == 0 {
+        return;
+    }
+    for_each_mut(
         rt,
-        |scope|
+        desks,
+        count,
+        &|place, desk: &mut Desk<'_>|
+            requires level { level.now ≡ layer.now.level.board }
             requires pruner_of_level { pruner.now ≡ layer.now.level }
             requires ranks { ledger.now.len ≤ length layer.now.places }
-            requires drawer { drawer ≡ newcomer ledger.now }
-            requires places { workers ≤ PLACES }
+            requires place { place < PLACES }
+            requires drawer { desk.now.drawer ≡ Some (newcomer ledger.now) }
+            requires room { desk.now.scratch.size ≡ length layer.now.level.board.cells }
+            ensures { desk.exit.now.scratch.size ≡ desk.entry.now.scratch.size }
         {
-            let mut rest = drawer;
-            for worker in 0..workers {
-                let (kept, own) = ledger.split(rest);
-                rest = kept;
-                let _ = scope.spawn(
-                    move ||
-                        requires pruner_of_level { pruner.now ≡ layer.now.level }
-                        requires ranks { ledger.now.len ≤ length layer.now.places }
-                        requires drawer { own ≡ newcomer ledger.now }
-                        requires place { worker < PLACES }
-                    { help(rt, alloc, layer, pruner, books, ledger, own, worker, gate) },
-                );
-            }
+            help(
+                rt,
+                desk,
+                level,
+                layer,
+                pruner,
+                books,
+                ledger,
+                place as u8,
+                gate,
+            )
         },
     );
 }
 
-// Works on a layer as one worker with a scratch of its own. How it ends decides nothing, and a worker that gets no
-// scratch does nothing.
-fn help<R: Wait, G: Gate>(
+// Works on a layer as one worker, with what is on the desk. How it ends decides nothing.
+fn help<'a, R: Wait, G: Gate>(
     rt: &R,
-    alloc: Global,
+    desk: &mut Desk<'a>,
+    level: &'a Level,
     layer: &Layer,
     pruner: &Pruner,
     books: &[Mutex<Book>],
     ledger: &Ledger,
-    drawer: Drawer,
     worker: u8,
     gate: &G,
 )
+    requires level { level.now ≡ layer.now.level.board }
     requires pruner_of_level { pruner.now ≡ layer.now.level }
     requires ranks { ledger.now.len ≤ length layer.now.places }
-    requires drawer { drawer ≡ newcomer ledger.now }
     requires place { worker < PLACES }
+    requires drawer { desk.old.drawer ≡ Some (newcomer ledger.now) }
+    requires room { desk.old.scratch.size ≡ length layer.now.level.board.cells }
+    ensures room { desk.new.scratch.size ≡ desk.old.scratch.size }
 {
-    if let Ok(mut scratch) = Scratch::new(alloc, layer.level()) {
-        let mut own = drawer;
-        work(
+    if let Some(mut own) = desk.drawer.take() {
+        work_at(
             rt,
+            level,
             layer,
             pruner,
             books,
             ledger,
             &mut own,
             worker,
-            &mut scratch,
+            &mut desk.scratch,
             gate,
+            &mut desk.parcels,
         );
     }
 }

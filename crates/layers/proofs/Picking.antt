@@ -19,6 +19,7 @@ use Rattle.layers.specs.Tasks.{Task, capped, uncapped}
 use Rattle.layers.specs.ParcelView.{AreSuccessors, FitLevel}
 use Rattle.layers.specs.inside.Pruned.{Picks, IsWithin, ArePicked}
 use Rattle.layers.specs.inside.Pruned.Picks.{nothing, kept, left_out}
+use Rattle.layers.proofs.Bringing.{front_more, later_same}
 use Rattle.layers.proofs.lemmas.Closings.{take_at, take_push}
 use Rattle.layers.proofs.lemmas.Lists.{Rises, at_before, at_seam, at-push}
 
@@ -116,13 +117,6 @@ none_picked board room before = record {
     none [] = nothing
     none (x ∷ xs) = nothing
 
-at_set_later : {A : Type 0} (xs : List A) (i j : ℕ) (a : A) → i < j → slice_get (set xs i a) j ≡ slice_get xs j
-at_set_later [] i j a lt = refl
-at_set_later (x ∷ xs) zero zero a lt = absurd (omega (arith, lt))
-at_set_later (x ∷ xs) zero (suc j) a lt = refl
-at_set_later (x ∷ xs) (suc i) zero a lt = absurd (omega (arith, lt))
-at_set_later (x ∷ xs) (suc i) (suc j) a lt = at_set_later xs i j a (omega (arith, lt))
-
 take_more : {A : Type 0} (xs : List A) (n : ℕ) (a : A) → slice_get xs n ≡ Some a → take (n + 1) xs ≡ take n xs ++ a ∷ []
 take_more xs n a at = ap (λ k. take k xs) (let e : n + 1 ≡ suc n = omega arith in e) ∙ take_push xs n a at
 
@@ -133,28 +127,14 @@ module _ (board : Board) (room : ℕ) (before now : List Successor) (front place
   inside : place < length now
   inside = slice_get_within now place s here
 
-  -- the exchange, told by two stores
-  stores : swap now front place ≡ set (set now front s) place (get_or now front s)
-  stores = sym (swap_is now front place s (omega (arith, is.order, inside)) inside) ∙ ap (λ (x : Successor). set (set now front x) place (get_or now front s)) (get_or_from_slice_get now place s s here)
-
   in_front : take (front + 1) (swap now front place) ≡ take front now ++ s ∷ []
-  in_front = ap (take (front + 1)) stores ∙ elim (cases_lt front place) [
-    | inl less ↦ take-set-le (front + 1) (set now front s) place (get_or now front s) (omega (arith, less)) ∙ take_more_set now front s (omega (arith, less, inside))
-    | inr le ↦ (let same : front ≡ place = omega (arith, le, is.order) in
-        let value : get_or now front s ≡ s = ap (λ i. get_or now i s) same ∙ get_or_from_slice_get now place s s here in
-        (λ i. take (front + 1) (set (set now front s) (sym same i) (value i)))
-        ∙ take_more_set (set now front s) front s (omega (arith, inside, same, length-set now front s))
-        ∙ ap (λ xs. xs ++ s ∷ []) (take-set-le front now front s (omega arith)))
-  ]
+  in_front = front_more now front place s is.order here
 
   pub one_picked : IsWithin board s.position.boxes room → IsPicking board room before (swap now front place) (front + 1) (place + 1)
   one_picked holds = record {
     picked = subst (λ xs. ArePicked board room xs (take (front + 1) (swap now front place))) (sym (take_more before place s there))
         (subst (λ ys. ArePicked board room (take place before ++ s ∷ []) ys) (sym in_front) (kept is.picked holds));
-    rest = λ i t le at. ap (λ xs. slice_get xs i) stores
-        ∙ at_set_later (set now front s) place i (get_or now front s) (omega (arith, le))
-        ∙ at_set_later now front i s (omega (arith, le, is.order))
-        ∙ is.rest i t (omega (arith, le)) at;
+    rest = λ i t le at. later_same now front place s is.order here i (omega (arith, le)) ∙ is.rest i t (omega (arith, le)) at;
     order = omega (arith, is.order);
     long = length-swap now front place ∙ is.long;
   }

@@ -6,3 +6,4 @@ pub mod Merging
 pub mod Placing
 pub mod ParcelInside
 pub mod Pruned
+pub mod Sums

@@ -1,10 +1,11 @@
 //! Offers that enter what stands open, in the map that holds it behind what is closed.
-ghost use Rattle.std.specs.Prelude.{◌≡◌, ℕ, ◌+◌, ◌<◌, ◌≤◌, ◌&&◌, ◌||◌, [], not, is_some, length, fold};
+ghost use Rattle.std.specs.Prelude.{◌≡◌, ℕ, ◌+◌, ◌%◌, ◌<◌, ◌≤◌, ◌&&◌, ◌||◌, [], not, is_some, length, fold};
 ghost use Rattle.indexmap.specs.IndexMap.{spare};
 ghost use Rattle.std.specs.List.{list_any};
 ghost use Rattle.layers.specs.BookView.{origin_of};
 ghost use Rattle.layers.specs.Origins.{same_scene, share_of};
 ghost use Rattle.layers.specs.Books.{is_wanted_in, entered};
+ghost use Rattle.layers.specs.inside.Sums.{scene_sum};
 ghost use Rattle.layers.specs.FoundView.{HaveFew, IsFound, all_let_in, found_view, keeps, let_in, open_of, seen_of};
 
 use crate::key::Key;
@@ -13,20 +14,35 @@ use crate::parcel::Successor;
 use grid::{MAX_BOXES, Position};
 use indexmap::IndexMap;
 
+/// The sum of a position's box squares and its player's square.
+pub(crate) fn sum_of(position: &Position) -> u32
+    ensures { result ≡ scene_sum position.now }
+{
+    let boxes = position.boxes();
+    let mut sum = 0;
+    for square in boxes {
+        sum += u32::from(square.0);
+    }
+    sum + u32::from(position.player().0)
+}
+
+/// The share of a position whose squares have this sum: what is left of it modulo the number of shares.
+pub(crate) fn share_by(sum: u32, shares: u8) -> u8
+    requires { 0 < shares }
+    ensures { result ≡ sum % shares }
+{
+    if shares == 1 {
+        return 0;
+    }
+    (sum % u32::from(shares)) as u8
+}
+
 /// The share of a position: the sum of its box squares and its player's square, modulo the number of shares.
 pub(crate) fn share_of(position: &Position, shares: u8) -> u8
     requires { 0 < shares }
     ensures { result ≡ share_of shares position.now }
 {
-    if shares == 1 {
-        return 0;
-    }
-    let boxes = position.boxes();
-    let mut sum = 0;
-    for square in boxes {
-        sum += u64::from(square.0);
-    }
-    ((sum + u64::from(position.player().0)) % u64::from(shares)) as u8
+    share_by(sum_of(position), shares)
 }
 
 // Whether an offer of a position changes nothing: it is closed, or stands open with an origin that is no greater. Those

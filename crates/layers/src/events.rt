@@ -83,7 +83,13 @@ impl Book {
         }
         if self
             .found
-            .enter_all(self.share, self.shares, parcel.rank(), successors)
+            .enter_all(
+                self.share,
+                self.shares,
+                parcel.rank(),
+                successors,
+                parcel.sums(),
+            )
             .is_err()
         {
             return Err(Refusal::OutOfMemory);
@@ -99,7 +105,7 @@ impl Book {
         ensures some { IfSome result (λ refusal. HandBackRefused self.now parcel.now refusal) }
         ensures unchanged { IfSome result (λ refusal. after_refusal self.now refusal ≡ self.now) }
     {
-        if !self.is_of(parcel.task()) {
+        if !parcel.is_of(&self.task) {
             return Some(Refusal::OtherLevel);
         }
         if parcel.layer() != self.layer() {

@@ -4,6 +4,7 @@ ghost use Rattle.layers.specs.BookView.{Closed, origins_of};
 ghost use Rattle.layers.specs.Books.{IsSortedAppend};
 ghost use Rattle.layers.specs.FoundView.{HaveFew, first_entries, origin_in, with_entered};
 ghost use Rattle.layers.specs.inside.Insides.{IsCopied, squares_of};
+ghost use Rattle.layers.specs.inside.Sums.{AreSums};
 
 use crate::origin::{MOST_RANKS, Origin};
 use crate::parcel::Successor;
@@ -19,12 +20,15 @@ const MIDDLE: usize = 11;
 
 const WIDE: usize = 27;
 
+const BROAD: usize = 35;
+
 // What is found, with keys of one of the widths.
 #[derive(Debug, Drop)]
 pub(crate) enum Tables {
     Narrow(Table<NARROW>),
     Middle(Table<MIDDLE>),
     Wide(Table<WIDE>),
+    Broad(Table<BROAD>),
     Widest(Table<MAX_BOXES>),
 }
 
@@ -62,6 +66,8 @@ impl Found {
             Tables::Middle(Table::of(alloc, boxes, first)?)
         } else if boxes <= WIDE {
             Tables::Wide(Table::of(alloc, boxes, first)?)
+        } else if boxes <= BROAD {
+            Tables::Broad(Table::of(alloc, boxes, first)?)
         } else {
             Tables::Widest(Table::of(alloc, boxes, first)?)
         };
@@ -76,6 +82,7 @@ impl Found {
             Tables::Narrow(table) => table.closed_len(),
             Tables::Middle(table) => table.closed_len(),
             Tables::Wide(table) => table.closed_len(),
+            Tables::Broad(table) => table.closed_len(),
             Tables::Widest(table) => table.closed_len(),
         }
     }
@@ -88,6 +95,7 @@ impl Found {
             Tables::Narrow(table) => table.closed_at(place),
             Tables::Middle(table) => table.closed_at(place),
             Tables::Wide(table) => table.closed_at(place),
+            Tables::Broad(table) => table.closed_at(place),
             Tables::Widest(table) => table.closed_at(place),
         }
     }
@@ -100,6 +108,7 @@ impl Found {
             Tables::Narrow(table) => table.origin_at(place),
             Tables::Middle(table) => table.origin_at(place),
             Tables::Wide(table) => table.origin_at(place),
+            Tables::Broad(table) => table.origin_at(place),
             Tables::Widest(table) => table.origin_at(place),
         }
     }
@@ -119,6 +128,7 @@ impl Found {
             Tables::Narrow(table) => table.copy_at(place, squares, origins),
             Tables::Middle(table) => table.copy_at(place, squares, origins),
             Tables::Wide(table) => table.copy_at(place, squares, origins),
+            Tables::Broad(table) => table.copy_at(place, squares, origins),
             Tables::Widest(table) => table.copy_at(place, squares, origins),
         }
     }
@@ -138,6 +148,7 @@ impl Found {
             Tables::Narrow(table) => table.closed_from(alloc, from),
             Tables::Middle(table) => table.closed_from(alloc, from),
             Tables::Wide(table) => table.closed_from(alloc, from),
+            Tables::Broad(table) => table.closed_from(alloc, from),
             Tables::Widest(table) => table.closed_from(alloc, from),
         }
     }
@@ -160,6 +171,7 @@ impl Found {
             Tables::Narrow(table) => table.passes(limit, share, shares, successors),
             Tables::Middle(table) => table.passes(limit, share, shares, successors),
             Tables::Wide(table) => table.passes(limit, share, shares, successors),
+            Tables::Broad(table) => table.passes(limit, share, shares, successors),
             Tables::Widest(table) => table.passes(limit, share, shares, successors),
         }
     }
@@ -171,18 +183,21 @@ impl Found {
         shares: u8,
         rank: u64,
         successors: &[Successor],
+        sums: &[u32],
     ) -> Result<(), AllocError>
         requires shares { 0 < shares }
         requires rank { rank < MOST_RANKS }
         requires few { HaveFew self.old.boxes successors.now }
+        requires sums { AreSums successors.now sums.now }
         ensures ok { OnOk result (self.new ≡ with_entered self.old shares share rank successors.now) }
         ensures err { OnErr result (self.new ≡ self.old) }
     {
         match &mut self.tables {
-            Tables::Narrow(table) => table.enter_all(share, shares, rank, successors),
-            Tables::Middle(table) => table.enter_all(share, shares, rank, successors),
-            Tables::Wide(table) => table.enter_all(share, shares, rank, successors),
-            Tables::Widest(table) => table.enter_all(share, shares, rank, successors),
+            Tables::Narrow(table) => table.enter_all(share, shares, rank, successors, sums),
+            Tables::Middle(table) => table.enter_all(share, shares, rank, successors, sums),
+            Tables::Wide(table) => table.enter_all(share, shares, rank, successors, sums),
+            Tables::Broad(table) => table.enter_all(share, shares, rank, successors, sums),
+            Tables::Widest(table) => table.enter_all(share, shares, rank, successors, sums),
         }
     }
 
@@ -197,6 +212,7 @@ impl Found {
             Tables::Narrow(table) => table.close(),
             Tables::Middle(table) => table.close(),
             Tables::Wide(table) => table.close(),
+            Tables::Broad(table) => table.close(),
             Tables::Widest(table) => table.close(),
         }
     }

@@ -2,9 +2,10 @@
 ghost use Rattle.std.specs.Prelude.{◌≡◌, ℕ, ◌+◌, ◌<◌, ◌≤◌, ◌++◌, length, vec_len, OnOk};
 ghost use Rattle.std.specs.Vec.{vec_capacity};
 ghost use Rattle.indexmap.specs.IndexMap.{spare};
+ghost use Rattle.layers.specs.inside.Sums.{AreSums, scene_sum};
 ghost use Rattle.layers.specs.FoundView.{HaveFew, IsFound, found_view, offer_of, offers_of};
 
-use crate::entering::{enter_all, share_of};
+use crate::entering::{enter_all, share_by};
 use crate::key::Key;
 use crate::origin::{ClosedOrigin, MOST_RANKS, Origin};
 use crate::parcel::Successor;
@@ -55,45 +56,49 @@ fn enter_if_full<const N: usize>(
     }
 }
 
-/// Appends the offers of a rank's successors that are of the share.
+/// Appends the offers of a rank's successors that are of the share, which the sum of each tells.
 pub(crate) fn append_all<const N: usize>(
     inbox: &mut Vec<(Key<N>, Origin)>,
     share: u8,
     shares: u8,
     rank: u64,
     successors: &[Successor],
+    sums: &[u32],
 )
     requires width { N ≤ MAX_BOXES }
     requires shares { 0 < shares }
     requires rank { rank < MOST_RANKS }
     requires few { HaveFew N successors.now }
+    requires sums { AreSums successors.now sums.now }
     requires room { vec_len inbox.old + length successors.now ≤ vec_capacity inbox.old }
     ensures { inbox.new.items ≡ inbox.old.items ++ offers_of shares share rank successors.now }
 {
-    for successor in successors {
-        append(inbox, share, shares, rank, successor);
+    for (place, successor) in successors.iter().enumerate() {
+        append(inbox, share, shares, rank, successor, sums[place]);
     }
 }
 
-// Appends the offer of a rank's successor, if it is of the share.
+// Appends the offer of a rank's successor, if it is of the share, which its sum tells.
 fn append<const N: usize>(
     inbox: &mut Vec<(Key<N>, Origin)>,
     share: u8,
     shares: u8,
     rank: u64,
     successor: &Successor,
+    sum: u32,
 )
     requires width { N ≤ MAX_BOXES }
     requires shares { 0 < shares }
     requires rank { rank < MOST_RANKS }
     requires few { length successor.now.position.boxes ≤ N }
+    requires sum { sum ≡ scene_sum successor.now.position }
     requires room { vec_len inbox.old < vec_capacity inbox.old }
     ensures items { inbox.new.items ≡ inbox.old.items ++ offer_of shares share rank successor.now }
     ensures len { vec_len inbox.new ≤ vec_len inbox.old + 1 }
     ensures capacity { vec_capacity inbox.new ≡ vec_capacity inbox.old }
 {
     let position = &successor.position;
-    if share_of(position, shares) != share {
+    if share_by(sum, shares) != share {
         return;
     }
     let origin = Origin::new(rank, successor.push);

@@ -1,5 +1,6 @@
-ghost use Rattle.std.specs.Prelude.{◌≡◌};
+ghost use Rattle.std.specs.Prelude.{◌≡◌, ◌↔◌, [], IsTrue};
 ghost use Rattle.layers.specs.ParcelView.{IsParcel};
+ghost use Rattle.layers.specs.inside.Sums.{AreSums};
 
 use crate::limits::MAX_SUCCESSORS;
 use crate::task::Task;
@@ -14,30 +15,56 @@ pub struct Successor {
     pub position: Position,
 }
 
+/// Successors, and beside each the sum of its squares, in lists of which the first so many count; the others are there to
+/// be written over.
+#[derive(Debug, Drop)]
+pub(crate) struct Slots {
+    pub(crate) successors: ArrayVec<Successor, MAX_SUCCESSORS>,
+    pub(crate) sums: ArrayVec<u32, MAX_SUCCESSORS>,
+}
+
+impl Slots {
+    /// Lists that hold nothing.
+    pub(crate) fn new() -> Slots
+        ensures successors { result.successors.items ≡ [] }
+        ensures sums { result.sums.items ≡ [] }
+    {
+        Slots {
+            successors: ArrayVec::new(),
+            sums: ArrayVec::new(),
+        }
+    }
+}
+
 /// The undoomed successors of the position with a rank of a layer that are admitted in the next one, in the order of their
 /// pushes.
 #[derive(Debug, Drop)]
 pub struct Parcel<'a> {
-    pub(crate) task: &'a Task,
+    pub(crate) level: &'a Level,
+    pub(crate) cap: Option<u32>,
     pub(crate) layer: u64,
     pub(crate) rank: u64,
-    // the first so many hold the successors; the others are there to be written over
-    pub(crate) slots: ArrayVec<Successor, MAX_SUCCESSORS>,
+    // the first so many of these are the successors and their sums
+    pub(crate) slots: Slots,
     pub(crate) count: usize,
     // the pushes that are tried for a rank
     pub(crate) pushes: ArrayVec<Push, MAX_SUCCESSORS>,
 }
 
 impl<'a> Model for Parcel<'a> {
-    ghost use Rattle.std.specs.Prelude.{◌≤◌, length};
+    ghost use Rattle.std.specs.Prelude.{◌≤◌, length, take};
     ghost use Rattle.layers.specs.ParcelView.{ParcelView, IsParcel};
+    ghost use Rattle.layers.specs.Tasks.{capped};
     ghost use Rattle.layers.specs.inside.ParcelInside.{parcel_of};
+    ghost use Rattle.layers.specs.inside.Sums.{AreSums};
 
     ghost Value = { ParcelView };
 
-    ghost view = { λ a. parcel_of a.task.now a.layer a.rank a.slots.items a.count };
+    ghost view = { λ a. parcel_of (capped a.level.now a.cap) a.layer a.rank a.slots.successors.items a.count };
 
-    ghost invariant = { λ a. (a.count ≤ length a.slots.items) × IsParcel (parcel_of a.task.now a.layer a.rank a.slots.items a.count) };
+    ghost invariant = { λ a. (a.count ≤ length a.slots.successors.items)
+        × AreSums (take a.count a.slots.successors.items) (take a.count a.slots.sums.items)
+        × IsParcel (parcel_of (capped a.level.now a.cap) a.layer a.rank a.slots.successors.items a.count) };
 }
 
 impl<'a> Parcel<'a> {
@@ -52,21 +79,21 @@ impl<'a> Parcel<'a> {
     pub fn level(&self) -> &Level
         ensures { result.now ≡ self.now.level.board }
     {
-        self.task.level()
+        self.level
     }
 
     /// The greatest number of pushes of a solution; `None` where no cap is set.
     pub fn cap(&self) -> Option<u32>
         ensures { result ≡ self.now.level.cap }
     {
-        self.task.cap()
+        self.cap
     }
 
-    // The level with its cap.
-    pub(crate) fn task(&self) -> &Task
-        ensures { result.now ≡ self.now.level }
+    // Whether it is of this level with this cap.
+    pub(crate) fn is_of(&self, task: &Task) -> bool
+        ensures { IsTrue result ↔ (task.now ≡ self.now.level) }
     {
-        self.task
+        task.is_that(self.level, self.cap)
     }
 
     /// The layer's number.
@@ -87,6 +114,13 @@ impl<'a> Parcel<'a> {
     pub fn successors(&self) -> &[Successor]
         ensures { result.now ≡ self.now.successors }
     {
-        &self.slots.as_slice()[..self.count]
+        &self.slots.successors.as_slice()[..self.count]
+    }
+
+    /// The sum of the squares of each successor's position.
+    pub(crate) fn sums(&self) -> &[u32]
+        ensures { AreSums self.now.successors result.now }
+    {
+        &self.slots.sums.as_slice()[..self.count]
     }
 }

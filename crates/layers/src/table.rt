@@ -5,6 +5,7 @@ ghost use Rattle.layers.specs.BookView.{Closed, origins_of};
 ghost use Rattle.layers.specs.Books.{IsSortedAppend};
 ghost use Rattle.layers.specs.FoundView.{HaveFew, first_entries, origin_in, with_entered};
 ghost use Rattle.layers.specs.inside.Insides.{IsCopied, squares_of};
+ghost use Rattle.layers.specs.inside.Sums.{AreSums};
 
 use crate::closing::arrange;
 use crate::copying::{copy_entry, copy_from};
@@ -165,15 +166,17 @@ impl<const N: usize> Table<N> {
         shares: u8,
         rank: u64,
         successors: &[Successor],
+        sums: &[u32],
     ) -> Result<(), AllocError>
         requires shares { 0 < shares }
         requires rank { rank < MOST_RANKS }
         requires few { HaveFew self.old.boxes successors.now }
+        requires sums { AreSums successors.now sums.now }
         ensures ok { OnOk result (self.new ≡ with_entered self.old shares share rank successors.now) }
         ensures err { OnErr result (self.new ≡ self.old) }
     {
         make_room(&mut self.table, self.start, &mut self.inbox, successors)?;
-        append_all(&mut self.inbox, share, shares, rank, successors);
+        append_all(&mut self.inbox, share, shares, rank, successors, sums);
         Ok(())
     }
 

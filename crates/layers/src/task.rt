@@ -77,4 +77,11 @@ impl Task {
     {
         self.cap == other.cap && *self.level == *other.level
     }
+
+    /// Whether it is this level with this cap.
+    pub(crate) fn is_that(&self, level: &Level, cap: Option<u32>) -> bool
+        ensures { IsTrue result ↔ (self.now ≡ capped level.now cap) }
+    {
+        self.cap == cap && *self.level == *level
+    }
 }

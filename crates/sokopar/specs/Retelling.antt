@@ -4,7 +4,6 @@ use Rattle.grid.specs.declared.moves.Letter.{Letter}
 use Rattle.lurd.specs.Text.{IsText, bytes_of}
 use Rattle.lurd.specs.declared.limits.TheConstants.{MAX_MOVES}
 use Rattle.lurd.specs.declared.verdict.Verdict.TheVariants as verdict
-use Rattle.solo.specs.declared.answer.Answer.TheVariants.{Solved}
 use Rattle.sokopar.specs.Report.{Report, IsReplayReport, line, verdict_report}
 use Rattle.sokopar.specs.Solving.{solved_text}
 

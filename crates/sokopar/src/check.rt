@@ -1,12 +1,13 @@
-ghost use Rattle.std.specs.Prelude.{◌≡◌, ◌++◌, OnOk, IfOk, map};
+ghost use Rattle.std.specs.Prelude.{◌≡◌, ◌≤◌, ◌++◌, length, codes, decimal, OnOk, IfOk};
 ghost use Rattle.sokopar.specs.Entries.{listed_of};
-ghost use Rattle.sokopar.specs.Report.{fault_name, fault_words, level_words, named, check_line, check_report};
+ghost use Rattle.sokopar.specs.Listing.{is_good};
+ghost use Rattle.sokopar.specs.Report.{fault_name, fault_words, level_words, named, line, check_line, IsCheckReport};
 
 use crate::report::Report;
 use crate::text::Text;
 use grid::{Level, LevelFault};
 use std::alloc::{AllocError, Global};
-use xsb::Entry;
+use xsb::{Collection, Entry, MAX_FILE};
 
 /// The number and the name of a fault.
 fn fault_name(fault: LevelFault) -> &'static [u8]
@@ -79,22 +80,45 @@ fn put_line(text: &mut Text, number: usize, entry: &Entry) -> Result<(), AllocEr
     text.put(b"\n")
 }
 
-/// The report of checking these levels.
-pub(crate) fn check_report(alloc: Global, entries: &[Entry]) -> Result<Report, AllocError>
-    ensures { IfOk result (λ report. report ≡ check_report (map listed_of entries.now)) }
+/// Whether an entry has a lawful level.
+fn is_good(entry: &Entry) -> bool
+    ensures { result ≡ is_good (listed_of entry.now) }
 {
-    let mut text = Text::new(alloc);
-    let mut good = 0;
-    for (place, entry) in entries.iter().enumerate() {
-        put_line(&mut text, place + 1, entry)?;
-        if entry.board.is_ok() {
-            good += 1;
-        }
-    }
-    text.put_number(entries.len())?;
+    entry.board.is_ok()
+}
+
+/// Appends the line of totals.
+fn put_totals(text: &mut Text, levels: usize, good: usize) -> Result<(), AllocError>
+    ensures { OnOk result (text.new ≡ text.old ++ line (decimal levels ++ codes " levels, " ++ decimal good ++ codes " good")) }
+{
+    text.put_number(levels)?;
     text.put(b" levels, ")?;
     text.put_number(good)?;
-    text.put(b" good\n")?;
-    let status = if good == entries.len() { 0 } else { 1 };
+    text.put(b" good\n")
+}
+
+/// The report of checking a collection. A board's line is made as the board is read, and then its level is dropped.
+pub(crate) fn check_report(alloc: Global, bytes: &[u8]) -> Result<Report, AllocError>
+    requires { length bytes.now ≤ MAX_FILE }
+    ensures { IfOk result (λ report. IsCheckReport bytes.now report) }
+{
+    let Ok(mut collection) = Collection::of(bytes) else {
+        unreachable!();
+    };
+    let mut text = Text::new(alloc);
+    let mut levels = 0;
+    let mut good = 0;
+    'boards: loop {
+        let Some(entry) = collection.next_entry(alloc)? else {
+            break;
+        };
+        levels += 1;
+        if is_good(&entry) {
+            good += 1;
+        }
+        put_line(&mut text, levels, &entry)?;
+    }
+    put_totals(&mut text, levels, good)?;
+    let status = if good == levels { 0 } else { 1 };
     Ok(Report::new(text, status))
 }

@@ -1,18 +1,16 @@
-ghost use Rattle.std.specs.Prelude.{◌≡◌, ◌==◌, ◌++◌, ◌<◌, ◌≤◌, OnOk, IfOk, length, map, flat_map};
+ghost use Rattle.std.specs.Prelude.{◌≡◌, ◌==◌, ◌++◌, ◌<◌, ◌≤◌, OnOk, IfOk, length, flat_map};
 ghost use Rattle.grid.specs.Lawful.{row_count};
-ghost use Rattle.sokopar.specs.DeadMap.{IsMark, AreMarks, IsMapOf, MapsOn, marked_row, rows_of};
+ghost use Rattle.sokopar.specs.DeadMap.{IsMark, AreMarks, IsMapOf, MapsOn, IsDeadReport, marked_row, rows_of};
 ghost use Rattle.xsb.specs.Boards.{cut_end};
-ghost use Rattle.sokopar.specs.Entries.{listed_of};
-ghost use Rattle.sokopar.specs.Listing.{level_at};
 
-use crate::listing::level_of;
+use crate::listing::{Chosen, level_of};
 use crate::report::Report;
 use crate::show::{fault_report, no_level};
 use crate::text::Text;
 use doom::Dead;
 use grid::{Level, Square};
 use std::alloc::{AllocError, Global};
-use xsb::Entry;
+use xsb::MAX_FILE;
 
 /// The byte for a square: a wall, a goal, a dead square of the player's room, or any other.
 fn mark_of(level: &Level, dead: &Dead, square: Square) -> u8
@@ -89,18 +87,24 @@ fn map_of(alloc: Global, level: &Level) -> Result<Report, AllocError>
     Ok(Report::new(text, 0))
 }
 
-/// The report of the dead squares of level N of these.
-pub(crate) fn dead_report(
-    alloc: Global,
-    entries: &[Entry],
-    number: u32,
-) -> Result<Report, AllocError>
+/// The report of the dead squares of level N.
+pub(crate) fn dead_report(alloc: Global, chosen: &Chosen, number: u32) -> Result<Report, AllocError>
     requires { 1 ≤ number }
-    ensures { IfOk result (λ report. MapsOn number (level_at (map listed_of entries.now) number) report) }
+    ensures { IfOk result (λ report. MapsOn number chosen.now report) }
 {
-    match level_of(entries, number) {
+    match chosen {
         None => no_level(alloc, number),
         Some(Err(fault)) => fault_report(alloc, *fault),
         Some(Ok(level)) => map_of(alloc, level),
     }
+}
+
+/// The report of the dead squares of level N of a collection.
+pub(crate) fn dead_in(alloc: Global, bytes: &[u8], number: u32) -> Result<Report, AllocError>
+    requires number { 1 ≤ number }
+    requires bound { length bytes.now ≤ MAX_FILE }
+    ensures { IfOk result (λ report. IsDeadReport number bytes.now report) }
+{
+    let chosen = level_of(alloc, bytes, number)?;
+    dead_report(alloc, &chosen, number)
 }

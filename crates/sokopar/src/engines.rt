@@ -6,13 +6,13 @@ ghost use Rattle.sokopar.specs.Runs.{Runs, Replays};
 ghost use Rattle.sokopar.specs.Solving.{IsSolveReport};
 
 use crate::check::check_report;
-use crate::dead::dead_report;
+use crate::dead::dead_in;
 use crate::fault::RunFault;
-use crate::listing::read_listing;
-use crate::replay::replay_level;
-use crate::show::show_report;
+use crate::reads::read_whole;
+use crate::replay::replay_in;
+use crate::show::show_in;
 use crate::sink::Sink;
-use crate::solve::solve_report;
+use crate::solve::solve_in;
 use crate::source::Source;
 use crew::Config;
 use std::alloc::Global;
@@ -33,7 +33,8 @@ pub fn run_check<S: Source, K: Sink>(
 ) -> Result<u8, RunFault>
     ensures { Runs IsCheckReport (S.seen source.old) (S.seen source.new) (K.seen sink.old) (K.seen sink.new) result }
 {
-    let report = check_report(alloc, read_listing(alloc, source)?.as_slice())?;
+    let bytes = read_whole(alloc, source)?;
+    let report = check_report(alloc, bytes.as_slice())?;
     report.send(sink)
 }
 
@@ -49,7 +50,8 @@ pub fn run_show<S: Source, K: Sink>(
     requires { 1 ≤ number }
     ensures { Runs (IsShowReport number) (S.seen source.old) (S.seen source.new) (K.seen sink.old) (K.seen sink.new) result }
 {
-    let report = show_report(alloc, read_listing(alloc, source)?.as_slice(), number)?;
+    let bytes = read_whole(alloc, source)?;
+    let report = show_in(alloc, bytes.as_slice(), number)?;
     report.send(sink)
 }
 
@@ -65,7 +67,8 @@ pub fn run_dead<S: Source, K: Sink>(
     requires { 1 ≤ number }
     ensures { Runs (IsDeadReport number) (S.seen source.old) (S.seen source.new) (K.seen sink.old) (K.seen sink.new) result }
 {
-    let report = dead_report(alloc, read_listing(alloc, source)?.as_slice(), number)?;
+    let bytes = read_whole(alloc, source)?;
+    let report = dead_in(alloc, bytes.as_slice(), number)?;
     report.send(sink)
 }
 
@@ -83,8 +86,8 @@ pub fn run_replay<S: Source, T: Source, K: Sink>(
     requires { 1 ≤ number }
     ensures { Replays number (S.seen source.old) (S.seen source.new) (T.seen solution.old) (T.seen solution.new) (K.seen sink.old) (K.seen sink.new) result }
 {
-    let entries = read_listing(alloc, source)?;
-    let report = replay_level(alloc, entries.as_slice(), number, solution)?;
+    let bytes = read_whole(alloc, source)?;
+    let report = replay_in(alloc, bytes.as_slice(), number, solution)?;
     report.send(sink)
 }
 
@@ -105,7 +108,7 @@ pub fn run_solve<R: Threads + Wait + Sync, S: Source, K: Sink>(
     requires limits { IsWithinLimits config }
     ensures { Runs (IsSolveReport config.cap config.limit number) (S.seen source.old) (S.seen source.new) (K.seen sink.old) (K.seen sink.new) result }
 {
-    let entries = read_listing(alloc, source)?;
-    let report = solve_report(rt, alloc, entries.as_slice(), number, config)?;
+    let bytes = read_whole(alloc, source)?;
+    let report = solve_in(rt, alloc, bytes.as_slice(), number, config)?;
     report.send(sink)
 }

@@ -1,34 +1,32 @@
-ghost use Rattle.std.specs.Prelude.{◌≡◌, ℕ, List, ◌≤◌, IfOk, IfErr, map, option_map};
-ghost use Rattle.sokopar.specs.Listing.{IsListing, level_at};
-ghost use Rattle.sokopar.specs.Entries.{listed_of};
-ghost use Rattle.sokopar.specs.Runs.{ReadsWhole, Stops};
+ghost use Rattle.std.specs.Prelude.{◌≡◌, List, ◌≤◌, length, IfOk};
+ghost use Rattle.sokopar.specs.Listing.{Listed, IsListing, level_at};
 
-use crate::fault::RunFault;
-use crate::reads::read_whole;
-use crate::source::Source;
 use grid::{Level, LevelFault};
-use std::alloc::Global;
-use xsb::{Entry, read};
+use std::alloc::{AllocError, Global};
+use xsb::{Collection, MAX_FILE};
 
-#[tactic(auto, using(crate::proofs::Listings::listing_of, crate::proofs::Reading::stops_after))]
-/// Reads a source to its end, and gives the levels of the collection that it is.
-pub(crate) fn read_listing<S: Source>(alloc: Global, source: &mut S) -> Result<Vec<Entry>, RunFault>
-    ensures ok { IfOk result (λ entries. (bytes : List ℕ) × ReadsWhole (S.seen source.old) (S.seen source.new) bytes
-        × IsListing bytes (map listed_of entries.items)) }
-    ensures err { IfErr result (λ fault. Stops (S.seen source.old) (S.seen source.new) fault) }
+/// The level that a command is about, or its fault; `None` where the collection has fewer levels.
+pub(crate) type Chosen = Option<Result<Level, LevelFault>>;
+
+/// Level N of a collection, counted from 1. All levels are made, one after the other, and only this one is kept.
+pub(crate) fn level_of(alloc: Global, bytes: &[u8], number: u32) -> Result<Chosen, AllocError>
+    requires number { 1 ≤ number }
+    requires bound { length bytes.now ≤ MAX_FILE }
+    ensures { IfOk result (λ chosen. (listing : List Listed) × IsListing bytes.now listing × (chosen ≡ level_at listing number)) }
 {
-    let bytes = read_whole(alloc, source)?;
-    // What was read whole is not too long, so only memory can be wanting.
-    match read(alloc, bytes.as_slice()) {
-        Ok(entries) => Ok(entries),
-        Err(_) => Err(RunFault::OutOfMemory),
+    let Ok(mut collection) = Collection::of(bytes) else {
+        unreachable!();
+    };
+    let mut chosen = None;
+    let mut count = 0;
+    'boards: loop {
+        let Some(entry) = collection.next_entry(alloc)? else {
+            break;
+        };
+        count += 1;
+        if count == number as usize {
+            chosen = Some(entry.board);
+        }
     }
-}
-
-/// Level N, counted from 1, or its fault; `None` where there are fewer levels.
-pub(crate) fn level_of(entries: &[Entry], number: u32) -> Option<&Result<Level, LevelFault>>
-    requires { 1 ≤ number }
-    ensures { option_map (λ board. board.now) result ≡ level_at (map listed_of entries.now) number }
-{
-    entries.get(number as usize - 1).map(|entry| &entry.board)
+    Ok(chosen)
 }

@@ -1,12 +1,11 @@
-ghost use Rattle.std.specs.Prelude.{◌≡◌, ◌≢◌, ◌++◌, ◌⊎◌, ◌≤◌, ℕ, List, Option, map, OnOk, IfOk, IfErr};
-ghost use Rattle.sokopar.specs.Report.{counts_words, verdict_report, text_fault_report, IsReplayOf, ReplaysOn};
+ghost use Rattle.std.specs.Prelude.{◌≡◌, ◌≢◌, ◌++◌, ◌⊎◌, ◌≤◌, ℕ, List, length, Option, OnOk, IfOk, IfErr};
+ghost use Rattle.sokopar.specs.Report.{counts_words, verdict_report, text_fault_report, IsReplayOf, ReplaysOn, IsReplayReport};
 ghost use Rattle.sokopar.specs.Runs.{ReadsIfSome, Stops};
-ghost use Rattle.sokopar.specs.Entries.{listed_of};
-ghost use Rattle.sokopar.specs.Listing.{level_at};
 ghost use Rattle.grid.specs.Board.{Board};
+ghost use Rattle.sokopar.specs.Listing.{IsLevelOf};
 
 use crate::fault::RunFault;
-use crate::listing::level_of;
+use crate::listing::{Chosen, level_of};
 use crate::reads::read_whole;
 use crate::report::Report;
 use crate::show::{fault_report, no_level};
@@ -15,7 +14,7 @@ use crate::text::Text;
 use grid::Level;
 use lurd::{LurdFault, Verdict, parse, replay};
 use std::alloc::{AllocError, Global};
-use xsb::Entry;
+use xsb::MAX_FILE;
 
 /// Appends numbers of pushes and of moves.
 pub(crate) fn put_counts(text: &mut Text, pushes: usize, moves: usize) -> Result<(), AllocError>
@@ -95,20 +94,20 @@ pub(crate) fn replay_report(
 }
 
 #[tactic(auto, using(crate::proofs::Reading::stops_after))]
-/// The report of replaying on level N of these; the solution is read to its end exactly where the level is lawful.
+/// The report of replaying on level N; the solution is read to its end exactly where the level is lawful.
 pub(crate) fn replay_level<T: Source>(
     alloc: Global,
-    entries: &[Entry],
+    chosen: &Chosen,
     number: u32,
     solution: &mut T,
 ) -> Result<Report, RunFault>
     requires { 1 ≤ number }
     ensures ok { IfOk result (λ report. (text : Option (List ℕ)) × ReadsIfSome (T.seen solution.old) (T.seen solution.new) text
-        × ReplaysOn number (level_at (map listed_of entries.now) number) text report) }
+        × ReplaysOn number chosen.now text report) }
     ensures err { IfErr result (λ fault. ((fault ≡ RunFault.OutOfMemory) × (T.seen solution.new ≡ T.seen solution.old))
-        ⊎ ((board : Board) × (level_at (map listed_of entries.now) number ≡ Some (Ok board)) × Stops (T.seen solution.old) (T.seen solution.new) fault)) }
+        ⊎ ((board : Board) × (chosen.now ≡ Some (Ok board)) × Stops (T.seen solution.old) (T.seen solution.new) fault)) }
 {
-    match level_of(entries, number) {
+    match chosen {
         None => Ok(no_level(alloc, number)?),
         Some(Err(fault)) => Ok(fault_report(alloc, *fault)?),
         Some(Ok(level)) => {
@@ -116,4 +115,22 @@ pub(crate) fn replay_level<T: Source>(
             Ok(replay_report(alloc, level, text.as_slice())?)
         }
     }
+}
+
+/// The report of replaying on level N of a collection; the solution is read to its end exactly where the level is lawful.
+pub(crate) fn replay_in<T: Source>(
+    alloc: Global,
+    bytes: &[u8],
+    number: u32,
+    solution: &mut T,
+) -> Result<Report, RunFault>
+    requires number { 1 ≤ number }
+    requires bound { length bytes.now ≤ MAX_FILE }
+    ensures ok { IfOk result (λ report. (text : Option (List ℕ)) × ReadsIfSome (T.seen solution.old) (T.seen solution.new) text
+        × IsReplayReport number bytes.now text report) }
+    ensures err { IfErr result (λ fault. ((fault ≡ RunFault.OutOfMemory) × (T.seen solution.new ≡ T.seen solution.old))
+        ⊎ ((board : Board) × IsLevelOf bytes.now number board × Stops (T.seen solution.old) (T.seen solution.new) fault)) }
+{
+    let chosen = level_of(alloc, bytes, number)?;
+    replay_level(alloc, &chosen, number, solution)
 }

@@ -1,15 +1,13 @@
-ghost use Rattle.std.specs.Prelude.{◌≡◌, ◌≤◌, IfOk, map};
-ghost use Rattle.sokopar.specs.Entries.{listed_of};
-ghost use Rattle.sokopar.specs.Listing.{level_at};
-ghost use Rattle.sokopar.specs.Report.{no_level, fault_report, shown, show_report};
+ghost use Rattle.std.specs.Prelude.{◌≡◌, ◌≤◌, length, IfOk};
+ghost use Rattle.sokopar.specs.Report.{no_level, fault_report, shown, show_report, IsShowReport};
 
 use crate::check::put_fault;
-use crate::listing::level_of;
+use crate::listing::{Chosen, level_of};
 use crate::report::Report;
 use crate::text::Text;
 use grid::{Level, LevelFault};
 use std::alloc::{AllocError, Global};
-use xsb::Entry;
+use xsb::MAX_FILE;
 
 /// The report where there is no level N.
 pub(crate) fn no_level(alloc: Global, number: u32) -> Result<Report, AllocError>
@@ -41,18 +39,24 @@ fn shown(alloc: Global, level: &Level) -> Result<Report, AllocError>
     Ok(Report::new(text, 0))
 }
 
-/// The report of showing level N of these.
-pub(crate) fn show_report(
-    alloc: Global,
-    entries: &[Entry],
-    number: u32,
-) -> Result<Report, AllocError>
+/// The report of showing level N.
+pub(crate) fn show_report(alloc: Global, chosen: &Chosen, number: u32) -> Result<Report, AllocError>
     requires { 1 ≤ number }
-    ensures { IfOk result (λ report. report ≡ show_report number (level_at (map listed_of entries.now) number)) }
+    ensures { IfOk result (λ report. report ≡ show_report number chosen.now) }
 {
-    match level_of(entries, number) {
+    match chosen {
         None => no_level(alloc, number),
         Some(Err(fault)) => fault_report(alloc, *fault),
         Some(Ok(level)) => shown(alloc, level),
     }
+}
+
+/// The report of showing level N of a collection.
+pub(crate) fn show_in(alloc: Global, bytes: &[u8], number: u32) -> Result<Report, AllocError>
+    requires number { 1 ≤ number }
+    requires bound { length bytes.now ≤ MAX_FILE }
+    ensures { IfOk result (λ report. IsShowReport number bytes.now report) }
+{
+    let chosen = level_of(alloc, bytes, number)?;
+    show_report(alloc, &chosen, number)
 }

@@ -1,12 +1,10 @@
-ghost use Rattle.std.specs.Prelude.{◌≡◌, ◌++◌, ◌≤◌, None, OnOk, IfOk, length, map};
-ghost use Rattle.sokopar.specs.Entries.{listed_of};
-ghost use Rattle.sokopar.specs.Listing.{level_at};
+ghost use Rattle.std.specs.Prelude.{◌≡◌, ◌++◌, ◌≤◌, None, OnOk, IfOk, length};
 ghost use Rattle.sokopar.specs.Report.{line};
-ghost use Rattle.sokopar.specs.Solving.{too_many_boxes, positions_words, none_within, solved_text, answer_report, IsSolveOf, SolvesOn};
+ghost use Rattle.sokopar.specs.Solving.{too_many_boxes, positions_words, none_within, solved_text, answer_report, IsSolveOf, SolvesOn, IsSolveReport};
 ghost use Rattle.lurd.specs.Text.{bytes_of};
 ghost use Rattle.crew.specs.Configured.{IsWithinLimits};
 
-use crate::listing::level_of;
+use crate::listing::{Chosen, level_of};
 use crate::replay::put_counts;
 use crate::report::Report;
 use crate::show::{fault_report, no_level};
@@ -17,7 +15,7 @@ use solo::{Answer, SolveFault};
 use std::alloc::{AllocError, Global};
 use std::sync::{Arc, Wait};
 use std::thread::Threads;
-use xsb::Entry;
+use xsb::MAX_FILE;
 
 /// The report where the level has more boxes than the solver takes.
 fn too_many_boxes(alloc: Global) -> Result<Report, AllocError>
@@ -128,21 +126,38 @@ fn solve_level<R: Threads + Wait + Sync>(
     }
 }
 
-/// The report of solving level N of these by a configuration.
+/// The report of solving level N by a configuration.
 pub(crate) fn solve_report<R: Threads + Wait + Sync>(
     rt: &R,
     alloc: Global,
-    entries: &[Entry],
+    chosen: &Chosen,
     number: u32,
     config: Config,
 ) -> Result<Report, AllocError>
     requires number { 1 ≤ number }
     requires limits { IsWithinLimits config }
-    ensures { IfOk result (λ report. SolvesOn config.cap config.limit number (level_at (map listed_of entries.now) number) report) }
+    ensures { IfOk result (λ report. SolvesOn config.cap config.limit number chosen.now report) }
 {
-    match level_of(entries, number) {
+    match chosen {
         None => no_level(alloc, number),
         Some(Err(fault)) => fault_report(alloc, *fault),
         Some(Ok(level)) => solve_level(rt, alloc, level, config),
     }
+}
+
+/// The report of solving level N of a collection by a configuration.
+pub(crate) fn solve_in<R: Threads + Wait + Sync>(
+    rt: &R,
+    alloc: Global,
+    bytes: &[u8],
+    number: u32,
+    config: Config,
+) -> Result<Report, AllocError>
+    requires number { 1 ≤ number }
+    requires limits { IsWithinLimits config }
+    requires bound { length bytes.now ≤ MAX_FILE }
+    ensures { IfOk result (λ report. IsSolveReport config.cap config.limit number bytes.now report) }
+{
+    let chosen = level_of(alloc, bytes, number)?;
+    solve_report(rt, alloc, &chosen, number, config)
 }

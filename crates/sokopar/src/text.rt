@@ -8,6 +8,9 @@ use std::alloc::{AllocError, Global};
 use std::marker::Model;
 use xsb::write;
 
+/// For how many bytes a text first takes room.
+const LEAST_ROOM: usize = 64;
+
 /// A text as it is made.
 #[derive(Drop)]
 pub(crate) struct Text {
@@ -37,7 +40,20 @@ impl Text {
         ensures ok { OnOk result (self.new ≡ self.old ++ words.now) }
         ensures err { OnErr result (self.new ≡ self.old) }
     {
+        self.make_room(words.len())?;
         self.bytes.extend_from_slice(words)?;
+        Ok(())
+    }
+
+    /// Makes room for some bytes more; where there is none yet, also for a quarter of what is there, so that a long text
+    /// has little to spare.
+    fn make_room(&mut self, more: usize) -> Result<(), AllocError>
+        ensures { self.new ≡ self.old }
+    {
+        if self.bytes.capacity() < self.bytes.len().saturating_add(more) {
+            let spare = more.max(self.bytes.len() / 4).max(LEAST_ROOM);
+            self.bytes.reserve_exact(spare)?;
+        }
         Ok(())
     }
 

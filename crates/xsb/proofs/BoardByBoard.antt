@@ -1,5 +1,5 @@
 -- A collection, as it is read board by board.
-use Rattle.std.proofs.Common.{◌≡◌, ℕ, suc, ◌+◌, ◌<◌, List, [], ◌∷◌, ◌++◌, length, flat_map, refl, sym, ap, ◌∙◌, arith, length-append, append_assoc, subst}
+use Rattle.std.proofs.Common.{◌≡◌, ℕ, suc, ◌+◌, ◌<◌, List, [], ◌∷◌, ◌++◌, length, flat_map, refl, sym, ap, ◌∙◌, arith, length-append, append_assoc, subst, Some}
 use Rattle.std.specs.List.{AllZip, AllByRecursion}
 use Rattle.std.proofs.lemmas.List.{append-nil}
 use Rattle.grid.specs.declared.cell.Cell.{Cell}
@@ -17,34 +17,18 @@ use Rattle.xsb.specs.inside.Stretches.{ReadsBoard, ReadsNoBoard, HasRows}
 use Rattle.xsb.specs.Entries.{IsEntry}
 use Rattle.xsb.specs.Judged.{IsJudged}
 use Rattle.xsb.specs.Collection.{Found, Part, IsPart, AreApart, AreFound, IsCollection}
+use Rattle.xsb.specs.declared.reader.Collection.{Collection}
+use Rattle.xsb.specs.inside.Progress.{HasRead, GivesNext}
 use Rattle.xsb.proofs.RowLines.{AllZip-last}
 
--- what stands in the lines from a board on, after a gap
-pub record Continues (line : ℕ) (before lines : List (List ℕ)) (parts : List Part) (founds : List Found) : Type 0 where
-  pub whole : lines ≡ flat_map (λ part. part.board ++ part.gap) parts
-  pub boards : AllByRecursion IsPart parts
-  pub apart : AreApart parts
-  pub found : AreFound line before parts founds
-
--- how far a collection was read
-pub record IsReading (bytes : List ℕ) (lines : Lines) (before : Gap) (entries : List Entry) : Type 0 where
-  pub texts : List (List ℕ)
-  pub gap : IsGap before texts
-  pub founds : List Found
-  pub entries_are : AllZip IsEntry entries founds
-  pub begins : BeginsBoard (cut_lines lines.rest)
-  pub onto : (parts : List Part) (others : List Found) → Continues lines.number texts (cut_lines lines.rest) parts others → IsCollection bytes (founds ++ others)
-
 -- after the first gap nothing is found yet
-pub IsReading-none : {bytes : List ℕ} {first lines : Lines} {before : Gap} → ReadsGap first lines before → cut_lines first.rest ≡ lines_of_text bytes → first.number ≡ 1 → IsReading bytes lines before []
+pub HasRead-none : {bytes : List ℕ} {first : Lines} (left : Collection) → ReadsGap first left.lines left.before → cut_lines first.rest ≡ lines_of_text bytes → first.number ≡ 1 → HasRead bytes left []
 unfolding IsCollection
-IsReading-none {bytes} {first} {lines} {before} is e f =
-    let n = is.read.number in let number : lines.number ≡ suc (length is.texts) = omega arith in
+HasRead-none {bytes} {first} left is e f =
+    let n = is.read.number in let number : left.lines.number ≡ suc (length is.texts) = omega arith in
     record {
       texts = is.texts;
       gap = is.read.told;
-      founds = [];
-      entries_are = tt;
       begins = is.ends;
       onto = λ parts others c. (
         is.texts,
@@ -83,47 +67,59 @@ HasRows-read {old} {new} {stretch} is =
     record { some = omega arith; lines = is.lines; after = cut_lines new.rest; whole = ap cut_lines is.from ∙ is.read.whole; count = sym is.count; rows_are = is.read.rows_are; size = is.read.size_is }
 
 -- a board more, and the gap after it
-pub IsReading-more : {bytes : List ℕ} {first mid last : Lines} {before after : Gap} {stretch : Stretch} {entries : List Entry} (entry : Entry) → IsReading bytes first before entries →
-    (board : ReadsBoard first mid stretch) → ReadsGap mid last after →
-    ((before_lines after_lines : List (List ℕ)) → IsGap before before_lines → IsGap after after_lines → entry.name.items ≡ name_of before_lines after_lines) →
-    entry.first_line ≡ stretch.first_line → IsJudged (board_of board.rows) entry.board → IsReading bytes last after (entries ++ entry ∷ [])
-IsReading-more {bytes} {first} {mid} {last} {before} {after} {stretch} {entries} entry is board gap named line judged =
-    let found : Found = record { name = name_of is.texts gap.texts; first_line = first.number; board = board_of board.rows } in
+pub HasRead-more : {bytes : List ℕ} {mid : Lines} {stretch : Stretch} {founds : List Found} (first last : Collection) (entry : Entry) → HasRead bytes first founds →
+    (board : ReadsBoard first.lines mid stretch) → ReadsGap mid last.lines last.before →
+    ((before_lines after_lines : List (List ℕ)) → IsGap first.before before_lines → IsGap last.before after_lines → entry.name.items ≡ name_of before_lines after_lines) →
+    entry.first_line ≡ stretch.first_line → IsJudged (board_of board.rows) entry.board → GivesNext bytes founds last (Some entry)
+HasRead-more {bytes} {mid} {stretch} {founds} first last entry is board gap named line judged =
+    let found : Found = record { name = name_of is.texts gap.texts; first_line = first.lines.number; board = board_of board.rows } in
     let part : Part = record { board = board.lines; gap = gap.texts } in
     let one = board.read.number in let two = gap.read.number in let both = length-append board.lines gap.texts in
-    let number : last.number ≡ first.number + length (board.lines ++ gap.texts) = omega arith in
-    record {
-      texts = gap.texts;
-      gap = gap.read.told;
-      founds = is.founds ++ found ∷ [];
-      entries_are = AllZip-last IsEntry entries is.founds entry found is.entries_are
-          (record { name = named is.texts gap.texts is.gap gap.read.told; first_line = line ∙ board.first_line; board = judged });
-      begins = gap.ends;
-      onto = λ parts others c.
-          let text = subst BeginsGap gap.read.whole board.ends in
-          let whole : cut_lines first.rest ≡ flat_map (λ p. p.board ++ p.gap) (part ∷ parts) =
-          board.read.whole ∙ ap (λ l. board.lines ++ l) (gap.read.whole ∙ ap (λ l. gap.texts ++ l) c.whole) ∙ sym (append_assoc board.lines gap.texts (flat_map (λ p. p.board ++ p.gap) parts)) in
-          subst (λ fs. IsCollection bytes fs) (sym (append_assoc is.founds (found ∷ []) others))
-          (is.onto (part ∷ parts) (found ∷ others) (record {
-            whole = whole;
-            boards = (record { some = board.some; board = all-rows board.lines board.read.rows_are.by_line board.read.rows_are.each; gap = gap.read.all }, c.boards);
-            apart = apart-cons part parts (λ next more e. apart-some (cut_lines last.rest) gap.texts parts text c.whole c.boards next more e) c.apart;
-            found = (
-              record { name = refl; first_line = refl; board = (board.read.rows_are.by_line, board.read.rows_are.each, ap board_of board.read.rows_are.all) },
-              subst (λ k. AreFound k gap.texts parts others) number c.found,
-            );
-          }));
-    }
+    let number : last.lines.number ≡ first.lines.number + length (board.lines ++ gap.texts) = omega arith in (
+      found,
+      record { name = named is.texts gap.texts is.gap gap.read.told; first_line = line ∙ board.first_line; board = judged },
+      record {
+        texts = gap.texts;
+        gap = gap.read.told;
+        begins = gap.ends;
+        onto = λ parts others c.
+            let text = subst BeginsGap gap.read.whole board.ends in
+            let whole : cut_lines first.lines.rest ≡ flat_map (λ p. p.board ++ p.gap) (part ∷ parts) =
+            board.read.whole ∙ ap (λ l. board.lines ++ l) (gap.read.whole ∙ ap (λ l. gap.texts ++ l) c.whole) ∙ sym (append_assoc board.lines gap.texts (flat_map (λ p. p.board ++ p.gap) parts)) in
+            subst (λ fs. IsCollection bytes fs) (sym (append_assoc founds (found ∷ []) others))
+            (is.onto (part ∷ parts) (found ∷ others) (record {
+              whole = whole;
+              boards = (record { some = board.some; board = all-rows board.lines board.read.rows_are.by_line board.read.rows_are.each; gap = gap.read.all }, c.boards);
+              apart = apart-cons part parts (λ next more e. apart-some (cut_lines last.lines.rest) gap.texts parts text c.whole c.boards next more e) c.apart;
+              found = (
+                record { name = refl; first_line = refl; board = (board.read.rows_are.by_line, board.read.rows_are.each, ap board_of board.read.rows_are.all) },
+                subst (λ k. AreFound k gap.texts parts others) number c.found,
+              );
+            }));
+      },
+    )
 
 both-empty : (lines : List (List ℕ)) → BeginsBoard lines → BeginsGap lines → lines ≡ []
 both-empty [] row text = refl
 both-empty (line ∷ lines) row text = absurd (text row.0 row.1)
 
 -- no board more: the collection is read
-pub IsReading-all : {bytes : List ℕ} {first last : Lines} {before : Gap} {entries : List Entry} → IsReading bytes first before entries → ReadsNoBoard first last → (founds : List Found) × IsCollection bytes founds × AllZip IsEntry entries founds
-IsReading-all {bytes} {first} {last} {before} {entries} is none =
-    let empty = both-empty (cut_lines first.rest) is.begins none.ends in
-    (is.founds, subst (λ fs. IsCollection bytes fs) (append-nil is.founds) (is.onto [] [] (record { whole = empty; boards = tt; apart = tt; found = tt })), is.entries_are)
+pub HasRead-all : {bytes : List ℕ} {last : Lines} {founds : List Found} (left : Collection) → HasRead bytes left founds → ReadsNoBoard left.lines last → IsCollection bytes founds
+HasRead-all {bytes} {last} {founds} left is none =
+    let empty = both-empty (cut_lines left.lines.rest) is.begins none.ends in
+    subst (λ fs. IsCollection bytes fs) (append-nil founds) (is.onto [] [] (record { whole = empty; boards = tt; apart = tt; found = tt }))
+
+-- the entries so far are those of the boards so far
+pub record HasEntries (bytes : List ℕ) (left : Collection) (entries : List Entry) : Type 0 where
+  pub founds : List Found
+  pub read : HasRead bytes left founds
+  pub each : AllZip IsEntry entries founds
+
+-- an entry more
+pub HasEntries-more : {bytes : List ℕ} {first : Collection} {entries : List Entry} (last : Collection) (entry : Entry) (is : HasEntries bytes first entries) →
+    GivesNext bytes is.founds last (Some entry) → HasEntries bytes last (entries ++ entry ∷ [])
+HasEntries-more {bytes} {first} {entries} last entry is next =
+    record { founds = is.founds ++ next.0 ∷ []; read = next.2; each = AllZip-last IsEntry entries is.founds entry next.0 is.each next.1 }
 
 length-cut : (rest : List (List ℕ)) → length (cut_lines rest) ≡ length rest
 length-cut [] = refl

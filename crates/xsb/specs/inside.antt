@@ -2,3 +2,4 @@
 pub mod Reading
 pub mod Gaps
 pub mod Stretches
+pub mod Progress

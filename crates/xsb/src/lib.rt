@@ -31,5 +31,5 @@ mod writer;
 
 pub use entry::{Entry, ReadFault};
 pub use limits::MAX_FILE;
-pub use reader::read;
+pub use reader::{Collection, read};
 pub use writer::write;

@@ -1,14 +1,63 @@
-ghost use Rattle.std.specs.Prelude.{◌≡◌, ℕ, ◌≤◌, ◌<◌, ◌↔◌, List, length, IfOk, Err};
+ghost use Rattle.std.specs.Prelude.{◌≡◌, ℕ, ◌≤◌, ◌<◌, ◌↔◌, List, [], length, IfOk, IfErr, IfSome, Err};
 ghost use Rattle.std.specs.List.{AllZip};
 ghost use Rattle.xsb.specs.Collection.{Found, IsCollection};
 ghost use Rattle.xsb.specs.Entries.{IsEntry};
+ghost use Rattle.xsb.specs.inside.Progress.{HasRead, GivesNext, lines_left};
 
 use crate::boards::read_board;
 use crate::entry::{Entry, ReadFault};
 use crate::gaps::read_gap;
 use crate::limits::MAX_FILE;
 use crate::lines::Lines;
+use crate::names::Gap;
 use std::alloc::{AllocError, Global};
+
+/// A collection that is read board by board: no more than one level is in memory, unless the caller keeps more.
+#[derive(Drop)]
+pub struct Collection<'a> {
+    /// The lines that are left, from a board on, or none.
+    pub(crate) lines: Lines<'a>,
+    /// The gap before them.
+    pub(crate) before: Gap<'a>,
+}
+
+impl<'a> Collection<'a> {
+    /// The collection that the bytes are, of which no board was read yet. [`ReadFault::TooLong`] is answered exactly for
+    /// more than [`MAX_FILE`] bytes, and no other fault.
+    pub fn of(bytes: &'a [u8]) -> Result<Collection<'a>, ReadFault>
+        ensures begins { IfOk result (λ left. HasRead bytes.now left []) }
+        ensures bound { IfOk result (λ left. lines_left left ≤ MAX_FILE) }
+        ensures too_long { (result ≡ Err ReadFault.TooLong) ↔ (MAX_FILE < length bytes.now) }
+        ensures fault { IfErr result (λ fault. (fault ≡ ReadFault.TooLong) × (MAX_FILE < length bytes.now)) }
+    {
+        if bytes.len() > MAX_FILE {
+            return Err(ReadFault::TooLong);
+        }
+        let mut lines = Lines::of(bytes);
+        let before = read_gap(&mut lines);
+        Ok(Collection { lines, before })
+    }
+
+    /// The entry of the next board, as [`read`] gives it; `None` where there is none any more. A want of memory is the
+    /// error, also while a level is made; that board is then passed over.
+    pub fn next_entry(&mut self, alloc: Global) -> Result<Option<Entry>, AllocError>
+        ensures next { (bytes : List ℕ) (founds : List Found) → HasRead bytes self.old founds → IfOk result (GivesNext bytes founds self.new) }
+        ensures fewer { IfOk result (λ next. IfSome next (λ _. lines_left self.new < lines_left self.old)) }
+    {
+        let Some(board) = read_board(&mut self.lines) else {
+            return Ok(None);
+        };
+        let after = read_gap(&mut self.lines);
+        let name = Vec::from_slice(alloc, self.before.name_with(&after))?;
+        let level = board.level(alloc)?;
+        self.before = after;
+        Ok(Some(Entry {
+            name,
+            first_line: board.first_line,
+            board: level,
+        }))
+    }
+}
 
 /// The boards of a collection, in order: exactly those of the notation, each with its name, the number of its first
 /// line, and the level that it makes or its first fault. [`ReadFault::TooLong`] is answered exactly for more than
@@ -17,33 +66,21 @@ pub fn read(alloc: Global, bytes: &[u8]) -> Result<Vec<Entry>, ReadFault>
     ensures found { IfOk result (λ entries. (founds : List Found) × IsCollection bytes.now founds × AllZip IsEntry entries.items founds) }
     ensures too_long { (result ≡ Err ReadFault.TooLong) ↔ (MAX_FILE < length bytes.now) }
 {
-    if bytes.len() > MAX_FILE {
-        return Err(ReadFault::TooLong);
-    }
-    Ok(read_all(alloc, bytes)?)
+    let mut collection = Collection::of(bytes)?;
+    Ok(read_all(alloc, &mut collection)?)
 }
 
-/// The boards of a collection that is not too long.
-fn read_all(alloc: Global, bytes: &[u8]) -> Result<Vec<Entry>, AllocError>
-    requires { length bytes.now ≤ MAX_FILE }
-    ensures { IfOk result (λ entries. (founds : List Found) × IsCollection bytes.now founds × AllZip IsEntry entries.items founds) }
+/// The entries of all boards of a collection, of which no board was read yet.
+fn read_all(alloc: Global, collection: &mut Collection<'_>) -> Result<Vec<Entry>, AllocError>
+    ensures { (bytes : List ℕ) → HasRead bytes collection.old [] →
+        IfOk result (λ entries. (founds : List Found) × IsCollection bytes founds × AllZip IsEntry entries.items founds) }
 {
     let mut entries = Vec::new(alloc);
-    let mut lines = Lines::of(bytes);
-    let mut before = read_gap(&mut lines);
     'boards: loop {
-        let Some(board) = read_board(&mut lines) else {
+        let Some(entry) = collection.next_entry(alloc)? else {
             break;
         };
-        let after = read_gap(&mut lines);
-        let name = Vec::from_slice(alloc, before.name_with(&after))?;
-        let level = board.level(alloc)?;
-        entries.push(Entry {
-            name,
-            first_line: board.first_line,
-            board: level,
-        })?;
-        before = after;
+        entries.push(entry)?;
     }
     Ok(entries)
 }

@@ -59,15 +59,15 @@ fn text_lines(rt: HostRuntime) -> Result<(), Fail> {
 #[test]
 fn sizes(rt: HostRuntime) -> Result<(), Fail> {
     let alloc = rt.alloc();
-    assert_eq!(rt; only_shape(alloc, b"64#|#@$.59-#|64#")?, Ok((3, 64, 1)));
+    assert_eq!(rt; only_shape(alloc, b"255#|#@$.250-#|255#")?, Ok((3, 255, 1)));
     assert_eq!(rt;
-        only_shape(alloc, b"65#|#@$.60-#|65#")?,
+        only_shape(alloc, b"256#|#@$.251-#|256#")?,
         Err(LevelFault::TooWide)
     );
-    assert_eq!(rt; only_shape(alloc, b"36#|#@33*#|36#")?, Ok((3, 36, 33)));
-    let tall = repeated(alloc, 65, b"#\n")?;
+    assert_eq!(rt; only_shape(alloc, b"68#|#@65*#|68#")?, Ok((3, 68, 65)));
+    let tall = repeated(alloc, 256, b"#\n")?;
     assert_eq!(rt; only_shape(alloc, &tall)?, Err(LevelFault::TooTall));
-    let high = repeated(alloc, 64, b"#\n")?;
+    let high = repeated(alloc, 255, b"#\n")?;
     assert_eq!(rt; only_shape(alloc, &high)?, Err(LevelFault::NoPlayer));
     let wide = repeated(alloc, 1000, b"9999#|")?;
     assert_eq!(rt; only_shape(alloc, &wide)?, Err(LevelFault::TooTall));

@@ -4,7 +4,7 @@ use crate::boards::{ONE, TWO};
 
 #[test]
 fn checks_boards(rt: HostRuntime) {
-    let cases: [(&[u8], &[u8], u8); 19] = [
+    let cases: [(&[u8], &[u8], u8); 20] = [
         (ONE, b"1 line 1 ok 3x5 1 boxes\n1 levels, 1 good\n", 0),
         (
             b"#####\r\n#@$.#\r\n#####\r\n",
@@ -59,8 +59,13 @@ fn checks_boards(rt: HostRuntime) {
         (b"#1\n0#\n12#3\n", b"0 levels, 0 good\n", 0),
         (b"", b"0 levels, 0 good\n", 0),
         (
-            b"64#|#@$.59-#|64#\n",
-            b"1 line 1 ok 3x64 1 boxes\n1 levels, 1 good\n",
+            b"65#|#@$.60-#|65#\n",
+            b"1 line 1 ok 3x65 1 boxes\n1 levels, 1 good\n",
+            0,
+        ),
+        (
+            b"255#|#@$.250-#|255#\n",
+            b"1 line 1 ok 3x255 1 boxes\n1 levels, 1 good\n",
             0,
         ),
         (

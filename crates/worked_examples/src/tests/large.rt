@@ -26,7 +26,7 @@ fn checks_long_files(rt: HostRuntime) {
         ),
         (b"9999#|", 2_796_202, b"9999", b"0 levels, 0 good\n", 0),
         (
-            b"65#|#@$.60-#|65#\n",
+            b"256#|#@$.251-#|256#\n",
             1,
             b"",
             b"1 line 1 fault 2 TooWide\n1 levels, 0 good\n",
@@ -34,14 +34,14 @@ fn checks_long_files(rt: HostRuntime) {
         ),
         (
             b"#\n",
-            65,
+            256,
             b"",
             b"1 line 1 fault 1 TooTall\n1 levels, 0 good\n",
             1,
         ),
         (
             b"#\n",
-            64,
+            255,
             b"",
             b"1 line 1 fault 3 NoPlayer\n1 levels, 0 good\n",
             1,

@@ -46,7 +46,7 @@ fn check_solve(
 
 #[test]
 fn solves_levels(rt: HostRuntime) {
-    let cases: [(&[u8], &[u8], u8); 11] = [
+    let cases: [(&[u8], &[u8], u8); 12] = [
         (ONE, b"solved 1 pushes, 1 moves, 2 positions\nR\n", 0),
         (SOLVED, b"solved 0 pushes, 0 moves, 1 positions\n\n", 0),
         (CORNER, b"solved 2 pushes, 5 moves, 4 positions\nuLdlU\n", 0),
@@ -55,12 +55,17 @@ fn solves_levels(rt: HostRuntime) {
         (FROZEN, b"unsolvable, 0 positions\n", 1),
         (APART, b"unsolvable, 1 positions\n", 1),
         (STACKED, b"unsolvable, 0 positions\n", 1),
-        (b"36#|#@33*#|36#\n", b"too many boxes\n", 1),
         (
-            b"35#|#@32*#|35#\n",
+            b"36#|#@33*#|36#\n",
             b"solved 0 pushes, 0 moves, 1 positions\n\n",
             0,
         ),
+        (
+            b"67#|#@64*#|67#\n",
+            b"solved 0 pushes, 0 moves, 1 positions\n\n",
+            0,
+        ),
+        (b"68#|#@65*#|68#\n", b"too many boxes\n", 1),
         (
             THERE_AND_BACK,
             b"solved 6 pushes, 10 moves, 7 positions\nRRdrruLLLL\n",
@@ -126,7 +131,7 @@ fn limits_do_not_matter_to_other_reports(rt: HostRuntime) {
     let cases: [(&[u8], u32, &[u8]); 6] = [
         (FROZEN, 1, b"unsolvable, 0 positions\n"),
         (STACKED, 1, b"unsolvable, 0 positions\n"),
-        (b"36#|#@33*#|36#\n", 1, b"too many boxes\n"),
+        (b"68#|#@65*#|68#\n", 1, b"too many boxes\n"),
         (TWO, 2, b"fault 7 Open\n"),
         (TWO, 3, b"no level 3\n"),
         (b"", 1, b"no level 1\n"),

@@ -50,6 +50,12 @@ work_through-requires-clause-pruner_of_level g c κs within =
     let join : IsJoinOf c.args.books.items layer = subst (λ bs. IsJoinOf bs layer) c.as_slice.ensures.value c.in_ok-layer.ensures in
     sym (next_layer c.args.config c.args.pruner.now c.args.books.items c.args.trail.now.items c.args.positions.now c.requires.limits c.requires.turn layer join).0
 
+pub work_through-requires-clause-desks : goal.work_through-requires-clause-desks
+work_through-requires-clause-desks g c κs within =
+    let layer = c.in_ok-layer.layer in
+    let join : IsJoinOf c.args.books.items layer = subst (λ bs. IsJoinOf bs layer) c.as_slice.ensures.value c.in_ok-layer.ensures in
+    c.requires.desks ∙ ap (λ (t : Task). t.board) (sym (next_layer c.args.config c.args.pruner.now c.args.books.items c.args.trail.now.items c.args.positions.now c.requires.limits c.requires.turn layer join).0)
+
 pub work_through-requires-clause-room : goal.work_through-requires-clause-room
 work_through-requires-clause-room g c κs within =
     let layer = c.in_ok-layer.layer in

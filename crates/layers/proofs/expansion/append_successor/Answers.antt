@@ -21,7 +21,7 @@ returns-then-is_dead-clause-appended c =
 
 pub returns-then-not-made-clause-appended : goal.returns-then-not-made-clause-appended
 returns-then-not-made-clause-appended c = inr (
-  slot_same c.args.slots.now.items c.have_slot.new.slots.items c.as_mut_slice.result.now c.args.count c.make_successor-made.new.slot c.have_slot.ensures.place c.have_slot.ensures.kept c.as_mut_slice.ensures.value,
+  slot_same c.args.slots.now.successors.items c.have_slot.new.slots.items c.as_mut_slice.result.now c.args.count c.make_successor-made.new.slot c.have_slot.ensures.place c.have_slot.ensures.kept c.as_mut_slice.ensures.value,
   c.make_successor-made.ensures.none c.if-not-made.true,
 )
 
@@ -30,7 +30,7 @@ returns-clause-appended c =
     let come = c.make_successor-made.ensures.some c.if-not-made.false in
     inl (
       c.make_successor-made.new.slot,
-      slot_more c.args.slots.now.items c.have_slot.new.slots.items c.as_mut_slice.result.now c.args.count c.make_successor-made.new.slot c.have_slot.ensures.place c.have_slot.ensures.kept c.as_mut_slice.ensures.value,
+      slot_more c.args.slots.now.successors.items c.have_slot.new.slots.items c.as_mut_slice.result.now c.args.count c.make_successor-made.new.slot c.have_slot.ensures.place c.have_slot.ensures.kept c.as_mut_slice.ensures.value,
       c.make_successor-made.ensures.push,
       come.0,
       come.1,

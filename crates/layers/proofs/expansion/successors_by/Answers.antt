@@ -17,7 +17,7 @@ loop-push-preserved c =
     let board = c.args.level.now in
     let n = c.args.position.now in
     let scene = c.requires.fits.scene in
-    let ss = take c.loop-push.count c.loop-push.slots.items in
+    let ss = take c.loop-push.count c.loop-push.slots.successors.items in
     let here = slice_get_read c.args.pushes.now (length c.args.pushes.now) c.loop-push.push-index c.push-item.result refl c.loop-push-test.true c.push-item.is in
     let kept = c.append_successor-count.ensures.kept ∙ c.loop-push.invariant.kept in
     let bound = c.append_successor-count.ensures.bound in
@@ -30,6 +30,7 @@ loop-push-preserved c =
             fits = subst (FitLevel board) (sym grown) fit;
             bound = omega (arith, c.loop-push.invariant.bound, bound);
             filled = c.append_successor-count.ensures.filled;
+            sums = c.append_successor-count.ensures.sums;
             kept = kept;
           })
       | inr (e, none) ↦
@@ -39,13 +40,14 @@ loop-push-preserved c =
             fits = subst (FitLevel board) (sym e) c.loop-push.invariant.fits;
             bound = omega (arith, c.loop-push.invariant.bound, bound);
             filled = c.append_successor-count.ensures.filled;
+            sums = c.append_successor-count.ensures.sums;
             kept = kept;
           })
     ]
 
 pub returns-clause-successors : goal.returns-clause-successors
 returns-clause-successors c =
-    by_all c.args.level.now c.args.position.now c.requires.fits.scene c.args.pushes.now c.loop-push.push-index (take c.loop-push.count c.loop-push.slots.items) c.loop-push-test.false c.requires.pushes
+    by_all c.args.level.now c.args.position.now c.requires.fits.scene c.args.pushes.now c.loop-push.push-index (take c.loop-push.count c.loop-push.slots.successors.items) c.loop-push-test.false c.requires.pushes
     (λ p m come. (come_by c.args.level.now c.args.position.now c.requires.fits.scene p m come).can) c.loop-push.invariant.successors
 
 pub append_successor-count-requires-clause-flooded : goal.append_successor-count-requires-clause-flooded

@@ -1,4 +1,4 @@
-use Rattle.std.proofs.Common.{◌≡◌, ◌++◌, ◌∷◌, [], List, sym, ◌∙◌, if◌then◌else◌}
+use Rattle.std.proofs.Common.{◌≡◌, ℕ, ◌%◌, ◌++◌, ◌∷◌, [], List, sym, ap, ◌∙◌, if◌then◌else◌}
 use Rattle.grid.specs.declared.square.Push.{Push}
 use Rattle.grid.specs.Board.{Scene}
 use Rattle.layers.specs.Openings.{Entry}
@@ -9,18 +9,20 @@ use Rattle.layers.proofs.Tails.{same_number, other_number}
 use Rattle.std.proofs.lemmas.List.{append-nil}
 use Rattle.layers.proofs.inbox.append.Goals as goal
 
-pub returns-then-share_of-share-clause-items : goal.returns-then-share_of-share-clause-items
-returns-then-share_of-share-clause-items g c =
+pub returns-then-share_by-share-clause-items : goal.returns-then-share_by-share-clause-items
+returns-then-share_by-share-clause-items g c =
     let s : Successor = c.args.successor.now in
+    let told : c.share_by.result ≡ share_of c.args.shares s.position = c.share_by.ensures ∙ ap (λ (n : ℕ). n % c.args.shares) c.requires.sum in
     let before = c.args.inbox.now.items in
-    let e = other_number (share_of c.args.shares s.position) c.args.share (λ h. c.if-share_of-share.true (c.share_of.ensures ∙ h)) in
+    let e = other_number (share_of c.args.shares s.position) c.args.share (λ h. c.if-share_by-share.true (told ∙ h)) in
     sym (append-nil before) ∙ (λ i. before ++ (if sym e i then (s.position, (c.args.rank, s.push)) ∷ [] else []))
 
 pub returns-clause-items : goal.returns-clause-items
 returns-clause-items g c =
     let s : Successor = c.args.successor.now in
+    let told : c.share_by.result ≡ share_of c.args.shares s.position = c.share_by.ensures ∙ ap (λ (n : ℕ). n % c.args.shares) c.requires.sum in
     let before : List (Entry Scene Push) = c.args.inbox.now.items in
-    let e = same_number (share_of c.args.shares s.position) c.args.share (sym c.share_of.ensures ∙ c.if-share_of-share.false) in
+    let e = same_number (share_of c.args.shares s.position) c.args.share (sym told ∙ c.if-share_by-share.false) in
     let here : before ++ (c.of.result, c.new-origin.result) ∷ [] ≡ before ++ (s.position, (c.args.rank, s.push)) ∷ [] = λ i. before ++ (c.of.ensures i, c.new-origin.ensures i) ∷ [] in
     let wanted : before ++ (s.position, (c.args.rank, s.push)) ∷ [] ≡ before ++ offer_of c.args.shares c.args.share c.args.rank s = λ i. before ++ (if sym e i then (s.position, (c.args.rank, s.push)) ∷ [] else []) in
     let put : c.push_reserved.new.self.items ≡ before ++ (c.of.result, c.new-origin.result) ∷ [] = c.push_reserved.ensures.items in

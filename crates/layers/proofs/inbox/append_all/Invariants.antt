@@ -4,7 +4,7 @@ use Rattle.std.specs.Vec.{vec_capacity}
 use Rattle.layers.specs.FoundView.{offers_of}
 use Rattle.layers.proofs.inbox.append_all.Given as goal
 
-abbrev pub invariant-loop-successor : goal.invariant-loop-successor
-invariant-loop-successor g l =
-    (l.inbox.items ≡ l.initial.inbox.items ++ offers_of l.shares l.share l.rank (take l.successor-index l.successors))
-    × (vec_len l.inbox + length l.successors ≤ vec_capacity l.inbox + l.successor-index)
+abbrev pub invariant-loop-place : goal.invariant-loop-place
+invariant-loop-place g l =
+    (l.inbox.items ≡ l.initial.inbox.items ++ offers_of l.shares l.share l.rank (take l.place l.successors))
+    × (vec_len l.inbox + length l.successors ≤ vec_capacity l.inbox + l.place)

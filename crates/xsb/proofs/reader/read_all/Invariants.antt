@@ -1,9 +1,10 @@
-use Rattle.std.proofs.Common.{length}
-use Rattle.xsb.proofs.BoardByBoard.{IsReading}
+use Rattle.std.proofs.Common.{ℕ, List, []}
+use Rattle.xsb.specs.inside.Progress.{HasRead, lines_left}
+use Rattle.xsb.proofs.BoardByBoard.{HasEntries}
 use Rattle.xsb.proofs.reader.read_all.Given as goal
 
 abbrev pub invariant-boards : goal.invariant-boards
-invariant-boards l = IsReading l.bytes l.lines l.before l.entries.items
+invariant-boards l = (bytes : List ℕ) → HasRead bytes l.fn.collection [] → HasEntries bytes l.collection l.entries.items
 
 abbrev pub decreases-boards : goal.decreases-boards
-decreases-boards l = length l.lines.rest
+decreases-boards l = lines_left l.collection

@@ -1,0 +1,58 @@
+-- Desks, one place after the other.
+use Rattle.std.proofs.Common.{◌≡◌, ◌≢◌, ◌⊎◌, ℕ, zero, suc, ◌+◌, ◌<◌, List, [], ◌∷◌, ◌++◌, length, get_or, set, Some, inl, inr, refl, sym, ap, subst, ◌∙◌, arith}
+use Rattle.std.specs.Prelude.{slice_get}
+use Rattle.std.proofs.lemmas.Bool.{cases_lt}
+use Rattle.std.proofs.lemmas.Option.{same_Some, get_or_from_slice_get, slice_get-get_or, slice_get_within}
+use Rattle.area.specs.Reach.{Reach}
+use Rattle.claims.specs.Hands.{LedgerView, newcomer}
+use Rattle.crew.specs.inside.Desks.{AreRoomy, HaveDrawers}
+use Rattle.crew.specs.declared.desks.Desk.{Desk}
+
+-- what stands in a list with one element changed
+set_at : {A : Type 0} (xs : List A) (p i : ℕ) (y x : A) → slice_get (set xs p y) i ≡ Some x → ((i ≡ p) × (x ≡ y)) ⊎ ((i ≢ p) × (slice_get xs i ≡ Some x))
+set_at [] p i y x e = cc
+set_at (z ∷ xs) zero zero y x e = inl (refl, same_Some x y (sym e))
+set_at (z ∷ xs) zero (suc i) y x e = inr ((λ same. omega (arith, same)), e)
+set_at (z ∷ xs) (suc p) zero y x e = inr ((λ same. omega (arith, same)), e)
+set_at (z ∷ xs) (suc p) (suc i) y x e = elim (set_at xs p i y x e) [
+  | inl h ↦ inl (ap suc h.0, h.1)
+  | inr h ↦ inr ((λ same. h.0 (omega (arith, same))), h.1)
+]
+
+-- what stands in a list with one more element
+push_at : {A : Type 0} (xs : List A) (y : A) (i : ℕ) (x : A) → slice_get (xs ++ y ∷ []) i ≡ Some x → (x ≡ y) ⊎ (slice_get xs i ≡ Some x)
+push_at [] y zero x e = inl (same_Some x y (sym e))
+push_at [] y (suc i) x e = cc
+push_at (z ∷ xs) y zero x e = inr e
+push_at (z ∷ xs) y (suc i) x e = push_at xs y i x e
+
+-- a desk whose scratch stays leaves them roomy
+pub roomy_set : (size : ℕ) (desks : List Desk) (place : ℕ) (before after : Desk) → slice_get desks place ≡ Some before → after.scratch ≡ before.scratch → AreRoomy size desks → AreRoomy size (set desks place after)
+roomy_set size desks place before after here kept roomy i desk at = elim (set_at desks place i after desk at) [
+  | inl h ↦ ap (λ (d : Desk). d.scratch.size) h.1 ∙ ap (λ (s : Reach). s.size) kept ∙ roomy place before here
+  | inr h ↦ roomy i desk h.1
+]
+
+-- one more desk has a drawer
+pub drawers_set : (ledger : LedgerView) (place : ℕ) (desks : List Desk) (after : Desk) → after.drawer ≡ Some (newcomer ledger) → HaveDrawers ledger place desks → HaveDrawers ledger (place + 1) (set desks place after)
+drawers_set ledger place desks after given drawers i desk lt at = elim (set_at desks place i after desk at) [
+  | inl h ↦ ap (λ (d : Desk). d.drawer) h.1 ∙ given
+  | inr h ↦ elim (cases_lt i place) [ inl less ↦ drawers i desk less h.1 | inr le ↦ absurd (h.0 (omega (arith, lt, le))) ]
+]
+
+-- one more desk is as roomy
+pub roomy_push : (size : ℕ) (desks : List Desk) (new : Desk) → new.scratch.size ≡ size → AreRoomy size desks → AreRoomy size (desks ++ new ∷ [])
+roomy_push size desks new room roomy i desk at = elim (push_at desks new i desk at) [
+  | inl same ↦ ap (λ (d : Desk). d.scratch.size) same ∙ room
+  | inr h ↦ roomy i desk h
+]
+
+pub roomy_none : (size : ℕ) → AreRoomy size []
+roomy_none size i desk at = cc
+
+-- where the size of each scratch stays they stay roomy
+pub roomy_each : (size : ℕ) (before after : List Desk) → length after ≡ length before → ((i : ℕ) (d : Desk) → i < length before → (get_or after i d).scratch.size ≡ (get_or before i d).scratch.size) → AreRoomy size before → AreRoomy size after
+roomy_each size before after same kept roomy i desk at =
+    let lt : i < length before = omega (arith, slice_get_within after i desk at, same) in
+    let was : (get_or before i desk).scratch.size ≡ size = roomy i (get_or before i desk) (slice_get-get_or before i desk lt) in
+    ap (λ (d : Desk). d.scratch.size) (sym (get_or_from_slice_get after i desk desk at)) ∙ kept i desk lt ∙ was

@@ -1,0 +1,132 @@
+//! What the workers of a search keep from layer to layer.
+ghost use Rattle.std.specs.Prelude.{◌≡◌, ℕ, ◌+◌, ◌≤◌, Some, length};
+ghost use Rattle.claims.specs.Hands.{newcomer};
+ghost use Rattle.crew.specs.inside.Desks.{AreRoomy, HaveDrawers};
+
+use crate::gate::Gate;
+use crate::workers::work_all;
+use area::Scratch;
+use claims::{Drawer, Ledger, PLACES};
+use grid::Level;
+use layers::{Book, Layer, Parcel, Pruner};
+use std::alloc::{AllocError, Global};
+use std::marker::Model;
+use std::sync::{Mutex, Wait};
+use std::thread::Threads;
+
+/// What a worker works with: a scratch and parcels, which it keeps from layer to layer, and a drawer of the ledger of the
+/// layer at work.
+#[derive(Drop)]
+pub(crate) struct Desk<'a> {
+    pub(crate) scratch: Scratch,
+    pub(crate) parcels: Vec<Parcel<'a>>,
+    pub(crate) drawer: Option<Drawer>,
+}
+
+/// The desks of workers over one level.
+#[derive(Drop)]
+pub(crate) struct Desks<'a> {
+    level: &'a Level,
+    desks: Vec<Desk<'a>>,
+}
+
+impl<'a> Model for Desks<'a> {
+    ghost use Rattle.std.specs.Prelude.{◌≤◌, length};
+    ghost use Rattle.grid.specs.Board.{Board};
+    ghost use Rattle.claims.specs.declared.ledger.TheConstants.{PLACES};
+    ghost use Rattle.crew.specs.inside.Desks.{AreRoomy};
+
+    ghost Value = { Board };
+
+    ghost view = { λ a. a.level.now };
+
+    ghost invariant = { λ a. (length a.desks.items ≤ PLACES) × AreRoomy (length a.level.now.cells) a.desks.items };
+}
+
+impl<'a> Desks<'a> {
+    /// Desks for so many workers, or for as many as memory can be had for.
+    pub(crate) fn of(alloc: Global, level: &'a Level, workers: u8) -> Desks<'a>
+        requires { workers ≤ PLACES }
+        ensures { result ≡ level.now }
+    {
+        let desks = desks_of(alloc, level, workers);
+        Desks { level, desks }
+    }
+
+    /// Lends the books and the ledger to the workers at these desks, and waits until all of them have ended.
+    pub(crate) fn work<R: Threads + Wait + Sync, G: Gate + Sync>(
+        &mut self,
+        rt: &R,
+        layer: &Layer,
+        pruner: &Pruner,
+        books: &[Mutex<Book>],
+        ledger: &Ledger,
+        drawer: Drawer,
+        gate: &G,
+    )
+        requires level { self.old ≡ layer.now.level.board }
+        requires pruner_of_level { pruner.now ≡ layer.now.level }
+        requires ranks { ledger.now.len ≤ length layer.now.places }
+        requires drawer { drawer ≡ newcomer ledger.now }
+        ensures { self.new ≡ self.old }
+    {
+        let level = self.level;
+        let desks = self.desks.as_mut_slice();
+        deal(ledger, drawer, desks);
+        work_all(rt, desks, level, layer, pruner, books, ledger, gate);
+    }
+}
+
+// Desks for so many workers, or for as many as memory can be had for.
+fn desks_of<'a>(alloc: Global, level: &Level, workers: u8) -> Vec<Desk<'a>>
+    ensures many { length result.items ≤ workers }
+    ensures room { AreRoomy (length level.now.cells) result.items }
+{
+    let mut desks = Vec::new(alloc);
+    for _ in 0..workers {
+        if append_desk(alloc, level, &mut desks).is_err() {
+            return desks;
+        }
+    }
+    desks
+}
+
+// Appends a desk for a worker. The only error is that memory was refused, which leaves the desks as they were.
+fn append_desk<'a>(
+    alloc: Global,
+    level: &Level,
+    desks: &mut Vec<Desk<'a>>,
+) -> Result<(), AllocError>
+    ensures many { length desks.new.items ≤ length desks.old.items + 1 }
+    ensures room { AreRoomy (length level.now.cells) desks.old.items → AreRoomy (length level.now.cells) desks.new.items }
+{
+    let scratch = Scratch::new(alloc, level)?;
+    desks.push(Desk {
+        scratch,
+        parcels: Vec::new(alloc),
+        drawer: None,
+    })?;
+    Ok(())
+}
+
+// Gives each desk a drawer of its own.
+fn deal(ledger: &Ledger, drawer: Drawer, desks: &mut [Desk<'_>])
+    requires drawer { drawer ≡ newcomer ledger.now }
+    ensures drawers { HaveDrawers ledger.now (length desks.old) desks.new }
+    ensures room { (size : ℕ) → AreRoomy size desks.old → AreRoomy size desks.new }
+{
+    let mut rest = drawer;
+    for place in 0..desks.len() {
+        let (kept, own) = ledger.split(rest);
+        rest = kept;
+        give(&mut desks[place], own);
+    }
+}
+
+// Gives a desk a drawer.
+fn give(desk: &mut Desk<'_>, own: Drawer)
+    ensures drawer { desk.new.drawer ≡ Some own }
+    ensures kept { desk.new.scratch ≡ desk.old.scratch }
+{
+    desk.drawer = Some(own);
+}

@@ -1,0 +1,34 @@
+-- How far a collection was read.
+use Rattle.std.specs.Prelude.{◌≡◌, ℕ, List, [], ◌∷◌, ◌++◌, length, flat_map, Option, Some, None}
+use Rattle.std.specs.List.{AllByRecursion}
+use Rattle.xsb.specs.declared.entry.Entry.{Entry}
+use Rattle.xsb.specs.declared.reader.Collection.{Collection}
+use Rattle.xsb.specs.Collection.{Found, Part, IsPart, AreApart, AreFound, IsCollection}
+use Rattle.xsb.specs.Entries.{IsEntry}
+use Rattle.xsb.specs.inside.Gaps.{IsGap, BeginsBoard}
+use Rattle.xsb.specs.inside.Reading.{cut_lines}
+
+-- what stands in the lines from a board on, after a gap
+pub record Continues (line : ℕ) (before lines : List (List ℕ)) (parts : List Part) (founds : List Found) : Type 0 where
+  pub whole : lines ≡ flat_map (λ part. part.board ++ part.gap) parts
+  pub boards : AllByRecursion IsPart parts
+  pub apart : AreApart parts
+  pub found : AreFound line before parts founds
+
+-- the bytes were read as far as these boards, which are the first of their collection: whatever stands in the lines
+-- that are left follows them in it
+pub record HasRead (bytes : List ℕ) (left : Collection) (founds : List Found) : Type 0 where
+  pub texts : List (List ℕ)
+  pub gap : IsGap left.before texts
+  pub begins : BeginsBoard (cut_lines left.lines.rest)
+  pub onto : (parts : List Part) (others : List Found) → Continues left.lines.number texts (cut_lines left.lines.rest) parts others →
+      IsCollection bytes (founds ++ others)
+
+-- the entry of the next board, and the collection after it; or these boards are all
+abbrev pub GivesNext : List ℕ → List Found → Collection → Option Entry → Type 0
+GivesNext bytes founds after None = IsCollection bytes founds
+GivesNext bytes founds after (Some entry) = (found : Found) × IsEntry entry found × HasRead bytes after (founds ++ found ∷ [])
+
+-- a collection has no more boards than it has lines left
+abbrev pub lines_left : Collection → ℕ
+lines_left left = length left.lines.rest
