@@ -18,7 +18,7 @@ const FIRST: Claim = Claim { layer: 0, rank: 0 };
 /// A book at work on layer 0, and that layer, which has one position.
 fn begun(rt: &impl Abort, alloc: Global) -> (Book, Layer) {
     let level = level_of(rt, alloc, TWO_ENDS);
-    let mut book = Book::of(alloc, level, 1_000_000, 2, 0, 1).expect(rt, "a book");
+    let mut book = Book::of(alloc, level, None, 1_000_000, 2, 0, 1).expect(rt, "a book");
     let layer = Layer::join(alloc, slice::from_ref(&book)).expect(rt, "a layer");
     book.begin(&layer).expect(rt, "a begin");
     (book, layer)
