@@ -14,8 +14,8 @@ use std::alloc::{AllocError, Global};
 use std::sync::{Mutex, Wait};
 use std::thread::Threads;
 
-// Lends the books to the workers at their desks for a layer, and gives what is behind the locks once all of them have ended. The
-// only error is that memory was refused.
+// Lends the books to the workers at their desks for a layer, and gives what is behind the locks once all of them have
+// ended. The only error is that memory was refused.
 pub(crate) fn lend<R: Threads + Wait + Sync, G: Gate + Sync>(
     rt: &R,
     alloc: Global,

@@ -22,13 +22,15 @@ use std::thread::Threads;
 
 /// The solution of the level with the fewest pushes, or that it has none, within the configuration's cap of pushes if it
 /// has one, or that more than its limit of positions are needed to say so, found by as many workers as the configuration
-/// says over as many books, each of a share of the positions and behind a lock of its own. The answer is that of [`solve_alone`], whatever the numbers of
-/// workers and locks, the gate, and the order in which the workers draw ranks and come to the locks.
+/// says over as many books, each of a share of the positions and behind a lock of its own. The answer is that of
+/// [`solve_alone`], whatever the numbers of workers and locks, the gate, and the order in which the workers draw ranks and
+/// come to the locks.
 ///
 /// [`SolveFault::BadConfig`] exactly where a number of the configuration is outside its limits, before everything
 /// else; [`SolveFault::TooManyBoxes`] where the level has more boxes than [`MAX_BOXES`](grid::MAX_BOXES); and
-/// [`SolveFault::OutOfMemory`] where memory was refused to the caller's own work. A worker that cannot be started, is
-/// refused memory or is stopped ends, and what it left is done by the caller. Waits for the locks and for the workers.
+/// [`SolveFault::OutOfMemory`] where memory was refused to the caller's own work. A worker for which no thread can be
+/// started works in the caller's; one that is refused memory or is stopped ends, and what it left is done by the caller.
+/// Waits for the locks and for the workers.
 pub fn solve<R: Threads + Wait + Sync, G: Gate + Sync>(
     rt: &R,
     alloc: Global,

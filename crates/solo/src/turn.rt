@@ -65,7 +65,8 @@ pub fn new_books(
 /// positions are counted.
 ///
 /// The layer is counted first. More positions than the limit are the answer `Limit`, a solved position is the answer
-/// `Solved`, and a layer without positions is the answer `Unsolvable`, or `NoneWithin` where a cap is set. An error leaves the count as it was.
+/// `Solved`, and a layer without positions is the answer `Unsolvable`, or `NoneWithin` where a cap is set. An error leaves
+/// the count as it was.
 pub fn look(
     alloc: Global,
     trail: &[Parents],
