@@ -35,8 +35,12 @@ A position takes up to 150 bytes and 1 to 5 microseconds. So the default limit
 needs at most about 150 MB and 5 seconds, and 100000000 positions 15 GB and 10 to
 15 minutes.
 
+With --max-pushes M only solutions with at most M pushes are looked for. That
+takes fewer positions, since those are left out from which the boxes need more.
+
 Examples:
   sokopar solve levels.xsb 1 --limit 5000000
+  sokopar solve levels.xsb 1 --max-pushes 40
   sokopar solve levels.xsb 1 | tail -n +2 |
       sokopar replay levels.xsb 1 /dev/stdin";
 
@@ -52,8 +56,8 @@ const STATUSES: &str = "\
 Exit status:
   0  good: all levels lawful, the level shown, mapped or solved, the solution
      solves it; help or the version was asked for
-  1  a fault in a level or a solution, no such level, not solved, unsolvable, or
-     too many boxes to solve
+  1  a fault in a level or a solution, no such level, not solved, unsolvable, no
+     solution with so few pushes, or too many boxes to solve
   2  a fault of the command line
   3  a file cannot be opened, read or written, or is too long
   4  the limit of positions was passed

@@ -39,14 +39,20 @@ fn open<'a, R: Files>(rt: &R, path: &'a str) -> Result<Reader<Steady<R::File>>, 
 }
 
 /// How a level is solved by so many workers over so many locks, which the command line holds to their ranges, under a
-/// limit of positions.
-fn config_of(workers: NonZeroU32, locks: NonZeroU32, limit: NonZeroU32) -> Config
+/// limit of positions, and within a cap of pushes if one is set.
+fn config_of(
+    workers: NonZeroU32,
+    locks: NonZeroU32,
+    limit: NonZeroU32,
+    cap: Option<u32>,
+) -> Config
     ensures { IsWithinLimits result }
 {
     Config {
         workers: workers.get().min(MAX_WORKERS as u32) as u8,
         locks: locks.get().min(MAX_SHARES as u32) as u8,
         limit: limit.get(),
+        cap,
     }
 }
 
@@ -85,9 +91,10 @@ fn perform<'a, R: Files + Print + Threads + Wait + Sync>(
             workers,
             locks,
             limit,
+            cap,
         } => {
             let mut source = open(rt, file)?;
-            let config = config_of(workers, locks, limit);
+            let config = config_of(workers, locks, limit, cap);
             run_solve(rt, alloc, &mut source, number.get(), config, &mut sink)
         }
     };

@@ -28,13 +28,15 @@ pub enum Request<'a> {
         number: NonZeroU32,
         solution: &'a str,
     },
-    /// Solve level N of a collection by some workers over some locks, under a limit of positions.
+    /// Solve level N of a collection by some workers over some locks, under a limit of positions, and within a cap of
+    /// pushes if one is set.
     Solve {
         file: &'a str,
         number: NonZeroU32,
         workers: NonZeroU32,
         locks: NonZeroU32,
         limit: NonZeroU32,
+        cap: Option<u32>,
     },
 }
 
@@ -70,6 +72,15 @@ fn limit_option<'a>(alloc: Global) -> Arg<'a> {
         .help("Gives up where more positions are needed")
         .default_value(DEFAULT_LIMIT)
         .value_parser(value_parser!(u32).range(1..))
+}
+
+/// The option `--max-pushes M`.
+fn max_pushes_option<'a>(alloc: Global) -> Arg<'a> {
+    Arg::new(alloc, "max-pushes")
+        .long("max-pushes")
+        .value_name("M")
+        .help("Looks for solutions with at most so many pushes")
+        .value_parser(value_parser!(u32).range(0..))
 }
 
 /// The option `--workers W`.
@@ -122,7 +133,8 @@ fn command<'a>(alloc: Global, notes: &'a str) -> Result<Command<'a>, AllocError>
         .arg(number_operand(alloc))?
         .arg(workers_option(alloc))?
         .arg(locks_option(alloc))?
-        .arg(limit_option(alloc))?;
+        .arg(limit_option(alloc))?
+        .arg(max_pushes_option(alloc))?;
     Command::new(alloc, "sokopar")
         .bin_name("sokopar")?
         .about("Checks, shows, replays and solves Sokoban levels")
@@ -152,6 +164,14 @@ fn number_from(text: &str) -> Option<NonZeroU32> {
     text.parse::<NonZeroU32>().ok()
 }
 
+/// A cap of the command line: decimal digits alone, from 0 to the greatest `u32`.
+fn cap_from(text: &str) -> Option<u32> {
+    if !text.bytes().all(|byte| byte.is_ascii_digit()) {
+        return None;
+    }
+    text.parse::<u32>().ok()
+}
+
 /// The value of an argument that usage shows so.
 fn text_of<'a>(
     matches: &ArgMatches<'a>,
@@ -174,6 +194,20 @@ fn number_of<'a>(
     number_from(value).ok_or(BadValue { argument, value })
 }
 
+/// The cap of pushes, if one is given.
+fn cap_of<'a>(matches: &ArgMatches<'a>) -> Result<Option<u32>, BadValue<'a>> {
+    let Some(value) = matches.get_str("max-pushes") else {
+        return Ok(None);
+    };
+    match cap_from(value) {
+        Some(cap) => Ok(Some(cap)),
+        None => Err(BadValue {
+            argument: "--max-pushes <M>",
+            value,
+        }),
+    }
+}
+
 /// What the matches of a subcommand ask for.
 fn request_of<'a>(name: &str, matches: &ArgMatches<'a>) -> Result<Request<'a>, BadValue<'a>> {
     let file = text_of(matches, "FILE", "<FILE>")?;
@@ -191,12 +225,14 @@ fn request_of<'a>(name: &str, matches: &ArgMatches<'a>) -> Result<Request<'a>, B
         let workers = number_of(matches, "workers", "--workers <W>")?;
         let locks = number_of(matches, "locks", "--locks <K>")?;
         let limit = number_of(matches, "limit", "--limit <L>")?;
+        let cap = cap_of(matches)?;
         return Ok(Request::Solve {
             file,
             number,
             workers,
             locks,
             limit,
+            cap,
         });
     }
     let solution = text_of(matches, "SOLUTION", "<SOLUTION>")?;

@@ -2,7 +2,7 @@
 use Rattle.std.proofs.Common.{◌≡◌, ℕ, ◌+◌, List, [], ◌∷◌, ◌++◌, length, Some, refl, sym, subst}
 use Rattle.std.specs.Prelude.{slice_get}
 use Rattle.grid.specs.declared.square.Push.{Push}
-use Rattle.grid.specs.Board.{Board}
+use Rattle.layers.specs.Tasks.{Task}
 use Rattle.layers.specs.Openings.{Origin}
 use Rattle.layers.specs.LayerView.{LayerView}
 use Rattle.layers.specs.BookView.{BookView}
@@ -16,25 +16,25 @@ use Rattle.crew.specs.Configured.{IsWithinLimits}
 use Rattle.crew.specs.declared.config.Config.{Config}
 use Rattle.crew.specs.inside.Turning.{ArePausedBy, AreWorkedBy}
 
-module _ (config : Config) (board : Board) (books : List BookView) (trail : List (List (Origin Push))) (positions : ℕ) (limits : IsWithinLimits config) (turn : ArePausedBy config board books trail positions) where
+module _ (config : Config) (task : Task) (books : List BookView) (trail : List (List (Origin Push))) (positions : ℕ) (limits : IsWithinLimits config) (turn : ArePausedBy config task books trail positions) where
   -- the books can be joined
   pub joinable : AreAllShares books
-  joinable = all_shares board config.limit (config.workers + 1) config.locks books trail positions limits.locks.0 turn
+  joinable = all_shares task config.limit (config.workers + 1) config.locks books trail positions limits.locks.0 turn
 
   -- their last closed layer is the next one of the level
-  pub next_layer : (layer : LayerView) → IsJoinOf books layer → (layer.level ≡ board) × (layer.number ≡ length trail)
-  next_layer layer join = next_of board config.limit (config.workers + 1) config.locks books trail positions layer limits.locks.0 turn join
+  pub next_layer : (layer : LayerView) → IsJoinOf books layer → (layer.level ≡ task) × (layer.number ≡ length trail)
+  next_layer layer join = next_of task config.limit (config.workers + 1) config.locks books trail positions layer limits.locks.0 turn join
 
   -- each of them may begin it
   pub begins : (layer : LayerView) → IsJoinOf books layer → (i : ℕ) (v : BookView) → slice_get books i ≡ Some v → MayBegin v layer
-  begins layer join = may_begin board config.limit (config.workers + 1) config.locks books trail positions layer turn (next_layer layer join)
+  begins layer join = may_begin task config.limit (config.workers + 1) config.locks books trail positions layer turn (next_layer layer join)
 
   -- the layers before it were looked at
   pub looked_before : (layer : LayerView) → IsJoinOf books layer → IsLookedAt layer.level config.limit trail positions
   looked_before layer join = subst (λ b. IsLookedAt b config.limit trail positions) (sym (next_layer layer join).0) turn.looked
 
   -- once it was looked at, and its ranks are done in books that came back, these are between two turns again
-  pub goes_on : (layer : LayerView) (count : ℕ) (after : List BookView) (all : List (List (Origin Push))) (parents : List (Origin Push)) → IsJoinOf books layer → IsLookedAt layer.level config.limit (trail ++ layer.origins ∷ []) count → AreWorkedBy config layer Through after → all ≡ trail ++ parents ∷ [] → parents ≡ layer.origins → ArePausedBy config board after all count
+  pub goes_on : (layer : LayerView) (count : ℕ) (after : List BookView) (all : List (List (Origin Push))) (parents : List (Origin Push)) → IsJoinOf books layer → IsLookedAt layer.level config.limit (trail ++ layer.origins ∷ []) count → AreWorkedBy config layer Through after → all ≡ trail ++ parents ∷ [] → parents ≡ layer.origins → ArePausedBy config task after all count
   goes_on layer count after all parents join looked worked is same =
       let next = next_layer layer join in
       subst (λ b. ArePausedBy config b after all count) next.0
@@ -42,7 +42,7 @@ module _ (config : Config) (board : Board) (books : List BookView) (trail : List
       (turn_on layer.level config.limit (config.workers + 1) config.locks after trail count layer (refl, next.1) looked worked))
 
   -- or one of them is over, and the answer is the limit
-  pub ends_over : (layer : LayerView) (count : ℕ) (after : List BookView) → IsJoinOf books layer → IsLookedAt layer.level config.limit (trail ++ layer.origins ∷ []) count → AreWorkedBy config layer Over after → IsAnswer board config.limit Limit
+  pub ends_over : (layer : LayerView) (count : ℕ) (after : List BookView) → IsJoinOf books layer → IsLookedAt layer.level config.limit (trail ++ layer.origins ∷ []) count → AreWorkedBy config layer Over after → IsAnswer task config.limit Limit
   ends_over layer count after join looked worked =
       let next = next_layer layer join in
       subst (λ b. IsAnswer b config.limit Limit) next.0 (turn_over layer.level config.limit (config.workers + 1) config.locks after trail count layer (refl, next.1) looked worked)

@@ -5,8 +5,7 @@ ghost use Rattle.solo.specs.inside.Rests.{MayBeClosed, MayBeClosedEach};
 ghost use Rattle.solo.specs.inside.Turns.{AreWorkingOn, WorkAnswers};
 
 use area::Scratch;
-use doom::Dead;
-use layers::{Book, Layer};
+use layers::{Book, Layer, Pruner};
 use solo::turn::{Worked, close_ahead, finish_rest};
 use std::alloc::AllocError;
 use std::thread::{Threads, for_each_mut};
@@ -21,19 +20,19 @@ pub(crate) fn finish_all<R: Threads + Sync>(
     rt: &R,
     books: &mut [Book],
     layer: &Layer,
-    dead: &Dead,
+    pruner: &Pruner,
     scratch: &mut Scratch,
     worker: u8,
 ) -> Result<Worked, AllocError>
     requires working { AreWorkingOn layer.now books.old }
     requires worker { (i : ℕ) (v : BookView) → slice_get books.old i ≡ Some v → worker < v.workers }
-    requires dead_of_level { dead.now ≡ layer.now.level }
-    requires room { scratch.old.size ≡ length layer.now.level.cells }
+    requires pruner_of_level { pruner.now ≡ layer.now.level }
+    requires room { scratch.old.size ≡ length layer.now.level.board.cells }
     ensures worked { IfOk result (λ worked. WorkAnswers books.old worked books.new) }
     ensures size { scratch.new.size ≡ scratch.old.size }
 {
     close_side_by_side(rt, books, layer);
-    let worked = finish_rest(books, layer, dead, scratch, worker)?;
+    let worked = finish_rest(books, layer, pruner, scratch, worker)?;
     Ok(worked)
 }
 

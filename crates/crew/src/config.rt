@@ -3,12 +3,14 @@ ghost use Rattle.crew.specs.Configured.{IsWithinLimits};
 
 use layers::{MAX_SHARES, MAX_WORKERS};
 
-/// How a level is solved: by how many workers, over how many locks, and under which limit of positions.
+/// How a level is solved: by how many workers, over how many locks, under which limit of positions, and within which cap
+/// of pushes, if one is set.
 #[derive(Clone, Copy, PartialEq, Eq, Debug)]
 pub struct Config {
     pub workers: u8,
     pub locks: u8,
     pub limit: u32,
+    pub cap: Option<u32>,
 }
 
 impl Config {

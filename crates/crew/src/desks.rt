@@ -7,9 +7,8 @@ use crate::gate::Gate;
 use crate::workers::work_all;
 use area::Scratch;
 use claims::{Drawer, Ledger, PLACES};
-use doom::Dead;
 use grid::Level;
-use layers::{Book, Layer, Parcel};
+use layers::{Book, Layer, Parcel, Pruner};
 use std::alloc::{AllocError, Global};
 use std::marker::Model;
 use std::sync::{Mutex, Wait};
@@ -59,14 +58,14 @@ impl<'a> Desks<'a> {
         &mut self,
         rt: &R,
         layer: &Layer,
-        dead: &Dead,
+        pruner: &Pruner,
         books: &[Mutex<Book>],
         ledger: &Ledger,
         drawer: Drawer,
         gate: &G,
     )
-        requires level { self.old ≡ layer.now.level }
-        requires dead_of_level { dead.now ≡ layer.now.level }
+        requires level { self.old ≡ layer.now.level.board }
+        requires pruner_of_level { pruner.now ≡ layer.now.level }
         requires ranks { ledger.now.len ≤ length layer.now.places }
         requires drawer { drawer ≡ newcomer ledger.now }
         ensures { self.new ≡ self.old }
@@ -74,7 +73,7 @@ impl<'a> Desks<'a> {
         let level = self.level;
         let desks = self.desks.as_mut_slice();
         deal(ledger, drawer, desks);
-        work_all(rt, desks, level, layer, dead, books, ledger, gate);
+        work_all(rt, desks, level, layer, pruner, books, ledger, gate);
     }
 }
 

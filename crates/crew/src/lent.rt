@@ -9,8 +9,7 @@ use crate::config::Config;
 use crate::desks::Desks;
 use crate::gate::Gate;
 use claims::{Drawer, Ledger};
-use doom::Dead;
-use layers::{Book, Layer};
+use layers::{Book, Layer, Pruner};
 use std::alloc::{AllocError, Global};
 use std::sync::{Mutex, Wait};
 use std::thread::Threads;
@@ -22,18 +21,18 @@ pub(crate) fn lend<R: Threads + Wait + Sync, G: Gate + Sync>(
     alloc: Global,
     books: Vec<Book>,
     layer: &Layer,
-    dead: &Dead,
+    pruner: &Pruner,
     desks: &mut Desks<'_>,
     gate: &G,
 ) -> Result<Vec<Book>, AllocError>
-    requires dead_of_level { dead.now ≡ layer.now.level }
+    requires pruner_of_level { pruner.now ≡ layer.now.level }
     requires ranks { length layer.now.places < 2 ^ 32 }
-    requires desks { desks.old ≡ layer.now.level }
+    requires desks { desks.old ≡ layer.now.level.board }
     ensures desks { desks.new ≡ desks.old }
 {
     let (ledger, drawer) = ledger_of(alloc, layer)?;
     let locks = lock_each(alloc, books)?;
-    desks.work(rt, layer, dead, locks.as_slice(), &ledger, drawer, gate);
+    desks.work(rt, layer, pruner, locks.as_slice(), &ledger, drawer, gate);
     unlock_each(alloc, locks)
 }
 
@@ -92,5 +91,5 @@ fn comes_back(book: &Book, place: usize, config: Config, layer: &Layer) -> bool
         && book.shares() == config.locks
         && book.layer() == layer.number()
         && book.has_begun()
-        && *book.level() == *layer.level()
+        && book.is_of_layer(layer)
 }

@@ -9,9 +9,8 @@ use crate::gate::Gate;
 use crate::worker::draw;
 use area::Scratch;
 use claims::{Drawer, Ledger};
-use doom::Dead;
 use grid::Level;
-use layers::{Layer, Parcel, expand_over, expand_over_into};
+use layers::{Layer, Parcel, Pruner, expand_over, expand_over_into};
 
 // The greatest number of ranks of a lot.
 const MOST: u64 = 16;
@@ -40,7 +39,7 @@ pub(crate) fn have_room(parcels: &mut Vec<Parcel<'_>>, size: usize) {
 pub(crate) fn fill<'a, G: Gate>(
     level: &'a Level,
     layer: &Layer,
-    dead: &Dead,
+    pruner: &Pruner,
     ledger: &Ledger,
     drawer: &mut Drawer,
     worker: u8,
@@ -49,9 +48,9 @@ pub(crate) fn fill<'a, G: Gate>(
     nth: &mut u64,
     parcels: &mut Vec<Parcel<'a>>,
 ) -> Result<usize, End>
-    requires level { level.now ≡ layer.now.level }
-    requires dead_of_level { dead.now ≡ layer.now.level }
-    requires room { scratch.old.size ≡ length layer.now.level.cells }
+    requires level { level.now ≡ layer.now.level.board }
+    requires pruner_of_level { pruner.now ≡ layer.now.level }
+    requires room { scratch.old.size ≡ length layer.now.level.board.cells }
     requires ranks { ledger.now.len ≤ length layer.now.places }
     requires place { IsAtPlace ledger.now worker drawer.old }
     requires capacity { 0 < vec_capacity parcels.old }
@@ -65,12 +64,12 @@ pub(crate) fn fill<'a, G: Gate>(
     ensures size { scratch.new.size ≡ scratch.old.size }
 {
     let first = draw(layer, ledger, drawer, worker, gate, nth)?;
-    put(level, layer, dead, first, scratch, parcels, 0);
+    put(level, layer, pruner, first, scratch, parcels, 0);
     let size = lot_size(layer.len() - first).min(parcels.capacity());
     let mut filled = 1;
     while filled < size {
         match draw(layer, ledger, drawer, worker, gate, nth) {
-            Ok(rank) => put(level, layer, dead, rank, scratch, parcels, filled),
+            Ok(rank) => put(level, layer, pruner, rank, scratch, parcels, filled),
             Err(End::Drained) => return Ok(filled),
             Err(end) => return Err(end),
         }
@@ -83,16 +82,16 @@ pub(crate) fn fill<'a, G: Gate>(
 fn put<'a>(
     level: &'a Level,
     layer: &Layer,
-    dead: &Dead,
+    pruner: &Pruner,
     rank: u64,
     scratch: &mut Scratch,
     parcels: &mut Vec<Parcel<'a>>,
     place: usize,
 )
-    requires level { level.now ≡ layer.now.level }
+    requires level { level.now ≡ layer.now.level.board }
     requires within { rank < length layer.now.places }
-    requires dead_of_level { dead.now ≡ layer.now.level }
-    requires room { scratch.old.size ≡ length layer.now.level.cells }
+    requires pruner_of_level { pruner.now ≡ layer.now.level }
+    requires room { scratch.old.size ≡ length layer.now.level.board.cells }
     requires place { place ≤ length parcels.old.items }
     requires capacity { place < vec_capacity parcels.old }
     ensures put { IsPut layer.now rank place parcels.old.items parcels.new.items }
@@ -103,14 +102,14 @@ fn put<'a>(
         refill(
             level,
             layer,
-            dead,
+            pruner,
             rank,
             scratch,
             parcels.as_mut_slice(),
             place,
         );
     } else {
-        parcels.push_reserved(expand_over(level, layer, dead, rank, scratch));
+        parcels.push_reserved(expand_over(level, layer, pruner, rank, scratch));
     }
 }
 
@@ -118,19 +117,19 @@ fn put<'a>(
 fn refill<'a>(
     level: &'a Level,
     layer: &Layer,
-    dead: &Dead,
+    pruner: &Pruner,
     rank: u64,
     scratch: &mut Scratch,
     parcels: &mut [Parcel<'a>],
     place: usize,
 )
-    requires level { level.now ≡ layer.now.level }
+    requires level { level.now ≡ layer.now.level.board }
     requires within { rank < length layer.now.places }
-    requires dead_of_level { dead.now ≡ layer.now.level }
-    requires room { scratch.old.size ≡ length layer.now.level.cells }
+    requires pruner_of_level { pruner.now ≡ layer.now.level }
+    requires room { scratch.old.size ≡ length layer.now.level.board.cells }
     requires place { place < length parcels.old }
     ensures refilled { (parcel : ParcelView) × IsOfRank layer.now rank parcel × (parcels.new ≡ slice_set parcels.old place parcel) }
     ensures size { scratch.new.size ≡ scratch.old.size }
 {
-    expand_over_into(level, layer, dead, rank, scratch, &mut parcels[place]);
+    expand_over_into(level, layer, pruner, rank, scratch, &mut parcels[place]);
 }

@@ -1,6 +1,7 @@
 ghost use Rattle.std.specs.Prelude.{◌≡◌, ◌+◌, ◌<◌, ◌≤◌, [], IfOk, IfSome, MatchResult, length};
 ghost use Rattle.std.specs.Arc.{arc_value};
 ghost use Rattle.grid.specs.Lawful.{box_count};
+ghost use Rattle.layers.specs.Tasks.{capped};
 ghost use Rattle.solo.specs.Answers.{IsAnswer};
 ghost use Rattle.crew.specs.Configured.{IsWithinLimits};
 ghost use Rattle.crew.specs.Solving.{SolveRefused};
@@ -11,19 +12,19 @@ use crate::desks::Desks;
 use crate::gate::Gate;
 use crate::turns::{Turned, turn};
 use area::Scratch;
-use doom::Dead;
 use grid::{Level, MAX_BOXES};
-use layers::Book;
+use layers::{Book, Pruner};
 use solo::turn::new_books;
 use solo::{Answer, SolveFault, solve_alone};
 use std::alloc::{AllocError, Global};
 use std::sync::{Arc, Wait};
 use std::thread::Threads;
 
-/// The solution of the level with the fewest pushes, or that it has none, or that more than the configuration's limit
-/// of positions are needed to say so, found by as many workers as the configuration says over as many books, each of a
-/// share of the positions and behind a lock of its own. The answer is that of [`solve_alone`], whatever the numbers of
-/// workers and locks, the gate, and the order in which the workers draw ranks and come to the locks.
+/// The solution of the level with the fewest pushes, or that it has none, within the configuration's cap of pushes if it
+/// has one, or that more than its limit of positions are needed to say so, found by as many workers as the configuration
+/// says over as many books, each of a share of the positions and behind a lock of its own. The answer is that of
+/// [`solve_alone`], whatever the numbers of workers and locks, the gate, and the order in which the workers draw ranks and
+/// come to the locks.
 ///
 /// [`SolveFault::BadConfig`] exactly where a number of the configuration is outside its limits, before everything
 /// else; [`SolveFault::TooManyBoxes`] where the level has more boxes than [`MAX_BOXES`](grid::MAX_BOXES); and
@@ -37,7 +38,7 @@ pub fn solve<R: Threads + Wait + Sync, G: Gate + Sync>(
     config: Config,
     gate: &G,
 ) -> Result<Answer, SolveFault>
-    ensures answer { IfOk result (λ answer. IsAnswer (arc_value level.now) config.limit answer) }
+    ensures answer { IfOk result (λ answer. IsAnswer (capped (arc_value level.now) config.cap) config.limit answer) }
     ensures boxes { MatchResult result (λ answer. IsWithinLimits config × (box_count (arc_value level.now) ≤ MAX_BOXES)) (λ fault. SolveRefused config (arc_value level.now) fault) }
 {
     if !config.is_within_limits() {
@@ -48,7 +49,7 @@ pub fn solve<R: Threads + Wait + Sync, G: Gate + Sync>(
     }
     match search(rt, alloc, level, config, gate) {
         Ok(Some(answer)) => Ok(answer),
-        Ok(None) => solve_alone(alloc, level, config.limit),
+        Ok(None) => solve_alone(alloc, level, config.cap, config.limit),
         Err(AllocError) => Err(SolveFault::OutOfMemory),
     }
 }
@@ -64,15 +65,15 @@ fn search<R: Threads + Wait + Sync, G: Gate + Sync>(
 ) -> Result<Option<Answer>, AllocError>
     requires limits { IsWithinLimits config }
     requires boxes { box_count (arc_value level.now) ≤ MAX_BOXES }
-    ensures { IfOk result (λ found. IfSome found (λ answer. IsAnswer (arc_value level.now) config.limit answer)) }
+    ensures { IfOk result (λ found. IfSome found (λ answer. IsAnswer (capped (arc_value level.now) config.cap) config.limit answer)) }
 {
-    let dead = Dead::of(alloc, level)?;
+    let pruner = Pruner::of(alloc, level, config.cap)?;
     let mut scratch = Scratch::new(alloc, level)?;
     // the books are made for one worker more, whose number is the caller's own
     let books = new_books(
         alloc,
         level,
-        &dead,
+        &pruner,
         config.limit,
         config.workers + 1,
         config.locks,
@@ -83,7 +84,7 @@ fn search<R: Threads + Wait + Sync, G: Gate + Sync>(
         rt,
         alloc,
         books,
-        &dead,
+        &pruner,
         &mut scratch,
         &mut desks,
         config,
@@ -97,17 +98,17 @@ fn all_turns<R: Threads + Wait + Sync, G: Gate + Sync>(
     rt: &R,
     alloc: Global,
     first: Vec<Book>,
-    dead: &Dead,
+    pruner: &Pruner,
     scratch: &mut Scratch,
     desks: &mut Desks<'_>,
     config: Config,
     gate: &G,
 ) -> Result<Option<Answer>, AllocError>
     requires limits { IsWithinLimits config }
-    requires first { ArePausedBy config dead.now first.items [] 0 }
-    requires room { scratch.old.size ≡ length dead.now.cells }
-    requires desks { desks.old ≡ dead.now }
-    ensures { IfOk result (λ found. IfSome found (λ answer. IsAnswer dead.now config.limit answer)) }
+    requires first { ArePausedBy config pruner.now first.items [] 0 }
+    requires room { scratch.old.size ≡ length pruner.now.board.cells }
+    requires desks { desks.old ≡ pruner.now.board }
+    ensures { IfOk result (λ found. IfSome found (λ answer. IsAnswer pruner.now config.limit answer)) }
 {
     let mut trail = Vec::new(alloc);
     let mut positions = 0;
@@ -119,7 +120,7 @@ fn all_turns<R: Threads + Wait + Sync, G: Gate + Sync>(
             books,
             &mut trail,
             &mut positions,
-            dead,
+            pruner,
             scratch,
             desks,
             config,

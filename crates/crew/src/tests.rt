@@ -144,6 +144,7 @@ fn held<R: Threads + Wait + Sync + Abort>(
         workers: 2,
         locks,
         limit,
+        cap: None,
     };
     let answer = solve(rt, alloc, &level, config, &gate);
     assert_eq!(rt;
@@ -203,6 +204,7 @@ fn configurations_outside_the_limits(rt: HostRuntime) {
                 workers,
                 locks,
                 limit,
+                cap: None,
             };
             let answer = solve(&rt, rt.alloc(), &level, config, &Free);
             assert!(&rt;
@@ -217,6 +219,7 @@ fn configurations_outside_the_limits(rt: HostRuntime) {
             workers,
             locks,
             limit: 1,
+            cap: None,
         };
         let answer = solve(&rt, rt.alloc(), &many, config, &Free);
         assert!(&rt;

@@ -11,8 +11,7 @@ use crate::desks::Desks;
 use crate::gate::Gate;
 use crate::lent::{come_back, lend};
 use area::Scratch;
-use doom::Dead;
-use layers::{Book, Layer, Parents};
+use layers::{Book, Layer, Parents, Pruner};
 use solo::Answer;
 use solo::turn::{Worked, begin_each, last_layer, look};
 use std::alloc::{AllocError, Global};
@@ -38,17 +37,17 @@ pub(crate) fn turn<R: Threads + Wait + Sync, G: Gate + Sync>(
     books: Vec<Book>,
     trail: &mut Vec<Parents>,
     positions: &mut u64,
-    dead: &Dead,
+    pruner: &Pruner,
     scratch: &mut Scratch,
     desks: &mut Desks<'_>,
     config: Config,
     gate: &G,
 ) -> Result<Turned, AllocError>
     requires limits { IsWithinLimits config }
-    requires turn { ArePausedBy config dead.now books.items trail.old.items positions.old }
-    requires room { scratch.old.size ≡ length dead.now.cells }
-    requires desks { desks.old ≡ dead.now }
-    ensures turned { IfOk result (λ turned. TurnAnswer config dead.now trail.new.items positions.old positions.new turned) }
+    requires turn { ArePausedBy config pruner.now books.items trail.old.items positions.old }
+    requires room { scratch.old.size ≡ length pruner.now.board.cells }
+    requires desks { desks.old ≡ pruner.now.board }
+    ensures turned { IfOk result (λ turned. TurnAnswer config pruner.now trail.new.items positions.old positions.new turned) }
     ensures size { scratch.new.size ≡ scratch.old.size }
     ensures desks { desks.new ≡ desks.old }
 {
@@ -64,7 +63,7 @@ pub(crate) fn turn<R: Threads + Wait + Sync, G: Gate + Sync>(
     if let Some(answer) = found {
         return Ok(Turned::Found(answer));
     }
-    let back = work_through(rt, alloc, books, &layer, dead, scratch, desks, config, gate)?;
+    let back = work_through(rt, alloc, books, &layer, pruner, scratch, desks, config, gate)?;
     let Some((worked, after)) = back else {
         return Ok(Turned::Foreign);
     };
@@ -82,7 +81,7 @@ fn work_through<R: Threads + Wait + Sync, G: Gate + Sync>(
     alloc: Global,
     mut books: Vec<Book>,
     layer: &Layer,
-    dead: &Dead,
+    pruner: &Pruner,
     scratch: &mut Scratch,
     desks: &mut Desks<'_>,
     config: Config,
@@ -91,20 +90,20 @@ fn work_through<R: Threads + Wait + Sync, G: Gate + Sync>(
     requires limits { IsWithinLimits config }
     requires may { (i : ℕ) (v : BookView) → slice_get books.items i ≡ Some v → MayBegin v layer.now }
     requires few { length layer.now.places ≤ config.limit }
-    requires dead_of_level { dead.now ≡ layer.now.level }
-    requires room { scratch.old.size ≡ length layer.now.level.cells }
-    requires desks { desks.old ≡ layer.now.level }
+    requires pruner_of_level { pruner.now ≡ layer.now.level }
+    requires room { scratch.old.size ≡ length layer.now.level.board.cells }
+    requires desks { desks.old ≡ layer.now.level.board }
     ensures worked { IfOk result (λ back. IfSome back (λ b. AreWorkedBy config layer.now b.0 b.1.items)) }
     ensures size { scratch.new.size ≡ scratch.old.size }
     ensures desks { desks.new ≡ desks.old }
 {
     begin_each(books.as_mut_slice(), layer)?;
-    let mut back = lend(rt, alloc, books, layer, dead, desks, gate)?;
+    let mut back = lend(rt, alloc, books, layer, pruner, desks, gate)?;
     if !come_back(back.as_slice(), config, layer) {
         return Ok(None);
     }
     // the caller's own number is the last one
     let own = config.workers;
-    let worked = finish_all(rt, back.as_mut_slice(), layer, dead, scratch, own)?;
+    let worked = finish_all(rt, back.as_mut_slice(), layer, pruner, scratch, own)?;
     Ok(Some((worked, back)))
 }

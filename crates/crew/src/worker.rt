@@ -11,9 +11,8 @@ use crate::gate::Gate;
 use crate::lots::{fill, have_room, lot_size};
 use area::Scratch;
 use claims::{Drawer, Ledger, PLACES};
-use doom::Dead;
 use grid::Level;
-use layers::{Book, Layer, Parcel, Refusal, expand, expand_into};
+use layers::{Book, Layer, Parcel, Pruner, Refusal, expand_by, expand_into};
 use std::slice::from_ref;
 use std::sync::{Mutex, Wait};
 
@@ -30,7 +29,7 @@ use std::sync::{Mutex, Wait};
 pub fn work<R: Wait, G: Gate>(
     rt: &R,
     layer: &Layer,
-    dead: &Dead,
+    pruner: &Pruner,
     books: &[Mutex<Book>],
     ledger: &Ledger,
     drawer: &mut Drawer,
@@ -38,8 +37,8 @@ pub fn work<R: Wait, G: Gate>(
     scratch: &mut Scratch,
     gate: &G,
 ) -> End
-    requires dead_of_level { dead.now ≡ layer.now.level }
-    requires room { scratch.old.size ≡ length layer.now.level.cells }
+    requires pruner_of_level { pruner.now ≡ layer.now.level }
+    requires room { scratch.old.size ≡ length layer.now.level.board.cells }
     requires ranks { ledger.now.len ≤ length layer.now.places }
     requires drawer { (drawer.old.ledger ≡ ledger.now) × IsNone drawer.old.hand.place }
     requires place { worker < PLACES }
@@ -54,7 +53,7 @@ pub fn work<R: Wait, G: Gate>(
         rt,
         layer.level(),
         layer,
-        dead,
+        pruner,
         books,
         ledger,
         drawer,
@@ -71,7 +70,7 @@ pub(crate) fn work_at<'a, R: Wait, G: Gate>(
     rt: &R,
     level: &'a Level,
     layer: &Layer,
-    dead: &Dead,
+    pruner: &Pruner,
     books: &[Mutex<Book>],
     ledger: &Ledger,
     drawer: &mut Drawer,
@@ -80,9 +79,9 @@ pub(crate) fn work_at<'a, R: Wait, G: Gate>(
     gate: &G,
     parcels: &mut Vec<Parcel<'a>>,
 ) -> End
-    requires level { level.now ≡ layer.now.level }
-    requires dead_of_level { dead.now ≡ layer.now.level }
-    requires room { scratch.old.size ≡ length layer.now.level.cells }
+    requires level { level.now ≡ layer.now.level.board }
+    requires pruner_of_level { pruner.now ≡ layer.now.level }
+    requires room { scratch.old.size ≡ length layer.now.level.board.cells }
     requires ranks { ledger.now.len ≤ length layer.now.places }
     requires drawer { (drawer.old.ledger ≡ ledger.now) × IsNone drawer.old.hand.place }
     requires place { worker < PLACES }
@@ -99,11 +98,11 @@ pub(crate) fn work_at<'a, R: Wait, G: Gate>(
     have_room(parcels, lot_size(layer.len()));
     if parcels.capacity() == 0 {
         return by_ones(
-            rt, layer, dead, books, ledger, drawer, worker, scratch, gate, &mut nth,
+            rt, layer, pruner, books, ledger, drawer, worker, scratch, gate, &mut nth,
         );
     }
     by_lots(
-        rt, level, layer, dead, books, ledger, drawer, worker, scratch, gate, &mut nth, parcels,
+        rt, level, layer, pruner, books, ledger, drawer, worker, scratch, gate, &mut nth, parcels,
     )
 }
 
@@ -111,7 +110,7 @@ pub(crate) fn work_at<'a, R: Wait, G: Gate>(
 fn by_ones<R: Wait, G: Gate>(
     rt: &R,
     layer: &Layer,
-    dead: &Dead,
+    pruner: &Pruner,
     books: &[Mutex<Book>],
     ledger: &Ledger,
     drawer: &mut Drawer,
@@ -120,8 +119,8 @@ fn by_ones<R: Wait, G: Gate>(
     gate: &G,
     nth: &mut u64,
 ) -> End
-    requires dead_of_level { dead.now ≡ layer.now.level }
-    requires room { scratch.old.size ≡ length layer.now.level.cells }
+    requires pruner_of_level { pruner.now ≡ layer.now.level }
+    requires room { scratch.old.size ≡ length layer.now.level.board.cells }
     requires ranks { ledger.now.len ≤ length layer.now.places }
     requires place { IsAtPlace ledger.now worker drawer.old }
     ensures end { MayEnd G.may_stop result }
@@ -134,13 +133,13 @@ fn by_ones<R: Wait, G: Gate>(
         Ok(rank) => rank,
         Err(end) => return end,
     };
-    let mut parcel = expand(layer, dead, rank, scratch);
+    let mut parcel = expand_by(layer, pruner, rank, scratch);
     for _ in rt.forever() {
         if let Err(end) = hand_back(rt, layer, books, worker, from_ref(&parcel), gate, nth) {
             return end;
         }
         match draw(layer, ledger, drawer, worker, gate, nth) {
-            Ok(rank) => expand_into(layer, dead, rank, scratch, &mut parcel),
+            Ok(rank) => expand_into(layer, pruner, rank, scratch, &mut parcel),
             Err(end) => return end,
         }
     }
@@ -153,7 +152,7 @@ fn by_lots<'a, R: Wait, G: Gate>(
     rt: &R,
     level: &'a Level,
     layer: &Layer,
-    dead: &Dead,
+    pruner: &Pruner,
     books: &[Mutex<Book>],
     ledger: &Ledger,
     drawer: &mut Drawer,
@@ -163,9 +162,9 @@ fn by_lots<'a, R: Wait, G: Gate>(
     nth: &mut u64,
     parcels: &mut Vec<Parcel<'a>>,
 ) -> End
-    requires level { level.now ≡ layer.now.level }
-    requires dead_of_level { dead.now ≡ layer.now.level }
-    requires room { scratch.old.size ≡ length layer.now.level.cells }
+    requires level { level.now ≡ layer.now.level.board }
+    requires pruner_of_level { pruner.now ≡ layer.now.level }
+    requires room { scratch.old.size ≡ length layer.now.level.board.cells }
     requires ranks { ledger.now.len ≤ length layer.now.places }
     requires place { IsAtPlace ledger.now worker drawer.old }
     requires capacity { 0 < vec_capacity parcels.old }
@@ -177,7 +176,7 @@ fn by_lots<'a, R: Wait, G: Gate>(
 {
     for _ in rt.forever() {
         let filled = match fill(
-            level, layer, dead, ledger, drawer, worker, scratch, gate, nth, parcels,
+            level, layer, pruner, ledger, drawer, worker, scratch, gate, nth, parcels,
         ) {
             Ok(filled) => filled,
             Err(end) => return end,

@@ -7,9 +7,8 @@ use crate::desks::Desk;
 use crate::gate::Gate;
 use crate::worker::work_at;
 use claims::{Ledger, PLACES};
-use doom::Dead;
 use grid::Level;
-use layers::{Book, Layer};
+use layers::{Book, Layer, Pruner};
 use std::sync::{Mutex, Wait};
 use std::thread::{Threads, for_each_mut};
 
@@ -20,18 +19,18 @@ pub(crate) fn work_all<'a, R: Threads + Wait + Sync, G: Gate + Sync>(
     desks: &mut [Desk<'a>],
     level: &'a Level,
     layer: &Layer,
-    dead: &Dead,
+    pruner: &Pruner,
     books: &[Mutex<Book>],
     ledger: &Ledger,
     gate: &G,
 )
-    requires level { level.now ≡ layer.now.level }
-    requires dead_of_level { dead.now ≡ layer.now.level }
+    requires level { level.now ≡ layer.now.level.board }
+    requires pruner_of_level { pruner.now ≡ layer.now.level }
     requires ranks { ledger.now.len ≤ length layer.now.places }
     requires places { length desks.old ≤ PLACES }
     requires drawers { HaveDrawers ledger.now (length desks.old) desks.old }
-    requires room { AreRoomy (length layer.now.level.cells) desks.old }
-    ensures room { AreRoomy (length layer.now.level.cells) desks.new }
+    requires room { AreRoomy (length layer.now.level.board.cells) desks.old }
+    ensures room { AreRoomy (length layer.now.level.board.cells) desks.new }
 {
     let count = desks.len();
     if count == 0 {
@@ -42,12 +41,12 @@ pub(crate) fn work_all<'a, R: Threads + Wait + Sync, G: Gate + Sync>(
         desks,
         count,
         &|place, desk: &mut Desk<'_>|
-            requires level { level.now ≡ layer.now.level }
-            requires dead_of_level { dead.now ≡ layer.now.level }
+            requires level { level.now ≡ layer.now.level.board }
+            requires pruner_of_level { pruner.now ≡ layer.now.level }
             requires ranks { ledger.now.len ≤ length layer.now.places }
             requires place { place < PLACES }
             requires drawer { desk.now.drawer ≡ Some (newcomer ledger.now) }
-            requires room { desk.now.scratch.size ≡ length layer.now.level.cells }
+            requires room { desk.now.scratch.size ≡ length layer.now.level.board.cells }
             ensures { desk.exit.now.scratch.size ≡ desk.entry.now.scratch.size }
         {
             help(
@@ -55,7 +54,7 @@ pub(crate) fn work_all<'a, R: Threads + Wait + Sync, G: Gate + Sync>(
                 desk,
                 level,
                 layer,
-                dead,
+                pruner,
                 books,
                 ledger,
                 place as u8,
@@ -71,18 +70,18 @@ fn help<'a, R: Wait, G: Gate>(
     desk: &mut Desk<'a>,
     level: &'a Level,
     layer: &Layer,
-    dead: &Dead,
+    pruner: &Pruner,
     books: &[Mutex<Book>],
     ledger: &Ledger,
     worker: u8,
     gate: &G,
 )
-    requires level { level.now ≡ layer.now.level }
-    requires dead_of_level { dead.now ≡ layer.now.level }
+    requires level { level.now ≡ layer.now.level.board }
+    requires pruner_of_level { pruner.now ≡ layer.now.level }
     requires ranks { ledger.now.len ≤ length layer.now.places }
     requires place { worker < PLACES }
     requires drawer { desk.old.drawer ≡ Some (newcomer ledger.now) }
-    requires room { desk.old.scratch.size ≡ length layer.now.level.cells }
+    requires room { desk.old.scratch.size ≡ length layer.now.level.board.cells }
     ensures room { desk.new.scratch.size ≡ desk.old.scratch.size }
 {
     if let Some(mut own) = desk.drawer.take() {
@@ -90,7 +89,7 @@ fn help<'a, R: Wait, G: Gate>(
             rt,
             level,
             layer,
-            dead,
+            pruner,
             books,
             ledger,
             &mut own,

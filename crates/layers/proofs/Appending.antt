@@ -18,3 +18,9 @@ module _ {A : Type 0} (old slots lent : List A) (count : ℕ) (s : A) (inside : 
   -- the next slot is written and does not count
   pub slot_same : take count (take (length slots) (set lent count s ++ drop (length (set lent count s)) slots)) ≡ take count old
   slot_same = ap (take count) slots_written ∙ (take-set slots count s ∙ kept)
+
+-- what the slots hold after all of them were lent and given back
+pub slots_refilled : {A : Type 0} (slots lent back : List A) → length back ≡ length lent → lent ≡ slots → take (length slots) (back ++ drop (length back) slots) ≡ back
+slots_refilled slots lent back long same =
+    let size : length back ≡ length slots = long ∙ ap length same in
+    ap (λ n. take n (back ++ drop (length back) slots)) (sym size) ∙ take-append_seam back (drop (length back) slots)

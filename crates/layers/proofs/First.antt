@@ -5,22 +5,24 @@ use Rattle.std.proofs.lemmas.Option.{same_Some, none-some}
 use Rattle.std.specs.Prelude.{slice_get}
 use Rattle.std.specs.Ordering.{is_gt}
 use Rattle.grid.specs.declared.square.Push.{Push}
-use Rattle.grid.specs.Board.{Board, Scene, start, push_cmp}
+use Rattle.grid.specs.Board.{Scene, start, push_cmp}
 use Rattle.grid.specs.Lawful.{IsLevel}
 use Rattle.grid.specs.States.{FitsLevel}
 use Rattle.grid.specs.Plays.{shortlex}
 use Rattle.grid.specs.Plays.Play.{stay}
-use Rattle.grid.proofs.lemmas.Plays.{play_first}
+use Rattle.grid.proofs.lemmas.Plays.{play_first, walk_keeps_boxes}
 use Rattle.area.specs.Area.{IsNorm}
 use Rattle.doom.specs.Deadlocks.{Doomed, Undoomed}
 use Rattle.layers.specs.Layered.{IsLead}
 use Rattle.layers.specs.Openings.{Origin, Entry}
+use Rattle.layers.specs.Tasks.{Task, Admits}
 use Rattle.layers.specs.Reaching.{Reaches}
 use Rattle.layers.specs.Origins.{share_of}
 use Rattle.layers.specs.BookView.{BookView, Closed, IsShareOfLayer, AreBounds, IsLawfulBook}
 use Rattle.layers.specs.FoundView.{first_entries}
 use Rattle.layers.specs.inside.BookInside.{cut_at, AreCuts, IsFirst}
 use Rattle.layers.specs.Books.{AreNewInOrder, IsNew}
+use Rattle.layers.proofs.lemmas.Admissions.{admitted_alike}
 use Rattle.layers.proofs.lemmas.Books.{level_laws}
 use Rattle.layers.proofs.lemmas.Lists.{at-push, sum_by_first}
 use Rattle.layers.proofs.lemmas.Orders.{shortlex_shorter}
@@ -34,8 +36,8 @@ no_later [] = refl
 no_later (q ∷ qs) = shortlex_shorter push_cmp [] (q ∷ qs) (omega arith)
 
 -- the start's normal position is layer 0 of its own share
-pub first_layer : (board : Board) → IsLevel board → (shares share : ℕ) (n : Scene) → Undoomed board (start board) → IsNorm board (start board) n → FitsLevel board n → share_of shares n ≡ share → IsShareOfLayer board shares share 0 ((n, None) ∷ [])
-first_layer board level shares share n safe norm fits own = record {
+pub first_layer : (task : Task) → IsLevel task.board → (shares share : ℕ) (n : Scene) → Undoomed task.board (start task.board) → IsNorm task.board (start task.board) n → FitsLevel task.board n → Admits task 0 n → share_of shares n ≡ share → IsShareOfLayer task shares share 0 ((n, None) ∷ [])
+first_layer task level shares share n safe norm fits adm own = record {
   layer = record {
     leads = λ r m at. leads r m at;
     rise = λ r s m l ps qs lt at_r at_s. absurd (past r s l lt at_s);
@@ -45,51 +47,51 @@ first_layer board level shares share n safe norm fits own = record {
   fits = λ i m o at. fit i m o at;
 }
   where
-    here : Reaches board [] n
-    here = ([], start board, stay safe, norm)
+    here : Reaches task.board [] n
+    here = ([], start task.board, stay safe, norm)
 
-    lead : IsLead push_cmp (Reaches board) n []
+    lead : IsLead push_cmp (Reaches task.board) n []
     lead = record { reached = here; least = λ qs reach. no_later qs }
 
-    leads : (r : ℕ) (m : Scene) → slice_get (n ∷ []) r ≡ Some m → (share_of shares m ≡ share) × ((ps : List Push) × IsLead push_cmp (Reaches board) m ps × (length ps ≡ 0))
-    leads zero m at = (ap (share_of shares) (sym (same_Some n m at)) ∙ own, ([], subst (λ x. IsLead push_cmp (Reaches board) x []) (same_Some n m at) lead, refl))
+    leads : (r : ℕ) (m : Scene) → slice_get (n ∷ []) r ≡ Some m → ((share_of shares m ≡ share) × Admits task 0 m) × ((ps : List Push) × IsLead push_cmp (Reaches task.board) m ps × (length ps ≡ 0))
+    leads zero m at = ((ap (share_of shares) (sym (same_Some n m at)) ∙ own, subst (Admits task 0) (same_Some n m at) adm), ([], subst (λ x. IsLead push_cmp (Reaches task.board) x []) (same_Some n m at) lead, refl))
     leads (suc r) m at = absurd (none-some m at)
 
     past : (r s : ℕ) (l : Scene) → r < s → slice_get (n ∷ []) s ≡ Some l → ⊥
     past r zero l lt at = omega arith
     past r (suc s) l lt at = none-some l at
 
-    same : (ps : List Push) (m : Scene) → Reaches board ps m → length ps ≡ 0 → n ≡ m
-    same [] m reach long = (level_laws board level).same [] n m here reach
+    same : (ps : List Push) (m : Scene) → Reaches task.board ps m → length ps ≡ 0 → n ≡ m
+    same [] m reach long = (level_laws task level).same [] n m here reach
     same (p ∷ ps) m reach long = absurd (omega arith)
 
     origin : (i : ℕ) (m : Scene) (o : Option (Origin Push)) → slice_get {X = Closed} ((n, None) ∷ []) i ≡ Some (m, o) → o ≡ None
     origin zero m o at = sym (ap (λ (x : Closed). x.1) (same_Some (n, None) (m, o) at))
     origin (suc i) m o at = absurd (none-some (m, o) at)
 
-    fit : (i : ℕ) (m : Scene) (o : Option (Origin Push)) → slice_get {X = Closed} ((n, None) ∷ []) i ≡ Some (m, o) → FitsLevel board m
-    fit zero m o at = subst (FitsLevel board) (ap (λ (x : Closed). x.0) (same_Some (n, None) (m, o) at)) fits
+    fit : (i : ℕ) (m : Scene) (o : Option (Origin Push)) → slice_get {X = Closed} ((n, None) ∷ []) i ≡ Some (m, o) → FitsLevel task.board m
+    fit zero m o at = subst (FitsLevel task.board) (ap (λ (x : Closed). x.0) (same_Some (n, None) (m, o) at)) fits
     fit (suc i) m o at = absurd (none-some (m, o) at)
 
 -- layer 0 of another share is empty
-pub other_layer : (board : Board) → IsLevel board → (shares share : ℕ) (n : Scene) → Undoomed board (start board) → IsNorm board (start board) n → ¬ (share_of shares n ≡ share) → IsShareOfLayer board shares share 0 []
-other_layer board level shares share n safe norm other = record {
+pub other_layer : (task : Task) → IsLevel task.board → (shares share : ℕ) (n : Scene) → Undoomed task.board (start task.board) → IsNorm task.board (start task.board) n → ¬ (share_of shares n ≡ share) → IsShareOfLayer task shares share 0 []
+other_layer task level shares share n safe norm other = record {
   layer = record {
     leads = λ r m at. absurd (none-some m at);
     rise = λ r s m l ps qs lt at_r at_s. absurd (none-some m at_r);
-    whole = λ ps m reach long part. absurd (other (ap (share_of shares) (same ps m reach long) ∙ part));
+    whole = λ ps m reach long part. absurd (other (ap (share_of shares) (same ps m reach long) ∙ part.0));
   };
   origins = λ i m o at. absurd (none-some (m, o) at);
   fits = λ i m o at. absurd (none-some (m, o) at);
 }
   where
-    same : (ps : List Push) (m : Scene) → Reaches board ps m → length ps ≡ 0 → n ≡ m
-    same [] m reach long = (level_laws board level).same [] n m ([], start board, stay safe, norm) reach
+    same : (ps : List Push) (m : Scene) → Reaches task.board ps m → length ps ≡ 0 → n ≡ m
+    same [] m reach long = (level_laws task level).same [] n m ([], start task.board, stay safe, norm) reach
     same (p ∷ ps) m reach long = absurd (omega arith)
 
 -- where the start is doomed layer 0 is empty
-pub doomed_layer : (board : Board) (shares share : ℕ) → Doomed board (start board).boxes → IsShareOfLayer board shares share 0 []
-doomed_layer board shares share doomed = record {
+pub doomed_layer : (task : Task) (shares share : ℕ) → Doomed task.board (start task.board).boxes → IsShareOfLayer task shares share 0 []
+doomed_layer task shares share doomed = record {
   layer = record {
     leads = λ r m at. absurd (none-some m at);
     rise = λ r s m l ps qs lt at_r at_s. absurd (none-some m at_r);
@@ -99,19 +101,39 @@ doomed_layer board shares share doomed = record {
   fits = λ i m o at. absurd (none-some (m, o) at);
 }
 
+-- and where the start is not admitted
+barred_layer : (task : Task) → IsLevel task.board → (shares share : ℕ) → ¬ (Admits task 0 (start task.board)) → IsShareOfLayer task shares share 0 []
+barred_layer task level shares share barred = record {
+  layer = record {
+    leads = λ r m at. absurd (none-some m at);
+    rise = λ r s m l ps qs lt at_r at_s. absurd (none-some m at_r);
+    whole = λ ps m reach long part. absurd (barred (admitted_alike task 0 m (start task.board) (unmoved ps m reach long) part.1));
+  };
+  origins = λ i m o at. absurd (none-some (m, o) at);
+  fits = λ i m o at. absurd (none-some (m, o) at);
+}
+  where
+    unmoved : (ps : List Push) (m : Scene) → Reaches task.board ps m → length ps ≡ 0 → m.boxes ≡ (start task.board).boxes
+    unmoved [] m (ds, t, play, norm) long = norm.boxes ∙ walk_keeps_boxes play
+    unmoved (p ∷ ps) m reach long = absurd (omega arith)
+
 -- layer 0 of a share by the first position of the level
-pub share_without : (board : Board) (shares share : ℕ) (first : Option Scene) → IsFirst board first → first ≡ None → IsShareOfLayer board shares share 0 []
-share_without board shares share first is none = doomed_layer board shares share (subst (IsFirst board) none is)
+pub share_without : (task : Task) → IsLevel task.board → (shares share : ℕ) (first : Option Scene) → IsFirst task first → first ≡ None → IsShareOfLayer task shares share 0 []
+share_without task level shares share first is none = by (subst (IsFirst task) none is)
+  where
+    by : IsFirst task None → IsShareOfLayer task shares share 0 []
+    by (inl doomed) = doomed_layer task shares share doomed
+    by (inr barred) = barred_layer task level shares share barred
 
-pub share_with : (board : Board) → IsLevel board → (shares share : ℕ) (first : Option Scene) (m : Scene) → IsFirst board first → first ≡ Some m → share_of shares m ≡ share → IsShareOfLayer board shares share 0 ((m, None) ∷ [])
-share_with board level shares share first m is some own =
-    let w : IsFirst board (Some m) = subst (IsFirst board) some is in
-    first_layer board level shares share m w.0 w.1 w.2 own
+pub share_with : (task : Task) → IsLevel task.board → (shares share : ℕ) (first : Option Scene) (m : Scene) → IsFirst task first → first ≡ Some m → share_of shares m ≡ share → IsShareOfLayer task shares share 0 ((m, None) ∷ [])
+share_with task level shares share first m is some own =
+    let w : IsFirst task (Some m) = subst (IsFirst task) some is in
+    first_layer task level shares share m w.0 w.1 w.2 w.3 own
 
-pub share_beside : (board : Board) → IsLevel board → (shares share : ℕ) (first : Option Scene) (m : Scene) → IsFirst board first → first ≡ Some m → ¬ (share_of shares m ≡ share) → IsShareOfLayer board shares share 0 []
-share_beside board level shares share first m is some other =
-    let w : IsFirst board (Some m) = subst (IsFirst board) some is in
-    other_layer board level shares share m w.0 w.1 other
+pub share_beside : (task : Task) → IsLevel task.board → (shares share : ℕ) (first : Option Scene) (m : Scene) → IsFirst task first → first ≡ Some m → ¬ (share_of shares m ≡ share) → IsShareOfLayer task shares share 0 []
+share_beside task level shares share first m is some other =
+    let w : IsFirst task (Some m) = subst (IsFirst task) some is in
+    other_layer task level shares share m w.0 w.1 other
 
 pub first_few : (m : Option Scene) → length (first_entries m) ≤ 1
 first_few None = omega arith
@@ -122,9 +144,9 @@ none_summed zero = refl
 none_summed (suc n) = omega (arith, sum_by_first (λ (x : ℕ). x) 0 (replicate n 0), none_summed n)
 
 -- a new book is lawful
-pub lawful_new : (board : Board) (limit workers share shares : ℕ) (es : List Closed) → IsLevel board → AreBounds limit workers share shares → IsShareOfLayer board shares share 0 es → length es ≤ limit →
-    IsLawfulBook (record { level = board; limit = limit; workers = workers; share = share; shares = shares; closed = es ∷ []; begun = false; claimed = []; done = []; waiting = []; tallies = replicate workers 0; over = false })
-lawful_new board limit workers share shares es level bounds layer few = record {
+pub lawful_new : (task : Task) (limit workers share shares : ℕ) (es : List Closed) → IsLevel task.board → AreBounds limit workers share shares → IsShareOfLayer task shares share 0 es → length es ≤ limit →
+    IsLawfulBook (record { level = task; limit = limit; workers = workers; share = share; shares = shares; closed = es ∷ []; begun = false; claimed = []; done = []; waiting = []; tallies = replicate workers 0; over = false })
+lawful_new task limit workers share shares es level bounds layer few = record {
   level = level;
   bounds = bounds;
   some = omega arith;
@@ -142,8 +164,8 @@ lawful_new board limit workers share shares es level bounds layer few = record {
   over = λ e. cc;
 }
   where
-    closed : (k : ℕ) (xs : List Closed) → slice_get (es ∷ []) k ≡ Some xs → IsShareOfLayer board shares share k xs
-    closed zero xs at = subst (IsShareOfLayer board shares share 0) (same_Some es xs at) layer
+    closed : (k : ℕ) (xs : List Closed) → slice_get (es ∷ []) k ≡ Some xs → IsShareOfLayer task shares share k xs
+    closed zero xs at = subst (IsShareOfLayer task shares share 0) (same_Some es xs at) layer
     closed (suc k) xs at = absurd (none-some xs at)
 
 drop_none : {A : Type 0} (xs : List A) → drop 0 xs ≡ xs
@@ -152,19 +174,19 @@ drop_none (x ∷ xs) = refl
 
 -- ---- a new book, on the fields
 
-module _ (board : Board) (limit workers share shares : ℕ) (starts tallies : List ℕ) (es : List Closed) (claimed done : List Bool) (waiting : List (Entry Scene Push))
-    (layer : IsShareOfLayer board shares share 0 es × (length es ≤ 1))
+module _ (task : Task) (limit workers share shares : ℕ) (starts tallies : List ℕ) (es : List Closed) (claimed done : List Bool) (waiting : List (Entry Scene Push))
+    (layer : IsShareOfLayer task shares share 0 es × (length es ≤ 1))
     (starts_are : starts ≡ replicate 1 0) (tallies_are : tallies ≡ replicate workers 0) (no_claims : claimed ≡ []) (none_done : done ≡ []) (none_waits : waiting ≡ []) where
   abbrev fresh : BookView
-  fresh = record { level = board; limit = limit; workers = workers; share = share; shares = shares; closed = cut_at starts es; begun = false; claimed = claimed; done = done; waiting = waiting; tallies = tallies; over = false }
+  fresh = record { level = task; limit = limit; workers = workers; share = share; shares = shares; closed = cut_at starts es; begun = false; claimed = claimed; done = done; waiting = waiting; tallies = tallies; over = false }
 
   closed_is : cut_at starts es ≡ es ∷ []
   closed_is = ap (λ s. cut_at s es) starts_are ∙ ap (λ xs. xs ∷ []) (drop_none es)
 
-  pub fresh_lawful : IsLevel board → AreBounds limit workers share shares → IsLawfulBook fresh
+  pub fresh_lawful : IsLevel task.board → AreBounds limit workers share shares → IsLawfulBook fresh
   fresh_lawful level bounds = subst IsLawfulBook
-      (λ i. record { level = board; limit = limit; workers = workers; share = share; shares = shares; closed = sym closed_is i; begun = false; claimed = sym no_claims i; done = sym none_done i; waiting = sym none_waits i; tallies = sym tallies_are i; over = false })
-      (lawful_new board limit workers share shares es level bounds layer.0 (omega (arith, layer.1, bounds.limits.0)))
+      (λ i. record { level = task; limit = limit; workers = workers; share = share; shares = shares; closed = sym closed_is i; begun = false; claimed = sym no_claims i; done = sym none_done i; waiting = sym none_waits i; tallies = sym tallies_are i; over = false })
+      (lawful_new task limit workers share shares es level bounds layer.0 (omega (arith, layer.1, bounds.limits.0)))
 
   pub fresh_cuts : AreCuts starts (length es)
   fresh_cuts = subst (λ s. AreCuts s (length es)) (sym starts_are) (record { first = refl; rise = λ j p q at next. absurd (none-some q next); within = λ j p at. within j p at })
@@ -173,7 +195,7 @@ module _ (board : Board) (limit workers share shares : ℕ) (starts tallies : Li
       within zero p at = omega (arith, same_Some 0 p at)
       within (suc j) p at = absurd (none-some p at)
 
-  pub fresh_new : IsNew board limit workers share shares fresh
+  pub fresh_new : IsNew task limit workers share shares fresh
   fresh_new = record {
     made_with = (refl, refl, refl, refl, refl);
     closed = (es, closed_is, layer.0);
@@ -184,8 +206,8 @@ module _ (board : Board) (limit workers share shares : ℕ) (starts tallies : Li
   }
 
 -- ---- new books, one share after the other
-pub one_share_more : (board : Board) (limit workers share shares : ℕ) (books : List BookView) (book : BookView) → length books ≡ share → AreNewInOrder board limit workers shares books → IsNew board limit workers share shares book → AreNewInOrder board limit workers shares (books ++ book ∷ [])
-one_share_more board limit workers share shares books book long before last = λ i v at. elim (at-push books book i v at) [
+pub one_share_more : (task : Task) (limit workers share shares : ℕ) (books : List BookView) (book : BookView) → length books ≡ share → AreNewInOrder task limit workers shares books → IsNew task limit workers share shares book → AreNewInOrder task limit workers shares (books ++ book ∷ [])
+one_share_more task limit workers share shares books book long before last = λ i v at. elim (at-push books book i v at) [
   | inl old ↦ before i v old
-  | inr new ↦ subst (λ k. IsNew board limit workers k shares v) (sym (new.0 ∙ long)) (subst (IsNew board limit workers share shares) (sym new.1) last)
+  | inr new ↦ subst (λ k. IsNew task limit workers k shares v) (sym (new.0 ∙ long)) (subst (IsNew task limit workers share shares) (sym new.1) last)
 ]

@@ -5,7 +5,6 @@ use Rattle.std.specs.Prelude.{slice_get}
 use Rattle.grid.specs.Board.{Scene}
 use Rattle.grid.specs.Lawful.{box_count}
 use Rattle.grid.specs.declared.limits.TheConstants.{MAX_BOXES}
-use Rattle.std.specs.Arc.{arc_value}
 use Rattle.layers.specs.LayerView.{LayerView}
 use Rattle.layers.specs.declared.layer.Layer.TheInside.{Inside}
 use Rattle.layers.specs.inside.Insides.{squares_of, scenes_of, layer_view, IsSoundLayer}
@@ -85,7 +84,7 @@ abbrev pub row_scene : ℕ → ℕ → List ℕ → Scene
 row_scene boxes rank xs = record { boxes = take boxes (drop (rank * (boxes + 1)) xs); player = get_or (drop (rank * (boxes + 1)) xs) boxes 0 }
 
 -- the row of a rank of a layer
-pub layer_row : (a : Inside) (v : LayerView) → IsSoundLayer a → layer_view a ≡ v → (boxes rank : ℕ) → boxes ≡ box_count (arc_value a.level) → rank < length v.places → (xs : List ℕ) → xs ≡ a.squares.items →
+pub layer_row : (a : Inside) (v : LayerView) → IsSoundLayer a → layer_view a ≡ v → (boxes rank : ℕ) → boxes ≡ box_count a.task.board → rank < length v.places → (xs : List ℕ) → xs ≡ a.squares.items →
     (slice_get v.places rank ≡ Some (row_scene boxes rank xs)) × (rank * (boxes + 1) + (boxes + 1) ≤ length xs) × (boxes ≤ MAX_BOXES)
 layer_row a v sound view boxes rank e within xs same = (
   ap (λ (u : LayerView). slice_get u.places rank) (sym view) ∙ ap (λ n. slice_get (scenes_of n a.count a.squares.items) rank) (sym e) ∙ scene_at boxes a.count a.squares.items rank lt
@@ -95,7 +94,7 @@ layer_row a v sound view boxes rank e within xs same = (
 )
   where
     lt : rank < a.count
-    lt = omega (arith, within, ap (λ (u : LayerView). length u.places) view, length-scenes_of (box_count (arc_value a.level)) a.count a.squares.items)
+    lt = omega (arith, within, ap (λ (u : LayerView). length u.places) view, length-scenes_of (box_count a.task.board) a.count a.squares.items)
 
     long : length xs ≡ a.count * suc boxes
     long = ap length same ∙ sound.squares ∙ ap (λ n. a.count * suc n) (sym e)

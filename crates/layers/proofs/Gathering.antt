@@ -11,6 +11,7 @@ use Rattle.grid.specs.Lawful.{IsLevel}
 use Rattle.layers.specs.declared.parcel.Successor.{Successor}
 use Rattle.layers.specs.LayerView.{LayerView, IsWhole}
 use Rattle.layers.specs.ParcelView.{AreSuccessors, FitLevel, IsParcel}
+use Rattle.layers.specs.Tasks.{Task, uncapped}
 use Rattle.layers.specs.Reaching.{IsLayerOf}
 use Rattle.layers.specs.Origins.{IsSuccessor}
 use Rattle.layers.proofs.lemmas.Successors.{successor_unique}
@@ -54,12 +55,12 @@ module _ (board : Board) (n : Scene) (scene : IsScene board n) (ps : List Push) 
       (λ s h. subst (λ (q : Push). push_cmp s.push q ≡ Less) (sym named) (pushes.rise h.1.0 k s.push p h.1.1 h.1.2 at))
 
   -- the successors by all the pushes are all successors
-  pub by_all : (k : ℕ) (ss : List Successor) → length ps ≤ k → ArePushes board n ps → ((p : Push) (m : Scene) → IsSuccessor board n p m → CanPush board n p) → AreSuccessorsBy board n k ps ss → AreSuccessors board n ss
-  by_all k ss long pushes can all = record {
-    each = λ i s e. (all.each i s e).0;
+  pub by_all : (k : ℕ) (ss : List Successor) → length ps ≤ k → ArePushes board n ps → ((p : Push) (m : Scene) → IsSuccessor board n p m → CanPush board n p) → AreSuccessorsBy board n k ps ss → (layer : ℕ) → AreSuccessors (uncapped board) layer n ss
+  by_all k ss long pushes can all layer = record {
+    each = λ i s e. ((all.each i s e).0, tt);
     rise = all.rise;
-    whole = λ p m come. (let w = pushes.whole p (can p m come) in
-        all.whole (record { push = p; position = m }) (come, (w.0, (let lt = slice_get_within ps w.0 p w.1 in omega (arith, lt, long)), w.1)));
+    whole = λ p m come. (let w = pushes.whole p (can p m come.0) in
+        all.whole (record { push = p; position = m }) (come.0, (w.0, (let lt = slice_get_within ps w.0 p w.1 in omega (arith, lt, long)), w.1)));
   }
 
 -- one more successor that is a position of the level
@@ -68,17 +69,17 @@ fit_more board ss new fit here i s e = elim (pushed_at ss new s i e) [ inl h ↦
 
 -- ---- the parcel of a rank
 
-module _ (v : LayerView) (whole : IsWhole v) (rank : ℕ) (n : Scene) (here : slice_get v.places rank ≡ Some n) (level : Board) (same : level ≡ v.level) where
+module _ (v : LayerView) (whole : IsWhole v) (rank : ℕ) (n : Scene) (here : slice_get v.places rank ≡ Some n) (level : Task) (same : level ≡ v.level) where
   -- the successors of the position make a parcel
-  pub is_parcel : (number : ℕ) (ss : List Successor) → number ≡ v.number → AreSuccessors level n ss → FitLevel level ss → IsParcel (record { level = level; layer = number; rank = rank; successors = ss })
+  pub is_parcel : (number : ℕ) (ss : List Successor) → number ≡ v.number → AreSuccessors level number n ss → FitLevel level.board ss → IsParcel (record { level = level; layer = number; rank = rank; successors = ss })
   is_parcel number ss named come fit = record {
-    lawful = subst IsLevel (sym same) whole.lawful;
+    lawful = subst (λ (task : Task). IsLevel task.board) (sym same) whole.lawful;
     places = v.places;
-    layer = subst (λ (board : Board). IsLayerOf board number v.places) (sym same) (subst (λ (k : ℕ). IsLayerOf v.level k v.places) (sym named) whole.layer);
+    layer = subst (λ (task : Task). IsLayerOf task number v.places) (sym same) (subst (λ (k : ℕ). IsLayerOf v.level k v.places) (sym named) whole.layer);
     place = (n, here, come);
     fits = fit;
   }
 
   -- of which the layer tells
-  pub successors_of : (ss : List Successor) → AreSuccessors level n ss → (m : Scene) → slice_get v.places rank ≡ Some m → AreSuccessors v.level m ss
-  successors_of ss come m there = subst (λ (s : Scene). AreSuccessors v.level s ss) (same_Some n m (sym here ∙ there)) (subst (λ (board : Board). AreSuccessors board n ss) same come)
+  pub successors_of : (ss : List Successor) → AreSuccessors level v.number n ss → (m : Scene) → slice_get v.places rank ≡ Some m → AreSuccessors v.level v.number m ss
+  successors_of ss come m there = subst (λ (s : Scene). AreSuccessors v.level v.number s ss) (same_Some n m (sym here ∙ there)) (subst (λ (task : Task). AreSuccessors task v.number n ss) same come)

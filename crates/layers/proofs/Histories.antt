@@ -6,7 +6,8 @@ use Rattle.std.specs.Prelude.{slice_get}
 use Rattle.std.specs.declared.cmp.Ordering.TheVariants.{Less}
 use Rattle.std.specs.Cmp.Lexicographic.{slice_cmp}
 use Rattle.grid.specs.declared.square.Push.{Push}
-use Rattle.grid.specs.Board.{Board, Scene, push_cmp}
+use Rattle.grid.specs.Board.{Scene, push_cmp}
+use Rattle.layers.specs.Tasks.{Task}
 use Rattle.grid.specs.Lawful.{IsLevel}
 use Rattle.layers.specs.declared.fault.Refusal.{Refusal}
 use Rattle.layers.specs.declared.fault.Refusal.TheVariants.{OtherLevel, OtherLayer, NoSuchRank, Double, Over, OutOfMemory}
@@ -99,20 +100,20 @@ none_before [] (q ∷ qs) a b e = omega arith
 none_before (p ∷ ps) qs a b e = omega arith
 
 -- layer 0 has no more than one position
-first_few : (board : Board) (shares share : ℕ) (es : List Closed) → IsShareOfLayer board shares share 0 es → length es ≤ 1
-first_few board shares share [] l = omega arith
-first_few board shares share (x ∷ []) l = omega arith
-first_few board shares share (x ∷ y ∷ es) l =
+first_few : (task : Task) (shares share : ℕ) (es : List Closed) → IsShareOfLayer task shares share 0 es → length es ≤ 1
+first_few task shares share [] l = omega arith
+first_few task shares share (x ∷ []) l = omega arith
+first_few task shares share (x ∷ y ∷ es) l =
     let u = (l.layer.leads 0 x.0 refl).1 in let w = (l.layer.leads 1 y.0 refl).1 in
     absurd (none_before u.0 w.0 u.2 w.2 (l.layer.rise 0 1 x.0 y.0 u.0 w.0 (omega arith) refl refl u.1 w.1))
 
-pub new_lawful : (level : Board) (limit workers share shares : ℕ) (v : BookView) → IsLevel level → AreBounds limit workers share shares → IsNew level limit workers share shares v → IsLawfulBook v
-new_lawful level limit workers share shares v lawful bounds new =
+pub new_lawful : (task : Task) (limit workers share shares : ℕ) (v : BookView) → IsLevel task.board → AreBounds limit workers share shares → IsNew task limit workers share shares v → IsLawfulBook v
+new_lawful task limit workers share shares v lawful bounds new =
     let m = new.made_with in let c = new.closed in let n = new.nothing in
-    let few = first_few level shares share c.0 c.2 in
+    let few = first_few task shares share c.0 c.2 in
     subst IsLawfulBook
     (λ i. record { level = sym m.0 i; limit = sym m.1 i; workers = sym m.2 i; share = sym m.3 i; shares = sym m.4 i; closed = sym c.1 i; begun = sym new.begun i; claimed = sym n.0 i; done = sym n.1 i; waiting = sym n.2 i; tallies = sym new.tallies i; over = sym new.over i })
-    (lawful_new level limit workers share shares c.0 lawful bounds c.2 (let some = bounds.limits.0 in omega arith))
+    (lawful_new task limit workers share shares c.0 lawful bounds c.2 (let some = bounds.limits.0 in omega arith))
 
 -- ---- the order of events
 
@@ -126,30 +127,30 @@ push_same (a ∷ xs) (b ∷ ys) x y e =
     (λ i. head i ∷ rest.0 i, rest.1)
 
 -- a position has one origin in the layer before
-one_origin : (board : Board) → IsLevel board → (k : ℕ) (xs : List Scene) → IsLayerOf board k xs → (m : Scene) (o p : Origin Push) → HasOrigin board k m o → HasOrigin board k m p → o ≡ p
-one_origin board level k xs layer m o p a b =
-    let laws = level_laws board level in
+one_origin : (task : Task) → IsLevel task.board → (k : ℕ) (xs : List Scene) → IsLayerOf task k xs → (m : Scene) (o p : Origin Push) → HasOrigin task k m o → HasOrigin task k m p → o ≡ p
+one_origin task level k xs layer m o p a b =
+    let laws = level_laws task level in
     let u = a xs layer in let w = b xs layer in
     let lead = (layer.leads o.0 u.0 u.1).1 in let other = (layer.leads p.0 w.0 w.1).1 in
     let e = push_same lead.0 other.0 o.1 p.1 (lead_unique laws m (lead.0 ++ o.1 ∷ []) (other.0 ++ p.1 ∷ []) (u.2 lead.0 lead.1) (w.2 other.0 other.1)) in
-    let n : u.0 ≡ w.0 = laws.same other.0 u.0 w.0 (subst (λ ps. Reaches board ps u.0) e.0 lead.1.reached) other.1.reached in
+    let n : u.0 ≡ w.0 = laws.same other.0 u.0 w.0 (subst (λ ps. Reaches task.board ps u.0) e.0 lead.1.reached) other.1.reached in
     let rank = place_unique laws k xs layer o.0 p.0 w.0 (u.1 ∙ ap (λ (z : Scene). Some z) n) w.1 in
     λ i. (rank i, e.1 i)
 
-closed_origin : (board : Board) → IsLevel board → (k : ℕ) → ((j : ℕ) → k ≡ suc j → (xs : List Scene) × IsLayerOf board j xs) → (m : Scene) (o p : Option (Origin Push)) → HasClosedOrigin board k m o → HasClosedOrigin board k m p → o ≡ p
-closed_origin board level zero before m o p a b = a ∙ sym b
-closed_origin board level (suc k) before m None p a b = absurd a
-closed_origin board level (suc k) before m (Some o) None a b = absurd b
-closed_origin board level (suc k) before m (Some o) (Some p) a b = let w = before k refl in ap Some (one_origin board level k w.0 w.1 m o p a b)
+closed_origin : (task : Task) → IsLevel task.board → (k : ℕ) → ((j : ℕ) → k ≡ suc j → (xs : List Scene) × IsLayerOf task j xs) → (m : Scene) (o p : Option (Origin Push)) → HasClosedOrigin task k m o → HasClosedOrigin task k m p → o ≡ p
+closed_origin task level zero before m o p a b = a ∙ sym b
+closed_origin task level (suc k) before m None p a b = absurd a
+closed_origin task level (suc k) before m (Some o) None a b = absurd b
+closed_origin task level (suc k) before m (Some o) (Some p) a b = let w = before k refl in ap Some (one_origin task level k w.0 w.1 m o p a b)
 
 -- a closed list is one only
-one_list : (board : Board) → IsLevel board → (shares share k : ℕ) → ((j : ℕ) → k ≡ suc j → (xs : List Scene) × IsLayerOf board j xs) → (es fs : List Closed) → IsShareOfLayer board shares share k es → IsShareOfLayer board shares share k fs → es ≡ fs
-one_list board level shares share k before es fs a b =
-    let e = layer_unique (level_laws board level) k (places_of es) (places_of fs) a.layer b.layer in
+one_list : (task : Task) → IsLevel task.board → (shares share k : ℕ) → ((j : ℕ) → k ≡ suc j → (xs : List Scene) × IsLayerOf task j xs) → (es fs : List Closed) → IsShareOfLayer task shares share k es → IsShareOfLayer task shares share k fs → es ≡ fs
+one_list task level shares share k before es fs a b =
+    let e = layer_unique (level_laws task level) k (places_of es) (places_of fs) a.layer b.layer in
     same_places es fs (sym (length-map es (λ (x : Closed). x.0)) ∙ ap length e ∙ length-map fs (λ (x : Closed). x.0))
     (λ i x y at_x at_y.
     let place = same_Some x.0 y.0 (sym (map_at (λ (z : Closed). z.0) es i x at_x) ∙ ap (λ zs. slice_get zs i) e ∙ map_at (λ (z : Closed). z.0) fs i y at_y) in
-    let origin = closed_origin board level k before y.0 x.1 y.1 (subst (λ m. HasClosedOrigin board k m x.1) place (a.origins i x.0 x.1 at_x)) (b.origins i y.0 y.1 at_y) in
+    let origin = closed_origin task level k before y.0 x.1 y.1 (subst (λ m. HasClosedOrigin task k m x.1) place (a.origins i x.0 x.1 at_x)) (b.origins i y.0 y.1 at_y) in
     λ n. (place n, origin n))
 
 pub closed_alike : (v w : BookView) → IsLawfulBook v → IsLawfulBook w → v.level ≡ w.level → v.share ≡ w.share → v.shares ≡ w.shares → CloseAlike v w

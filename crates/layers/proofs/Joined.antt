@@ -72,9 +72,9 @@ module _ (books : List BookView) (all : AreAllShares books) (lawful : AreLawfulB
     origin : (i : ℕ) (m : Scene) (o : Option (Origin Push)) → slice_get es i ≡ Some (m, o) → HasClosedOrigin first.level (last_layer first) m o
     origin = merged_origin first.level first_is.level first.shares (last_layer first) lists (last_shares books all lawful) es merged
 
-    fits : (r : ℕ) (m : Scene) → slice_get (places_of es) r ≡ Some m → FitsLevel first.level m
+    fits : (r : ℕ) (m : Scene) → slice_get (places_of es) r ≡ Some m → FitsLevel first.level.board m
     fits r m at = let x = at_map (λ (e : Closed). e.0) es r m at in
-        subst (FitsLevel first.level) x.2 (merged_fits first.level first_is.level first.shares (last_layer first) lists (last_shares books all lawful) es merged r x.0.0 x.0.1 x.1)
+        subst (FitsLevel first.level.board) x.2 (merged_fits first.level first_is.level first.shares (last_layer first) lists (last_shares books all lawful) es merged r x.0.0 x.0.1 x.1)
 
     -- the layers before it
     abbrev earlier : List (List Scene)
@@ -106,15 +106,15 @@ module _ (books : List BookView) (all : AreAllShares books) (lawful : AreLawfulB
           sum_by-word (λ (v : BookView). total v.closed) books small_book,
         )
 
-    pub joined_boxes : HaveBoxes (box_count first.level) (places_of es)
+    pub joined_boxes : HaveBoxes (box_count first.level.board) (places_of es)
     joined_boxes i m at = (fits i m at).boxes
 
     -- the layer that shows these positions and origins is whole
     pub joined_whole : (v : LayerView) → v.level ≡ first.level → v.number ≡ last_layer first → v.places ≡ places_of es → v.origins ≡ origins_of es → IsWhole v
     joined_whole v level number places origins = record {
-      lawful = subst IsLevel (sym level) first_is.level;
+      lawful = subst (λ b. IsLevel b.board) (sym level) first_is.level;
       layer = subst (λ b. IsLayerOf b v.number v.places) (sym level) (subst (λ k. IsLayerOf first.level k v.places) (sym number) (subst (IsLayerOf first.level (last_layer first)) (sym places) layer));
-      fits = λ r m at. subst (λ b. FitsLevel b m) (sym level) (fits r m (ap (λ xs. slice_get xs r) (sym places) ∙ at));
+      fits = λ r m at. subst (λ b. FitsLevel b.board m) (sym level) (fits r m (ap (λ xs. slice_get xs r) (sym places) ∙ at));
       first = λ z. origins ∙ no_origins first.level es (λ i m o at. subst (λ k. HasClosedOrigin first.level k m o) (sym number ∙ z) (origin i m o at));
       later = λ k e. subst (λ b. HaveOrigins b k v.places v.origins) (sym level) (subst (λ ps. HaveOrigins first.level k ps v.origins) (sym places) (subst (HaveOrigins first.level k (places_of es)) (sym origins)
           (all_origins first.level k es (λ i m o at. subst (λ j. HasClosedOrigin first.level j m o) (sym number ∙ e) (origin i m o at)))));

@@ -16,3 +16,5 @@ pub mod Ordered
 pub mod Exchanging
 pub mod Merged
 pub mod Joined
+pub mod Bringing
+pub mod Picking

@@ -64,13 +64,13 @@ module _ {P : Type 0} {cmp : P → P → Ordering} (total : IsTotalOrder cmp) wh
 
 -- offers that lead nowhere are as good as none, and the names of those that count may change
 pub reoffered : {N P : Type 0} {cmp : P → P → Ordering} {Edge : N → P → N → Type 0} {Kept : N → Type 0} {layer : ℕ → List N} {k : ℕ} {Offered : ℕ → P → Type 0} {look : N → Option (Origin P)} (Others : ℕ → P → Type 0) →
-    ((r : ℕ) (p : P) → Offered r p → Others r p) → ((r : ℕ) (p : P) (n m : N) → Others r p → slice_get (layer k) r ≡ Some n → Edge n p m → Offered r p) →
+    ((r : ℕ) (p : P) → Offered r p → Others r p) → ((r : ℕ) (p : P) (n m : N) → Others r p → slice_get (layer k) r ≡ Some n → Edge n p m → Kept m → Offered r p) →
     IsOpen cmp Edge Kept layer k Offered look → IsOpen cmp Edge Kept layer k Others look
 reoffered Others more fewer o = record {
   from = λ m r p e. (let f = o.from m r p e in (f.0, more r p f.1, f.2));
   fresh = o.fresh;
-  least = λ m r p e s q n offer at edge. o.least m r p e s q n (fewer s q n m offer at edge) at edge;
-  whole = λ r p n m offer at edge kept. o.whole r p n m (fewer r p n m offer at edge) at edge kept;
+  least = λ m r p e s q n offer at edge. o.least m r p e s q n (fewer s q n m offer at edge (o.from m r p e).0) at edge;
+  whole = λ r p n m offer at edge kept. o.whole r p n m (fewer r p n m offer at edge kept) at edge kept;
 }
 
 -- one origin more is offered

@@ -12,8 +12,10 @@ use Rattle.grid.proofs.lemmas.Plays.{play-append, play_last, play_scene, walk_of
 use Rattle.area.proofs.lemmas.Norms.{norm_unique, norm_exists, norm_along_walk, norm_walk, norm_walk_back}
 use Rattle.doom.specs.Deadlocks.{Doomed, Undoomed}
 use Rattle.layers.specs.Openings.{IsLayered}
-use Rattle.layers.specs.Reaching.{Reaches, Admits}
+use Rattle.layers.specs.Tasks.{Task, Admits}
+use Rattle.layers.specs.Reaching.{Reaches}
 use Rattle.layers.specs.Origins.{IsSuccessor}
+use Rattle.layers.proofs.lemmas.Admissions.{admitted_before, admitted_earlier}
 
 module _ {board : Board} where
   -- a walk from a state that is not doomed passes no doomed one
@@ -56,14 +58,14 @@ module _ {board : Board} where
         let w = reaches-cut s.0 s.1 m (subst (λ es. Reaches board es m) s.2 reach) in
         (s.0, s.1, w.0, s.2, w.1, w.2)
 
-    -- so the layers of a level are layers in the order of leads
-    pub reaching_laws : IsLayered push_cmp (Reaches board) (IsSuccessor board) (Admits board)
-    reaching_laws = record {
-      total = push_cmp_total;
-      exact = push_cmp_exact;
-      grow = reaches-grow;
-      split = reaches-split;
-      same = reaches-same;
-      closed = λ k ps n p m reach edge adm. tt;
-      earlier = λ j k n le adm. tt;
-    }
+-- so the layers of a level under a cap are layers in the order of leads
+pub reaching_laws : (task : Task) → IsScene task.board (start task.board) → IsLayered push_cmp (Reaches task.board) (IsSuccessor task.board) (Admits task)
+reaching_laws task scene = record {
+  total = push_cmp_total;
+  exact = push_cmp_exact;
+  grow = reaches-grow;
+  split = reaches-split scene;
+  same = reaches-same scene;
+  closed = admitted_before task scene;
+  earlier = admitted_earlier task;
+}

@@ -1,6 +1,7 @@
 -- The lemmas that the proofs of upper crates cite.
 pub mod Lists
 pub mod Layers
+pub mod Admissions
 pub mod Exchange
 pub mod Books
 pub mod Successors

@@ -3,12 +3,13 @@ use Rattle.std.specs.Prelude.{◌≡◌, ℕ, zero, suc, ◌+◌, ◌-◌, ◌^�
 use Rattle.std.specs.Map.{lookup}
 use Rattle.std.specs.Option.{option_to_list}
 use Rattle.grid.specs.declared.square.Push.{Push}
-use Rattle.grid.specs.Board.{Board, Scene, push_cmp}
+use Rattle.grid.specs.Board.{Scene, push_cmp}
 use Rattle.grid.specs.States.{FitsLevel}
 use Rattle.grid.specs.Lawful.{IsLevel}
 use Rattle.layers.specs.declared.limits.TheConstants.{MAX_SHARES, MAX_WORKERS, MOST_POSITIONS}
 use Rattle.layers.specs.Layered.{IsIn, IsLayer}
 use Rattle.layers.specs.Openings.{Origin, Entry, IsOpen}
+use Rattle.layers.specs.Tasks.{Task, Admits}
 use Rattle.layers.specs.Reaching.{Reaches, AreLayersOf, total}
 use Rattle.layers.specs.Origins.{IsSuccessor, HasOrigin, same_scene, share_of}
 use Rattle.layers.specs.Distances.{AreDistinct, IsAtDistance}
@@ -17,11 +18,11 @@ use Rattle.layers.specs.Distances.{AreDistinct, IsAtDistance}
 abbrev pub Closed : Type 0
 Closed = Scene × Option (Origin Push)
 
--- a book: what it was made with; its closed layers, layer 0 first; whether the last one has begun, and then marks
+-- a book: what it was made with, the level with its cap first; its closed layers, layer 0 first; whether the last one has begun, and then marks
 -- over its ranks; the positions that stand open, each with its least origin; for each worker the number of ranks that
 -- it handed back; and whether the limit was passed
 pub record BookView : Type 0 where
-  pub level : Board
+  pub level : Task
   pub limit : ℕ
   pub workers : ℕ
   pub share : ℕ
@@ -55,26 +56,30 @@ origins_of (e ∷ es) = option_to_list e.1 ++ origins_of es
 abbrev pub InShare : BookView → Scene → Type 0
 InShare v m = share_of v.shares m ≡ v.share
 
+-- a position of the book's share that is admitted in the layer after the last closed one
+abbrev pub IsKept : BookView → Scene → Type 0
+IsKept v m = InShare v m × Admits v.level (length v.closed) m
+
 -- the origin that a position stands open with, if it does
 abbrev pub origin_of : List (Entry Scene Push) → Scene → Option (Origin Push)
 origin_of waiting m = lookup (same_scene m) waiting
 
 -- a closed position of layer k beyond layer 0 has its parent's rank and its push; one of layer 0 has none
-abbrev pub HasClosedOrigin : Board → ℕ → Scene → Option (Origin Push) → Type 0
-HasClosedOrigin board zero m o = o ≡ None
-HasClosedOrigin board (suc k) m None = ⊥
-HasClosedOrigin board (suc k) m (Some o) = HasOrigin board k m o
+abbrev pub HasClosedOrigin : Task → ℕ → Scene → Option (Origin Push) → Type 0
+HasClosedOrigin task zero m o = o ≡ None
+HasClosedOrigin task (suc k) m None = ⊥
+HasClosedOrigin task (suc k) m (Some o) = HasOrigin task k m o
 
 -- es is layer k cut down to the positions of one share, in the order of the leads, each with its origin
-pub record IsShareOfLayer (level : Board) (shares share k : ℕ) (es : List Closed) : Type 0 where
-  pub layer : IsLayer push_cmp (Reaches level) (λ j m. share_of shares m ≡ share) k (places_of es)
-  pub origins : (i : ℕ) (m : Scene) (o : Option (Origin Push)) → slice_get es i ≡ Some (m, o) → HasClosedOrigin level k m o
-  pub fits : (i : ℕ) (m : Scene) (o : Option (Origin Push)) → slice_get es i ≡ Some (m, o) → FitsLevel level m
+pub record IsShareOfLayer (task : Task) (shares share k : ℕ) (es : List Closed) : Type 0 where
+  pub layer : IsLayer push_cmp (Reaches task.board) (λ j m. (share_of shares m ≡ share) × Admits task j m) k (places_of es)
+  pub origins : (i : ℕ) (m : Scene) (o : Option (Origin Push)) → slice_get es i ≡ Some (m, o) → HasClosedOrigin task k m o
+  pub fits : (i : ℕ) (m : Scene) (o : Option (Origin Push)) → slice_get es i ≡ Some (m, o) → FitsLevel task.board m
 
 -- the lists are all the shares of layer k, share 0 first
-pub record AreSharesOfLayer (level : Board) (shares k : ℕ) (lists : List (List Closed)) : Type 0 where
+pub record AreSharesOfLayer (task : Task) (shares k : ℕ) (lists : List (List Closed)) : Type 0 where
   pub all : length lists ≡ shares
-  pub each : (t : ℕ) (es : List Closed) → slice_get lists t ≡ Some es → IsShareOfLayer level shares t k es
+  pub each : (t : ℕ) (es : List Closed) → slice_get lists t ≡ Some es → IsShareOfLayer task shares t k es
 
 -- the rank was handed back
 abbrev pub IsDone : BookView → ℕ → Type 0
@@ -96,7 +101,7 @@ pub record AreBounds (limit workers share shares : ℕ) : Type 0 where
 -- a book is lawful.  wholes is the layers that it has seen whole: those before the last closed one, and that one
 -- too once it has begun.
 pub record IsLawfulBook (v : BookView) : Type 0 where
-  pub level : IsLevel v.level
+  pub level : IsLevel v.level.board
   pub bounds : AreBounds v.limit v.workers v.share v.shares
   pub some : 1 ≤ length v.closed
   pub closed : (k : ℕ) (es : List Closed) → slice_get v.closed k ≡ Some es → IsShareOfLayer v.level v.shares v.share k es
@@ -105,9 +110,9 @@ pub record IsLawfulBook (v : BookView) : Type 0 where
   pub few : total wholes ≤ MOST_POSITIONS
   pub begun : v.begun ≡ true → (length wholes ≡ length v.closed) × (length v.claimed ≡ length v.done) × (length v.done ≡ length (slice_index_or wholes (last_layer v) []))
   pub not_begun : v.begun ≡ false → (length wholes ≡ last_layer v) × (v.claimed ≡ []) × (v.done ≡ []) × (v.waiting ≡ [])
-  pub waiting : v.begun ≡ true → IsOpen push_cmp (IsSuccessor v.level) (InShare v) (λ j. slice_index_or wholes j []) (last_layer v) (λ r p. IsDone v r) (origin_of v.waiting)
+  pub waiting : v.begun ≡ true → IsOpen push_cmp (IsSuccessor v.level.board) (IsKept v) (λ j. slice_index_or wholes j []) (last_layer v) (λ r p. IsDone v r) (origin_of v.waiting)
   pub distinct : AreDistinct (map (λ e. e.0) v.waiting)
-  pub fits : (m : Scene) → IsIn (map (λ e. e.0) v.waiting) m → FitsLevel v.level m
+  pub fits : (m : Scene) → IsIn (map (λ e. e.0) v.waiting) m → FitsLevel v.level.board m
   pub tallies : (length v.tallies ≡ v.workers) × (sum v.tallies ≡ total (take (last_layer v) wholes) + count_by (λ b. b) v.done)
   pub within : total v.closed + length v.waiting ≤ v.limit
   pub over : v.over ≡ true → IsPassed v × ((r : ℕ) × (r < length v.done) × (slice_index_or v.done r true ≡ false))

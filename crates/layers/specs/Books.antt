@@ -22,6 +22,7 @@ use Rattle.layers.specs.declared.parcel.Successor.{Successor}
 use Rattle.std.specs.Ordering.{is_gt}
 use Rattle.layers.specs.Openings.{Origin, origin_cmp, Entry, lesser}
 use Rattle.layers.specs.Origins.{same_scene, share_of}
+use Rattle.layers.specs.Tasks.{Task}
 use Rattle.layers.specs.Reaching.{total}
 use Rattle.layers.specs.LayerView.{LayerView}
 use Rattle.layers.specs.ParcelView.{ParcelView}
@@ -31,21 +32,21 @@ use Rattle.layers.specs.Distances.{AreDistinct}
 -- ---- a new book
 
 -- a new book has closed layer 0 and has begun nothing
-pub record IsNew (level : Board) (limit workers share shares : ℕ) (v : BookView) : Type 0 where
-  pub made_with : (v.level ≡ level) × (v.limit ≡ limit) × (v.workers ≡ workers) × (v.share ≡ share) × (v.shares ≡ shares)
-  pub closed : (es : List Closed) × (v.closed ≡ es ∷ []) × IsShareOfLayer level shares share 0 es
+pub record IsNew (task : Task) (limit workers share shares : ℕ) (v : BookView) : Type 0 where
+  pub made_with : (v.level ≡ task) × (v.limit ≡ limit) × (v.workers ≡ workers) × (v.share ≡ share) × (v.shares ≡ shares)
+  pub closed : (es : List Closed) × (v.closed ≡ es ∷ []) × IsShareOfLayer task shares share 0 es
   pub begun : v.begun ≡ false
   pub nothing : (v.claimed ≡ []) × (v.done ≡ []) × (v.waiting ≡ [])
   pub tallies : v.tallies ≡ replicate workers 0
   pub over : v.over ≡ false
 
 -- each of the books is new, and is the share of its place in the list
-abbrev pub AreNewInOrder : Board → ℕ → ℕ → ℕ → List BookView → Type 0
-AreNewInOrder level limit workers shares books = (i : ℕ) (v : BookView) → slice_get books i ≡ Some v → IsNew level limit workers i shares v
+abbrev pub AreNewInOrder : Task → ℕ → ℕ → ℕ → List BookView → Type 0
+AreNewInOrder task limit workers shares books = (i : ℕ) (v : BookView) → slice_get books i ≡ Some v → IsNew task limit workers i shares v
 
 -- the new books of all shares, share 0 first
-abbrev pub AreNewShares : Board → ℕ → ℕ → ℕ → List BookView → Type 0
-AreNewShares level limit workers shares books = (length books ≡ shares) × AreNewInOrder level limit workers shares books
+abbrev pub AreNewShares : Task → ℕ → ℕ → ℕ → List BookView → Type 0
+AreNewShares task limit workers shares books = (length books ≡ shares) × AreNewInOrder task limit workers shares books
 
 -- why no book is made
 abbrev pub BookRefused : Board → BookFault → Type 0
@@ -58,11 +59,11 @@ closed_place lists k i = slice_get (places_of (slice_index_or lists k [])) i
 
 -- ---- begin
 
--- the layer is the last closed one of the same level, and has not begun
+-- the layer is the last closed one of the same level and cap, and has not begun
 abbrev pub MayBegin : BookView → LayerView → Type 0
 MayBegin v layer = (layer.level ≡ v.level) × (layer.number ≡ last_layer v) × (v.begun ≡ false)
 
--- the layer is the last closed one of the same level, and has begun
+-- the layer is the last closed one of the same level and cap, and has begun
 abbrev pub HasBegun : BookView → LayerView → Type 0
 HasBegun v layer = (layer.level ≡ v.level) × (layer.number ≡ last_layer v) × (v.begun ≡ true)
 
@@ -212,11 +213,11 @@ CloseRefused v CloseOutOfMemory = AllDone v
 
 -- ---- join
 
--- the book is share i beside the first one: of the same level, limit and number of shares, at the same last closed layer
+-- the book is share i beside the first one: of the same level, cap, limit and number of shares, at the same last closed layer
 abbrev pub IsShareBeside : BookView → ℕ → BookView → Type 0
 IsShareBeside first i v = (v.share ≡ i) × (v.level ≡ first.level) × (v.limit ≡ first.limit) × (v.shares ≡ first.shares) × (length v.closed ≡ length first.closed)
 
--- the books are all the shares, in order, of one level, limit and number of shares, at the same last closed layer
+-- the books are all the shares, in order, of one level, cap, limit and number of shares, at the same last closed layer
 pub record AreAllShares (books : List BookView) : Type 0 where
   pub first : BookView
   pub head : slice_get books 0 ≡ Some first

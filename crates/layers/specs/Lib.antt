@@ -1,5 +1,6 @@
 pub mod Layered
 pub mod Openings
+pub mod Tasks
 pub mod Reaching
 pub mod Origins
 pub mod LayerView

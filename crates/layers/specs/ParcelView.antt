@@ -6,21 +6,23 @@ use Rattle.grid.specs.Board.{Board, Scene, push_cmp}
 use Rattle.grid.specs.States.{FitsLevel}
 use Rattle.grid.specs.Lawful.{IsLevel}
 use Rattle.layers.specs.declared.parcel.Successor.{Successor}
+use Rattle.layers.specs.Tasks.{Task}
 use Rattle.layers.specs.Reaching.{IsLayerOf}
-use Rattle.layers.specs.Origins.{IsSuccessor}
+use Rattle.layers.specs.Origins.{IsSuccessor, IsSuccessorIn}
 
--- a parcel: the level, a layer's number, a rank of it, and the successors of the position with that rank
+-- a parcel: the level with its cap, a layer's number, a rank of it, and the successors of the position with that rank
 pub record ParcelView : Type 0 where
-  pub level : Board
+  pub level : Task
   pub layer : ℕ
   pub rank : ℕ
   pub successors : List Successor
 
--- ss is the undoomed successors of n with their pushes, each once, in the order of the pushes
-pub record AreSuccessors (board : Board) (n : Scene) (ss : List Successor) : Type 0 where
-  pub each : (i : ℕ) (s : Successor) → slice_get ss i ≡ Some s → IsSuccessor board n s.push s.position
+-- ss is those undoomed successors of a position n of layer k that are admitted in the next one, with their pushes, each
+-- once, in the order of the pushes
+pub record AreSuccessors (task : Task) (k : ℕ) (n : Scene) (ss : List Successor) : Type 0 where
+  pub each : (i : ℕ) (s : Successor) → slice_get ss i ≡ Some s → IsSuccessorIn task k n s.push s.position
   pub rise : (i j : ℕ) (s t : Successor) → i < j → slice_get ss i ≡ Some s → slice_get ss j ≡ Some t → push_cmp s.push t.push ≡ Less
-  pub whole : (p : Push) (m : Scene) → IsSuccessor board n p m → (i : ℕ) × (slice_get ss i ≡ Some (record { push = p; position = m }))
+  pub whole : (p : Push) (m : Scene) → IsSuccessorIn task k n p m → (i : ℕ) × (slice_get ss i ≡ Some (record { push = p; position = m }))
 
 -- each successor is a position of the level
 abbrev pub FitLevel : Board → List Successor → Type 0
@@ -31,10 +33,10 @@ abbrev pub IsAppended : Board → Scene → Push → List Successor → List Suc
 IsAppended board n p ss more =
     ((s : Successor) × (more ≡ ss ++ s ∷ []) × (s.push ≡ p) × IsSuccessor board n p s.position × FitsLevel board s.position) ⊎ ((more ≡ ss) × ((m : Scene) → ¬ (IsSuccessor board n p m)))
 
--- the parcel of a rank of its layer holds exactly the undoomed successors of the position there
+-- the parcel of a rank of its layer holds exactly the undoomed successors of the position there that are admitted
 pub record IsParcel (v : ParcelView) : Type 0 where
-  pub lawful : IsLevel v.level
+  pub lawful : IsLevel v.level.board
   pub places : List Scene
   pub layer : IsLayerOf v.level v.layer places
-  pub place : (n : Scene) × (slice_get places v.rank ≡ Some n) × AreSuccessors v.level n v.successors
-  pub fits : FitLevel v.level v.successors
+  pub place : (n : Scene) × (slice_get places v.rank ≡ Some n) × AreSuccessors v.level v.layer n v.successors
+  pub fits : FitLevel v.level.board v.successors

@@ -7,26 +7,23 @@ use Rattle.grid.specs.Plays.{Play}
 use Rattle.area.specs.Area.{IsNorm}
 use Rattle.doom.specs.Deadlocks.{Undoomed}
 use Rattle.layers.specs.Layered.{IsLead, IsLayer}
+use Rattle.layers.specs.Tasks.{Task, Admits}
 
 -- ps are the pushes of a play from the start, through undoomed positions alone, to a state of the normal form n
 abbrev pub Reaches : Board → List Push → Scene → Type 0
 Reaches board ps n = (ds : List Dir) × (t : Scene) × Play board (Undoomed board) (start board) ds ps t × IsNorm board t n
 
--- what a level admits at k pushes: each position
-abbrev pub Admits : Board → ℕ → Scene → Type 0
-Admits board k n = Unit {0}
-
 -- ps is the lead of n: the least push list through undoomed positions that leads there
 abbrev pub IsLeadOf : Board → Scene → List Push → Type 0
 IsLeadOf board n ps = IsLead push_cmp (Reaches board) n ps
 
--- xs is layer k of the level: the admitted normal forms whose leads have length k, in the order of their leads
-abbrev pub IsLayerOf : Board → ℕ → List Scene → Type 0
-IsLayerOf board k xs = IsLayer push_cmp (Reaches board) (Admits board) k xs
+-- xs is layer k of the level under its cap: the admitted normal forms whose leads have length k, in the order of their leads
+abbrev pub IsLayerOf : Task → ℕ → List Scene → Type 0
+IsLayerOf task k xs = IsLayer push_cmp (Reaches task.board) (Admits task) k xs
 
 -- layers holds the first layers of the level, layer 0 first
-abbrev pub AreLayersOf : Board → List (List Scene) → Type 0
-AreLayersOf board layers = (j : ℕ) (xs : List Scene) → slice_get layers j ≡ Some xs → IsLayerOf board j xs
+abbrev pub AreLayersOf : Task → List (List Scene) → Type 0
+AreLayersOf task layers = (j : ℕ) (xs : List Scene) → slice_get layers j ≡ Some xs → IsLayerOf task j xs
 
 -- how many elements the lists have together
 abbrev pub total : {A : Type 0} → List (List A) → ℕ

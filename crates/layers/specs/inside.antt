@@ -5,4 +5,5 @@ pub mod Packed
 pub mod Merging
 pub mod Placing
 pub mod ParcelInside
+pub mod Pruned
 pub mod Sums

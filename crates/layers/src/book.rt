@@ -3,6 +3,7 @@ ghost use Rattle.grid.specs.Board.{start};
 ghost use Rattle.grid.specs.Lawful.{box_count};
 ghost use Rattle.grid.specs.States.{FitsLevel};
 ghost use Rattle.layers.specs.BookView.{AreBounds, IsLawfulBook, IsShareOfLayer, last_layer};
+ghost use Rattle.layers.specs.Tasks.{HasBound, capped};
 ghost use Rattle.layers.specs.Books.{AreNewShares, IsNew, BookRefused, closed_place};
 ghost use Rattle.layers.specs.inside.BookInside.{AreCuts, IsFirst, IsPiece};
 ghost use Rattle.layers.specs.FoundView.{first_entries};
@@ -11,9 +12,13 @@ ghost use Rattle.std.specs.Arc.{arc_value};
 use crate::entering::share_of;
 use crate::fault::BookFault;
 use crate::found::Found;
+use crate::layer::Layer;
 use crate::limits::{MAX_SHARES, MAX_WORKERS};
+use crate::pruner::Pruner;
+use crate::pruning::{bound_for, is_admitted};
+use crate::task::Task;
 use area::{Scratch, normal};
-use doom::{Dead, doomed};
+use doom::{Bound, Dead, doomed};
 use grid::{Level, MAX_BOXES, Position};
 use std::alloc::{AllocError, Global};
 use std::marker::Model;
@@ -37,7 +42,7 @@ pub struct Closed {
 /// marks over the ranks of the last one while its successors are entered, and the positions that stand open.
 #[derive(Debug, Drop)]
 pub struct Book {
-    pub(crate) level: Arc<Level>,
+    pub(crate) task: Task,
     pub(crate) limit: u32,
     pub(crate) workers: u8,
     pub(crate) share: u8,
@@ -67,12 +72,13 @@ impl Model for Book {
 }
 
 impl Book {
-    /// A book of a share of the level's positions, with layer 0 closed, which is empty where the start is doomed or
-    /// of another share. The only errors are that the level has more boxes than [`MAX_BOXES`](grid::MAX_BOXES), and
+    /// A book of a share of the level's positions, with layer 0 closed, which is empty where the start is doomed, needs
+    /// more pushes than the cap by what lone boxes need, or is of another share. The only errors are that the level has more boxes than [`MAX_BOXES`](grid::MAX_BOXES), and
     /// that memory was refused.
     pub fn of(
         alloc: Global,
         level: Arc<Level>,
+        cap: Option<u32>,
         limit: u32,
         workers: u8,
         share: u8,
@@ -82,7 +88,7 @@ impl Book {
         requires workers { (1 ≤ workers) × (workers ≤ MAX_WORKERS + 1) }
         requires share { share < shares }
         requires shares { shares ≤ MAX_SHARES }
-        ensures ok { IfOk result (λ book. IsNew (arc_value level) limit workers share shares book) }
+        ensures ok { IfOk result (λ book. IsNew (capped (arc_value level) cap) limit workers share shares book) }
         ensures variant { MatchResult result (λ book. box_count (arc_value level) ≤ MAX_BOXES) (λ fault. BookRefused (arc_value level) fault) }
     {
         level.tell();
@@ -91,32 +97,34 @@ impl Book {
             return Err(BookFault::TooManyBoxes);
         };
         let dead = Dead::of(alloc, &level)?;
+        let bound = bound_for(alloc, &level, cap)?;
         let mut scratch = Scratch::new(alloc, &level)?;
-        let first = first_position(&level, &dead, &start, &mut scratch);
-        match Book::with_first(alloc, level, &first, limit, workers, share, shares) {
+        let task = Task::of(level, cap);
+        let first = first_position(&task, &dead, &bound, &start, &mut scratch);
+        match Book::with_first(alloc, task, &first, limit, workers, share, shares) {
             Ok(book) => Ok(book),
             Err(_) => Err(BookFault::OutOfMemory),
         }
     }
 
     /// The books of all shares of the level's positions, share 0 first, each as [`Book::of`] makes it. What all of them
-    /// want is found once, by the dead squares and the scratch that are lent. The only errors are that the level has
+    /// want is found once, by the pruner, whose cap is theirs, and the scratch that are lent. The only errors are that the level has
     /// more boxes than [`MAX_BOXES`](grid::MAX_BOXES), and that memory was refused.
     pub fn of_all_shares(
         alloc: Global,
         level: &Arc<Level>,
-        dead: &Dead,
+        pruner: &Pruner,
         limit: u32,
         workers: u8,
         shares: u8,
         scratch: &mut Scratch,
     ) -> Result<Vec<Book>, BookFault>
-        requires dead_of_level { dead.now ≡ arc_value level.now }
+        requires pruner_of_level { pruner.now.board ≡ arc_value level.now }
         requires limit { 1 ≤ limit }
         requires workers { (1 ≤ workers) × (workers ≤ MAX_WORKERS + 1) }
         requires shares { (1 ≤ shares) × (shares ≤ MAX_SHARES) }
         requires room { scratch.old.size ≡ length (arc_value level.now).cells }
-        ensures ok { IfOk result (λ books. AreNewShares (arc_value level.now) limit workers shares books.items) }
+        ensures ok { IfOk result (λ books. AreNewShares pruner.now limit workers shares books.items) }
         ensures variant { MatchResult result (λ books. box_count (arc_value level.now) ≤ MAX_BOXES) (λ fault. BookRefused (arc_value level.now) fault) }
         ensures size { scratch.new.size ≡ scratch.old.size }
     {
@@ -125,8 +133,12 @@ impl Book {
         let Some(start) = Position::start(level) else {
             return Err(BookFault::TooManyBoxes);
         };
-        let first = first_position(level, dead, &start, scratch);
-        match all_with_first(alloc, level, &first, limit, workers, shares) {
+        let task = match Arc::try_clone(level) {
+            Ok(level) => Task::of(level, pruner.cap()),
+            Err(_) => return Err(BookFault::OutOfMemory),
+        };
+        let first = first_position(&task, pruner.dead(), pruner.bound(), &start, scratch);
+        match all_with_first(alloc, &task, &first, limit, workers, shares) {
             Ok(books) => Ok(books),
             Err(_) => Err(BookFault::OutOfMemory),
         }
@@ -135,7 +147,7 @@ impl Book {
     // A book whose layer 0 is the first position of the level, if there is one and it is of the share.
     fn with_first(
         alloc: Global,
-        level: Arc<Level>,
+        task: Task,
         first: &Option<Position>,
         limit: u32,
         workers: u8,
@@ -143,19 +155,19 @@ impl Book {
         shares: u8,
     ) -> Result<Book, AllocError>
         requires bounds { AreBounds limit workers share shares }
-        requires few { box_count (arc_value level) ≤ MAX_BOXES }
-        requires first { IsFirst (arc_value level) first.now }
-        ensures { IfOk result (λ book. IsNew (arc_value level) limit workers share shares book) }
+        requires few { box_count task.board ≤ MAX_BOXES }
+        requires first { IsFirst task first.now }
+        ensures { IfOk result (λ book. IsNew task limit workers share shares book) }
     {
-        level.tell();
-        let own = first_of_share(&level, first, share, shares);
-        let found = Found::of(alloc, level.boxes(), &own)?;
+        task.tell();
+        let own = first_of_share(&task, first, share, shares);
+        let found = Found::of(alloc, task.boxes(), &own)?;
         let mut starts = Vec::new(alloc);
         starts.resize(1, 0)?;
         let mut tallies = Vec::new(alloc);
         tallies.resize(workers as usize, 0)?;
         Ok(Book {
-            level,
+            task,
             limit,
             workers,
             share,
@@ -180,16 +192,30 @@ impl Book {
 
     /// The level.
     pub fn level(&self) -> &Level
-        ensures { result.now ≡ self.now.level }
+        ensures { result.now ≡ self.now.level.board }
     {
-        &*self.level
+        self.task.level()
     }
 
-    // Whether the book is of this level.
-    pub(crate) fn is_of(&self, level: &Level) -> bool
-        ensures { IsTrue result ↔ (self.now.level ≡ level.now) }
+    /// The greatest number of pushes of a solution; `None` where no cap is set.
+    pub fn cap(&self) -> Option<u32>
+        ensures { result ≡ self.now.level.cap }
     {
-        *self.level == *level
+        self.task.cap()
+    }
+
+    /// Whether the book is of a layer's level, with the same cap.
+    pub fn is_of_layer(&self, layer: &Layer) -> bool
+        ensures { IsTrue result ↔ (self.now.level ≡ layer.now.level) }
+    {
+        self.is_of(layer.task())
+    }
+
+    // Whether the book is of this level with this cap.
+    pub(crate) fn is_of(&self, task: &Task) -> bool
+        ensures { IsTrue result ↔ (self.now.level ≡ task.now) }
+    {
+        self.task.is(task)
     }
 
     /// The greatest number of closed and open positions.
@@ -257,7 +283,7 @@ impl Book {
 // The books of all shares, share 0 first, where the first position of the level is found already.
 fn all_with_first(
     alloc: Global,
-    level: &Arc<Level>,
+    task: &Task,
     first: &Option<Position>,
     limit: u32,
     workers: u8,
@@ -266,34 +292,40 @@ fn all_with_first(
     requires limit { 1 ≤ limit }
     requires workers { (1 ≤ workers) × (workers ≤ MAX_WORKERS + 1) }
     requires shares { (1 ≤ shares) × (shares ≤ MAX_SHARES) }
-    requires few { box_count (arc_value level.now) ≤ MAX_BOXES }
-    requires first { IsFirst (arc_value level.now) first.now }
-    ensures { IfOk result (λ books. AreNewShares (arc_value level.now) limit workers shares books.items) }
+    requires few { box_count task.now.board ≤ MAX_BOXES }
+    requires first { IsFirst task.now first.now }
+    ensures { IfOk result (λ books. AreNewShares task.now limit workers shares books.items) }
 {
     let mut books = Vec::with_capacity(alloc, shares as usize)?;
     for share in 0..shares {
-        let level = Arc::try_clone(level)?;
-        let book = Book::with_first(alloc, level, first, limit, workers, share, shares)?;
+        let task = task.try_clone()?;
+        let book = Book::with_first(alloc, task, first, limit, workers, share, shares)?;
         books.push(book)?;
     }
     Ok(books)
 }
 
-// The first position of a level: the start's normal position, or none where the start is doomed.
+// The first position of a level: the start's normal position, or none where the start is doomed or not admitted.
 fn first_position(
-    level: &Level,
+    task: &Task,
     dead: &Dead,
+    bound: &Option<Bound>,
     position: &Position,
     scratch: &mut Scratch,
 ) -> Option<Position>
-    requires start { position.now ≡ start level.now }
-    requires fits { FitsLevel level.now position.now }
-    requires dead_of_level { dead.now ≡ level.now }
-    requires room { scratch.old.size ≡ length level.now.cells }
-    ensures first { IsFirst level.now result }
+    requires start { position.now ≡ start task.now.board }
+    requires fits { FitsLevel task.now.board position.now }
+    requires dead_of_level { dead.now ≡ task.now.board }
+    requires bound_of_level { HasBound task.now bound.now }
+    requires room { scratch.old.size ≡ length task.now.board.cells }
+    ensures first { IsFirst task.now result }
     ensures size { scratch.new.size ≡ scratch.old.size }
 {
+    let level = task.level();
     if doomed(level, dead, position, scratch) {
+        return None;
+    }
+    if !is_admitted(task, bound, position) {
         return None;
     }
     let normal = normal(level, position, scratch);
@@ -301,18 +333,13 @@ fn first_position(
 }
 
 // The share's position of layer 0: the first position, if there is one and it is of the share.
-fn first_of_share(
-    level: &Level,
-    first: &Option<Position>,
-    share: u8,
-    shares: u8,
-) -> Option<Position>
-    requires first { IsFirst level.now first.now }
+fn first_of_share(task: &Task, first: &Option<Position>, share: u8, shares: u8) -> Option<Position>
+    requires first { IsFirst task.now first.now }
     requires shares { 0 < shares }
-    ensures layer { IsShareOfLayer level.now shares share 0 (first_entries result) }
-    ensures boxes { IfSome result (λ m. length m.boxes ≡ box_count level.now) }
+    ensures layer { IsShareOfLayer task.now shares share 0 (first_entries result) }
+    ensures boxes { IfSome result (λ m. length m.boxes ≡ box_count task.now.board) }
 {
-    level.tell();
+    task.tell();
     let Some(position) = first else {
         return None;
     };

@@ -15,7 +15,7 @@ impl Book {
         ensures fault { IfErr result (λ fault. BeginRefused self.old layer.now fault) }
         ensures err { OnErr result (self.new ≡ self.old) }
     {
-        if !self.is_of(layer.level()) {
+        if !self.is_of(layer.task()) {
             return Err(BeginFault::OtherLevel);
         }
         if layer.number() != self.layer() || self.begun {
@@ -105,7 +105,7 @@ impl Book {
         ensures some { IfSome result (λ refusal. HandBackRefused self.now parcel.now refusal) }
         ensures unchanged { IfSome result (λ refusal. after_refusal self.now refusal ≡ self.now) }
     {
-        if !self.is_of(parcel.level()) {
+        if !parcel.is_of(&self.task) {
             return Some(Refusal::OtherLevel);
         }
         if parcel.layer() != self.layer() {

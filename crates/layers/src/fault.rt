@@ -28,7 +28,7 @@ impl From<AllocError> for BookFault {
 /// Why a layer was not begun. Of several reasons the first in this order is the one that is answered.
 #[derive(Clone, Copy, PartialEq, Eq, Debug, Drop, Error)]
 pub enum BeginFault {
-    /// The layer is of another level.
+    /// The layer is of another level, or of another cap of pushes.
     #[error("the layer is of another level")]
     OtherLevel,
     /// The layer is not the last closed one, or it has begun.
@@ -52,7 +52,7 @@ impl From<AllocError> for BeginFault {
 /// Why a parcel was not accepted. Of several reasons the first in this order is the one that is answered.
 #[derive(Clone, Copy, PartialEq, Eq, Debug, Drop, Error)]
 pub enum Refusal {
-    /// The parcel is of another level.
+    /// The parcel is of another level, or of another cap of pushes.
     #[error("the parcel is of another level")]
     OtherLevel,
     /// The parcel is not of the last closed layer.
@@ -106,8 +106,8 @@ impl From<AllocError> for CloseFault {
 /// Why books were not joined. Of several reasons the first in this order is the one that is answered.
 #[derive(Clone, Copy, PartialEq, Eq, Debug, Drop, Error)]
 pub enum JoinFault {
-    /// The books are not all the shares, in order, of one level, limit and number of shares, at the same last closed
-    /// layer.
+    /// The books are not all the shares, in order, of one level, cap, limit and number of shares, at the same last
+    /// closed layer.
     #[error("not all the shares of one book")]
     NotWhole,
     /// Memory was refused.

@@ -14,7 +14,6 @@ use crate::merging::merge;
 use crate::origin::Origin;
 use grid::{MAX_BOXES, Square};
 use std::alloc::{AllocError, Global};
-use std::sync::Arc;
 
 impl Layer {
     /// The last closed layer of the books, which are all the shares in order. The only errors are that they are not,
@@ -60,10 +59,10 @@ fn join_all(alloc: Global, books: &[Book], first: &Book) -> Result<Layer, AllocE
     tell_all(books);
     let boxes = first.boxes();
     let (count, squares, origins) = merged_rows(alloc, books, boxes)?;
-    let level = Arc::try_clone(&first.level)?;
+    let task = first.task.try_clone()?;
     let number = first.layer();
     Ok(Layer {
-        level,
+        task,
         number,
         count,
         squares,
@@ -99,17 +98,17 @@ fn tell_all(books: &[Book])
 impl Book {
     // The number of boxes of a position.
     fn boxes(&self) -> usize
-        ensures boxes { result ≡ box_count self.now.level }
+        ensures boxes { result ≡ box_count self.now.level.board }
         ensures few { result ≤ MAX_BOXES }
     {
-        self.level.boxes()
+        self.task.boxes()
     }
 
     // Whether the book is the share with a number beside another book.
     fn is_share_beside(&self, first: &Book, place: usize) -> bool
         ensures { IsTrue result ↔ IsShareBeside first.now place self.now }
     {
-        if self.share as usize != place || !self.is_of(first.level()) {
+        if self.share as usize != place || !self.is_of(&first.task) {
             return false;
         }
         if self.limit != first.limit || self.shares != first.shares {

@@ -1,6 +1,7 @@
 //! Laws of books that callers may rely on. Each is the contract of a function that does nothing.
 ghost use Rattle.std.specs.Prelude.{◌≡◌, ℕ, ◌<◌, ◌≤◌, List, length, map, sum_by};
-ghost use Rattle.grid.specs.Board.{Board, Scene};
+ghost use Rattle.grid.specs.Board.{Scene};
+ghost use Rattle.layers.specs.Tasks.{Task};
 ghost use Rattle.grid.specs.Lawful.{IsLevel};
 ghost use Rattle.layers.specs.Reaching.{AreLayersOf, IsLayerOf, total};
 ghost use Rattle.layers.specs.BookView.{BookView, Closed, AreBounds, AreSharesOfLayer, AreLawfulBooks, IsLawfulBook, IsShareOfLayer, last_layer, last_list};
@@ -20,10 +21,10 @@ pub fn a_book_stays_lawful()
 
 /// A new book of a lawful level is lawful, and so by [`a_book_stays_lawful`] it is after any list of events.
 pub fn a_new_book_is_lawful()
-    ensures { (level : Board) (limit workers share shares : ℕ) (book : BookView) → IsLevel level → AreBounds limit workers share shares → IsNew level limit workers share shares book → IsLawfulBook book }
+    ensures { (task : Task) (limit workers share shares : ℕ) (book : BookView) → IsLevel task.board → AreBounds limit workers share shares → IsNew task limit workers share shares book → IsLawfulBook book }
 {}
 
-/// Lawful books of one share of one level have closed the same lists, as far as both have come: in whatever order the
+/// Lawful books of one share of one level and cap have closed the same lists, as far as both have come: in whatever order the
 /// parcels came to each, from whichever workers, however often, and whatever was refused.
 pub fn the_order_of_events_leaves_no_trace()
     ensures { (one other : BookView) → IsLawfulBook one → IsLawfulBook other → one.level ≡ other.level → one.share ≡ other.share → one.shares ≡ other.shares → CloseAlike one other }
@@ -37,8 +38,8 @@ pub fn a_begun_book_has_the_ranks_of_its_layer()
 
 /// A layer has as many positions as all its shares together, and one share has no more than the layer.
 pub fn the_shares_make_up_the_layer()
-    ensures sum { (level : Board) (shares k : ℕ) (lists : List (List Closed)) (layer : List Scene) → IsLevel level → 0 < shares → AreSharesOfLayer level shares k lists → IsLayerOf level k layer → total lists ≡ length layer }
-    ensures part { (level : Board) (shares share k : ℕ) (list : List Closed) (layer : List Scene) → IsLevel level → IsShareOfLayer level shares share k list → IsLayerOf level k layer → length list ≤ length layer }
+    ensures sum { (task : Task) (shares k : ℕ) (lists : List (List Closed)) (layer : List Scene) → IsLevel task.board → 0 < shares → AreSharesOfLayer task shares k lists → IsLayerOf task k layer → total lists ≡ length layer }
+    ensures part { (task : Task) (shares share k : ℕ) (list : List Closed) (layer : List Scene) → IsLevel task.board → IsShareOfLayer task shares share k list → IsLayerOf task k layer → length list ≤ length layer }
 {}
 
 /// Lawful books that are all the shares hold all the shares of their last closed layer, and together they have closed

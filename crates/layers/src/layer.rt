@@ -5,15 +5,16 @@ ghost use Rattle.doom.specs.Deadlocks.{Undoomed};
 ghost use Rattle.layers.specs.LayerView.{IsWhole};
 
 use crate::origin::Origin;
+use crate::task::Task;
 use grid::{Level, MAX_BOXES, Position, Push, Square};
 use std::marker::Model;
-use std::sync::Arc;
 
 /// A whole layer of its level: the normal positions whose least push lists through undoomed positions have the
-/// layer's number of pushes, in the order of those lists. A position's rank is its place in the list, from 0.
+/// layer's number of pushes, in the order of those lists. Where a cap of pushes is set it has only those positions from
+/// which the level may be solved within it, by what lone boxes need. A position's rank is its place in the list, from 0.
 #[derive(Debug, Drop)]
 pub struct Layer {
-    pub(crate) level: Arc<Level>,
+    pub(crate) task: Task,
     pub(crate) number: u64,
     // how many positions there are, and the squares of one after the other: its boxes, and then its player
     pub(crate) count: usize,
@@ -43,9 +44,23 @@ impl Layer {
 
     /// The level.
     pub fn level(&self) -> &Level
+        ensures { result.now ≡ self.now.level.board }
+    {
+        self.task.level()
+    }
+
+    /// The greatest number of pushes of a solution; `None` where no cap is set.
+    pub fn cap(&self) -> Option<u32>
+        ensures { result ≡ self.now.level.cap }
+    {
+        self.task.cap()
+    }
+
+    // The level with its cap.
+    pub(crate) fn task(&self) -> &Task
         ensures { result.now ≡ self.now.level }
     {
-        &*self.level
+        &self.task
     }
 
     /// The layer's number, which is the number of pushes that lead to its positions.
@@ -92,10 +107,10 @@ impl Layer {
     pub(crate) fn place(&self, rank: u64) -> Position
         requires { rank < length self.now.places }
         ensures place { slice_get self.now.places rank ≡ Some result }
-        ensures fits { FitsLevel self.now.level result }
-        ensures undoomed { Undoomed self.now.level result }
+        ensures fits { FitsLevel self.now.level.board result }
+        ensures undoomed { Undoomed self.now.level.board result }
     {
-        read_position(self.squares.as_slice(), rank as usize, self.level.boxes())
+        read_position(self.squares.as_slice(), rank as usize, self.task.boxes())
     }
 }
 

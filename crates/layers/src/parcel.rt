@@ -1,8 +1,9 @@
-ghost use Rattle.std.specs.Prelude.{◌≡◌, []};
+ghost use Rattle.std.specs.Prelude.{◌≡◌, ◌↔◌, [], IsTrue};
 ghost use Rattle.layers.specs.ParcelView.{IsParcel};
 ghost use Rattle.layers.specs.inside.Sums.{AreSums};
 
 use crate::limits::MAX_SUCCESSORS;
+use crate::task::Task;
 use arrayvec::ArrayVec;
 use grid::{Level, Position, Push};
 use std::marker::Model;
@@ -35,10 +36,12 @@ impl Slots {
     }
 }
 
-/// The undoomed successors of the position with a rank of a layer, in the order of their pushes.
+/// The undoomed successors of the position with a rank of a layer that are admitted in the next one, in the order of their
+/// pushes.
 #[derive(Debug, Drop)]
 pub struct Parcel<'a> {
     pub(crate) level: &'a Level,
+    pub(crate) cap: Option<u32>,
     pub(crate) layer: u64,
     pub(crate) rank: u64,
     // the first so many of these are the successors and their sums
@@ -51,16 +54,17 @@ pub struct Parcel<'a> {
 impl<'a> Model for Parcel<'a> {
     ghost use Rattle.std.specs.Prelude.{◌≤◌, length, take};
     ghost use Rattle.layers.specs.ParcelView.{ParcelView, IsParcel};
+    ghost use Rattle.layers.specs.Tasks.{capped};
     ghost use Rattle.layers.specs.inside.ParcelInside.{parcel_of};
     ghost use Rattle.layers.specs.inside.Sums.{AreSums};
 
     ghost Value = { ParcelView };
 
-    ghost view = { λ a. parcel_of a.level.now a.layer a.rank a.slots.successors.items a.count };
+    ghost view = { λ a. parcel_of (capped a.level.now a.cap) a.layer a.rank a.slots.successors.items a.count };
 
     ghost invariant = { λ a. (a.count ≤ length a.slots.successors.items)
         × AreSums (take a.count a.slots.successors.items) (take a.count a.slots.sums.items)
-        × IsParcel (parcel_of a.level.now a.layer a.rank a.slots.successors.items a.count) };
+        × IsParcel (parcel_of (capped a.level.now a.cap) a.layer a.rank a.slots.successors.items a.count) };
 }
 
 impl<'a> Parcel<'a> {
@@ -73,9 +77,23 @@ impl<'a> Parcel<'a> {
 
     /// The level.
     pub fn level(&self) -> &Level
-        ensures { result.now ≡ self.now.level }
+        ensures { result.now ≡ self.now.level.board }
     {
         self.level
+    }
+
+    /// The greatest number of pushes of a solution; `None` where no cap is set.
+    pub fn cap(&self) -> Option<u32>
+        ensures { result ≡ self.now.level.cap }
+    {
+        self.cap
+    }
+
+    // Whether it is of this level with this cap.
+    pub(crate) fn is_of(&self, task: &Task) -> bool
+        ensures { IsTrue result ↔ (task.now ≡ self.now.level) }
+    {
+        task.is_that(self.level, self.cap)
     }
 
     /// The layer's number.
@@ -92,7 +110,7 @@ impl<'a> Parcel<'a> {
         self.rank
     }
 
-    /// The undoomed successors of the position with that rank, in the order of their pushes.
+    /// The undoomed successors of the position with that rank that are admitted in the next layer, in the order of their pushes.
     pub fn successors(&self) -> &[Successor]
         ensures { result.now ≡ self.now.successors }
     {

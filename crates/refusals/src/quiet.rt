@@ -8,7 +8,7 @@ use area::{Scratch, flood, normal};
 use claims::{Drawer, Ledger};
 use doom::{Dead, doomed};
 use grid::{Dir, Level, Position, Square, State};
-use layers::{Book, Layer, expand};
+use layers::{Book, Layer, Pruner, expand_by};
 use std::alloc::Global;
 use std::slice;
 
@@ -54,23 +54,23 @@ fn position_calls<R: Print>(
     layer: &Layer,
     scratch: &mut Scratch,
 ) -> Option<()>
-    requires room { scratch.old.size ≡ length layer.now.level.cells }
+    requires room { scratch.old.size ≡ length layer.now.level.board.cells }
 {
-    let dead = Dead::of(alloc, layer.level()).ok()?;
+    let pruner = Pruner::of(alloc, layer.level(), layer.cap()).ok()?;
     println!(rt; "made dead squares").ok()?;
-    floods(rt, layer.level(), &layer.position(0)?, &dead, scratch)?;
-    expands(rt, layer, &dead, scratch)
+    floods(rt, layer.level(), &layer.position(0)?, pruner.dead(), scratch)?;
+    expands(rt, layer, &pruner, scratch)
 }
 
 // Expands a position of a layer.
-fn expands<R: Print>(rt: &R, layer: &Layer, dead: &Dead, scratch: &mut Scratch) -> Option<()>
-    requires dead_of_level { dead.now ≡ layer.now.level }
-    requires room { scratch.old.size ≡ length layer.now.level.cells }
+fn expands<R: Print>(rt: &R, layer: &Layer, pruner: &Pruner, scratch: &mut Scratch) -> Option<()>
+    requires pruner_of_level { pruner.now ≡ layer.now.level }
+    requires room { scratch.old.size ≡ length layer.now.level.board.cells }
 {
     if layer.len() <= 2 {
         return None;
     }
-    told::parcel(rt, &expand(layer, dead, 2, scratch))
+    told::parcel(rt, &expand_by(layer, pruner, 2, scratch))
 }
 
 // Draws from a ledger.

@@ -2,9 +2,8 @@
 ghost use Rattle.std.specs.Prelude.{◌≡◌, ◌<◌, length};
 
 use area::Scratch;
-use doom::Dead;
 use grid::Level;
-use layers::{Book, Layer, MAX_SHARES, Parcel, expand};
+use layers::{Book, Layer, MAX_SHARES, Parcel, Pruner, expand_by};
 use std::alloc::Global;
 use std::slice;
 use std::sync::Arc;
@@ -32,7 +31,7 @@ pub(crate) fn book_of(alloc: Global, level: &Arc<Level>, share: u8, shares: u8) 
         return None;
     }
     let level = Arc::try_clone(level).ok()?;
-    Book::of(alloc, level, AMPLE, 1, share, shares).ok()
+    Book::of(alloc, level, None, AMPLE, 1, share, shares).ok()
 }
 
 /// The last closed layer of a book of all positions.
@@ -57,10 +56,10 @@ fn with_scratch<'a>(
     scratch: &mut Scratch,
 ) -> Option<Parcel<'a>>
     requires within { rank < length layer.now.places }
-    requires room { scratch.old.size ≡ length layer.now.level.cells }
+    requires room { scratch.old.size ≡ length layer.now.level.board.cells }
 {
-    let dead = Dead::of(alloc, layer.level()).ok()?;
-    Some(expand(layer, &dead, rank, scratch))
+    let pruner = Pruner::of(alloc, layer.level(), layer.cap()).ok()?;
+    Some(expand_by(layer, &pruner, rank, scratch))
 }
 
 /// Hands a rank of a layer back to a book.

@@ -15,6 +15,7 @@ use Rattle.lurd.specs.declared.verdict.Verdict.{Verdict}
 use Rattle.lurd.specs.declared.verdict.Verdict.TheVariants as verdict
 use Rattle.solo.specs.declared.answer.Answer.{Answer}
 use Rattle.solo.specs.declared.answer.Answer.TheVariants as answer
+use Rattle.layers.specs.Tasks.{capped}
 use Rattle.solo.specs.Answers.{IsAnswer}
 use Rattle.xsb.specs.Collection.{Found, IsCollection}
 use Rattle.xsb.specs.Judged.{IsJudged}
@@ -82,12 +83,12 @@ said_of laws bytes n board has text moves solved reads judged replay (others, th
     said_once board text moves solved (laws.reading text) (laws.judging board moves) reads judged replay (subst Q read here.2)
 
 -- a solution that is told replays as told
-told_replays : Laws → (limit n : ℕ) (bytes : List ℕ) (board : Board) → HasLevel bytes n board → (report : Report) (given : Answer) → IsAnswer board limit given
-    → report ≡ answer_report limit given → report.status ≡ 0 → ReplaysAsTold n bytes report
-told_replays laws limit n bytes board has report (answer.Solved moves pushes positions) is told good =
+told_replays : Laws → (cap : Option ℕ) (limit n : ℕ) (bytes : List ℕ) (board : Board) → HasLevel bytes n board → (report : Report) (given : Answer) → IsAnswer (capped board cap) limit given
+    → report ≡ answer_report cap limit given → report.status ≡ 0 → ReplaysAsTold n bytes report
+told_replays laws cap limit n bytes board has report (answer.Solved moves pushes positions) is told good =
     let text = line (bytes_of moves) in
     let solved = verdict.Solved pushes (length moves) in
-    let judged = solution_replays board limit moves pushes positions is in
+    let judged = solution_replays board cap limit moves pushes positions is in
     let reads : length moves ≤ MAX_MOVES → IsText text moves = λ few. text_line (bytes_of moves) moves (laws.written moves few) in
     let R : Option (Result Board LevelFault) → Type 0 = λ level. ReplaysOn n level (Some text) (verdict_report solved) in
     record {
@@ -99,22 +100,24 @@ told_replays laws limit n bytes board has report (answer.Solved moves pushes pos
       replays = λ few. (has.listing, has.lists, subst R (sym has.is) (text, refl, inl (moves, solved, reads few, judged, refl)));
       only = λ few. said_of laws bytes n board has text moves solved (reads few) judged;
     }
-told_replays laws limit n bytes board has report (answer.Unsolvable positions) is told good =
+told_replays laws cap limit n bytes board has report (answer.Unsolvable positions) is told good =
     let bad : 1 ≡ 0 = sym (ap (λ (r : Report). r.status) told) ∙ good in absurd (omega (arith, bad))
-told_replays laws limit n bytes board has report answer.Limit is told good =
+told_replays laws cap limit n bytes board has report (answer.NoneWithin positions) is told good =
+    let bad : 1 ≡ 0 = sym (ap (λ (r : Report). r.status) told) ∙ good in absurd (omega (arith, bad))
+told_replays laws cap limit n bytes board has report answer.Limit is told good =
     let bad : 4 ≡ 0 = sym (ap (λ (r : Report). r.status) told) ∙ good in absurd (omega (arith, bad))
 
-at_level : Laws → (limit n : ℕ) (bytes : List ℕ) (listing : List Listed) → IsListing bytes listing → (report : Report) (level : Option (Result Board LevelFault))
-    → level_at listing n ≡ level → SolvesOn limit n level report → report.status ≡ 0 → ReplaysAsTold n bytes report
-at_level laws limit n bytes listing lists report None is told good =
+at_level : Laws → (cap : Option ℕ) (limit n : ℕ) (bytes : List ℕ) (listing : List Listed) → IsListing bytes listing → (report : Report) (level : Option (Result Board LevelFault))
+    → level_at listing n ≡ level → SolvesOn cap limit n level report → report.status ≡ 0 → ReplaysAsTold n bytes report
+at_level laws cap limit n bytes listing lists report None is told good =
     let bad : 1 ≡ 0 = sym (ap (λ (r : Report). r.status) told) ∙ good in absurd (omega (arith, bad))
-at_level laws limit n bytes listing lists report (Some (Err fault)) is told good =
+at_level laws cap limit n bytes listing lists report (Some (Err fault)) is told good =
     let bad : 1 ≡ 0 = sym (ap (λ (r : Report). r.status) told) ∙ good in absurd (omega (arith, bad))
-at_level laws limit n bytes listing lists report (Some (Ok board)) is (inl (many, told)) good =
+at_level laws cap limit n bytes listing lists report (Some (Ok board)) is (inl (many, told)) good =
     let bad : 1 ≡ 0 = sym (ap (λ (r : Report). r.status) told) ∙ good in absurd (omega (arith, bad))
-at_level laws limit n bytes listing lists report (Some (Ok board)) is (inr (few, (given, answers, told))) good =
-    told_replays laws limit n bytes board (record { listing = listing; lists = lists; is = is }) report given answers told good
+at_level laws cap limit n bytes listing lists report (Some (Ok board)) is (inr (few, (given, answers, told))) good =
+    told_replays laws cap limit n bytes board (record { listing = listing; lists = lists; is = is }) report given answers told good
 
-pub printed_solution_replays : Laws → (limit n : ℕ) (bytes : List ℕ) (report : Report) → IsSolveReport limit n bytes report → report.status ≡ 0 → ReplaysAsTold n bytes report
-printed_solution_replays laws limit n bytes report (listing, lists, solves) good =
-    at_level laws limit n bytes listing lists report (level_at listing n) refl solves good
+pub printed_solution_replays : Laws → (cap : Option ℕ) (limit n : ℕ) (bytes : List ℕ) (report : Report) → IsSolveReport cap limit n bytes report → report.status ≡ 0 → ReplaysAsTold n bytes report
+printed_solution_replays laws cap limit n bytes report (listing, lists, solves) good =
+    at_level laws cap limit n bytes listing lists report (level_at listing n) refl solves good

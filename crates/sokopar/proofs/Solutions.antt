@@ -1,5 +1,5 @@
 -- A solution that is given replays as solved, and so does the line that holds it.
-use Rattle.std.proofs.Common.{◌≡◌, ℕ, List, [], ◌∷◌, ◌++◌, length, refl, sym, ap, subst, ◌∙◌, inl, inr, append-nil, Result, Ok, Err}
+use Rattle.std.proofs.Common.{◌≡◌, ℕ, List, [], ◌∷◌, ◌++◌, length, Option, refl, sym, ap, subst, ◌∙◌, inl, inr, append-nil, Result, Ok, Err}
 use Rattle.std.specs.Prelude.{⊤}
 use Rattle.std.proofs.lemmas.Grind.{flat_map-append}
 use Rattle.std.specs.List.{AllByRecursion, flat_map}
@@ -15,11 +15,12 @@ use Rattle.lurd.specs.declared.fault.LurdFault.{LurdFault}
 use Rattle.lurd.specs.declared.verdict.Verdict.{Verdict}
 use Rattle.lurd.proofs.lemmas.Solutions.{pushes_of_play}
 use Rattle.solo.specs.declared.answer.Answer.TheVariants as answer
+use Rattle.layers.specs.Tasks.{capped}
 use Rattle.solo.specs.Answers.{IsAnswer}
 use Rattle.sokopar.specs.Report.{Report, IsReplayOf, line, verdict_report}
 
-pub solution_replays : (board : Board) (limit : ℕ) (moves : List Letter) (pushes positions : ℕ) → IsAnswer board limit (answer.Solved moves pushes positions) → IsVerdict board moves (verdict.Solved pushes (length moves))
-solution_replays board limit moves pushes positions is =
+pub solution_replays : (board : Board) (cap : Option ℕ) (limit : ℕ) (moves : List Letter) (pushes positions : ℕ) → IsAnswer (capped board cap) limit (answer.Solved moves pushes positions) → IsVerdict board moves (verdict.Solved pushes (length moves))
+solution_replays board cap limit moves pushes positions is =
     let writes = is.0 in
     let count : upper_count moves ≡ length writes.list = sym (ap (λ (ls : List Letter). upper_count ls) writes.written) ∙ pushes_of_play writes.play in (
       record {

@@ -106,7 +106,7 @@ pub fn run_solve<R: Threads + Wait + Sync, S: Source, K: Sink>(
 ) -> Result<u8, RunFault>
     requires number { 1 ≤ number }
     requires limits { IsWithinLimits config }
-    ensures { Runs (IsSolveReport config.limit number) (S.seen source.old) (S.seen source.new) (K.seen sink.old) (K.seen sink.new) result }
+    ensures { Runs (IsSolveReport config.cap config.limit number) (S.seen source.old) (S.seen source.new) (K.seen sink.old) (K.seen sink.new) result }
 {
     let bytes = read_whole(alloc, source)?;
     let report = solve_in(rt, alloc, bytes.as_slice(), number, config)?;

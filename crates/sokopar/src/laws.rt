@@ -1,8 +1,9 @@
 //! Laws of reports, as the clauses of functions that do nothing.
-ghost use Rattle.std.specs.Prelude.{◌≡◌, ℕ, List, length};
+ghost use Rattle.std.specs.Prelude.{◌≡◌, ℕ, List, Option, length};
 ghost use Rattle.grid.specs.Board.{Board};
 ghost use Rattle.grid.specs.declared.moves.Letter.{Letter};
 ghost use Rattle.lurd.specs.Verdict.{IsVerdict};
+ghost use Rattle.layers.specs.Tasks.{capped};
 ghost use Rattle.solo.specs.Answers.{IsAnswer};
 ghost use Rattle.sokopar.specs.Report.{Report};
 ghost use Rattle.sokopar.specs.Solving.{IsSolveReport};
@@ -15,15 +16,15 @@ use xsb::laws::one_collection;
 
 /// A solution that is given replays as solved, with the numbers of pushes and of moves that are told with it.
 pub fn solution_replays()
-    ensures { (board : Board) (limit : ℕ) (moves : List Letter) (pushes positions : ℕ) →
-        IsAnswer board limit (Answer.Solved moves pushes positions) → IsVerdict board moves (Verdict.Solved pushes (length moves)) }
+    ensures { (board : Board) (cap : Option ℕ) (limit : ℕ) (moves : List Letter) (pushes positions : ℕ) →
+        IsAnswer (capped board cap) limit (Answer.Solved moves pushes positions) → IsVerdict board moves (Verdict.Solved pushes (length moves)) }
 {}
 
 /// The line of a solution that [`run_solve`](crate::run_solve) writes for a level solves that level when it is given to
 /// [`run_replay`](crate::run_replay), with the numbers that were told with it, where the solution has at most
 /// [`MAX_MOVES`](lurd::MAX_MOVES) moves.
 pub fn printed_solution_replays()
-    ensures { (limit n : ℕ) (bytes : List ℕ) (report : Report) → IsSolveReport limit n bytes report → report.status ≡ 0 → ReplaysAsTold n bytes report }
+    ensures { (cap : Option ℕ) (limit n : ℕ) (bytes : List ℕ) (report : Report) → IsSolveReport cap limit n bytes report → report.status ≡ 0 → ReplaysAsTold n bytes report }
 {
     written_text();
     one_reading();

@@ -1,6 +1,6 @@
-ghost use Rattle.std.specs.Prelude.{◌≡◌, ◌++◌, ◌≤◌, OnOk, IfOk, length};
+ghost use Rattle.std.specs.Prelude.{◌≡◌, ◌++◌, ◌≤◌, None, OnOk, IfOk, length};
 ghost use Rattle.sokopar.specs.Report.{line};
-ghost use Rattle.sokopar.specs.Solving.{too_many_boxes, positions_words, solved_text, answer_report, IsSolveOf, SolvesOn, IsSolveReport};
+ghost use Rattle.sokopar.specs.Solving.{too_many_boxes, positions_words, none_within, solved_text, answer_report, IsSolveOf, SolvesOn, IsSolveReport};
 ghost use Rattle.lurd.specs.Text.{bytes_of};
 ghost use Rattle.crew.specs.Configured.{IsWithinLimits};
 
@@ -51,7 +51,7 @@ fn solved(alloc: Global, moves: &Moves, pushes: u64, positions: u64) -> Result<R
 
 /// The report of a level without a solution.
 fn unsolvable(alloc: Global, positions: u64) -> Result<Report, AllocError>
-    ensures { IfOk result (λ report. report ≡ answer_report 0 (Answer.Unsolvable positions)) }
+    ensures { IfOk result (λ report. report ≡ answer_report None 0 (Answer.Unsolvable positions)) }
 {
     let mut text = Text::new(alloc);
     text.put(b"unsolvable")?;
@@ -62,7 +62,7 @@ fn unsolvable(alloc: Global, positions: u64) -> Result<Report, AllocError>
 
 /// The report where the limit was reached.
 fn limit_reached(alloc: Global, limit: u32) -> Result<Report, AllocError>
-    ensures { IfOk result (λ report. report ≡ answer_report limit Answer.Limit) }
+    ensures { IfOk result (λ report. report ≡ answer_report None limit Answer.Limit) }
 {
     let mut text = Text::new(alloc);
     text.put(b"limit ")?;
@@ -71,9 +71,29 @@ fn limit_reached(alloc: Global, limit: u32) -> Result<Report, AllocError>
     Ok(Report::new(text, 4))
 }
 
-/// The report of an answer under a limit of positions.
-fn answer_report(alloc: Global, answer: &Answer, limit: u32) -> Result<Report, AllocError>
-    ensures { IfOk result (λ report. report ≡ answer_report limit answer.now) }
+/// The report that no play solves a level within a cap.
+fn none_within(alloc: Global, cap: Option<u32>, positions: u64) -> Result<Report, AllocError>
+    ensures { IfOk result (λ report. report ≡ none_within cap positions) }
+{
+    let mut text = Text::new(alloc);
+    text.put(b"none within ")?;
+    if let Some(most) = cap {
+        text.put_number(most as usize)?;
+    }
+    text.put(b" pushes")?;
+    put_positions(&mut text, positions)?;
+    text.put(b"\n")?;
+    Ok(Report::new(text, 1))
+}
+
+/// The report of an answer under a cap of pushes and a limit of positions.
+fn answer_report(
+    alloc: Global,
+    answer: &Answer,
+    cap: Option<u32>,
+    limit: u32,
+) -> Result<Report, AllocError>
+    ensures { IfOk result (λ report. report ≡ answer_report cap limit answer.now) }
 {
     match answer {
         Answer::Solved {
@@ -82,6 +102,7 @@ fn answer_report(alloc: Global, answer: &Answer, limit: u32) -> Result<Report, A
             positions,
         } => solved(alloc, moves, *pushes, *positions),
         Answer::Unsolvable { positions } => unsolvable(alloc, *positions),
+        Answer::NoneWithin { positions } => none_within(alloc, cap, *positions),
         Answer::Limit => limit_reached(alloc, limit),
     }
 }
@@ -94,11 +115,11 @@ fn solve_level<R: Threads + Wait + Sync>(
     config: Config,
 ) -> Result<Report, AllocError>
     requires limits { IsWithinLimits config }
-    ensures { IfOk result (λ report. IsSolveOf config.limit level.now report) }
+    ensures { IfOk result (λ report. IsSolveOf config.cap config.limit level.now report) }
 {
     let level = Arc::new(alloc, level.copy()?)?;
     match crew::solve(rt, alloc, &level, config, &Free) {
-        Ok(answer) => answer_report(alloc, &answer, config.limit),
+        Ok(answer) => answer_report(alloc, &answer, config.cap, config.limit),
         Err(SolveFault::TooManyBoxes) => too_many_boxes(alloc),
         Err(SolveFault::OutOfMemory) => Err(AllocError),
         Err(SolveFault::BadConfig) => unreachable!(),
@@ -115,7 +136,7 @@ pub(crate) fn solve_report<R: Threads + Wait + Sync>(
 ) -> Result<Report, AllocError>
     requires number { 1 ≤ number }
     requires limits { IsWithinLimits config }
-    ensures { IfOk result (λ report. SolvesOn config.limit number chosen.now report) }
+    ensures { IfOk result (λ report. SolvesOn config.cap config.limit number chosen.now report) }
 {
     match chosen {
         None => no_level(alloc, number),
@@ -135,7 +156,7 @@ pub(crate) fn solve_in<R: Threads + Wait + Sync>(
     requires number { 1 ≤ number }
     requires limits { IsWithinLimits config }
     requires bound { length bytes.now ≤ MAX_FILE }
-    ensures { IfOk result (λ report. IsSolveReport config.limit number bytes.now report) }
+    ensures { IfOk result (λ report. IsSolveReport config.cap config.limit number bytes.now report) }
 {
     let chosen = level_of(alloc, bytes, number)?;
     solve_report(rt, alloc, &chosen, number, config)

@@ -8,19 +8,20 @@ use Rattle.grid.specs.declared.square.Push.{Push}
 use Rattle.grid.specs.declared.moves.Letter.{Letter}
 use Rattle.grid.specs.Board.{Board, Scene, Walks, Pushes}
 use Rattle.grid.specs.Lawful.{IsLevel}
-use Rattle.grid.specs.Plays.{Play, IsSolution, stay, walk, push, dirs_of, letters_of}
+use Rattle.grid.specs.Plays.{Play, stay, walk, push, dirs_of, letters_of}
 use Rattle.grid.proofs.lemmas.Orders.{least_solution_same}
 use Rattle.grid.proofs.lemmas.Steps.{walk_same, push_same, not_both}
 use Rattle.layers.specs.Layered.{IsIn}
-use Rattle.layers.specs.Reaching.{Admits, IsLayerOf, AreLayersOf, total}
+use Rattle.layers.specs.Tasks.{Task, Admits}
+use Rattle.layers.specs.Reaching.{IsLayerOf, AreLayersOf, total}
 use Rattle.layers.specs.Distances.{AreDistinct, IsAtDistance}
 use Rattle.layers.proofs.lemmas.Exchange.{lead-length}
 use Rattle.layers.proofs.lemmas.Layers.{layer_unique}
 use Rattle.layers.proofs.lemmas.Closings.{take_at}
 use Rattle.layers.proofs.lemmas.Books.{level_laws, read_at, layers_same, total-take_more}
 use Rattle.solo.specs.declared.answer.Answer.{Answer}
-use Rattle.solo.specs.declared.answer.Answer.TheVariants.{Solved, Unsolvable, Limit}
-use Rattle.solo.specs.Answers.{WritesLeastSolution, HaveTotal, HasInAll, PassesLimit, IsAnswer}
+use Rattle.solo.specs.declared.answer.Answer.TheVariants.{Solved, Unsolvable, NoneWithin, Limit}
+use Rattle.solo.specs.Answers.{KeepsCap, IsSolutionOf, WritesLeastSolution, HaveTotal, HasInAll, HasNone, PassesLimit, IsAnswer}
 use Rattle.layers.proofs.lemmas.Counting.{length-distinct, total-take, total-front}
 use Rattle.solo.proofs.Solving.{sooner}
 
@@ -61,34 +62,34 @@ writing_same board xs ys k l a b =
 -- ---- the first layers
 
 -- layers that are as many have as many positions
-pub totals_same : (board : Board) → IsLevel board → (m n s t : ℕ) → HaveTotal board m s → HaveTotal board n t → m ≡ n → s ≡ t
-totals_same board level m n s t a b long =
-    sym a.3 ∙ (ap total (layers_same board level a.0 b.0 a.1 b.1 (a.2 ∙ (long ∙ sym b.2))) ∙ b.3)
+pub totals_same : (task : Task) → IsLevel task.board → (m n s t : ℕ) → HaveTotal task m s → HaveTotal task n t → m ≡ n → s ≡ t
+totals_same task level m n s t a b long =
+    sym a.3 ∙ (ap total (layers_same task level a.0 b.0 a.1 b.1 (a.2 ∙ (long ∙ sym b.2))) ∙ b.3)
 
 -- some of the first layers are the first layers
-front_are : (board : Board) (n : ℕ) (xss : List (List Scene)) → AreLayersOf board xss → AreLayersOf board (take n xss)
-front_are board n xss are j xs at_j = are j xs (take_at xss n j xs at_j).0
+front_are : (task : Task) (n : ℕ) (xss : List (List Scene)) → AreLayersOf task xss → AreLayersOf task (take n xss)
+front_are task n xss are j xs at_j = are j xs (take_at xss n j xs at_j).0
 
 -- fewer of the first layers are the first of them
-front_same : (board : Board) → IsLevel board → (xss yss : List (List Scene)) → AreLayersOf board xss → AreLayersOf board yss → length xss ≤ length yss → take (length xss) yss ≡ xss
-front_same board level xss yss a b short = layers_same board level (take (length xss) yss) xss (front_are board (length xss) yss b) a (length-take-le (length xss) yss short)
+front_same : (task : Task) → IsLevel task.board → (xss yss : List (List Scene)) → AreLayersOf task xss → AreLayersOf task yss → length xss ≤ length yss → take (length xss) yss ≡ xss
+front_same task level xss yss a b short = layers_same task level (take (length xss) yss) xss (front_are task (length xss) yss b) a (length-take-le (length xss) yss short)
 
 -- what is k pushes away is in layer k
-distant_in : (board : Board) (k : ℕ) (xs : List Scene) → IsLayerOf board k xs → (n : Scene) → IsAtDistance board n k → IsIn xs n
-distant_in board k xs layer n far = elim (layer.whole far.0.0 n far.0.1 far.0.2 far.2) [
+distant_in : (task : Task) (k : ℕ) (xs : List Scene) → IsLayerOf task k xs → (n : Scene) → IsAtDistance task n k → IsIn xs n
+distant_in task k xs layer n far = elim (layer.whole far.0.0 n far.0.1 far.0.2 far.2) [
   | inl i ↦ i
   | inr w ↦ absurd (omega (arith, w.2, far.1 w.0 w.1))
 ]
 
 -- the first layers and distinct positions of the next one are no more than more layers have
-pub next_within : (board : Board) → IsLevel board → (layers : List (List Scene)) (more : List Scene) (yss : List (List Scene)) →
-    AreLayersOf board layers → AreDistinct more → ((n : Scene) → IsIn more n → IsAtDistance board n (length layers)) → AreLayersOf board yss → length layers < length yss →
+pub next_within : (task : Task) → IsLevel task.board → (layers : List (List Scene)) (more : List Scene) (yss : List (List Scene)) →
+    AreLayersOf task layers → AreDistinct more → ((n : Scene) → IsIn more n → IsAtDistance task n (length layers)) → AreLayersOf task yss → length layers < length yss →
     total layers + length more ≤ total yss
-next_within board level layers more yss are distinct next b lt =
+next_within task level layers more yss are distinct next b lt =
     omega (
       arith,
-      ap total (front_same board level layers yss are b (omega arith)),
-      length-distinct more (get_or yss (length layers) []) distinct (λ n i. distant_in board (length layers) (get_or yss (length layers) []) (b (length layers) (get_or yss (length layers) []) (read_at yss (length layers) lt)) n (next n i)),
+      ap total (front_same task level layers yss are b (omega arith)),
+      length-distinct more (get_or yss (length layers) []) distinct (λ n i. distant_in task (length layers) (get_or yss (length layers) []) (b (length layers) (get_or yss (length layers) []) (read_at yss (length layers) lt)) n (next n i)),
       total-take_more yss (length layers) lt,
       total-take (suc (length layers)) yss,
     )
@@ -96,90 +97,105 @@ next_within board level layers more yss are distinct next b lt =
 -- ---- all layers
 
 -- the number of the first empty layer
-abbrev empty_layer : {board : Board} {positions : ℕ} → HasInAll board positions → ℕ
+abbrev empty_layer : {task : Task} {positions : ℕ} → HasInAll task positions → ℕ
 empty_layer all = length all.layers - 1
 
-some_layers : {board : Board} {positions : ℕ} (all : HasInAll board positions) → empty_layer all < length all.layers
+some_layers : {task : Task} {positions : ℕ} (all : HasInAll task positions) → empty_layer all < length all.layers
 some_layers all = slice_get_within all.layers (empty_layer all) [] all.last
 
 -- no list of all layers is longer than another
-in_all_short : (board : Board) → IsLevel board → (s t : ℕ) (a : HasInAll board s) (b : HasInAll board t) → length a.layers ≤ length b.layers
-in_all_short board level s t a b = elim (cases_lt (length b.layers) (length a.layers)) [
+in_all_short : (task : Task) → IsLevel task.board → (s t : ℕ) (a : HasInAll task s) (b : HasInAll task t) → length a.layers ≤ length b.layers
+in_all_short task level s t a b = elim (cases_lt (length b.layers) (length a.layers)) [
   | inl lt ↦ (let k = empty_layer b in
       let here = read_at a.layers k (omega (arith, some_layers b)) in
-      let same = layer_unique (level_laws board level) k (get_or a.layers k []) [] (a.are k (get_or a.layers k []) here) (b.are k [] b.last) in
+      let same = layer_unique (level_laws task level) k (get_or a.layers k []) [] (a.are k (get_or a.layers k []) here) (b.are k [] b.last) in
       absurd (omega (arith, a.first k (here ∙ ap (λ xs. Some xs) same), some_layers a, some_layers b)))
   | inr ge ↦ omega arith
 ]
 
-pub in_all_same : (board : Board) → IsLevel board → (s t : ℕ) → HasInAll board s → HasInAll board t → s ≡ t
-in_all_same board level s t a b =
-    sym a.total ∙ (ap total (layers_same board level a.layers b.layers a.are b.are (omega (arith, in_all_short board level s t a b, in_all_short board level t s b a))) ∙ b.total)
+pub in_all_same : (task : Task) → IsLevel task.board → (s t : ℕ) → HasInAll task s → HasInAll task t → s ≡ t
+in_all_same task level s t a b =
+    sym a.total ∙ (ap total (layers_same task level a.layers b.layers a.are b.are (omega (arith, in_all_short task level s t a b, in_all_short task level t s b a))) ∙ b.total)
 
 -- nothing is in a layer after an empty one
-pub past_empty : (board : Board) (empty later : ℕ) (places : List Scene) → IsLevel board → IsLayerOf board empty [] → empty ≤ later → IsLayerOf board later places → places ≡ []
-past_empty board empty later [] level none past layer = refl
-past_empty board empty later (n ∷ places) level none past layer =
+pub past_empty : (task : Task) (empty later : ℕ) (places : List Scene) → IsLevel task.board → IsLayerOf task empty [] → empty ≤ later → IsLayerOf task later places → places ≡ []
+past_empty task empty later [] level none past layer = refl
+past_empty task empty later (n ∷ places) level none past layer =
     let there = layer.leads zero n refl in
     let l = there.1 in
-    let w = sooner board level empty none l.0 n l.1.reached (subst (λ k. Admits board k n) (sym l.2) there.0) in
-    absurd (omega (arith, w.2, l.2, lead-length (level_laws board level) n l.0 w.0 l.1 w.1))
+    let w = sooner task level empty none l.0 n l.1.reached (subst (λ k. Admits task k n) (sym l.2) there.0) in
+    absurd (omega (arith, w.2, l.2, lead-length (level_laws task level) n l.0 w.0 l.1 w.1))
 
 -- nor is anything that many pushes away
-none_distant : (board : Board) → IsLevel board → (s : ℕ) (all : HasInAll board s) (k : ℕ) (more : List Scene) → length all.layers ≤ k → ((n : Scene) → IsIn more n → IsAtDistance board n k) → length more ≡ 0
-none_distant board level s all k [] past next = refl
-none_distant board level s all k (n ∷ more) past next =
+none_distant : (task : Task) → IsLevel task.board → (s : ℕ) (all : HasInAll task s) (k : ℕ) (more : List Scene) → length all.layers ≤ k → ((n : Scene) → IsIn more n → IsAtDistance task n k) → length more ≡ 0
+none_distant task level s all k [] past next = refl
+none_distant task level s all k (n ∷ more) past next =
     let far = next n (zero, refl) in
-    let w = sooner board level (empty_layer all) (all.are (empty_layer all) [] all.last) far.0.0 n far.0.1 (subst (λ j. Admits board j n) (sym far.0.2) far.2) in
+    let w = sooner task level (empty_layer all) (all.are (empty_layer all) [] all.last) far.0.0 n far.0.1 (subst (λ j. Admits task j n) (sym far.0.2) far.2) in
     absurd (omega (arith, w.2, some_layers all, far.1 w.0 w.1))
 
 -- the first layers and distinct positions of the next one are no more than all positions
-pub within_all : (board : Board) → IsLevel board → (s : ℕ) → HasInAll board s → (limit : ℕ) (p : PassesLimit board limit) → total p.layers + length p.more ≤ s
-within_all board level s all limit p = elim (cases_lt (length p.layers) (length all.layers)) [
-  | inl lt ↦ omega (arith, all.total, next_within board level p.layers p.more all.layers p.are p.distinct p.next all.are lt)
+pub within_all : (task : Task) → IsLevel task.board → (s : ℕ) → HasInAll task s → (limit : ℕ) (p : PassesLimit task limit) → total p.layers + length p.more ≤ s
+within_all task level s all limit p = elim (cases_lt (length p.layers) (length all.layers)) [
+  | inl lt ↦ omega (arith, all.total, next_within task level p.layers p.more all.layers p.are p.distinct p.next all.are lt)
   | inr ge ↦ omega (
     arith,
     all.total,
-    none_distant board level s all (length p.layers) p.more (omega arith) p.next,
-    total-front (length all.layers) p.layers (λ j xs le at_j. ap length (past_empty board (empty_layer all) j xs level (all.are (empty_layer all) [] all.last) (omega (arith, le)) (p.are j xs at_j))),
-    ap total (front_same board level all.layers p.layers all.are p.are (omega arith)),
+    none_distant task level s all (length p.layers) p.more (omega arith) p.next,
+    total-front (length all.layers) p.layers (λ j xs le at_j. ap length (past_empty task (empty_layer all) j xs level (all.are (empty_layer all) [] all.last) (omega (arith, le)) (p.are j xs at_j))),
+    ap total (front_same task level all.layers p.layers all.are p.are (omega arith)),
   )
 ]
 
 -- ---- answers
 
 -- a solution and a limit that is passed: the positions up to the solution are more than the limit
-pub solved_passes : (board : Board) → IsLevel board → (limit pushes positions : ℕ) (ds : List Dir) (ps : List Push) → IsSolution board ds ps → length ps ≡ pushes → HaveTotal board (suc pushes) positions → PassesLimit board limit → limit < positions
-solved_passes board level limit pushes positions ds ps solution count have p =
+pub solved_passes : (task : Task) → IsLevel task.board → (limit pushes positions : ℕ) (ds : List Dir) (ps : List Push) → IsSolutionOf task ds ps → length ps ≡ pushes → HaveTotal task (suc pushes) positions → PassesLimit task limit → limit < positions
+solved_passes task level limit pushes positions ds ps solution count have p =
     omega (
       arith,
       have.3,
       p.passed,
-      next_within board level p.layers p.more have.0 p.are p.distinct p.next have.1 (omega (arith, have.2, count, p.unsolved ds ps solution)),
+      next_within task level p.layers p.more have.0 p.are p.distinct p.next have.1 (omega (arith, have.2, count, p.unsolved ds ps solution)),
     )
 
 -- all positions are more than a limit that is passed
-pub unsolvable_passes : (board : Board) → IsLevel board → (limit positions : ℕ) → HasInAll board positions → PassesLimit board limit → limit < positions
-unsolvable_passes board level limit positions all p = omega (arith, p.passed, within_all board level positions all limit p)
+pub unsolvable_passes : (task : Task) → IsLevel task.board → (limit positions : ℕ) → HasInAll task positions → PassesLimit task limit → limit < positions
+unsolvable_passes task level limit positions all p = omega (arith, p.passed, within_all task level positions all limit p)
+
+-- what writes the least solution solves the level within the cap, where its pushes are
+solves : (task : Task) (letters : List Letter) (k : ℕ) (writes : WritesLeastSolution task.board letters k) → KeepsCap task.cap k → IsSolutionOf task (dirs_of letters) writes.list
+solves task letters k writes kept = (writes.least.0, subst (KeepsCap task.cap) (sym writes.count) kept)
+
+-- it excludes that there is no solution
+solved_or_none : (task : Task) (limit : ℕ) (letters : List Letter) (k t s : ℕ) → IsAnswer task limit (Solved letters k t) → HasNone task limit s → ⊥
+solved_or_none task limit letters k t s (writes, have, few, kept) none = none.0 (dirs_of letters) writes.list (solves task letters k writes kept)
 
 -- a solution within the limit and a limit that is passed exclude each other
-solved_or_limit : (board : Board) → IsLevel board → (limit : ℕ) (letters : List Letter) (k t : ℕ) → IsAnswer board limit (Solved letters k t) → PassesLimit board limit → ⊥
-solved_or_limit board level limit letters k t (writes, have, few) p = omega (arith, few, solved_passes board level limit k t (dirs_of letters) writes.list writes.least.0 writes.count have p)
+solved_or_limit : (task : Task) → IsLevel task.board → (limit : ℕ) (letters : List Letter) (k t : ℕ) → IsAnswer task limit (Solved letters k t) → PassesLimit task limit → ⊥
+solved_or_limit task level limit letters k t (writes, have, few, kept) p = omega (arith, few, solved_passes task level limit k t (dirs_of letters) writes.list (solves task letters k writes kept) writes.count have p)
 
-unsolvable_or_limit : (board : Board) → IsLevel board → (limit t : ℕ) → IsAnswer board limit (Unsolvable t) → PassesLimit board limit → ⊥
-unsolvable_or_limit board level limit t (none, all, few) p = omega (arith, few, unsolvable_passes board level limit t all p)
+none_or_limit : (task : Task) → IsLevel task.board → (limit t : ℕ) → HasNone task limit t → PassesLimit task limit → ⊥
+none_or_limit task level limit t (none, all, few) p = omega (arith, few, unsolvable_passes task level limit t all p)
 
 -- two answers are the same
-pub answer_same : (board : Board) (limit : ℕ) (a b : Answer) → IsLevel board → IsAnswer board limit a → IsAnswer board limit b → a ≡ b
-answer_same board limit (Solved xs k s) (Solved ys l t) level (writes, have, few) (writes', have', few') =
-    let same = writing_same board xs ys k l writes writes' in
-    let positions = totals_same board level (suc k) (suc l) s t have have' (ap suc same.1) in
+pub answer_same : (task : Task) (limit : ℕ) (a b : Answer) → IsLevel task.board → IsAnswer task limit a → IsAnswer task limit b → a ≡ b
+answer_same task limit (Solved xs k s) (Solved ys l t) level (writes, have, few, kept) (writes', have', few', kept') =
+    let same = writing_same task.board xs ys k l writes writes' in
+    let positions = totals_same task level (suc k) (suc l) s t have have' (ap suc same.1) in
     λ i. Solved (same.0 i) (same.1 i) (positions i)
-answer_same board limit (Solved xs k s) (Unsolvable t) level (writes, have, few) (none, all, few') = absurd (none (dirs_of xs) writes.list writes.least.0)
-answer_same board limit (Solved xs k s) Limit level a p = absurd (solved_or_limit board level limit xs k s a p)
-answer_same board limit (Unsolvable s) (Solved ys l t) level (none, all, few) (writes, have, few') = absurd (none (dirs_of ys) writes.list writes.least.0)
-answer_same board limit (Unsolvable s) (Unsolvable t) level (none, all, few) (none', all', few') = ap (λ n. Unsolvable n) (in_all_same board level s t all all')
-answer_same board limit (Unsolvable s) Limit level a p = absurd (unsolvable_or_limit board level limit s a p)
-answer_same board limit Limit (Solved ys l t) level p b = absurd (solved_or_limit board level limit ys l t b p)
-answer_same board limit Limit (Unsolvable t) level p b = absurd (unsolvable_or_limit board level limit t b p)
-answer_same board limit Limit Limit level p q = refl
+answer_same task limit (Solved xs k s) (Unsolvable t) level a b = absurd (solved_or_none task limit xs k s t a b.1)
+answer_same task limit (Solved xs k s) (NoneWithin t) level a b = absurd (solved_or_none task limit xs k s t a b.1)
+answer_same task limit (Solved xs k s) Limit level a p = absurd (solved_or_limit task level limit xs k s a p)
+answer_same task limit (Unsolvable s) (Solved ys l t) level a b = absurd (solved_or_none task limit ys l t s b a.1)
+answer_same task limit (Unsolvable s) (Unsolvable t) level a b = ap (λ n. Unsolvable n) (in_all_same task level s t a.1.1 b.1.1)
+answer_same task limit (Unsolvable s) (NoneWithin t) level a b = absurd (b.0 a.0)
+answer_same task limit (Unsolvable s) Limit level a p = absurd (none_or_limit task level limit s a.1 p)
+answer_same task limit (NoneWithin s) (Solved ys l t) level a b = absurd (solved_or_none task limit ys l t s b a.1)
+answer_same task limit (NoneWithin s) (Unsolvable t) level a b = absurd (a.0 b.0)
+answer_same task limit (NoneWithin s) (NoneWithin t) level a b = ap (λ n. NoneWithin n) (in_all_same task level s t a.1.1 b.1.1)
+answer_same task limit (NoneWithin s) Limit level a p = absurd (none_or_limit task level limit s a.1 p)
+answer_same task limit Limit (Solved ys l t) level p b = absurd (solved_or_limit task level limit ys l t b p)
+answer_same task limit Limit (Unsolvable t) level p b = absurd (none_or_limit task level limit t b.1 p)
+answer_same task limit Limit (NoneWithin t) level p b = absurd (none_or_limit task level limit t b.1 p)
+answer_same task limit Limit Limit level p q = refl

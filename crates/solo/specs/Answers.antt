@@ -1,15 +1,16 @@
--- The answer to a level and a limit of positions.
-use Rattle.std.specs.Prelude.{◌≡◌, ℕ, suc, ◌+◌, ◌-◌, ◌<◌, ◌≤◌, List, [], length, slice_get, Some}
+-- The answer to a level, a cap of pushes and a limit of positions.
+use Rattle.std.specs.Prelude.{◌≡◌, ℕ, suc, ◌+◌, ◌-◌, ◌<◌, ◌≤◌, List, [], length, slice_get, Option, None, Some}
 use Rattle.grid.specs.declared.dir.Dir.{Dir}
 use Rattle.grid.specs.declared.square.Push.{Push}
 use Rattle.grid.specs.declared.moves.Letter.{Letter}
 use Rattle.grid.specs.Board.{Board, Scene, IsSolved, start}
 use Rattle.grid.specs.Plays.{Play, Any, IsSolution, IsLeastSolution, dirs_of, letters_of}
 use Rattle.layers.specs.Layered.{IsIn}
+use Rattle.layers.specs.Tasks.{Task}
 use Rattle.layers.specs.Reaching.{AreLayersOf, total}
 use Rattle.layers.specs.Distances.{AreDistinct, IsAtDistance}
 use Rattle.solo.specs.declared.answer.Answer.{Answer}
-use Rattle.solo.specs.declared.answer.Answer.TheVariants.{Solved, Unsolvable, Limit}
+use Rattle.solo.specs.declared.answer.Answer.TheVariants.{Solved, Unsolvable, NoneWithin, Limit}
 
 -- the letters write the least solution, which has so many pushes
 pub record WritesLeastSolution (board : Board) (letters : List Letter) (pushes : ℕ) : Type 0 where
@@ -21,47 +22,58 @@ pub record WritesLeastSolution (board : Board) (letters : List Letter) (pushes :
   pub least : IsLeastSolution board (dirs_of letters) list
   pub count : length list ≡ pushes
 
+-- so many pushes are within the cap, if one is set
+abbrev pub KeepsCap : Option ℕ → ℕ → Type 0
+KeepsCap None pushes = Unit {0}
+KeepsCap (Some most) pushes = pushes ≤ most
+
+-- a solution of the level whose pushes are within the cap
+abbrev pub IsSolutionOf : Task → List Dir → List Push → Type 0
+IsSolutionOf task ds ps = IsSolution task.board ds ps × KeepsCap task.cap (length ps)
+
 -- the first n layers of the level have so many positions together
-abbrev pub HaveTotal : Board → ℕ → ℕ → Type 0
-HaveTotal board n positions = (layers : List (List Scene)) × AreLayersOf board layers × (length layers ≡ n) × (total layers ≡ positions)
+abbrev pub HaveTotal : Task → ℕ → ℕ → Type 0
+HaveTotal task n positions = (layers : List (List Scene)) × AreLayersOf task layers × (length layers ≡ n) × (total layers ≡ positions)
 
 -- all layers of the level together have so many positions: layer n is the first without one, so all later ones are
 -- empty too
-pub record HasInAll (board : Board) (positions : ℕ) : Type 0 where
+pub record HasInAll (task : Task) (positions : ℕ) : Type 0 where
   pub layers : List (List Scene)
-  pub are : AreLayersOf board layers
+  pub are : AreLayersOf task layers
   pub last : slice_get layers (length layers - 1) ≡ Some []
   pub first : (j : ℕ) → slice_get layers j ≡ Some [] → j ≡ length layers - 1
   pub total : total layers ≡ positions
 
--- no play solves the level
-abbrev pub IsUnsolvable : Board → Type 0
-IsUnsolvable board = (ds : List Dir) (ps : List Push) → ¬ (IsSolution board ds ps)
+-- no play solves the level within the cap
+abbrev pub IsUnsolvable : Task → Type 0
+IsUnsolvable task = (ds : List Dir) (ps : List Push) → ¬ (IsSolutionOf task ds ps)
 
 -- the positions that are needed are more than the limit: those of the layers before some layer k together with some
--- positions of layer k, while each solution has k pushes or more
-pub record PassesLimit (board : Board) (limit : ℕ) : Type 0 where
+-- positions of layer k, while each solution within the cap has k pushes or more
+pub record PassesLimit (task : Task) (limit : ℕ) : Type 0 where
   pub layers : List (List Scene)
-  pub are : AreLayersOf board layers
+  pub are : AreLayersOf task layers
   pub more : List Scene
   pub distinct : AreDistinct more
-  pub next : (n : Scene) → IsIn more n → IsAtDistance board n (length layers)
+  pub next : (n : Scene) → IsIn more n → IsAtDistance task n (length layers)
   pub passed : limit < total layers + length more
-  pub unsolved : (ds : List Dir) (ps : List Push) → IsSolution board ds ps → length layers ≤ length ps
+  pub unsolved : (ds : List Dir) (ps : List Push) → IsSolutionOf task ds ps → length layers ≤ length ps
 
--- no play solves the level, and all its layers together have so many positions, no more than the limit
-abbrev pub HasNone : Board → ℕ → ℕ → Type 0
-HasNone board limit positions = IsUnsolvable board × HasInAll board positions × (positions ≤ limit)
+-- no play solves the level within the cap, and all its layers together have so many positions, no more than the limit
+abbrev pub HasNone : Task → ℕ → ℕ → Type 0
+HasNone task limit positions = IsUnsolvable task × HasInAll task positions × (positions ≤ limit)
 
--- the answer: the least solution, with its number of pushes and the number of positions that so many pushes or fewer
--- lead to; or that no play ends solved, with the number of all positions; or that this number is more than the limit
-abbrev pub IsAnswer : Board → ℕ → Answer → Type 0
-IsAnswer board limit (Solved moves pushes positions) =
-    WritesLeastSolution board moves pushes × HaveTotal board (suc pushes) positions × (positions ≤ limit)
-IsAnswer board limit (Unsolvable positions) = HasNone board limit positions
-IsAnswer board limit Limit = PassesLimit board limit
+-- the answer: the least solution, with its number of pushes, which are within the cap, and the number of positions that so
+-- many pushes or fewer lead to; or that no play ends solved, within the cap if one is set, with the number of all
+-- positions; or that this number is more than the limit
+abbrev pub IsAnswer : Task → ℕ → Answer → Type 0
+IsAnswer task limit (Solved moves pushes positions) =
+    WritesLeastSolution task.board moves pushes × HaveTotal task (suc pushes) positions × (positions ≤ limit) × KeepsCap task.cap pushes
+IsAnswer task limit (Unsolvable positions) = (task.cap ≡ None) × HasNone task limit positions
+IsAnswer task limit (NoneWithin positions) = ¬ (task.cap ≡ None) × HasNone task limit positions
+IsAnswer task limit Limit = PassesLimit task limit
 
--- k is the least number of pushes of a solution
-abbrev pub IsFewest : Board → ℕ → Type 0
-IsFewest board k =
-    ((ds : List Dir) × (ps : List Push) × IsSolution board ds ps × (length ps ≡ k)) × ((ds : List Dir) (ps : List Push) → IsSolution board ds ps → k ≤ length ps)
+-- k is the least number of pushes of a solution within the cap
+abbrev pub IsFewest : Task → ℕ → Type 0
+IsFewest task k =
+    ((ds : List Dir) × (ps : List Push) × IsSolutionOf task ds ps × (length ps ≡ k)) × ((ds : List Dir) (ps : List Push) → IsSolutionOf task ds ps → k ≤ length ps)

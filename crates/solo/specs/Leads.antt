@@ -7,6 +7,7 @@ use Rattle.grid.specs.declared.moves.Letter.{Letter}
 use Rattle.grid.specs.Board.{Board, Scene, IsSolved, start, dir_cmp}
 use Rattle.grid.specs.Plays.{Play, Any, shortlex, dirs_of, letters_of}
 use Rattle.layers.specs.LayerView.{LayerView}
+use Rattle.layers.specs.Tasks.{Task, uncapped}
 use Rattle.layers.specs.Reaching.{IsLeadOf}
 
 -- none of the positions has all its boxes on goals
@@ -20,9 +21,9 @@ pub record IsFirstSolved (board : Board) (places : List Scene) (rank : ℕ) : Ty
   pub solved : IsSolved board place
   pub first : (r : ℕ) (n : Scene) → r < rank → slice_get places r ≡ Some n → ¬ (IsSolved board n)
 
--- the level of a list of layers, which is that of the first one
-abbrev pub level_of : List LayerView → Board
-level_of [] = record { cols = 0; cells = [] }
+-- the level with its cap of a list of layers, which is that of the first one
+abbrev pub level_of : List LayerView → Task
+level_of [] = uncapped (record { cols = 0; cells = [] })
 level_of (layer ∷ layers) = layer.level
 
 -- the positions of a layer, if there is one
@@ -34,7 +35,7 @@ places_or_none (Some layer) = layer.places
 abbrev pub last_places : List LayerView → List Scene
 last_places layers = places_or_none (slice_get layers (length layers - 1))
 
--- the list is layers 0 to k of one level, for some k
+-- the list is layers 0 to k of one level under one cap, for some k
 pub record AreFirstLayers (layers : List LayerView) : Type 0 where
   pub some : 1 ≤ length layers
   pub each : (j : ℕ) (layer : LayerView) → slice_get layers j ≡ Some layer → (layer.level ≡ level_of layers) × (layer.number ≡ j)

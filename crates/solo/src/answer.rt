@@ -20,6 +20,12 @@ pub enum Answer {
     Unsolvable {
         positions: u64,
     },
+    /// No play with so many pushes as the cap allows ends with every box on a goal; answered in place of
+    /// [`Unsolvable`](Answer::Unsolvable) exactly where a cap is set. `positions` counts all positions that pushes lead to
+    /// and from which the level may be solved within the cap, by what lone boxes need.
+    NoneWithin {
+        positions: u64,
+    },
     /// That count is more than the limit.
     Limit,
 }

@@ -10,7 +10,7 @@ use layers::Layer;
 /// The least rank of the layer whose position has all its boxes on goals; `None` exactly where there is none. Takes
 /// no memory.
 pub fn first_solved(layer: &Layer) -> Option<u64>
-    ensures { MatchOption result (AreUnsolved layer.now.level layer.now.places) (λ rank. IsFirstSolved layer.now.level layer.now.places rank) }
+    ensures { MatchOption result (AreUnsolved layer.now.level.board layer.now.places) (λ rank. IsFirstSolved layer.now.level.board layer.now.places rank) }
 {
     for rank in 0..layer.len() {
         if let Some(position) = layer.position(rank) {

@@ -1,7 +1,8 @@
 //! The play that leads to a position, read back through the layers.
 ghost use Rattle.std.specs.Prelude.{◌≡◌, ℕ, ◌≤◌, ◌<◌, IfOk, List, Some, length, map, slice_get};
 ghost use Rattle.grid.specs.declared.square.Push.{Push as Made};
-ghost use Rattle.grid.specs.Board.{Board, Scene};
+ghost use Rattle.grid.specs.Board.{Scene};
+ghost use Rattle.layers.specs.Tasks.{Task};
 ghost use Rattle.layers.specs.LayerView.{LayerView, IsWhole};
 ghost use Rattle.layers.specs.Openings.{Origin};
 ghost use Rattle.solo.specs.Leads.{AreFirstLayers, WritesLead, level_of, last_places};
@@ -25,8 +26,8 @@ pub fn moves_to(
 ) -> Result<Moves, AllocError>
     requires layers { AreFirstLayers layers.now }
     requires rank { rank < length (last_places layers.now) }
-    requires room { scratch.old.size ≡ length (level_of layers.now).cells }
-    ensures lead { IfOk result (λ moves. (n : Scene) → slice_get (last_places layers.now) rank ≡ Some n → WritesLead (level_of layers.now) n moves) }
+    requires room { scratch.old.size ≡ length (level_of layers.now).board.cells }
+    ensures lead { IfOk result (λ moves. (n : Scene) → slice_get (last_places layers.now) rank ≡ Some n → WritesLead (level_of layers.now).board n moves) }
     ensures size { scratch.new.size ≡ scratch.old.size }
 {
     tell_each(layers);
@@ -44,8 +45,8 @@ pub(crate) fn moves_back(
 ) -> Result<Moves, AllocError>
     requires next { IsNextOf trail.now layer.now }
     requires rank { rank < length layer.now.places }
-    requires room { scratch.old.size ≡ length layer.now.level.cells }
-    ensures lead { IfOk result (λ moves. (n : Scene) → slice_get layer.now.places rank ≡ Some n → WritesLead layer.now.level n moves) }
+    requires room { scratch.old.size ≡ length layer.now.level.board.cells }
+    ensures lead { IfOk result (λ moves. (n : Scene) → slice_get layer.now.places rank ≡ Some n → WritesLead layer.now.level.board n moves) }
     ensures size { scratch.new.size ≡ scratch.old.size }
 {
     let pushes = lead_back(alloc, trail, layer, rank)?;
@@ -109,7 +110,7 @@ fn lead_back(
 
 // The lead of the position with a rank of the last layer of some first ones, read back through the parents.
 fn lead_of<P: HasParents>(alloc: Global, trail: &[P], asked: u64) -> Result<Vec<Push>, AllocError>
-    ensures { IfOk result (λ pushes. (board : Board) (layers : List LayerView) → AreTrailed board layers (map P.origins trail.now) → asked < length (last_places layers) → IsLeadAt board (last_places layers) asked pushes.items) }
+    ensures { IfOk result (λ pushes. (task : Task) (layers : List LayerView) → AreTrailed task layers (map P.origins trail.now) → asked < length (last_places layers) → IsLeadAt task (last_places layers) asked pushes.items) }
 {
     let mut pushes = Vec::new(alloc);
     let mut rank = asked;

@@ -2,6 +2,7 @@ ghost use Rattle.std.specs.Prelude.{◌≡◌, ℕ, ◌<◌, ◌≤◌, IfNone, 
 ghost use Rattle.std.specs.Arc.{arc_value};
 ghost use Rattle.grid.specs.Lawful.{box_count};
 ghost use Rattle.grid.specs.declared.limits.TheConstants.{MAX_BOXES};
+ghost use Rattle.layers.specs.Tasks.{capped};
 ghost use Rattle.solo.specs.Answers.{IsAnswer};
 ghost use Rattle.solo.specs.Refusals.{SolveRefused};
 ghost use Rattle.solo.specs.inside.Turns.{AreBetweenTurns, GoesOn};
@@ -9,55 +10,64 @@ ghost use Rattle.solo.specs.inside.Turns.{AreBetweenTurns, GoesOn};
 use crate::answer::{Answer, SolveFault};
 use crate::turn::{Worked, begin_each, finish_each, last_layer, look, new_books};
 use area::Scratch;
-use doom::Dead;
 use grid::{Level, MAX_BOXES};
-use layers::{Book, Parents};
+use layers::{Book, Parents, Pruner};
 use std::alloc::{AllocError, Global};
 use std::sync::Arc;
 
-/// The solution of the level with the fewest pushes, or that it has none, or that more than `limit` positions are
-/// needed to say so.
+/// The solution of the level with the fewest pushes, or that it has none, within a cap of pushes if one is set, or that
+/// more than `limit` positions are needed to say so.
 ///
 /// A solution that is given is the least one: the fewest pushes, then the least push list, then the fewest moves, then
 /// the least text. The errors are that the level has more boxes than [`MAX_BOXES`](grid::MAX_BOXES), and that memory
 /// was refused.
-pub fn solve_alone(alloc: Global, level: &Arc<Level>, limit: u32) -> Result<Answer, SolveFault>
+pub fn solve_alone(
+    alloc: Global,
+    level: &Arc<Level>,
+    cap: Option<u32>,
+    limit: u32,
+) -> Result<Answer, SolveFault>
     requires { 1 ≤ limit }
-    ensures answer { IfOk result (λ answer. IsAnswer (arc_value level.now) limit answer) }
+    ensures answer { IfOk result (λ answer. IsAnswer (capped (arc_value level.now) cap) limit answer) }
     ensures boxes { MatchResult result (λ answer. box_count (arc_value level.now) ≤ MAX_BOXES) (λ fault. SolveRefused (arc_value level.now) fault) }
 {
     if level.boxes() > MAX_BOXES {
         return Err(SolveFault::TooManyBoxes);
     }
-    match search(alloc, level, limit) {
+    match search(alloc, level, cap, limit) {
         Ok(answer) => Ok(answer),
         Err(_) => Err(SolveFault::OutOfMemory),
     }
 }
 
 // The answer that the layers of a level give. The only error is that memory was refused.
-fn search(alloc: Global, level: &Arc<Level>, limit: u32) -> Result<Answer, AllocError>
+fn search(
+    alloc: Global,
+    level: &Arc<Level>,
+    cap: Option<u32>,
+    limit: u32,
+) -> Result<Answer, AllocError>
     requires limit { 1 ≤ limit }
     requires boxes { box_count (arc_value level.now) ≤ MAX_BOXES }
-    ensures { IfOk result (λ answer. IsAnswer (arc_value level.now) limit answer) }
+    ensures { IfOk result (λ answer. IsAnswer (capped (arc_value level.now) cap) limit answer) }
 {
-    let dead = Dead::of(alloc, level)?;
+    let pruner = Pruner::of(alloc, level, cap)?;
     let mut scratch = Scratch::new(alloc, level)?;
-    let mut books = new_books(alloc, level, &dead, limit, 1, 1, &mut scratch)?;
-    all_turns(alloc, books.as_mut_slice(), &dead, &mut scratch, limit)
+    let mut books = new_books(alloc, level, &pruner, limit, 1, 1, &mut scratch)?;
+    all_turns(alloc, books.as_mut_slice(), &pruner, &mut scratch, limit)
 }
 
 // Makes turn after turn until there is an answer. The only error is that memory was refused.
 fn all_turns(
     alloc: Global,
     books: &mut [Book],
-    dead: &Dead,
+    pruner: &Pruner,
     scratch: &mut Scratch,
     limit: u32,
 ) -> Result<Answer, AllocError>
-    requires first { AreBetweenTurns dead.now limit 1 1 books.old [] 0 }
-    requires room { scratch.old.size ≡ length dead.now.cells }
-    ensures { IfOk result (λ answer. IsAnswer dead.now limit answer) }
+    requires first { AreBetweenTurns pruner.now limit 1 1 books.old [] 0 }
+    requires room { scratch.old.size ≡ length pruner.now.board.cells }
+    ensures { IfOk result (λ answer. IsAnswer pruner.now limit answer) }
 {
     let mut trail = Vec::new(alloc);
     let mut positions = 0;
@@ -67,7 +77,7 @@ fn all_turns(
             books,
             &mut trail,
             &mut positions,
-            dead,
+            pruner,
             scratch,
             limit,
         )?;
@@ -84,14 +94,14 @@ fn turn(
     books: &mut [Book],
     trail: &mut Vec<Parents>,
     positions: &mut u64,
-    dead: &Dead,
+    pruner: &Pruner,
     scratch: &mut Scratch,
     limit: u32,
 ) -> Result<Option<Answer>, AllocError>
-    requires turn { AreBetweenTurns dead.now limit 1 1 books.old trail.old.items positions.old }
-    requires room { scratch.old.size ≡ length dead.now.cells }
-    ensures answer { IfOk result (λ found. IfSome found (λ answer. IsAnswer dead.now limit answer)) }
-    ensures onward { IfOk result (λ found. IfNone found (GoesOn dead.now limit books.new trail.new.items positions.old positions.new)) }
+    requires turn { AreBetweenTurns pruner.now limit 1 1 books.old trail.old.items positions.old }
+    requires room { scratch.old.size ≡ length pruner.now.board.cells }
+    ensures answer { IfOk result (λ found. IfSome found (λ answer. IsAnswer pruner.now limit answer)) }
+    ensures onward { IfOk result (λ found. IfNone found (GoesOn pruner.now limit books.new trail.new.items positions.old positions.new)) }
     ensures size { scratch.new.size ≡ scratch.old.size }
 {
     let layer = last_layer(alloc, books)?;
@@ -100,7 +110,7 @@ fn turn(
         return Ok(Some(answer));
     }
     begin_each(books, &layer)?;
-    let worked = finish_each(books, &layer, dead, scratch, 0)?;
+    let worked = finish_each(books, &layer, pruner, scratch, 0)?;
     trail.push(Parents::of(layer))?;
     match worked {
         Worked::Over => Ok(Some(Answer::Limit)),

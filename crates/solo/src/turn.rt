@@ -7,7 +7,7 @@ ghost use Rattle.grid.specs.declared.limits.TheConstants.{MAX_BOXES};
 ghost use Rattle.layers.specs.declared.limits.TheConstants.{MAX_SHARES, MAX_WORKERS};
 ghost use Rattle.layers.specs.BookView.{BookView, Closed};
 ghost use Rattle.layers.specs.Books.{AllDone, AreAllShares, AreNewShares, HasBegun, IsAtWork, IsJoinOf, MayBegin, with_begun, with_closed, with_parcel};
-ghost use Rattle.solo.specs.Answers.{IsAnswer};
+ghost use Rattle.solo.specs.Answers.{HasNone, IsAnswer};
 ghost use Rattle.solo.specs.Leads.{IsFirstSolved};
 ghost use Rattle.solo.specs.inside.Searched.{HaveBefore, IsLookedAt};
 ghost use Rattle.solo.specs.inside.Rests.{MayBeClosed, RestAnswer, RestAnswers};
@@ -17,11 +17,10 @@ use crate::answer::Answer;
 use crate::goals::first_solved;
 use crate::lead::moves_back;
 use area::Scratch;
-use doom::Dead;
 use grid::Level;
 use layers::{
-    BeginFault, Book, BookFault, CloseFault, JoinFault, Layer, Parcel, Parents, Refusal, expand,
-    expand_into,
+    BeginFault, Book, BookFault, CloseFault, JoinFault, Layer, Parcel, Parents, Pruner, Refusal,
+    expand_by, expand_into,
 };
 use std::alloc::{AllocError, Global};
 use std::sync::Arc;
@@ -40,22 +39,22 @@ pub enum Worked {
 pub fn new_books(
     alloc: Global,
     level: &Arc<Level>,
-    dead: &Dead,
+    pruner: &Pruner,
     limit: u32,
     workers: u8,
     shares: u8,
     scratch: &mut Scratch,
 ) -> Result<Vec<Book>, AllocError>
     requires boxes { box_count (arc_value level.now) ≤ MAX_BOXES }
-    requires dead_of_level { dead.now ≡ arc_value level.now }
+    requires pruner_of_level { pruner.now.board ≡ arc_value level.now }
     requires limit { 1 ≤ limit }
     requires workers { (1 ≤ workers) × (workers ≤ MAX_WORKERS + 1) }
     requires shares { (1 ≤ shares) × (shares ≤ MAX_SHARES) }
     requires room { scratch.old.size ≡ length (arc_value level.now).cells }
-    ensures books { IfOk result (λ books. AreNewShares (arc_value level.now) limit workers shares books.items) }
+    ensures books { IfOk result (λ books. AreNewShares pruner.now limit workers shares books.items) }
     ensures size { scratch.new.size ≡ scratch.old.size }
 {
-    match Book::of_all_shares(alloc, level, dead, limit, workers, shares, scratch) {
+    match Book::of_all_shares(alloc, level, pruner, limit, workers, shares, scratch) {
         Ok(books) => Ok(books),
         Err(BookFault::TooManyBoxes) => unreachable!(),
         Err(BookFault::OutOfMemory) => Err(AllocError),
@@ -66,7 +65,8 @@ pub fn new_books(
 /// positions are counted.
 ///
 /// The layer is counted first. More positions than the limit are the answer `Limit`, a solved position is the answer
-/// `Solved`, and a layer without positions is the answer `Unsolvable`. An error leaves the count as it was.
+/// `Solved`, and a layer without positions is the answer `Unsolvable`, or `NoneWithin` where a cap is set. An error leaves
+/// the count as it was.
 pub fn look(
     alloc: Global,
     trail: &[Parents],
@@ -77,7 +77,7 @@ pub fn look(
 ) -> Result<Option<Answer>, AllocError>
     requires looked { IsLookedAt layer.now.level limit trail.now positions.old }
     requires next { layer.now.number ≡ length trail.now }
-    requires room { scratch.old.size ≡ length layer.now.level.cells }
+    requires room { scratch.old.size ≡ length layer.now.level.board.cells }
     ensures answer { IfOk result (λ found. IfSome found (λ answer. IsAnswer layer.now.level limit answer)) }
     ensures looked { IfOk result (λ found. IfNone found (IsLookedAt layer.now.level limit (trail.now ++ layer.now.origins ∷ []) positions.new)) }
     ensures ranks { IfOk result (λ found. IfNone found ((0 < length layer.now.places) × (length layer.now.places ≤ limit))) }
@@ -95,10 +95,20 @@ pub fn look(
         return Ok(Some(answer));
     }
     if layer.is_empty() {
-        return Ok(Some(Answer::Unsolvable { positions: count }));
+        return Ok(Some(none_of(layer, count)));
     }
     *positions = count;
     Ok(None)
+}
+
+// The answer where no play solves the level within the layer's cap.
+fn none_of(layer: &Layer, positions: u64) -> Answer
+    ensures { (limit : ℕ) → HasNone layer.now.level limit positions → IsAnswer layer.now.level limit result }
+{
+    match layer.cap() {
+        None => Answer::Unsolvable { positions },
+        Some(_) => Answer::NoneWithin { positions },
+    }
 }
 
 // The answer where the position with a rank is the first solved one of the layer after those that were looked at.
@@ -112,8 +122,8 @@ fn solved(
 ) -> Result<Answer, AllocError>
     requires looked { HaveBefore layer.now.level trail.now (length layer.now.places) positions }
     requires next { layer.now.number ≡ length trail.now }
-    requires first { IsFirstSolved layer.now.level layer.now.places rank }
-    requires room { scratch.old.size ≡ length layer.now.level.cells }
+    requires first { IsFirstSolved layer.now.level.board layer.now.places rank }
+    requires room { scratch.old.size ≡ length layer.now.level.board.cells }
     ensures answer { IfOk result (λ answer. (limit : ℕ) → positions ≤ limit → IsAnswer layer.now.level limit answer) }
     ensures size { scratch.new.size ≡ scratch.old.size }
 {
@@ -170,20 +180,20 @@ pub fn begin(book: &mut Book, layer: &Layer) -> Result<(), AllocError>
 pub fn finish_each(
     books: &mut [Book],
     layer: &Layer,
-    dead: &Dead,
+    pruner: &Pruner,
     scratch: &mut Scratch,
     worker: u8,
 ) -> Result<Worked, AllocError>
     requires begun { (i : ℕ) (v : BookView) → slice_get books.old i ≡ Some v → HasBegun v layer.now }
     requires worker { (i : ℕ) (v : BookView) → slice_get books.old i ≡ Some v → worker < v.workers }
-    requires dead_of_level { dead.now ≡ layer.now.level }
-    requires room { scratch.old.size ≡ length layer.now.level.cells }
+    requires pruner_of_level { pruner.now ≡ layer.now.level }
+    requires room { scratch.old.size ≡ length layer.now.level.board.cells }
     ensures worked { IfOk result (λ worked. WorkAnswers books.old worked books.new) }
     ensures err { OnErr result (MayBeWorked books.old layer.now books.new) }
     ensures size { scratch.new.size ≡ scratch.old.size }
 {
     for place in 0..books.len() {
-        let worked = finish(&mut books[place], layer, dead, scratch, worker)?;
+        let worked = finish(&mut books[place], layer, pruner, scratch, worker)?;
         books[place].tell();
         match worked {
             Worked::Through => {}
@@ -198,20 +208,20 @@ pub fn finish_each(
 pub fn finish_rest(
     books: &mut [Book],
     layer: &Layer,
-    dead: &Dead,
+    pruner: &Pruner,
     scratch: &mut Scratch,
     worker: u8,
 ) -> Result<Worked, AllocError>
     requires begun { (i : ℕ) (v : BookView) → slice_get books.old i ≡ Some v → v.begun ≡ true → HasBegun v layer.now }
     requires worker { (i : ℕ) (v : BookView) → slice_get books.old i ≡ Some v → worker < v.workers }
-    requires dead_of_level { dead.now ≡ layer.now.level }
-    requires room { scratch.old.size ≡ length layer.now.level.cells }
+    requires pruner_of_level { pruner.now ≡ layer.now.level }
+    requires room { scratch.old.size ≡ length layer.now.level.board.cells }
     ensures worked { IfOk result (λ worked. RestAnswers books.old worked books.new) }
     ensures err { OnErr result (MayBeWorked books.old layer.now books.new) }
     ensures size { scratch.new.size ≡ scratch.old.size }
 {
     for place in 0..books.len() {
-        let worked = finish_begun(&mut books[place], layer, dead, scratch, worker)?;
+        let worked = finish_begun(&mut books[place], layer, pruner, scratch, worker)?;
         books[place].tell();
         match worked {
             Worked::Through => (),
@@ -225,14 +235,14 @@ pub fn finish_rest(
 fn finish_begun(
     book: &mut Book,
     layer: &Layer,
-    dead: &Dead,
+    pruner: &Pruner,
     scratch: &mut Scratch,
     worker: u8,
 ) -> Result<Worked, AllocError>
     requires begun { book.old.begun ≡ true → HasBegun book.old layer.now }
     requires worker { worker < book.old.workers }
-    requires dead_of_level { dead.now ≡ layer.now.level }
-    requires room { scratch.old.size ≡ length layer.now.level.cells }
+    requires pruner_of_level { pruner.now ≡ layer.now.level }
+    requires room { scratch.old.size ≡ length layer.now.level.board.cells }
     ensures worked { IfOk result (λ worked. RestAnswer book.old worked book.new) }
     ensures err { OnErr result (IsStillAt book.old layer.now book.new) }
     ensures size { scratch.new.size ≡ scratch.old.size }
@@ -240,7 +250,7 @@ fn finish_begun(
     if !book.has_begun() {
         return Ok(Worked::Through);
     }
-    finish(book, layer, dead, scratch, worker)
+    finish(book, layer, pruner, scratch, worker)
 }
 
 /// Does as one of the workers whatever is left of the last closed layer, whoever claimed it, and closes the next one;
@@ -249,14 +259,14 @@ fn finish_begun(
 pub fn finish(
     book: &mut Book,
     layer: &Layer,
-    dead: &Dead,
+    pruner: &Pruner,
     scratch: &mut Scratch,
     worker: u8,
 ) -> Result<Worked, AllocError>
     requires begun { HasBegun book.old layer.now }
     requires worker { worker < book.old.workers }
-    requires dead_of_level { dead.now ≡ layer.now.level }
-    requires room { scratch.old.size ≡ length layer.now.level.cells }
+    requires pruner_of_level { pruner.now ≡ layer.now.level }
+    requires room { scratch.old.size ≡ length layer.now.level.board.cells }
     ensures worked { IfOk result (λ worked. WorkAnswer book.old worked book.new) }
     ensures err { OnErr result (IsStillAt book.old layer.now book.new) }
     ensures size { scratch.new.size ≡ scratch.old.size }
@@ -264,7 +274,7 @@ pub fn finish(
     book.tell();
     layer.tell();
     book.reopen();
-    if !do_ranks(book, layer, dead, scratch, worker)? {
+    if !do_ranks(book, layer, pruner, scratch, worker)? {
         return Ok(Worked::Over);
     }
     close(book)?;
@@ -275,15 +285,15 @@ pub fn finish(
 fn do_ranks(
     book: &mut Book,
     layer: &Layer,
-    dead: &Dead,
+    pruner: &Pruner,
     scratch: &mut Scratch,
     worker: u8,
 ) -> Result<bool, AllocError>
     requires still { IsStillAt book.old layer.now book.old }
     requires reopened { book.old.claimed ≡ book.old.done }
     requires worker { worker < book.old.workers }
-    requires dead_of_level { dead.now ≡ layer.now.level }
-    requires room { scratch.old.size ≡ length layer.now.level.cells }
+    requires pruner_of_level { pruner.now ≡ layer.now.level }
+    requires room { scratch.old.size ≡ length layer.now.level.board.cells }
     ensures still { IsStillAt book.old layer.now book.new }
     ensures done { IfOk result (λ within. MatchBool within (AllDone book.new) (book.new.over ≡ true)) }
     ensures size { scratch.new.size ≡ scratch.old.size }
@@ -291,7 +301,7 @@ fn do_ranks(
     let Some(first) = book.claim() else {
         return Ok(true);
     };
-    let mut parcel = expand(layer, dead, first.rank, scratch);
+    let mut parcel = expand_by(layer, pruner, first.rank, scratch);
     loop {
         if !enter(book, worker, &parcel)? {
             return Ok(false);
@@ -299,7 +309,7 @@ fn do_ranks(
         let Some(claim) = book.claim() else {
             return Ok(true);
         };
-        expand_into(layer, dead, claim.rank, scratch, &mut parcel);
+        expand_into(layer, pruner, claim.rank, scratch, &mut parcel);
     }
 }
 

@@ -5,7 +5,7 @@ mod shares;
 mod traces;
 
 use area::Scratch;
-use doom::Dead;
+use doom::{Bound, Dead};
 use grid::{Dir, Level, Position, Push, Square};
 use layers::{Book, Layer, Parcel, Refusal, expand};
 use std::alloc::Global;
@@ -30,7 +30,7 @@ pub(crate) fn level_of(rt: &impl Abort, alloc: Global, text: &[u8]) -> Arc<Level
 /// A book of a level with three workers, which holds all positions.
 pub(crate) fn book_of(rt: &impl Abort, alloc: Global, text: &[u8], limit: u32) -> Book {
     assert!(rt; limit >= 1);
-    Book::of(alloc, level_of(rt, alloc, text), limit, 3, 0, 1).expect(rt, "a book")
+    Book::of(alloc, level_of(rt, alloc, text), None, limit, 3, 0, 1).expect(rt, "a book")
 }
 
 /// The last closed layer of a book of all positions.
@@ -52,8 +52,9 @@ pub(crate) fn parcel_of<'a>(
 ) -> Parcel<'a> {
     assert!(rt; rank < layer.len());
     let dead = Dead::of(alloc, layer.level()).expect(rt, "memory");
+    let bound = Bound::of(alloc, layer.level()).expect(rt, "memory");
     let mut scratch = Scratch::new(alloc, layer.level()).expect(rt, "memory");
-    expand(layer, &dead, rank, &mut scratch)
+    expand(layer, &dead, &bound, rank, &mut scratch)
 }
 
 /// What a book answers where a worker hands back the parcel of a rank of a layer.

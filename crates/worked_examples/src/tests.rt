@@ -82,6 +82,7 @@ fn perform<R: Threads + Wait + Sync, S: Source, T: Source, K: Sink>(
                 workers: workers.max(1).min(MAX_WORKERS),
                 locks: locks.max(1).min(MAX_SHARES),
                 limit: limit.max(1),
+                cap: None,
             };
             run_solve(rt, alloc, source, number.max(1), config, sink)
         }

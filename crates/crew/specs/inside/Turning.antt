@@ -1,7 +1,7 @@
 -- The books of a search with workers, and how a turn of it ends.
 use Rattle.std.specs.Prelude.{ℕ, ◌+◌, ◌<◌, List}
 use Rattle.grid.specs.declared.square.Push.{Push}
-use Rattle.grid.specs.Board.{Board}
+use Rattle.layers.specs.Tasks.{Task}
 use Rattle.layers.specs.BookView.{BookView}
 use Rattle.layers.specs.LayerView.{LayerView}
 use Rattle.layers.specs.Openings.{Origin}
@@ -13,8 +13,8 @@ use Rattle.crew.specs.declared.turns.Turned.{Turned}
 use Rattle.crew.specs.declared.turns.Turned.TheVariants.{Onward, Found, Foreign}
 
 -- the books of a search by the configuration are between two turns
-abbrev pub ArePausedBy : Config → Board → List BookView → List (List (Origin Push)) → ℕ → Type 0
-ArePausedBy config board books trail positions = AreBetweenTurns board config.limit (config.workers + 1) config.locks books trail positions
+abbrev pub ArePausedBy : Config → Task → List BookView → List (List (Origin Push)) → ℕ → Type 0
+ArePausedBy config task books trail positions = AreBetweenTurns task config.limit (config.workers + 1) config.locks books trail positions
 
 -- the books of a search by the configuration were at work on the layer, and this is how its last ranks left them
 abbrev pub AreWorkedBy : Config → LayerView → Worked → List BookView → Type 0
@@ -22,7 +22,7 @@ AreWorkedBy config layer worked books = AreWorked layer.level config.limit (conf
 
 -- how a turn ends: the search goes on with books that have closed the next layer; or there is an answer; or other books
 -- came back
-abbrev pub TurnAnswer : Config → Board → List (List (Origin Push)) → ℕ → ℕ → Turned → Type 0
-TurnAnswer config board trail before positions (Onward books) = ArePausedBy config board books.items trail positions × (before < positions)
-TurnAnswer config board trail before positions (Found answer) = IsAnswer board config.limit answer
-TurnAnswer config board trail before positions Foreign = Unit {0}
+abbrev pub TurnAnswer : Config → Task → List (List (Origin Push)) → ℕ → ℕ → Turned → Type 0
+TurnAnswer config task trail before positions (Onward books) = ArePausedBy config task books.items trail positions × (before < positions)
+TurnAnswer config task trail before positions (Found answer) = IsAnswer task config.limit answer
+TurnAnswer config task trail before positions Foreign = Unit {0}

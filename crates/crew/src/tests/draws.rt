@@ -6,8 +6,7 @@ use crate::tests::{TWO_ENDS, level_of};
 use crate::{End, Free, work};
 use area::Scratch;
 use claims::{Drawer, Ledger};
-use doom::Dead;
-use layers::{Book, Claim, Layer, Refusal, expand};
+use layers::{Book, Claim, Layer, Pruner, Refusal, expand_by};
 use std::alloc::Global;
 use std::process::Abort;
 use std::slice;
@@ -19,7 +18,7 @@ const FIRST: Claim = Claim { layer: 0, rank: 0 };
 /// A book at work on layer 0, and that layer, which has one position.
 fn begun(rt: &impl Abort, alloc: Global) -> (Book, Layer) {
     let level = level_of(rt, alloc, TWO_ENDS);
-    let mut book = Book::of(alloc, level, 1_000_000, 2, 0, 1).expect(rt, "a book");
+    let mut book = Book::of(alloc, level, None, 1_000_000, 2, 0, 1).expect(rt, "a book");
     let layer = Layer::join(alloc, slice::from_ref(&book)).expect(rt, "a layer");
     book.begin(&layer).expect(rt, "a begin");
     (book, layer)
@@ -48,14 +47,14 @@ fn worked<R: Wait + Abort>(
     requires drawer { drawer ≡ newcomer ledger.now }
 {
     assert!(rt; layer.len() >= 1);
-    let dead = Dead::of(alloc, layer.level()).expect(rt, "memory");
+    let pruner = Pruner::of(alloc, layer.level(), layer.cap()).expect(rt, "memory");
     let mut scratch = Scratch::new(alloc, layer.level()).expect(rt, "memory");
     let lock = Mutex::new(book);
     let mut own = drawer;
     let end = work(
         rt,
         layer,
-        &dead,
+        &pruner,
         slice::from_ref(&lock),
         ledger,
         &mut own,
@@ -70,9 +69,9 @@ fn worked<R: Wait + Abort>(
 fn again(rt: &impl Abort, alloc: Global, layer: &Layer, book: &mut Book) -> Result<(), Refusal> {
     assert!(rt; layer.len() >= 1);
     assert!(rt; book.workers() >= 1);
-    let dead = Dead::of(alloc, layer.level()).expect(rt, "memory");
+    let pruner = Pruner::of(alloc, layer.level(), layer.cap()).expect(rt, "memory");
     let mut scratch = Scratch::new(alloc, layer.level()).expect(rt, "memory");
-    book.hand_back(0, &expand(layer, &dead, 0, &mut scratch))
+    book.hand_back(0, &expand_by(layer, &pruner, 0, &mut scratch))
 }
 
 #[test]

@@ -12,24 +12,25 @@ use Rattle.std.specs.declared.cmp.Ordering.{Ordering}
 use Rattle.std.specs.declared.cmp.Ordering.TheVariants.{Less, Equal, Greater}
 use Rattle.std.specs.Ordering.{is_gt}
 use Rattle.grid.specs.declared.square.Push.{Push}
-use Rattle.grid.specs.Board.{Board, Scene, push_cmp}
+use Rattle.grid.specs.Board.{Scene, push_cmp}
 use Rattle.grid.specs.Lawful.{IsLevel, box_count}
 use Rattle.grid.specs.States.{FitsLevel}
 use Rattle.grid.proofs.lemmas.Levels.{start_is_scene}
 use Rattle.layers.specs.declared.parcel.Successor.{Successor}
 use Rattle.layers.specs.Layered.{IsIn, IsLayer}
 use Rattle.layers.specs.Openings.{Origin, origin_cmp, Entry, IsNext, IsOpen, IsLayered}
-use Rattle.layers.specs.Reaching.{Reaches, Admits, IsLayerOf, AreLayersOf, total}
-use Rattle.layers.specs.Origins.{IsSuccessor, HasOrigin, same_scene, share_of}
+use Rattle.layers.specs.Tasks.{Task, Admits}
+use Rattle.layers.specs.Reaching.{Reaches, IsLayerOf, AreLayersOf, total}
+use Rattle.layers.specs.Origins.{IsSuccessor, IsSuccessorIn, HasOrigin, same_scene, share_of}
 use Rattle.layers.specs.FoundView.{HaveFew}
 use Rattle.layers.specs.LayerView.{LayerView, IsWhole}
 use Rattle.layers.specs.ParcelView.{ParcelView, AreSuccessors, IsParcel}
-use Rattle.layers.specs.BookView.{BookView, Closed, last_layer, places_of, InShare, origin_of, HasClosedOrigin, IsShareOfLayer, IsLawfulBook}
+use Rattle.layers.specs.BookView.{BookView, Closed, last_layer, places_of, InShare, IsKept, origin_of, HasClosedOrigin, IsShareOfLayer, IsLawfulBook}
 use Rattle.layers.specs.Distances.{IsAtDistance}
 use Rattle.layers.specs.Books.{MayBegin, HasBegun, with_begun, offered, is_closed, is_wanted, is_wanted_in, entered, all_entered, with_parcel, IsAtWork, PassesLimit, MayEnter, with_reopened, IsTaken, AllDone, with_closed, closed_entry, RiseByOrigin, AreReordered, IsSortedOpen, IsClosedBy}
 use Rattle.layers.proofs.lemmas.Exchange.{at_map, map_at, lead_unique, found, entry_lead, next_layer}
 use Rattle.layers.proofs.Offers.{same_true, same_since, origin_of-offered, origin_of-other, open_places, offered-distinct, offered-each, listed-origin, origin-listed}
-use Rattle.layers.proofs.lemmas.Layers.{member, layer_unique}
+use Rattle.layers.proofs.lemmas.Layers.{member, layer_unique, recut}
 use Rattle.layers.specs.declared.book.Book.TheInside.{Inside}
 use Rattle.layers.specs.inside.BookInside.{book_view, cut_at, AreCuts}
 use Rattle.layers.proofs.Cuts.{length-cut_at, total-cuts, any-cuts, cut_push, cuts_push}
@@ -39,17 +40,13 @@ use Rattle.layers.proofs.lemmas.Orders.{nat_cmp_equal}
 use Rattle.layers.proofs.Reaching.{reaching_laws}
 
 -- the layers of a lawful level are layers in lead order
-pub level_laws : (board : Board) → IsLevel board → IsLayered push_cmp (Reaches board) (IsSuccessor board) (Admits board)
-level_laws board level = reaching_laws (start_is_scene board level)
-
--- each position is admitted
-pub admitted : (board : Board) (k : ℕ) (n : Scene) → Admits board k n
-admitted board k n = tt
+pub level_laws : (task : Task) → IsLevel task.board → IsLayered push_cmp (Reaches task.board) (IsSuccessor task.board) (Admits task)
+level_laws task level = reaching_laws task (start_is_scene task.board level)
 
 -- a successor by a push is one place
-pub one_successor : (board : Board) → IsLevel board → (k : ℕ) (xs : List Scene) → IsLayerOf board k xs → (r : ℕ) (n : Scene) → slice_get xs r ≡ Some n → (p : Push) (m m' : Scene) → IsSuccessor board n p m → IsSuccessor board n p m' → m' ≡ m
-one_successor board level k xs layer r n at p m m' a b =
-    let laws = level_laws board level in
+pub one_successor : (task : Task) → IsLevel task.board → (k : ℕ) (xs : List Scene) → IsLayerOf task k xs → (r : ℕ) (n : Scene) → slice_get xs r ≡ Some n → (p : Push) (m m' : Scene) → IsSuccessor task.board n p m → IsSuccessor task.board n p m' → m' ≡ m
+one_successor task level k xs layer r n at p m m' a b =
+    let laws = level_laws task level in
     let lead = (layer.leads r n at).1 in
     laws.same (lead.0 ++ p ∷ []) m' m (laws.grow lead.0 n p m' lead.1.reached b) (laws.grow lead.0 n p m lead.1.reached a)
 
@@ -80,8 +77,9 @@ module _ (v : BookView) (book : IsLawfulBook v) (begun : v.begun ≡ true) where
       let within = slice_get_within v.closed j es a.2 in
       let le : j ≤ last_layer v = omega arith in
       let at : slice_get (places_of es) b.0 ≡ Some m = map_at (λ x. x.0) es b.0 b.1 b.2 ∙ ap Some (sym (same_true m b.1.0 b.3)) in
-      let lead = (share.layer.leads b.0 m at).1 in
-      (j, le, member (level_laws v.level book.level) j (whole_layer j) (whole_layers j le) m lead.0 lead.1 lead.2 (admitted v.level j m))
+      let w = share.layer.leads b.0 m at in
+      let lead = w.1 in
+      (j, le, member (level_laws v.level book.level) j (whole_layer j) (whole_layers j le) m lead.0 lead.1 lead.2 w.0.1)
 
   -- what is of the share and in a layer is in its closed list
   pub layer-closed : (m : Scene) → InShare v m → (j : ℕ) → j ≤ last_layer v → IsIn (whole_layer j) m → is_closed v.closed m ≡ true
@@ -89,23 +87,34 @@ module _ (v : BookView) (book : IsLawfulBook v) (begun : v.begun ≡ true) where
       let some = book.some in
       let at = read_at v.closed j (omega arith) in
       let share = book.closed j (get_or v.closed j []) at in
-      let lead = ((whole_layers j le).leads i.0 m i.1).1 in
-      let w = member (level_laws v.level book.level) j (places_of (get_or v.closed j [])) share.layer m lead.0 lead.1 lead.2 part in
+      let l = (whole_layers j le).leads i.0 m i.1 in
+      let lead = l.1 in
+      let w = member (level_laws v.level book.level) j (places_of (get_or v.closed j [])) share.layer m lead.0 lead.1 lead.2 (part, l.0) in
       let x = at_map (λ e. e.0) (get_or v.closed j []) w.0 m w.1 in
       any-here (λ es. list_any (λ e. same_scene m e.0) es) v.closed j (get_or v.closed j []) at
       (any-here (λ e. same_scene m e.0) (get_or v.closed j []) w.0 x.0 x.1 (same_since m x.0.0 (sym x.2)))
 
   -- an origin of a rank is offered: what stands open is so for the origins offered before and that one
   module _ (rank : ℕ) (n : Scene) (at : slice_get (whole_layer (last_layer v)) rank ≡ Some n) where
-    entered_open : {Offered : ℕ → Push → Type 0} (waiting : List (Entry Scene Push)) (s : Successor) → IsSuccessor v.level n s.push s.position →
-        IsOpen push_cmp (IsSuccessor v.level) (InShare v) whole_layer (last_layer v) Offered (origin_of waiting) →
-        IsOpen push_cmp (IsSuccessor v.level) (InShare v) whole_layer (last_layer v) (λ r p. Offered r p ⊎ ((r ≡ rank) × (p ≡ s.push))) (origin_of (entered (is_wanted v) rank waiting s))
-    entered_open {Offered} waiting s edge o = go (share_of v.shares s.position == v.share) refl (is_closed v.closed s.position) refl
+    entered_open : {Offered : ℕ → Push → Type 0} (waiting : List (Entry Scene Push)) (s : Successor) → IsSuccessorIn v.level (last_layer v) n s.push s.position →
+        IsOpen push_cmp (IsSuccessor v.level.board) (IsKept v) whole_layer (last_layer v) Offered (origin_of waiting) →
+        IsOpen push_cmp (IsSuccessor v.level.board) (IsKept v) whole_layer (last_layer v) (λ r p. Offered r p ⊎ ((r ≡ rank) × (p ≡ s.push))) (origin_of (entered (is_wanted v) rank waiting s))
+    entered_open {Offered} waiting s (edge, adm) o = go (share_of v.shares s.position == v.share) refl (is_closed v.closed s.position) refl
       where
-        laws : IsLayered push_cmp (Reaches v.level) (IsSuccessor v.level) (Admits v.level)
+        laws : IsLayered push_cmp (Reaches v.level.board) (IsSuccessor v.level.board) (Admits v.level)
         laws = level_laws v.level book.level
 
-        one : (m : Scene) → IsSuccessor v.level n s.push m → m ≡ s.position
+        of_share : (share_of v.shares s.position == v.share) ≡ true → InShare v s.position
+        of_share e = grind (arith, nat_tests)
+
+        other_share : (share_of v.shares s.position == v.share) ≡ false → ¬ (InShare v s.position)
+        other_share e part = grind (arith, nat_tests)
+
+        -- the layer after the last closed one
+        admitted : Admits v.level (length v.closed) s.position
+        admitted = let some = book.some in subst (λ k. Admits v.level k s.position) (let e : suc (last_layer v) ≡ length v.closed = omega arith in e) adm
+
+        one : (m : Scene) → IsSuccessor v.level.board n s.push m → m ≡ s.position
         one m other = one_successor v.level book.level (last_layer v) (whole_layer (last_layer v)) (whole_layers (last_layer v) (omega arith)) rank n at s.push s.position m edge other
 
         others : (m : Scene) → (origin_of (offered waiting s.position (rank, s.push)) m ≡ origin_of waiting m) ⊎ (m ≡ s.position)
@@ -116,23 +125,23 @@ module _ (v : BookView) (book : IsLawfulBook v) (begun : v.begun ≡ true) where
             by false e = inl (origin_of-other waiting s.position m (rank, s.push) e)
 
         go : (a : Bool) → (share_of v.shares s.position == v.share) ≡ a → (b : Bool) → is_closed v.closed s.position ≡ b →
-            IsOpen push_cmp (IsSuccessor v.level) (InShare v) whole_layer (last_layer v) (λ r p. Offered r p ⊎ ((r ≡ rank) × (p ≡ s.push))) (origin_of (if (share_of v.shares s.position == v.share) && not (is_closed v.closed s.position) then offered waiting s.position (rank, s.push) else waiting))
+            IsOpen push_cmp (IsSuccessor v.level.board) (IsKept v) whole_layer (last_layer v) (λ r p. Offered r p ⊎ ((r ≡ rank) × (p ≡ s.push))) (origin_of (if (share_of v.shares s.position == v.share) && not (is_closed v.closed s.position) then offered waiting s.position (rank, s.push) else waiting))
         go true e false f = rw (e, f)
-            (offer_one laws.total o rank s.push n s.position at edge one (let g = e in grind (arith, nat_tests))
-            (λ j le i. let w = layer-closed s.position (let g = e in grind (arith, nat_tests)) j le i in cc)
+            (offer_one laws.total o rank s.push n s.position at edge one (of_share e, admitted)
+            (λ j le i. let w = layer-closed s.position (of_share e) j le i in cc)
             (origin_of (offered waiting s.position (rank, s.push))) (origin_of-offered waiting s.position (rank, s.push)) others)
-        go true e true f = rw (e, f) (offer_nothing laws.total o rank s.push n s.position at edge one (λ part. closed-layer s.position f))
-        go false e b f = rw e (offer_nothing laws.total o rank s.push n s.position at edge one (λ part. absurd (let g = e in grind (arith, nat_tests))))
+        go true e true f = rw (e, f) (offer_nothing laws.total o rank s.push n s.position at edge one (λ kept. closed-layer s.position f))
+        go false e b f = rw e (offer_nothing laws.total o rank s.push n s.position at edge one (λ kept. absurd (other_share e kept.0)))
 
     -- some successors have this push
     abbrev PushOf : List Successor → Push → Type 0
     PushOf ss p = (i : ℕ) × (s : Successor) × (slice_get ss i ≡ Some s) × (s.push ≡ p)
 
     -- the same for all successors of a rank, one after the other
-    all_open : (ss : List Successor) {Offered : ℕ → Push → Type 0} (waiting : List (Entry Scene Push)) → ((i : ℕ) (s : Successor) → slice_get ss i ≡ Some s → IsSuccessor v.level n s.push s.position) →
-        IsOpen push_cmp (IsSuccessor v.level) (InShare v) whole_layer (last_layer v) Offered (origin_of waiting) →
-        IsOpen push_cmp (IsSuccessor v.level) (InShare v) whole_layer (last_layer v) (λ r p. Offered r p ⊎ ((r ≡ rank) × PushOf ss p)) (origin_of (fold (entered (is_wanted v) rank) waiting ss))
-    all_open [] waiting edges o = reoffered (λ r p. _) (λ r p f. inl f) (λ r p l m f at_r edge. elim f [ inl old ↦ old | inr w ↦ absurd (none-some w.1.1 w.1.2) ]) o
+    all_open : (ss : List Successor) {Offered : ℕ → Push → Type 0} (waiting : List (Entry Scene Push)) → ((i : ℕ) (s : Successor) → slice_get ss i ≡ Some s → IsSuccessorIn v.level (last_layer v) n s.push s.position) →
+        IsOpen push_cmp (IsSuccessor v.level.board) (IsKept v) whole_layer (last_layer v) Offered (origin_of waiting) →
+        IsOpen push_cmp (IsSuccessor v.level.board) (IsKept v) whole_layer (last_layer v) (λ r p. Offered r p ⊎ ((r ≡ rank) × PushOf ss p)) (origin_of (fold (entered (is_wanted v) rank) waiting ss))
+    all_open [] waiting edges o = reoffered (λ r p. _) (λ r p f. inl f) (λ r p l m f at_r edge kept. elim f [ inl old ↦ old | inr w ↦ absurd (none-some w.1.1 w.1.2) ]) o
     all_open (s ∷ ss) {Offered} waiting edges o =
         let next = all_open ss (entered (is_wanted v) rank waiting s) (λ i t at_i. edges (suc i) t at_i) (entered_open waiting s (edges zero s refl) o) in
         reoffered (λ r p. Offered r p ⊎ ((r ≡ rank) × PushOf (s ∷ ss) p))
@@ -140,7 +149,7 @@ module _ (v : BookView) (book : IsLawfulBook v) (begun : v.begun ≡ true) where
           | inl w ↦ elim w [ inl old ↦ inl old | inr e ↦ inr (e.0, (zero, s, refl, sym e.1)) ]
           | inr w ↦ inr (w.0, (suc w.1.0, w.1.1, w.1.2, w.1.3))
         ])
-        (λ r p l m f at_r edge. elim f [
+        (λ r p l m f at_r edge kept. elim f [
           | inl old ↦ inl (inl old)
           | inr (e, (zero, t, at_t, f)) ↦ inl (inr (e, sym f ∙ ap (λ (x : Successor). x.push) (sym (same_Some s t at_t))))
           | inr (e, (suc i, t, at_t, f)) ↦ inr (e, (i, t, at_t, f))
@@ -187,7 +196,7 @@ few_ranks v book r lt =
 
 -- the open places of a book that has begun are at the next distance
 pub open-distance : (v : BookView) (book : IsLawfulBook v) (begun : v.begun ≡ true) {Offered : ℕ → Push → Type 0} (waiting : List (Entry Scene Push)) →
-    IsOpen push_cmp (IsSuccessor v.level) (InShare v) (whole_layer v book begun) (last_layer v) Offered (origin_of waiting) → Distinct (open_places waiting) →
+    IsOpen push_cmp (IsSuccessor v.level.board) (IsKept v) (whole_layer v book begun) (last_layer v) Offered (origin_of waiting) → Distinct (open_places waiting) →
     (m : Scene) → IsIn (open_places waiting) m → InShare v m × IsAtDistance v.level m (length v.closed)
 open-distance v book begun waiting o distinct m w =
     let x = at_map (λ e. e.0) waiting w.0 m w.1 in
@@ -199,15 +208,15 @@ open-distance v book begun waiting o distinct m w =
     let some = book.some in
     let lead = ((layers (last_layer v) (omega arith)).leads r f.2.0 f.2.1).1 in
     let here : InShare v x.0.0 × IsAtDistance v.level x.0.0 (length v.closed) = (
-      f.0,
+      f.0.0,
       (
         (lead.0 ++ p ∷ [], laws.grow lead.0 f.2.0 p x.0.0 lead.1.reached f.2.2, omega (arith, lead.2, length-append lead.0 (p ∷ []))),
         λ qs reach. elim (cases_lt (length qs) (length v.closed)) [
-          | inl lt ↦ (let i = found laws (whole_layer v book begun) (last_layer v) layers (length qs) qs x.0.0 (omega arith) (omega arith) reach (admitted v.level (length qs) x.0.0) in
+          | inl lt ↦ (let i = found laws (whole_layer v book begun) (last_layer v) layers (length qs) qs x.0.0 (omega arith) (omega arith) reach (laws.earlier (length qs) (length v.closed) x.0.0 (omega arith) f.0.1) in
               absurd (o.fresh x.0.0 r p e i.0 (omega (arith, i.1)) i.2))
           | inr ge ↦ ge
         ],
-        admitted v.level (length v.closed) x.0.0,
+        f.0.1,
       ),
     ) in
     subst (λ y. InShare v y × IsAtDistance v.level y (length v.closed)) x.2 here
@@ -270,8 +279,8 @@ same_places (x ∷ xs) [] long same = absurd (omega arith)
 same_places (x ∷ xs) (y ∷ ys) long same = let e = same zero x y refl refl in let f = same_places xs ys (omega arith) (λ i a b. same (suc i) a b) in λ n. e n ∷ f n
 
 -- the first layers of a level are one list of lists
-pub layers_same : (board : Board) → IsLevel board → (xss yss : List (List Scene)) → AreLayersOf board xss → AreLayersOf board yss → length xss ≡ length yss → xss ≡ yss
-layers_same board level xss yss a b long = same_places xss yss long (λ j xs ys at_x at_y. layer_unique (level_laws board level) j xs ys (a j xs at_x) (b j ys at_y))
+pub layers_same : (task : Task) → IsLevel task.board → (xss yss : List (List Scene)) → AreLayersOf task xss → AreLayersOf task yss → length xss ≡ length yss → xss ≡ yss
+layers_same task level xss yss a b long = same_places xss yss long (λ j xs ys at_x at_y. layer_unique (level_laws task level) j xs ys (a j xs at_x) (b j ys at_y))
 
 -- ---- tallies
 
@@ -396,16 +405,16 @@ begun_ranks v layer book whole (level, number, begun) =
 
 -- the parcel's rank is a rank of the layer at work, and its successors are those of the position there
 pub parcel-place : (v : BookView) (book : IsLawfulBook v) (begun : v.begun ≡ true) (parcel : ParcelView) → IsParcel parcel → IsAtWork v parcel →
-    (n : Scene) × (slice_get (whole_layer v book begun (last_layer v)) parcel.rank ≡ Some n) × AreSuccessors v.level n parcel.successors
+    (n : Scene) × (slice_get (whole_layer v book begun (last_layer v)) parcel.rank ≡ Some n) × AreSuccessors v.level (last_layer v) n parcel.successors
 parcel-place v book begun parcel is work =
     let some = book.some in
     let layer : IsLayerOf v.level (last_layer v) is.places = subst (λ k. IsLayerOf v.level k is.places) work.1 (subst (λ b. IsLayerOf b parcel.layer is.places) work.0 is.layer) in
     let e = layer_unique (level_laws v.level book.level) (last_layer v) is.places (whole_layer v book begun (last_layer v)) layer (whole_layers v book begun (last_layer v) (omega arith)) in
-    (is.place.0, ap (λ xs. slice_get xs parcel.rank) (sym e) ∙ is.place.1, subst (λ b. AreSuccessors b is.place.0 parcel.successors) work.0 is.place.2)
+    (is.place.0, ap (λ xs. slice_get xs parcel.rank) (sym e) ∙ is.place.1, subst (λ k. AreSuccessors v.level k is.place.0 parcel.successors) work.1 (subst (λ b. AreSuccessors b parcel.layer is.place.0 parcel.successors) work.0 is.place.2))
 
 -- what stands open once the parcel's successors have entered
 pub parcel_open : (v : BookView) (book : IsLawfulBook v) (begun : v.begun ≡ true) (parcel : ParcelView) → IsParcel parcel → IsAtWork v parcel →
-    IsOpen push_cmp (IsSuccessor v.level) (InShare v) (whole_layer v book begun) (last_layer v) (λ r p. get_or (set v.done parcel.rank true) r false ≡ true) (origin_of (all_entered v parcel.rank parcel.successors))
+    IsOpen push_cmp (IsSuccessor v.level.board) (IsKept v) (whole_layer v book begun) (last_layer v) (λ r p. get_or (set v.done parcel.rank true) r false ≡ true) (origin_of (all_entered v parcel.rank parcel.successors))
 parcel_open v book begun parcel is work =
     let w = parcel-place v book begun parcel is work in
     let n = w.0 in
@@ -415,9 +424,9 @@ parcel_open v book begun parcel is work =
       | inl old ↦ true_kept v.done parcel.rank r old
       | inr new ↦ subst (λ k. get_or (set v.done parcel.rank true) k false ≡ true) (sym new.0) (get_or-set_same v.done parcel.rank true false work.2)
     ])
-    (λ r p l m f at edge. elim (true_cases v.done parcel.rank r f) [
+    (λ r p l m f at edge kept. elim (true_cases v.done parcel.rank r f) [
       | inl here ↦ (let e : l ≡ n = same_Some l n (sym at ∙ ap (slice_get (whole_layer v book begun (last_layer v))) here ∙ w.1) in
-          let i = w.2.whole p m (subst (λ x. IsSuccessor v.level x p m) e edge) in
+          let i = w.2.whole p m (subst (λ x. IsSuccessor v.level.board x p m) e edge, subst (λ k. Admits v.level k m) (let some = book.some in let g : length v.closed ≡ suc (last_layer v) = omega arith in g) kept.1) in
           inr (here, (i.0, record { push = p; position = m }, i.1, refl)))
       | inr old ↦ inl old
     ])
@@ -442,7 +451,7 @@ lawful_parcel v worker parcel book lt is may =
       not_begun = λ e. absurd (let f = begun in true≢false (sym f ∙ e));
       waiting = λ e. parcel_open v book begun parcel is work;
       distinct = parcel_distinct v book begun parcel;
-      fits = all_each v book begun (λ m. FitsLevel v.level m) parcel.rank parcel.successors v.waiting (λ i s at. subst (λ b. FitsLevel b s.position) work.0 (is.fits i s at)) book.fits;
+      fits = all_each v book begun (λ m. FitsLevel v.level.board m) parcel.rank parcel.successors v.waiting (λ i s at. subst (λ b. FitsLevel b.board s.position) work.0 (is.fits i s at)) book.fits;
       tallies = (
         length-set v.tallies worker (suc (get_or v.tallies worker 0)) ∙ book.tallies.0,
         omega (arith, book.tallies.1, sum-set_more v.tallies worker (omega (arith, book.tallies.0)), count-set_true v.done parcel.rank may.1),
@@ -556,13 +565,13 @@ module _ (v : BookView) (book : IsLawfulBook v) (all : AllDone v) (ys : List (En
           let b = ((book.waiting all.0).from y.0 y.1.0 y.1.1 (listed j y.0 y.1 at_j)).2 in
           let c = last_layer v in
           let n : b.0 ≡ a.0 = same_Some b.0 a.0 (sym b.1 ∙ ap (slice_get (whole_layer v book all.0 c)) (sym w.0) ∙ a.1) in
-          let edge : IsSuccessor v.level a.0 x.1.1 y.0 = subst (λ z. IsSuccessor v.level z x.1.1 y.0) n (subst (λ q. IsSuccessor v.level b.0 q y.0) (sym p) b.2) in
+          let edge : IsSuccessor v.level.board a.0 x.1.1 y.0 = subst (λ z. IsSuccessor v.level.board z x.1.1 y.0) n (subst (λ q. IsSuccessor v.level.board b.0 q y.0) (sym p) b.2) in
           let m = one_successor v.level book.level c (whole_layer v book all.0 c) (whole_layers v book all.0 c (omega arith)) x.1.0 a.0 a.1 x.1.1 x.0 y.0 a.2 edge in
           let i_is = distinct i j x.0 (map_at (λ z. z.0) ys i x at_i) (map_at (λ z. z.0) ys j y at_j ∙ ap (λ (z : Scene). Some z) m) in
           absurd (omega arith)
       go Greater e f = cc
 
-  entries_next : IsNext push_cmp (IsSuccessor v.level) (InShare v) (whole_layer v book all.0) (last_layer v) ys
+  entries_next : IsNext push_cmp (IsSuccessor v.level.board) (IsKept v) (whole_layer v book all.0) (last_layer v) ys
   entries_next = closed_next (book.waiting all.0)
       (λ r n p at. all.1 r (let b = (book.begun all.0).2 in let w = slice_get_within (whole_layer v book all.0 (last_layer v)) r n at in omega arith))
       ys listed (λ m o e. origin-listed ys m o (same m ∙ e)) sorted_rise
@@ -574,20 +583,21 @@ module _ (v : BookView) (book : IsLawfulBook v) (all : AllDone v) (ys : List (En
         (x.0.1, sym (ap (λ (z : Closed). z.1) x.2), subst (λ z. origin_of v.waiting z ≡ Some x.0.1) (ap (λ (z : Closed). z.0) x.2) (listed i x.0.0 x.0.1 x.1)));
     all = length-map ys closed_entry ∙ long;
     next = record {
-      layer = subst (λ xs. IsLayer push_cmp (Reaches v.level) (λ j m. InShare v m) (length v.closed) xs) (sym (places-closed ys))
-          (subst (λ k. IsLayer push_cmp (Reaches v.level) (λ j m. InShare v m) k (open_places ys)) number
-          (next_layer laws (whole_layer v book all.0) (last_layer v) layers kept ys entries_next));
+      layer = subst (λ xs. IsLayer push_cmp (Reaches v.level.board) (λ j m. InShare v m × Admits v.level j m) (length v.closed) xs) (sym (places-closed ys))
+          (recut (length v.closed) (open_places ys) (λ m w. w) (λ m w. w)
+          (subst (λ k. IsLayer push_cmp (Reaches v.level.board) (λ j m. IsKept v m) k (open_places ys)) number
+          (next_layer laws (whole_layer v book all.0) (last_layer v) layers kept ys entries_next)));
       origins = λ i m o at. (let x = at_map closed_entry ys i (m, o) at in
           subst (λ k. HasClosedOrigin v.level k m o) number
           (subst (λ p. HasClosedOrigin v.level (suc (last_layer v)) m p) (ap (λ (z : Closed). z.1) x.2)
           (subst (λ z. HasOrigin v.level (last_layer v) z x.0.1) (ap (λ (z : Closed). z.0) x.2) (has-origin i x.0.0 x.0.1 x.1))));
       fits = λ i m o at. (let x = at_map closed_entry ys i (m, o) at in
           let w = origin-listed v.waiting x.0.0 x.0.1 (listed i x.0.0 x.0.1 x.1) in
-          subst (λ z. FitsLevel v.level z) (ap (λ (z : Closed). z.0) x.2) (book.fits x.0.0 (w.0, map_at (λ z. z.0) v.waiting w.0 (x.0.0, x.0.1) w.1)));
+          subst (λ z. FitsLevel v.level.board z) (ap (λ (z : Closed). z.0) x.2) (book.fits x.0.0 (w.0, map_at (λ z. z.0) v.waiting w.0 (x.0.0, x.0.1) w.1)));
     };
   }
     where
-      laws : IsLayered push_cmp (Reaches v.level) (IsSuccessor v.level) (Admits v.level)
+      laws : IsLayered push_cmp (Reaches v.level.board) (IsSuccessor v.level.board) (Admits v.level)
       laws = level_laws v.level book.level
 
       number : suc (last_layer v) ≡ length v.closed
@@ -596,8 +606,8 @@ module _ (v : BookView) (book : IsLawfulBook v) (all : AllDone v) (ys : List (En
       layers : (j : ℕ) → j ≤ last_layer v → IsLayerOf v.level j (whole_layer v book all.0 j)
       layers = whole_layers v book all.0
 
-      kept : (m : Scene) → InShare v m → Admits v.level (suc (last_layer v)) m
-      kept m part = admitted v.level (suc (last_layer v)) m
+      kept : (m : Scene) → IsKept v m → Admits v.level (suc (last_layer v)) m
+      kept m w = subst (λ k. Admits v.level k m) (sym number) w.1
 
       has-origin : (i : ℕ) (m : Scene) (o : Origin Push) → slice_get ys i ≡ Some (m, o) → HasOrigin v.level (last_layer v) m o
       has-origin i m o at xs layer =
@@ -687,10 +697,10 @@ module _ (a : Inside) (book : IsLawfulBook (book_view a)) (cuts : AreCuts a.star
   over_lawful more = lawful_over (book_view a) parcel book is at_work.0 at_work.1 (subst (λ v. PassesLimit v parcel) (sym view) (over_limit now parcel more))
 
 -- the successors of a parcel have as many boxes as its level
-pub fits_few : (parcel : ParcelView) → IsParcel parcel → (board : Board) → parcel.level ≡ board → (ss : List Successor) → ss ≡ parcel.successors → HaveFew (box_count board) ss
-fits_few parcel is board same ss e i s at =
+pub fits_few : (parcel : ParcelView) → IsParcel parcel → (task : Task) → parcel.level ≡ task → (ss : List Successor) → ss ≡ parcel.successors → HaveFew (box_count task.board) ss
+fits_few parcel is task same ss e i s at =
     let fits = is.fits i s (ap (λ xs. slice_get xs i) (sym e) ∙ at) in
-    omega (arith, fits.boxes, ap box_count same)
+    omega (arith, fits.boxes, ap (λ (t : Task). box_count t.board) same)
 
 -- ranks stay taken when one more is done
 pub taken_done : (v : BookView) (k r : ℕ) → IsTaken v r → IsTaken (record v { done = set v.done k true }) r

@@ -11,6 +11,14 @@ use Rattle.layers.specs.Openings.{IsLayered}
 use Rattle.layers.proofs.lemmas.Lists.{Rises, same_lists}
 use Rattle.layers.proofs.lemmas.Exchange.{lead-length, lead_unique}
 
+-- a layer is one too where its part is told in other words
+pub recut : {N P : Type 0} {cmp : P → P → Ordering} {Reach : List P → N → Type 0} {Part Other : ℕ → N → Type 0} (k : ℕ) (xs : List N) → ((n : N) → Part k n → Other k n) → ((n : N) → Other k n → Part k n) → IsLayer cmp Reach Part k xs → IsLayer cmp Reach Other k xs
+recut k xs there back layer = record {
+  leads = λ r n at. (let w = layer.leads r n at in (there n w.0, w.1));
+  rise = layer.rise;
+  whole = λ ps n reach long part. layer.whole ps n reach long (back n part);
+}
+
 module _ {N P : Type 0} {cmp : P → P → Ordering} {Reach : List P → N → Type 0} {Edge : N → P → N → Type 0} {Adm : ℕ → N → Type 0} (laws : IsLayered cmp Reach Edge Adm) where
   -- a place whose lead has length k is in layer k, however the layer is cut down, if it is of the part
   pub member : {Part : ℕ → N → Type 0} (k : ℕ) (xs : List N) → IsLayer cmp Reach Part k xs → (m : N) (ps : List P) → IsLead cmp Reach m ps → length ps ≡ k → Part k m → IsIn xs m

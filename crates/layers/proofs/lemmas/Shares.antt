@@ -5,28 +5,29 @@ use Rattle.std.proofs.lemmas.Nat.{mod_below}
 use Rattle.std.proofs.lemmas.Option.{slice_get_within, slice_get-get_or}
 use Rattle.std.specs.Prelude.{slice_get}
 use Rattle.grid.specs.declared.square.Push.{Push}
-use Rattle.grid.specs.Board.{Board, Scene}
+use Rattle.grid.specs.Board.{Scene}
 use Rattle.grid.specs.Lawful.{IsLevel}
 use Rattle.layers.specs.Layered.{IsIn}
 use Rattle.layers.specs.Origins.{share_of}
+use Rattle.layers.specs.Tasks.{Task, Admits}
 use Rattle.layers.specs.Reaching.{IsLayerOf, IsLeadOf, AreLayersOf, total}
 use Rattle.layers.specs.BookView.{BookView, Closed, places_of, last_layer, last_list, IsShareOfLayer, AreSharesOfLayer, IsLawfulBook, AreLawfulBooks}
 use Rattle.layers.specs.Books.{AreAllShares}
 use Rattle.layers.proofs.lemmas.Layers.{member, place_unique, layers_apart}
-use Rattle.layers.proofs.lemmas.Books.{admitted, level_laws, read_at}
+use Rattle.layers.proofs.lemmas.Books.{level_laws, read_at}
 use Rattle.layers.proofs.lemmas.Counting.{length-distinct, totals_upto, flat, length-flat, in_flat, of_flat, flat_distinct, total-map, sum_by-same}
 use Rattle.layers.proofs.lemmas.Exchange.{at_map, map_at}
 use Rattle.layers.proofs.lemmas.Joins.{total-places}
 use Rattle.layers.proofs.lemmas.Lists.{Distinct}
 
 -- a share of a layer has no more positions than the layer
-pub share_upto : (board : Board) → IsLevel board → (shares share k : ℕ) (es : List Closed) (xs : List Scene) → IsShareOfLayer board shares share k es → IsLayerOf board k xs → length es ≤ length xs
-share_upto board level shares share k es xs part whole =
+pub share_upto : (task : Task) → IsLevel task.board → (shares share k : ℕ) (es : List Closed) (xs : List Scene) → IsShareOfLayer task shares share k es → IsLayerOf task k xs → length es ≤ length xs
+share_upto task level shares share k es xs part whole =
     omega (
       arith,
       length-map es (λ (e : Closed). e.0),
-      length-distinct (places_of es) xs (place_unique (level_laws board level) k (places_of es) part.layer)
-          (λ m i. (let lead = (part.layer.leads i.0 m i.1).1 in member (level_laws board level) k xs whole m lead.0 lead.1 lead.2 (admitted board k m))),
+      length-distinct (places_of es) xs (place_unique (level_laws task level) k (places_of es) part.layer)
+          (λ m i. (let w = part.layer.leads i.0 m i.1 in let lead = w.1 in member (level_laws task level) k xs whole m lead.0 lead.1 lead.2 w.0.1)),
     )
 
 -- a book has closed no more positions than lie in the layers that it has closed
@@ -34,41 +35,43 @@ pub closed_upto : (v : BookView) → IsLawfulBook v → (layers : List (List Sce
 closed_upto v book layers are few =
     totals_upto v.closed layers few (λ j es xs at_es at_xs. share_upto v.level book.level v.shares v.share j es xs (book.closed j es at_es) (are j xs at_xs))
 
--- the share and the lead of a position of a share
-share_lead : (board : Board) (shares t k : ℕ) (es : List Closed) → IsShareOfLayer board shares t k es → (m : Scene) → IsIn (places_of es) m → (share_of shares m ≡ t) × ((ps : List Push) × IsLeadOf board m ps × (length ps ≡ k))
-share_lead board shares t k es part m (i, at) = part.layer.leads i m at
+-- the share and the lead of a position of a share, which is admitted
+share_lead : (task : Task) (shares t k : ℕ) (es : List Closed) → IsShareOfLayer task shares t k es → (m : Scene) → IsIn (places_of es) m → ((share_of shares m ≡ t) × Admits task k m) × ((ps : List Push) × IsLeadOf task.board m ps × (length ps ≡ k))
+share_lead task shares t k es part m (i, at) = part.layer.leads i m at
 
 -- ---- all the shares of a layer
 
-module _ (board : Board) (level : IsLevel board) (shares k : ℕ) (lists : List (List Closed)) (are : AreSharesOfLayer board shares k lists) (xs : List Scene) (whole : IsLayerOf board k xs) where
+module _ (task : Task) (level : IsLevel task.board) (shares k : ℕ) (lists : List (List Closed)) (are : AreSharesOfLayer task shares k lists) (xs : List Scene) (whole : IsLayerOf task k xs) where
   abbrev all_places : List (List Scene)
   all_places = map places_of lists
 
   -- a list of positions is one of the shares
-  share_places : (t : ℕ) (ms : List Scene) → slice_get all_places t ≡ Some ms → (es : List Closed) × IsShareOfLayer board shares t k es × (places_of es ≡ ms)
+  share_places : (t : ℕ) (ms : List Scene) → slice_get all_places t ≡ Some ms → (es : List Closed) × IsShareOfLayer task shares t k es × (places_of es ≡ ms)
   share_places t ms at = let x = at_map places_of lists t ms at in (x.0, are.each t x.0 x.1, x.2)
 
-  lead_among : (t : ℕ) (ms : List Scene) → slice_get all_places t ≡ Some ms → (m : Scene) → IsIn ms m → (share_of shares m ≡ t) × ((ps : List Push) × IsLeadOf board m ps × (length ps ≡ k))
-  lead_among t ms at m i = let x = share_places t ms at in share_lead board shares t k x.0 x.1 m (i.0, ap (λ zs. slice_get zs i.0) x.2 ∙ i.1)
+  lead_among : (t : ℕ) (ms : List Scene) → slice_get all_places t ≡ Some ms → (m : Scene) → IsIn ms m → ((share_of shares m ≡ t) × Admits task k m) × ((ps : List Push) × IsLeadOf task.board m ps × (length ps ≡ k))
+  lead_among t ms at m i = let x = share_places t ms at in share_lead task shares t k x.0 x.1 m (i.0, ap (λ zs. slice_get zs i.0) x.2 ∙ i.1)
 
   shares_distinct : Distinct (flat all_places)
   shares_distinct = flat_distinct all_places
-      (λ t ms at. let x = share_places t ms at in subst (λ zs. Distinct zs) x.2 (place_unique (level_laws board level) k (places_of x.0) x.1.layer))
-      (λ s t ms ns m at_m at_n in_m in_n. sym (lead_among s ms at_m m in_m).0 ∙ (lead_among t ns at_n m in_n).0)
+      (λ t ms at. let x = share_places t ms at in subst (λ zs. Distinct zs) x.2 (place_unique (level_laws task level) k (places_of x.0) x.1.layer))
+      (λ s t ms ns m at_m at_n in_m in_n. sym (lead_among s ms at_m m in_m).0.0 ∙ (lead_among t ns at_n m in_n).0.0)
 
   in_layer : (m : Scene) → IsIn (flat all_places) m → IsIn xs m
   in_layer m i =
       let w = of_flat all_places m i in
-      let lead = (lead_among w.0 w.1 w.2 m w.3).1 in
-      member (level_laws board level) k xs whole m lead.0 lead.1 lead.2 (admitted board k m)
+      let l = lead_among w.0 w.1 w.2 m w.3 in
+      let lead = l.1 in
+      member (level_laws task level) k xs whole m lead.0 lead.1 lead.2 l.0.1
 
   in_shares : 0 < shares → (m : Scene) → IsIn xs m → IsIn (flat all_places) m
   in_shares some m i =
       let t = share_of shares m in
       let at = read_at lists t (omega (arith, mod_below (sum m.boxes + m.player) shares some, are.all)) in
-      let lead = (whole.leads i.0 m i.1).1 in
+      let l = whole.leads i.0 m i.1 in
+      let lead = l.1 in
       in_flat all_places t (places_of (get_or lists t [])) m (map_at places_of lists t (get_or lists t []) at)
-      (member (level_laws board level) k (places_of (get_or lists t [])) (are.each t (get_or lists t []) at).layer m lead.0 lead.1 lead.2 refl)
+      (member (level_laws task level) k (places_of (get_or lists t [])) (are.each t (get_or lists t []) at).layer m lead.0 lead.1 lead.2 (refl, l.0))
 
   -- a layer has as many positions as its shares together
   pub shares_sum : 0 < shares → total lists ≡ length xs
@@ -76,7 +79,7 @@ module _ (board : Board) (level : IsLevel board) (shares k : ℕ) (lists : List 
       omega (
         arith,
         length-distinct (flat all_places) xs shares_distinct in_layer,
-        length-distinct xs (flat all_places) (place_unique (level_laws board level) k xs whole) (in_shares some),
+        length-distinct xs (flat all_places) (place_unique (level_laws task level) k xs whole) (in_shares some),
         length-flat all_places,
         total-places lists,
       )
@@ -130,12 +133,12 @@ module _ (books : List BookView) (all : AreAllShares books) (lawful : AreLawfulB
       layers_apart (level_laws first.level first_book.level) i j (places_of x.0) (places_of y.0) x.1.layer y.1.layer m (in_m.0, ap (λ zs. slice_get zs in_m.0) x.2 ∙ in_m.1) (in_n.0, ap (λ zs. slice_get zs in_n.0) y.2 ∙ in_n.1))
 
   -- a position that a book has closed is of its share, and its lead is as long as its layer's number
-  lead_closed : (t : ℕ) (v : BookView) → slice_get books t ≡ Some v → (m : Scene) → IsIn (book_places v) m → (share_of first.shares m ≡ t) × ((j : ℕ) × (j < length v.closed) × ((ps : List Push) × IsLeadOf first.level m ps × (length ps ≡ j)))
+  lead_closed : (t : ℕ) (v : BookView) → slice_get books t ≡ Some v → (m : Scene) → IsIn (book_places v) m → (share_of first.shares m ≡ t) × ((j : ℕ) × (j < length v.closed) × Admits first.level j m × ((ps : List Push) × IsLeadOf first.level.board m ps × (length ps ≡ j)))
   lead_closed t v at m i =
       let w = of_flat (map places_of v.closed) m i in
       let x = list_of t v at w.0 w.1 w.2 in
       let l = share_lead first.level first.shares t w.0 x.0 x.1 m (w.3.0, ap (λ zs. slice_get zs w.3.0) x.2 ∙ w.3.1) in
-      (l.0, (w.0, omega (arith, slice_get_within (map places_of v.closed) w.0 w.1 w.2, length-map v.closed places_of), l.1))
+      (l.0.0, (w.0, omega (arith, slice_get_within (map places_of v.closed) w.0 w.1 w.2, length-map v.closed places_of), l.0.1, l.1))
 
   abbrev all_closed : List (List Scene)
   all_closed = map book_places books
@@ -159,12 +162,13 @@ module _ (books : List BookView) (all : AreAllShares books) (lawful : AreLawfulB
         let x = at_map book_places books w.0 w.1 w.2 in
         let l = (lead_closed w.0 x.0 x.1 m (w.3.0, ap (λ zs. slice_get zs w.3.0) x.2 ∙ w.3.1)).1 in
         let at = read_at layers l.0 (omega (arith, l.1, long, (all.each w.0 x.0 x.1).4)) in
-        in_flat layers l.0 (get_or layers l.0 []) m at (member (level_laws first.level first_book.level) l.0 (get_or layers l.0 []) (are l.0 (get_or layers l.0 []) at) m l.2.0 l.2.1 l.2.2 (admitted first.level l.0 m))
+        in_flat layers l.0 (get_or layers l.0 []) m at (member (level_laws first.level first_book.level) l.0 (get_or layers l.0 []) (are l.0 (get_or layers l.0 []) at) m l.3.0 l.3.1 l.3.2 l.2)
 
     layers_in : (m : Scene) → IsIn (flat layers) m → IsIn (flat all_closed) m
     layers_in m i =
         let w = of_flat layers m i in
-        let lead = ((are w.0 w.1 w.2).leads w.3.0 m w.3.1).1 in
+        let l = (are w.0 w.1 w.2).leads w.3.0 m w.3.1 in
+        let lead = l.1 in
         let t = share_of first.shares m in
         let lt : t < length books = omega (arith, mod_below (sum m.boxes + m.player) first.shares some_shares, all.all) in
         let b = book_at t lt in
@@ -173,7 +177,7 @@ module _ (books : List BookView) (all : AreAllShares books) (lawful : AreLawfulB
         let es = get_or v.closed w.0 [] in
         in_flat all_closed t (book_places v) m (map_at book_places books t v b.1)
         (in_flat (map places_of v.closed) w.0 (places_of es) m (map_at places_of v.closed w.0 es at)
-        (member (level_laws first.level first_book.level) w.0 (places_of es) (closed_share t v b.1 w.0 es at).layer m lead.0 lead.1 lead.2 refl))
+        (member (level_laws first.level first_book.level) w.0 (places_of es) (closed_share t v b.1 w.0 es at).layer m lead.0 lead.1 lead.2 (refl, l.0)))
       where
         book_at : (t : ℕ) → t < length books → (v : BookView) × (slice_get books t ≡ Some v)
         book_at t lt = (get_or books t first, slice_get-get_or books t first lt)

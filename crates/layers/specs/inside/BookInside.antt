@@ -1,13 +1,13 @@
 -- What contracts see of a book's fields, and what is true of them.
 use Rattle.std.specs.Prelude.{◌≡◌, ℕ, suc, ◌<◌, ◌≤◌, List, [], ◌∷◌, take, drop, length, slice_get, Option, Some, None, ◌⊎◌}
-use Rattle.std.specs.Arc.{arc_value}
-use Rattle.grid.specs.Board.{Board, Scene, start}
+use Rattle.grid.specs.Board.{Scene, start}
 use Rattle.grid.specs.Lawful.{box_count}
 use Rattle.grid.specs.States.{FitsLevel}
 use Rattle.grid.specs.declared.limits.TheConstants.{MAX_BOXES}
 use Rattle.area.specs.Area.{IsNorm}
 use Rattle.doom.specs.Deadlocks.{Doomed, Undoomed}
 use Rattle.layers.specs.declared.book.Book.TheInside.{Inside}
+use Rattle.layers.specs.Tasks.{Task, Admits}
 use Rattle.layers.specs.BookView.{BookView, IsLawfulBook}
 use Rattle.layers.specs.Books.{IsTaken}
 
@@ -19,7 +19,7 @@ cut_at (i ∷ j ∷ js) xs = drop i (take j xs) ∷ cut_at (j ∷ js) xs
 
 abbrev pub book_view : Inside → BookView
 book_view a = record {
-  level = arc_value a.level;
+  level = a.task;
   limit = a.limit;
   workers = a.workers;
   share = a.share;
@@ -33,10 +33,10 @@ book_view a = record {
   over = a.over;
 }
 
--- the first position of a level: the start's normal position, or none where the start is doomed
-abbrev pub IsFirst : Board → Option Scene → Type 0
-IsFirst board None = Doomed board (start board).boxes
-IsFirst board (Some m) = Undoomed board (start board) × IsNorm board (start board) m × FitsLevel board m
+-- the first position of a level: the start's normal position, or none where the start is doomed or not admitted
+abbrev pub IsFirst : Task → Option Scene → Type 0
+IsFirst task None = Doomed task.board (start task.board).boxes ⊎ ¬ (Admits task 0 (start task.board))
+IsFirst task (Some m) = Undoomed task.board (start task.board) × IsNorm task.board (start task.board) m × FitsLevel task.board m × Admits task 0 m
 
 -- the places at which a list is cut: the first one is its beginning, and they do not fall
 pub record AreCuts (starts : List ℕ) (len : ℕ) : Type 0 where
@@ -52,7 +52,7 @@ IsPiece starts len k p q = (slice_get starts k ≡ Some p) × ((slice_get starts
 -- piece of what was seen, and all ranks before the next one to look at are taken
 pub record IsSoundBook (a : Inside) : Type 0 where
   pub lawful : IsLawfulBook (book_view a)
-  pub few : box_count (arc_value a.level) ≤ MAX_BOXES
-  pub boxes : a.found.boxes ≡ box_count (arc_value a.level)
+  pub few : box_count a.task.board ≤ MAX_BOXES
+  pub boxes : a.found.boxes ≡ box_count a.task.board
   pub cuts : AreCuts a.starts.items (length a.found.seen)
   pub taken : (r : ℕ) → r < a.next → IsTaken (book_view a) r

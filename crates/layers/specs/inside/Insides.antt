@@ -1,7 +1,6 @@
 -- What contracts see of the fields of a layer.
 use Rattle.std.specs.Prelude.{◌≡◌, ℕ, zero, suc, ◌*◌, ◌≤◌, List, [], ◌∷◌, ◌++◌, take, drop, length, slice_index_or}
 use Rattle.std.specs.Option.{option_to_list}
-use Rattle.std.specs.Arc.{arc_value}
 use Rattle.grid.specs.declared.square.Push.{Push}
 use Rattle.grid.specs.Board.{Scene}
 use Rattle.grid.specs.Lawful.{box_count}
@@ -27,14 +26,14 @@ scenes_of boxes (suc count) xs = record { boxes = take boxes xs; player = slice_
 
 abbrev pub layer_view : LayerInside → LayerView
 layer_view a = record {
-  level = arc_value a.level;
+  level = a.task;
   number = a.number;
-  places = scenes_of (box_count (arc_value a.level)) a.count a.squares.items;
+  places = scenes_of (box_count a.task.board) a.count a.squares.items;
   origins = a.origins.items;
 }
 
 -- the fields show a whole layer, of as many boxes as there may be; and there are as many squares as its positions have
 pub record IsSoundLayer (a : LayerInside) : Type 0 where
   pub whole : IsWhole (layer_view a)
-  pub few : box_count (arc_value a.level) ≤ MAX_BOXES
-  pub squares : length a.squares.items ≡ a.count * suc (box_count (arc_value a.level))
+  pub few : box_count a.task.board ≤ MAX_BOXES
+  pub squares : length a.squares.items ≡ a.count * suc (box_count a.task.board)

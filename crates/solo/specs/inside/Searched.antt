@@ -2,25 +2,26 @@
 -- of workers or of shares.
 use Rattle.std.specs.Prelude.{◌≡◌, ℕ, ◌+◌, ◌≤◌, List, length, map, slice_get, Some}
 use Rattle.grid.specs.declared.square.Push.{Push}
-use Rattle.grid.specs.Board.{Board, Scene}
+use Rattle.grid.specs.Board.{Scene}
+use Rattle.layers.specs.Tasks.{Task}
 use Rattle.layers.specs.LayerView.{LayerView, IsWhole}
 use Rattle.layers.specs.Openings.{Origin}
 use Rattle.layers.specs.Reaching.{AreLayersOf, total}
 use Rattle.solo.specs.Leads.{AreUnsolved}
 
 -- layers that were searched: the first layers of the level, none of them empty, none with a solved position
-pub record AreSearched (board : Board) (layers : List (List Scene)) : Type 0 where
-  pub are : AreLayersOf board layers
+pub record AreSearched (task : Task) (layers : List (List Scene)) : Type 0 where
+  pub are : AreLayersOf task layers
   pub filled : (j : ℕ) (xs : List Scene) → slice_get layers j ≡ Some xs → 1 ≤ length xs
-  pub unsolved : (j : ℕ) (xs : List Scene) → slice_get layers j ≡ Some xs → AreUnsolved board xs
+  pub unsolved : (j : ℕ) (xs : List Scene) → slice_get layers j ≡ Some xs → AreUnsolved task.board xs
 
 -- the positions of each of the layers
 abbrev pub places_of : List LayerView → List (List Scene)
 places_of layers = map (λ layer. layer.places) layers
 
 -- the first layers of the level, and for each the origins of its positions
-pub record AreTrailed (board : Board) (layers : List LayerView) (trail : List (List (Origin Push))) : Type 0 where
-  pub each : (j : ℕ) (layer : LayerView) → slice_get layers j ≡ Some layer → (layer.level ≡ board) × (layer.number ≡ j) × IsWhole layer
+pub record AreTrailed (task : Task) (layers : List LayerView) (trail : List (List (Origin Push))) : Type 0 where
+  pub each : (j : ℕ) (layer : LayerView) → slice_get layers j ≡ Some layer → (layer.level ≡ task) × (layer.number ≡ j) × IsWhole layer
   pub shown : map (λ layer. layer.origins) layers ≡ trail
 
 -- the layer comes next after those whose origins are kept
@@ -30,17 +31,17 @@ pub record IsNextOf (trail : List (List (Origin Push))) (layer : LayerView) : Ty
   pub number : layer.number ≡ length trail
 
 -- with so many positions of the next layer there are so many in it and in the searched layers before it
-pub record HaveBefore (board : Board) (trail : List (List (Origin Push))) (ranks positions : ℕ) : Type 0 where
+pub record HaveBefore (task : Task) (trail : List (List (Origin Push))) (ranks positions : ℕ) : Type 0 where
   pub layers : List LayerView
-  pub trailed : AreTrailed board layers trail
-  pub searched : AreSearched board (places_of layers)
+  pub trailed : AreTrailed task layers trail
+  pub searched : AreSearched task (places_of layers)
   pub count : positions ≡ total (places_of layers) + ranks
 
 -- the layers whose origins are kept were looked at: the first ones of the level, none of them empty, none with a solved
 -- position; and so many positions, no more than the limit, are in them together
-pub record IsLookedAt (board : Board) (limit : ℕ) (trail : List (List (Origin Push))) (positions : ℕ) : Type 0 where
+pub record IsLookedAt (task : Task) (limit : ℕ) (trail : List (List (Origin Push))) (positions : ℕ) : Type 0 where
   pub layers : List LayerView
-  pub trailed : AreTrailed board layers trail
-  pub searched : AreSearched board (places_of layers)
+  pub trailed : AreTrailed task layers trail
+  pub searched : AreSearched task (places_of layers)
   pub count : positions ≡ total (places_of layers)
   pub within : positions ≤ limit

@@ -2,7 +2,7 @@
 -- meanwhile: one for each share of the positions.
 use Rattle.std.specs.Prelude.{◌≡◌, ℕ, suc, ◌<◌, ◌⊎◌, true, false, List, length, slice_get, slice_index_or, Some}
 use Rattle.grid.specs.declared.square.Push.{Push}
-use Rattle.grid.specs.Board.{Board}
+use Rattle.layers.specs.Tasks.{Task}
 use Rattle.layers.specs.LayerView.{LayerView}
 use Rattle.layers.specs.Openings.{Origin}
 use Rattle.layers.specs.ParcelView.{ParcelView}
@@ -16,13 +16,13 @@ use Rattle.solo.specs.declared.turn.Worked.TheVariants.{Through, Over}
 -- ---- the books of a search
 
 -- the book is a share of the level, made with this limit and for so many workers
-abbrev pub IsDealt : Board → ℕ → ℕ → ℕ → ℕ → BookView → Type 0
-IsDealt board limit workers shares share v = (v.level ≡ board) × (v.limit ≡ limit) × (v.workers ≡ workers) × (v.share ≡ share) × (v.shares ≡ shares)
+abbrev pub IsDealt : Task → ℕ → ℕ → ℕ → ℕ → BookView → Type 0
+IsDealt task limit workers shares share v = (v.level ≡ task) × (v.limit ≡ limit) × (v.workers ≡ workers) × (v.share ≡ share) × (v.shares ≡ shares)
 
 -- the books are all the shares of the level in order, made with this limit and for so many workers
-pub record AreDealt (board : Board) (limit workers shares : ℕ) (books : List BookView) : Type 0 where
+pub record AreDealt (task : Task) (limit workers shares : ℕ) (books : List BookView) : Type 0 where
   pub all : length books ≡ shares
-  pub each : (i : ℕ) (v : BookView) → slice_get books i ≡ Some v → IsDealt board limit workers shares i v
+  pub each : (i : ℕ) (v : BookView) → slice_get books i ≡ Some v → IsDealt task limit workers shares i v
 
 -- each of the books has closed so many layers, and not begun the last of them
 abbrev pub ArePaused : ℕ → List BookView → Type 0
@@ -38,14 +38,14 @@ AreWorkingOn layer books = (i : ℕ) (v : BookView) → slice_get books i ≡ So
 
 -- between two turns each of the books, which are all the shares, has closed one layer more than were looked at, and has
 -- not begun it
-pub record AreBetweenTurns (board : Board) (limit workers shares : ℕ) (books : List BookView) (trail : List (List (Origin Push))) (positions : ℕ) : Type 0 where
-  pub dealt : AreDealt board limit workers shares books
+pub record AreBetweenTurns (task : Task) (limit workers shares : ℕ) (books : List BookView) (trail : List (List (Origin Push))) (positions : ℕ) : Type 0 where
+  pub dealt : AreDealt task limit workers shares books
   pub paused : ArePaused (suc (length trail)) books
-  pub looked : IsLookedAt board limit trail positions
+  pub looked : IsLookedAt task limit trail positions
 
 -- the search of one worker over one book goes on: between two turns, with more positions counted
-abbrev pub GoesOn : Board → ℕ → List BookView → List (List (Origin Push)) → ℕ → ℕ → Type 0
-GoesOn board limit books trail before positions = AreBetweenTurns board limit 1 1 books trail positions × (before < positions)
+abbrev pub GoesOn : Task → ℕ → List BookView → List (List (Origin Push)) → ℕ → ℕ → Type 0
+GoesOn task limit books trail before positions = AreBetweenTurns task limit 1 1 books trail positions × (before < positions)
 
 -- ---- a layer begins
 
@@ -78,9 +78,9 @@ WorkAnswers before Through after =
 WorkAnswers before Over after = (i : ℕ) × (v : BookView) × (slice_get before i ≡ Some v) × IsLeft before Over after i v
 
 -- all the shares were at work on the layer, and this is how its last ranks left them
-abbrev pub AreWorked : Board → ℕ → ℕ → ℕ → LayerView → Worked → List BookView → Type 0
-AreWorked board limit workers shares layer worked after =
-    (before : List BookView) × AreDealt board limit workers shares before × AreWorkingOn layer before × WorkAnswers before worked after
+abbrev pub AreWorked : Task → ℕ → ℕ → ℕ → LayerView → Worked → List BookView → Type 0
+AreWorked task limit workers shares layer worked after =
+    (before : List BookView) × AreDealt task limit workers shares before × AreWorkingOn layer before × WorkAnswers before worked after
 
 -- the book is at work on the layer, and was made as it was before, with the same closed layers
 pub record IsStillAt (before : BookView) (layer : LayerView) (book : BookView) : Type 0 where

@@ -21,7 +21,7 @@ fn share_of(
     assert!(rt; share < shares);
     assert!(rt; shares <= 16);
     let level = level_of(rt, alloc, text);
-    Book::of(alloc, level, limit, 1, share, shares).expect(rt, "a book")
+    Book::of(alloc, level, None, limit, 1, share, shares).expect(rt, "a book")
 }
 
 // The books of all the shares of a level, in order.

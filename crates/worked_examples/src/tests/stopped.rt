@@ -114,6 +114,7 @@ fn check_locks(
         workers: WORKERS,
         locks,
         limit: DEFAULT_LIMIT,
+        cap: None,
     };
     let found = solve(rt, alloc, level, config, &stops).expect(rt, "an answer");
     assert!(rt; is_solution(rt, alloc, &found, answer));

@@ -4,7 +4,7 @@ use Rattle.crew.proofs.search.all_turns.Given as goal
 
 abbrev pub invariant-loop-trail : goal.invariant-loop-trail
 invariant-loop-trail g l = record {
-  turn : ArePausedBy l.config l.dead l.books.items l.trail.items l.positions;
+  turn : ArePausedBy l.config l.pruner l.books.items l.trail.items l.positions;
   size : l.scratch.size ≡ l.fn.scratch.size;
   desks : l.desks ≡ l.fn.desks;
 }

@@ -1,8 +1,8 @@
 use Rattle.std.proofs.Common.{◌≡◌, ◌≤◌, ◌*◌, suc, List, length, sym, ap, subst, ◌∙◌}
 use Rattle.std.proofs.lemmas.List.{length-map}
 use Rattle.std.proofs.lemmas.Option.{same_Some}
-use Rattle.std.specs.Arc.{arc_value}
-use Rattle.grid.specs.Board.{Board, Scene}
+use Rattle.grid.specs.Board.{Scene}
+use Rattle.layers.specs.Tasks.{Task}
 use Rattle.grid.specs.Lawful.{box_count}
 use Rattle.grid.specs.declared.limits.TheConstants.{MAX_BOXES}
 use Rattle.layers.specs.BookView.{BookView, Closed, last_layer, places_of}
@@ -22,16 +22,16 @@ invariant_of-result c =
     let ms : List Scene = places_of es in
     let same : c.args.first.now ≡ all.first = same_Some c.args.first.now all.first (sym c.requires.first ∙ all.head) in
     let a = c.first.inside in
-    let b = box_count (arc_value a.level) in
-    let board : arc_value c.in_ok-level.level ≡ arc_value a.level = c.in_ok-level.ensures in
-    let level : arc_value a.level ≡ all.first.level = ap (λ (v : BookView). v.level) (c.first.view_is ∙ same) in
-    let have : HaveBoxes b ms = subst (λ (l : Board). HaveBoxes (box_count l) ms) (sym level) (joined_boxes books all c.tell_all.ensures es merged.merged) in
+    let b = box_count a.task.board in
+    let task : c.in_ok-task.task ≡ a.task = c.in_ok-task.ensures in
+    let level : a.task ≡ all.first.level = ap (λ (v : BookView). v.level) (c.first.view_is ∙ same) in
+    let have : HaveBoxes b ms = subst (λ (l : Task). HaveBoxes (box_count l.board) ms) (sym level) (joined_boxes books all c.tell_all.ensures es merged.merged) in
     let count : c.in_ok-count.count ≡ length ms = merged.counted ∙ sym (length-map es (λ (e : Closed). e.0)) in
-    let read : scenes_of (box_count (arc_value c.in_ok-level.level)) c.in_ok-count.count c.in_ok-count.squares.items ≡ ms =
-    (λ i. scenes_of (box_count (board i)) (count i) (merged.squares_are i)) ∙ scenes-squares b ms have in
+    let read : scenes_of (box_count c.in_ok-task.task.board) c.in_ok-count.count c.in_ok-count.squares.items ≡ ms =
+    (λ i. scenes_of (box_count (task i).board) (count i) (merged.squares_are i)) ∙ scenes-squares b ms have in
     record {
-      whole = joined_whole books all c.tell_all.ensures es merged.merged (layer_view (record { level = c.in_ok-level.level; number = c.layer-number.result; count = c.in_ok-count.count; squares = c.in_ok-count.squares; origins = c.in_ok-count.origins }))
-          (board ∙ level) (c.layer-number.ensures ∙ ap last_layer same) read merged.origins_are;
-      few = subst (λ (l : Board). box_count l ≤ MAX_BOXES) (sym board) c.first.invariant.few;
-      squares = ap length merged.squares_are ∙ length-squares_of b ms have ∙ (λ i. sym count i * suc (box_count (sym board i)));
+      whole = joined_whole books all c.tell_all.ensures es merged.merged (layer_view (record { task = c.in_ok-task.task; number = c.layer-number.result; count = c.in_ok-count.count; squares = c.in_ok-count.squares; origins = c.in_ok-count.origins }))
+          (task ∙ level) (c.layer-number.ensures ∙ ap last_layer same) read merged.origins_are;
+      few = subst (λ (l : Task). box_count l.board ≤ MAX_BOXES) (sym task) c.first.invariant.few;
+      squares = ap length merged.squares_are ∙ length-squares_of b ms have ∙ (λ i. sym count i * suc (box_count (sym task i).board));
     }

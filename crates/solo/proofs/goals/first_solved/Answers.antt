@@ -15,13 +15,13 @@ returns-then-is_solved c = record {
 }
 
 pub loop-rank-preserved : goal.loop-rank-preserved
-loop-rank-preserved c = unsolved_more c.args.layer.now.level c.args.layer.now.places c.loop-rank.rank c.loop-rank.invariant (λ n at solved.
+loop-rank-preserved c = unsolved_more c.args.layer.now.level.board c.args.layer.now.places c.loop-rank.rank c.loop-rank.invariant (λ n at solved.
     elim c.match-position.branch [
       | in-Some+else-is_solved w ↦ (let same : w.in-Some.position ≡ n = same_Some w.in-Some.position n (sym w.in-Some.is ∙ (c.position.ensures ∙ at)) in
-          let here : IsSolved w.level.result.now w.in-Some.position = subst (λ (b : Board). IsSolved b w.in-Some.position) (sym w.level.ensures) (subst (IsSolved c.args.layer.now.level) (sym same) solved) in
+          let here : IsSolved w.level.result.now w.in-Some.position = subst (λ (b : Board). IsSolved b w.in-Some.position) (sym w.level.ensures) (subst (IsSolved c.args.layer.now.level.board) (sym same) solved) in
           false≢true (sym w.if-is_solved.false ∙ w.is_solved.ensures.1 here))
       | in_default w ↦ none-some n (sym w.in_default.is ∙ (c.position.ensures ∙ at))
     ])
 
 pub returns : goal.returns
-returns c = unsolved_all c.args.layer.now.level c.args.layer.now.places c.loop-rank.rank c.loop-rank.invariant (let e = c.len-rank-end.ensures in let f = c.loop-rank-test.false in omega arith)
+returns c = unsolved_all c.args.layer.now.level.board c.args.layer.now.places c.loop-rank.rank c.loop-rank.invariant (let e = c.len-rank-end.ensures in let f = c.loop-rank-test.false in omega arith)

@@ -17,6 +17,6 @@ returns-clause-lead c =
     let layer = c.args.layer.now in
     IfOk-weaker c.play_pushes.result
     (λ moves. (t : Scene) × WritesLeastPlay c.level.result.now c.as_slice.result.now t moves)
-    (λ moves. (n : Scene) → slice_get layer.places c.args.rank ≡ Some n → WritesLead layer.level n moves)
+    (λ moves. (n : Scene) → slice_get layer.places c.args.rank ≡ Some n → WritesLead layer.level.board n moves)
     (λ moves w. lead_moves layer.level c.level.result.now layer.places c.args.rank c.in_ok-pushes.pushes.items c.as_slice.result.now moves c.level.ensures c.as_slice.ensures.value c.in_ok-pushes.ensures w)
     c.play_pushes.ensures.least

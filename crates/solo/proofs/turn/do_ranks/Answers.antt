@@ -7,8 +7,8 @@ use Rattle.solo.proofs.turn.do_ranks.Goals as goal
 
 pub loop-book-init : goal.loop-book-init
 loop-book-init c = record {
-  due = due_next c.args.book.now c.args.book.now c.claim.new.self c.args.layer.now c.expand-parcel.result c.in-Some.first c.requires.still (λ r e. subst (λ bs. get_or bs r false ≡ true) c.requires.reopened e) c.in-Some.ensures c.expand-parcel.ensures.of;
-  size = c.expand-parcel.ensures.size;
+  due = due_next c.args.book.now c.args.book.now c.claim.new.self c.args.layer.now c.expand_by-parcel.result c.in-Some.first c.requires.still (λ r e. subst (λ bs. get_or bs r false ≡ true) c.requires.reopened e) c.in-Some.ensures c.expand_by-parcel.ensures.of;
+  size = c.expand_by-parcel.ensures.size;
 }
 
 pub enter-requires-clause-work : goal.enter-requires-clause-work

@@ -1,6 +1,6 @@
 use Rattle.std.proofs.Common.{◌≢◌, ◌+◌, length, sym, ◌∙◌, arith}
 use Rattle.std.proofs.lemmas.Bool.{eqb-true, eqb-false}
-use Rattle.solo.proofs.Looking.{have_before, look_limit, look_unsolvable, look_on}
+use Rattle.solo.proofs.Looking.{have_before, look_limit, look_none, look_on}
 use Rattle.solo.proofs.turn.look.Goals as goal
 
 pub returns-then-count-limit-clause-answer : goal.returns-then-count-limit-clause-answer
@@ -12,9 +12,9 @@ solved-requires-clause-looked c =
     have_before c.args.limit c.args.positions.now (c.args.positions.now + c.len.result) c.args.trail.now c.args.layer.now c.requires.looked (omega (arith, c.len.ensures))
 
 pub returns-then-is_empty-clause-answer : goal.returns-then-is_empty-clause-answer
-returns-then-is_empty-clause-answer c =
-    look_unsolvable c.args.limit c.args.positions.now (c.args.positions.now + c.len.result) c.args.trail.now c.args.layer.now c.requires.looked c.requires.next c.tell.ensures
-    (eqb-true _ _ (sym c.is_empty.ensures ∙ c.if-is_empty.true)) (omega (arith, c.len.ensures))
+returns-then-is_empty-clause-answer c = c.none_of.ensures c.args.limit
+    (look_none c.args.limit c.args.positions.now (c.args.positions.now + c.len.result) c.args.trail.now c.args.layer.now c.requires.looked c.requires.next c.tell.ensures
+    (eqb-true _ _ (sym c.is_empty.ensures ∙ c.if-is_empty.true)) (omega (arith, c.len.ensures)))
 
 pub returns-clause-looked : goal.returns-clause-looked
 returns-clause-looked c =

@@ -12,7 +12,7 @@ use Rattle.layers.proofs.book.Book.hand_back.Goals as goal
 pub passes-requires-clause-few : goal.passes-requires-clause-few
 passes-requires-clause-few c = λ i s at.
     let found : IsAtWork c.args.self.now c.args.parcel.now × (slice_get c.args.self.now.done c.args.parcel.now.rank ≡ Some false) = c.in_default.ensures.none in
-    let boxes : c.self.inside.found.boxes ≡ box_count c.args.self.now.level = c.self.invariant.boxes ∙ ap (λ (v : BookView). box_count v.level) c.self.view_is in
+    let boxes : c.self.inside.found.boxes ≡ box_count c.args.self.now.level.board = c.self.invariant.boxes ∙ ap (λ (v : BookView). box_count v.level.board) c.self.view_is in
     let few = fits_few c.args.parcel.now c.tell.ensures c.args.self.now.level found.0.0 c.successors-successors.result.now c.successors-successors.ensures i s at in
     omega (arith, few, boxes)
 
@@ -64,7 +64,7 @@ enter_all-requires-clause-rank c =
 pub enter_all-requires-clause-few : goal.enter_all-requires-clause-few
 enter_all-requires-clause-few c = λ i s at.
     let found : IsAtWork c.args.self.now c.args.parcel.now × (slice_get c.args.self.now.done c.args.parcel.now.rank ≡ Some false) = c.in_default.ensures.none in
-    let boxes : c.self.inside.found.boxes ≡ box_count c.args.self.now.level = c.self.invariant.boxes ∙ ap (λ (v : BookView). box_count v.level) c.self.view_is in
+    let boxes : c.self.inside.found.boxes ≡ box_count c.args.self.now.level.board = c.self.invariant.boxes ∙ ap (λ (v : BookView). box_count v.level.board) c.self.view_is in
     let few = fits_few c.args.parcel.now c.tell.ensures c.args.self.now.level found.0.0 c.successors-successors.result.now c.successors-successors.ensures i s at in
     omega (arith, few, boxes, ap (λ (f : FoundView). f.boxes) c.passes.ensures.same)
 

@@ -1,39 +1,37 @@
 use Rattle.std.proofs.Common.{◌≡◌, ◌≤◌, List, is_err, vec_len, length, replicate, sym, ap, subst, ◌∙◌, arith}
-use Rattle.std.specs.Arc.{arc_value}
-use Rattle.grid.specs.Lawful.{IsLevel, box_count}
+use Rattle.grid.specs.Lawful.{IsLevel}
 use Rattle.layers.specs.BookView.{Closed, IsShareOfLayer}
-use Rattle.layers.specs.FoundView.{first_entries}
 use Rattle.layers.proofs.First.{first_few, fresh_lawful, fresh_cuts, fresh_new}
 use Rattle.layers.proofs.lemmas.Lists.{resized}
 use Rattle.layers.proofs.book.Book.with_first.Goals as goal
 
 pub invariant_of-result : goal.invariant_of-result
 invariant_of-result c =
-    let board = arc_value c.args.level in
+    let task = c.args.task in
     let es : List Closed = c.in_ok-found.found.seen in
-    let layer : IsShareOfLayer board c.args.shares c.args.share 0 es × (length es ≤ 1) = (
-      subst (λ xs. IsShareOfLayer board c.args.shares c.args.share 0 xs) (sym c.in_ok-found.ensures.seen) (subst (λ b. IsShareOfLayer b c.args.shares c.args.share 0 (first_entries c.first_of_share-own.result)) c.deref-2.ensures c.first_of_share-own.ensures.layer),
+    let layer : IsShareOfLayer task c.args.shares c.args.share 0 es × (length es ≤ 1) = (
+      subst (λ xs. IsShareOfLayer task c.args.shares c.args.share 0 xs) (sym c.in_ok-found.ensures.seen) c.first_of_share-own.ensures.layer,
       subst (λ (xs : List Closed). length xs ≤ 1) (sym c.in_ok-found.ensures.seen) (first_few c.first_of_share-own.result),
     ) in
     let starts : c.resize.new.self.items ≡ replicate 1 0 = resized c.resize.result 1 (vec_len c.new-starts.result) 0 c.new-starts.result.items c.resize.new.self.items c.new-starts.ensures.items (c.new-starts.ensures.len ∙ sym (ap length c.new-starts.ensures.items)) (sym (ap is_err c.in_ok-resize.was)) c.resize.ensures.items in
     let tallies : c.resize-2.new.self.items ≡ replicate c.args.workers 0 = resized c.resize-2.result c.args.workers (vec_len c.new-tallies.result) 0 c.new-tallies.result.items c.resize-2.new.self.items c.new-tallies.ensures.items (c.new-tallies.ensures.len ∙ sym (ap length c.new-tallies.ensures.items)) (sym (ap is_err c.in_ok-resize-2.was)) c.resize-2.ensures.items in
-    let level : IsLevel board = subst IsLevel c.deref.ensures c.tell.ensures in
+    let level : IsLevel task.board = c.tell.ensures in
     record {
-      lawful = fresh_lawful board c.args.limit c.args.workers c.args.share c.args.shares c.resize.new.self.items c.resize-2.new.self.items c.in_ok-found.found.seen c.new.result.items c.new-2.result.items c.in_ok-found.found.waiting layer starts tallies c.new.ensures.items c.new-2.ensures.items c.in_ok-found.ensures.waiting level c.requires.bounds;
-      cuts = fresh_cuts board c.args.limit c.args.workers c.args.share c.args.shares c.resize.new.self.items c.resize-2.new.self.items c.in_ok-found.found.seen c.new.result.items c.new-2.result.items c.in_ok-found.found.waiting layer starts tallies c.new.ensures.items c.new-2.ensures.items c.in_ok-found.ensures.waiting;
+      lawful = fresh_lawful task c.args.limit c.args.workers c.args.share c.args.shares c.resize.new.self.items c.resize-2.new.self.items c.in_ok-found.found.seen c.new.result.items c.new-2.result.items c.in_ok-found.found.waiting layer starts tallies c.new.ensures.items c.new-2.ensures.items c.in_ok-found.ensures.waiting level c.requires.bounds;
+      cuts = fresh_cuts task c.args.limit c.args.workers c.args.share c.args.shares c.resize.new.self.items c.resize-2.new.self.items c.in_ok-found.found.seen c.new.result.items c.new-2.result.items c.in_ok-found.found.waiting layer starts tallies c.new.ensures.items c.new-2.ensures.items c.in_ok-found.ensures.waiting;
       few = c.requires.few;
-      boxes = c.in_ok-found.ensures.boxes ∙ c.boxes.ensures ∙ ap box_count c.deref-3.ensures;
+      boxes = c.in_ok-found.ensures.boxes ∙ c.boxes.ensures;
       taken = λ r lt. absurd (omega arith);
     }
 
 pub returns : goal.returns
 returns c =
-    let board = arc_value c.args.level in
+    let task = c.args.task in
     let es : List Closed = c.in_ok-found.found.seen in
-    let layer : IsShareOfLayer board c.args.shares c.args.share 0 es × (length es ≤ 1) = (
-      subst (λ xs. IsShareOfLayer board c.args.shares c.args.share 0 xs) (sym c.in_ok-found.ensures.seen) (subst (λ b. IsShareOfLayer b c.args.shares c.args.share 0 (first_entries c.first_of_share-own.result)) c.deref-2.ensures c.first_of_share-own.ensures.layer),
+    let layer : IsShareOfLayer task c.args.shares c.args.share 0 es × (length es ≤ 1) = (
+      subst (λ xs. IsShareOfLayer task c.args.shares c.args.share 0 xs) (sym c.in_ok-found.ensures.seen) c.first_of_share-own.ensures.layer,
       subst (λ (xs : List Closed). length xs ≤ 1) (sym c.in_ok-found.ensures.seen) (first_few c.first_of_share-own.result),
     ) in
     let starts : c.resize.new.self.items ≡ replicate 1 0 = resized c.resize.result 1 (vec_len c.new-starts.result) 0 c.new-starts.result.items c.resize.new.self.items c.new-starts.ensures.items (c.new-starts.ensures.len ∙ sym (ap length c.new-starts.ensures.items)) (sym (ap is_err c.in_ok-resize.was)) c.resize.ensures.items in
     let tallies : c.resize-2.new.self.items ≡ replicate c.args.workers 0 = resized c.resize-2.result c.args.workers (vec_len c.new-tallies.result) 0 c.new-tallies.result.items c.resize-2.new.self.items c.new-tallies.ensures.items (c.new-tallies.ensures.len ∙ sym (ap length c.new-tallies.ensures.items)) (sym (ap is_err c.in_ok-resize-2.was)) c.resize-2.ensures.items in
-    fresh_new board c.args.limit c.args.workers c.args.share c.args.shares c.resize.new.self.items c.resize-2.new.self.items c.in_ok-found.found.seen c.new.result.items c.new-2.result.items c.in_ok-found.found.waiting layer starts tallies c.new.ensures.items c.new-2.ensures.items c.in_ok-found.ensures.waiting
+    fresh_new task c.args.limit c.args.workers c.args.share c.args.shares c.resize.new.self.items c.resize-2.new.self.items c.in_ok-found.found.seen c.new.result.items c.new-2.result.items c.in_ok-found.found.waiting layer starts tallies c.new.ensures.items c.new-2.ensures.items c.in_ok-found.ensures.waiting

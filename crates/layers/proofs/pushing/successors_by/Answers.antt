@@ -5,7 +5,7 @@ use Rattle.area.specs.After.{IsAreaOf}
 use Rattle.layers.specs.ParcelView.{FitLevel}
 use Rattle.layers.proofs.lemmas.Successors.{come_by}
 use Rattle.layers.proofs.Gathering.{AreSuccessorsBy, by_same, by_more, by_all, fit_more}
-use Rattle.layers.proofs.expansion.successors_by.Goals as goal
+use Rattle.layers.proofs.pushing.successors_by.Goals as goal
 
 pub append_successor-count-requires-clause-possible : goal.append_successor-count-requires-clause-possible
 append_successor-count-requires-clause-possible c =

@@ -6,7 +6,7 @@ use Rattle.grid.proofs.lemmas.Steps.{inside_grid}
 use Rattle.doom.specs.Deadlocks.{IsDead}
 use Rattle.layers.proofs.Appending.{slot_more, slot_same}
 use Rattle.layers.proofs.lemmas.Successors.{come_by}
-use Rattle.layers.proofs.expansion.append_successor.Goals as goal
+use Rattle.layers.proofs.pushing.append_successor.Goals as goal
 
 pub next-requires : goal.next-requires
 next-requires c = inside_grid c.args.level.now c.args.push.square (c.requires.fits.scene.boxes c.args.push.square c.requires.possible.there)

@@ -2,7 +2,7 @@ use Rattle.std.proofs.Common.{◌≡◌, ◌≤◌, length, take}
 use Rattle.layers.specs.ParcelView.{FitLevel}
 use Rattle.layers.specs.inside.Sums.{AreSums}
 use Rattle.layers.proofs.Gathering.{AreSuccessorsBy}
-use Rattle.layers.proofs.expansion.successors_by.Given as goal
+use Rattle.layers.proofs.pushing.successors_by.Given as goal
 
 abbrev pub invariant-loop-push : goal.invariant-loop-push
 invariant-loop-push l = record {

@@ -1,0 +1,11 @@
+use Rattle.std.proofs.Common.{◌≡◌, sym, subst, ◌∙◌}
+use Rattle.std.specs.Arc.{arc_value}
+use Rattle.layers.specs.Tasks.{Task, capped}
+use Rattle.layers.specs.Books.{AreNewShares}
+use Rattle.layers.proofs.book.Book.of_all_shares.Goals as goal
+
+pub returns-in-Ok-all_with_first-clause-ok : goal.returns-in-Ok-all_with_first-clause-ok
+returns-in-Ok-all_with_first-clause-ok c =
+    let board : arc_value c.in-Ok.level ≡ c.args.pruner.now.board = c.in-Ok.ensures ∙ sym c.requires.pruner_of_level in
+    let same : c.of-task.result ≡ c.args.pruner.now = c.of-task.ensures ∙ (λ i. capped (board i) (c.cap.ensures i)) in
+    subst (λ (t : Task). AreNewShares t c.args.limit c.args.workers c.args.shares c.in-Ok-all_with_first.books.items) same c.in-Ok-all_with_first.ensures

@@ -1,0 +1,56 @@
+-- What a cap admits: what comes before an admitted position is admitted, and so is each position after fewer pushes.
+use Rattle.std.proofs.Common.{◌≡◌, ℕ, suc, ◌+◌, ◌≤◌, List, [], ◌∷◌, length, Option, None, Some, subst, arith}
+use Rattle.grid.specs.declared.dir.Dir.{Dir}
+use Rattle.grid.specs.declared.square.Push.{Push}
+use Rattle.grid.specs.Board.{Board, Scene, start}
+use Rattle.grid.specs.States.{IsScene}
+use Rattle.grid.specs.Plays.{Play, Any}
+use Rattle.grid.specs.Plays.Play.{stay, walk, push}
+use Rattle.grid.proofs.lemmas.Plays.{play_any, play_scene}
+use Rattle.grid.proofs.lemmas.Steps.{walk_boxes, scene_after_walk, scene_after_push}
+use Rattle.area.proofs.lemmas.Norms.{norm_walk}
+use Rattle.doom.specs.Bounds.{IsLower}
+use Rattle.doom.proofs.lemmas.Bounds.{push_lessens}
+use Rattle.layers.specs.Tasks.{Task, IsAdmitted, Admits}
+use Rattle.layers.specs.Reaching.{Reaches}
+use Rattle.layers.specs.Origins.{IsSuccessor}
+
+-- along a play the least sum falls by no more than the number of its pushes
+pub play_lessens : (board : Board) (s t : Scene) (ds : List Dir) (ps : List Push) (low : ℕ) → IsScene board s → Play board Any s ds ps t → IsLower board t.boxes low → (n : ℕ) × IsLower board s.boxes n × (n ≤ length ps + low)
+play_lessens board s t ds ps low scene (stay ok) lower = (low, lower, omega arith)
+play_lessens board s t (d ∷ ds) ps low scene (walk {m = m} ok step play) lower =
+    let (n, before, le) = play_lessens board m t ds ps low (scene_after_walk board s d m scene step) play lower in
+    (n, subst (λ ys. IsLower board ys n) (walk_boxes board s d m step) before, le)
+play_lessens board s t (d ∷ ds) (p ∷ ps) low scene (push {m = m} ok step play) lower =
+    let (n, before, le) = play_lessens board m t ds ps low (scene_after_push board s d m scene step) play lower in
+    let (k, more, few) = push_lessens board s m d n scene step before in
+    (k, more, omega (arith, le, few))
+
+-- what an admitted successor comes from was admitted one push before
+pub admitted_before : (task : Task) → IsScene task.board (start task.board) → (k : ℕ) (ps : List Push) (n : Scene) (p : Push) (m : Scene) → Reaches task.board ps n → IsSuccessor task.board n p m → Admits task (suc k) m → Admits task k n
+admitted_before task scene k ps n p m (ds, t, play, norm) (es, u, next, after) adm = go task.cap adm
+  where
+    here : IsScene task.board n
+    here = play_scene (play_scene scene play) (norm_walk norm).1
+
+    go : (cap : Option ℕ) → IsAdmitted task.board cap (suc k) m → IsAdmitted task.board cap k n
+    go None any = tt
+    go (Some most) (low, lower, le) =
+        let (a, before, few) = play_lessens task.board n u es (p ∷ []) low here (play_any next) (subst (λ ys. IsLower task.board ys low) after.boxes lower) in
+        (a, before, omega (arith, le, few))
+
+-- what is admitted late is admitted early
+pub admitted_earlier : (task : Task) (j k : ℕ) (n : Scene) → j ≤ k → Admits task k n → Admits task j n
+admitted_earlier task j k n early adm = go task.cap adm
+  where
+    go : (cap : Option ℕ) → IsAdmitted task.board cap k n → IsAdmitted task.board cap j n
+    go None any = tt
+    go (Some most) (low, lower, le) = (low, lower, omega (arith, le, early))
+
+-- positions with the same boxes are admitted alike
+pub admitted_alike : (task : Task) (k : ℕ) (m n : Scene) → m.boxes ≡ n.boxes → Admits task k m → Admits task k n
+admitted_alike task k m n same adm = go task.cap adm
+  where
+    go : (cap : Option ℕ) → IsAdmitted task.board cap k m → IsAdmitted task.board cap k n
+    go None any = tt
+    go (Some most) (low, lower, le) = (low, subst (λ ys. IsLower task.board ys low) same lower, le)
