@@ -127,6 +127,39 @@ fn a_box_needs_pushes(rt: HostRuntime) {
     }
 }
 
+#[test]
+fn boxes_need_the_sum_of_their_pushes(rt: HostRuntime) {
+    let rows: [((usize, &[u8]), &[Square], u16, Option<u32>); 8] = [
+        (TWO_ENDS, &[Square(9), Square(11)], 10, Some(2)),
+        (TWO_ENDS, &[Square(8), Square(11)], 9, Some(1)),
+        (TWO_ENDS, &[Square(9), Square(12)], 10, Some(1)),
+        (TWO_ENDS, &[Square(8), Square(12)], 9, Some(0)),
+        (TWO_ENDS, &[Square(10), Square(11)], 9, Some(3)),
+        (BETWEEN_DEAD, &[Square(12), Square(17)], 22, Some(3)),
+        (BETWEEN_DEAD, &[Square(12), Square(18)], 22, None),
+        (BETWEEN_DEAD, &[Square(16), Square(17)], 22, None),
+    ];
+    for (row, (board, boxes, player, pushes)) in rows.into_iter().enumerate() {
+        let low = needed(&rt, rt.alloc(), board, boxes, Square(player));
+        assert_eq!(&rt; low, pushes, "row {row}");
+    }
+}
+
+// What the bound says of boxes on squares of a board, while the player stands on another.
+fn needed(
+    rt: &impl Abort,
+    alloc: Global,
+    board: (usize, &[u8]),
+    boxes: &[Square],
+    player: Square,
+) -> Option<u32> {
+    let level = level_of(rt, alloc, board);
+    let bound = Bound::of(alloc, &level).expect(rt, "memory");
+    let position = Position::of(boxes, player).expect(rt, "a position");
+    assert!(rt; position.fits(&level));
+    bound.lower(&position)
+}
+
 // What the bound says of one box on a square, while the player stands on another.
 fn check_lower(rt: &impl Abort, level: &Level, bound: &Bound, square: u16, pushes: Option<u32>)
     requires { bound.now ≡ level.now }
