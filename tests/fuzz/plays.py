@@ -27,10 +27,10 @@ def steps(board, boxes, player):
 TOO_MANY = "too many states"
 
 
-def least(board, most):
-    """The pushes and the text of the least solution, None where no play solves the level, or TOO_MANY. A play is compared as solutions are: by its
-    number of pushes, then its push list, then its number of moves, then its letters in lower case. Each state is left by the least play that
-    leads there, for a lesser beginning makes a lesser play."""
+def least(board, most, cap=None):
+    """The pushes and the text of the least solution, of those that a cap of pushes allows, if one is given; None where no play solves the level
+    so, or TOO_MANY. A play is compared as solutions are: by its number of pushes, then its push list, then its number of moves, then its letters
+    in lower case. Each state is left by the least play that leads there, for a lesser beginning makes a lesser play."""
     waiting, left, number = [((0, (), 0, ""), 0, frozenset(board.boxes), board.player, "")], set(), 0
     while waiting:
         (pushes, push_list, moves, letters), _, boxes, player, text = heapq.heappop(waiting)
@@ -42,7 +42,7 @@ def least(board, most):
         if len(left) > most:
             return TOO_MANY
         for letter, after, ahead, pushed in steps(board, boxes, player):
-            if (after, ahead) not in left:
+            if (after, ahead) not in left and (pushed is None or pushes != cap):
                 number += 1
                 more = (pushes, push_list) if pushed is None else (pushes + 1, push_list + ((pushed, letter),))
                 play = (*more, moves + 1, letters + letter)

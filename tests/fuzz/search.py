@@ -1,7 +1,11 @@
 """An independent search for the least solution, by the definitions of docs/FORMATS.md and docs/GAME.md: positions are sets of boxes with
-the least square that the player reaches, layers hold the undoomed ones by their fewest pushes, in the order of their least push lists.
+the least square that the player reaches, layers hold the undoomed ones by their fewest pushes, in the order of their least push lists. Under
+a cap of pushes the same layers are found first, and only then is each cut down to the positions that the cap admits.
 
 It shares nothing with the program. It is slow and plain, and made for small levels."""
+import functools
+import itertools
+
 from formats import DIRS, line, moved
 
 ORDER = "dlru"
@@ -98,15 +102,40 @@ def layers(board, most):
         layer = after
 
 
-def solve(board, limit, most):
-    """The status and the report of `solve`; None where more than `most` positions are needed."""
+def pushes_alone(board, square):
+    """The fewest pushes by which a lone box comes from a square to some goal, the player being set down anew before each; None where none do."""
+    far, waiting = {square: 0}, [square]
+    for place in waiting:
+        if place in board.goals:
+            return far[place]
+        for step in DIRS.values():
+            ahead, behind = moved(place, step), moved(place, (-step[0], -step[1]))
+            if ahead not in far and not board.is_wall(ahead) and not board.is_wall(behind):
+                far[ahead] = far[place] + 1
+                waiting.append(ahead)
+    return None
+
+
+def admitted(board, cap, whole):
+    """Of whole layers those that the cap reaches, each with the positions alone whose boxes, each as if it were alone, need no more pushes than
+    the cap leaves. No box of a layer stands where it has none."""
+    need = functools.cache(functools.partial(pushes_alone, board))
+    for pushes, layer in enumerate(itertools.islice(whole, cap + 1)):
+        yield layer and [entry for entry in layer if pushes + sum(map(need, entry[0][0])) <= cap]
+
+
+def solve(board, limit, most, cap=None):
+    """The status and the report of `solve`, under a cap of pushes if one is given; None where whole layers of more than `most` positions are
+    needed."""
     count = 0
-    for layer in layers(board, min(limit, most)):
+    for layer in layers(board, min(limit, most)) if cap is None else admitted(board, cap, layers(board, most)):
         if layer is None:
-            return (4, line(f"limit {limit} reached")) if limit <= most else None
+            return (4, line(f"limit {limit} reached")) if cap is None and limit <= most else None
         count += len(layer)
+        if count > limit:
+            return 4, line(f"limit {limit} reached")
         for (boxes, _), pushes in layer:
             if boxes <= board.goals:
                 text = text_of(board, pushes)
                 return 0, line(f"solved {len(pushes)} pushes, {len(text)} moves, {count} positions") + line(text)
-    return 1, line(f"unsolvable, {count} positions")
+    return 1, line(f"{'unsolvable' if cap is None else f'none within {cap} pushes'}, {count} positions")

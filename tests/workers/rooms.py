@@ -9,6 +9,8 @@ import search
 HERE = os.path.dirname(os.path.abspath(__file__))
 ROUNDS = 8
 PLENTY = 1_000_000
+# so many caps of pushes, from 0 on, are set on a level that has no solution
+CAPS = 7
 
 # the width and the height of a room, the number of its boxes, and that of its inner walls
 SHAPES = [(3, 3, 1, 0), (4, 3, 1, 2), (5, 4, 1, 4), (4, 4, 2, 1), (5, 3, 2, 1), (5, 4, 2, 3), (6, 4, 2, 5), (5, 3, 3, 0), (4, 4, 3, 1)]
@@ -44,15 +46,25 @@ def by_chance():
     return [room(rng, shape) for shape in SHAPES for _ in range(ROUNDS)]
 
 
-def answer(data):
-    """The status, the report and the positions of `solve` of a level: the least solution or none is found by the rules of the game alone, and the
-    report by the definitions has to agree with it."""
-    board = formats.boards_of(data)[0]
-    least, (status, text) = plays.least(board, PLENTY), search.solve(board, PLENTY, PLENTY)
+def answer(board, cap):
+    """The status, the report and the number of positions of `solve` of a level, under a cap of pushes if one is given: the least solution or none
+    is found by the rules of the game alone, and the report by the definitions has to agree with it."""
+    least, (status, text) = plays.least(board, PLENTY, cap), search.solve(board, PLENTY, PLENTY, cap)
     if least is None:
-        return status, text, int(text.removeprefix(b"unsolvable, ").removesuffix(b" positions\n"))
+        front = b"unsolvable, " if cap is None else b"none within %d pushes, " % cap
+        assert status == 1 and text.startswith(front), f"{text} by the definitions, no solution under the cap {cap} by the rules"
+        return status, text, int(text.removeprefix(front).removesuffix(b" positions\n"))
     pushes, moves = least
     front, _, last = text.partition(b" positions\n")
     count = int(front.removeprefix(f"solved {pushes} pushes, {len(moves)} moves, ".encode()))
-    assert last == moves.encode() + b"\n", f"{last} by the definitions, {moves} by the rules"
+    assert status == 0 and last == moves.encode() + b"\n", f"{last} by the definitions, {moves} by the rules"
     return status, text, count
+
+
+def answers(data):
+    """The answers to a level: first without a cap of pushes, and then under each one from 0 to two more than the fewest pushes; where it is
+    unsolvable, under some small ones and the greatest."""
+    board = formats.boards_of(data)[0]
+    least = plays.least(board, PLENTY)
+    caps = [*range(CAPS), formats.MOST_NUMBER] if least is None else range(least[0] + 3)
+    return [(cap, *answer(board, cap)) for cap in [None, *caps]]
