@@ -45,6 +45,7 @@ test: toolchain
 	@mkdir -p target
 	@cp crates/cli/out/cli target/sokopar
 	@tests/cli/run target/sokopar
+	@tests/before/run target/sokopar
 	@tests/workers/run target/sokopar
 	@tests/hostile/run target/sokopar
 	@tests/refusals/run crates/refusals/out/refusals
