@@ -14,7 +14,7 @@ use indexmap::IndexMap;
 use std::alloc::AllocError;
 
 /// So many offers wait before they enter, so that an inbox stays small beside the map.
-const FULL: usize = 256;
+const FULL: usize = 32;
 
 /// Makes room for the offers of a rank's successors, in the inbox and in the map that they are to enter; where many
 /// wait already, these enter first. What is found stays as it was. The only error is that memory was refused.
