@@ -9,6 +9,7 @@ mod desks;
 mod end;
 mod gate;
 mod lent;
+mod locking;
 mod lots;
 mod search;
 #[cfg(test)]

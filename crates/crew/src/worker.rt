@@ -8,6 +8,7 @@ ghost use Rattle.layers.specs.LayerView.{LayerView};
 
 use crate::end::End;
 use crate::gate::Gate;
+use crate::locking::lock_soon;
 use crate::lots::{fill, have_room, lot_size};
 use area::Scratch;
 use claims::{Drawer, Ledger, PLACES};
@@ -285,7 +286,7 @@ fn hand_to<R: Wait, G: Gate>(
     ensures hand { (hand : Hand) → IfErr result (λ end. EndsWith worker hand end) }
     ensures answered { IfErr result (λ end. WasAnswered layer.now worker end) }
 {
-    let handed = hand_in(&mut *book.lock(rt), layer, worker, parcel);
+    let handed = hand_in(&mut *lock_soon(rt, book), layer, worker, parcel);
     handed?;
     pass(gate, layer.number(), worker, nth)
 }

@@ -1,0 +1,28 @@
+//! Locks that are mostly free again before a thread could fall asleep and wake.
+use std::hint::spin_loop;
+use std::sync::{Mutex, MutexGuard, Wait};
+
+// How often a lock is tried before the thread sleeps until it is free.
+const TRIES: u32 = 20;
+
+// How many hints that it waits a thread gives between two tries.
+const PAUSES: u32 = 50;
+
+// Takes a lock as `lock` does, after it has tried for a while: what the locks of a search are held for takes less time
+// than falling asleep and being woken.
+pub(crate) fn lock_soon<'b, T, R: Wait>(rt: &R, mutex: &'b Mutex<T>) -> MutexGuard<'b, T> {
+    for _ in 0..TRIES {
+        if let Some(guard) = mutex.try_lock() {
+            return guard;
+        }
+        pause();
+    }
+    mutex.lock(rt)
+}
+
+// Lets a little time pass.
+fn pause() {
+    for _ in 0..PAUSES {
+        spin_loop();
+    }
+}
