@@ -1,21 +1,29 @@
 //! Locks that are mostly free again before a thread could fall asleep and wake.
 use std::hint::spin_loop;
 use std::sync::{Mutex, MutexGuard, Wait};
+use std::thread::yield_now;
 
 // How often a lock is tried before the thread sleeps until it is free.
-const TRIES: u32 = 20;
+const TRIES: u32 = 200;
 
-// How many hints that it waits a thread gives between two tries.
+// After how many tries the thread lets others run between two of them, as the one that holds the lock.
+const SPINS: u32 = 40;
+
+// How many hints that it waits a thread gives between two of the first tries.
 const PAUSES: u32 = 50;
 
 // Takes a lock as `lock` does, after it has tried for a while: what the locks of a search are held for takes less time
 // than falling asleep and being woken.
 pub(crate) fn lock_soon<'b, T, R: Wait>(rt: &R, mutex: &'b Mutex<T>) -> MutexGuard<'b, T> {
-    for _ in 0..TRIES {
+    for nth in 0..TRIES {
         if let Some(guard) = mutex.try_lock() {
             return guard;
         }
-        pause();
+        if nth < SPINS {
+            pause();
+        } else {
+            yield_now();
+        }
     }
     mutex.lock(rt)
 }
