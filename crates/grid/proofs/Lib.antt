@@ -7,4 +7,5 @@ pub mod Bits
 pub mod Words
 pub mod Kept
 pub mod Edges
+pub mod Columns
 mod Examples

@@ -1,4 +1,4 @@
-ghost use Rattle.std.specs.Prelude.{◌≡◌, ◌<◌, ◌≤◌, IsTrue, ◌↔◌, IfOk, length, if◌then◌else◌};
+ghost use Rattle.std.specs.Prelude.{◌≡◌, ◌%◌, ◌<◌, ◌≤◌, IsTrue, ◌↔◌, IfOk, length, if◌then◌else◌};
 ghost use Rattle.grid.specs.declared.dir.Dir.{Dir};
 ghost use Rattle.grid.specs.Board.{Board, is_wall, is_goal, has_box, next};
 ghost use Rattle.grid.specs.Lawful.{row_count};
@@ -176,18 +176,21 @@ fn neighbours(alloc: Global, cols: usize, cells: &[Cell]) -> Result<Vec<Around>,
     ensures each { IfOk result (λ v. AreAround (record { cols = cols; cells = cells.now }) v.items) }
 {
     let mut around = Vec::with_capacity(alloc, cells.len())?;
+    let mut column = 0;
     for square in 0..cells.len() {
-        around.push(neighbours_of(cols, cells, square))?;
+        around.push_reserved(neighbours_of(cols, cells, square, column));
+        column = if column + 1 == cols { 0 } else { column + 1 };
     }
     Ok(around)
 }
 
-// The neighbours of a square.
-fn neighbours_of(cols: usize, cells: &[Cell], square: usize) -> Around
+// The neighbours of a square in a column.
+fn neighbours_of(cols: usize, cells: &[Cell], square: usize, column: usize) -> Around
     requires columns { 1 ≤ cols }
     requires wide { cols ≤ MAX_COLS }
     requires bound { length cells.now ≤ MAX_SQUARES }
     requires inside { square < length cells.now }
+    requires column { column ≡ square % cols }
     ensures { result ≡ around_of (record { cols = cols; cells = cells.now }) square }
 {
     let end = cells.len();
@@ -196,12 +199,8 @@ fn neighbours_of(cols: usize, cells: &[Cell], square: usize) -> Around
     } else {
         end
     };
-    let l = if square % cols == 0 { end } else { square - 1 };
-    let r = if (square + 1) % cols == 0 {
-        end
-    } else {
-        square + 1
-    };
+    let l = if column == 0 { end } else { square - 1 };
+    let r = if column + 1 == cols { end } else { square + 1 };
     let u = if square < cols { end } else { square - cols };
     Around {
         d: Square(d as u16),
