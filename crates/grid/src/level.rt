@@ -218,7 +218,8 @@ impl Eq for Level {
 
 // The first fault that looking at the cells alone finds.
 fn cell_fault(cols: usize, cells: &[Cell]) -> Option<LevelFault>
-    requires { 1 ≤ cols }
+    requires columns { 1 ≤ cols }
+    requires whole { length cells.now % cols ≡ 0 }
     ensures { result ≡ cell_fault (record { cols = cols; cells = cells.now }) }
 {
     if cells.len() / cols > MAX_ROWS {
@@ -232,6 +233,7 @@ fn cell_fault(cols: usize, cells: &[Cell]) -> Option<LevelFault>
 
 // What is wrong with the numbers of players, boxes and goals.
 fn count_fault(cells: &[Cell]) -> Option<LevelFault>
+    requires { length cells.now ≤ MAX_SQUARES }
     ensures { (cols : ℕ) → result ≡ count_fault (record { cols = cols; cells = cells.now }) }
 {
     let players = players_of(cells);
@@ -252,22 +254,38 @@ fn count_fault(cells: &[Cell]) -> Option<LevelFault>
     None
 }
 
+// Numbers of cells are counted in 16 bits, so that the processor looks at several cells at once.
 fn players_of(cells: &[Cell]) -> usize
+    requires { length cells.now ≤ MAX_SQUARES }
     ensures { result ≡ count_by player_cell cells.now }
 {
-    cells.iter().filter(|cell| cell.has_player()).count()
+    let mut players: u16 = 0;
+    for cell in cells {
+        players += u16::from(cell.has_player());
+    }
+    players as usize
 }
 
 fn boxes_of(cells: &[Cell]) -> usize
+    requires { length cells.now ≤ MAX_SQUARES }
     ensures { result ≡ count_by box_cell cells.now }
 {
-    cells.iter().filter(|cell| cell.has_box()).count()
+    let mut boxes: u16 = 0;
+    for cell in cells {
+        boxes += u16::from(cell.has_box());
+    }
+    boxes as usize
 }
 
 fn goals_of(cells: &[Cell]) -> usize
+    requires { length cells.now ≤ MAX_SQUARES }
     ensures { result ≡ count_by goal_cell cells.now }
 {
-    cells.iter().filter(|cell| cell.has_goal()).count()
+    let mut goals: u16 = 0;
+    for cell in cells {
+        goals += u16::from(cell.has_goal());
+    }
+    goals as usize
 }
 
 // The square of the one player.
