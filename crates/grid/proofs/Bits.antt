@@ -1,8 +1,8 @@
--- Sets of squares as bits of words: one bit more, no bits at all, and the squares up to one.
-use Rattle.std.proofs.Common.{◌≡◌, ℕ, ◌+◌, ◌*◌, ◌/◌, ◌%◌, ◌^◌, ◌<◌, Bool, true, false, not, cond, eqb, ltb, ◌&&◌, ◌||◌, List, length, get_or, set, map, replicate, inl, inr, bit_or, w64, refl, sym, ap, ◌∙◌, arith}
+-- Sets of squares as bits of words: one bit more, one word more, and the squares up to one.
+use Rattle.std.proofs.Common.{◌≡◌, ℕ, ◌+◌, ◌*◌, ◌/◌, ◌%◌, ◌^◌, ◌<◌, ◌≤◌, Bool, true, false, not, cond, eqb, ltb, ◌&&◌, ◌||◌, List, [], ◌∷◌, ◌++◌, length, get_or, map, inl, inr, bit_or, w64, refl, sym, ap, ◌∙◌, arith}
+use Rattle.std.proofs.Math.Seq.{get_or-append_seam}
 use Rattle.std.proofs.lemmas.Bool.{eq-eqb, ne_eqb, cases_eq, cases_lt, lt-ltb, le-ltb, and_from, and_left, and_right, cond-true, cond-false}
-use Rattle.std.proofs.lemmas.Grind.{get_or-set_at}
-use Rattle.std.proofs.lemmas.List.{get_or_past, get_or-map, get_or-replicate, get_or-set_other, length-map, length-replicate, map-set}
+use Rattle.std.proofs.lemmas.List.{get_or_past, get_or-map, get_or_append_left, length-append, length-map}
 use Rattle.std.proofs.lemmas.Nat.Bits.{bit_at-zero, bit_at_set_same, bit_at_set_other}
 use Rattle.std.specs.Int.{bit_at}
 use Rattle.grid.specs.declared.dir.Dir.{Dir}
@@ -34,58 +34,44 @@ bit_at-set n k i b inside set = elim (cases_eq i k) [
 ]
 
 -- a bit that is set where a test holds
-set_where : (t : Bool) (x y : ℕ) → y ≡ cond t 1 x → eqb y 1 ≡ (eqb x 1 || t)
+pub set_where : (t : Bool) (x y : ℕ) → y ≡ cond t 1 x → eqb y 1 ≡ (eqb x 1 || t)
 set_where true x y e = eq-eqb y 1 e ∙ sym (or_true (eqb x 1))
 set_where false x y e = ap (λ z. eqb z 1) e ∙ sym (or_false (eqb x 1))
 
--- two squares of one word are equal where their bits are
-same_place : (q s : ℕ) → q / WORD_BITS ≡ s / WORD_BITS → eqb (q % WORD_BITS) (s % WORD_BITS) ≡ eqb q s
-same_place q s e = elim (cases_eq q s) [
-  | inl same ↦ eq-eqb (q % WORD_BITS) (s % WORD_BITS) (ap (λ x. x % WORD_BITS) same) ∙ sym (eq-eqb q s same)
-  | inr other ↦
-      let apart : (q % WORD_BITS ≡ s % WORD_BITS) → ⊥ = λ k. other (omega (arith, k, e)) in
-      ne_eqb (q % WORD_BITS) (s % WORD_BITS) apart ∙ sym (ne_eqb q s other)
-]
-
--- a word with the bit of a square set, where a test holds, is put in that word's place
-has_bit-set : (words : List ℕ) (s q n : ℕ) (b : Bool) → s / WORD_BITS < length words → ((i : ℕ) → bit_at n i ≡ cond (b && eqb i (s % WORD_BITS)) 1 (bit_at (get_or words (s / WORD_BITS) 0) i)) → has_bit (set words (s / WORD_BITS) n) q ≡ (has_bit words q || (b && eqb q s))
+-- a bit of a word that comes after others is a bit of the set
+pub has_bit-more : (d : Dir) (masks more : List StepMasks) (m : StepMasks) (k q : ℕ) → length masks ≡ k → more ≡ masks ++ m ∷ [] → q / WORD_BITS ≡ k → has_bit (words_for d more) q ≡ eqb (bit_at (word_for d m) (q % WORD_BITS)) 1
 unfolding has_bit
-has_bit-set words s q n b inside bits = elim (cases_eq (q / WORD_BITS) (s / WORD_BITS)) [
-  | inl e ↦
-      let here : get_or (set words (s / WORD_BITS) n) (q / WORD_BITS) 0 ≡ n = get_or-set_at words (s / WORD_BITS) (q / WORD_BITS) n 0 e inside in
-      let old : bit_at (get_or words (s / WORD_BITS) 0) (q % WORD_BITS) ≡ bit_at (get_or words (q / WORD_BITS) 0) (q % WORD_BITS) = ap (λ w. bit_at (get_or words w 0) (q % WORD_BITS)) (sym e) in
-      let new : bit_at n (q % WORD_BITS) ≡ cond (b && eqb (q % WORD_BITS) (s % WORD_BITS)) 1 (bit_at (get_or words (q / WORD_BITS) 0) (q % WORD_BITS)) = bits (q % WORD_BITS) ∙ ap (λ x. cond (b && eqb (q % WORD_BITS) (s % WORD_BITS)) 1 x) old in
-      ap (λ x. eqb (bit_at x (q % WORD_BITS)) 1) here ∙ set_where (b && eqb (q % WORD_BITS) (s % WORD_BITS)) (bit_at (get_or words (q / WORD_BITS) 0) (q % WORD_BITS)) (bit_at n (q % WORD_BITS)) new ∙ ap (λ x. eqb (bit_at (get_or words (q / WORD_BITS) 0) (q % WORD_BITS)) 1 || (b && x)) (same_place q s e)
-  | inr ne ↦
-      let other : (q ≡ s) → ⊥ = λ e. ne (ap (λ x. x / WORD_BITS) e) in
-      let kept = get_or-set_other words (s / WORD_BITS) (q / WORD_BITS) n 0 ne in
-      let no = and_right b (eqb q s) (ne_eqb q s other) in
-      ap (λ x. eqb (bit_at x (q % WORD_BITS)) 1) kept ∙ sym (or_false (eqb (bit_at (get_or words (q / WORD_BITS) 0) (q % WORD_BITS)) 1)) ∙ ap (λ x. eqb (bit_at (get_or words (q / WORD_BITS) 0) (q % WORD_BITS)) 1 || x) (sym no)
-]
-
--- the same for one direction's words of masks
-pub has_bit-set_mask : (d : Dir) (masks : List StepMasks) (s q : ℕ) (m e : StepMasks) (b : Bool) → s / WORD_BITS < length masks → ((i : ℕ) → bit_at (word_for d m) i ≡ cond (b && eqb i (s % WORD_BITS)) 1 (bit_at (word_for d (get_or masks (s / WORD_BITS) e)) i)) → has_bit (words_for d (set masks (s / WORD_BITS) m)) q ≡ (has_bit (words_for d masks) q || (b && eqb q s))
-has_bit-set_mask d masks s q m e b inside bits =
+has_bit-more d masks more m k q size items here =
     let word = λ (x : StepMasks). word_for d x in
-    let moved = map-set word masks (s / WORD_BITS) m in
-    let long : s / WORD_BITS < length (map word masks) = omega (arith, inside, length-map masks word) in
-    let old = get_or-map word masks (s / WORD_BITS) e 0 inside in
-    let new : (i : ℕ) → bit_at (word_for d m) i ≡ cond (b && eqb i (s % WORD_BITS)) 1 (bit_at (get_or (map word masks) (s / WORD_BITS) 0) i) = λ i. bits i ∙ ap (λ x. cond (b && eqb i (s % WORD_BITS)) 1 (bit_at x i)) (sym old) in
-    ap (λ words. has_bit words q) moved ∙ has_bit-set (map word masks) s q (word_for d m) b long new
+    let place : q / WORD_BITS ≡ length masks = here ∙ sym size in
+    let long : q / WORD_BITS < length (masks ++ m ∷ []) = omega (arith, place, length-append masks (m ∷ [])) in
+    let at : get_or (masks ++ m ∷ []) (q / WORD_BITS) m ≡ m = ap (λ i. get_or (masks ++ m ∷ []) i m) place ∙ get_or-append_seam masks m [] m in
+    ap (λ xs. eqb (bit_at (get_or (map word xs) (q / WORD_BITS) 0) (q % WORD_BITS)) 1) items ∙ ap (λ w. eqb (bit_at w (q % WORD_BITS)) 1) (get_or-map word (masks ++ m ∷ []) (q / WORD_BITS) m 0 long ∙ ap word at)
 
--- words without bits
-pub has_bit-clear : (d : Dir) (n q : ℕ) (m : StepMasks) → word_for d m ≡ 0 → has_bit (words_for d (replicate n m)) q ≡ false
+-- the bits of the words before it stay
+pub has_bit-kept : (d : Dir) (masks more : List StepMasks) (m : StepMasks) (q : ℕ) → more ≡ masks ++ m ∷ [] → q / WORD_BITS < length masks → has_bit (words_for d more) q ≡ has_bit (words_for d masks) q
 unfolding has_bit
-has_bit-clear d n q m zero = ap (λ x. eqb (bit_at x (q % WORD_BITS)) 1) clear ∙ ap (λ x. eqb x 1) (bit_at-zero (q % WORD_BITS))
-  where
-    word : StepMasks → ℕ
-    word x = word_for d x
+has_bit-kept d masks more m q items before =
+    let word = λ (x : StepMasks). word_for d x in
+    let long : q / WORD_BITS < length (masks ++ m ∷ []) = omega (arith, before, length-append masks (m ∷ [])) in
+    let new = get_or-map word (masks ++ m ∷ []) (q / WORD_BITS) m 0 long in
+    let old = get_or-map word masks (q / WORD_BITS) m 0 before in
+    let same = get_or_append_left masks (m ∷ []) m (q / WORD_BITS) before in
+    ap (λ xs. eqb (bit_at (get_or (map word xs) (q / WORD_BITS) 0) (q % WORD_BITS)) 1) items ∙ ap (λ w. eqb (bit_at w (q % WORD_BITS)) 1) (new ∙ (ap word same ∙ sym old))
 
-    clear : get_or (map (λ x. word_for d x) (replicate n m)) (q / WORD_BITS) 0 ≡ 0
-    clear = elim (cases_lt (q / WORD_BITS) n) [
-      | inl lt ↦ get_or-map (λ x. word_for d x) (replicate n m) (q / WORD_BITS) m 0 (omega (arith, lt, length-replicate n m)) ∙ ap (λ x. word_for d x) (get_or-replicate n (q / WORD_BITS) m m lt) ∙ zero
-      | inr ge ↦ get_or_past (map (λ x. word_for d x) (replicate n m)) (q / WORD_BITS) 0 (omega (arith, ge, length-map (replicate n m) (λ x. word_for d x), length-replicate n m))
-    ]
+-- past the last word there are no bits
+pub has_bit-past : (d : Dir) (masks : List StepMasks) (q : ℕ) → length masks ≤ q / WORD_BITS → has_bit (words_for d masks) q ≡ false
+unfolding has_bit
+has_bit-past d masks q past =
+    let word = λ (x : StepMasks). word_for d x in
+    ap (λ w. eqb (bit_at w (q % WORD_BITS)) 1) (get_or_past (map word masks) (q / WORD_BITS) 0 (omega (arith, past, length-map masks word))) ∙ ap (λ x. eqb x 1) (bit_at-zero (q % WORD_BITS))
+
+-- what a test says of the bit of a square, counted from the first of a word or from the first of all
+same_bit : (first j k : ℕ) → eqb j k ≡ eqb (first + j) (first + k)
+same_bit first j k = elim (cases_eq j k) [
+  | inl same ↦ eq-eqb j k same ∙ sym (eq-eqb (first + j) (first + k) (ap (λ x. first + x) same))
+  | inr other ↦ (let apart : (first + j ≡ first + k) → ⊥ = λ e. other (omega (arith, e)) in ne_eqb j k other ∙ sym (ne_eqb (first + j) (first + k) apart))
+]
 
 -- ---- the squares before one
 
@@ -105,11 +91,14 @@ ltb_more q k ne = elim (cases_lt q k) [
 no_wall_entered : (board : Board) (d : Dir) (q : ℕ) → is_wall board q ≡ true → can_enter board d q ≡ false
 no_wall_entered board d q wall = ap (λ b. not b && ltb (next board q (opposite d)) (length board.cells)) wall
 
+pub none_outside : (board : Board) (d : Dir) (q : ℕ) → length board.cells ≤ q → can_enter board d q ≡ false
+none_outside board d q ge = no_wall_entered board d q (wall_outside board q ge)
+
 floor_entered : (board : Board) (d : Dir) (q : ℕ) → is_wall board q ≡ false → can_enter board d q ≡ ltb (next board q (opposite d)) (length board.cells)
 floor_entered board d q floor = ap (λ b. not b && ltb (next board q (opposite d)) (length board.cells)) floor
 
 -- a wall's bits stay clear
-pub before_wall : (board : Board) (d : Dir) (k q : ℕ) → is_wall board k ≡ true → (ltb q k && can_enter board d q) ≡ (ltb q (k + 1) && can_enter board d q)
+before_wall : (board : Board) (d : Dir) (k q : ℕ) → is_wall board k ≡ true → (ltb q k && can_enter board d q) ≡ (ltb q (k + 1) && can_enter board d q)
 before_wall board d k q wall = elim (cases_eq q k) [
   | inl same ↦
       let none = no_wall_entered board d q (ap (is_wall board) same ∙ wall) in
@@ -118,7 +107,7 @@ before_wall board d k q wall = elim (cases_eq q k) [
 ]
 
 -- another square's bit is set where a step in the direction can lead onto it
-pub before_floor : (board : Board) (d : Dir) (k q : ℕ) (old new : Bool) → is_wall board k ≡ false → old ≡ (ltb q k && can_enter board d q) → new ≡ (old || (ltb (next board k (opposite d)) (length board.cells) && eqb q k)) → new ≡ (ltb q (k + 1) && can_enter board d q)
+before_floor : (board : Board) (d : Dir) (k q : ℕ) (old new : Bool) → is_wall board k ≡ false → old ≡ (ltb q k && can_enter board d q) → new ≡ (old || (ltb (next board k (opposite d)) (length board.cells) && eqb q k)) → new ≡ (ltb q (k + 1) && can_enter board d q)
 before_floor board d k q old new floor before e = elim (cases_eq q k) [
   | inl same ↦
       let goes = λ (x : ℕ). ltb (next board x (opposite d)) (length board.cells) in
@@ -135,11 +124,24 @@ before_floor board d k q old new floor before e = elim (cases_eq q k) [
     and_true true = refl
     and_true false = refl
 
--- before the end are all squares onto which a step can lead
-pub before_end : (board : Board) (d : Dir) (q : ℕ) → (ltb q (length board.cells) && can_enter board d q) ≡ can_enter board d q
-before_end board d q = elim (cases_lt q (length board.cells)) [
-  | inl lt ↦ ap (λ b. b && can_enter board d q) (lt-ltb q (length board.cells) lt)
-  | inr ge ↦
-      let none = no_wall_entered board d q (wall_outside board q ge) in
-      ap (λ b. b && can_enter board d q) (le-ltb q (length board.cells) ge) ∙ sym none
+-- where all squares of the grid up to one are meant, nothing is left out
+pub within_end : (board : Board) (d : Dir) (q k : ℕ) → (q < length board.cells → q < k) → (ltb q k && can_enter board d q) ≡ can_enter board d q
+within_end board d q k all = elim (cases_lt q (length board.cells)) [
+  | inl lt ↦ ap (λ b. b && can_enter board d q) (lt-ltb q k (all lt))
+  | inr ge ↦ (let none = none_outside board d q ge in and_right (ltb q k) (can_enter board d q) none ∙ sym none)
 ]
+
+-- a bit more of the word that begins at a square is that of the next square
+pub bit_added : (board : Board) (d : Dir) (first bit j : ℕ) (old new : Bool) (r : ℕ) → is_wall board (first + bit) ≡ false → old ≡ (ltb (first + j) (first + bit) && can_enter board d (first + j))
+    → r ≡ next board (first + bit) (opposite d) → new ≡ (old || (ltb r (length board.cells) && eqb j bit)) → new ≡ (ltb (first + j) (first + (bit + 1)) && can_enter board d (first + j))
+bit_added board d first bit j old new r floor before behind e =
+    let after : first + bit + 1 ≡ first + (bit + 1) = omega arith in
+    let here = e ∙ (ap (λ x. old || (ltb x (length board.cells) && eqb j bit)) behind ∙ ap (λ b. old || (ltb (next board (first + bit) (opposite d)) (length board.cells) && b)) (same_bit first j bit)) in
+    before_floor board d (first + bit) (first + j) old new floor before here ∙ ap (λ k. ltb (first + j) k && can_enter board d (first + j)) after
+
+-- a wall adds none
+pub bit_left_out : (board : Board) (d : Dir) (first bit j : ℕ) (old : Bool) → is_wall board (first + bit) ≡ true → old ≡ (ltb (first + j) (first + bit) && can_enter board d (first + j))
+    → old ≡ (ltb (first + j) (first + (bit + 1)) && can_enter board d (first + j))
+bit_left_out board d first bit j old wall before =
+    let after : first + bit + 1 ≡ first + (bit + 1) = omega arith in
+    before ∙ (before_wall board d (first + bit) (first + j) wall ∙ ap (λ k. ltb (first + j) k && can_enter board d (first + j)) after)

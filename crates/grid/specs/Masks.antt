@@ -38,11 +38,6 @@ square_to L around = around.l
 square_to R around = around.r
 square_to U around = around.u
 
--- the masks with a square's bit more for each direction in which the grid goes on behind it; the grid ends at end
-abbrev pub AreEntered : List StepMasks → List StepMasks → ℕ → Around → ℕ → Type 0
-AreEntered masks more square around end = (d : Dir) (q : ℕ) →
-    has_bit (words_for d more) q ≡ (has_bit (words_for d masks) q || (nat_lt (square_to (opposite d) around) end && (q == square)))
-
 -- there are words for all squares, and their bits say onto which squares a step in each direction can lead
 pub record AreMasks (board : Board) (masks : List StepMasks) : Type 0 where
   pub size : length masks ≡ word_count (length board.cells)

@@ -3,3 +3,4 @@ pub mod Filling
 pub mod PlanView
 pub mod LevelView
 pub mod BoxesView
+pub mod MaskWords

@@ -1,7 +1,8 @@
-ghost use Rattle.std.specs.Prelude.{◌≡◌, ℕ, ◌/◌, ◌<◌, ◌≤◌, ◌==◌, ◌&&◌, IfOk, length, if◌then◌else◌};
+ghost use Rattle.std.specs.Prelude.{◌≡◌, ℕ, ◌*◌, ◌<◌, ◌≤◌, ◌==◌, ◌&&◌, IfOk, length, if◌then◌else◌};
 ghost use Rattle.std.specs.Int.{bit_at};
 ghost use Rattle.grid.specs.inside.PlanView.{AreAround};
-ghost use Rattle.grid.specs.Masks.{AreMasks, AreEntered};
+ghost use Rattle.grid.specs.Masks.{AreMasks};
+ghost use Rattle.grid.specs.inside.MaskWords.{AddsBit, AreMasksAt};
 
 use crate::around::Around;
 use crate::cell::Cell;
@@ -35,33 +36,48 @@ pub(crate) fn masks_of(
     requires around { AreAround (record { cols = cols; cells = cells.now }) around.now }
     ensures { IfOk result (λ v. AreMasks (record { cols = cols; cells = cells.now }) v.items) }
 {
-    let end = Square(cells.len() as u16);
-    let mut masks = vec![in alloc; StepMasks::default(); cells.len().div_ceil(WORD_BITS)]?;
-    for square in 0..cells.len() {
-        if !cells[square].is_wall() {
-            enter(masks.as_mut_slice(), square, around[square], end);
-        }
+    let words = cells.len().div_ceil(WORD_BITS);
+    let mut masks = Vec::with_capacity(alloc, words)?;
+    for place in 0..words {
+        masks.push(word_masks(cells, around, place))?;
     }
     Ok(masks)
 }
 
-// Sets the square's bit for each direction in which the grid goes on behind it. The grid ends at `end`.
-fn enter(masks: &mut [StepMasks], square: usize, around: Around, end: Square)
-    requires inside { square / WORD_BITS < length masks.old }
-    ensures size { length masks.new ≡ length masks.old }
-    ensures bits { AreEntered masks.old masks.new square around end }
+// The step masks of the squares of the word at a place.
+fn word_masks(cells: &[Cell], around: &[Around], place: usize) -> StepMasks
+    requires bound { length cells.now ≤ MAX_SQUARES }
+    requires places { length around.now ≡ length cells.now }
+    requires inside { WORD_BITS * place < length cells.now }
+    ensures { (cols : ℕ) → AreAround (record { cols = cols; cells = cells.now }) around.now → AreMasksAt (record { cols = cols; cells = cells.now }) place result }
 {
-    let place = square % WORD_BITS;
-    let mask = masks[square / WORD_BITS];
-    masks[square / WORD_BITS] = StepMasks {
-        d: with_bit(mask.d, place, around.u < end),
-        l: with_bit(mask.l, place, around.r < end),
-        r: with_bit(mask.r, place, around.l < end),
-        u: with_bit(mask.u, place, around.d < end),
-    };
+    let first = WORD_BITS * place;
+    let end = Square(cells.len() as u16);
+    let mut masks = StepMasks::default();
+    for bit in 0..WORD_BITS.min(cells.len() - first) {
+        if !cells[first + bit].is_wall() {
+            masks = entered(masks, bit, around[first + bit], end);
+        }
+    }
+    masks
+}
+
+// The masks with a bit more for each direction in which the grid goes on behind its square. The grid ends at `end`.
+#[inline(always)]
+fn entered(masks: StepMasks, bit: usize, around: Around, end: Square) -> StepMasks
+    requires { bit < WORD_BITS }
+    ensures { AddsBit masks result bit around end }
+{
+    StepMasks {
+        d: with_bit(masks.d, bit, around.u < end),
+        l: with_bit(masks.l, bit, around.r < end),
+        r: with_bit(masks.r, bit, around.l < end),
+        u: with_bit(masks.u, bit, around.d < end),
+    }
 }
 
 // The word, and if `set` also the bit at the place.
+#[inline(always)]
 fn with_bit(word: u64, place: usize, set: bool) -> u64
     requires { place < WORD_BITS }
     ensures { (i : ℕ) → bit_at result i ≡ (if set && (i == place) then 1 else bit_at word i) }
