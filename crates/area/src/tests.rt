@@ -6,7 +6,7 @@ use crate::laws::{
     what_boxes_decide_lasts,
 };
 use crate::{Scratch, flood, normal, normalise_after, walk};
-use grid::{Cell, Dir, Level, Moves, Position, Push, Square, State, Step};
+use grid::{Cell, Dir, Level, MAX_COLS, MAX_SQUARES, Moves, Position, Push, Square, State, Step};
 use std::alloc::Global;
 use std::process::Abort;
 
@@ -94,7 +94,7 @@ fn stands(position: &Position, box_square: u16, player: u16) -> bool {
 
 // Whether the square at a place, or one beside it, was reached.
 fn is_beside(rt: &impl Abort, cols: usize, reached: &[bool], place: usize) -> bool {
-    assert!(rt; cols >= 1 && cols < 256 && place < 65536);
+    assert!(rt; cols >= 1 && cols <= MAX_COLS && place < MAX_SQUARES);
     let is_reached = |other: usize| reached.get(other).map_or(false, |flag| *flag);
     is_reached(place)
         || is_reached(place + cols)
