@@ -1,5 +1,7 @@
+ghost use Rattle.std.specs.Prelude.{◌≤◌};
+
 use crate::{Entry, read, write};
-use grid::{Level, LevelFault, Square};
+use grid::{Level, LevelFault, MAX_BOXES, MAX_COLS, MAX_ROWS, Square};
 use std::alloc::Global;
 use std::process::Abort;
 use std::test::Fail;
@@ -56,18 +58,51 @@ fn text_lines(rt: HostRuntime) -> Result<(), Fail> {
     Ok(())
 }
 
+// The shape of a board so many columns wide: a row with the player, a box and a goal between two rows of walls.
+fn shape_of_width(alloc: Global, cols: usize) -> Result<Shape, Fail>
+    requires { 5 ≤ cols }
+{
+    let floor = cols - 5;
+    let text = format!(in alloc; "{cols}#|#@$.{floor}-#|{cols}#")?;
+    only_shape(alloc, text.as_bytes())
+}
+
 #[test]
-fn sizes(rt: HostRuntime) -> Result<(), Fail> {
+fn widest_boards(rt: HostRuntime) -> Result<(), Fail> {
     let alloc = rt.alloc();
-    assert_eq!(rt; only_shape(alloc, b"255#|#@$.250-#|255#")?, Ok((3, 255, 1)));
+    assert_eq!(rt; shape_of_width(alloc, MAX_COLS)?, Ok((3, MAX_COLS, 1)));
     assert_eq!(rt;
-        only_shape(alloc, b"256#|#@$.251-#|256#")?,
+        shape_of_width(alloc, MAX_COLS + 1)?,
         Err(LevelFault::TooWide)
     );
-    assert_eq!(rt; only_shape(alloc, b"68#|#@65*#|68#")?, Ok((3, 68, 65)));
-    let tall = repeated(alloc, 256, b"#\n")?;
+    Ok(())
+}
+
+// The shape of a board with so many boxes, each on a goal, in a row between two rows of walls.
+fn shape_of_boxes(alloc: Global, boxes: usize) -> Result<Shape, Fail>
+    requires { boxes ≤ MAX_COLS }
+{
+    let cols = boxes + 3;
+    let text = format!(in alloc; "{cols}#|#@{boxes}*#|{cols}#")?;
+    only_shape(alloc, text.as_bytes())
+}
+
+#[test]
+fn more_boxes_than_can_be_solved(rt: HostRuntime) -> Result<(), Fail> {
+    let boxes = MAX_BOXES + 1;
+    assert_eq!(rt;
+        shape_of_boxes(rt.alloc(), boxes)?,
+        Ok((3, boxes + 3, boxes))
+    );
+    Ok(())
+}
+
+#[test]
+fn tallest_boards(rt: HostRuntime) -> Result<(), Fail> {
+    let alloc = rt.alloc();
+    let tall = repeated(alloc, MAX_ROWS + 1, b"#\n")?;
     assert_eq!(rt; only_shape(alloc, &tall)?, Err(LevelFault::TooTall));
-    let high = repeated(alloc, 255, b"#\n")?;
+    let high = repeated(alloc, MAX_ROWS, b"#\n")?;
     assert_eq!(rt; only_shape(alloc, &high)?, Err(LevelFault::NoPlayer));
     let wide = repeated(alloc, 1000, b"9999#|")?;
     assert_eq!(rt; only_shape(alloc, &wide)?, Err(LevelFault::TooTall));
