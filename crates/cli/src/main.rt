@@ -40,12 +40,7 @@ fn open<'a, R: Files>(rt: &R, path: &'a str) -> Result<Reader<Steady<R::File>>, 
 
 /// How a level is solved by so many workers over so many locks, which the command line holds to their ranges, under a
 /// limit of positions, and within a cap of pushes if one is set.
-fn config_of(
-    workers: NonZeroU32,
-    locks: NonZeroU32,
-    limit: NonZeroU32,
-    cap: Option<u32>,
-) -> Config
+fn config_of(workers: NonZeroU32, locks: NonZeroU32, limit: NonZeroU32, cap: Option<u32>) -> Config
     ensures { IsWithinLimits result }
 {
     Config {

@@ -63,7 +63,9 @@ pub(crate) fn turn<R: Threads + Wait + Sync, G: Gate + Sync>(
     if let Some(answer) = found {
         return Ok(Turned::Found(answer));
     }
-    let back = work_through(rt, alloc, books, &layer, pruner, scratch, desks, config, gate)?;
+    let back = work_through(
+        rt, alloc, books, &layer, pruner, scratch, desks, config, gate,
+    )?;
     let Some((worked, after)) = back else {
         return Ok(Turned::Foreign);
     };

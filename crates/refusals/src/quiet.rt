@@ -58,7 +58,13 @@ fn position_calls<R: Print>(
 {
     let pruner = Pruner::of(alloc, layer.level(), layer.cap()).ok()?;
     println!(rt; "made dead squares").ok()?;
-    floods(rt, layer.level(), &layer.position(0)?, pruner.dead(), scratch)?;
+    floods(
+        rt,
+        layer.level(),
+        &layer.position(0)?,
+        pruner.dead(),
+        scratch,
+    )?;
     expands(rt, layer, &pruner, scratch)
 }
 
