@@ -49,7 +49,8 @@ fn word_masks(cells: &[Cell], around: &[Around], place: usize) -> StepMasks
     requires bound { length cells.now ≤ MAX_SQUARES }
     requires places { length around.now ≡ length cells.now }
     requires inside { WORD_BITS * place < length cells.now }
-    ensures { (cols : ℕ) → AreAround (record { cols = cols; cells = cells.now }) around.now → AreMasksAt (record { cols = cols; cells = cells.now }) place result }
+    ensures { (cols : ℕ) → AreAround (record { cols = cols; cells = cells.now }) around.now →
+        AreMasksAt (record { cols = cols; cells = cells.now }) place result }
 {
     let first = WORD_BITS * place;
     let end = Square(cells.len() as u16);
