@@ -31,6 +31,9 @@ pub const SOLVE_NOTES: &str = "\
 The first line is the verdict; where the level is solved, the second one is the
 solution in LURD notation.
 
+The answer is the same with any numbers of workers and locks. As many locks as
+workers are mostly fastest: --workers 4 --locks 4 on four processors.
+
 A position takes up to 150 bytes and 1 to 5 microseconds. So the default limit
 needs at most about 150 MB and 5 seconds, and 100000000 positions 15 GB and 10 to
 15 minutes.
