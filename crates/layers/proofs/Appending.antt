@@ -1,6 +1,6 @@
 -- A list of slots that are written over in turn, of which the first so many count.
-use Rattle.std.proofs.Common.{◌≡◌, ℕ, ◌+◌, ◌<◌, List, [], ◌∷◌, ◌++◌, length, take, drop, set, sym, ap, ◌∙◌}
-use Rattle.std.proofs.lemmas.List.{length-set, take-set, take_more_set}
+use Rattle.std.proofs.Common.{◌≡◌, ℕ, ◌+◌, ◌<◌, List, [], ◌∷◌, ◌++◌, length, take, drop, get_or, set, sym, ap, ◌∙◌}
+use Rattle.std.proofs.lemmas.List.{length-set, take-set, take_more_set, get_or-set_same}
 use Rattle.std.proofs.Math.Seq.{take-append_seam}
 
 module _ {A : Type 0} (old slots lent : List A) (count : ℕ) (s : A) (inside : count < length slots) (kept : take count slots ≡ take count old) (same : lent ≡ slots) where
@@ -18,6 +18,10 @@ module _ {A : Type 0} (old slots lent : List A) (count : ℕ) (s : A) (inside : 
   -- the next slot is written and does not count
   pub slot_same : take count (take (length slots) (set lent count s ++ drop (length (set lent count s)) slots)) ≡ take count old
   slot_same = ap (take count) slots_written ∙ (take-set slots count s ∙ kept)
+
+  -- what is written is read there
+  pub slot_read : (now : List A) → now ≡ take (length slots) (set lent count s ++ drop (length (set lent count s)) slots) → (d : A) → get_or now count d ≡ s
+  slot_read now is d = ap (λ (xs : List A). get_or xs count d) (is ∙ slots_written) ∙ get_or-set_same slots count s d inside
 
 -- what the slots hold after all of them were lent and given back
 pub slots_refilled : {A : Type 0} (slots lent back : List A) → length back ≡ length lent → lent ≡ slots → take (length slots) (back ++ drop (length back) slots) ≡ back

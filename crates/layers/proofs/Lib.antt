@@ -18,3 +18,4 @@ pub mod Merged
 pub mod Joined
 pub mod Bringing
 pub mod Picking
+pub mod Shifting

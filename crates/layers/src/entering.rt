@@ -1,5 +1,5 @@
 //! Offers that enter what stands open, in the map that holds it behind what is closed.
-ghost use Rattle.std.specs.Prelude.{◌≡◌, ℕ, ◌+◌, ◌%◌, ◌<◌, ◌≤◌, ◌&&◌, ◌||◌, [], not, is_some, length, fold};
+ghost use Rattle.std.specs.Prelude.{◌≡◌, ℕ, ◌+◌, ◌*◌, ◌%◌, ◌<◌, ◌≤◌, ◌&&◌, ◌||◌, [], not, is_some, length, fold, sum};
 ghost use Rattle.indexmap.specs.IndexMap.{spare};
 ghost use Rattle.std.specs.List.{list_any};
 ghost use Rattle.layers.specs.BookView.{origin_of};
@@ -14,16 +14,24 @@ use crate::parcel::Successor;
 use grid::{MAX_BOXES, Position};
 use indexmap::IndexMap;
 
-/// The sum of a position's box squares and its player's square.
-pub(crate) fn sum_of(position: &Position) -> u32
-    ensures { result ≡ scene_sum position.now }
+/// The sum of a position's box squares.
+pub(crate) fn box_sum(position: &Position) -> u32
+    ensures sum { result ≡ sum position.now.boxes }
+    ensures bound { result ≤ 65535 * MAX_BOXES }
 {
     let boxes = position.boxes();
     let mut sum = 0;
     for square in boxes {
         sum += u32::from(square.0);
     }
-    sum + u32::from(position.player().0)
+    sum
+}
+
+/// The sum of a position's box squares and its player's square.
+pub(crate) fn sum_of(position: &Position) -> u32
+    ensures { result ≡ scene_sum position.now }
+{
+    box_sum(position) + u32::from(position.player().0)
 }
 
 /// The share of a position whose squares have this sum: what is left of it modulo the number of shares.

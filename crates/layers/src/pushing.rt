@@ -1,5 +1,5 @@
 //! What the pushes of a position lead to, made in the slots of a parcel.
-ghost use Rattle.std.specs.Prelude.{◌≡◌, ℕ, ◌+◌, ◌<◌, ◌≤◌, ◌++◌, ◌∷◌, [], IsTrue, false, length, take};
+ghost use Rattle.std.specs.Prelude.{◌≡◌, ℕ, ◌+◌, ◌*◌, ◌<◌, ◌≤◌, ◌++◌, ◌∷◌, [], IsTrue, false, length, sum, take};
 ghost use Rattle.grid.specs.Board.{Scene};
 ghost use Rattle.grid.specs.States.{FitsLevel};
 ghost use Rattle.doom.specs.Deadlocks.{Undoomed};
@@ -8,15 +8,15 @@ ghost use Rattle.layers.specs.Origins.{IsSuccessor};
 ghost use Rattle.layers.specs.Tasks.{uncapped};
 ghost use Rattle.area.specs.Pushes.{ArePushes, CanPush};
 ghost use Rattle.area.specs.After.{IsAreaOf};
-ghost use Rattle.layers.specs.inside.Sums.{AreSums};
+ghost use Rattle.layers.specs.inside.Sums.{AreSums, scene_sum};
 
-use crate::entering::sum_of;
+use crate::entering::box_sum;
 use crate::limits::MAX_SUCCESSORS;
 use crate::parcel::{Slots, Successor};
 use area::Scratch;
 use arrayvec::ArrayVec;
 use doom::Dead;
-use grid::{Level, Position, Push};
+use grid::{Level, MAX_BOXES, Position, Push, Square};
 
 /// Writes what the pushes lead to over the first slots, but for doomed positions, where the last flood was that of the
 /// position, and tells how many there are.
@@ -42,20 +42,22 @@ pub(crate) fn successors_by(
     ensures sums { AreSums (take result slots.new.successors.items) (take result slots.new.sums.items) }
     ensures kept { scratch.new ≡ scratch.old }
 {
+    let total = box_sum(position);
     let mut count = 0;
     for push in pushes {
-        count = append_successor(level, dead, position, *push, scratch, slots, count);
+        count = append_successor(level, dead, position, total, *push, scratch, slots, count);
     }
     count
 }
 
 // Writes what a push leads to after the first so many slots, where the last flood was that of the position before it,
-// and tells how many are held then; none more exactly where that is doomed. The position is made in its slot, so that
-// it is not copied there.
+// whose box squares have this sum, and tells how many are held then; none more exactly where that is doomed. The position
+// is made in its slot, so that it is not copied there.
 fn append_successor(
     level: &Level,
     dead: &Dead,
     position: &Position,
+    total: u32,
     push: Push,
     scratch: &mut Scratch,
     slots: &mut Slots,
@@ -67,6 +69,8 @@ fn append_successor(
     requires room { scratch.old.size ≡ length level.now.cells }
     requires flooded { IsAreaOf level.now position.now scratch.old.reached }
     requires boxes { scratch.old.boxes ≡ position.now.boxes }
+    requires total { total ≡ sum position.now.boxes }
+    requires small { total ≤ 65535 * MAX_BOXES }
     requires possible { CanPush level.now position.now push }
     requires place { count < MAX_SUCCESSORS }
     requires filled { count ≤ length slots.old.successors.items }
@@ -78,7 +82,8 @@ fn append_successor(
     ensures kept { scratch.new ≡ scratch.old }
 {
     let Push { square, dir } = push;
-    if dead.is_dead(level.next(square, dir)) {
+    let ahead = level.next(square, dir);
+    if dead.is_dead(ahead) {
         return count;
     }
     have_slot(&mut slots.successors, count);
@@ -93,9 +98,24 @@ fn append_successor(
     if !made {
         return count;
     }
-    let sum = sum_of(&slots.successors.as_slice()[count].position);
+    let sum = sum_after(
+        total,
+        square,
+        ahead,
+        &slots.successors.as_slice()[count].position,
+    );
     put_sum(&mut slots.sums, count, sum);
     count + 1
+}
+
+// The sum of the squares of the position after a push, where the boxes before it have this sum: one of them left a square
+// for another.
+fn sum_after(total: u32, left: Square, ahead: Square, after: &Position) -> u32
+    requires moved { total + ahead ≡ sum after.now.boxes + left }
+    requires small { total ≤ 65535 * MAX_BOXES }
+    ensures { result ≡ scene_sum after.now }
+{
+    total + u32::from(ahead.0) - u32::from(left.0) + u32::from(after.player().0)
 }
 
 // Makes a slot after the first so many, where there is none yet.
