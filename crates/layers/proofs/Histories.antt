@@ -20,7 +20,8 @@ use Rattle.layers.specs.Books.{IsNew, HandBackRefused, after_refusal, with_close
 use Rattle.layers.specs.Events.{Event, Happens, History, AreMadeAlike, KeepsClosed, CloseAlike}
 use Rattle.layers.specs.Events.Event.{begins, begin_refused, claims, hands_back, hand_back_refused, reopens, closes, close_refused}
 use Rattle.layers.specs.Events.History.{nothing, event}
-use Rattle.layers.proofs.lemmas.Books.{level_laws, read_at, same_places, lawful_begin, lawful_claim, lawful_parcel, lawful_over, lawful_reopen, lawful_closed}
+use Rattle.layers.proofs.lemmas.Books.{level_laws, read_at, same_places}
+use Rattle.layers.proofs.lemmas.BookEvents.{lawful_begin, lawful_claim, lawful_parcel, lawful_over, lawful_reopen, lawful_closed}
 use Rattle.layers.proofs.lemmas.Exchange.{map_at, lead_unique}
 use Rattle.layers.proofs.First.{lawful_new}
 use Rattle.layers.proofs.lemmas.Layers.{layer_unique, place_unique}

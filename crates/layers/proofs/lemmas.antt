@@ -4,6 +4,8 @@ pub mod Layers
 pub mod Admissions
 pub mod Exchange
 pub mod Books
+pub mod BookEvents
+pub mod BookFields
 pub mod Successors
 pub mod Orders
 pub mod Joins

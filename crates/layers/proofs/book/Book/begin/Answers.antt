@@ -2,7 +2,7 @@ use Rattle.std.proofs.Common.{◌≡◌, vec_len, false, true, length, replicate
 use Rattle.layers.specs.inside.BookInside.{book_view}
 use Rattle.layers.specs.BookView.{IsLawfulBook}
 use Rattle.layers.specs.Books.{MayBegin}
-use Rattle.layers.proofs.lemmas.Books.{lawful_begin}
+use Rattle.layers.proofs.lemmas.BookEvents.{lawful_begin}
 use Rattle.layers.proofs.lemmas.Lists.{resized}
 use Rattle.layers.proofs.book.Book.begin.Goals as goal
 

@@ -2,7 +2,8 @@ use Rattle.std.proofs.Common.{◌≡◌, ℕ, ◌<◌, Bool, false, true, length
 use Rattle.std.proofs.lemmas.Option.{slice_get_read}
 use Rattle.layers.specs.inside.BookInside.{book_view, IsSoundBook}
 use Rattle.layers.specs.Books.{IsTaken, IsFreeRank}
-use Rattle.layers.proofs.lemmas.Books.{lawful_claim, claimed-taken, marks_long}
+use Rattle.layers.proofs.lemmas.BookEvents.{lawful_claim}
+use Rattle.layers.proofs.lemmas.BookFields.{claimed-taken, marks_long}
 use Rattle.layers.proofs.book.Book.claim.Goals as goal
 
 pub invariant_of-self-then-not-index-2 : goal.invariant_of-self-then-not-index-2

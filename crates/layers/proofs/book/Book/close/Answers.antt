@@ -6,7 +6,7 @@ use Rattle.layers.specs.inside.BookInside.{book_view, cut_at, AreCuts, IsSoundBo
 use Rattle.layers.specs.BookView.{IsLawfulBook}
 use Rattle.layers.specs.Books.{AllDone, AreReordered, RiseByOrigin, closed_entry, CloseRefused}
 use Rattle.layers.specs.declared.fault.CloseFault.TheVariants.{NotAll}
-use Rattle.layers.proofs.lemmas.Books.{closed_lawful, closed_cuts, closed_by}
+use Rattle.layers.proofs.lemmas.BookFields.{closed_lawful, closed_cuts, closed_by}
 use Rattle.layers.proofs.lemmas.Closings.{ok_is, err_is}
 use Rattle.layers.proofs.book.Book.close.Goals.{then-not-self-via-then-not-self, then-not-self-via-else-not-self+then-not-all_marked}
 use Rattle.layers.proofs.book.Book.close.Goals as goal

@@ -5,7 +5,8 @@ use Rattle.layers.specs.FoundView.{FoundView, with_entered}
 use Rattle.layers.specs.inside.BookInside.{book_view, cut_at, AreCuts, IsSoundBook}
 use Rattle.layers.specs.Books.{IsAtWork, is_wanted_in, entered}
 use Rattle.layers.proofs.Cuts.{total-cuts}
-use Rattle.layers.proofs.lemmas.Books.{few_ranks, handed, handed_view, limit_same, may_enter, over_limit, over_lawful, taken_done, get_or_same, fits_few}
+use Rattle.layers.proofs.lemmas.Books.{few_ranks, get_or_same}
+use Rattle.layers.proofs.lemmas.BookFields.{handed, handed_view, limit_same, may_enter, over_limit, over_lawful, taken_done, fits_few}
 use Rattle.layers.proofs.lemmas.Closings.{ok_is, err_is}
 use Rattle.layers.proofs.book.Book.hand_back.Goals as goal
 

@@ -1,0 +1,137 @@
+-- The events of a book on its fields: what is taken, the limit, a hand back and a close.
+use Rattle.std.proofs.Common.{◌≡◌, ℕ, suc, ◌+◌, ◌<◌, ◌≤◌, Bool, true, false, ◌&&◌, ◌==◌, not, List, [], ◌∷◌, ◌++◌, length, map, fold, get_or, set, ltb, Some, inl, inr, refl, sym, ap, subst, ◌∙◌, arith}
+use Rattle.std.proofs.lemmas.Bool.{cases_lt}
+use Rattle.std.proofs.lemmas.Bool.Decides.{nat_tests}
+use Rattle.std.proofs.lemmas.List.{length-append, get_or-set_same, length-map}
+use Rattle.std.specs.Prelude.{slice_get}
+use Rattle.grid.specs.declared.square.Push.{Push}
+use Rattle.grid.specs.Board.{Scene}
+use Rattle.grid.specs.Lawful.{box_count}
+use Rattle.layers.specs.declared.parcel.Successor.{Successor}
+use Rattle.layers.specs.Openings.{Entry}
+use Rattle.layers.specs.Tasks.{Task}
+use Rattle.layers.specs.Reaching.{total}
+use Rattle.layers.specs.Origins.{same_scene, share_of}
+use Rattle.layers.specs.FoundView.{HaveFew}
+use Rattle.layers.specs.ParcelView.{ParcelView, IsParcel}
+use Rattle.layers.specs.BookView.{BookView, Closed, IsLawfulBook}
+use Rattle.layers.specs.Books.{is_wanted, is_wanted_in, entered, all_entered, with_parcel, IsAtWork, PassesLimit, MayEnter, IsTaken, AllDone, with_closed, closed_entry, RiseByOrigin, AreReordered, IsSortedOpen, IsClosedBy}
+use Rattle.layers.proofs.lemmas.Exchange.{found}
+use Rattle.layers.specs.declared.book.Book.TheInside.{Inside}
+use Rattle.layers.specs.inside.BookInside.{book_view, cut_at, AreCuts}
+use Rattle.layers.proofs.Cuts.{length-cut_at, total-cuts, any-cuts, cut_push, cuts_push}
+use Rattle.layers.proofs.lemmas.Books.{true_kept}
+use Rattle.layers.proofs.lemmas.BookEvents.{lawful_parcel, lawful_over, lawful_closed, sorted_closed}
+
+-- ---- taken ranks
+
+-- once a rank is claimed, each rank up to it is taken
+pub claimed-taken : (v : BookView) (k : ℕ) → k < length v.claimed → ((r : ℕ) → r < k → IsTaken v r) → (r : ℕ) → r < k + 1 → IsTaken (record v { claimed = set v.claimed k true }) r
+claimed-taken v k lt taken r le = elim (cases_lt r k) [
+  | inl below ↦ elim (taken r below) [ inl c ↦ inl (true_kept v.claimed k r c) | inr d ↦ inr d ]
+  | inr above ↦ (let e : r ≡ k = omega arith in inl (subst (λ i. get_or (set v.claimed k true) i false ≡ true) (sym e) (get_or-set_same v.claimed k true false lt)))
+]
+
+-- there are as many marks of either kind
+pub marks_long : (v : BookView) → IsLawfulBook v → length v.claimed ≡ length v.done
+marks_long v book = go v.begun refl
+  where
+    go : (b : Bool) → v.begun ≡ b → length v.claimed ≡ length v.done
+    go true e = (book.begun e).1
+    go false e = ap length (book.not_begun e).1 ∙ sym (ap length (book.not_begun e).2)
+
+-- ---- the limit
+
+-- a position is wanted by what was seen as it is by the closed lists
+pub wanted_same : (a : Inside) → AreCuts a.starts.items (length a.found.seen) → is_wanted (book_view a) ≡ is_wanted_in a.found.seen a.shares a.share
+wanted_same a cuts = λ i m. (share_of a.shares m == a.share) && not (any-cuts (same_scene m) a.starts.items a.found.seen cuts i)
+
+-- the limit is passed by the fields where it is by the view
+pub limit_same : (a : Inside) → AreCuts a.starts.items (length a.found.seen) → (now : BookView) → book_view a ≡ now → (rank : ℕ) (ss successors : List Successor) → ss ≡ successors → (passes : Bool) →
+    passes ≡ ltb a.limit (length a.found.seen + length (fold (entered (is_wanted_in a.found.seen a.shares a.share) rank) a.found.waiting ss)) → passes ≡ ltb now.limit (total now.closed + length (all_entered now rank successors))
+limit_same a cuts now view rank ss successors same passes e =
+    let held = sym (total-cuts a.starts.items a.found.seen cuts) in
+    let wanted = sym (wanted_same a cuts) in
+    e ∙ (λ i. ltb a.limit (held i + length (fold (entered (wanted i) rank) a.found.waiting ss)))
+    ∙ (λ i. ltb (view i).limit (total (view i).closed + length (all_entered (view i) rank (same i))))
+
+-- where the new positions pass the limit, the book would hold too many
+pub over_limit : (now : BookView) (parcel : ParcelView) → true ≡ ltb now.limit (total now.closed + length (all_entered now parcel.rank parcel.successors)) → PassesLimit now parcel
+over_limit now parcel more = inr (below now.limit (total now.closed + length (all_entered now parcel.rank parcel.successors)) more)
+  where
+    below : (x y : ℕ) → true ≡ ltb x y → x < y
+    below x y h = grind (arith, nat_tests)
+
+-- and where they don't, the parcel may enter
+pub may_enter : (now : BookView) (parcel : ParcelView) → IsAtWork now parcel × (slice_get now.done parcel.rank ≡ Some false) → now.over ≡ false → false ≡ ltb now.limit (total now.closed + length (all_entered now parcel.rank parcel.successors)) → MayEnter now parcel
+may_enter now parcel found over less = (found.0, found.1, over, not_below now.limit (total now.closed + length (all_entered now parcel.rank parcel.successors)) less)
+  where
+    not_below : (x y : ℕ) → false ≡ ltb x y → y ≤ x
+    not_below x y h = grind (arith, nat_tests)
+
+-- ---- a hand back, on the fields
+
+module _ (a : Inside) (book : IsLawfulBook (book_view a)) (cuts : AreCuts a.starts.items (length a.found.seen)) (parcel : ParcelView) (is : IsParcel parcel)
+    (now : BookView) (view : book_view a ≡ now) (found : IsAtWork now parcel × (slice_get now.done parcel.rank ≡ Some false)) where
+  at_work : IsAtWork (book_view a) parcel × (slice_get (book_view a).done parcel.rank ≡ Some false)
+  at_work = subst (λ v. IsAtWork v parcel × (slice_get v.done parcel.rank ≡ Some false)) (sym view) found
+
+  -- the book after an accepted parcel is a function of the one before
+  pub handed_view : (worker rank tally : ℕ) (waiting : List (Entry Scene Push)) → rank ≡ parcel.rank → tally ≡ get_or a.tallies.items worker 0 + 1 → waiting ≡ fold (entered (is_wanted_in a.found.seen a.shares a.share) parcel.rank) a.found.waiting parcel.successors →
+      record (book_view a) { done = set a.done.items rank true; waiting = waiting; tallies = set a.tallies.items worker tally } ≡ with_parcel now worker parcel
+  handed_view worker rank tally waiting e f g =
+      let h = g ∙ ap (λ w. fold (entered w parcel.rank) a.found.waiting parcel.successors) (sym (wanted_same a cuts)) in
+      let k : tally ≡ suc (get_or a.tallies.items worker 0) = omega arith in
+      (λ i. record (book_view a) { done = set a.done.items (e i) true; waiting = h i; tallies = set a.tallies.items worker (k i) }) ∙ ap (λ v. with_parcel v worker parcel) view
+
+  -- and is lawful
+  pub handed : (worker rank tally : ℕ) (waiting : List (Entry Scene Push)) → rank ≡ parcel.rank → tally ≡ get_or a.tallies.items worker 0 + 1 → waiting ≡ fold (entered (is_wanted_in a.found.seen a.shares a.share) parcel.rank) a.found.waiting parcel.successors →
+      worker < a.workers → a.over ≡ false → (false ≡ ltb now.limit (total now.closed + length (all_entered now parcel.rank parcel.successors))) →
+      IsLawfulBook (record (book_view a) { done = set a.done.items rank true; waiting = waiting; tallies = set a.tallies.items worker tally })
+  handed worker rank tally waiting e f g lt over below =
+      let may : MayEnter (book_view a) parcel = subst (λ v. MayEnter v parcel) (sym view) (may_enter now parcel found (ap (λ (v : BookView). v.over) (sym view) ∙ over) below) in
+      subst IsLawfulBook (sym (handed_view worker rank tally waiting e f g ∙ ap (λ v. with_parcel v worker parcel) (sym view))) (lawful_parcel (book_view a) worker parcel book lt is may)
+
+  -- where the limit is passed the book is over
+  pub over_lawful : (true ≡ ltb now.limit (total now.closed + length (all_entered now parcel.rank parcel.successors))) → IsLawfulBook (record (book_view a) { over = true })
+  over_lawful more = lawful_over (book_view a) parcel book is at_work.0 at_work.1 (subst (λ v. PassesLimit v parcel) (sym view) (over_limit now parcel more))
+
+-- the successors of a parcel have as many boxes as its level
+pub fits_few : (parcel : ParcelView) → IsParcel parcel → (task : Task) → parcel.level ≡ task → (ss : List Successor) → ss ≡ parcel.successors → HaveFew (box_count task.board) ss
+fits_few parcel is task same ss e i s at =
+    let fits = is.fits i s (ap (λ xs. slice_get xs i) (sym e) ∙ at) in
+    omega (arith, fits.boxes, ap (λ (t : Task). box_count t.board) same)
+
+-- ranks stay taken when one more is done
+pub taken_done : (v : BookView) (k r : ℕ) → IsTaken v r → IsTaken (record v { done = set v.done k true }) r
+taken_done v k r taken = elim taken [ inl c ↦ inl c | inr d ↦ inr (true_kept v.done k r d) ]
+
+-- ---- a close, on the fields
+
+module _ (a : Inside) (book : IsLawfulBook (book_view a)) (cuts : AreCuts a.starts.items (length a.found.seen)) (all : AllDone (book_view a)) (ys : List (Entry Scene Push)) (same : AreReordered a.found.waiting ys) (rise : RiseByOrigin ys) where
+  sorted_open : IsSortedOpen (book_view a) (map closed_entry ys)
+  sorted_open = sorted_closed (book_view a) book all ys same.2 same.1 same.0 rise
+
+  module _ (starts : List ℕ) (seen : List Closed) (claimed done : List Bool) (waiting : List (Entry Scene Push)) (n : ℕ) (starts_are : starts ≡ a.starts.items ++ n ∷ []) (n_is : n ≡ length a.found.seen)
+      (seen_are : seen ≡ a.found.seen ++ map closed_entry ys) (no_claims : claimed ≡ []) (none_done : done ≡ []) (none_waits : waiting ≡ []) where
+    -- the book after a close is a function of the one before and the sorted entries
+    pub closed_view : record (book_view a) { closed = cut_at starts seen; begun = false; claimed = claimed; done = done; waiting = waiting } ≡ with_closed (book_view a) (map closed_entry ys)
+    closed_view =
+        let e : cut_at starts seen ≡ cut_at a.starts.items a.found.seen ++ map closed_entry ys ∷ [] =
+        (λ i. cut_at ((starts_are ∙ ap (λ k. a.starts.items ++ k ∷ []) n_is) i) (seen_are i)) ∙ cut_push a.starts.items a.found.seen (map closed_entry ys) cuts in
+        λ i. record (book_view a) { closed = e i; begun = false; claimed = no_claims i; done = none_done i; waiting = none_waits i }
+
+    pub closed_lawful : IsLawfulBook (record (book_view a) { closed = cut_at starts seen; begun = false; claimed = claimed; done = done; waiting = waiting })
+    closed_lawful = subst IsLawfulBook (sym closed_view) (lawful_closed (book_view a) (map closed_entry ys) book all sorted_open)
+
+    pub closed_cuts : AreCuts starts (length seen)
+    closed_cuts =
+        let long : length a.found.seen + length (map closed_entry ys) ≡ length seen = omega (arith, ap length seen_are, length-append a.found.seen (map closed_entry ys)) in
+        subst (λ s. AreCuts s (length seen)) (sym (starts_are ∙ ap (λ k. a.starts.items ++ k ∷ []) n_is)) (subst (AreCuts (a.starts.items ++ length a.found.seen ∷ [])) long (cuts_push a.starts.items (length a.found.seen) (length (map closed_entry ys)) cuts))
+
+    -- and so the close is as it should be
+    pub closed_by : (now : BookView) → book_view a ≡ now → (layer count : ℕ) → layer ≡ length a.starts.items → count ≡ length a.found.waiting →
+        IsClosedBy now (record { layer = layer; count = count }) (record (book_view a) { closed = cut_at starts seen; begun = false; claimed = claimed; done = done; waiting = waiting })
+    closed_by now view layer count layer_is count_is =
+        subst (λ v. IsClosedBy v (record { layer = layer; count = count }) (record (book_view a) { closed = cut_at starts seen; begun = false; claimed = claimed; done = done; waiting = waiting })) view
+        (all, (map closed_entry ys, sorted_open, closed_view, layer_is ∙ sym (length-cut_at a.starts.items a.found.seen), count_is ∙ sym same.0 ∙ sym (length-map ys closed_entry)))
