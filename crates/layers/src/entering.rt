@@ -34,15 +34,20 @@ pub(crate) fn sum_of(position: &Position) -> u32
     box_sum(position) + u32::from(position.player().0)
 }
 
-/// The share of a position whose squares have this sum: what is left of it modulo the number of shares.
+/// The share of a position whose squares have this sum: what is left of it modulo the number of shares. A division takes
+/// longer than all else that is asked of a successor here, so the powers of two go without one.
 pub(crate) fn share_by(sum: u32, shares: u8) -> u8
     requires { 0 < shares }
     ensures { result ≡ sum % shares }
 {
-    if shares == 1 {
-        return 0;
+    match shares {
+        1 => 0,
+        2 => (sum % 2) as u8,
+        4 => (sum % 4) as u8,
+        8 => (sum % 8) as u8,
+        16 => (sum % 16) as u8,
+        _ => (sum % u32::from(shares)) as u8,
     }
-    (sum % u32::from(shares)) as u8
 }
 
 /// The share of a position: the sum of its box squares and its player's square, modulo the number of shares.
