@@ -1,6 +1,7 @@
 """An independent reading of the formats of docs/FORMATS.md: what each command but `solve` writes, and its status.
 
 It shares nothing with the program. It is slow and plain, and made for small inputs."""
+import functools
 import re
 
 MOST_ROWS = MOST_COLUMNS = 255
@@ -10,7 +11,8 @@ MOST_BYTES = 16_777_216
 MOST_NUMBER = 4_294_967_295
 
 ITEM = re.compile(rb"(\d*)([#@+$*. \-_])")
-FLOOR = b" -_"
+FLOORS = bytes.maketrans(b"-_", b"  ")
+COUNT = re.compile(rb"[0-9]*")
 DIRS = {"d": (1, 0), "l": (0, -1), "r": (0, 1), "u": (-1, 0)}
 
 
@@ -38,7 +40,7 @@ def row_of(piece):
             return None
         cells += item[2] * (int(count) if count else 1)
         at = item.end()
-    return bytes(b" "[0] if cell in FLOOR else cell for cell in cells)
+    return bytes(cells.translate(FLOORS))
 
 
 def rows_of(line):
@@ -67,8 +69,17 @@ class Board:
         self.rows = [row.ljust(self.width) for row in rows]
         self.fault = self.judged()
 
+    @functools.cached_property
+    def places(self):
+        """The squares on which each kind of cell stands."""
+        found = {cell: set() for cell in b"#@+$*. "}
+        for r, row in enumerate(self.rows):
+            for c, cell in enumerate(row):
+                found[cell].add((r, c))
+        return found
+
     def squares(self, cells):
-        return {(r, c) for r, row in enumerate(self.rows) for c, cell in enumerate(row) if cell in cells}
+        return set().union(*(self.places[cell] for cell in cells))
 
     def judged(self):
         """The number and the words of the first fault; None where the board is a lawful level."""
@@ -78,6 +89,7 @@ class Board:
             return "2 TooWide"
         self.walls, self.goals = self.squares(b"#"), self.squares(b".*+")
         self.boxes, players = self.squares(b"$*"), self.squares(b"@+")
+        self.open = self.squares(b"@+$*. ")
         if not players:
             return "3 NoPlayer"
         if len(players) > 1:
@@ -103,7 +115,7 @@ class Board:
         return 0 <= square[0] < self.height and 0 <= square[1] < self.width
 
     def is_wall(self, square):
-        return not self.has(square) or square in self.walls
+        return square not in self.open
 
     def live(self):
         """The squares from which a lone box can be pushed to a goal, by pulls from the goals."""
@@ -122,8 +134,8 @@ def moved(square, step):
     return square[0] + step[0], square[1] + step[1]
 
 
-def boards_of(data):
-    """The boards of a collection in their order."""
+def parts_of(data):
+    """What each board of a collection is made of, in their order: its first line, its rows and its name."""
     boards, gaps, at_board = [], [[]], False
     for number, line in enumerate(lines_of(data), 1):
         rows = rows_of(line)
@@ -135,7 +147,12 @@ def boards_of(data):
             boards.append((number, list(rows)))
             gaps.append([])
         at_board = rows is not None
-    return [Board(first, rows, name_in(gaps[place], gaps[place + 1])) for place, (first, rows) in enumerate(boards)]
+    return [(first, rows, name_in(gaps[place], gaps[place + 1])) for place, (first, rows) in enumerate(boards)]
+
+
+def boards_of(data):
+    """The boards of a collection in their order."""
+    return [Board(*parts) for parts in parts_of(data)]
 
 
 def letters_of(text):
@@ -145,7 +162,7 @@ def letters_of(text):
         if text[at] in b" \t\r\n":
             at += 1
             continue
-        count = re.compile(rb"[0-9]*").match(text, at)[0]
+        count = COUNT.match(text, at)[0]
         end = at + len(count)
         letter = text[end : end + 1].decode("latin-1")
         known = letter != "" and letter in "lurdLURD"
@@ -198,10 +215,10 @@ def check(data):
 
 def lawful(data, number):
     """The board of a level; or else the report that there is none, or of its fault."""
-    boards = boards_of(data)
+    boards = parts_of(data)
     if number > len(boards):
         return None, (1, line(f"no level {number}"))
-    board = boards[number - 1]
+    board = Board(*boards[number - 1])
     if board.fault:
         return None, (1, line(f"fault {board.fault}"))
     return board, None
