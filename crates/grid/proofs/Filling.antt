@@ -1,12 +1,12 @@
 -- Filling the player's room: marks grow until they are closed under steps.
-use Rattle.std.proofs.Common.{◌≡◌, ℕ, ◌+◌, ◌<◌, Bool, true, false, not, cond, eqb, ◌||◌, List, [], ◌∷◌, ◌++◌, length, get_or, set, replicate, count_by, ◌⊎◌, ◌↔◌, inl, inr, refl, sym, subst, ◌∙◌, arith}
+use Rattle.std.proofs.Common.{◌≡◌, ℕ, ◌+◌, ◌<◌, Bool, true, false, not, cond, eqb, ◌||◌, List, [], ◌∷◌, ◌++◌, length, get_or, set, replicate, count_by, ◌⊎◌, ◌↔◌, inl, inr, refl, sym, ap, subst, ◌∙◌, arith}
 use Rattle.std.proofs.lemmas.Bool.{eqb-true, eq-eqb, cases_eq, cases_lt, or_cases, or_left, or_right, false≢true}
 use Rattle.std.proofs.lemmas.List.{get_or_past, get_or-set_same, get_or-set_other, get_or-replicate, length-set, length-append, length-replicate}
 use Rattle.std.proofs.lemmas.List.Sums.{sum_by-set}
 use Rattle.grid.specs.declared.dir.Dir.{Dir}
 use Rattle.grid.specs.declared.dir.Dir.TheVariants.{D, L, R, U}
 use Rattle.grid.specs.Board.{Board, is_wall, next, start_player}
-use Rattle.grid.specs.Lawful.{InRoom}
+use Rattle.grid.specs.Lawful.{InRoom, IsOpen}
 use Rattle.grid.specs.Lawful.InRoom.{here, beside}
 use Rattle.grid.specs.Squares.{contains}
 use Rattle.grid.specs.inside.Filling.{IsMarked, Grows}
@@ -98,13 +98,15 @@ grows_then Ok m n o p q r g h = record {
 
 -- ---- the room, half filled
 
--- the marks are in the room, and a step from a marked square to one without a mark starts at a pending one
+-- the marks are in the room, a step from a marked square to one without a mark starts at a pending one, and so does
+-- one that leads out of the grid
 pub record IsFilling (board : Board) (marks : List Bool) (pending : List ℕ) : Type 0 where
   pub size : length marks ≡ length board.cells
   pub start : IsMarked marks (start_player board)
   pub inside : (q : ℕ) → IsMarked marks q → InRoom board q
   pub marked : (q : ℕ) → contains pending q ≡ true → IsMarked marks q
   pub closed : (q : ℕ) (d : Dir) → IsMarked marks q → is_wall board (next board q d) ≡ false → (contains pending q ≡ true) ⊎ IsMarked marks (next board q d)
+  pub inner : (q : ℕ) (d : Dir) → IsMarked marks q → next board q d ≡ length board.cells → contains pending q ≡ true
 
 -- no mark, before the first
 pub unmarked : (n q : ℕ) → IsMarked (replicate n false) q → ⊥
@@ -121,11 +123,13 @@ fill_start board clear marks pending sized none g start = record {
   inside = λ q h. elim (g.fresh q h) [ inl e ↦ absurd (none q e) | inr e ↦ e.1 ];
   marked = λ q h. elim (g.marked q h) [ inl e ↦ absurd (false≢true e) | inr e ↦ e ];
   closed = λ q d h floor. elim (g.fresh q h) [ inl e ↦ absurd (none q e) | inr e ↦ inl e.0 ];
+  inner = λ q d h edge. elim (g.fresh q h) [ inl e ↦ absurd (none q e) | inr e ↦ e.0 ];
 }
 
--- one pending square was taken and its neighbours visited
-pub fill_turn : (board : Board) (marks more : List Bool) (rest later : List ℕ) (q : ℕ) → IsFilling board marks (rest ++ q ∷ []) → Grows (InRoom board) marks rest more later → ((d : Dir) → is_wall board (next board q d) ≡ false → IsMarked more (next board q d)) → IsFilling board more later
-fill_turn board marks more rest later q f g visited = record {
+-- one pending square was taken and its neighbours visited, and none of them lies outside the grid
+pub fill_turn : (board : Board) (marks more : List Bool) (rest later : List ℕ) (q : ℕ) → IsFilling board marks (rest ++ q ∷ []) → Grows (InRoom board) marks rest more later
+    → ((d : Dir) → is_wall board (next board q d) ≡ false → IsMarked more (next board q d)) → ((d : Dir) → next board q d ≡ length board.cells → ⊥) → IsFilling board more later
+fill_turn board marks more rest later q f g visited within = record {
   size = g.size ∙ f.size;
   start = g.kept (start_player board) f.start;
   inside = λ x h. elim (g.fresh x h) [ inl e ↦ f.inside x e | inr e ↦ e.1 ];
@@ -140,6 +144,13 @@ fill_turn board marks more rest later q f g visited = record {
     ]
     | inr e ↦ inl e.0
   ];
+  inner = λ x d h edge. elim (g.fresh x h) [
+    | inl e ↦ elim (contains_push_cases rest q x (f.inner x d e edge)) [
+      | inl waits ↦ g.waits x waits
+      | inr same ↦ absurd (within d (ap (λ (y : ℕ). next board y d) same ∙ edge))
+    ]
+    | inr e ↦ e.0
+  ];
 }
 
 -- nothing is pending: the marks are the room
@@ -149,6 +160,10 @@ fill_done board marks f q = (f.inside q, reached)
     reached : {x : ℕ} → InRoom board x → IsMarked marks x
     reached here = f.start
     reached (beside {q} d r floor) = elim (f.closed q d (reached r) floor) [ inl e ↦ absurd (false≢true e) | inr e ↦ e ]
+
+-- nothing is pending: the room is closed
+pub fill_closed : (board : Board) (marks : List Bool) → IsFilling board marks [] → IsOpen board → ⊥
+fill_closed board marks f gap = false≢true (f.inner gap.0 gap.1 ((fill_done board marks f gap.0).1 gap.2) gap.3)
 
 -- four visits, one to each neighbour
 pub grows_around : (board : Board) (q : ℕ) (m0 m1 m2 m3 m4 : List Bool) (p0 p1 p2 p3 p4 : List ℕ) → Grows (InRoom board) m0 p0 m1 p1 → Grows (InRoom board) m1 p1 m2 p2 → Grows (InRoom board) m2 p2 m3 p3 → Grows (InRoom board) m3 p3 m4 p4 → Grows (InRoom board) m0 p0 m4 p4

@@ -12,7 +12,7 @@ use crate::fault::LevelFault;
 use crate::limits::{MAX_COLS, MAX_ROWS, MAX_SQUARES};
 use crate::masks::StepMasks;
 use crate::plan::Plan;
-use crate::room::{is_open, room_of};
+use crate::room::room_of;
 use crate::square::Square;
 use std::alloc::{AllocError, Global};
 use std::marker::Model;
@@ -53,11 +53,8 @@ impl Level {
         }
         let boxes = boxes_of(cells.as_slice());
         let player = player_of(cells.as_slice());
+        let room = room_of(alloc, cols, cells.as_slice(), player)?;
         let plan = Plan::new(alloc, cols, cells)?;
-        let room = room_of(alloc, &plan, player)?;
-        if is_open(&plan, room.as_slice()) {
-            return Err(LevelFault::Open);
-        }
         Ok(Level {
             plan,
             room,

@@ -1,6 +1,5 @@
-ghost use Rattle.std.specs.Prelude.{◌≡◌, ◌%◌, ◌<◌, ◌≤◌, IsTrue, ◌↔◌, IfOk, length, if◌then◌else◌};
-ghost use Rattle.grid.specs.declared.dir.Dir.{Dir};
-ghost use Rattle.grid.specs.Board.{Board, is_wall, is_goal, has_box, next};
+ghost use Rattle.std.specs.Prelude.{◌≡◌, ◌%◌, ◌<◌, ◌≤◌, IfOk, length, if◌then◌else◌};
+ghost use Rattle.grid.specs.Board.{Board, is_wall, is_goal, has_box};
 ghost use Rattle.grid.specs.Lawful.{row_count};
 ghost use Rattle.grid.specs.inside.PlanView.{AreAround, around_of, ways_of};
 ghost use Rattle.grid.specs.Masks.{AreMasks};
@@ -143,16 +142,6 @@ impl Plan {
         self.masks.as_slice()
     }
 
-    /// Whether the square lies at the grid's edge.
-    pub(crate) fn at_edge(&self, square: Square) -> bool
-        requires { square < length self.now.cells }
-        ensures { IsTrue result ↔ ((d : Dir) × (next self.now square d ≡ length self.now.cells)) }
-    {
-        let end = Square(self.cells.len() as u16);
-        let around = self.around(square);
-        [around.d, around.l, around.r, around.u].contains(&end)
-    }
-
     /// An equal plan.
     pub(crate) fn copy(&self) -> Result<Plan, AllocError>
         ensures { IfOk result (λ plan. plan ≡ self.now) }
@@ -184,8 +173,9 @@ fn neighbours(alloc: Global, cols: usize, cells: &[Cell]) -> Result<Vec<Around>,
     Ok(around)
 }
 
-// The neighbours of a square in a column.
-fn neighbours_of(cols: usize, cells: &[Cell], square: usize, column: usize) -> Around
+/// The neighbours of a square in a column.
+#[inline(always)]
+pub(crate) fn neighbours_of(cols: usize, cells: &[Cell], square: usize, column: usize) -> Around
     requires columns { 1 ≤ cols }
     requires wide { cols ≤ MAX_COLS }
     requires bound { length cells.now ≤ MAX_SQUARES }

@@ -1,92 +1,141 @@
-ghost use Rattle.std.specs.Prelude.{◌≡◌, ℕ, ◌<◌, ◌≤◌, IsTrue, ◌↔◌, IfOk, OnOk, false, length, slice_index_or};
+ghost use Rattle.std.specs.Prelude.{◌≡◌, ℕ, ◌<◌, ◌≤◌, ◌↔◌, ◌⊎◌, IfOk, IfErr, OnOk, false, length, slice_index_or};
 ghost use Rattle.grid.specs.declared.dir.Dir.{Dir};
 ghost use Rattle.grid.specs.Board.{Board, is_wall, next, start_player};
 ghost use Rattle.grid.specs.Lawful.{InRoom, IsOpen};
 ghost use Rattle.grid.specs.inside.Filling.{IsMarked, Grows};
+ghost use Rattle.grid.specs.inside.PlanView.{around_of};
 
-use crate::plan::Plan;
+use crate::around::Around;
+use crate::cell::Cell;
+use crate::fault::LevelFault;
+use crate::limits::{MAX_COLS, MAX_SQUARES};
+use crate::plan::neighbours_of;
 use crate::square::Square;
 use std::alloc::{AllocError, Global};
 
 /// A mark for each square of the player's room: what four-way steps over squares that are no wall reach from the
-/// player, boxes ignored.
-pub(crate) fn room_of(alloc: Global, plan: &Plan, player: Square) -> Result<Vec<bool>, AllocError>
-    requires start { player ≡ start_player plan.now }
-    requires floor { is_wall plan.now player ≡ false }
-    ensures size { IfOk result (λ room. length room.items ≡ length plan.now.cells) }
-    ensures marked { IfOk result (λ room. (q : ℕ) → IsMarked room.items q ↔ InRoom plan.now q) }
+/// player, boxes ignored. The fault is that the room lies open, or a want of memory.
+pub(crate) fn room_of(
+    alloc: Global,
+    cols: usize,
+    cells: &[Cell],
+    player: Square,
+) -> Result<Vec<bool>, LevelFault>
+    requires columns { 1 ≤ cols }
+    requires wide { cols ≤ MAX_COLS }
+    requires bound { length cells.now ≤ MAX_SQUARES }
+    requires start { player ≡ start_player (record { cols = cols; cells = cells.now }) }
+    requires floor { is_wall (record { cols = cols; cells = cells.now }) player ≡ false }
+    ensures marked { IfOk result (λ room. (q : ℕ) → IsMarked room.items q ↔ InRoom (record { cols = cols; cells = cells.now }) q) }
+    ensures closed { IfOk result (λ _. ¬ (IsOpen (record { cols = cols; cells = cells.now }))) }
+    ensures err { IfErr result (λ f. (f ≡ LevelFault.OutOfMemory) ⊎ ((f ≡ LevelFault.Open) × IsOpen (record { cols = cols; cells = cells.now }))) }
 {
-    let mut room = vec![in alloc; false; plan.cells().len()]?;
-    fill(alloc, plan, &mut room, player)?;
+    let mut room = vec![in alloc; false; cells.len()]?;
+    fill(alloc, cols, cells, &mut room, player)?;
     Ok(room)
 }
 
-// Marks the squares of the room, where there is no mark yet.
-fn fill(alloc: Global, plan: &Plan, room: &mut [bool], player: Square) -> Result<(), AllocError>
-    requires start { player ≡ start_player plan.now }
-    requires floor { is_wall plan.now player ≡ false }
-    requires size { length room.old ≡ length plan.now.cells }
+// Marks the squares of the room, where there is no mark yet, up to the first at the grid's edge.
+fn fill(
+    alloc: Global,
+    cols: usize,
+    cells: &[Cell],
+    room: &mut [bool],
+    player: Square,
+) -> Result<(), LevelFault>
+    requires columns { 1 ≤ cols }
+    requires wide { cols ≤ MAX_COLS }
+    requires bound { length cells.now ≤ MAX_SQUARES }
+    requires start { player ≡ start_player (record { cols = cols; cells = cells.now }) }
+    requires floor { is_wall (record { cols = cols; cells = cells.now }) player ≡ false }
+    requires size { length room.old ≡ length cells.now }
     requires clear { (q : ℕ) → ¬ (IsMarked room.old q) }
-    ensures { OnOk result ((q : ℕ) → IsMarked room.new q ↔ InRoom plan.now q) }
+    ensures marked { OnOk result ((q : ℕ) → IsMarked room.new q ↔ InRoom (record { cols = cols; cells = cells.now }) q) }
+    ensures closed { OnOk result (¬ (IsOpen (record { cols = cols; cells = cells.now }))) }
+    ensures err { IfErr result (λ f. (f ≡ LevelFault.OutOfMemory) ⊎ ((f ≡ LevelFault.Open) × IsOpen (record { cols = cols; cells = cells.now }))) }
 {
     let mut pending = Vec::new(alloc);
-    visit(plan, room, &mut pending, player)?;
+    visit(cols, cells, room, &mut pending, player)?;
     while let Some(square) = pending.pop() {
-        visit_around(plan, room, &mut pending, square)?;
+        visit_around(cols, cells, room, &mut pending, square)?;
     }
     Ok(())
 }
 
-// Visits the four squares next to a square of the room.
+// Visits the four squares next to a square of the room, unless it lies at the grid's edge.
+#[inline(always)]
 fn visit_around(
-    plan: &Plan,
+    cols: usize,
+    cells: &[Cell],
     room: &mut [bool],
     pending: &mut Vec<Square>,
     square: Square,
-) -> Result<(), AllocError>
-    requires size { length room.old ≡ length plan.now.cells }
-    requires inside { square < length plan.now.cells }
-    requires reached { InRoom plan.now square }
-    ensures grows { OnOk result (Grows (InRoom plan.now) room.old pending.old.items room.new pending.new.items) }
-    ensures marked { OnOk result ((d : Dir) → is_wall plan.now (next plan.now square d) ≡ false → IsMarked room.new (next plan.now square d)) }
+) -> Result<(), LevelFault>
+    requires columns { 1 ≤ cols }
+    requires wide { cols ≤ MAX_COLS }
+    requires bound { length cells.now ≤ MAX_SQUARES }
+    requires size { length room.old ≡ length cells.now }
+    requires inside { square < length cells.now }
+    requires reached { InRoom (record { cols = cols; cells = cells.now }) square }
+    ensures grows { OnOk result (Grows (InRoom (record { cols = cols; cells = cells.now })) room.old pending.old.items room.new pending.new.items) }
+    ensures marked { OnOk result ((d : Dir) → is_wall (record { cols = cols; cells = cells.now }) (next (record { cols = cols; cells = cells.now }) square d) ≡ false → IsMarked room.new (next (record { cols = cols; cells = cells.now }) square d)) }
+    ensures inner { OnOk result ((d : Dir) → ¬ (next (record { cols = cols; cells = cells.now }) square d ≡ length cells.now)) }
+    ensures err { IfErr result (λ f. (f ≡ LevelFault.OutOfMemory) ⊎ ((f ≡ LevelFault.Open) × IsOpen (record { cols = cols; cells = cells.now }))) }
 {
-    let around = plan.around(square);
-    visit(plan, room, pending, around.d)?;
-    visit(plan, room, pending, around.l)?;
-    visit(plan, room, pending, around.r)?;
-    visit(plan, room, pending, around.u)?;
+    let end = Square(cells.len() as u16);
+    let around = around_at(cols, cells, square);
+    if [around.d, around.l, around.r, around.u].contains(&end) {
+        return Err(LevelFault::Open);
+    }
+    visit(cols, cells, room, pending, around.d)?;
+    visit(cols, cells, room, pending, around.l)?;
+    visit(cols, cells, room, pending, around.r)?;
+    visit(cols, cells, room, pending, around.u)?;
     Ok(())
 }
 
+// The four squares next to a square.
+#[inline(always)]
+fn around_at(cols: usize, cells: &[Cell], square: Square) -> Around
+    requires columns { 1 ≤ cols }
+    requires wide { cols ≤ MAX_COLS }
+    requires bound { length cells.now ≤ MAX_SQUARES }
+    requires inside { square < length cells.now }
+    ensures { result ≡ around_of (record { cols = cols; cells = cells.now }) square }
+{
+    let place = square.0 as usize;
+    neighbours_of(cols, cells, place, place % cols)
+}
+
 // Marks a square that is no wall and has no mark, and puts it among those to look at.
+#[inline(always)]
 fn visit(
-    plan: &Plan,
+    cols: usize,
+    cells: &[Cell],
     room: &mut [bool],
     pending: &mut Vec<Square>,
     square: Square,
 ) -> Result<(), AllocError>
-    requires size { length room.old ≡ length plan.now.cells }
-    requires reached { is_wall plan.now square ≡ false → InRoom plan.now square }
-    ensures grows { OnOk result (Grows (InRoom plan.now) room.old pending.old.items room.new pending.new.items) }
-    ensures marked { OnOk result (is_wall plan.now square ≡ false → IsMarked room.new square) }
+    requires size { length room.old ≡ length cells.now }
+    requires reached { is_wall (record { cols = cols; cells = cells.now }) square ≡ false → InRoom (record { cols = cols; cells = cells.now }) square }
+    ensures grows { OnOk result (Grows (InRoom (record { cols = cols; cells = cells.now })) room.old pending.old.items room.new pending.new.items) }
+    ensures marked { OnOk result (is_wall (record { cols = cols; cells = cells.now }) square ≡ false → IsMarked room.new square) }
 {
-    if !plan.is_wall(square) && !room[square.0 as usize] {
+    if !is_wall(cols, cells, square) && !room[square.0 as usize] {
         room[square.0 as usize] = true;
         pending.push(square)?;
     }
     Ok(())
 }
 
-/// Whether a marked square lies at the grid's edge.
-pub(crate) fn is_open(plan: &Plan, room: &[bool]) -> bool
-    requires size { length room.now ≡ length plan.now.cells }
-    requires marked { (q : ℕ) → IsMarked room.now q ↔ InRoom plan.now q }
-    ensures { IsTrue result ↔ IsOpen plan.now }
+// Whether the square is a wall; everything outside the grid is.
+#[inline(always)]
+#[tactic(auto, unfolding(crate::specs::Board::is_wall))]
+fn is_wall(cols: usize, cells: &[Cell], square: Square) -> bool
+    ensures { result ≡ is_wall (record { cols = cols; cells = cells.now }) square }
 {
-    for square in 0..plan.cells().len() {
-        if room[square] && plan.at_edge(Square(square as u16)) {
-            return true;
-        }
-    }
-    false
+    let _ = cols;
+    cells
+        .get(square.0 as usize)
+        .map_or(true, |cell| cell.is_wall())
 }

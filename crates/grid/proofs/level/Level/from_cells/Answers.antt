@@ -1,9 +1,9 @@
-use Rattle.std.proofs.Common.{◌≡◌, ℕ, ◌%◌, ◌≤◌, false, Option, None, List, length, count_by, sym, ap, subst, ◌∙◌}
-use Rattle.std.proofs.lemmas.Bool.{false≢true}
+use Rattle.std.proofs.Common.{◌≡◌, ℕ, ◌%◌, ◌≤◌, ◌↔◌, Bool, false, Option, None, List, length, count_by, refl, sym, ap, subst, ◌∙◌}
 use Rattle.grid.specs.declared.cell.Cell.{Cell}
 use Rattle.grid.specs.declared.fault.LevelFault.{LevelFault}
 use Rattle.grid.specs.Board.{Board, box_cell, is_wall, start, start_player}
-use Rattle.grid.specs.Lawful.{cell_fault, player_count}
+use Rattle.grid.specs.Lawful.{InRoom, IsOpen, cell_fault, player_count}
+use Rattle.grid.specs.inside.Filling.{IsMarked}
 use Rattle.grid.proofs.lemmas.Levels.{counts_of, start_is_scene_with}
 use Rattle.grid.proofs.level.Level.from_cells.Goals as goal
 
@@ -20,16 +20,27 @@ player_of : (board : Board) (cols p : ℕ) (xs ys : List Cell) → board ≡ rec
 player_of board cols p xs ys is same said =
     said ∙ (ap (λ (zs : List Cell). start_player (record { cols = cols; cells = zs })) same ∙ ap start_player (sym is))
 
+-- what is known of the room of the same cells
+closed_of : (board : Board) (cols : ℕ) (xs ys : List Cell) → board ≡ record { cols = cols; cells = xs } → ys ≡ xs → (IsOpen (record { cols = cols; cells = ys }) → ⊥) → IsOpen board → ⊥
+closed_of board cols xs ys is same closed gap =
+    closed (subst (λ (zs : List Cell). IsOpen (record { cols = cols; cells = zs })) (sym same) (subst IsOpen is gap))
+
+room_of : (board : Board) (cols : ℕ) (marks : List Bool) (xs ys : List Cell) → board ≡ record { cols = cols; cells = xs } → ys ≡ xs
+    → ((q : ℕ) → IsMarked marks q ↔ InRoom (record { cols = cols; cells = ys }) q) → (q : ℕ) → IsMarked marks q ↔ InRoom board q
+room_of board cols marks xs ys is same told q =
+    subst (λ (b : Board). IsMarked marks q ↔ InRoom b q) (sym is) (subst (λ (zs : List Cell). IsMarked marks q ↔ InRoom (record { cols = cols; cells = zs }) q) same (told q))
+
 pub room_of-requires-clause-start : goal.room_of-requires-clause-start
 room_of-requires-clause-start c =
-    player_of c.in_ok-plan.plan c.args.cols _ c.args.cells.items _ c.in_ok-plan.ensures c.as_slice-3.ensures.value (c.player_of-player.ensures c.args.cols)
+    let board : Board = record { cols = c.args.cols; cells = c.as_slice-4.result.now } in
+    player_of board c.args.cols _ _ _ refl (c.as_slice-3.ensures.value ∙ sym c.as_slice-4.ensures.value) (c.player_of-player.ensures c.args.cols)
 
 pub room_of-requires-clause-floor : goal.room_of-requires-clause-floor
 room_of-requires-clause-floor c =
-    let plan = c.in_ok-plan.plan in
-    let lawful = lawful_of plan c.args.cols c.args.cells.items _ _ c.in_ok-plan.ensures c.cell_fault.ensures c.as_slice.ensures.value c.in_default.is in
-    let player = player_of plan c.args.cols _ c.args.cells.items _ c.in_ok-plan.ensures c.as_slice-3.ensures.value (c.player_of-player.ensures c.args.cols) in
-    subst (λ (q : ℕ). is_wall plan q ≡ false) (sym player) (start_on_floor plan (counts_of plan lawful).player)
+    let board : Board = record { cols = c.args.cols; cells = c.as_slice-4.result.now } in
+    let lawful = lawful_of board c.args.cols _ _ _ refl c.cell_fault.ensures (c.as_slice.ensures.value ∙ sym c.as_slice-4.ensures.value) c.in_default.is in
+    let player = player_of board c.args.cols _ _ _ refl (c.as_slice-3.ensures.value ∙ sym c.as_slice-4.ensures.value) (c.player_of-player.ensures c.args.cols) in
+    subst (λ (q : ℕ). is_wall board q ≡ false) (sym player) (start_on_floor board (counts_of board lawful).player)
 
 pub invariant_of-result : goal.invariant_of-result
 invariant_of-result c =
@@ -40,10 +51,10 @@ invariant_of-result c =
         whole = subst (λ (b : Board). length b.cells % b.cols ≡ 0) (sym c.in_ok-plan.ensures) c.requires.whole;
         lawful = record {
           cells = lawful_of plan c.args.cols c.args.cells.items _ _ c.in_ok-plan.ensures c.cell_fault.ensures c.as_slice.ensures.value c.in_default.is;
-          closed = λ gap. false≢true (sym c.if-is_open.false ∙ c.is_open.ensures.1 gap);
+          closed = closed_of plan c.args.cols c.args.cells.items _ c.in_ok-plan.ensures c.as_slice-4.ensures.value c.in_ok-room.ensures.closed;
         };
       };
       boxes = c.boxes_of-boxes.ensures ∙ (ap (count_by box_cell) c.as_slice-2.ensures.value ∙ ap (λ (b : Board). count_by box_cell b.cells) (sym c.in_ok-plan.ensures));
       player = player_of plan c.args.cols _ c.args.cells.items _ c.in_ok-plan.ensures c.as_slice-3.ensures.value (c.player_of-player.ensures c.args.cols);
-      room = c.in_ok-room.ensures.marked;
+      room = room_of plan c.args.cols _ c.args.cells.items _ c.in_ok-plan.ensures c.as_slice-4.ensures.value c.in_ok-room.ensures.marked;
     }
