@@ -48,8 +48,12 @@ pub(crate) fn push_row(piece: &[u8], cols: usize, cells: &mut Vec<Cell>) -> Resu
 fn push_cells(cell: Cell, count: usize, cells: &mut Vec<Cell>) -> Result<(), AllocError>
     ensures { OnOk result (cells.new.items ≡ cells.old.items ++ replicate count cell) }
 {
-    for made in 0..count {
+    if count == 1 {
         cells.push(cell)?;
+        return Ok(());
     }
-    Ok(())
+    let Some(all) = cells.len().checked_add(count) else {
+        return Err(AllocError);
+    };
+    cells.resize(all, cell)
 }
