@@ -51,9 +51,9 @@ impl Level {
         if let Some(fault) = cell_fault(cols, cells.as_slice()) {
             return Err(fault);
         }
-        let boxes = boxes_of(cells.as_slice());
         let player = player_of(cells.as_slice());
         let room = room_of(alloc, cols, cells.as_slice(), player)?;
+        let boxes = boxes_of(cells.as_slice());
         let plan = Plan::new(alloc, cols, cells)?;
         Ok(Level {
             plan,

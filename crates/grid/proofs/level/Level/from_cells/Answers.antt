@@ -32,14 +32,14 @@ room_of board cols marks xs ys is same told q =
 
 pub room_of-requires-clause-start : goal.room_of-requires-clause-start
 room_of-requires-clause-start c =
-    let board : Board = record { cols = c.args.cols; cells = c.as_slice-4.result.now } in
-    player_of board c.args.cols _ _ _ refl (c.as_slice-3.ensures.value ∙ sym c.as_slice-4.ensures.value) (c.player_of-player.ensures c.args.cols)
+    let board : Board = record { cols = c.args.cols; cells = c.as_slice-3.result.now } in
+    player_of board c.args.cols _ _ _ refl (c.as_slice-2.ensures.value ∙ sym c.as_slice-3.ensures.value) (c.player_of-player.ensures c.args.cols)
 
 pub room_of-requires-clause-floor : goal.room_of-requires-clause-floor
 room_of-requires-clause-floor c =
-    let board : Board = record { cols = c.args.cols; cells = c.as_slice-4.result.now } in
-    let lawful = lawful_of board c.args.cols _ _ _ refl c.cell_fault.ensures (c.as_slice.ensures.value ∙ sym c.as_slice-4.ensures.value) c.in_default.is in
-    let player = player_of board c.args.cols _ _ _ refl (c.as_slice-3.ensures.value ∙ sym c.as_slice-4.ensures.value) (c.player_of-player.ensures c.args.cols) in
+    let board : Board = record { cols = c.args.cols; cells = c.as_slice-3.result.now } in
+    let lawful = lawful_of board c.args.cols _ _ _ refl c.cell_fault.ensures (c.as_slice.ensures.value ∙ sym c.as_slice-3.ensures.value) c.in_default.is in
+    let player = player_of board c.args.cols _ _ _ refl (c.as_slice-2.ensures.value ∙ sym c.as_slice-3.ensures.value) (c.player_of-player.ensures c.args.cols) in
     subst (λ (q : ℕ). is_wall board q ≡ false) (sym player) (start_on_floor board (counts_of board lawful).player)
 
 pub invariant_of-result : goal.invariant_of-result
@@ -51,10 +51,10 @@ invariant_of-result c =
         whole = subst (λ (b : Board). length b.cells % b.cols ≡ 0) (sym c.in_ok-plan.ensures) c.requires.whole;
         lawful = record {
           cells = lawful_of plan c.args.cols c.args.cells.items _ _ c.in_ok-plan.ensures c.cell_fault.ensures c.as_slice.ensures.value c.in_default.is;
-          closed = closed_of plan c.args.cols c.args.cells.items _ c.in_ok-plan.ensures c.as_slice-4.ensures.value c.in_ok-room.ensures.closed;
+          closed = closed_of plan c.args.cols c.args.cells.items _ c.in_ok-plan.ensures c.as_slice-3.ensures.value c.in_ok-room.ensures.closed;
         };
       };
-      boxes = c.boxes_of-boxes.ensures ∙ (ap (count_by box_cell) c.as_slice-2.ensures.value ∙ ap (λ (b : Board). count_by box_cell b.cells) (sym c.in_ok-plan.ensures));
-      player = player_of plan c.args.cols _ c.args.cells.items _ c.in_ok-plan.ensures c.as_slice-3.ensures.value (c.player_of-player.ensures c.args.cols);
-      room = room_of plan c.args.cols _ c.args.cells.items _ c.in_ok-plan.ensures c.as_slice-4.ensures.value c.in_ok-room.ensures.marked;
+      boxes = c.boxes_of-boxes.ensures ∙ (ap (count_by box_cell) c.as_slice-4.ensures.value ∙ ap (λ (b : Board). count_by box_cell b.cells) (sym c.in_ok-plan.ensures));
+      player = player_of plan c.args.cols _ c.args.cells.items _ c.in_ok-plan.ensures c.as_slice-2.ensures.value (c.player_of-player.ensures c.args.cols);
+      room = room_of plan c.args.cols _ c.args.cells.items _ c.in_ok-plan.ensures c.as_slice-3.ensures.value c.in_ok-room.ensures.marked;
     }
