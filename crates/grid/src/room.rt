@@ -1,8 +1,8 @@
-ghost use Rattle.std.specs.Prelude.{◌≡◌, ℕ, ◌<◌, ◌≤◌, ◌↔◌, ◌⊎◌, IfOk, IfErr, OnOk, false, length, slice_index_or};
+ghost use Rattle.std.specs.Prelude.{◌≡◌, ℕ, ◌<◌, ◌≤◌, ◌↔◌, IfOk, IfErr, OnOk, false, length, slice_index_or};
 ghost use Rattle.grid.specs.declared.dir.Dir.{Dir};
-ghost use Rattle.grid.specs.Board.{Board, is_wall, next, start_player};
+ghost use Rattle.grid.specs.Board.{is_wall, next, start_player};
 ghost use Rattle.grid.specs.Lawful.{InRoom, IsOpen};
-ghost use Rattle.grid.specs.inside.Filling.{IsMarked, Grows};
+ghost use Rattle.grid.specs.inside.Filling.{AreMarkedAround, Grows, IsMarked, IsRoomFault, board_of};
 ghost use Rattle.grid.specs.inside.PlanView.{around_of};
 
 use crate::around::Around;
@@ -24,11 +24,11 @@ pub(crate) fn room_of(
     requires columns { 1 ≤ cols }
     requires wide { cols ≤ MAX_COLS }
     requires bound { length cells.now ≤ MAX_SQUARES }
-    requires start { player ≡ start_player (record { cols = cols; cells = cells.now }) }
-    requires floor { is_wall (record { cols = cols; cells = cells.now }) player ≡ false }
-    ensures marked { IfOk result (λ room. (q : ℕ) → IsMarked room.items q ↔ InRoom (record { cols = cols; cells = cells.now }) q) }
-    ensures closed { IfOk result (λ _. ¬ (IsOpen (record { cols = cols; cells = cells.now }))) }
-    ensures err { IfErr result (λ f. (f ≡ LevelFault.OutOfMemory) ⊎ ((f ≡ LevelFault.Open) × IsOpen (record { cols = cols; cells = cells.now }))) }
+    requires start { player ≡ start_player (board_of cols cells.now) }
+    requires floor { is_wall (board_of cols cells.now) player ≡ false }
+    ensures marked { IfOk result (λ room. (q : ℕ) → IsMarked room.items q ↔ InRoom (board_of cols cells.now) q) }
+    ensures closed { IfOk result (λ _. ¬ (IsOpen (board_of cols cells.now))) }
+    ensures err { IfErr result (λ f. IsRoomFault (board_of cols cells.now) f) }
 {
     let mut room = vec![in alloc; false; cells.len()]?;
     fill(alloc, cols, cells, &mut room, player)?;
@@ -46,13 +46,13 @@ fn fill(
     requires columns { 1 ≤ cols }
     requires wide { cols ≤ MAX_COLS }
     requires bound { length cells.now ≤ MAX_SQUARES }
-    requires start { player ≡ start_player (record { cols = cols; cells = cells.now }) }
-    requires floor { is_wall (record { cols = cols; cells = cells.now }) player ≡ false }
+    requires start { player ≡ start_player (board_of cols cells.now) }
+    requires floor { is_wall (board_of cols cells.now) player ≡ false }
     requires size { length room.old ≡ length cells.now }
     requires clear { (q : ℕ) → ¬ (IsMarked room.old q) }
-    ensures marked { OnOk result ((q : ℕ) → IsMarked room.new q ↔ InRoom (record { cols = cols; cells = cells.now }) q) }
-    ensures closed { OnOk result (¬ (IsOpen (record { cols = cols; cells = cells.now }))) }
-    ensures err { IfErr result (λ f. (f ≡ LevelFault.OutOfMemory) ⊎ ((f ≡ LevelFault.Open) × IsOpen (record { cols = cols; cells = cells.now }))) }
+    ensures marked { OnOk result ((q : ℕ) → IsMarked room.new q ↔ InRoom (board_of cols cells.now) q) }
+    ensures closed { OnOk result (¬ (IsOpen (board_of cols cells.now))) }
+    ensures err { IfErr result (λ f. IsRoomFault (board_of cols cells.now) f) }
 {
     let mut pending = Vec::new(alloc);
     visit(cols, cells, room, &mut pending, player)?;
@@ -76,11 +76,11 @@ fn visit_around(
     requires bound { length cells.now ≤ MAX_SQUARES }
     requires size { length room.old ≡ length cells.now }
     requires inside { square < length cells.now }
-    requires reached { InRoom (record { cols = cols; cells = cells.now }) square }
-    ensures grows { OnOk result (Grows (InRoom (record { cols = cols; cells = cells.now })) room.old pending.old.items room.new pending.new.items) }
-    ensures marked { OnOk result ((d : Dir) → is_wall (record { cols = cols; cells = cells.now }) (next (record { cols = cols; cells = cells.now }) square d) ≡ false → IsMarked room.new (next (record { cols = cols; cells = cells.now }) square d)) }
-    ensures inner { OnOk result ((d : Dir) → ¬ (next (record { cols = cols; cells = cells.now }) square d ≡ length cells.now)) }
-    ensures err { IfErr result (λ f. (f ≡ LevelFault.OutOfMemory) ⊎ ((f ≡ LevelFault.Open) × IsOpen (record { cols = cols; cells = cells.now }))) }
+    requires reached { InRoom (board_of cols cells.now) square }
+    ensures grows { OnOk result (Grows (InRoom (board_of cols cells.now)) room.old pending.old.items room.new pending.new.items) }
+    ensures marked { OnOk result (AreMarkedAround (board_of cols cells.now) room.new square) }
+    ensures inner { OnOk result ((d : Dir) → ¬ (next (board_of cols cells.now) square d ≡ length cells.now)) }
+    ensures err { IfErr result (λ f. IsRoomFault (board_of cols cells.now) f) }
 {
     let end = Square(cells.len() as u16);
     let around = around_at(cols, cells, square);
@@ -101,10 +101,10 @@ fn around_at(cols: usize, cells: &[Cell], square: Square) -> Around
     requires wide { cols ≤ MAX_COLS }
     requires bound { length cells.now ≤ MAX_SQUARES }
     requires inside { square < length cells.now }
-    ensures { result ≡ around_of (record { cols = cols; cells = cells.now }) square }
+    ensures { result ≡ around_of (board_of cols cells.now) square }
 {
-    let place = square.0 as usize;
-    neighbours_of(cols, cells, place, place % cols)
+    let column = square.0 % cols as u16;
+    neighbours_of(cols, cells, square.0 as usize, column as usize)
 }
 
 // Marks a square that is no wall and has no mark, and puts it among those to look at.
@@ -117,9 +117,9 @@ fn visit(
     square: Square,
 ) -> Result<(), AllocError>
     requires size { length room.old ≡ length cells.now }
-    requires reached { is_wall (record { cols = cols; cells = cells.now }) square ≡ false → InRoom (record { cols = cols; cells = cells.now }) square }
-    ensures grows { OnOk result (Grows (InRoom (record { cols = cols; cells = cells.now })) room.old pending.old.items room.new pending.new.items) }
-    ensures marked { OnOk result (is_wall (record { cols = cols; cells = cells.now }) square ≡ false → IsMarked room.new square) }
+    requires reached { is_wall (board_of cols cells.now) square ≡ false → InRoom (board_of cols cells.now) square }
+    ensures grows { OnOk result (Grows (InRoom (board_of cols cells.now)) room.old pending.old.items room.new pending.new.items) }
+    ensures marked { OnOk result (is_wall (board_of cols cells.now) square ≡ false → IsMarked room.new square) }
 {
     if !is_wall(cols, cells, square) && !room[square.0 as usize] {
         room[square.0 as usize] = true;
@@ -132,7 +132,7 @@ fn visit(
 #[inline(always)]
 #[tactic(auto, unfolding(crate::specs::Board::is_wall))]
 fn is_wall(cols: usize, cells: &[Cell], square: Square) -> bool
-    ensures { result ≡ is_wall (record { cols = cols; cells = cells.now }) square }
+    ensures { result ≡ is_wall (board_of cols cells.now) square }
 {
     let _ = cols;
     cells
