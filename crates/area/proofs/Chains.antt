@@ -4,6 +4,7 @@ use Rattle.std.specs.Int.{bit_not, w64}
 use Rattle.std.proofs.lemmas.Bool.{and_parts, not-true, cases_Bool, cases_eq, cases_lt, true≢false, eq-eqb}
 use Rattle.std.proofs.lemmas.List.{get_or-set_same, get_or-set_other, length-set}
 use Rattle.grid.specs.declared.dir.Dir.{Dir}
+use Rattle.grid.specs.declared.masks.TheConstants.{WORD_BITS}
 use Rattle.grid.specs.Board.{Board, Scene, IsFree, is_wall, next}
 use Rattle.grid.specs.States.{IsScene}
 use Rattle.grid.specs.Masks.{has_bit, word_count}
@@ -70,7 +71,7 @@ module _ (board : Board) (boxes : Squares) (clear : (q : ℕ) → contains boxes
 abbrev pub AreTurned : List ℕ → ℕ → List ℕ → Type 0
 AreTurned words place now =
     (length now ≡ length words)
-    × ((k j : ℕ) → k < place → j < 64 → word_bit (get_or now k 0) j ≡ not (word_bit (get_or words k 0) j))
+    × ((k j : ℕ) → k < place → j < WORD_BITS → word_bit (get_or now k 0) j ≡ not (word_bit (get_or words k 0) j))
     × ((k : ℕ) → place ≤ k → get_or now k 0 ≡ get_or words k 0)
 
 pub turned_on : (words now : List ℕ) (place word : ℕ) → AreTurned words place now → place < length now → word ≡ get_or now place 0 → get_or words place 0 < 2 ^ 64 → AreTurned words (place + 1) (set now place (bit_not w64 word))
@@ -85,9 +86,9 @@ turned_on words now place word (size, before, rest) inside read fits = (
   λ k le. get_or-set_other now place k (bit_not w64 word) 0 (λ e. omega (arith, le, e)) ∙ rest k (omega arith),
 )
 
-pub turned_bit : (words now : List ℕ) (place q : ℕ) → AreTurned words place now → length words ≤ place → q < 64 * length words → has_bit now q ≡ not (has_bit words q)
+pub turned_bit : (words now : List ℕ) (place q : ℕ) → AreTurned words place now → length words ≤ place → q < WORD_BITS * length words → has_bit now q ≡ not (has_bit words q)
 turned_bit words now place q (size, before, rest) whole lt =
-    has_bit-parts now q ∙ (before (q / 64) (q % 64) (omega arith) (omega arith) ∙ ap not (sym (has_bit-parts words q)))
+    has_bit-parts now q ∙ (before (q / WORD_BITS) (q % WORD_BITS) (omega arith) (omega arith) ∙ ap not (sym (has_bit-parts words q)))
 
 -- ---- the group
 

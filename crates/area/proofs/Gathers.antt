@@ -7,6 +7,7 @@ use Rattle.std.proofs.lemmas.List.{get_or-map}
 use Rattle.grid.specs.declared.dir.Dir.{Dir}
 use Rattle.grid.specs.declared.dir.Dir.TheVariants.{D, L, R, U}
 use Rattle.grid.specs.declared.masks.StepMasks.{StepMasks}
+use Rattle.grid.specs.declared.masks.TheConstants.{WORD_BITS}
 use Rattle.grid.specs.Board.{Board, is_wall, next, opposite}
 use Rattle.grid.specs.Masks.{AreMasks, has_bit, can_enter, word_for, words_for}
 use Rattle.grid.proofs.lemmas.Steps.{inside_grid, next_back_inside, opposite_twice}
@@ -15,10 +16,10 @@ use Rattle.area.specs.inside.Flooding.{comes_by, is_entered}
 use Rattle.area.proofs.lemmas.WordBits.{word_bit-or, word_bit-and, has_bit-at}
 
 -- a mask's bit says whether a step can lead onto the square
-pub mask_bit : (board : Board) (masks : List StepMasks) (d : Dir) (k j : ℕ) (e : StepMasks) → AreMasks board masks → k < length masks → j < 64 → word_bit (word_for d (get_or masks k e)) j ≡ can_enter board d (64 * k + j)
+pub mask_bit : (board : Board) (masks : List StepMasks) (d : Dir) (k j : ℕ) (e : StepMasks) → AreMasks board masks → k < length masks → j < WORD_BITS → word_bit (word_for d (get_or masks k e)) j ≡ can_enter board d (WORD_BITS * k + j)
 mask_bit board masks d k j e are inside lt =
     ap (λ (w : ℕ). word_bit w j) (sym (get_or-map (word_for d) masks k e 0 inside))
-    ∙ (sym (has_bit-at (words_for d masks) k j lt) ∙ are.bits d (64 * k + j))
+    ∙ (sym (has_bit-at (words_for d masks) k j lt) ∙ are.bits d (WORD_BITS * k + j))
 
 -- what a step can lead onto is no wall, and the square that it comes from lies in the grid
 pub enter_parts : (board : Board) (d : Dir) (q : ℕ) → can_enter board d q ≡ true → (is_wall board q ≡ false) × (next board q (opposite d) < length board.cells)
@@ -76,22 +77,22 @@ masked false b m true e f = f refl
 masked true b m false e f = e
 masked false b m false e f = refl
 
-module _ (board : Board) (masks : List StepMasks) (words : List ℕ) (place : ℕ) (e : StepMasks) (are : AreMasks board masks) (inside : place < length masks) (j : ℕ) (lt : j < 64) where
-  one_way : (d : Dir) (side : ℕ) → (can_enter board d (64 * place + j) ≡ true → word_bit side j ≡ has_bit words (next board (64 * place + j) (opposite d))) → word_bit (bit_and side (word_for d (get_or masks place e))) j ≡ comes_by board words d (64 * place + j)
+module _ (board : Board) (masks : List StepMasks) (words : List ℕ) (place : ℕ) (e : StepMasks) (are : AreMasks board masks) (inside : place < length masks) (j : ℕ) (lt : j < WORD_BITS) where
+  one_way : (d : Dir) (side : ℕ) → (can_enter board d (WORD_BITS * place + j) ≡ true → word_bit side j ≡ has_bit words (next board (WORD_BITS * place + j) (opposite d))) → word_bit (bit_and side (word_for d (get_or masks place e))) j ≡ comes_by board words d (WORD_BITS * place + j)
   one_way d side same =
       word_bit-and side (word_for d (get_or masks place e)) j
-      ∙ masked (word_bit side j) (has_bit words (next board (64 * place + j) (opposite d))) (word_bit (word_for d (get_or masks place e)) j) (can_enter board d (64 * place + j)) (mask_bit board masks d place j e are inside lt) same
+      ∙ masked (word_bit side j) (has_bit words (next board (WORD_BITS * place + j) (opposite d))) (word_bit (word_for d (get_or masks place e)) j) (can_enter board d (WORD_BITS * place + j)) (mask_bit board masks d place j e are inside lt) same
 
   -- so the word gathered from the four sides has the squares onto which a step leads from the set
   pub entered_bits : (d l r u by : ℕ) → board.cols ≡ by
-      → ((i : ℕ) → i + by ≡ 64 * place + j → word_bit d j ≡ has_bit words i)
-      → ((i : ℕ) → i ≡ 64 * place + j + 1 → word_bit l j ≡ has_bit words i)
-      → ((i : ℕ) → i + 1 ≡ 64 * place + j → word_bit r j ≡ has_bit words i)
-      → ((i : ℕ) → i ≡ 64 * place + j + by → word_bit u j ≡ has_bit words i)
-      → word_bit (bit_or (bit_or (bit_or (bit_and d (get_or masks place e).d) (bit_and l (get_or masks place e).l)) (bit_and r (get_or masks place e).r)) (bit_and u (get_or masks place e).u)) j ≡ is_entered board words (64 * place + j)
+      → ((i : ℕ) → i + by ≡ WORD_BITS * place + j → word_bit d j ≡ has_bit words i)
+      → ((i : ℕ) → i ≡ WORD_BITS * place + j + 1 → word_bit l j ≡ has_bit words i)
+      → ((i : ℕ) → i + 1 ≡ WORD_BITS * place + j → word_bit r j ≡ has_bit words i)
+      → ((i : ℕ) → i ≡ WORD_BITS * place + j + by → word_bit u j ≡ has_bit words i)
+      → word_bit (bit_or (bit_or (bit_or (bit_and d (get_or masks place e).d) (bit_and l (get_or masks place e).l)) (bit_and r (get_or masks place e).r)) (bit_and u (get_or masks place e).u)) j ≡ is_entered board words (WORD_BITS * place + j)
   entered_bits d l r u by cols on_d on_l on_r on_u =
       let m : StepMasks = get_or masks place e in
-      let q : ℕ = 64 * place + j in
+      let q : ℕ = WORD_BITS * place + j in
       word_bit-or (bit_or (bit_or (bit_and d m.d) (bit_and l m.l)) (bit_and r m.r)) (bit_and u m.u) j
       ∙ (ap (λ (x : Bool). x || word_bit (bit_and u m.u) j) (word_bit-or (bit_or (bit_and d m.d) (bit_and l m.l)) (bit_and r m.r) j ∙ ap (λ (x : Bool). x || word_bit (bit_and r m.r) j) (word_bit-or (bit_and d m.d) (bit_and l m.l) j))
       ∙ four

@@ -6,6 +6,7 @@ use Rattle.std.proofs.lemmas.Bool.{false≢true, true≢false, cases_eq, cases_l
 use Rattle.std.proofs.lemmas.List.{get_or-set_same, get_or-set_other, set-get_or}
 use Rattle.std.proofs.lemmas.List.Sums.{sum_by-set}
 use Rattle.std.proofs.lemmas.Nat.{and_le_l}
+use Rattle.grid.specs.declared.masks.TheConstants.{WORD_BITS}
 use Rattle.grid.specs.Squares.{Squares, contains}
 use Rattle.grid.specs.Masks.{has_bit}
 use Rattle.area.specs.declared.locked.Holds.{Holds}
@@ -45,54 +46,54 @@ held_bits fast words q by here before after anyway on_before none on_after = (
 )
 
 -- the same for a word
-pub held_word : (fast words : List ℕ) (place by before after j : ℕ) → j < 64
-    → ((i : ℕ) → i + by ≡ 64 * place + j → word_bit before j ≡ has_bit words i) → (64 * place + j < by → word_bit before j ≡ false)
-    → word_bit after j ≡ has_bit words (64 * place + j + by)
-    → (word_bit (bit_or (bit_or (get_or fast place 0) before) after) j ≡ true) ↔ IsHeldBy fast by (squares_of words) (64 * place + j)
+pub held_word : (fast words : List ℕ) (place by before after j : ℕ) → j < WORD_BITS
+    → ((i : ℕ) → i + by ≡ WORD_BITS * place + j → word_bit before j ≡ has_bit words i) → (WORD_BITS * place + j < by → word_bit before j ≡ false)
+    → word_bit after j ≡ has_bit words (WORD_BITS * place + j + by)
+    → (word_bit (bit_or (bit_or (get_or fast place 0) before) after) j ≡ true) ↔ IsHeldBy fast by (squares_of words) (WORD_BITS * place + j)
 held_word fast words place by before after j lt on_before none on_after =
     let three = word_bit-or (bit_or (get_or fast place 0) before) after j ∙ ap (λ (b : Bool). b || word_bit after j) (word_bit-or (get_or fast place 0) before j) in
-    let bits = held_bits fast words (64 * place + j) by (word_bit (get_or fast place 0) j) (word_bit before j) (word_bit after j) (sym (has_bit-at fast place j lt)) on_before none on_after in
+    let bits = held_bits fast words (WORD_BITS * place + j) by (word_bit (get_or fast place 0) j) (word_bit before j) (word_bit after j) (sym (has_bit-at fast place j lt)) on_before none on_after in
     (λ h. bits.0 (sym three ∙ h), λ h. three ∙ bits.1 h)
 
 -- ---- a look at one word
 
 module _ (holds : Holds) (cols : ℕ) (words : List ℕ) (place across along : ℕ) (inside : place < length words)
-    (on_across : (j : ℕ) → j < 64 → (word_bit across j ≡ true) ↔ IsHeldBy holds.across 1 (squares_of words) (64 * place + j))
-    (on_along : (j : ℕ) → j < 64 → (word_bit along j ≡ true) ↔ IsHeldBy holds.along cols (squares_of words) (64 * place + j)) where
+    (on_across : (j : ℕ) → j < WORD_BITS → (word_bit across j ≡ true) ↔ IsHeldBy holds.across 1 (squares_of words) (WORD_BITS * place + j))
+    (on_along : (j : ℕ) → j < WORD_BITS → (word_bit along j ≡ true) ↔ IsHeldBy holds.along cols (squares_of words) (WORD_BITS * place + j)) where
   abbrev pub left : ℕ
   left = bit_and (bit_and (get_or words place 0) across) along
 
-  bit_there : (ws : List ℕ) (q : ℕ) → q / 64 ≡ place → has_bit ws q ≡ word_bit (get_or ws place 0) (q % 64)
-  bit_there ws q e = has_bit-parts ws q ∙ ap (λ (k : ℕ). word_bit (get_or ws k 0) (q % 64)) e
+  bit_there : (ws : List ℕ) (q : ℕ) → q / WORD_BITS ≡ place → has_bit ws q ≡ word_bit (get_or ws place 0) (q % WORD_BITS)
+  bit_there ws q e = has_bit-parts ws q ∙ ap (λ (k : ℕ). word_bit (get_or ws k 0) (q % WORD_BITS)) e
 
-  left_there : (q : ℕ) → q / 64 ≡ place → has_bit (set words place left) q ≡ word_bit left (q % 64)
-  left_there q e = bit_there (set words place left) q e ∙ ap (λ (w : ℕ). word_bit w (q % 64)) (get_or-set_same words place left 0 inside)
+  left_there : (q : ℕ) → q / WORD_BITS ≡ place → has_bit (set words place left) q ≡ word_bit left (q % WORD_BITS)
+  left_there q e = bit_there (set words place left) q e ∙ ap (λ (w : ℕ). word_bit w (q % WORD_BITS)) (get_or-set_same words place left 0 inside)
 
-  left_other : (q : ℕ) → q / 64 ≢ place → has_bit (set words place left) q ≡ has_bit words q
+  left_other : (q : ℕ) → q / WORD_BITS ≢ place → has_bit (set words place left) q ≡ has_bit words q
   left_other q ne =
       has_bit-parts (set words place left) q
-      ∙ (ap (λ (w : ℕ). word_bit w (q % 64)) (get_or-set_other words place (q / 64) left 0 ne) ∙ sym (has_bit-parts words q))
+      ∙ (ap (λ (w : ℕ). word_bit w (q % WORD_BITS)) (get_or-set_other words place (q / WORD_BITS) left 0 ne) ∙ sym (has_bit-parts words q))
 
-  number : (q : ℕ) → q / 64 ≡ place → 64 * place + q % 64 ≡ q
+  number : (q : ℕ) → q / WORD_BITS ≡ place → WORD_BITS * place + q % WORD_BITS ≡ q
   number q e = omega (arith, e)
 
   -- a member of the word stays where both axes hold it
-  stays : (q : ℕ) → q / 64 ≡ place → (has_bit (set words place left) q ≡ true) ↔ ((has_bit words q ≡ true) × IsHeldTwice holds cols (squares_of words) q)
+  stays : (q : ℕ) → q / WORD_BITS ≡ place → (has_bit (set words place left) q ≡ true) ↔ ((has_bit words q ≡ true) × IsHeldTwice holds cols (squares_of words) q)
   stays q e = (
     λ h.
-        (let (two, by_along) = and_bit (bit_and (get_or words place 0) across) along (q % 64) (sym (left_there q e) ∙ h) in
-        let (old, by_across) = and_bit (get_or words place 0) across (q % 64) two in (
+        (let (two, by_along) = and_bit (bit_and (get_or words place 0) across) along (q % WORD_BITS) (sym (left_there q e) ∙ h) in
+        let (old, by_across) = and_bit (get_or words place 0) across (q % WORD_BITS) two in (
           bit_there words q e ∙ old,
-          (subst (IsHeldBy holds.across 1 (squares_of words)) (number q e) ((on_across (q % 64) (square_parts q).1).0 by_across), subst (IsHeldBy holds.along cols (squares_of words)) (number q e) ((on_along (q % 64) (square_parts q).1).0 by_along)),
+          (subst (IsHeldBy holds.across 1 (squares_of words)) (number q e) ((on_across (q % WORD_BITS) (square_parts q).1).0 by_across), subst (IsHeldBy holds.along cols (squares_of words)) (number q e) ((on_along (q % WORD_BITS) (square_parts q).1).0 by_along)),
         )),
     λ (was, held).
-        (let by_across = (on_across (q % 64) (square_parts q).1).1 (subst (IsHeldBy holds.across 1 (squares_of words)) (sym (number q e)) held.0) in
-        let by_along = (on_along (q % 64) (square_parts q).1).1 (subst (IsHeldBy holds.along cols (squares_of words)) (sym (number q e)) held.1) in
-        left_there q e ∙ bit_and_from (bit_and (get_or words place 0) across) along (q % 64) (bit_and_from (get_or words place 0) across (q % 64) (sym (bit_there words q e) ∙ was) by_across) by_along),
+        (let by_across = (on_across (q % WORD_BITS) (square_parts q).1).1 (subst (IsHeldBy holds.across 1 (squares_of words)) (sym (number q e)) held.0) in
+        let by_along = (on_along (q % WORD_BITS) (square_parts q).1).1 (subst (IsHeldBy holds.along cols (squares_of words)) (sym (number q e)) held.1) in
+        left_there q e ∙ bit_and_from (bit_and (get_or words place 0) across) along (q % WORD_BITS) (bit_and_from (get_or words place 0) across (q % WORD_BITS) (sym (bit_there words q e) ∙ was) by_across) by_along),
   )
 
-  kept_bits : (q : ℕ) → (has_bit (set words place left) q ≡ true) ↔ ((has_bit words q ≡ true) × (q / 64 ≡ place → IsHeldTwice holds cols (squares_of words) q))
-  kept_bits q = elim (cases_eq (q / 64) place) [
+  kept_bits : (q : ℕ) → (has_bit (set words place left) q ≡ true) ↔ ((has_bit words q ≡ true) × (q / WORD_BITS ≡ place → IsHeldTwice holds cols (squares_of words) q))
+  kept_bits q = elim (cases_eq (q / WORD_BITS) place) [
     | inl e ↦ (λ h. (let (was, blocked) = (stays q e).0 h in (was, λ _. blocked)), λ (was, blocked). (stays q e).1 (was, blocked e))
     | inr ne ↦ (λ h. (sym (left_other q ne) ∙ h, λ e. absurd (ne e)), λ (was, _). left_other q ne ∙ was)
   ]
@@ -123,7 +124,7 @@ pub record IsPassUpTo (holds : Holds) (cols : ℕ) (place : ℕ) (old now : List
   pub keeps : (others : Squares) → AreHeld holds cols others → AreWithin others (squares_of old) → AreWithin others (squares_of now)
   pub less : went ≡ true → weight now < weight old
   pub same : went ≡ false → now ≡ old
-  pub held : went ≡ false → (q : ℕ) → q / 64 < place → has_bit old q ≡ true → IsHeldTwice holds cols (squares_of old) q
+  pub held : went ≡ false → (q : ℕ) → q / WORD_BITS < place → has_bit old q ≡ true → IsHeldTwice holds cols (squares_of old) q
 
 pub pass_none : (holds : Holds) (cols : ℕ) (words : List ℕ) → IsPassUpTo holds cols 0 words words false
 pass_none holds cols words = record {
@@ -142,8 +143,8 @@ looked_empty holds cols words place none = record {
   same = λ _. refl;
 }
   where
-    empty : (q : ℕ) → q / 64 ≡ place → has_bit words q ≡ false
-    empty q e = has_bit-parts words q ∙ (ap (λ (k : ℕ). word_bit (get_or words k 0) (q % 64)) e ∙ (ap (λ (w : ℕ). word_bit w (q % 64)) none ∙ word_bit-zero (q % 64)))
+    empty : (q : ℕ) → q / WORD_BITS ≡ place → has_bit words q ≡ false
+    empty q e = has_bit-parts words q ∙ (ap (λ (k : ℕ). word_bit (get_or words k 0) (q % WORD_BITS)) e ∙ (ap (λ (w : ℕ). word_bit w (q % WORD_BITS)) none ∙ word_bit-zero (q % WORD_BITS)))
 
 -- a look takes no member out that a set within the members blocks
 look_within : (holds : Holds) (cols : ℕ) (place : ℕ) (old new : List ℕ) (went : Bool) → IsLook holds cols place old new went → AreWithin (squares_of new) (squares_of old)
@@ -163,7 +164,7 @@ pass_more holds cols place old now new went gone both e look pass = subst (IsPas
       (let (a, b) = neither went gone none in
       let start : now ≡ old = pass.same a in
       let end : new ≡ now = look.same b in
-      elim (cases_eq (q / 64) place) [
+      elim (cases_eq (q / WORD_BITS) place) [
         | inl at ↦ subst (λ (ws : List ℕ). IsHeldTwice holds cols (squares_of ws) q) start (((look.kept q).0 (ap (λ (ws : List ℕ). has_bit ws q) (end ∙ start) ∙ h)).1 at)
         | inr ne ↦ pass.held a q (omega (arith, lt, ne)) h
       ]);
@@ -220,14 +221,14 @@ other_there members others place fits others_fit some =
     let low = lowest_bit rest (omega (arith, some)) (omega (arith, few, fits)) in
     let j : ℕ = trailing_zeros w64 rest in
     let (here, off) = and_bit (get_or members place 0) (bit_not w64 (get_or others place 0)) j low.1 in
-    (64 * place + j, has_bit-at members place j low.0 ∙ here, has_bit-at others place j low.0 ∙ not-true (word_bit (get_or others place 0) j) (sym (word_bit-not (get_or others place 0) j others_fit low.0) ∙ off))
+    (WORD_BITS * place + j, has_bit-at members place j low.0 ∙ here, has_bit-at others place j low.0 ∙ not-true (word_bit (get_or others place 0) j) (sym (word_bit-not (get_or others place 0) j others_fit low.0) ∙ off))
 
 -- where no word tells of one, there is none
 pub other_nowhere : (members others : List ℕ) (n q : ℕ) → length members ≤ n → ((k : ℕ) → get_or others k 0 < 2 ^ 64) → ((k : ℕ) → k < n → bit_and (get_or members k 0) (bit_not w64 (get_or others k 0)) ≡ 0) → has_bit members q ≡ true → has_bit others q ≡ false → ⊥
 other_nowhere members others n q all fit none here off =
-    let k : ℕ = q / 64 in
-    let j : ℕ = q % 64 in
-    let small : j < 64 = (square_parts q).1 in
+    let k : ℕ = q / WORD_BITS in
+    let j : ℕ = q % WORD_BITS in
+    let small : j < WORD_BITS = (square_parts q).1 in
     let lt = has_bit_inside members q here in
     let rest = none k (omega (arith, lt, all)) in
     let there = bit_and_from (get_or members k 0) (bit_not w64 (get_or others k 0)) j (sym (has_bit-parts members q) ∙ here) (word_bit-not (get_or others k 0) j (fit k) small ∙ not_from_false (word_bit (get_or others k 0) j) (sym (has_bit-parts others q) ∙ off)) in

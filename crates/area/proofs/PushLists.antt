@@ -10,6 +10,7 @@ use Rattle.std.specs.Ordering.{ordering_then}
 use Rattle.grid.specs.declared.dir.Dir.{Dir}
 use Rattle.grid.specs.declared.dir.Dir.TheVariants.{D, L, R, U}
 use Rattle.grid.specs.declared.square.Push.{Push}
+use Rattle.grid.specs.declared.masks.TheConstants.{WORD_BITS}
 use Rattle.grid.specs.Masks.{word_count}
 use Rattle.grid.specs.Squares.{Squares, contains}
 use Rattle.grid.specs.Board.{Board, Scene, IsFree, next, opposite, dir_number, dir_cmp, push_cmp}
@@ -127,7 +128,7 @@ all_allowed board n reach end ps scene same area long all = all_same _ _ ps all
     ))
 
 -- the words have a bit for each square
-pub words_cover : (n words : ℕ) → word_count n ≤ words → n ≤ 64 * words
+pub words_cover : (n words : ℕ) → word_count n ≤ words → n ≤ WORD_BITS * words
 unfolding word_count
 words_cover n words le = omega (arith, le)
 
@@ -180,7 +181,7 @@ of_union m j h = elim (or_bit (bit_or (bit_or m.d m.l) m.r) m.u j h) [
 ]
 
 -- a word without one of its bits is less
-pub cleared_less : (w k : ℕ) → k < 64 → word_bit w k ≡ true → bit_and w (bit_not w64 (1 * 2 ^ k % 2 ^ 64)) < w
+pub cleared_less : (w k : ℕ) → k < WORD_BITS → word_bit w k ≡ true → bit_and w (bit_not w64 (1 * 2 ^ k % 2 ^ 64)) < w
 cleared_less w k lt h = elim (cases_lt (bit_and w (bit_not w64 (1 * 2 ^ k % 2 ^ 64))) w) [
   | inl less ↦ less
   | inr ge ↦
@@ -194,23 +195,23 @@ cleared_less w k lt h = elim (cases_lt (bit_and w (bit_not w64 (1 * 2 ^ k % 2 ^ 
 -- the bits of the squares from there on are left
 pub record IsInWord (board : Board) (reach : Reach) (masks : PushMasks) (place left : ℕ) (ps : List Push) : Type 0 where
   pub seen : ℕ
-  pub within : seen ≤ 64
-  pub before : AreAllowedBefore board reach (64 * place + seen) 0 ps
-  pub bound : length ps ≤ 4 * count_below reach.boxes (64 * place + seen)
-  pub rest : (j : ℕ) → j < 64 → (word_bit left j ≡ true) ↔ ((seen ≤ j) × (word_bit (union masks) j ≡ true))
+  pub within : seen ≤ WORD_BITS
+  pub before : AreAllowedBefore board reach (WORD_BITS * place + seen) 0 ps
+  pub bound : length ps ≤ 4 * count_below reach.boxes (WORD_BITS * place + seen)
+  pub rest : (j : ℕ) → j < WORD_BITS → (word_bit left j ≡ true) ↔ ((seen ≤ j) × (word_bit (union masks) j ≡ true))
 
-module _ (board : Board) (reach : Reach) (masks : PushMasks) (place : ℕ) (tells : (d : Dir) (j : ℕ) → j < 64 → (word_bit (push_word d masks) j ≡ true) ↔ IsPushable board reach.boxes reach.reached d (64 * place + j)) where
+module _ (board : Board) (reach : Reach) (masks : PushMasks) (place : ℕ) (tells : (d : Dir) (j : ℕ) → j < WORD_BITS → (word_bit (push_word d masks) j ≡ true) ↔ IsPushable board reach.boxes reach.reached d (WORD_BITS * place + j)) where
   -- a bit for each push that is allowed in the word
-  has_push : (p : Push) → Allows board reach p → 64 * place ≤ p.square → p.square < 64 * (place + 1) → word_bit (union masks) (p.square - 64 * place) ≡ true
+  has_push : (p : Push) → Allows board reach p → WORD_BITS * place ≤ p.square → p.square < WORD_BITS * (place + 1) → word_bit (union masks) (p.square - WORD_BITS * place) ≡ true
   has_push p can ge lt =
-      let j : ℕ = p.square - 64 * place in
-      let e : p.square ≡ 64 * place + j = omega arith in
+      let j : ℕ = p.square - WORD_BITS * place in
+      let e : p.square ≡ WORD_BITS * place + j = omega arith in
       union_bit masks p.dir j ((tells p.dir j (omega arith)).1 (subst (λ (q : ℕ). IsPushable board reach.boxes reach.reached p.dir q) e can))
 
   -- at the first square
-  pub word_first : (left : ℕ) (ps : List Push) → left ≡ union masks → AreAllowedBefore board reach (64 * place) 0 ps → length ps ≤ 4 * count_below reach.boxes (64 * place) → IsInWord board reach masks place left ps
+  pub word_first : (left : ℕ) (ps : List Push) → left ≡ union masks → AreAllowedBefore board reach (WORD_BITS * place) 0 ps → length ps ≤ 4 * count_below reach.boxes (WORD_BITS * place) → IsInWord board reach masks place left ps
   word_first left ps same before bound =
-      let start : 64 * place ≡ 64 * place + 0 = omega arith in
+      let start : WORD_BITS * place ≡ WORD_BITS * place + 0 = omega arith in
       record {
         seen = 0;
         within = omega arith;
@@ -220,22 +221,22 @@ module _ (board : Board) (reach : Reach) (masks : PushMasks) (place : ℕ) (tell
       }
 
   module _ (left : ℕ) (ps : List Push) (now : IsInWord board reach masks place left ps) where
-    module _ (t : ℕ) (low : (t < 64) × (word_bit left t ≡ true) × ((j : ℕ) → word_bit left j ≡ true → t ≤ j)) where
+    module _ (t : ℕ) (low : (t < WORD_BITS) × (word_bit left t ≡ true) × ((j : ℕ) → word_bit left j ≡ true → t ≤ j)) where
       not_seen : now.seen ≤ t
       not_seen = ((now.rest t low.0).0 low.1).0
 
       -- a box stands on the square of the lowest bit left
-      pub word_box : contains reach.boxes (64 * place + t) ≡ true
+      pub word_box : contains reach.boxes (WORD_BITS * place + t) ≡ true
       word_box =
           let d = of_union masks t ((now.rest t low.0).0 low.1).1 in
           ((tells d.0 t low.0).0 d.1).there
 
       -- and the squares up to there have no more pushes
-      pub word_here : AreAllowedBefore board reach (64 * place + t) 0 ps
-      word_here = past_none board reach (64 * place + now.seen) ps (64 * place + t) (let le = not_seen in omega (arith, le))
+      pub word_here : AreAllowedBefore board reach (WORD_BITS * place + t) 0 ps
+      word_here = past_none board reach (WORD_BITS * place + now.seen) ps (WORD_BITS * place + t) (let le = not_seen in omega (arith, le))
           (λ p can ge lt.
           (let in_word = low.0 in
-          let j : ℕ = p.square - 64 * place in
+          let j : ℕ = p.square - WORD_BITS * place in
           let bit = (now.rest j (omega (arith, lt, in_word))).1 (omega (arith, ge), has_push p can (omega (arith, ge)) (omega (arith, lt, in_word))) in
           let le = low.2 j bit in
           omega (arith, le, lt, ge)))
@@ -244,21 +245,21 @@ module _ (board : Board) (reach : Reach) (masks : PushMasks) (place : ℕ) (tell
       pub word_room : (most : ℕ) → length reach.boxes ≤ most → length ps + 4 ≤ 4 * most
       word_room most few =
           let le = not_seen in
-          let more = below_more reach.boxes (64 * place + now.seen) (64 * place + t) (omega (arith, le)) in
-          let step = below_step reach.boxes (64 * place + t) word_box in
-          let all = below_all reach.boxes (64 * place + t + 1) in
+          let more = below_more reach.boxes (WORD_BITS * place + now.seen) (WORD_BITS * place + t) (omega (arith, le)) in
+          let step = below_step reach.boxes (WORD_BITS * place + t) word_box in
+          let all = below_all reach.boxes (WORD_BITS * place + t + 1) in
           let bound = now.bound in
           omega (arith, more, step, all, bound, few)
 
       -- with the pushes of that box
-      pub word_more : (rest : ℕ) (qs : List Push) → AreAllowedBefore board reach (64 * place + t + 1) 0 qs → length qs ≤ length ps + 4 → ((j : ℕ) → j < 64 → word_bit rest j ≡ (word_bit left j && not (eqb t j))) → IsInWord board reach masks place rest qs
+      pub word_more : (rest : ℕ) (qs : List Push) → AreAllowedBefore board reach (WORD_BITS * place + t + 1) 0 qs → length qs ≤ length ps + 4 → ((j : ℕ) → j < WORD_BITS → word_bit rest j ≡ (word_bit left j && not (eqb t j))) → IsInWord board reach masks place rest qs
       word_more rest qs before longer bits =
           let le = not_seen in
-          let more = below_more reach.boxes (64 * place + now.seen) (64 * place + t) (omega (arith, le)) in
-          let step = below_step reach.boxes (64 * place + t) word_box in
+          let more = below_more reach.boxes (WORD_BITS * place + now.seen) (WORD_BITS * place + t) (omega (arith, le)) in
+          let step = below_step reach.boxes (WORD_BITS * place + t) word_box in
           let bound = now.bound in
           let in_word = low.0 in
-          let on : 64 * place + t + 1 ≡ 64 * place + (t + 1) = omega arith in
+          let on : WORD_BITS * place + t + 1 ≡ WORD_BITS * place + (t + 1) = omega arith in
           record {
             seen = t + 1;
             within = omega (arith, in_word);
@@ -278,14 +279,14 @@ module _ (board : Board) (reach : Reach) (masks : PushMasks) (place : ℕ) (tell
           }
 
     -- past the last square
-    pub word_last : left ≡ 0 → AreAllowedBefore board reach (64 * (place + 1)) 0 ps × (length ps ≤ 4 * count_below reach.boxes (64 * (place + 1)))
+    pub word_last : left ≡ 0 → AreAllowedBefore board reach (WORD_BITS * (place + 1)) 0 ps × (length ps ≤ 4 * count_below reach.boxes (WORD_BITS * (place + 1)))
     word_last none =
         let within = now.within in
-        let more = below_more reach.boxes (64 * place + now.seen) (64 * (place + 1)) (omega (arith, within)) in
+        let more = below_more reach.boxes (WORD_BITS * place + now.seen) (WORD_BITS * (place + 1)) (omega (arith, within)) in
         let bound = now.bound in (
-          past_none board reach (64 * place + now.seen) ps (64 * (place + 1)) (omega (arith, within))
+          past_none board reach (WORD_BITS * place + now.seen) ps (WORD_BITS * (place + 1)) (omega (arith, within))
               (λ p can ge lt.
-              (let j : ℕ = p.square - 64 * place in
+              (let j : ℕ = p.square - WORD_BITS * place in
               let bit = (now.rest j (omega (arith, lt))).1 (omega (arith, ge), has_push p can (omega (arith, ge)) lt) in
               true≢false (sym bit ∙ (ap (λ (w : ℕ). word_bit w j) none ∙ word_bit-zero j))))
               now.before,

@@ -4,6 +4,7 @@ use Rattle.std.proofs.lemmas.Bool.{eqb-true, and_from, or_left, or_right}
 use Rattle.grid.specs.declared.dir.Dir.{Dir}
 use Rattle.grid.specs.declared.dir.Dir.TheVariants.{D, L, R, U}
 use Rattle.grid.specs.declared.limits.TheConstants.{MAX_SQUARES}
+use Rattle.grid.specs.declared.masks.TheConstants.{WORD_BITS}
 use Rattle.grid.specs.Board.{Board, Scene, IsFree, is_wall, next, opposite}
 use Rattle.grid.specs.States.{IsScene}
 use Rattle.grid.specs.Masks.{has_bit, word_count, can_enter}
@@ -20,12 +21,12 @@ use Rattle.area.proofs.lemmas.Norms.{area_here, norm_found}
 use Rattle.area.proofs.lemmas.WordSets.{contains-squares_of, squares_of_rise}
 
 -- the words have a bit for each square
-pub words_enough : (n words q : ℕ) → words ≡ word_count n → q < n → q < 64 * words
+pub words_enough : (n words q : ℕ) → words ≡ word_count n → q < n → q < WORD_BITS * words
 unfolding word_count
 words_enough n words q e lt = omega (arith, e, lt)
 
 -- and not many more
-pub words_few : (n words : ℕ) → words ≡ word_count n → n ≤ MAX_SQUARES → 64 * words ≤ MAX_SQUARES + 64
+pub words_few : (n words : ℕ) → words ≡ word_count n → n ≤ MAX_SQUARES → WORD_BITS * words ≤ MAX_SQUARES + WORD_BITS
 unfolding word_count
 words_few n words e le = omega (arith, e, le)
 

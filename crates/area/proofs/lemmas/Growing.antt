@@ -3,6 +3,7 @@ use Rattle.std.proofs.Common.{◌≡◌, ℕ, ◌+◌, ◌-◌, ◌*◌, ◌/◌
 use Rattle.std.specs.Int.RustNames.{bit_and, bit_or}
 use Rattle.std.proofs.lemmas.Bool.{cases_lt, or_cases, or_left, or_right, and_parts, and_from, true≢false}
 use Rattle.std.proofs.lemmas.Nat.{le_or_l}
+use Rattle.grid.specs.declared.masks.TheConstants.{WORD_BITS}
 use Rattle.area.specs.Words.{word_bit}
 use Rattle.area.specs.inside.Flooding.{PassesUp, PassesDown, PassesOn, IsGrown}
 use Rattle.area.proofs.lemmas.WordBits.{word_bit-or, word_bit-and, word_bit-shl, word_bit-shl_low, word_bit-shr, word_bit_inside}
@@ -25,7 +26,7 @@ pub bit_and_from : (a b j : ℕ) → word_bit a j ≡ true → word_bit b j ≡ 
 bit_and_from a b j g h = word_bit-and a b j ∙ and_from (word_bit a j) (word_bit b j) g h
 
 -- a bit of a word shifted up comes from below
-pub shl_bit : (a by j : ℕ) → j < 64 → word_bit (a * 2 ^ by % 2 ^ 64) j ≡ true → (i : ℕ) × (i + by ≡ j) × (word_bit a i ≡ true)
+pub shl_bit : (a by j : ℕ) → j < WORD_BITS → word_bit (a * 2 ^ by % 2 ^ 64) j ≡ true → (i : ℕ) × (i + by ≡ j) × (word_bit a i ≡ true)
 shl_bit a by j lt h = elim (cases_lt j by) [
   | inl low ↦ absurd (true≢false (sym h ∙ word_bit-shl_low a by j low lt))
   | inr le ↦ (let e : j - by + by ≡ j = omega arith in (j - by, e, sym (word_bit-shl a by (j - by) j e lt) ∙ h))

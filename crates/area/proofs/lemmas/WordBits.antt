@@ -6,6 +6,7 @@ use Rattle.std.proofs.lemmas.Bool.{cases_lt, eqb-true, true≢false}
 use Rattle.std.proofs.lemmas.List.{get_or_past}
 use Rattle.std.proofs.lemmas.Nat.{pow_pos, shr-shr, div-mul-add, mod-mul-add, shr_split}
 use Rattle.std.proofs.lemmas.Nat.Bits.{bit_at_and, bit_at_or, bit_at_not, bit_at-lt, shr_and_one, bit_at-zero, bit_at_above, bit_at_cat_low, bit_at_cat_high}
+use Rattle.grid.specs.declared.masks.TheConstants.{WORD_BITS}
 use Rattle.grid.specs.Masks.{has_bit}
 use Rattle.area.specs.Words.{word_bit}
 
@@ -40,7 +41,7 @@ pub word_bit-and : (a b j : ℕ) → word_bit (bit_and a b) j ≡ (word_bit a j 
 unfolding word_bit
 word_bit-and a b j = ap (λ (x : ℕ). eqb x 1) (bit_at_and a b j) ∙ both (bit_at a j) (bit_at b j) (bit_at-lt a j) (bit_at-lt b j)
 
-pub word_bit-not : (a j : ℕ) → a < 2 ^ 64 → j < 64 → word_bit (bit_not w64 a) j ≡ not (word_bit a j)
+pub word_bit-not : (a j : ℕ) → a < 2 ^ 64 → j < WORD_BITS → word_bit (bit_not w64 a) j ≡ not (word_bit a j)
 unfolding word_bit
 word_bit-not a j fits lt = ap (λ (x : ℕ). eqb x 1) (bit_at_not w64 a j fits lt) ∙ other (bit_at a j) (bit_at-lt a j)
 
@@ -54,11 +55,11 @@ unfolding word_bit
 word_bit_tested a j = ap (λ (x : ℕ). eqb x 1) (shr_and_one a j)
 
 -- a word has no bit past its end
-pub word_bit_inside : (a j : ℕ) → a < 2 ^ 64 → word_bit a j ≡ true → j < 64
+pub word_bit_inside : (a j : ℕ) → a < 2 ^ 64 → word_bit a j ≡ true → j < WORD_BITS
 unfolding word_bit
-word_bit_inside a j fits h = elim (cases_lt j 64) [
+word_bit_inside a j fits h = elim (cases_lt j WORD_BITS) [
   | inl lt ↦ lt
-  | inr le ↦ absurd (let e = eqb-true (bit_at a j) 1 h in let z = bit_at_above a 64 j fits le in omega (arith, e, z))
+  | inr le ↦ absurd (let e = eqb-true (bit_at a j) 1 h in let z = bit_at_above a WORD_BITS j fits le in omega (arith, e, z))
 ]
 
 -- the bits of a remainder
@@ -67,18 +68,18 @@ bit_at-mod a k j lt =
     sym (bit_at_cat_low (a / 2 ^ k) k (a % 2 ^ k) j lt) ∙ ap (λ (x : ℕ). bit_at x j) (shr_split a k)
 
 -- a word shifted up
-pub word_bit-shl : (a by i j : ℕ) → i + by ≡ j → j < 64 → word_bit (a * 2 ^ by % 2 ^ 64) j ≡ word_bit a i
+pub word_bit-shl : (a by i j : ℕ) → i + by ≡ j → j < WORD_BITS → word_bit (a * 2 ^ by % 2 ^ 64) j ≡ word_bit a i
 unfolding word_bit
 word_bit-shl a by i j e lt = ap (λ (x : ℕ). eqb x 1)
-    (bit_at-mod (a * 2 ^ by) 64 j lt
+    (bit_at-mod (a * 2 ^ by) WORD_BITS j lt
     ∙ (ap (λ (x : ℕ). bit_at x j) (let z : a * 2 ^ by ≡ a * 2 ^ by + 0 = omega arith in z)
     ∙ (bit_at_cat_high a by 0 j (pow_pos by) (omega arith)
     ∙ ap (bit_at a) (let z : j - by ≡ i = omega arith in z))))
 
-pub word_bit-shl_low : (a by j : ℕ) → j < by → j < 64 → word_bit (a * 2 ^ by % 2 ^ 64) j ≡ false
+pub word_bit-shl_low : (a by j : ℕ) → j < by → j < WORD_BITS → word_bit (a * 2 ^ by % 2 ^ 64) j ≡ false
 unfolding word_bit
 word_bit-shl_low a by j low lt = ap (λ (x : ℕ). eqb x 1)
-    (bit_at-mod (a * 2 ^ by) 64 j lt
+    (bit_at-mod (a * 2 ^ by) WORD_BITS j lt
     ∙ (ap (λ (x : ℕ). bit_at x j) (let z : a * 2 ^ by ≡ a * 2 ^ by + 0 = omega arith in z)
     ∙ (bit_at_cat_low a by 0 j low
     ∙ bit_at-zero j)))
@@ -92,26 +93,26 @@ word_bit-shr a by i j e = ap (λ (x : ℕ). eqb x 1)
 -- ---- words
 
 -- the set has a square where its word has the square's bit
-pub has_bit-at : (words : List ℕ) (k j : ℕ) → j < 64 → has_bit words (64 * k + j) ≡ word_bit (get_or words k 0) j
+pub has_bit-at : (words : List ℕ) (k j : ℕ) → j < WORD_BITS → has_bit words (WORD_BITS * k + j) ≡ word_bit (get_or words k 0) j
 unfolding has_bit word_bit
 has_bit-at words k j lt =
-    let d : (64 * k + j) / 64 ≡ k = ap (λ (x : ℕ). (x + j) / 64) (let e : 64 * k ≡ k * 64 = omega arith in e) ∙ div-mul-add k 64 j lt in
-    let m : (64 * k + j) % 64 ≡ j = ap (λ (x : ℕ). (x + j) % 64) (let e : 64 * k ≡ k * 64 = omega arith in e) ∙ mod-mul-add k 64 j lt in
-    ap (λ (x : ℕ). eqb (bit_at (get_or words x 0) ((64 * k + j) % 64)) 1) d ∙ ap (λ (x : ℕ). eqb (bit_at (get_or words k 0) x) 1) m
+    let d : (WORD_BITS * k + j) / WORD_BITS ≡ k = ap (λ (x : ℕ). (x + j) / WORD_BITS) (let e : WORD_BITS * k ≡ k * WORD_BITS = omega arith in e) ∙ div-mul-add k WORD_BITS j lt in
+    let m : (WORD_BITS * k + j) % WORD_BITS ≡ j = ap (λ (x : ℕ). (x + j) % WORD_BITS) (let e : WORD_BITS * k ≡ k * WORD_BITS = omega arith in e) ∙ mod-mul-add k WORD_BITS j lt in
+    ap (λ (x : ℕ). eqb (bit_at (get_or words x 0) ((WORD_BITS * k + j) % WORD_BITS)) 1) d ∙ ap (λ (x : ℕ). eqb (bit_at (get_or words k 0) x) 1) m
 
 -- each square has a place and a bit
-pub square_parts : (q : ℕ) → (64 * (q / 64) + q % 64 ≡ q) × (q % 64 < 64)
+pub square_parts : (q : ℕ) → (WORD_BITS * (q / WORD_BITS) + q % WORD_BITS ≡ q) × (q % WORD_BITS < WORD_BITS)
 square_parts q = (omega arith, omega arith)
 
-pub has_bit-parts : (words : List ℕ) (q : ℕ) → has_bit words q ≡ word_bit (get_or words (q / 64) 0) (q % 64)
+pub has_bit-parts : (words : List ℕ) (q : ℕ) → has_bit words q ≡ word_bit (get_or words (q / WORD_BITS) 0) (q % WORD_BITS)
 unfolding has_bit word_bit
 has_bit-parts words q = refl
 
 -- past the words nothing is in the set
-pub has_bit_inside : (words : List ℕ) (q : ℕ) → has_bit words q ≡ true → q < 64 * length words
-has_bit_inside words q h = elim (cases_lt (q / 64) (length words)) [
+pub has_bit_inside : (words : List ℕ) (q : ℕ) → has_bit words q ≡ true → q < WORD_BITS * length words
+has_bit_inside words q h = elim (cases_lt (q / WORD_BITS) (length words)) [
   | inl lt ↦ omega (arith, square_parts q)
-  | inr le ↦ absurd (true≢false (sym h ∙ (has_bit-parts words q ∙ (ap (λ (w : ℕ). word_bit w (q % 64)) (get_or_past words (q / 64) 0 le) ∙ word_bit-zero (q % 64)))))
+  | inr le ↦ absurd (true≢false (sym h ∙ (has_bit-parts words q ∙ (ap (λ (w : ℕ). word_bit w (q % WORD_BITS)) (get_or_past words (q / WORD_BITS) 0 le) ∙ word_bit-zero (q % WORD_BITS)))))
 ]
 
 -- ---- what a word shows of words before and after it
@@ -126,72 +127,72 @@ or_left_none a b e = ap (λ (x : Bool). x || b) e
 halved : (a n j : ℕ) → word_bit (a / 2 / 2 ^ n) j ≡ word_bit a (j + n + 1)
 halved a n j = word_bit-shr (a / 2) n (j + n) j refl ∙ word_bit-shr a 1 (j + n + 1) (j + n) refl
 
-past_end : (a j : ℕ) → a < 2 ^ 64 → 64 ≤ j → word_bit a j ≡ false
+past_end : (a j : ℕ) → a < 2 ^ 64 → WORD_BITS ≤ j → word_bit a j ≡ false
 unfolding word_bit
-past_end a j fits le = ap (λ (x : ℕ). eqb x 1) (bit_at_above a 64 j fits le)
+past_end a j fits le = ap (λ (x : ℕ). eqb x 1) (bit_at_above a WORD_BITS j fits le)
 
 -- the bits of two words in a row, slid up
-pub up_here : (here low near i j : ℕ) → low < 2 ^ 64 → j < 64 → i + near ≡ j → word_bit (bit_or (here * 2 ^ near % 2 ^ 64) (low / 2 / 2 ^ (63 - near))) j ≡ word_bit here i
+pub up_here : (here low near i j : ℕ) → low < 2 ^ 64 → j < WORD_BITS → i + near ≡ j → word_bit (bit_or (here * 2 ^ near % 2 ^ 64) (low / 2 / 2 ^ (WORD_BITS - 1 - near))) j ≡ word_bit here i
 up_here here low near i j fits lt e =
-    word_bit-or (here * 2 ^ near % 2 ^ 64) (low / 2 / 2 ^ (63 - near)) j
-    ∙ (or_right_none (word_bit (here * 2 ^ near % 2 ^ 64) j) (word_bit (low / 2 / 2 ^ (63 - near)) j) (halved low (63 - near) j ∙ past_end low (j + (63 - near) + 1) fits (omega arith))
+    word_bit-or (here * 2 ^ near % 2 ^ 64) (low / 2 / 2 ^ (WORD_BITS - 1 - near)) j
+    ∙ (or_right_none (word_bit (here * 2 ^ near % 2 ^ 64) j) (word_bit (low / 2 / 2 ^ (WORD_BITS - 1 - near)) j) (halved low (WORD_BITS - 1 - near) j ∙ past_end low (j + (WORD_BITS - 1 - near) + 1) fits (omega arith))
     ∙ word_bit-shl here near i j e lt)
 
-pub up_low : (here low near i j : ℕ) → near < 64 → i < 64 → i + near ≡ j + 64 → word_bit (bit_or (here * 2 ^ near % 2 ^ 64) (low / 2 / 2 ^ (63 - near))) j ≡ word_bit low i
+pub up_low : (here low near i j : ℕ) → near < WORD_BITS → i < WORD_BITS → i + near ≡ j + WORD_BITS → word_bit (bit_or (here * 2 ^ near % 2 ^ 64) (low / 2 / 2 ^ (WORD_BITS - 1 - near))) j ≡ word_bit low i
 up_low here low near i j small lt e =
-    let same : j + (63 - near) + 1 ≡ i = omega arith in
-    word_bit-or (here * 2 ^ near % 2 ^ 64) (low / 2 / 2 ^ (63 - near)) j
-    ∙ (or_left_none (word_bit (here * 2 ^ near % 2 ^ 64) j) (word_bit (low / 2 / 2 ^ (63 - near)) j) (word_bit-shl_low here near j (omega arith) (omega arith))
-    ∙ (halved low (63 - near) j
+    let same : j + (WORD_BITS - 1 - near) + 1 ≡ i = omega arith in
+    word_bit-or (here * 2 ^ near % 2 ^ 64) (low / 2 / 2 ^ (WORD_BITS - 1 - near)) j
+    ∙ (or_left_none (word_bit (here * 2 ^ near % 2 ^ 64) j) (word_bit (low / 2 / 2 ^ (WORD_BITS - 1 - near)) j) (word_bit-shl_low here near j (omega arith) (omega arith))
+    ∙ (halved low (WORD_BITS - 1 - near) j
     ∙ ap (word_bit low) same))
 
 -- and slid down
-pub down_here : (here high near i j : ℕ) → near < 64 → i < 64 → i ≡ j + near → word_bit (bit_or (here / 2 ^ near) (high * 2 % 2 ^ 64 * 2 ^ (63 - near) % 2 ^ 64)) j ≡ word_bit here i
+pub down_here : (here high near i j : ℕ) → near < WORD_BITS → i < WORD_BITS → i ≡ j + near → word_bit (bit_or (here / 2 ^ near) (high * 2 % 2 ^ 64 * 2 ^ (WORD_BITS - 1 - near) % 2 ^ 64)) j ≡ word_bit here i
 down_here here high near i j small lt e =
-    word_bit-or (here / 2 ^ near) (high * 2 % 2 ^ 64 * 2 ^ (63 - near) % 2 ^ 64) j
-    ∙ (or_right_none (word_bit (here / 2 ^ near) j) (word_bit (high * 2 % 2 ^ 64 * 2 ^ (63 - near) % 2 ^ 64) j) none_above
+    word_bit-or (here / 2 ^ near) (high * 2 % 2 ^ 64 * 2 ^ (WORD_BITS - 1 - near) % 2 ^ 64) j
+    ∙ (or_right_none (word_bit (here / 2 ^ near) j) (word_bit (high * 2 % 2 ^ 64 * 2 ^ (WORD_BITS - 1 - near) % 2 ^ 64) j) none_above
     ∙ word_bit-shr here near i j (sym e))
   where
-    none_above : word_bit (high * 2 % 2 ^ 64 * 2 ^ (63 - near) % 2 ^ 64) j ≡ false
-    none_above = elim (cases_lt j (63 - near)) [
-      | inl low ↦ word_bit-shl_low (high * 2 % 2 ^ 64) (63 - near) j low (omega arith)
-      | inr le ↦ word_bit-shl (high * 2 % 2 ^ 64) (63 - near) 0 j (omega arith) (omega arith) ∙ word_bit-shl_low high 1 0 (omega arith) (omega arith)
+    none_above : word_bit (high * 2 % 2 ^ 64 * 2 ^ (WORD_BITS - 1 - near) % 2 ^ 64) j ≡ false
+    none_above = elim (cases_lt j (WORD_BITS - 1 - near)) [
+      | inl low ↦ word_bit-shl_low (high * 2 % 2 ^ 64) (WORD_BITS - 1 - near) j low (omega arith)
+      | inr le ↦ word_bit-shl (high * 2 % 2 ^ 64) (WORD_BITS - 1 - near) 0 j (omega arith) (omega arith) ∙ word_bit-shl_low high 1 0 (omega arith) (omega arith)
     ]
 
-pub down_high : (here high near i j : ℕ) → near < 64 → here < 2 ^ 64 → j < 64 → i + 64 ≡ j + near → word_bit (bit_or (here / 2 ^ near) (high * 2 % 2 ^ 64 * 2 ^ (63 - near) % 2 ^ 64)) j ≡ word_bit high i
+pub down_high : (here high near i j : ℕ) → near < WORD_BITS → here < 2 ^ 64 → j < WORD_BITS → i + WORD_BITS ≡ j + near → word_bit (bit_or (here / 2 ^ near) (high * 2 % 2 ^ 64 * 2 ^ (WORD_BITS - 1 - near) % 2 ^ 64)) j ≡ word_bit high i
 down_high here high near i j small fits lt e =
-    word_bit-or (here / 2 ^ near) (high * 2 % 2 ^ 64 * 2 ^ (63 - near) % 2 ^ 64) j
-    ∙ (or_left_none (word_bit (here / 2 ^ near) j) (word_bit (high * 2 % 2 ^ 64 * 2 ^ (63 - near) % 2 ^ 64) j) (word_bit-shr here near (j + near) j refl ∙ past_end here (j + near) fits (omega arith))
-    ∙ (word_bit-shl (high * 2 % 2 ^ 64) (63 - near) (i + 1) j (omega arith) lt
+    word_bit-or (here / 2 ^ near) (high * 2 % 2 ^ 64 * 2 ^ (WORD_BITS - 1 - near) % 2 ^ 64) j
+    ∙ (or_left_none (word_bit (here / 2 ^ near) j) (word_bit (high * 2 % 2 ^ 64 * 2 ^ (WORD_BITS - 1 - near) % 2 ^ 64) j) (word_bit-shr here near (j + near) j refl ∙ past_end here (j + near) fits (omega arith))
+    ∙ (word_bit-shl (high * 2 % 2 ^ 64) (WORD_BITS - 1 - near) (i + 1) j (omega arith) lt
     ∙ word_bit-shl high 1 i (i + 1) refl (omega arith)))
 
 -- where each of two words in a row has the bits of the squares that pass a test, so has the word that is slid from them
-module _ (test : ℕ → Bool) (place far near by out here aside : ℕ) (parts : by ≡ 64 * far + near) (small : near < 64) where
+module _ (test : ℕ → Bool) (place far near by out here aside : ℕ) (parts : by ≡ WORD_BITS * far + near) (small : near < WORD_BITS) where
   -- of the squares `by` numbers before
-  pub seen_before : ((m : ℕ) → m < 64 → far ≤ place → word_bit here m ≡ test (64 * (place - far) + m))
-      → ((m : ℕ) → m < 64 → far + 1 ≤ place → word_bit aside m ≡ test (64 * (place - (far + 1)) + m))
-      → ((i j : ℕ) → j < 64 → i + near ≡ j → word_bit out j ≡ word_bit here i)
-      → ((i j : ℕ) → i < 64 → i + near ≡ j + 64 → word_bit out j ≡ word_bit aside i)
-      → (i j : ℕ) → j < 64 → i + by ≡ 64 * place + j → word_bit out j ≡ test i
+  pub seen_before : ((m : ℕ) → m < WORD_BITS → far ≤ place → word_bit here m ≡ test (WORD_BITS * (place - far) + m))
+      → ((m : ℕ) → m < WORD_BITS → far + 1 ≤ place → word_bit aside m ≡ test (WORD_BITS * (place - (far + 1)) + m))
+      → ((i j : ℕ) → j < WORD_BITS → i + near ≡ j → word_bit out j ≡ word_bit here i)
+      → ((i j : ℕ) → i < WORD_BITS → i + near ≡ j + WORD_BITS → word_bit out j ≡ word_bit aside i)
+      → (i j : ℕ) → j < WORD_BITS → i + by ≡ WORD_BITS * place + j → word_bit out j ≡ test i
   seen_before at_here at_aside from_here from_aside i j lt e = elim (cases_lt j near) [
     | inl less ↦
-        (let m : ℕ = j + 64 - near in
-        let at : 64 * (place - (far + 1)) + m ≡ i = omega arith in
+        (let m : ℕ = j + WORD_BITS - near in
+        let at : WORD_BITS * (place - (far + 1)) + m ≡ i = omega arith in
         from_aside m j (omega arith) (omega arith) ∙ (at_aside m (omega arith) (omega arith) ∙ ap test at))
     | inr ge ↦
         (let m : ℕ = j - near in
-        let at : 64 * (place - far) + m ≡ i = omega arith in
+        let at : WORD_BITS * (place - far) + m ≡ i = omega arith in
         from_here m j lt (omega arith) ∙ (at_here m (omega arith) (omega arith) ∙ ap test at))
   ]
 
   -- and of none where the numbers do not go so far down
   pub none_before : (place < far → here ≡ 0) → (place < far + 1 → aside ≡ 0)
-      → ((i j : ℕ) → j < 64 → i + near ≡ j → word_bit out j ≡ word_bit here i)
-      → ((i j : ℕ) → i < 64 → i + near ≡ j + 64 → word_bit out j ≡ word_bit aside i)
-      → (j : ℕ) → j < 64 → 64 * place + j < by → word_bit out j ≡ false
+      → ((i j : ℕ) → j < WORD_BITS → i + near ≡ j → word_bit out j ≡ word_bit here i)
+      → ((i j : ℕ) → i < WORD_BITS → i + near ≡ j + WORD_BITS → word_bit out j ≡ word_bit aside i)
+      → (j : ℕ) → j < WORD_BITS → WORD_BITS * place + j < by → word_bit out j ≡ false
   none_before no_here no_aside from_here from_aside j lt low = elim (cases_lt j near) [
     | inl less ↦
-        (let m : ℕ = j + 64 - near in
+        (let m : ℕ = j + WORD_BITS - near in
         from_aside m j (omega arith) (omega arith) ∙ (ap (λ (w : ℕ). word_bit w m) (no_aside (omega arith)) ∙ word_bit-zero m))
     | inr ge ↦
         (let m : ℕ = j - near in
@@ -199,17 +200,17 @@ module _ (test : ℕ → Bool) (place far near by out here aside : ℕ) (parts :
   ]
 
   -- of the squares `by` numbers after
-  pub seen_after : ((m : ℕ) → m < 64 → word_bit here m ≡ test (64 * (place + far) + m))
-      → ((m : ℕ) → m < 64 → word_bit aside m ≡ test (64 * (place + far + 1) + m))
-      → ((i j : ℕ) → i < 64 → i ≡ j + near → word_bit out j ≡ word_bit here i)
-      → ((i j : ℕ) → j < 64 → i + 64 ≡ j + near → word_bit out j ≡ word_bit aside i)
-      → (i j : ℕ) → j < 64 → i ≡ 64 * place + j + by → word_bit out j ≡ test i
-  seen_after at_here at_aside from_here from_aside i j lt e = elim (cases_lt (j + near) 64) [
+  pub seen_after : ((m : ℕ) → m < WORD_BITS → word_bit here m ≡ test (WORD_BITS * (place + far) + m))
+      → ((m : ℕ) → m < WORD_BITS → word_bit aside m ≡ test (WORD_BITS * (place + far + 1) + m))
+      → ((i j : ℕ) → i < WORD_BITS → i ≡ j + near → word_bit out j ≡ word_bit here i)
+      → ((i j : ℕ) → j < WORD_BITS → i + WORD_BITS ≡ j + near → word_bit out j ≡ word_bit aside i)
+      → (i j : ℕ) → j < WORD_BITS → i ≡ WORD_BITS * place + j + by → word_bit out j ≡ test i
+  seen_after at_here at_aside from_here from_aside i j lt e = elim (cases_lt (j + near) WORD_BITS) [
     | inl less ↦
-        (let at : 64 * (place + far) + (j + near) ≡ i = omega arith in
+        (let at : WORD_BITS * (place + far) + (j + near) ≡ i = omega arith in
         from_here (j + near) j less refl ∙ (at_here (j + near) less ∙ ap test at))
     | inr ge ↦
-        (let m : ℕ = j + near - 64 in
-        let at : 64 * (place + far + 1) + m ≡ i = omega arith in
+        (let m : ℕ = j + near - WORD_BITS in
+        let at : WORD_BITS * (place + far + 1) + m ≡ i = omega arith in
         from_aside m j lt (omega arith) ∙ (at_aside m (omega arith) ∙ ap test at))
   ]

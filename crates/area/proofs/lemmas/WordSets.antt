@@ -5,6 +5,7 @@ use Rattle.std.specs.Int.RustNames.{bit_and, bit_or}
 use Rattle.std.proofs.lemmas.Bool.{cases_lt, cases_eq, cases_order, and_parts, not-true, cases_Bool, eq-eqb, ne_eqb, eqb-true, true≢false}
 use Rattle.std.proofs.lemmas.List.{get_or-set_same, get_or-set_other, get_or-replicate, get_or_past, length-replicate}
 use Rattle.std.proofs.lemmas.Nat.Bits.{bit_at_set_same, bit_at_set_other, bit_at_clear_same, bit_at_clear_other, bit_at-trailing_zeros}
+use Rattle.grid.specs.declared.masks.TheConstants.{WORD_BITS}
 use Rattle.grid.specs.Masks.{has_bit}
 use Rattle.grid.specs.Squares.{Squares, contains, is_rising, rises_from}
 use Rattle.grid.proofs.lemmas.Squares.{rises_from-cons, rises_from-weaker}
@@ -30,14 +31,14 @@ and_false : (a : Bool) → (a && false) ≡ false
 and_false true = refl
 and_false false = refl
 
-set_bit : (w k j : ℕ) → k < 64 → word_bit (bit_or w (1 * 2 ^ k % 2 ^ 64)) j ≡ (word_bit w j || eqb k j)
+set_bit : (w k j : ℕ) → k < WORD_BITS → word_bit (bit_or w (1 * 2 ^ k % 2 ^ 64)) j ≡ (word_bit w j || eqb k j)
 unfolding word_bit
 set_bit w k j lt = elim (cases_eq j k) [
   | inl e ↦ ap (λ (x : ℕ). eqb x 1) (ap (bit_at (bit_or w (1 * 2 ^ k % 2 ^ 64))) e ∙ bit_at_set_same w64 w k lt) ∙ sym (ap (λ (b : Bool). eqb (bit_at w j) 1 || b) (eq-eqb k j (sym e)) ∙ or_true (eqb (bit_at w j) 1))
   | inr ne ↦ ap (λ (x : ℕ). eqb x 1) (bit_at_set_other w64 w k lt j ne) ∙ sym (ap (λ (b : Bool). eqb (bit_at w j) 1 || b) (ne_eqb k j (λ e. ne (sym e))) ∙ or_false (eqb (bit_at w j) 1))
 ]
 
-pub cleared_bit : (w k j : ℕ) → k < 64 → j < 64 → word_bit (bit_and w (bit_not w64 (1 * 2 ^ k % 2 ^ 64))) j ≡ (word_bit w j && not (eqb k j))
+pub cleared_bit : (w k j : ℕ) → k < WORD_BITS → j < WORD_BITS → word_bit (bit_and w (bit_not w64 (1 * 2 ^ k % 2 ^ 64))) j ≡ (word_bit w j && not (eqb k j))
 unfolding word_bit
 cleared_bit w k j lt in_word = elim (cases_eq j k) [
   | inl e ↦ ap (λ (x : ℕ). eqb x 1) (ap (bit_at (bit_and w (bit_not w64 (1 * 2 ^ k % 2 ^ 64)))) e ∙ bit_at_clear_same w64 w k lt) ∙ sym (ap (λ (b : Bool). eqb (bit_at w j) 1 && not b) (eq-eqb k j (sym e)) ∙ and_false (eqb (bit_at w j) 1))
@@ -52,54 +53,54 @@ same_test a b c d f g = elim (cases_eq a b) [
 ]
 
 -- the set with one square more
-pub bit_put : (words : List ℕ) (read square q : ℕ) → read ≡ square → read / 64 < length words → has_bit (set words (read / 64) (bit_or (get_or words (read / 64) 0) (1 * 2 ^ (read % 64) % 2 ^ 64))) q ≡ (has_bit words q || eqb square q)
-bit_put words read square q at inside = elim (cases_eq (q / 64) (read / 64)) [
+pub bit_put : (words : List ℕ) (read square q : ℕ) → read ≡ square → read / WORD_BITS < length words → has_bit (set words (read / WORD_BITS) (bit_or (get_or words (read / WORD_BITS) 0) (1 * 2 ^ (read % WORD_BITS) % 2 ^ 64))) q ≡ (has_bit words q || eqb square q)
+bit_put words read square q at inside = elim (cases_eq (q / WORD_BITS) (read / WORD_BITS)) [
   | inl e ↦
       has_bit-parts new q
-      ∙ (ap (λ (k : ℕ). word_bit (get_or new k 0) (q % 64)) e
-      ∙ (ap (λ (w : ℕ). word_bit w (q % 64)) (get_or-set_same words (read / 64) (bit_or (get_or words (read / 64) 0) (1 * 2 ^ (read % 64) % 2 ^ 64)) 0 inside)
-      ∙ (set_bit (get_or words (read / 64) 0) (read % 64) (q % 64) (square_parts read).1
-      ∙ (ap (λ (b : Bool). b || eqb (read % 64) (q % 64)) (sym (has_bit-parts words q ∙ ap (λ (k : ℕ). word_bit (get_or words k 0) (q % 64)) e))
-      ∙ ap (λ (b : Bool). has_bit words q || b) (same_test (read % 64) (q % 64) square q (λ f. omega arith) (λ f. omega arith))))))
+      ∙ (ap (λ (k : ℕ). word_bit (get_or new k 0) (q % WORD_BITS)) e
+      ∙ (ap (λ (w : ℕ). word_bit w (q % WORD_BITS)) (get_or-set_same words (read / WORD_BITS) (bit_or (get_or words (read / WORD_BITS) 0) (1 * 2 ^ (read % WORD_BITS) % 2 ^ 64)) 0 inside)
+      ∙ (set_bit (get_or words (read / WORD_BITS) 0) (read % WORD_BITS) (q % WORD_BITS) (square_parts read).1
+      ∙ (ap (λ (b : Bool). b || eqb (read % WORD_BITS) (q % WORD_BITS)) (sym (has_bit-parts words q ∙ ap (λ (k : ℕ). word_bit (get_or words k 0) (q % WORD_BITS)) e))
+      ∙ ap (λ (b : Bool). has_bit words q || b) (same_test (read % WORD_BITS) (q % WORD_BITS) square q (λ f. omega arith) (λ f. omega arith))))))
   | inr ne ↦
       has_bit-parts new q
-      ∙ (ap (λ (w : ℕ). word_bit w (q % 64)) (get_or-set_other words (read / 64) (q / 64) (bit_or (get_or words (read / 64) 0) (1 * 2 ^ (read % 64) % 2 ^ 64)) 0 ne)
+      ∙ (ap (λ (w : ℕ). word_bit w (q % WORD_BITS)) (get_or-set_other words (read / WORD_BITS) (q / WORD_BITS) (bit_or (get_or words (read / WORD_BITS) 0) (1 * 2 ^ (read % WORD_BITS) % 2 ^ 64)) 0 ne)
       ∙ (sym (has_bit-parts words q)
-      ∙ sym (ap (λ (b : Bool). has_bit words q || b) (ne_eqb square q (λ f. ne (ap (λ (x : ℕ). x / 64) (sym f ∙ sym at)))) ∙ or_false (has_bit words q))))
+      ∙ sym (ap (λ (b : Bool). has_bit words q || b) (ne_eqb square q (λ f. ne (ap (λ (x : ℕ). x / WORD_BITS) (sym f ∙ sym at)))) ∙ or_false (has_bit words q))))
 ]
   where
     new : List ℕ
-    new = set words (read / 64) (bit_or (get_or words (read / 64) 0) (1 * 2 ^ (read % 64) % 2 ^ 64))
+    new = set words (read / WORD_BITS) (bit_or (get_or words (read / WORD_BITS) 0) (1 * 2 ^ (read % WORD_BITS) % 2 ^ 64))
 
 -- the set with one square less
-pub bit_take : (words : List ℕ) (read square q : ℕ) → read ≡ square → read / 64 < length words → has_bit (set words (read / 64) (bit_and (get_or words (read / 64) 0) (bit_not w64 (1 * 2 ^ (read % 64) % 2 ^ 64)))) q ≡ (has_bit words q && not (eqb square q))
-bit_take words read square q at inside = elim (cases_eq (q / 64) (read / 64)) [
+pub bit_take : (words : List ℕ) (read square q : ℕ) → read ≡ square → read / WORD_BITS < length words → has_bit (set words (read / WORD_BITS) (bit_and (get_or words (read / WORD_BITS) 0) (bit_not w64 (1 * 2 ^ (read % WORD_BITS) % 2 ^ 64)))) q ≡ (has_bit words q && not (eqb square q))
+bit_take words read square q at inside = elim (cases_eq (q / WORD_BITS) (read / WORD_BITS)) [
   | inl e ↦
       has_bit-parts new q
-      ∙ (ap (λ (k : ℕ). word_bit (get_or new k 0) (q % 64)) e
-      ∙ (ap (λ (w : ℕ). word_bit w (q % 64)) (get_or-set_same words (read / 64) left 0 inside)
-      ∙ (cleared_bit (get_or words (read / 64) 0) (read % 64) (q % 64) (square_parts read).1 (square_parts q).1
-      ∙ (ap (λ (b : Bool). b && not (eqb (read % 64) (q % 64))) (sym (has_bit-parts words q ∙ ap (λ (k : ℕ). word_bit (get_or words k 0) (q % 64)) e))
-      ∙ ap (λ (b : Bool). has_bit words q && not b) (same_test (read % 64) (q % 64) square q (λ f. omega arith) (λ f. omega arith))))))
+      ∙ (ap (λ (k : ℕ). word_bit (get_or new k 0) (q % WORD_BITS)) e
+      ∙ (ap (λ (w : ℕ). word_bit w (q % WORD_BITS)) (get_or-set_same words (read / WORD_BITS) left 0 inside)
+      ∙ (cleared_bit (get_or words (read / WORD_BITS) 0) (read % WORD_BITS) (q % WORD_BITS) (square_parts read).1 (square_parts q).1
+      ∙ (ap (λ (b : Bool). b && not (eqb (read % WORD_BITS) (q % WORD_BITS))) (sym (has_bit-parts words q ∙ ap (λ (k : ℕ). word_bit (get_or words k 0) (q % WORD_BITS)) e))
+      ∙ ap (λ (b : Bool). has_bit words q && not b) (same_test (read % WORD_BITS) (q % WORD_BITS) square q (λ f. omega arith) (λ f. omega arith))))))
   | inr ne ↦
       has_bit-parts new q
-      ∙ (ap (λ (w : ℕ). word_bit w (q % 64)) (get_or-set_other words (read / 64) (q / 64) left 0 ne)
+      ∙ (ap (λ (w : ℕ). word_bit w (q % WORD_BITS)) (get_or-set_other words (read / WORD_BITS) (q / WORD_BITS) left 0 ne)
       ∙ (sym (has_bit-parts words q)
-      ∙ sym (ap (λ (b : Bool). has_bit words q && not b) (ne_eqb square q (λ f. ne (ap (λ (x : ℕ). x / 64) (sym f ∙ sym at)))) ∙ and_true (has_bit words q))))
+      ∙ sym (ap (λ (b : Bool). has_bit words q && not b) (ne_eqb square q (λ f. ne (ap (λ (x : ℕ). x / WORD_BITS) (sym f ∙ sym at)))) ∙ and_true (has_bit words q))))
 ]
   where
     left : ℕ
-    left = bit_and (get_or words (read / 64) 0) (bit_not w64 (1 * 2 ^ (read % 64) % 2 ^ 64))
+    left = bit_and (get_or words (read / WORD_BITS) 0) (bit_not w64 (1 * 2 ^ (read % WORD_BITS) % 2 ^ 64))
 
     new : List ℕ
-    new = set words (read / 64) left
+    new = set words (read / WORD_BITS) left
 
 -- the set without squares
 pub none_set : (words : List ℕ) (n q : ℕ) → words ≡ replicate n 0 → has_bit words q ≡ false
 none_set words n q e =
     ap (λ (ws : List ℕ). has_bit ws q) e
     ∙ (has_bit-parts (replicate n 0) q
-    ∙ (ap (λ (w : ℕ). word_bit w (q % 64)) (zeros (q / 64)) ∙ word_bit-zero (q % 64)))
+    ∙ (ap (λ (w : ℕ). word_bit w (q % WORD_BITS)) (zeros (q / WORD_BITS)) ∙ word_bit-zero (q % WORD_BITS)))
   where
     zeros : (k : ℕ) → get_or {A = ℕ} (replicate n 0) k 0 ≡ 0
     zeros k = elim (cases_lt k n) [
@@ -108,15 +109,15 @@ none_set words n q e =
     ]
 
 -- a word without the bit of a square
-pub bit_without : (place word read square j : ℕ) → read ≡ square → place ≡ read / 64 → j < 64 → word_bit (bit_and word (bit_not w64 (1 * 2 ^ (read % 64) % 2 ^ 64))) j ≡ (word_bit word j && not (eqb (64 * place + j) square))
+pub bit_without : (place word read square j : ℕ) → read ≡ square → place ≡ read / WORD_BITS → j < WORD_BITS → word_bit (bit_and word (bit_not w64 (1 * 2 ^ (read % WORD_BITS) % 2 ^ 64))) j ≡ (word_bit word j && not (eqb (WORD_BITS * place + j) square))
 bit_without place word read square j at same lt =
-    cleared_bit word (read % 64) j (square_parts read).1 lt
-    ∙ ap (λ (b : Bool). word_bit word j && not b) (same_test (read % 64) j (64 * place + j) square (λ f. omega arith) (λ f. omega arith))
+    cleared_bit word (read % WORD_BITS) j (square_parts read).1 lt
+    ∙ ap (λ (b : Bool). word_bit word j && not b) (same_test (read % WORD_BITS) j (WORD_BITS * place + j) square (λ f. omega arith) (λ f. omega arith))
 
 -- ---- the least square
 
 -- the lowest bit of a word
-pub lowest_bit : (word : ℕ) → 0 < word → word < 2 ^ 64 → (trailing_zeros w64 word < 64) × (word_bit word (trailing_zeros w64 word) ≡ true) × ((j : ℕ) → word_bit word j ≡ true → trailing_zeros w64 word ≤ j)
+pub lowest_bit : (word : ℕ) → 0 < word → word < 2 ^ 64 → (trailing_zeros w64 word < WORD_BITS) × (word_bit word (trailing_zeros w64 word) ≡ true) × ((j : ℕ) → word_bit word j ≡ true → trailing_zeros w64 word ≤ j)
 unfolding word_bit
 lowest_bit word some fits =
     let t = bit_at-trailing_zeros w64 word some fits in (
@@ -129,13 +130,13 @@ lowest_bit word some fits =
     )
 
 -- what is less than a place's squares is of a word before it
-pub least_word : (words : List ℕ) (place r : ℕ) → ((k : ℕ) → k < place → get_or words k 0 ≡ 0) → 0 < get_or words place 0 → get_or words place 0 < 2 ^ 64 → r ≡ 64 * place + trailing_zeros w64 (get_or words place 0) → (has_bit words r ≡ true) × ((q : ℕ) → has_bit words q ≡ true → r ≤ q)
+pub least_word : (words : List ℕ) (place r : ℕ) → ((k : ℕ) → k < place → get_or words k 0 ≡ 0) → 0 < get_or words place 0 → get_or words place 0 < 2 ^ 64 → r ≡ WORD_BITS * place + trailing_zeros w64 (get_or words place 0) → (has_bit words r ≡ true) × ((q : ℕ) → has_bit words q ≡ true → r ≤ q)
 least_word words place r none some fits e =
     let t = lowest_bit (get_or words place 0) some fits in (
       ap (has_bit words) e ∙ (has_bit-at words place (trailing_zeros w64 (get_or words place 0)) t.0 ∙ t.1),
-      λ q h. elim (cases_order (q / 64) place) [
-        | inl same ↦ (let p = t.2 (q % 64) (sym (has_bit-parts words q ∙ ap (λ (k : ℕ). word_bit (get_or words k 0) (q % 64)) same) ∙ h) in omega (arith, p))
-        | inr (inl less) ↦ absurd (true≢false (sym h ∙ (has_bit-parts words q ∙ (ap (λ (w : ℕ). word_bit w (q % 64)) (none (q / 64) less) ∙ word_bit-zero (q % 64)))))
+      λ q h. elim (cases_order (q / WORD_BITS) place) [
+        | inl same ↦ (let p = t.2 (q % WORD_BITS) (sym (has_bit-parts words q ∙ ap (λ (k : ℕ). word_bit (get_or words k 0) (q % WORD_BITS)) same) ∙ h) in omega (arith, p))
+        | inr (inl less) ↦ absurd (true≢false (sym h ∙ (has_bit-parts words q ∙ (ap (λ (w : ℕ). word_bit w (q % WORD_BITS)) (none (q / WORD_BITS) less) ∙ word_bit-zero (q % WORD_BITS)))))
         | inr (inr more) ↦ (let p = t.0 in omega (arith, p))
       ],
     )
@@ -144,7 +145,7 @@ least_word words place r none some fits e =
 pub none_there : (words : List ℕ) (n q : ℕ) → ((k : ℕ) → k < n → get_or words k 0 ≡ 0) → length words ≤ n → has_bit words q ≡ true → ⊥
 none_there words n q none all h =
     let lt = has_bit_inside words q h in
-    true≢false (sym h ∙ (has_bit-parts words q ∙ (ap (λ (w : ℕ). word_bit w (q % 64)) (none (q / 64) (omega arith)) ∙ word_bit-zero (q % 64))))
+    true≢false (sym h ∙ (has_bit-parts words q ∙ (ap (λ (w : ℕ). word_bit w (q % WORD_BITS)) (none (q / WORD_BITS) (omega arith)) ∙ word_bit-zero (q % WORD_BITS))))
 
 -- ---- the list of the squares
 
@@ -183,12 +184,12 @@ passing_past test k (suc n) q ge = skip (test k) (passing_past test (suc k) n q 
 -- a square is in the list where the words have its bit
 pub contains-squares_of : (words : List ℕ) (q : ℕ) → contains (squares_of words) q ≡ has_bit words q
 unfolding squares_of
-contains-squares_of words q = elim (cases_lt q (64 * length words)) [
-  | inl lt ↦ passing_within (has_bit words) 0 (64 * length words) q (omega arith) (omega arith)
-  | inr ge ↦ passing_past (has_bit words) 0 (64 * length words) q (omega arith) ∙ sym (past ge (cases_Bool (has_bit words q)))
+contains-squares_of words q = elim (cases_lt q (WORD_BITS * length words)) [
+  | inl lt ↦ passing_within (has_bit words) 0 (WORD_BITS * length words) q (omega arith) (omega arith)
+  | inr ge ↦ passing_past (has_bit words) 0 (WORD_BITS * length words) q (omega arith) ∙ sym (past ge (cases_Bool (has_bit words q)))
 ]
   where
-    past : 64 * length words ≤ q → (has_bit words q ≡ true) ⊎ (has_bit words q ≡ false) → has_bit words q ≡ false
+    past : WORD_BITS * length words ≤ q → (has_bit words q ≡ true) ⊎ (has_bit words q ≡ false) → has_bit words q ≡ false
     past ge (inl h) = absurd (let lt = has_bit_inside words q h in omega arith)
     past ge (inr h) = h
 
@@ -210,7 +211,7 @@ passing_rise test k (suc n) = with_first (test k) (passing_rise test (suc k) n)
 
 pub squares_of_rise : (words : List ℕ) → is_rising (squares_of words) ≡ true
 unfolding squares_of
-squares_of_rise words = passing_rise (has_bit words) 0 (64 * length words)
+squares_of_rise words = passing_rise (has_bit words) 0 (WORD_BITS * length words)
 
 -- the same where the words and the list have names
 pub listed : (words seen : List ℕ) (squares : Squares) (q : ℕ) → squares_of words ≡ squares → seen ≡ words → contains squares q ≡ has_bit seen q
@@ -218,21 +219,21 @@ listed words seen squares q list same =
     ap (λ (xs : Squares). contains xs q) (sym list) ∙ (contains-squares_of words q ∙ ap (λ (ws : List ℕ). has_bit ws q) (sym same))
 
 -- the squares of the words before a place are none but `but`
-pub below_word : (words : List ℕ) (but place word rest : ℕ) → ((q : ℕ) → q < 64 * place → has_bit words q ≡ true → q ≡ but) → word ≡ get_or words place 0 → ((j : ℕ) → j < 64 → word_bit rest j ≡ (word_bit word j && not (eqb (64 * place + j) but))) → rest ≡ 0 → (q : ℕ) → q < 64 * (place + 1) → has_bit words q ≡ true → q ≡ but
-below_word words but place word rest below at bits none q lt h = elim (cases_lt q (64 * place)) [
+pub below_word : (words : List ℕ) (but place word rest : ℕ) → ((q : ℕ) → q < WORD_BITS * place → has_bit words q ≡ true → q ≡ but) → word ≡ get_or words place 0 → ((j : ℕ) → j < WORD_BITS → word_bit rest j ≡ (word_bit word j && not (eqb (WORD_BITS * place + j) but))) → rest ≡ 0 → (q : ℕ) → q < WORD_BITS * (place + 1) → has_bit words q ≡ true → q ≡ but
+below_word words but place word rest below at bits none q lt h = elim (cases_lt q (WORD_BITS * place)) [
   | inl less ↦ below q less h
   | inr ge ↦
-      (let same : q / 64 ≡ place = omega arith in
-      let whole : 64 * place + q % 64 ≡ q = omega arith in
-      let here : word_bit word (q % 64) ≡ true = ap (λ (w : ℕ). word_bit w (q % 64)) at ∙ (sym (has_bit-parts words q ∙ ap (λ (k : ℕ). word_bit (get_or words k 0) (q % 64)) same) ∙ h) in
-      elim (cases_eq (64 * place + q % 64) but) [
+      (let same : q / WORD_BITS ≡ place = omega arith in
+      let whole : WORD_BITS * place + q % WORD_BITS ≡ q = omega arith in
+      let here : word_bit word (q % WORD_BITS) ≡ true = ap (λ (w : ℕ). word_bit w (q % WORD_BITS)) at ∙ (sym (has_bit-parts words q ∙ ap (λ (k : ℕ). word_bit (get_or words k 0) (q % WORD_BITS)) same) ∙ h) in
+      elim (cases_eq (WORD_BITS * place + q % WORD_BITS) but) [
         | inl e ↦ sym whole ∙ e
-        | inr ne ↦ absurd (true≢false (sym (bits (q % 64) (square_parts q).1 ∙ (ap (λ (b : Bool). b && not (eqb (64 * place + q % 64) but)) here ∙ ap not (ne_eqb (64 * place + q % 64) but ne))) ∙ (ap (λ (w : ℕ). word_bit w (q % 64)) none ∙ word_bit-zero (q % 64))))
+        | inr ne ↦ absurd (true≢false (sym (bits (q % WORD_BITS) (square_parts q).1 ∙ (ap (λ (b : Bool). b && not (eqb (WORD_BITS * place + q % WORD_BITS) but)) here ∙ ap not (ne_eqb (WORD_BITS * place + q % WORD_BITS) but ne))) ∙ (ap (λ (w : ℕ). word_bit w (q % WORD_BITS)) none ∙ word_bit-zero (q % WORD_BITS))))
       ])
 ]
 
 -- the least of a word's squares but for `but`, or one that is less, is the least of all
-pub least_rest : (words : List ℕ) (but more place word rest r : ℕ) → ((q : ℕ) → q < 64 * place → has_bit words q ≡ true → q ≡ but) → word ≡ get_or words place 0 → ((j : ℕ) → j < 64 → word_bit rest j ≡ (word_bit word j && not (eqb (64 * place + j) but))) → 0 < rest → rest < 2 ^ 64 → r ≡ min (64 * place + trailing_zeros w64 rest) more → IsLeastWith (squares_of words) but more r
+pub least_rest : (words : List ℕ) (but more place word rest r : ℕ) → ((q : ℕ) → q < WORD_BITS * place → has_bit words q ≡ true → q ≡ but) → word ≡ get_or words place 0 → ((j : ℕ) → j < WORD_BITS → word_bit rest j ≡ (word_bit word j && not (eqb (WORD_BITS * place + j) but))) → 0 < rest → rest < 2 ^ 64 → r ≡ min (WORD_BITS * place + trailing_zeros w64 rest) more → IsLeastWith (squares_of words) but more r
 least_rest words but more place word rest r below at bits some fits e = record {
   one = elim (cases_lt more first) [
     | inl lt ↦ inl (omega arith)
@@ -243,9 +244,9 @@ least_rest words but more place word rest r below at bits some fits e = record {
 }
   where
     first : ℕ
-    first = 64 * place + trailing_zeros w64 rest
+    first = WORD_BITS * place + trailing_zeros w64 rest
 
-    low : (trailing_zeros w64 rest < 64) × (word_bit rest (trailing_zeros w64 rest) ≡ true) × ((j : ℕ) → word_bit rest j ≡ true → trailing_zeros w64 rest ≤ j)
+    low : (trailing_zeros w64 rest < WORD_BITS) × (word_bit rest (trailing_zeros w64 rest) ≡ true) × ((j : ℕ) → word_bit rest j ≡ true → trailing_zeros w64 rest ≤ j)
     low = lowest_bit rest some fits
 
     parts : (word_bit word (trailing_zeros w64 rest) ≡ true) × (not (eqb first but) ≡ true)
@@ -261,18 +262,18 @@ least_rest words but more place word rest r below at bits some fits e = record {
     is_first le = omega (arith, e, le)
 
     no_less : (q : ℕ) → has_bit words q ≡ true → q ≢ but → first ≤ q
-    no_less q h ne = elim (cases_order (q / 64) place) [
+    no_less q h ne = elim (cases_order (q / WORD_BITS) place) [
       | inl same ↦
-          (let whole : 64 * place + q % 64 ≡ q = omega arith in
-          let here : word_bit word (q % 64) ≡ true = ap (λ (w : ℕ). word_bit w (q % 64)) at ∙ (sym (has_bit-parts words q ∙ ap (λ (k : ℕ). word_bit (get_or words k 0) (q % 64)) same) ∙ h) in
-          let p = low.2 (q % 64) (bits (q % 64) (square_parts q).1 ∙ (ap (λ (b : Bool). b && not (eqb (64 * place + q % 64) but)) here ∙ ap not (ne_eqb (64 * place + q % 64) but (λ f. ne (sym whole ∙ f))))) in
+          (let whole : WORD_BITS * place + q % WORD_BITS ≡ q = omega arith in
+          let here : word_bit word (q % WORD_BITS) ≡ true = ap (λ (w : ℕ). word_bit w (q % WORD_BITS)) at ∙ (sym (has_bit-parts words q ∙ ap (λ (k : ℕ). word_bit (get_or words k 0) (q % WORD_BITS)) same) ∙ h) in
+          let p = low.2 (q % WORD_BITS) (bits (q % WORD_BITS) (square_parts q).1 ∙ (ap (λ (b : Bool). b && not (eqb (WORD_BITS * place + q % WORD_BITS) but)) here ∙ ap not (ne_eqb (WORD_BITS * place + q % WORD_BITS) but (λ f. ne (sym whole ∙ f))))) in
           omega (arith, p))
       | inr (inl less) ↦ absurd (ne (below q (omega arith) h))
       | inr (inr more_than) ↦ (let p = low.0 in omega (arith, p))
     ]
 
 -- where nothing is in the set but `but`, the one more is the least
-pub least_none : (words : List ℕ) (but more n : ℕ) → ((q : ℕ) → q < 64 * n → has_bit words q ≡ true → q ≡ but) → length words ≤ n → IsLeastWith (squares_of words) but more more
+pub least_none : (words : List ℕ) (but more n : ℕ) → ((q : ℕ) → q < WORD_BITS * n → has_bit words q ≡ true → q ≡ but) → length words ≤ n → IsLeastWith (squares_of words) but more more
 least_none words but more n below all = record {
   one = inl refl;
   most = omega arith;

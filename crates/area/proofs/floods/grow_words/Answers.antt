@@ -1,4 +1,5 @@
 use Rattle.std.proofs.Common.{◌≡◌, ℕ, ◌+◌, ◌-◌, ◌/◌, inr, sym, subst, arith}
+use Rattle.grid.specs.declared.masks.TheConstants.{WORD_BITS}
 use Rattle.area.specs.inside.Flooding.{IsFlooding}
 use Rattle.area.proofs.Visiting.{growing_then, flooding_on, flooding_back, flooded}
 use Rattle.area.proofs.floods.grow_words.Goals as goal
@@ -6,7 +7,7 @@ use Rattle.area.proofs.floods.grow_words.Goals as goal
 pub loop-place-preserved-then-settle : goal.loop-place-preserved-then-settle
 loop-place-preserved-then-settle c =
     let visit = c.settle.ensures c.args.level.now c.step_masks-masks.ensures (sym c.cols-cols.ensures) in
-    let e : c.loop-place.place - (c.cols-cols.result / 64 + 1) ≡ c.saturating_sub-place.result = sym c.saturating_sub-place.ensures in
+    let e : c.loop-place.place - (c.cols-cols.result / WORD_BITS + 1) ≡ c.saturating_sub-place.result = sym c.saturating_sub-place.ensures in
     (subst (λ (n : ℕ). IsFlooding c.args.level.now c.args.boxes.now n c.args.reached.now c.settle.new.reached) e (flooding_back c.args.level.now c.args.boxes.now c.args.reached.now c.loop-place.reached c.settle.new.reached c.loop-place.place _ c.settle.result (omega (arith, c.cols-cols.ensures)) c.loop-place.invariant.0 visit), omega (arith, e, c.loop-place.invariant.1))
 
 pub loop-place-preserved : goal.loop-place-preserved
