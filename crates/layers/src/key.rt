@@ -1,5 +1,7 @@
 //! Positions in as few bytes as their boxes want, which is what a book holds.
-ghost use Rattle.std.specs.Prelude.{◌≡◌, ◌≤◌, true, length};
+ghost use Rattle.std.specs.Prelude.{◌≡◌, ◌≤◌, true, nat_eq, length};
+ghost use Rattle.std.specs.Cmp.Lexicographic.{pointwise};
+ghost use Rattle.layers.specs.Origins.{same_scene};
 
 use arrayvec::ArrayVec;
 use grid::{MAX_BOXES, Position, Square, hash_squares};
@@ -7,7 +9,7 @@ use std::hash::{Hash, Hasher};
 use std::marker::Model;
 
 /// A position of at most `N` boxes.
-#[derive(PartialEq, Eq, Debug, Drop)]
+#[derive(Debug, Drop)]
 pub(crate) struct Key<const N: usize> {
     boxes: ArrayVec<Square, N>,
     player: Square,
@@ -75,6 +77,45 @@ impl<const N: usize> Key<N> {
     {
         self.player
     }
+}
+
+impl<const N: usize> PartialEq for Key<N> {
+    ghost use Rattle.std.proofs.Common.{rules};
+    ghost use Rattle.std.specs.Cmp.Rules.{comparing};
+    ghost use Rattle.layers.specs.Origins.{same_scene};
+
+    ghost eq = { same_scene };
+
+    ghost laws = { Prim.search (comparing, rules) };
+
+    /// Whether the keys are of one position.
+    fn eq(&self, other: &Key<N>) -> bool
+        ensures { result ≡ same_scene self.now other.now }
+    {
+        same_squares(self.boxes.as_slice(), other.boxes.as_slice()) && self.player == other.player
+    }
+}
+
+impl<const N: usize> Eq for Key<N> {
+    ghost use Rattle.std.proofs.Common.{rules};
+    ghost use Rattle.std.specs.Cmp.Rules.{comparing};
+
+    ghost laws = { Prim.search (comparing, rules) };
+}
+
+// Whether the squares are the same. A map asks this of keys with one hash, which are mostly the same, so it goes on to the
+// end, by several squares at once.
+fn same_squares(squares: &[Square], others: &[Square]) -> bool
+    ensures { result ≡ pointwise nat_eq squares.now others.now }
+{
+    if squares.len() != others.len() {
+        return false;
+    }
+    let mut same = true;
+    for (place, square) in squares.iter().enumerate() {
+        same &= *square == others[place];
+    }
+    same
 }
 
 impl<const N: usize> Hash for Key<N> {
