@@ -1,14 +1,17 @@
 -- Boxes that nothing holds are taken out word by word; what is left holds itself, and is the largest set that does.
-use Rattle.std.proofs.Common.{◌≡◌, ◌≢◌, ◌↔◌, ◌<◌, ◌≤◌, ◌+◌, ◌-◌, ◌*◌, ◌/◌, ◌%◌, ◌^◌, ℕ, Bool, true, false, not, eqb, ◌||◌, List, IsTrue, length, get_or, set, refl, sym, ap, subst, ◌∙◌, inl, inr, arith}
+use Rattle.std.proofs.Common.{◌≡◌, ◌≢◌, ◌↔◌, ◌<◌, ◌≤◌, ◌+◌, ◌-◌, ◌*◌, ◌/◌, ◌%◌, ◌^◌, ℕ, Bool, true, false, not, eqb, ◌&&◌, ◌||◌, ◌⊎◌, List, [], ◌∷◌, IsTrue, length, get_or, set, refl, sym, ap, subst, ◌∙◌, inl, inr, arith}
 use Rattle.std.specs.Int.{bit_not, trailing_zeros, w64}
 use Rattle.std.specs.Int.RustNames.{bit_and, bit_or}
-use Rattle.std.proofs.lemmas.Bool.{false≢true, true≢false, cases_eq, cases_lt, or_cases, or_left, or_right, eqb-true, eqb-false, not-true, not_from_false}
+use Rattle.std.proofs.lemmas.Bool.{false≢true, true≢false, cases_eq, cases_lt, or_cases, or_left, or_right, eqb-true, eqb-false, not-true, not_from_false, and_parts, and_from}
 use Rattle.std.proofs.lemmas.List.{get_or-set_same, get_or-set_other, set-get_or}
+use Rattle.std.proofs.lemmas.List.Folds.{list_any_at}
+use Rattle.std.specs.List.{list_any}
 use Rattle.std.proofs.lemmas.List.Sums.{sum_by-set}
 use Rattle.std.proofs.lemmas.Nat.{and_le_l}
 use Rattle.grid.specs.declared.masks.TheConstants.{WORD_BITS}
 use Rattle.grid.specs.Squares.{Squares, contains}
 use Rattle.grid.specs.Masks.{has_bit}
+use Rattle.grid.proofs.lemmas.Squares.{place_of_member}
 use Rattle.area.specs.declared.locked.Holds.{Holds}
 use Rattle.area.specs.Words.{word_bit, squares_of}
 use Rattle.area.specs.inside.Locking.{AreHeld, AreLocked, AreWithin, IsHeldBy, IsHeldTwice, IsLargest, IsLook, IsPass, weight}
@@ -116,23 +119,31 @@ module _ (holds : Holds) (cols : ℕ) (words : List ℕ) (place across along : �
       no_not true h = refl
       no_not false h = absurd (true≢false h)
 
--- ---- a pass over all words
+-- ---- a pass over words
 
--- the words before a place have been looked at
-pub record IsPassUpTo (holds : Holds) (cols : ℕ) (place : ℕ) (old now : List ℕ) (went : Bool) : Type 0 where
+-- the words at some places have been looked at
+pub record IsPassOver (holds : Holds) (cols : ℕ) (seen : ℕ → Type 0) (old now : List ℕ) (went : Bool) : Type 0 where
   pub within : AreWithin (squares_of now) (squares_of old)
   pub keeps : (others : Squares) → AreHeld holds cols others → AreWithin others (squares_of old) → AreWithin others (squares_of now)
   pub less : went ≡ true → weight now < weight old
   pub same : went ≡ false → now ≡ old
-  pub held : went ≡ false → (q : ℕ) → q / WORD_BITS < place → has_bit old q ≡ true → IsHeldTwice holds cols (squares_of old) q
+  pub held : went ≡ false → (q : ℕ) → seen (q / WORD_BITS) → has_bit old q ≡ true → IsHeldTwice holds cols (squares_of old) q
 
-pub pass_none : (holds : Holds) (cols : ℕ) (words : List ℕ) → IsPassUpTo holds cols 0 words words false
-pass_none holds cols words = record {
+-- the places before another
+abbrev pub IsBefore : ℕ → ℕ → Type 0
+IsBefore place k = k < place
+
+-- the places of the words of the first boxes
+abbrev pub IsPlaceOf : Squares → ℕ → ℕ → Type 0
+IsPlaceOf boxes n k = (i : ℕ) × (i < n) × (get_or boxes i 0 / WORD_BITS ≡ k)
+
+pub pass_none : (holds : Holds) (cols : ℕ) (seen : ℕ → Type 0) (words : List ℕ) → ((k : ℕ) → seen k → ⊥) → IsPassOver holds cols seen words words false
+pass_none holds cols seen words none = record {
   within = λ q h. h;
   keeps = λ others blocked within. within;
   less = λ h. absurd (false≢true h);
   same = λ _. refl;
-  held = λ _ q lt h. absurd (omega (arith, lt));
+  held = λ _ q at h. absurd (none (q / WORD_BITS) at);
 }
 
 -- a word without members needs no look
@@ -154,19 +165,20 @@ look_keeps : (holds : Holds) (cols : ℕ) (place : ℕ) (old new : List ℕ) (we
 look_keeps holds cols place old new went look others blocked within q h =
     bit_member new q ((look.kept q).1 (member_bit old q (within q h), λ _. (held_by_more holds.across 1 others (squares_of old) q within (blocked q h).0, held_by_more holds.along cols others (squares_of old) q within (blocked q h).1)))
 
-pub pass_more : (holds : Holds) (cols : ℕ) (place : ℕ) (old now new : List ℕ) (went gone both : Bool) → both ≡ (went || gone) → IsLook holds cols place now new gone → IsPassUpTo holds cols place old now went → IsPassUpTo holds cols (place + 1) old new both
-pass_more holds cols place old now new went gone both e look pass = subst (IsPassUpTo holds cols (place + 1) old new) (sym e) (record {
+pass_one_more : (holds : Holds) (cols : ℕ) (place : ℕ) (seen more : ℕ → Type 0) (old now new : List ℕ) (went gone both : Bool) → ((k : ℕ) → more k → (k ≡ place) ⊎ seen k) → both ≡ (went || gone)
+    → IsLook holds cols place now new gone → IsPassOver holds cols seen old now went → IsPassOver holds cols more old new both
+pass_one_more holds cols place seen more old now new went gone both last e look pass = subst (IsPassOver holds cols more old new) (sym e) (record {
   within = λ q h. pass.within q (look_within holds cols place now new gone look q h);
   keeps = λ others blocked within. look_keeps holds cols place now new gone look others blocked (pass.keeps others blocked within);
   less = less went gone pass.less pass.same look.less look.same;
   same = λ none. (let (a, b) = neither went gone none in look.same b ∙ pass.same a);
-  held = λ none q lt h.
+  held = λ none q there h.
       (let (a, b) = neither went gone none in
       let start : now ≡ old = pass.same a in
       let end : new ≡ now = look.same b in
-      elim (cases_eq (q / WORD_BITS) place) [
+      elim (last (q / WORD_BITS) there) [
         | inl at ↦ subst (λ (ws : List ℕ). IsHeldTwice holds cols (squares_of ws) q) start (((look.kept q).0 (ap (λ (ws : List ℕ). has_bit ws q) (end ∙ start) ∙ h)).1 at)
-        | inr ne ↦ pass.held a q (omega (arith, lt, ne)) h
+        | inr before ↦ pass.held a q before h
       ]);
 })
   where
@@ -180,16 +192,45 @@ pass_more holds cols place old now new went gone both e look pass = subst (IsPas
     less false true f g h i _ = subst (λ (ws : List ℕ). weight new < weight ws) (g refl) (h refl)
     less false false f g h i none = absurd (false≢true none)
 
-pub pass_done : (holds : Holds) (cols : ℕ) (place : ℕ) (old now : List ℕ) (went : Bool) → length old ≤ place → IsPassUpTo holds cols place old now went → IsPass holds cols old now went
-pass_done holds cols place old now went all pass = record {
+pass_over_all : (holds : Holds) (cols : ℕ) (seen : ℕ → Type 0) (old now : List ℕ) (went : Bool) → ((q : ℕ) → has_bit old q ≡ true → seen (q / WORD_BITS)) → IsPassOver holds cols seen old now went → IsPass holds cols old now went
+pass_over_all holds cols seen old now went all pass = record {
   within = pass.within;
   keeps = pass.keeps;
   less = pass.less;
   held = λ none. subst (λ (ws : List ℕ). AreHeld holds cols (squares_of ws)) (sym (pass.same none)) (λ q h.
-      (let there : has_bit old q ≡ true = member_bit old q h in
-      let lt = has_bit_inside old q there in
-      pass.held none q (omega (arith, lt, all)) there));
+      (let there : has_bit old q ≡ true = member_bit old q h in pass.held none q (all q there) there));
 }
+
+-- word by word
+pub pass_more : (holds : Holds) (cols : ℕ) (place : ℕ) (old now new : List ℕ) (went gone both : Bool) → both ≡ (went || gone) → IsLook holds cols place now new gone → IsPassOver holds cols (IsBefore place) old now went
+    → IsPassOver holds cols (IsBefore (place + 1)) old new both
+pass_more holds cols place old now new went gone both e look pass = pass_one_more holds cols place (IsBefore place) (IsBefore (place + 1)) old now new went gone both last e look pass
+  where
+    last : (k : ℕ) → k < place + 1 → (k ≡ place) ⊎ (k < place)
+    last k lt = elim (cases_eq k place) [
+      | inl e ↦ inl e
+      | inr ne ↦ inr (omega (arith, lt, ne))
+    ]
+
+pub pass_done : (holds : Holds) (cols : ℕ) (place : ℕ) (old now : List ℕ) (went : Bool) → length old ≤ place → IsPassOver holds cols (IsBefore place) old now went → IsPass holds cols old now went
+pass_done holds cols place old now went all pass = pass_over_all holds cols (IsBefore place) old now went (λ q h. (let lt = has_bit_inside old q h in omega (arith, lt, all))) pass
+
+-- box by box
+pub pass_box : (holds : Holds) (cols : ℕ) (boxes : Squares) (n square : ℕ) (old now new : List ℕ) (went gone both : Bool) → square ≡ get_or boxes n 0 → both ≡ (went || gone) → IsLook holds cols (square / WORD_BITS) now new gone
+    → IsPassOver holds cols (IsPlaceOf boxes n) old now went → IsPassOver holds cols (IsPlaceOf boxes (n + 1)) old new both
+pass_box holds cols boxes n square old now new went gone both at e look pass = pass_one_more holds cols (square / WORD_BITS) (IsPlaceOf boxes n) (IsPlaceOf boxes (n + 1)) old now new went gone both last e look pass
+  where
+    last : (k : ℕ) → IsPlaceOf boxes (n + 1) k → (k ≡ square / WORD_BITS) ⊎ IsPlaceOf boxes n k
+    last k (i, lt, f) = elim (cases_eq i n) [
+      | inl same ↦ inl (sym f ∙ ap (λ (x : ℕ). x / WORD_BITS) (ap (λ (m : ℕ). get_or boxes m 0) same ∙ sym at))
+      | inr ne ↦ inr (i, omega (arith, lt, ne), f)
+    ]
+
+pub pass_boxes : (holds : Holds) (cols : ℕ) (boxes : Squares) (n : ℕ) (old now : List ℕ) (went : Bool) → length boxes ≤ n → AreWithin (squares_of old) boxes → IsPassOver holds cols (IsPlaceOf boxes n) old now went → IsPass holds cols old now went
+pass_boxes holds cols boxes n old now went all among pass = pass_over_all holds cols (IsPlaceOf boxes n) old now went there pass
+  where
+    there : (q : ℕ) → has_bit old q ≡ true → IsPlaceOf boxes n (q / WORD_BITS)
+    there q h = (let (i, lt, e) = place_of_member boxes q 0 (among q (bit_member old q h)) in (i, omega (arith, lt, all), ap (λ (x : ℕ). x / WORD_BITS) e))
 
 -- ---- all passes
 
@@ -233,6 +274,29 @@ other_nowhere members others n q all fit none here off =
     let rest = none k (omega (arith, lt, all)) in
     let there = bit_and_from (get_or members k 0) (bit_not w64 (get_or others k 0)) j (sym (has_bit-parts members q) ∙ here) (word_bit-not (get_or others k 0) j (fit k) small ∙ not_from_false (word_bit (get_or others k 0) j) (sym (has_bit-parts others q) ∙ off)) in
     true≢false (sym there ∙ (ap (λ (w : ℕ). word_bit w j) rest ∙ word_bit-zero j))
+
+-- where all members are boxes, a look at the boxes tells of one
+pub other_box : (boxes : Squares) (members others : List ℕ) (told : Bool) → AreWithin (squares_of members) boxes → told ≡ list_any (λ q. has_bit members q && not (has_bit others q)) boxes
+    → IsTrue told ↔ ((q : ℕ) × (has_bit members q ≡ true) × (has_bit others q ≡ false))
+other_box boxes members others told among e = (
+  λ h.
+      (let (q, passes) = of_any boxes (sym e ∙ h) in
+      let (here, off) = and_parts (has_bit members q) (not (has_bit others q)) passes in
+      (q, here, not-true (has_bit others q) off)),
+  λ (q, here, off).
+      (let (i, lt, at) = place_of_member boxes q 0 (among q (bit_member members q here)) in
+      e ∙ list_any_at test boxes i 0 lt (ap test at ∙ and_from (has_bit members q) (not (has_bit others q)) here (ap not off))),
+)
+  where
+    test : ℕ → Bool
+    test = λ q. has_bit members q && not (has_bit others q)
+
+    of_any : (xs : List ℕ) → list_any test xs ≡ true → (q : ℕ) × (test q ≡ true)
+    of_any [] h = absurd (false≢true h)
+    of_any (x ∷ xs) h = elim (or_cases (test x) (list_any test xs) h) [
+      | inl here ↦ (x, here)
+      | inr later ↦ of_any xs later
+    ]
 
 -- some of the boxes are locked exactly where a member of the largest set that holds itself is none of the goals
 pub locked_by_bits : (holds : Holds) (cols : ℕ) (boxes : Squares) (members : List ℕ) (told : Bool) → IsLargest holds cols boxes (squares_of members)

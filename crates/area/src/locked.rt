@@ -3,9 +3,11 @@ ghost use Rattle.grid.specs.Board.{is_wall};
 ghost use Rattle.grid.specs.Masks.{has_bit, word_count};
 ghost use Rattle.grid.specs.Squares.{Squares, contains};
 ghost use Rattle.area.specs.Words.{squares_of, word_bit};
-ghost use Rattle.area.specs.inside.Locking.{HaveRoom, IsGroup, IsHeldBy, IsLargest, IsLook, IsPass, TellsLocked};
+ghost use Rattle.std.specs.Prelude.{◌&&◌, not};
+ghost use Rattle.std.specs.List.{list_any};
+ghost use Rattle.area.specs.inside.Locking.{AreWithin, HaveRoom, IsGroup, IsHeldBy, IsLargest, IsLook, IsPass, TellsLocked};
 
-use crate::bits::{after, before};
+use crate::bits::{after, before, has};
 use crate::groups::group;
 use crate::scratch::Scratch;
 use crate::set::SquareSet;
@@ -32,7 +34,7 @@ pub fn any_locked(level: &Level, holds: &Holds, boxes: &[Square], scratch: &mut 
     ensures kept { scratch.new ≡ scratch.old }
 {
     scratch.spare.put_all(boxes);
-    has_locked(level, holds, &mut scratch.spare)
+    has_locked(level, holds, boxes, &mut scratch.spare)
 }
 
 /// The same of the boxes that hang together with the one on the square. Takes no memory.
@@ -57,37 +59,78 @@ pub fn any_locked_with(
         &mut scratch.spare_boxes,
         &mut scratch.spare,
     );
-    has_locked(level, holds, &mut scratch.spare)
+    has_locked(level, holds, boxes, &mut scratch.spare)
 }
 
-// Whether some squares of the set are locked. The set keeps the largest set of its squares each of which is held.
-fn has_locked(level: &Level, holds: &Holds, members: &mut SquareSet) -> bool
+// Whether some squares of the set, all of which are boxes, are locked. The set keeps the largest set of its squares each
+// of which is held.
+fn has_locked(level: &Level, holds: &Holds, boxes: &[Square], members: &mut SquareSet) -> bool
     requires holds { HaveRoom holds.now (length members.old) }
+    requires among { AreWithin (squares_of members.old) boxes.now }
+    requires inside { (q : ℕ) → contains boxes.now q ≡ true → q < WORD_BITS * length members.old }
     ensures locked { TellsLocked holds.now level.now.cols (squares_of members.old) result }
     ensures size { length members.new ≡ length members.old }
 {
-    has_locked_words(holds, level.cols(), members.as_words_mut())
+    has_locked_words(holds, level.cols(), boxes, members.as_words_mut())
 }
 
 // The same by words, where the columns are so many.
-fn has_locked_words(holds: &Holds, cols: usize, members: &mut [u64]) -> bool
+fn has_locked_words(holds: &Holds, cols: usize, boxes: &[Square], members: &mut [u64]) -> bool
     requires holds { HaveRoom holds.now (length members.old) }
+    requires among { AreWithin (squares_of members.old) boxes.now }
+    requires inside { (q : ℕ) → contains boxes.now q ≡ true → q < WORD_BITS * length members.old }
     ensures { TellsLocked holds.now cols (squares_of members.old) result }
 {
-    keep_held(holds, cols, members);
-    has_other(members, holds.goals.as_words())
+    keep_held(holds, cols, boxes, members);
+    has_other(boxes, members, holds.goals.as_words())
 }
 
 // Leaves of the set its largest subset each of whose squares is held.
-fn keep_held(holds: &Holds, cols: usize, members: &mut [u64])
+fn keep_held(holds: &Holds, cols: usize, boxes: &[Square], members: &mut [u64])
     requires holds { HaveRoom holds.now (length members.old) }
+    requires among { AreWithin (squares_of members.old) boxes.now }
+    requires inside { (q : ℕ) → contains boxes.now q ≡ true → q < WORD_BITS * length members.old }
     ensures { IsLargest holds.now cols (squares_of members.old) (squares_of members.new) }
 {
-    while peel(holds, cols, members) {}
+    while peel(holds, cols, boxes, members) {}
+}
+
+// Whether there are far more words than boxes, so that a look at the words of the boxes alone is shorter.
+#[inline(always)]
+fn are_few(boxes: &[Square], words: &[u64]) -> bool {
+    boxes.len() < words.len() / 2
+}
+
+// Looks at each word that has a box, and takes out the squares that are not held; says whether one went.
+fn peel(holds: &Holds, cols: usize, boxes: &[Square], members: &mut [u64]) -> bool
+    requires holds { HaveRoom holds.now (length members.old) }
+    requires among { AreWithin (squares_of members.old) boxes.now }
+    requires inside { (q : ℕ) → contains boxes.now q ≡ true → q < WORD_BITS * length members.old }
+    ensures { IsPass holds.now cols members.old members.new result }
+{
+    if are_few(boxes, members) {
+        peel_boxes(holds, cols, boxes, members)
+    } else {
+        peel_words(holds, cols, members)
+    }
+}
+
+// Looks at the word of each box, and takes out the squares that are not held; says whether one went.
+fn peel_boxes(holds: &Holds, cols: usize, boxes: &[Square], members: &mut [u64]) -> bool
+    requires holds { HaveRoom holds.now (length members.old) }
+    requires among { AreWithin (squares_of members.old) boxes.now }
+    requires inside { (q : ℕ) → contains boxes.now q ≡ true → q < WORD_BITS * length members.old }
+    ensures { IsPass holds.now cols members.old members.new result }
+{
+    let mut went = false;
+    for square in boxes {
+        went |= peel_word(holds, cols, members, square.0 as usize / WORD_BITS);
+    }
+    went
 }
 
 // Looks at each word once, and takes out the squares that are not held; says whether one went.
-fn peel(holds: &Holds, cols: usize, members: &mut [u64]) -> bool
+fn peel_words(holds: &Holds, cols: usize, members: &mut [u64]) -> bool
     requires holds { HaveRoom holds.now (length members.old) }
     ensures { IsPass holds.now cols members.old members.new result }
 {
@@ -127,8 +170,30 @@ fn held(fast: &[u64], members: &[u64], place: usize, by: usize) -> u64
     (fast[place] | before(members, place, by)) | after(members, place, by)
 }
 
-// Whether a square of the one set is none of the other.
-fn has_other(members: &[u64], others: &[u64]) -> bool
+// Whether a square of the one set, all of whose squares are boxes, is none of the other.
+fn has_other(boxes: &[Square], members: &[u64], others: &[u64]) -> bool
+    requires room { length members.now ≡ length others.now }
+    requires among { AreWithin (squares_of members.now) boxes.now }
+    ensures { IsTrue result ↔ ((q : ℕ) × (has_bit members.now q ≡ true) × (has_bit others.now q ≡ false)) }
+{
+    if are_few(boxes, members) {
+        is_other_box(boxes, members, others)
+    } else {
+        is_other_word(members, others)
+    }
+}
+
+// The same by a look at each box.
+fn is_other_box(boxes: &[Square], members: &[u64], others: &[u64]) -> bool
+    ensures { result ≡ list_any (λ q. has_bit members.now q && not (has_bit others.now q)) boxes.now }
+{
+    boxes
+        .iter()
+        .any(|square| has(members, *square) && !has(others, *square))
+}
+
+// The same by a look at each word.
+fn is_other_word(members: &[u64], others: &[u64]) -> bool
     requires { length members.now ≡ length others.now }
     ensures { IsTrue result ↔ ((q : ℕ) × (has_bit members.now q ≡ true) × (has_bit others.now q ≡ false)) }
 {

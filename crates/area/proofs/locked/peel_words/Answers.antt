@@ -1,6 +1,9 @@
-use Rattle.std.proofs.Common.{refl}
-use Rattle.area.proofs.Passes.{pass_more, pass_done}
-use Rattle.area.proofs.locked.peel.Goals as goal
+use Rattle.std.proofs.Common.{refl, arith}
+use Rattle.area.proofs.Passes.{IsBefore, pass_none, pass_more, pass_done}
+use Rattle.area.proofs.locked.peel_words.Goals as goal
+
+pub loop-place-init : goal.loop-place-init
+loop-place-init c = pass_none c.args.holds.now c.args.cols (IsBefore 0) c.args.members.now (λ k lt. omega (arith, lt))
 
 pub loop-place-preserved : goal.loop-place-preserved
 loop-place-preserved c = pass_more c.args.holds.now c.args.cols c.loop-place.place c.args.members.now c.loop-place.members c.peel_word-went.new.members c.loop-place.went c.peel_word-went.result _ refl c.peel_word-went.ensures c.loop-place.invariant
