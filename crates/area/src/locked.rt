@@ -1,10 +1,9 @@
-ghost use Rattle.std.specs.Prelude.{◌≡◌, ℕ, ◌*◌, ◌+◌, ◌<◌, ◌↔◌, IsTrue, true, false, length};
+ghost use Rattle.std.specs.Prelude.{◌≡◌, ℕ, ◌*◌, ◌+◌, ◌<◌, ◌↔◌, ◌&&◌, not, IsTrue, true, false, length};
+ghost use Rattle.std.specs.List.{list_any};
 ghost use Rattle.grid.specs.Board.{is_wall};
 ghost use Rattle.grid.specs.Masks.{has_bit, word_count};
 ghost use Rattle.grid.specs.Squares.{Squares, contains};
 ghost use Rattle.area.specs.Words.{squares_of, word_bit};
-ghost use Rattle.std.specs.Prelude.{◌&&◌, not};
-ghost use Rattle.std.specs.List.{list_any};
 ghost use Rattle.area.specs.inside.Locking.{AreWithin, HaveRoom, IsGroup, IsHeldBy, IsLargest, IsLook, IsPass, TellsLocked};
 
 use crate::bits::{after, before, has};
