@@ -201,19 +201,20 @@ impl Found {
         }
     }
 
-    /// Closes what stands open, in the order of the origins. An error leaves all as it was.
-    pub(crate) fn close(&mut self) -> Result<(), AllocError>
+    /// Closes what stands open, in the order of the origins. Where it is to look ahead, it makes room for as many
+    /// positions more, which the next layer mostly has, where memory can be had for it. An error leaves all as it was.
+    pub(crate) fn close(&mut self, ahead: bool) -> Result<(), AllocError>
         ensures boxes { self.new.boxes ≡ self.old.boxes }
         ensures seen { OnOk result (IsSortedAppend self.old.seen self.old.waiting self.new.seen) }
         ensures waiting { OnOk result (self.new.waiting ≡ []) }
         ensures err { OnErr result (self.new ≡ self.old) }
     {
         match &mut self.tables {
-            Tables::Narrow(table) => table.close(),
-            Tables::Middle(table) => table.close(),
-            Tables::Wide(table) => table.close(),
-            Tables::Broad(table) => table.close(),
-            Tables::Widest(table) => table.close(),
+            Tables::Narrow(table) => table.close(ahead),
+            Tables::Middle(table) => table.close(ahead),
+            Tables::Wide(table) => table.close(ahead),
+            Tables::Broad(table) => table.close(ahead),
+            Tables::Widest(table) => table.close(ahead),
         }
     }
 }

@@ -56,8 +56,37 @@ fn enter_if_full<const N: usize>(
     }
 }
 
-/// Appends the offers of a rank's successors that are of the share, which the sum of each tells.
+/// Appends the offers of a rank's successors that are of the share, which the sum of each tells. The number of shares is
+/// looked at once, so that no successor waits for a division where it is a power of two.
 pub(crate) fn append_all<const N: usize>(
+    inbox: &mut Vec<(Key<N>, Origin)>,
+    share: u8,
+    shares: u8,
+    rank: u64,
+    successors: &[Successor],
+    sums: &[u32],
+)
+    requires width { N ≤ MAX_BOXES }
+    requires shares { 0 < shares }
+    requires rank { rank < MOST_RANKS }
+    requires few { HaveFew N successors.now }
+    requires sums { AreSums successors.now sums.now }
+    requires room { vec_len inbox.old + length successors.now ≤ vec_capacity inbox.old }
+    ensures { inbox.new.items ≡ inbox.old.items ++ offers_of shares share rank successors.now }
+{
+    match shares {
+        1 => append_each(inbox, share, 1, rank, successors, sums),
+        2 => append_each(inbox, share, 2, rank, successors, sums),
+        4 => append_each(inbox, share, 4, rank, successors, sums),
+        8 => append_each(inbox, share, 8, rank, successors, sums),
+        16 => append_each(inbox, share, 16, rank, successors, sums),
+        _ => append_each(inbox, share, shares, rank, successors, sums),
+    }
+}
+
+// Appends the offers of a rank's successors that are of the share, one after the other.
+#[inline(always)]
+fn append_each<const N: usize>(
     inbox: &mut Vec<(Key<N>, Origin)>,
     share: u8,
     shares: u8,
@@ -79,6 +108,7 @@ pub(crate) fn append_all<const N: usize>(
 }
 
 // Appends the offer of a rank's successor, if it is of the share, which its sum tells.
+#[inline(always)]
 fn append<const N: usize>(
     inbox: &mut Vec<(Key<N>, Origin)>,
     share: u8,

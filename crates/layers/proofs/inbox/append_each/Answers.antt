@@ -3,7 +3,7 @@ use Rattle.std.proofs.lemmas.List.{append_assoc, take_more}
 use Rattle.layers.specs.declared.parcel.Successor.{Successor}
 use Rattle.layers.specs.FoundView.{offer_of, offers_of}
 use Rattle.layers.proofs.Inboxes.{offers_more}
-use Rattle.layers.proofs.inbox.append_all.Goals as goal
+use Rattle.layers.proofs.inbox.append_each.Goals as goal
 
 pub loop-place-preserved : goal.loop-place-preserved
 loop-place-preserved g c =
