@@ -1,30 +1,30 @@
-ghost use Rattle.std.specs.Prelude.{◌≡◌, ℕ, ◌+◌, ◌%◌, ◌<◌, ◌≤◌, ◌⊎◌, ◌↔◌, IsTrue, IfOk, IfErr, length, count_by};
-ghost use Rattle.grid.specs.Board.{Board, box_cell, goal_cell, player_cell, is_wall, is_goal, has_box, next, start, start_player};
-ghost use Rattle.grid.specs.Lawful.{row_count, box_count, cell_fault, count_fault, HasFault, InRoom, IsLevel};
+ghost use Rattle.std.specs.Prelude.{◌≡◌, ◌%◌, ◌<◌, ◌≤◌, ◌⊎◌, ◌↔◌, IsTrue, IfOk, IfErr, length, if◌then◌else◌};
+ghost use Rattle.grid.specs.Board.{is_wall, is_goal, has_box, next, start, start_player};
+ghost use Rattle.grid.specs.Lawful.{row_count, box_count, HasFault, InRoom, IsLevel};
 ghost use Rattle.grid.specs.States.{FitsLevel};
-ghost use Rattle.grid.specs.inside.PlanView.{ways_of};
+ghost use Rattle.grid.specs.inside.PlanView.{around_of, ways_of};
 ghost use Rattle.grid.specs.Masks.{AreMasks};
 
 use crate::around::Around;
+use crate::board::Board;
 use crate::cell::Cell;
 use crate::dir::Dir;
 use crate::fault::LevelFault;
-use crate::limits::{MAX_COLS, MAX_ROWS, MAX_SQUARES};
-use crate::masks::StepMasks;
-use crate::plan::Plan;
-use crate::room::room_of;
+use crate::limits::MAX_SQUARES;
+use crate::masks::{StepMasks, masks_of};
+use crate::plan::neighbours;
 use crate::square::Square;
 use std::alloc::{AllocError, Global};
 use std::marker::Model;
 
 /// A lawful level: one player, at least one box, as many boxes as goals, and no way from the player to the edge of
-/// the grid.
+/// the grid. It is a [`Board`] with the tables that a search wants: the neighbours of each square, so that a step needs
+/// no division, and the step masks, so that a flood goes by words.
 #[derive(Debug, Drop)]
 pub struct Level {
-    plan: Plan,
-    room: Vec<bool>,
-    player: Square,
-    boxes: usize,
+    board: Board,
+    around: Vec<Around>,
+    masks: Vec<StepMasks>,
 }
 
 impl Model for Level {
@@ -32,11 +32,11 @@ impl Model for Level {
 
     ghost Value = { Board };
 
-    ghost use Rattle.grid.specs.inside.LevelView.{view_of, IsSound};
+    ghost use Rattle.grid.specs.inside.LevelView.{level_seen, HasTables};
 
-    ghost view = { view_of };
+    ghost view = { level_seen };
 
-    ghost invariant = { IsSound };
+    ghost invariant = { HasTables };
 }
 
 impl Level {
@@ -48,18 +48,20 @@ impl Level {
         ensures lawful { IfOk result (λ level. IsLevel level) }
         ensures err { IfErr result (λ f. (f ≡ LevelFault.OutOfMemory) ⊎ HasFault (record { cols = cols; cells = cells.items }) f) }
     {
-        if let Some(fault) = cell_fault(cols, cells.as_slice()) {
-            return Err(fault);
-        }
-        let player = player_of(cells.as_slice());
-        let room = room_of(alloc, cols, cells.as_slice(), player)?;
-        let boxes = boxes_of(cells.as_slice());
-        let plan = Plan::new(alloc, cols, cells)?;
+        let board = Board::from_cells(alloc, cols, cells)?;
+        Ok(Level::of_board(alloc, board)?)
+    }
+
+    /// The level of this board.
+    pub fn of_board(alloc: Global, board: Board) -> Result<Level, AllocError>
+        ensures { IfOk result (λ level. level ≡ board) }
+    {
+        let around = neighbours(alloc, board.cols(), board.cells())?;
+        let masks = masks_of(alloc, board.cols(), board.cells(), around.as_slice())?;
         Ok(Level {
-            plan,
-            room,
-            player,
-            boxes,
+            board,
+            around,
+            masks,
         })
     }
 
@@ -67,7 +69,7 @@ impl Level {
     pub fn tell(&self)
         ensures { IsLevel self.now }
     {
-        let _ = &self.plan;
+        self.board.tell();
     }
 
     /// Tells that the level begins in a state of it, with as many boxes as the level has.
@@ -81,21 +83,21 @@ impl Level {
     pub fn rows(&self) -> usize
         ensures { result ≡ row_count self.now }
     {
-        self.plan.rows()
+        self.board.rows()
     }
 
     /// The number of columns.
     pub fn cols(&self) -> usize
         ensures { result ≡ self.now.cols }
     {
-        self.plan.cols()
+        self.board.cols()
     }
 
     /// The number of squares, which is the rows times the columns.
     pub fn squares(&self) -> usize
         ensures { result ≡ length self.now.cells }
     {
-        self.plan.cells().len()
+        self.board.cells().len()
     }
 
     // The cells, row by row.
@@ -103,42 +105,42 @@ impl Level {
         ensures value { result.now ≡ self.now.cells }
         ensures bound { length result.now ≤ MAX_SQUARES }
     {
-        self.plan.cells()
+        self.board.cells()
     }
 
     /// Whether the square is a wall; everything outside the grid is.
     pub fn is_wall(&self, square: Square) -> bool
         ensures { result ≡ is_wall self.now square }
     {
-        self.plan.is_wall(square)
+        self.board.is_wall(square)
     }
 
     /// Whether the square has a goal.
     pub fn is_goal(&self, square: Square) -> bool
         ensures { result ≡ is_goal self.now square }
     {
-        self.plan.is_goal(square)
+        self.board.is_goal(square)
     }
 
     /// Whether a box stands on the square at the start.
     pub fn has_box(&self, square: Square) -> bool
         ensures { result ≡ has_box self.now square }
     {
-        self.plan.has_box(square)
+        self.board.has_box(square)
     }
 
     /// The number of boxes.
     pub fn boxes(&self) -> usize
         ensures { result ≡ box_count self.now }
     {
-        self.boxes
+        self.board.boxes()
     }
 
     /// The player's square at the start.
     pub fn player(&self) -> Square
         ensures { result ≡ start_player self.now }
     {
-        self.player
+        self.board.player()
     }
 
     /// The square next to a square in a direction; the number of squares, which is no square, where the grid ends
@@ -147,8 +149,16 @@ impl Level {
         requires { square < length self.now.cells }
         ensures { result ≡ next self.now square dir }
     {
-        let Around { d, l, r, u } = self.plan.around(square);
+        let Around { d, l, r, u } = self.around(square);
         [d, l, r, u][dir.place()]
+    }
+
+    // The four squares next to a square.
+    fn around(&self, square: Square) -> Around
+        requires { square < length self.now.cells }
+        ensures { result ≡ around_of self.now square }
+    {
+        self.around[square.0 as usize]
     }
 
     /// The ways from a square: for each direction the square next to it, and the square itself where that is a wall or
@@ -157,14 +167,27 @@ impl Level {
         requires { square < length self.now.cells }
         ensures { result ≡ ways_of self.now square }
     {
-        self.plan.ways(square)
+        let next = self.around(square);
+        Around {
+            d: self.way(square, next.d),
+            l: self.way(square, next.l),
+            r: self.way(square, next.r),
+            u: self.way(square, next.u),
+        }
+    }
+
+    // The next square where that is no wall, and else the square itself.
+    fn way(&self, square: Square, next: Square) -> Square
+        ensures { result ≡ (if is_wall self.now next then square else next) }
+    {
+        if self.is_wall(next) { square } else { next }
     }
 
     /// Onto which squares a step in each direction can lead, as bits of words.
     pub fn step_masks(&self) -> &[StepMasks]
         ensures { AreMasks self.now result.now }
     {
-        self.plan.step_masks()
+        self.masks.as_slice()
     }
 
     /// Whether the square is of the player's room: what four-way steps over squares that are no wall reach from the
@@ -172,7 +195,7 @@ impl Level {
     pub fn in_room(&self, square: Square) -> bool
         ensures { IsTrue result ↔ InRoom self.now square }
     {
-        self.room.get(square.0 as usize).map_or(false, |flag| *flag)
+        self.board.in_room(square)
     }
 
     /// An equal level.
@@ -180,10 +203,9 @@ impl Level {
         ensures { IfOk result (λ level. level ≡ self.now) }
     {
         Ok(Level {
-            plan: self.plan.copy()?,
-            room: self.room.clone()?,
-            player: self.player,
-            boxes: self.boxes,
+            board: self.board.copy()?,
+            around: self.around.clone()?,
+            masks: self.masks.clone()?,
         })
     }
 }
@@ -226,90 +248,4 @@ fn same_cells(cells: &[Cell], others: &[Cell]) -> bool
         same &= *cell == others[place];
     }
     same
-}
-
-// The first fault that looking at the cells alone finds.
-fn cell_fault(cols: usize, cells: &[Cell]) -> Option<LevelFault>
-    requires columns { 1 ≤ cols }
-    requires whole { length cells.now % cols ≡ 0 }
-    ensures { result ≡ cell_fault (record { cols = cols; cells = cells.now }) }
-{
-    if cells.len() / cols > MAX_ROWS {
-        return Some(LevelFault::TooTall);
-    }
-    if cols > MAX_COLS {
-        return Some(LevelFault::TooWide);
-    }
-    count_fault(cells)
-}
-
-// What is wrong with the numbers of players, boxes and goals.
-fn count_fault(cells: &[Cell]) -> Option<LevelFault>
-    requires { length cells.now ≤ MAX_SQUARES }
-    ensures { (cols : ℕ) → result ≡ count_fault (record { cols = cols; cells = cells.now }) }
-{
-    let players = players_of(cells);
-    if players == 0 {
-        return Some(LevelFault::NoPlayer);
-    }
-    if players > 1 {
-        return Some(LevelFault::TwoPlayers);
-    }
-    let boxes = boxes_of(cells);
-    let goals = goals_of(cells);
-    if boxes == 0 {
-        return Some(LevelFault::NoBox);
-    }
-    if boxes != goals {
-        return Some(LevelFault::Counts { boxes, goals });
-    }
-    None
-}
-
-// Numbers of cells are counted in 16 bits, so that the processor looks at several cells at once.
-fn players_of(cells: &[Cell]) -> usize
-    requires { length cells.now ≤ MAX_SQUARES }
-    ensures { result ≡ count_by player_cell cells.now }
-{
-    let mut players: u16 = 0;
-    for cell in cells {
-        players += u16::from(cell.has_player());
-    }
-    players as usize
-}
-
-fn boxes_of(cells: &[Cell]) -> usize
-    requires { length cells.now ≤ MAX_SQUARES }
-    ensures { result ≡ count_by box_cell cells.now }
-{
-    let mut boxes: u16 = 0;
-    for cell in cells {
-        boxes += u16::from(cell.has_box());
-    }
-    boxes as usize
-}
-
-fn goals_of(cells: &[Cell]) -> usize
-    requires { length cells.now ≤ MAX_SQUARES }
-    ensures { result ≡ count_by goal_cell cells.now }
-{
-    let mut goals: u16 = 0;
-    for cell in cells {
-        goals += u16::from(cell.has_goal());
-    }
-    goals as usize
-}
-
-// The square of the one player.
-fn player_of(cells: &[Cell]) -> Square
-    requires one { count_by player_cell cells.now ≡ 1 }
-    requires bound { length cells.now ≤ MAX_SQUARES }
-    ensures { (cols : ℕ) → result ≡ start_player (record { cols = cols; cells = cells.now }) }
-{
-    for (i, cell) in cells.iter().enumerate() {
-        if cell.has_player() {
-            return Square(i as u16);
-        }
-    }
-    Square(0)
 }

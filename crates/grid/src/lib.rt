@@ -2,11 +2,13 @@
 #![tactic(auto)]
 
 mod around;
+mod board;
 mod boxes;
 mod cell;
 mod dir;
 mod fault;
 mod hashing;
+mod judging;
 pub mod laws;
 mod level;
 mod limits;
@@ -19,6 +21,7 @@ mod square;
 mod state;
 
 pub use around::Around;
+pub use board::Board;
 pub use cell::Cell;
 pub use dir::Dir;
 pub use fault::LevelFault;

@@ -4,6 +4,7 @@ use Rattle.std.specs.List.{AllZip, AllByRecursion}
 use Rattle.std.proofs.lemmas.List.{append-nil}
 use Rattle.grid.specs.declared.cell.Cell.{Cell}
 use Rattle.xsb.specs.declared.boards.Stretch.{Stretch}
+use Rattle.xsb.specs.declared.entry.BoardEntry.{BoardEntry}
 use Rattle.xsb.specs.declared.entry.Entry.{Entry}
 use Rattle.xsb.specs.declared.lines.Lines.{Lines}
 use Rattle.xsb.specs.declared.names.Gap.{Gap}
@@ -14,7 +15,7 @@ use Rattle.xsb.specs.Rows.{IsRowLine}
 use Rattle.xsb.specs.inside.Reading.{cut_lines}
 use Rattle.xsb.specs.inside.Gaps.{IsGap, ReadsGap, BeginsBoard, BeginsGap}
 use Rattle.xsb.specs.inside.Stretches.{ReadsBoard, ReadsNoBoard, HasRows}
-use Rattle.xsb.specs.Entries.{IsEntry}
+use Rattle.xsb.specs.Entries.{IsBoardEntry, IsEntry}
 use Rattle.xsb.specs.Judged.{IsJudged}
 use Rattle.xsb.specs.Collection.{Found, Part, IsPart, AreApart, AreFound, IsCollection}
 use Rattle.xsb.specs.declared.reader.Collection.{Collection}
@@ -67,7 +68,7 @@ HasRows-read {old} {new} {stretch} is =
     record { some = omega arith; lines = is.lines; after = cut_lines new.rest; whole = ap cut_lines is.from ∙ is.read.whole; count = sym is.count; rows_are = is.read.rows_are; size = is.read.size_is }
 
 -- a board more, and the gap after it
-pub HasRead-more : {bytes : List ℕ} {mid : Lines} {stretch : Stretch} {founds : List Found} (first last : Collection) (entry : Entry) → HasRead bytes first founds →
+pub HasRead-more : {bytes : List ℕ} {mid : Lines} {stretch : Stretch} {founds : List Found} (first last : Collection) (entry : BoardEntry) → HasRead bytes first founds →
     (board : ReadsBoard first.lines mid stretch) → ReadsGap mid last.lines last.before →
     ((before_lines after_lines : List (List ℕ)) → IsGap first.before before_lines → IsGap last.before after_lines → entry.name.items ≡ name_of before_lines after_lines) →
     entry.first_line ≡ stretch.first_line → IsJudged (board_of board.rows) entry.board → GivesNext bytes founds last (Some entry)
@@ -115,11 +116,16 @@ pub record HasEntries (bytes : List ℕ) (left : Collection) (entries : List Ent
   pub read : HasRead bytes left founds
   pub each : AllZip IsEntry entries founds
 
+-- the entry of a board, with its level
+entry_of : (board : BoardEntry) (entry : Entry) (found : Found) → entry ≡ record { name = board.name; first_line = board.first_line; board = board.board }
+    → IsBoardEntry board found → IsEntry entry found
+entry_of board entry found e is = subst (λ (x : Entry). IsEntry x found) (sym e) (record { name = is.name; first_line = is.first_line; board = is.board })
+
 -- an entry more
-pub HasEntries-more : {bytes : List ℕ} {first : Collection} {entries : List Entry} (last : Collection) (entry : Entry) (is : HasEntries bytes first entries) →
-    GivesNext bytes is.founds last (Some entry) → HasEntries bytes last (entries ++ entry ∷ [])
-HasEntries-more {bytes} {first} {entries} last entry is next =
-    record { founds = is.founds ++ next.0 ∷ []; read = next.2; each = AllZip-last IsEntry entries is.founds entry next.0 is.each next.1 }
+pub HasEntries-more : {bytes : List ℕ} {first : Collection} {entries : List Entry} (last : Collection) (board : BoardEntry) (entry : Entry) (is : HasEntries bytes first entries) →
+    GivesNext bytes is.founds last (Some board) → entry ≡ record { name = board.name; first_line = board.first_line; board = board.board } → HasEntries bytes last (entries ++ entry ∷ [])
+HasEntries-more {bytes} {first} {entries} last board entry is next e =
+    record { founds = is.founds ++ next.0 ∷ []; read = next.2; each = AllZip-last IsEntry entries is.founds entry next.0 is.each (entry_of board entry next.0 e next.1) }
 
 length-cut : (rest : List (List ℕ)) → length (cut_lines rest) ≡ length rest
 length-cut [] = refl

@@ -1,4 +1,4 @@
-//! Boards: longest runs of row lines, and the levels that they make.
+//! Boards: longest runs of row lines, and whether they are lawful.
 ghost use Rattle.std.specs.Prelude.{◌≡◌, ◌≢◌, List, MatchOption, MatchBool, IfOk};
 ghost use Rattle.grid.specs.declared.cell.Cell.{Cell};
 ghost use Rattle.xsb.specs.Boards.{board_of};
@@ -8,7 +8,7 @@ ghost use Rattle.xsb.specs.inside.Stretches.{AreCellsOf, HasRows, ReadsBoard, Re
 use crate::lines::{Lines, cut_line};
 use crate::sizes::{Size, line_size, push_line};
 use bstr::LinesWithTerminator;
-use grid::{Cell, Level, LevelFault, MAX_COLS, MAX_ROWS};
+use grid::{Board, Cell, LevelFault, MAX_COLS, MAX_ROWS};
 use std::alloc::{AllocError, Global};
 
 /// The lines of a board, which are still to be made into cells.
@@ -66,8 +66,8 @@ impl Stretch<'_> {
         Ok(cells)
     }
 
-    /// The level that the board makes, or its first fault. No cells are made of a board that is too tall or too wide.
-    pub(crate) fn level(&self, alloc: Global) -> Result<Result<Level, LevelFault>, AllocError>
+    /// The board that the lines make, or its first fault. No cells are made of a board that is too tall or too wide.
+    pub(crate) fn board(&self, alloc: Global) -> Result<Result<Board, LevelFault>, AllocError>
         requires { (rows : List (List Cell)) × HasRows self.now rows }
         ensures { (rows : List (List Cell)) → HasRows self.now rows → IfOk result (IsJudged (board_of rows)) }
     {
@@ -78,8 +78,8 @@ impl Stretch<'_> {
             return Ok(Err(LevelFault::TooWide));
         }
         let cells = self.cells(alloc)?;
-        match Level::from_cells(alloc, self.size.cols, cells) {
-            Ok(level) => Ok(Ok(level)),
+        match Board::from_cells(alloc, self.size.cols, cells) {
+            Ok(board) => Ok(Ok(board)),
             Err(fault) => {
                 if is_want_of_memory(fault) {
                     return Err(AllocError);
@@ -90,7 +90,7 @@ impl Stretch<'_> {
     }
 }
 
-/// Whether a level was not made for want of memory alone.
+/// Whether a board was not made for want of memory alone.
 fn is_want_of_memory(fault: LevelFault) -> bool
     ensures { MatchBool result (fault ≡ LevelFault.OutOfMemory) (fault ≢ LevelFault.OutOfMemory) }
 {

@@ -29,7 +29,7 @@ mod sizes;
 mod tests;
 mod writer;
 
-pub use entry::{Entry, ReadFault};
+pub use entry::{BoardEntry, Entry, ReadFault};
 pub use limits::MAX_FILE;
 pub use reader::{Collection, read};
 pub use writer::write;

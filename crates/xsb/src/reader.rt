@@ -5,14 +5,14 @@ ghost use Rattle.xsb.specs.Entries.{IsEntry};
 ghost use Rattle.xsb.specs.inside.Progress.{HasRead, GivesNext, lines_left};
 
 use crate::boards::read_board;
-use crate::entry::{Entry, ReadFault};
+use crate::entry::{BoardEntry, Entry, ReadFault};
 use crate::gaps::read_gap;
 use crate::limits::MAX_FILE;
 use crate::lines::Lines;
 use crate::names::Gap;
 use std::alloc::{AllocError, Global};
 
-/// A collection that is read board by board: no more than one level is in memory, unless the caller keeps more.
+/// A collection that is read board by board: no more than one board is in memory, unless the caller keeps more.
 #[derive(Drop)]
 pub struct Collection<'a> {
     /// The lines that are left, from a board on, or none.
@@ -38,9 +38,9 @@ impl<'a> Collection<'a> {
         Ok(Collection { lines, before })
     }
 
-    /// The entry of the next board, as [`read`] gives it; `None` where there is none any more. A want of memory is the
-    /// error, also while a level is made; that board is then passed over.
-    pub fn next_entry(&mut self, alloc: Global) -> Result<Option<Entry>, AllocError>
+    /// The next board, as [`read`] gives it, but without a level of it; `None` where there is none any more. A want of
+    /// memory is the error, also while the board is made; it is then passed over.
+    pub fn next_board(&mut self, alloc: Global) -> Result<Option<BoardEntry>, AllocError>
         ensures next { (bytes : List ℕ) (founds : List Found) → HasRead bytes self.old founds → IfOk result (GivesNext bytes founds self.new) }
         ensures fewer { IfOk result (λ next. IfSome next (λ _. lines_left self.new < lines_left self.old)) }
     {
@@ -49,12 +49,12 @@ impl<'a> Collection<'a> {
         };
         let after = read_gap(&mut self.lines);
         let name = Vec::from_slice(alloc, self.before.name_with(&after))?;
-        let level = board.level(alloc)?;
+        let judged = board.board(alloc)?;
         self.before = after;
-        Ok(Some(Entry {
+        Ok(Some(BoardEntry {
             name,
             first_line: board.first_line,
-            board: level,
+            board: judged,
         }))
     }
 }
@@ -77,9 +77,10 @@ fn read_all(alloc: Global, collection: &mut Collection<'_>) -> Result<Vec<Entry>
 {
     let mut entries = Vec::new(alloc);
     'boards: loop {
-        let Some(entry) = collection.next_entry(alloc)? else {
+        let Some(board) = collection.next_board(alloc)? else {
             break;
         };
+        let entry = board.into_entry(alloc)?;
         entries.push(entry)?;
     }
     Ok(entries)

@@ -1,16 +1,16 @@
--- What contracts see of a level, and what its fields keep.
-use Rattle.std.specs.Prelude.{◌≡◌, ℕ, ◌↔◌, IsTrue, false, slice_index_or}
+-- What contracts see of a level, and what its tables keep.
+use Rattle.std.specs.Prelude.{◌≡◌, length}
 use Rattle.grid.specs.declared.level.Level.TheInside.{Inside}
-use Rattle.grid.specs.Board.{Board, start_player}
-use Rattle.grid.specs.Lawful.{IsLevel, InRoom, box_count}
+use Rattle.grid.specs.Board.{Board}
+use Rattle.grid.specs.Masks.{AreMasks}
+use Rattle.grid.specs.inside.PlanView.{AreAround}
 
--- a level is seen as its columns and cells
-abbrev pub view_of : Inside → Board
-view_of a = a.plan
+-- a level is seen as its board
+abbrev pub level_seen : Inside → Board
+level_seen a = a.board
 
--- the fields of a level agree with its cells
-pub record IsSound (a : Inside) : Type 0 where
-  pub level : IsLevel a.plan
-  pub boxes : a.boxes ≡ box_count a.plan
-  pub player : a.player ≡ start_player a.plan
-  pub room : (q : ℕ) → IsTrue (slice_index_or a.room.items q false) ↔ InRoom a.plan q
+-- the tables of a level are those of its board
+pub record HasTables (a : Inside) : Type 0 where
+  pub places : length a.around.items ≡ length a.board.cells
+  pub around : AreAround a.board a.around.items
+  pub masks : AreMasks a.board a.masks.items

@@ -1,17 +1,9 @@
--- What contracts see of a plan, and what its fields keep.
-use Rattle.std.specs.Prelude.{◌≡◌, ℕ, ◌<◌, ◌≤◌, cond, List, length, slice_index_or}
+-- The squares next to a square, and the ways from it.
+use Rattle.std.specs.Prelude.{◌≡◌, ℕ, ◌<◌, cond, List, length, slice_index_or}
 use Rattle.grid.specs.declared.dir.Dir.{Dir}
 use Rattle.grid.specs.declared.dir.Dir.TheVariants.{D, L, R, U}
 use Rattle.grid.specs.declared.around.Around.{Around}
-use Rattle.grid.specs.declared.limits.TheConstants.{MAX_SQUARES}
-use Rattle.grid.specs.declared.plan.Plan.TheInside.{Inside}
 use Rattle.grid.specs.Board.{Board, is_wall, next}
-use Rattle.grid.specs.Lawful.{row_count}
-use Rattle.grid.specs.Masks.{AreMasks}
-
--- a plan is seen as its columns and cells
-abbrev pub plan_of : Inside → Board
-plan_of a = record { cols = a.cols; cells = a.cells.items }
 
 -- the four squares next to a square
 abbrev pub around_of : Board → ℕ → Around
@@ -28,11 +20,3 @@ way board q d = cond (is_wall board (next board q d)) q (next board q d)
 -- the four ways from a square
 abbrev pub ways_of : Board → ℕ → Around
 ways_of board q = record { d = way board q D; l = way board q L; r = way board q R; u = way board q U }
-
--- the fields of a plan agree with its cells
-pub record IsPlan (a : Inside) : Type 0 where
-  pub rows : a.rows ≡ row_count (plan_of a)
-  pub bound : length a.cells.items ≤ MAX_SQUARES
-  pub places : length a.around.items ≡ length a.cells.items
-  pub around : AreAround (plan_of a) a.around.items
-  pub masks : AreMasks (plan_of a) a.masks.items

@@ -1,10 +1,10 @@
 -- How far a collection was read.
 use Rattle.std.specs.Prelude.{◌≡◌, ℕ, List, [], ◌∷◌, ◌++◌, length, flat_map, Option, Some, None}
 use Rattle.std.specs.List.{AllByRecursion}
-use Rattle.xsb.specs.declared.entry.Entry.{Entry}
+use Rattle.xsb.specs.declared.entry.BoardEntry.{BoardEntry}
 use Rattle.xsb.specs.declared.reader.Collection.{Collection}
 use Rattle.xsb.specs.Collection.{Found, Part, IsPart, AreApart, AreFound, IsCollection}
-use Rattle.xsb.specs.Entries.{IsEntry}
+use Rattle.xsb.specs.Entries.{IsBoardEntry}
 use Rattle.xsb.specs.inside.Gaps.{IsGap, BeginsBoard}
 use Rattle.xsb.specs.inside.Reading.{cut_lines}
 
@@ -24,10 +24,10 @@ pub record HasRead (bytes : List ℕ) (left : Collection) (founds : List Found) 
   pub onto : (parts : List Part) (others : List Found) → Continues left.lines.number texts (cut_lines left.lines.rest) parts others →
       IsCollection bytes (founds ++ others)
 
--- the entry of the next board, and the collection after it; or these boards are all
-abbrev pub GivesNext : List ℕ → List Found → Collection → Option Entry → Type 0
+-- the next board, and the collection after it; or these boards are all
+abbrev pub GivesNext : List ℕ → List Found → Collection → Option BoardEntry → Type 0
 GivesNext bytes founds after None = IsCollection bytes founds
-GivesNext bytes founds after (Some entry) = (found : Found) × IsEntry entry found × HasRead bytes after (founds ++ found ∷ [])
+GivesNext bytes founds after (Some entry) = (found : Found) × IsBoardEntry entry found × HasRead bytes after (founds ++ found ∷ [])
 
 -- a collection has no more boards than it has lines left
 abbrev pub lines_left : Collection → ℕ

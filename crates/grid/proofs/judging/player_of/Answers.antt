@@ -2,7 +2,7 @@ use Rattle.std.proofs.Common.{sym, ◌∙◌}
 use Rattle.grid.specs.Board.{player_cell}
 use Rattle.grid.proofs.lemmas.Levels.{start_player_is}
 use Rattle.grid.proofs.lemmas.Places.{places_more_no}
-use Rattle.grid.proofs.level.player_of.Goals as goal
+use Rattle.grid.proofs.judging.player_of.Goals as goal
 
 pub returns-then-has_player : goal.returns-then-has_player
 returns-then-has_player c = λ cols.

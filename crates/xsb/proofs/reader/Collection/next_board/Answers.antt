@@ -1,6 +1,6 @@
 use Rattle.std.proofs.Common.{refl, ◌∙◌}
 use Rattle.xsb.proofs.BoardByBoard.{HasRead-more, HasRead-all, HasRows-read, reads-fewer}
-use Rattle.xsb.proofs.reader.Collection.next_entry.Goals as goal
+use Rattle.xsb.proofs.reader.Collection.next_board.Goals as goal
 
 pub returns-in_default-clause-next : goal.returns-in_default-clause-next
 returns-in_default-clause-next c = λ bytes founds has. HasRead-all c.args.self.now has c.in_default.ensures
@@ -8,8 +8,8 @@ returns-in_default-clause-next c = λ bytes founds has. HasRead-all c.args.self.
 pub returns-clause-next : goal.returns-clause-next
 returns-clause-next c = λ bytes founds has.
     HasRead-more c.args.self.now (record { lines = c.read_gap-after.new.lines; before = c.read_gap-after.result })
-    (record { name = c.in_ok-name.name; first_line = c.in-Some.board.first_line; board = c.in_ok-level.level }) has c.in-Some.ensures c.read_gap-after.ensures
-    (λ b a f g. c.in_ok-name.ensures.items ∙ c.name_with.ensures b a f g) refl (c.in_ok-level.ensures _ (HasRows-read c.in-Some.ensures))
+    (record { name = c.in_ok-name.name; first_line = c.in-Some.board.first_line; board = c.in_ok-judged.judged }) has c.in-Some.ensures c.read_gap-after.ensures
+    (λ b a f g. c.in_ok-name.ensures.items ∙ c.name_with.ensures b a f g) refl (c.in_ok-judged.ensures _ (HasRows-read c.in-Some.ensures))
 
 pub returns-clause-fewer : goal.returns-clause-fewer
 returns-clause-fewer c = reads-fewer c.in-Some.ensures c.read_gap-after.ensures

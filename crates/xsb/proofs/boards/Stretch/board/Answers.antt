@@ -1,6 +1,6 @@
 use Rattle.std.proofs.Common.{arith, ◌∙◌}
 use Rattle.xsb.proofs.Judging.{HasRows-cols, too-tall, too-wide, cols-exact, cells-whole, same-board, judged-fault}
-use Rattle.xsb.proofs.boards.Stretch.level.Goals as goal
+use Rattle.xsb.proofs.boards.Stretch.board.Goals as goal
 
 pub from_cells-requires : goal.from_cells-requires
 from_cells-requires c =

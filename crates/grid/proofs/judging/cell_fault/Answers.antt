@@ -1,7 +1,7 @@
 use Rattle.std.proofs.Common.{◌/◌, length}
 use Rattle.std.proofs.lemmas.Bool.{le-ltb}
 use Rattle.grid.specs.declared.limits.TheConstants.{MAX_ROWS, MAX_COLS}
-use Rattle.grid.proofs.level.cell_fault.Goals as goal
+use Rattle.grid.proofs.judging.cell_fault.Goals as goal
 
 pub returns : goal.returns
 returns c =

@@ -1,11 +1,11 @@
-use Rattle.std.proofs.Common.{◌≡◌, ℕ, ◌%◌, ◌≤◌, ◌↔◌, Bool, false, Option, None, List, length, count_by, refl, sym, ap, subst, ◌∙◌}
+use Rattle.std.proofs.Common.{◌≡◌, ℕ, ◌/◌, ◌↔◌, Bool, false, Option, None, List, count_by, refl, sym, ap, subst, ◌∙◌, arith}
 use Rattle.grid.specs.declared.cell.Cell.{Cell}
 use Rattle.grid.specs.declared.fault.LevelFault.{LevelFault}
 use Rattle.grid.specs.Board.{Board, box_cell, is_wall, start, start_player}
-use Rattle.grid.specs.Lawful.{InRoom, IsOpen, cell_fault, player_count}
+use Rattle.grid.specs.Lawful.{InRoom, IsLevel, IsOpen, cell_fault, player_count}
 use Rattle.grid.specs.inside.Filling.{IsMarked}
-use Rattle.grid.proofs.lemmas.Levels.{counts_of, start_is_scene_with}
-use Rattle.grid.proofs.level.Level.from_cells.Goals as goal
+use Rattle.grid.proofs.lemmas.Levels.{counts_of, level_squares, start_is_scene_with}
+use Rattle.grid.proofs.board.Board.from_cells.Goals as goal
 
 -- what the answer that no cell is at fault says of the board
 lawful_of : (board : Board) (cols : ℕ) (xs ys : List Cell) (r : Option LevelFault) → board ≡ record { cols = cols; cells = xs } → r ≡ cell_fault (record { cols = cols; cells = ys }) → ys ≡ xs → r ≡ None → cell_fault board ≡ None
@@ -44,17 +44,19 @@ room_of-requires-clause-floor c =
 
 pub invariant_of-result : goal.invariant_of-result
 invariant_of-result c =
-    let plan = c.in_ok-plan.plan in
+    let cells = c.args.cells.items in
+    let board : Board = record { cols = c.args.cols; cells = cells } in
+    let lawful = lawful_of board c.args.cols cells _ _ refl c.cell_fault.ensures c.as_slice.ensures.value c.in_default.is in
+    let level : IsLevel board = record {
+      columns = c.requires.columns;
+      whole = c.requires.whole;
+      lawful = record { cells = lawful; closed = closed_of board c.args.cols cells _ refl c.as_slice-3.ensures.value c.in_ok-room.ensures.closed };
+    } in
     record {
-      level = record {
-        columns = subst (λ (b : Board). 1 ≤ b.cols) (sym c.in_ok-plan.ensures) c.requires.columns;
-        whole = subst (λ (b : Board). length b.cells % b.cols ≡ 0) (sym c.in_ok-plan.ensures) c.requires.whole;
-        lawful = record {
-          cells = lawful_of plan c.args.cols c.args.cells.items _ _ c.in_ok-plan.ensures c.cell_fault.ensures c.as_slice.ensures.value c.in_default.is;
-          closed = closed_of plan c.args.cols c.args.cells.items _ c.in_ok-plan.ensures c.as_slice-3.ensures.value c.in_ok-room.ensures.closed;
-        };
-      };
-      boxes = c.boxes_of-boxes.ensures ∙ (ap (count_by box_cell) c.as_slice-4.ensures.value ∙ ap (λ (b : Board). count_by box_cell b.cells) (sym c.in_ok-plan.ensures));
-      player = player_of plan c.args.cols _ c.args.cells.items _ c.in_ok-plan.ensures c.as_slice-2.ensures.value (c.player_of-player.ensures c.args.cols);
-      room = room_of plan c.args.cols _ c.args.cells.items _ c.in_ok-plan.ensures c.as_slice-3.ensures.value c.in_ok-room.ensures.marked;
+      level = level;
+      bound = level_squares board level;
+      rows = ap (λ (n : ℕ). n / c.args.cols) (omega (arith, c.len.ensures, c.args.cells.ok.0));
+      boxes = c.boxes_of-boxes.ensures ∙ ap (count_by box_cell) c.as_slice-4.ensures.value;
+      player = player_of board c.args.cols _ cells _ refl c.as_slice-2.ensures.value (c.player_of-player.ensures c.args.cols);
+      room = room_of board c.args.cols _ cells _ refl c.as_slice-3.ensures.value c.in_ok-room.ensures.marked;
     }
