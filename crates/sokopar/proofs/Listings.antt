@@ -10,7 +10,7 @@ use Rattle.sokopar.specs.declared.fault.RunFault.{RunFault}
 use Rattle.sokopar.specs.declared.fault.RunFault.TheVariants.{OutOfMemory}
 use Rattle.sokopar.specs.Runs.{ReadsWhole, ReadsIfSome, Stops}
 use Rattle.xsb.specs.Collection.{Found}
-use Rattle.xsb.specs.declared.entry.Entry.{Entry}
+use Rattle.xsb.specs.declared.entry.BoardEntry.{BoardEntry}
 use Rattle.xsb.specs.declared.limits.TheConstants.{MAX_FILE}
 use Rattle.xsb.specs.declared.reader.Collection.{Collection}
 use Rattle.xsb.specs.inside.Progress.{HasRead, GivesNext, lines_left}
@@ -32,7 +32,7 @@ each-last (l ∷ listing) [] listed found each is = absurd each
 each-last (l ∷ listing) (f ∷ founds) listed found each is = (each.0, each-last listing founds listed found each.1 is)
 
 -- a board more
-listed-more : {bytes : List ℕ} {first : Collection} {listing : List Listed} (last : Collection) (entry : Entry) (is : HasListed bytes first listing)
+listed-more : {bytes : List ℕ} {first : Collection} {listing : List Listed} (last : Collection) (entry : BoardEntry) (is : HasListed bytes first listing)
     → GivesNext bytes is.founds last (Some entry) → HasListed bytes last (listing ++ listed_of entry ∷ [])
 listed-more {bytes} {first} {listing} last entry is next = record {
   founds = is.founds ++ next.0 ∷ [];
@@ -98,7 +98,7 @@ good-bound true now good levels e few = let f : now ≡ good + 1 = e in omega ar
 good-bound false now good levels e few = let f : now ≡ good = e in omega arith
 
 -- a board more is checked
-pub checked-more : {bytes text : List ℕ} {first : Collection} {levels good : ℕ} (last : Collection) (entry : Entry) (more : List ℕ) (now : ℕ) (t : Bool) (is : HasChecked bytes first text levels good)
+pub checked-more : {bytes text : List ℕ} {first : Collection} {levels good : ℕ} (last : Collection) (entry : BoardEntry) (more : List ℕ) (now : ℕ) (t : Bool) (is : HasChecked bytes first text levels good)
     → GivesNext bytes is.so_far.founds last (Some entry) → lines_left last < lines_left first → t ≡ is_good (listed_of entry) → now ≡ cond t (good + 1) good
     → more ≡ text ++ check_line (levels + 1) (listed_of entry) → HasChecked bytes last more (levels + 1) now
 checked-more {bytes} {text} {first} {levels} {good} last entry more now t is next fewer lawful grown line =
@@ -163,20 +163,21 @@ get-other (l ∷ listing) listed zero at = refl
 get-other (l ∷ listing) listed (suc k) at = get-other listing listed k (λ e. at (ap suc e))
 
 -- a board more, which is that of the number
-pub looked-here : {bytes : List ℕ} {first : Collection} {number count : ℕ} {chosen : Option (Result Board LevelFault)} (last : Collection) (entry : Entry) (is : HasLooked bytes first number count chosen)
-    → GivesNext bytes is.so_far.founds last (Some entry) → lines_left last < lines_left first → count + 1 ≡ number → HasLooked bytes last number (count + 1) (Some entry.board)
-looked-here {bytes} {first} {number} {count} {chosen} last entry is next fewer here =
+pub looked-here : {bytes : List ℕ} {first : Collection} {number count : ℕ} {chosen : Option (Result Board LevelFault)} (last : Collection) (entry : BoardEntry) (is : HasLooked bytes first number count chosen)
+    → GivesNext bytes is.so_far.founds last (Some entry) → lines_left last < lines_left first → count + 1 ≡ number → (board : Result Board LevelFault) → board ≡ entry.board
+    → HasLooked bytes last number (count + 1) (Some board)
+looked-here {bytes} {first} {number} {count} {chosen} last entry is next fewer here board same =
     let counted = is.counted in let long = length-append is.listing (listed_of entry ∷ []) in let room = is.room in
     record {
       listing = is.listing ++ listed_of entry ∷ [];
       so_far = listed-more last entry is.so_far next;
       counted = omega arith;
-      is = sym (ap (option_map (λ listed. listed.board)) (get-last is.listing (listed_of entry) (number - 1) (omega arith)));
+      is = ap Some same ∙ sym (ap (option_map (λ listed. listed.board)) (get-last is.listing (listed_of entry) (number - 1) (omega arith)));
       room = omega arith;
     }
 
 -- or another one
-pub looked-on : {bytes : List ℕ} {first : Collection} {number count : ℕ} {chosen : Option (Result Board LevelFault)} (last : Collection) (entry : Entry) (is : HasLooked bytes first number count chosen)
+pub looked-on : {bytes : List ℕ} {first : Collection} {number count : ℕ} {chosen : Option (Result Board LevelFault)} (last : Collection) (entry : BoardEntry) (is : HasLooked bytes first number count chosen)
     → GivesNext bytes is.so_far.founds last (Some entry) → lines_left last < lines_left first → 1 ≤ number → count + 1 ≢ number → HasLooked bytes last number (count + 1) chosen
 looked-on {bytes} {first} {number} {count} {chosen} last entry is next fewer some other =
     let counted = is.counted in let long = length-append is.listing (listed_of entry ∷ []) in let room = is.room in

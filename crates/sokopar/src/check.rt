@@ -5,9 +5,9 @@ ghost use Rattle.sokopar.specs.Report.{fault_name, fault_words, level_words, nam
 
 use crate::report::Report;
 use crate::text::Text;
-use grid::{Level, LevelFault};
+use grid::{Board, LevelFault};
 use std::alloc::{AllocError, Global};
-use xsb::{Collection, Entry, MAX_FILE};
+use xsb::{BoardEntry, Collection, MAX_FILE};
 
 /// The number and the name of a fault.
 fn fault_name(fault: LevelFault) -> &'static [u8]
@@ -40,16 +40,16 @@ pub(crate) fn put_fault(text: &mut Text, fault: LevelFault) -> Result<(), AllocE
     Ok(())
 }
 
-/// Appends how a lawful level is told.
-fn put_level(text: &mut Text, level: &Level) -> Result<(), AllocError>
-    ensures { OnOk result (text.new ≡ text.old ++ level_words level.now) }
+/// Appends how a lawful level is told, of which the board is enough.
+fn put_level(text: &mut Text, board: &Board) -> Result<(), AllocError>
+    ensures { OnOk result (text.new ≡ text.old ++ level_words board.now) }
 {
     text.put(b"ok ")?;
-    text.put_number(level.rows())?;
+    text.put_number(board.rows())?;
     text.put(b"x")?;
-    text.put_number(level.cols())?;
+    text.put_number(board.cols())?;
     text.put(b" ")?;
-    text.put_number(level.boxes())?;
+    text.put_number(board.boxes())?;
     text.put(b" boxes")
 }
 
@@ -65,7 +65,7 @@ fn put_name(text: &mut Text, name: &[u8]) -> Result<(), AllocError>
 }
 
 /// Appends the line of a level.
-fn put_line(text: &mut Text, number: usize, entry: &Entry) -> Result<(), AllocError>
+fn put_line(text: &mut Text, number: usize, entry: &BoardEntry) -> Result<(), AllocError>
     ensures { OnOk result (text.new ≡ text.old ++ check_line number (listed_of entry.now)) }
 {
     text.put_number(number)?;
@@ -73,15 +73,15 @@ fn put_line(text: &mut Text, number: usize, entry: &Entry) -> Result<(), AllocEr
     text.put_number(entry.first_line as usize)?;
     text.put(b" ")?;
     match &entry.board {
-        Ok(level) => put_level(text, level)?,
+        Ok(board) => put_level(text, board)?,
         Err(fault) => put_fault(text, *fault)?,
     }
     put_name(text, entry.name.as_slice())?;
     text.put(b"\n")
 }
 
-/// Whether an entry has a lawful level.
-fn is_good(entry: &Entry) -> bool
+/// Whether a board is a lawful level.
+fn is_good(entry: &BoardEntry) -> bool
     ensures { result ≡ is_good (listed_of entry.now) }
 {
     entry.board.is_ok()
@@ -97,7 +97,8 @@ fn put_totals(text: &mut Text, levels: usize, good: usize) -> Result<(), AllocEr
     text.put(b" good\n")
 }
 
-/// The report of checking a collection. A board's line is made as the board is read, and then its level is dropped.
+/// The report of checking a collection. A board's line is made as the board is read, and then the board is dropped; no
+/// level is made of it.
 pub(crate) fn check_report(alloc: Global, bytes: &[u8]) -> Result<Report, AllocError>
     requires { length bytes.now ≤ MAX_FILE }
     ensures { IfOk result (λ report. IsCheckReport bytes.now report) }
@@ -109,7 +110,7 @@ pub(crate) fn check_report(alloc: Global, bytes: &[u8]) -> Result<Report, AllocE
     let mut levels = 0;
     let mut good = 0;
     'boards: loop {
-        let Some(entry) = collection.next_entry(alloc)? else {
+        let Some(entry) = collection.next_board(alloc)? else {
             break;
         };
         levels += 1;

@@ -8,7 +8,8 @@ use xsb::{Collection, MAX_FILE};
 /// The level that a command is about, or its fault; `None` where the collection has fewer levels.
 pub(crate) type Chosen = Option<Result<Level, LevelFault>>;
 
-/// Level N of a collection, counted from 1. All levels are made, one after the other, and only this one is kept.
+/// Level N of a collection, counted from 1. All boards are judged, one after the other, and of this one alone a level is
+/// made.
 pub(crate) fn level_of(alloc: Global, bytes: &[u8], number: u32) -> Result<Chosen, AllocError>
     requires number { 1 ≤ number }
     requires bound { length bytes.now ≤ MAX_FILE }
@@ -20,12 +21,13 @@ pub(crate) fn level_of(alloc: Global, bytes: &[u8], number: u32) -> Result<Chose
     let mut chosen = None;
     let mut count = 0;
     'boards: loop {
-        let Some(entry) = collection.next_entry(alloc)? else {
+        let Some(entry) = collection.next_board(alloc)? else {
             break;
         };
         count += 1;
         if count == number as usize {
-            chosen = Some(entry.board);
+            let listed = entry.into_entry(alloc)?;
+            chosen = Some(listed.board);
         }
     }
     Ok(chosen)

@@ -11,25 +11,25 @@ pub boards-preserved-in_ok-put_line : goal.boards-preserved-in_ok-put_line
 boards-preserved-in_ok-put_line c =
     let so_far = c.boards.invariant in
     let good = c.boards.good in
-    let next = subst (λ n. GivesNext c.args.bytes.now so_far.so_far.founds c.next_entry.new.self n) c.in-Some.is
+    let next = subst (λ n. GivesNext c.args.bytes.now so_far.so_far.founds c.next_board.new.self n) c.in-Some.is
     (c.in_ok-entry.ensures.next c.args.bytes.now so_far.so_far.founds so_far.so_far.read) in
     let grown : c.if-is_good.good ≡ cond c.is_good.result (good + 1) good = search rules in
     let line : c.put_line.new.text ≡ c.boards.text ++ check_line (c.boards.levels + 1) (listed_of c.in-Some.entry) = search rules in
-    checked-more c.next_entry.new.self c.in-Some.entry c.put_line.new.text c.if-is_good.good c.is_good.result so_far next (search rules) c.is_good.ensures grown line
+    checked-more c.next_board.new.self c.in-Some.entry c.put_line.new.text c.if-is_good.good c.is_good.result so_far next (search rules) c.is_good.ensures grown line
 
 pub boards-preserved : goal.boards-preserved
 boards-preserved c =
     let so_far = c.boards.invariant in
     let good = c.boards.good in
-    let next = subst (λ n. GivesNext c.args.bytes.now so_far.so_far.founds c.next_entry.new.self n) c.in-Some.is
+    let next = subst (λ n. GivesNext c.args.bytes.now so_far.so_far.founds c.next_board.new.self n) c.in-Some.is
     (c.in_ok-entry.ensures.next c.args.bytes.now so_far.so_far.founds so_far.so_far.read) in
     let grown : c.if-is_good.good ≡ cond c.is_good.result (good + 1) good = search rules in
     let line : c.put_line.new.text ≡ c.boards.text ++ check_line (c.boards.levels + 1) (listed_of c.in-Some.entry) = search rules in
-    checked-more c.next_entry.new.self c.in-Some.entry c.put_line.new.text c.if-is_good.good c.is_good.result so_far next (search rules) c.is_good.ensures grown line
+    checked-more c.next_board.new.self c.in-Some.entry c.put_line.new.text c.if-is_good.good c.is_good.result so_far next (search rules) c.is_good.ensures grown line
 
 pub returns : goal.returns
 returns c =
     let so_far = c.boards.invariant in
-    let all = subst (λ n. GivesNext c.args.bytes.now so_far.so_far.founds c.next_entry.new.self n) c.in_default-2.is
+    let all = subst (λ n. GivesNext c.args.bytes.now so_far.so_far.founds c.next_board.new.self n) c.in_default-2.is
     (c.in_ok-entry.ensures.next c.args.bytes.now so_far.so_far.founds so_far.so_far.read) in
-    checked-all c.next_entry.new.self so_far all c.new.result (search rules)
+    checked-all c.next_board.new.self so_far all c.new.result (search rules)
