@@ -1,7 +1,8 @@
 -- Filling the player's room: marks grow until they are closed under steps.
-use Rattle.std.proofs.Common.{◌≡◌, ℕ, ◌+◌, ◌<◌, Bool, true, false, not, cond, eqb, ◌||◌, List, [], ◌∷◌, ◌++◌, length, get_or, set, replicate, count_by, ◌⊎◌, ◌↔◌, inl, inr, refl, sym, ap, subst, ◌∙◌, arith}
-use Rattle.std.proofs.lemmas.Bool.{eqb-true, eq-eqb, cases_eq, cases_lt, or_cases, or_left, or_right, false≢true}
-use Rattle.std.proofs.lemmas.List.{get_or_past, get_or-set_same, get_or-set_other, get_or-replicate, length-set, length-append, length-replicate}
+use Rattle.std.proofs.Common.{◌≡◌, ℕ, suc, ◌+◌, ◌-◌, ◌%◌, ◌<◌, ◌≤◌, Bool, true, false, not, cond, eqb, ◌||◌, ◌&&◌, List, [], ◌∷◌, ◌++◌, length, get_or, set, replicate, ◌⊎◌, ◌↔◌, inl, inr, refl, sym, ap, subst, ◌∙◌, arith}
+use Rattle.std.proofs.lemmas.Bool.{eqb-true, eq-eqb, lt-ltb, le-ltb, cases_eq, cases_lt, or_cases, or_left, or_right, ne_eqb, false≢true, true≢false}
+use Rattle.std.proofs.Math.Nat.{mod-lt, add-mod_right}
+use Rattle.std.proofs.lemmas.List.{get_or_past, get_or-set_same, get_or-set_other, get_or-replicate, length-set, length-replicate}
 use Rattle.std.proofs.lemmas.List.Sums.{sum_by-set}
 use Rattle.grid.specs.declared.dir.Dir.{Dir}
 use Rattle.grid.specs.declared.dir.Dir.TheVariants.{D, L, R, U}
@@ -9,7 +10,10 @@ use Rattle.grid.specs.Board.{Board, is_wall, next, start_player}
 use Rattle.grid.specs.Lawful.{InRoom, IsOpen}
 use Rattle.grid.specs.Lawful.InRoom.{here, beside}
 use Rattle.grid.specs.Squares.{contains}
-use Rattle.grid.specs.inside.Filling.{IsMarked, Grows}
+use Rattle.grid.specs.inside.Filling.{Awaits, IsFilling, IsMarked, IsRunning, Seeds, work}
+use Rattle.grid.specs.inside.Filling.Awaits.{listed, along}
+use Rattle.grid.proofs.Columns.{next_row, next_column}
+use Rattle.grid.proofs.lemmas.Steps.{inside_grid, wall_at_end}
 
 -- ---- marks and pending squares
 
@@ -45,69 +49,6 @@ contains_push_cases xs q r h = elim (or_cases (contains xs r) (eqb q r) (sym (co
   | inr e ↦ inr (eqb-true q r e)
 ]
 
--- ---- growing
-
--- nothing happened
-pub grows_none : (Ok : ℕ → Type 0) (marks : List Bool) (pending : List ℕ) → Grows Ok marks pending marks pending
-grows_none Ok marks pending = record { size = refl; kept = λ q h. h; fresh = λ q h. inl h; waits = λ q h. h; marked = λ q h. inl h; work = omega arith }
-
--- one square was marked and put among those that are pending
-pub grows_one : (Ok : ℕ → Type 0) (marks : List Bool) (pending : List ℕ) (q : ℕ) → q < length marks → get_or marks q false ≡ false → Ok q → Grows Ok marks pending (set marks q true) (pending ++ q ∷ [])
-grows_one Ok marks pending q inside free ok = record {
-  size = length-set marks q true;
-  kept = λ r h. elim (cases_eq r q) [
-    | inl e ↦ subst (λ (x : ℕ). IsMarked (set marks q true) x) (sym e) (get_or-set_same marks q true false inside)
-    | inr ne ↦ get_or-set_other marks q r true false ne ∙ h
-  ];
-  fresh = λ r h. elim (cases_eq r q) [
-    | inl e ↦ inr (subst (λ (x : ℕ). contains (pending ++ q ∷ []) x ≡ true) (sym e) (contains_push_here pending q), subst Ok (sym e) ok)
-    | inr ne ↦ inl (sym (get_or-set_other marks q r true false ne) ∙ h)
-  ];
-  waits = λ r h. contains_push_before pending q r h;
-  marked = λ r h. elim (contains_push_cases pending q r h) [
-    | inl e ↦ inl e
-    | inr e ↦ inr (subst (λ (x : ℕ). IsMarked (set marks q true) x) e (get_or-set_same marks q true false inside))
-  ];
-  work =
-      let counted : count_by not (set marks q true) + 1 ≡ count_by not marks = one_less in
-      omega (arith, counted, length-append pending (q ∷ []));
-}
-  where
-    one_less : count_by not (set marks q true) + 1 ≡ count_by not marks
-    one_less =
-        let e = sum_by-set (λ b. cond (not b) 1 0) marks q true false inside in
-        let f : ◌≡◌ {A = ℕ} (cond (not (get_or marks q false)) 1 0) 1 = rw free refl in
-        omega (arith, e, f)
-
--- first one, then the other
-pub grows_then : (Ok : ℕ → Type 0) (m n o : List Bool) (p q r : List ℕ) → Grows Ok m p n q → Grows Ok n q o r → Grows Ok m p o r
-grows_then Ok m n o p q r g h = record {
-  size = h.size ∙ g.size;
-  kept = λ x k. h.kept x (g.kept x k);
-  fresh = λ x k. elim (h.fresh x k) [
-    | inl e ↦ elim (g.fresh x e) [ inl f ↦ inl f | inr f ↦ inr (h.waits x f.0, f.1) ]
-    | inr e ↦ inr e
-  ];
-  waits = λ x k. h.waits x (g.waits x k);
-  marked = λ x k. elim (h.marked x k) [
-    | inl e ↦ elim (g.marked x e) [ inl f ↦ inl f | inr f ↦ inr (h.kept x f) ]
-    | inr e ↦ inr e
-  ];
-  work = omega (arith, g.work, h.work);
-}
-
--- ---- the room, half filled
-
--- the marks are in the room, a step from a marked square to one without a mark starts at a pending one, and so does
--- one that leads out of the grid
-pub record IsFilling (board : Board) (marks : List Bool) (pending : List ℕ) : Type 0 where
-  pub size : length marks ≡ length board.cells
-  pub start : IsMarked marks (start_player board)
-  pub inside : (q : ℕ) → IsMarked marks q → InRoom board q
-  pub marked : (q : ℕ) → contains pending q ≡ true → IsMarked marks q
-  pub closed : (q : ℕ) (d : Dir) → IsMarked marks q → is_wall board (next board q d) ≡ false → (contains pending q ≡ true) ⊎ IsMarked marks (next board q d)
-  pub inner : (q : ℕ) (d : Dir) → IsMarked marks q → next board q d ≡ length board.cells → contains pending q ≡ true
-
 -- no mark, before the first
 pub unmarked : (n q : ℕ) → IsMarked (replicate n false) q → ⊥
 unmarked n q h = elim (cases_lt q n) [
@@ -115,64 +56,473 @@ unmarked n q h = elim (cases_lt q n) [
   | inr ge ↦ false≢true (sym (get_or_past (replicate n false) q false (omega (arith, length-replicate n false))) ∙ h)
 ]
 
--- the player's square was visited first
-pub fill_start : (board : Board) (clear marks : List Bool) (pending : List ℕ) → length clear ≡ length board.cells → ((q : ℕ) → IsMarked clear q → ⊥) → Grows (InRoom board) clear [] marks pending → IsMarked marks (start_player board) → IsFilling board marks pending
-fill_start board clear marks pending sized none g start = record {
-  size = g.size ∙ sized;
-  start = start;
-  inside = λ q h. elim (g.fresh q h) [ inl e ↦ absurd (none q e) | inr e ↦ e.1 ];
-  marked = λ q h. elim (g.marked q h) [ inl e ↦ absurd (false≢true e) | inr e ↦ e ];
-  closed = λ q d h floor. elim (g.fresh q h) [ inl e ↦ absurd (none q e) | inr e ↦ inl e.0 ];
-  inner = λ q d h edge. elim (g.fresh q h) [ inl e ↦ absurd (none q e) | inr e ↦ e.0 ];
-}
+-- ---- what awaits its mark
 
--- one pending square was taken and its neighbours visited, and none of them lies outside the grid
-pub fill_turn : (board : Board) (marks more : List Bool) (rest later : List ℕ) (q : ℕ) → IsFilling board marks (rest ++ q ∷ []) → Grows (InRoom board) marks rest more later
-    → ((d : Dir) → is_wall board (next board q d) ≡ false → IsMarked more (next board q d)) → ((d : Dir) → next board q d ≡ length board.cells → ⊥) → IsFilling board more later
-fill_turn board marks more rest later q f g visited within = record {
-  size = g.size ∙ f.size;
-  start = g.kept (start_player board) f.start;
-  inside = λ x h. elim (g.fresh x h) [ inl e ↦ f.inside x e | inr e ↦ e.1 ];
-  marked = λ x h. elim (g.marked x h) [ inl e ↦ g.kept x (f.marked x (contains_push_before rest q x e)) | inr e ↦ e ];
-  closed = λ x d h floor. elim (g.fresh x h) [
-    | inl e ↦ elim (f.closed x d e floor) [
-      | inl there ↦ elim (contains_push_cases rest q x there) [
-        | inl waits ↦ inl (g.waits x waits)
-        | inr same ↦ inr (subst (λ (y : ℕ). is_wall board (next board y d) ≡ false → IsMarked more (next board y d)) same (visited d) floor)
-      ]
-      | inr there ↦ inr (g.kept (next board x d) there)
+-- where p is no longer pending since it is marked, or awaits its mark for another reason, so is what followed it
+pub awaits_without : (board : Board) (marks : List Bool) (p : ℕ) (xs ys : List ℕ)
+    → ((r : ℕ) → contains xs r ≡ true → contains ys r ≡ true)
+    → (is_wall board p ≡ false → IsMarked marks p ⊎ Awaits board ys p)
+    → ((q : ℕ) → IsMarked marks q → is_wall board (next board q R) ≡ false → IsMarked marks (next board q R) ⊎ Awaits board ys (next board q R))
+    → (x : ℕ) → Awaits board (p ∷ xs) x → IsMarked marks x ⊎ Awaits board ys x
+awaits_without board marks p xs ys more gone whole x a = go a
+  where
+    go : {y : ℕ} → Awaits board (p ∷ xs) y → IsMarked marks y ⊎ Awaits board ys y
+    go (listed {q} there floor) = elim (or_cases (eqb p q) (contains xs q) there) [
+      | inl e ↦ subst (λ (y : ℕ). is_wall board y ≡ false → IsMarked marks y ⊎ Awaits board ys y) (eqb-true p q e) gone floor
+      | inr e ↦ inr (listed (more q e) floor)
     ]
-    | inr e ↦ inl e.0
-  ];
-  inner = λ x d h edge. elim (g.fresh x h) [
-    | inl e ↦ elim (contains_push_cases rest q x (f.inner x d e edge)) [
-      | inl waits ↦ g.waits x waits
-      | inr same ↦ absurd (within d (ap (λ (y : ℕ). next board y d) same ∙ edge))
-    ]
-    | inr e ↦ e.0
-  ];
+    go (along {q} before floor) = elim (go before) [ inl e ↦ whole q e floor | inr e ↦ inr (along e floor) ]
+
+-- what awaits its mark awaits it where more is pending
+pub awaits_more : (board : Board) (xs ys : List ℕ) → ((r : ℕ) → contains xs r ≡ true → contains ys r ≡ true) → (x : ℕ) → Awaits board xs x → Awaits board ys x
+awaits_more board xs ys more x a = go a
+  where
+    go : {y : ℕ} → Awaits board xs y → Awaits board ys y
+    go (listed {q} there floor) = listed (more q there) floor
+    go (along {q} before floor) = along (go before) floor
+
+-- what awaits its mark is of the room, where what is pending is
+pub awaits_none : (board : Board) (x : ℕ) → Awaits board [] x → ⊥
+awaits_none board x a = go a
+  where
+    go : {y : ℕ} → Awaits board [] y → ⊥
+    go (listed {q} there floor) = false≢true there
+    go (along {q} before floor) = go before
+
+-- no step to the right leads to the end and to a square that is no wall
+pub not_at_end : (board : Board) (q : ℕ) → is_wall board q ≡ false → q ≡ length board.cells → ⊥
+not_at_end board q floor e = (let lt = inside_grid board q floor in omega (arith, lt, e))
+
+-- p is no longer pending, since it is a wall or has its mark
+pub forget : (board : Board) (marks : List Bool) (p place : ℕ) (xs : List ℕ) → IsRunning board marks (p ∷ xs) place
+    → (is_wall board p ≡ false → IsMarked marks p) → (is_wall board place ≡ false → IsMarked marks place) → IsFilling board marks xs
+forget board marks p place xs f gone ended = record {
+  size = f.size;
+  start = elim f.start [ inl e ↦ inl e | inr e ↦ without (start_player board) e ];
+  inside = f.inside;
+  waits = λ q there floor. f.waits q (or_right (eqb p q) (contains xs q) there) floor;
+  whole = λ q h floor. inl (right q h floor);
+  closed = λ q d h floor. elim (f.closed q d h floor) [ inl e ↦ inl e | inr e ↦ without (next board q d) e ];
+  inner = f.inner;
 }
+  where
+    right : (q : ℕ) → IsMarked marks q → is_wall board (next board q R) ≡ false → IsMarked marks (next board q R)
+    right q h floor = elim (f.whole q h floor) [
+      | inl e ↦ e
+      | inr e ↦ subst (λ (y : ℕ). is_wall board y ≡ false → IsMarked marks y) (sym e) ended floor
+    ]
+
+    without : (x : ℕ) → Awaits board (p ∷ xs) x → IsMarked marks x ⊎ Awaits board xs x
+    without x a = awaits_without board marks p xs xs (λ r h. h) (λ floor. inl (gone floor)) (λ q h floor. inl (right q h floor)) x a
+
+-- ---- the beginning and the end
+
+-- the player's square is pending
+pub fill_start : (board : Board) (clear : List Bool) (pending : List ℕ) → length clear ≡ length board.cells → ((q : ℕ) → IsMarked clear q → ⊥)
+    → pending ≡ start_player board ∷ [] → is_wall board (start_player board) ≡ false → IsFilling board clear pending
+fill_start board clear pending sized none is floor = subst (IsFilling board clear) (sym is) first
+  where
+    first : IsFilling board clear (start_player board ∷ [])
+    first = record {
+      size = sized;
+      start = inr (listed (or_left (eqb (start_player board) (start_player board)) false (eq-eqb (start_player board) (start_player board) refl)) floor);
+      inside = λ q h. absurd (none q h);
+      waits = λ q there open_here. elim (or_cases (eqb (start_player board) q) false there) [
+        | inl e ↦ subst (InRoom board) (eqb-true (start_player board) q e) here
+        | inr e ↦ absurd (false≢true e)
+      ];
+      whole = λ q h open_here. absurd (none q h);
+      closed = λ q d h open_here. absurd (none q h);
+      inner = λ q d h e. none q h;
+    }
+
+-- the last of those that are pending may stand first
+pub last_first : (board : Board) (marks : List Bool) (xs : List ℕ) (p : ℕ) → IsFilling board marks (xs ++ p ∷ []) → IsFilling board marks (p ∷ xs)
+last_first board marks xs p f = record {
+  size = f.size;
+  start = elim f.start [ inl e ↦ inl e | inr e ↦ inr (awaits_more board (xs ++ p ∷ []) (p ∷ xs) to (start_player board) e) ];
+  inside = f.inside;
+  waits = λ q there floor. f.waits q (back q there) floor;
+  whole = f.whole;
+  closed = λ q d h floor. elim (f.closed q d h floor) [ inl e ↦ inl e | inr e ↦ inr (awaits_more board (xs ++ p ∷ []) (p ∷ xs) to (next board q d) e) ];
+  inner = f.inner;
+}
+  where
+    to : (r : ℕ) → contains (xs ++ p ∷ []) r ≡ true → contains (p ∷ xs) r ≡ true
+    to r h = elim (contains_push_cases xs p r h) [
+      | inl e ↦ or_right (eqb p r) (contains xs r) e
+      | inr e ↦ or_left (eqb p r) (contains xs r) (eq-eqb p r e)
+    ]
+
+    back : (r : ℕ) → contains (p ∷ xs) r ≡ true → contains (xs ++ p ∷ []) r ≡ true
+    back r h = elim (or_cases (eqb p r) (contains xs r) h) [
+      | inl e ↦ subst (λ (y : ℕ). contains (xs ++ p ∷ []) y ≡ true) (eqb-true p r e) (contains_push_here xs p)
+      | inr e ↦ contains_push_before xs p r e
+    ]
 
 -- nothing is pending: the marks are the room
 pub fill_done : (board : Board) (marks : List Bool) → IsFilling board marks [] → (q : ℕ) → IsMarked marks q ↔ InRoom board q
 fill_done board marks f q = (f.inside q, reached)
   where
     reached : {x : ℕ} → InRoom board x → IsMarked marks x
-    reached here = f.start
-    reached (beside {q} d r floor) = elim (f.closed q d (reached r) floor) [ inl e ↦ absurd (false≢true e) | inr e ↦ e ]
+    reached here = elim f.start [ inl e ↦ e | inr e ↦ absurd (awaits_none board (start_player board) e) ]
+    reached (beside {q} d r floor) = elim (f.closed q d (reached r) floor) [ inl e ↦ e | inr e ↦ absurd (awaits_none board (next board q d) e) ]
 
 -- nothing is pending: the room is closed
 pub fill_closed : (board : Board) (marks : List Bool) → IsFilling board marks [] → IsOpen board → ⊥
-fill_closed board marks f gap = false≢true (f.inner gap.0 gap.1 ((fill_done board marks f gap.0).1 gap.2) gap.3)
+fill_closed board marks f gap = f.inner gap.0 gap.1 ((fill_done board marks f gap.0).1 gap.2) gap.3
 
--- four visits, one to each neighbour
-pub grows_around : (board : Board) (q : ℕ) (m0 m1 m2 m3 m4 : List Bool) (p0 p1 p2 p3 p4 : List ℕ) → Grows (InRoom board) m0 p0 m1 p1 → Grows (InRoom board) m1 p1 m2 p2 → Grows (InRoom board) m2 p2 m3 p3 → Grows (InRoom board) m3 p3 m4 p4 → Grows (InRoom board) m0 p0 m4 p4
-grows_around board q m0 m1 m2 m3 m4 p0 p1 p2 p3 p4 d l r u =
-    let Ok = InRoom board in
-    grows_then Ok m0 m1 m4 p0 p1 p4 d (grows_then Ok m1 m2 m4 p1 p2 p4 l (grows_then Ok m2 m3 m4 p2 p3 p4 r u))
+-- ---- steps in a row
 
-pub marked_around : (board : Board) (q : ℕ) (m1 m2 m3 m4 : List Bool) (p1 p2 p3 p4 : List ℕ) → Grows (InRoom board) m1 p1 m2 p2 → Grows (InRoom board) m2 p2 m3 p3 → Grows (InRoom board) m3 p3 m4 p4 → (is_wall board (next board q D) ≡ false → IsMarked m1 (next board q D)) → (is_wall board (next board q L) ≡ false → IsMarked m2 (next board q L)) → (is_wall board (next board q R) ≡ false → IsMarked m3 (next board q R)) → (is_wall board (next board q U) ≡ false → IsMarked m4 (next board q U)) → (d : Dir) → is_wall board (next board q d) ≡ false → IsMarked m4 (next board q d)
-marked_around board q m1 m2 m3 m4 p1 p2 p3 p4 l r u md ml mr mu D floor = u.kept _ (r.kept _ (l.kept _ (md floor)))
-marked_around board q m1 m2 m3 m4 p1 p2 p3 p4 l r u md ml mr mu L floor = u.kept _ (r.kept _ (ml floor))
-marked_around board q m1 m2 m3 m4 p1 p2 p3 p4 l r u md ml mr mu R floor = u.kept _ (mr floor)
-marked_around board q m1 m2 m3 m4 p1 p2 p3 p4 l r u md ml mr mu U floor = mu floor
+-- a step to the left, behind the first column
+pub left_is : (board : Board) (q : ℕ) → 0 < q % board.cols → next board q L ≡ q - 1
+unfolding next
+left_is board q more = rw (ne_eqb (q % board.cols) 0 (λ e. omega (arith, more, e))) refl
+
+-- and in it
+pub left_ends : (board : Board) (q : ℕ) → q % board.cols ≡ 0 → next board q L ≡ length board.cells
+unfolding next
+left_ends board q first = rw (eq-eqb (q % board.cols) 0 first) refl
+
+-- a step to the right, before the last column
+pub right_is : (board : Board) (q : ℕ) → 1 ≤ board.cols → (q % board.cols + 1 ≡ board.cols → ⊥) → next board q R ≡ suc q
+unfolding next
+right_is board q some more =
+    let e = next_column q board.cols (q % board.cols) some refl more in
+    rw (ne_eqb (suc q % board.cols) 0 (λ z. omega (arith, e, z))) refl
+
+-- and in it
+pub right_ends : (board : Board) (q : ℕ) → q % board.cols + 1 ≡ board.cols → next board q R ≡ length board.cells
+unfolding next
+right_ends board q last = rw (eq-eqb (suc q % board.cols) 0 (next_row q board.cols (q % board.cols) refl last)) refl
+
+-- a step upward, below the first row
+pub up_is : (board : Board) (q : ℕ) → board.cols ≤ q → next board q U ≡ q - board.cols
+unfolding next
+up_is board q le = rw (le-ltb q board.cols le) refl
+
+-- and in it
+pub up_ends : (board : Board) (q : ℕ) → q < board.cols → next board q U ≡ length board.cells
+unfolding next
+up_ends board q lt = rw (lt-ltb q board.cols lt) refl
+
+-- a step downward, above the last row
+pub down_is : (board : Board) (q : ℕ) → q + board.cols < length board.cells → next board q D ≡ q + board.cols
+unfolding next
+down_is board q lt = rw (lt-ltb (q + board.cols) (length board.cells) lt) refl
+
+-- and in it
+pub down_ends : (board : Board) (q : ℕ) → length board.cells ≤ q + board.cols → next board q D ≡ length board.cells
+unfolding next
+down_ends board q le = rw (le-ltb (q + board.cols) (length board.cells) le) refl
+
+-- the column before
+pub column_before : (q cols : ℕ) → 1 ≤ cols → 0 < suc q % cols → suc q % cols ≡ q % cols + 1
+column_before q cols some more = elim (cases_eq (q % cols + 1) cols) [
+  | inl last ↦ absurd (let e = next_row q cols (q % cols) refl last in omega (arith, e, more))
+  | inr ne ↦ next_column q cols (q % cols) some refl ne
+]
+
+-- ---- the first square of a run
+
+-- one square more to the left is of the same run
+pub run_back : (board : Board) (first start square : ℕ) → 1 ≤ board.cols → start ≡ first + start % board.cols → first < start
+    → is_wall board start ≡ false → is_wall board (start - 1) ≡ false → Awaits board (start ∷ []) square
+    → (start - 1 ≡ first + (start - 1) % board.cols) × Awaits board ((start - 1) ∷ []) square × (InRoom board start → InRoom board (start - 1))
+run_back board first start square some row more floor free run = (
+  omega (arith, row, column, is, ap (λ (x : ℕ). x % board.cols) is),
+  back,
+  λ r. subst (λ (y : ℕ). is_wall board y ≡ false → InRoom board y) left (λ open_here. beside L r open_here) free,
+)
+  where
+    is : suc (start - 1) ≡ start
+    is = omega (arith, more)
+
+    column : suc (start - 1) % board.cols ≡ (start - 1) % board.cols + 1
+    column = column_before (start - 1) board.cols some (subst (λ (y : ℕ). 0 < y % board.cols) (sym is) (omega (arith, row, more)))
+
+    left : next board start L ≡ start - 1
+    left = left_is board start (omega (arith, row, more))
+
+    right : next board (start - 1) R ≡ start
+    right = right_is board (start - 1) some (λ e. full (column ∙ e)) ∙ is
+      where
+        full : suc (start - 1) % board.cols ≡ board.cols → ⊥
+        full e = (let lt : suc (start - 1) % board.cols < board.cols = mod-lt (suc (start - 1)) (omega (arith, some)) in omega (arith, e, lt))
+
+    there : Awaits board ((start - 1) ∷ []) start
+    there = subst (λ (y : ℕ). is_wall board y ≡ false → Awaits board ((start - 1) ∷ []) y) right (λ open_here. along (listed (or_left (eqb (start - 1) (start - 1)) false (eq-eqb (start - 1) (start - 1) refl)) free) open_here) floor
+
+    back : Awaits board ((start - 1) ∷ []) square
+    back = go run
+      where
+        go : {y : ℕ} → Awaits board (start ∷ []) y → Awaits board ((start - 1) ∷ []) y
+        go (listed {q} here_is open_here) = elim (or_cases (eqb start q) false here_is) [
+          | inl e ↦ subst (Awaits board ((start - 1) ∷ [])) (eqb-true start q e) there
+          | inr e ↦ absurd (false≢true e)
+        ]
+        go (along {q} before open_here) = along (go before) open_here
+
+-- a square that is pending alone awaits its mark
+pub waits_itself : (board : Board) (q : ℕ) → is_wall board q ≡ false → Awaits board (q ∷ []) q
+waits_itself board q floor = listed (or_left (eqb q q) false (eq-eqb q q refl)) floor
+
+-- ---- one square more of a run
+
+-- what was looked at has its mark or awaits it
+pub seed_awaits : (board : Board) (marks : List Bool) (pending later : List ℕ) (q : ℕ) (before fresh : Bool) → Seeds board marks pending q before later fresh
+    → (before ≡ true → is_wall board q ≡ false → Awaits board pending q) → fresh ≡ true → Awaits board later q
+seed_awaits board marks pending later q before true s known is = elim (cases_true before) [
+  | inl e ↦ awaits_more board pending later s.kept q (known e (s.floor refl))
+  | inr e ↦ listed (s.begun refl e) (s.floor refl)
+]
+  where
+    cases_true : (b : Bool) → (b ≡ true) ⊎ (b ≡ false)
+    cases_true true = inl refl
+    cases_true false = inr refl
+seed_awaits board marks pending later q before false s known is = absurd (false≢true is)
+
+pub seed_marked : (board : Board) (marks : List Bool) (pending later : List ℕ) (q : ℕ) (before fresh : Bool) → Seeds board marks pending q before later fresh
+    → (before ≡ true → is_wall board q ≡ false → Awaits board pending q) → is_wall board q ≡ false → IsMarked marks q ⊎ Awaits board later q
+seed_marked board marks pending later q before true s known floor = inr (seed_awaits board marks pending later q before true s known refl)
+seed_marked board marks pending later q before false s known floor = inl (s.marked refl floor)
+
+module _ (board : Board) (marks : List Bool) (p0 p1 p2 : List ℕ) (place : ℕ) (a b aa bb : Bool)
+    (some : 1 ≤ board.cols) (wider : 0 < place % board.cols) (short : place % board.cols + 1 ≡ board.cols → ⊥)
+    (top : board.cols ≤ place) (low : place + board.cols < length board.cells)
+    (f : IsRunning board marks (place ∷ p0) place) (floor : is_wall board place ≡ false) (free : get_or marks place false ≡ false)
+    (behind : is_wall board (place - 1) ≡ false → IsMarked marks (place - 1))
+    (above : a ≡ true → is_wall board (next board place U) ≡ false → Awaits board p0 (next board place U))
+    (below : b ≡ true → is_wall board (next board place D) ≡ false → Awaits board p0 (next board place D))
+    (sa : Seeds board (set marks place true) p0 (place - board.cols) a p1 aa)
+    (sb : Seeds board (set marks place true) p1 (place + board.cols) b p2 bb) where
+  more : List Bool
+  more = set marks place true
+
+  lies : place < length marks
+  lies = omega (arith, f.size, low)
+
+  itself : IsMarked (set marks place true) place
+  itself = get_or-set_same marks place true false lies
+
+  kept : (q : ℕ) → IsMarked marks q → IsMarked (set marks place true) q
+  kept q h = elim (cases_eq q place) [
+    | inl e ↦ subst (λ (x : ℕ). IsMarked (set marks place true) x) (sym e) itself
+    | inr ne ↦ get_or-set_other marks place q true false ne ∙ h
+  ]
+
+  fresh : (q : ℕ) → IsMarked (set marks place true) q → (q ≡ place) ⊎ IsMarked marks q
+  fresh q h = elim (cases_eq q place) [
+    | inl e ↦ inl e
+    | inr ne ↦ inr (sym (get_or-set_other marks place q true false ne) ∙ h)
+  ]
+
+  in_room : InRoom board place
+  in_room = f.waits place (or_left (eqb place place) (contains p0 place) (eq-eqb place place refl)) floor
+
+  right : next board place R ≡ place + 1
+  right = right_is board place some short ∙ omega arith
+
+  left : next board place L ≡ place - 1
+  left = left_is board place wider
+
+  up : next board place U ≡ place - board.cols
+  up = up_is board place top
+
+  down : next board place D ≡ place + board.cols
+  down = down_is board place low
+
+  over : (r : ℕ) → contains p0 r ≡ true → contains p2 r ≡ true
+  over r h = sb.kept r (sa.kept r h)
+
+  into : (r : ℕ) → contains p2 r ≡ true → contains ((place + 1) ∷ p2) r ≡ true
+  into r h = or_right (eqb (place + 1) r) (contains p2 r) h
+
+  head : is_wall board (place + 1) ≡ false → Awaits board ((place + 1) ∷ p2) (place + 1)
+  head open_here = listed (or_left (eqb (place + 1) (place + 1)) (contains p2 (place + 1)) (eq-eqb (place + 1) (place + 1) refl)) open_here
+
+  above_known : a ≡ true → is_wall board (place - board.cols) ≡ false → Awaits board p0 (place - board.cols)
+  above_known = subst (λ (x : ℕ). a ≡ true → is_wall board x ≡ false → Awaits board p0 x) up above
+
+  below_known : b ≡ true → is_wall board (place + board.cols) ≡ false → Awaits board p1 (place + board.cols)
+  below_known e open_here = awaits_more board p0 p1 sa.kept (place + board.cols) (subst (λ (x : ℕ). b ≡ true → is_wall board x ≡ false → Awaits board p0 x) down below e open_here)
+
+  run_whole : (q : ℕ) → IsMarked (set marks place true) q → is_wall board (next board q R) ≡ false → IsMarked (set marks place true) (next board q R) ⊎ (next board q R ≡ place + 1)
+  run_whole q h open_here = elim (fresh q h) [
+    | inl e ↦ inr (ap (λ (x : ℕ). next board x R) e ∙ right)
+    | inr was ↦ elim (f.whole q was open_here) [
+      | inl m ↦ inl (kept (next board q R) m)
+      | inr is ↦ inl (subst (λ (x : ℕ). IsMarked (set marks place true) x) (sym is) itself)
+    ]
+  ]
+
+  without : (x : ℕ) → Awaits board (place ∷ p0) x → IsMarked (set marks place true) x ⊎ Awaits board ((place + 1) ∷ p2) x
+  without x w = awaits_without board (set marks place true) place p0 ((place + 1) ∷ p2) (λ r h. into r (over r h)) (λ _. inl itself)
+      (λ q h open_here. elim (run_whole q h open_here) [
+        | inl m ↦ inl m
+        | inr e ↦ inr (subst (λ (y : ℕ). is_wall board y ≡ false → Awaits board ((place + 1) ∷ p2) y) (sym e) head open_here)
+      ]) x w
+
+  run_waits : (q : ℕ) → contains ((place + 1) ∷ p2) q ≡ true → is_wall board q ≡ false → InRoom board q
+  run_waits q there open_here = elim (or_cases (eqb (place + 1) q) (contains p2 q) there) [
+    | inl e ↦ steps R q (right ∙ eqb-true (place + 1) q e) open_here
+    | inr in2 ↦ elim (sb.only q in2) [
+      | inr e ↦ steps D q (down ∙ sym e.0) open_here
+      | inl in1 ↦ elim (sa.only q in1) [
+        | inr e ↦ steps U q (up ∙ sym e.0) open_here
+        | inl in0 ↦ f.waits q (or_right (eqb place q) (contains p0 q) in0) open_here
+      ]
+    ]
+  ]
+    where
+      steps : (d : Dir) (x : ℕ) → next board place d ≡ x → is_wall board x ≡ false → InRoom board x
+      steps d x e = subst (λ (y : ℕ). is_wall board y ≡ false → InRoom board y) e (λ open_there. beside d in_room open_there)
+
+  run_closed_here : (d : Dir) → is_wall board (next board place d) ≡ false → IsMarked (set marks place true) (next board place d) ⊎ Awaits board ((place + 1) ∷ p2) (next board place d)
+  run_closed_here D = subst (λ (x : ℕ). is_wall board x ≡ false → IsMarked (set marks place true) x ⊎ Awaits board ((place + 1) ∷ p2) x) (sym down) (λ open_here. elim (seed_marked board (set marks place true) p1 p2 (place + board.cols) b bb sb below_known open_here) [
+    | inl m ↦ inl m
+    | inr w ↦ inr (awaits_more board p2 ((place + 1) ∷ p2) into (place + board.cols) w)
+  ])
+  run_closed_here L = subst (λ (x : ℕ). is_wall board x ≡ false → IsMarked (set marks place true) x ⊎ Awaits board ((place + 1) ∷ p2) x) (sym left) (λ open_here. inl (kept (place - 1) (behind open_here)))
+  run_closed_here R = subst (λ (x : ℕ). is_wall board x ≡ false → IsMarked (set marks place true) x ⊎ Awaits board ((place + 1) ∷ p2) x) (sym right) (λ open_here. inr (head open_here))
+  run_closed_here U = subst (λ (x : ℕ). is_wall board x ≡ false → IsMarked (set marks place true) x ⊎ Awaits board ((place + 1) ∷ p2) x) (sym up) (λ open_here. elim (seed_marked board (set marks place true) p0 p1 (place - board.cols) a aa sa above_known open_here) [
+    | inl m ↦ inl m
+    | inr w ↦ inr (awaits_more board p1 ((place + 1) ∷ p2) (λ r h. into r (sb.kept r h)) (place - board.cols) w)
+  ])
+
+  run_inner_here : (d : Dir) → next board place d ≡ length board.cells → ⊥
+  run_inner_here D e = omega (arith, e, down, low)
+  run_inner_here L e = omega (arith, e, left, low)
+  run_inner_here R e = omega (arith, e, right, low, some)
+  run_inner_here U e = omega (arith, e, up, low)
+
+  -- the run is marked up to the next square
+  pub run_more : IsRunning board (set marks place true) ((place + 1) ∷ p2) (place + 1)
+  run_more = record {
+    size = length-set marks place true ∙ f.size;
+    start = elim f.start [ inl e ↦ inl (kept (start_player board) e) | inr w ↦ without (start_player board) w ];
+    inside = λ q h. elim (fresh q h) [ inl e ↦ subst (InRoom board) (sym e) in_room | inr was ↦ f.inside q was ];
+    waits = run_waits;
+    whole = run_whole;
+    closed = λ q d h open_here. elim (fresh q h) [
+      | inl e ↦ subst (λ (x : ℕ). is_wall board (next board x d) ≡ false → IsMarked (set marks place true) (next board x d) ⊎ Awaits board ((place + 1) ∷ p2) (next board x d)) (sym e) (run_closed_here d) open_here
+      | inr was ↦ elim (f.closed q d was open_here) [
+        | inl m ↦ inl (kept (next board q d) m)
+        | inr w ↦ without (next board q d) w
+      ]
+    ];
+    inner = λ q d h e. elim (fresh q h) [
+      | inl is ↦ run_inner_here d (ap (λ (x : ℕ). next board x d) (sym is) ∙ e)
+      | inr was ↦ f.inner q d was e
+    ];
+  }
+
+  -- the next square above awaits its mark, where this one is fresh
+  pub run_above : aa ≡ true → is_wall board (next board (place + 1) U) ≡ false → Awaits board p2 (next board (place + 1) U)
+  run_above is open_here = subst (λ (x : ℕ). is_wall board x ≡ false → Awaits board p2 x) to (λ h. along here_above h) open_here
+    where
+      here_above : Awaits board p2 (place - board.cols)
+      here_above = awaits_more board p1 p2 sb.kept (place - board.cols) (seed_awaits board (set marks place true) p0 p1 (place - board.cols) a aa sa above_known is)
+
+      column : (place - board.cols) % board.cols ≡ place % board.cols
+      column = sym (add-mod_right (place - board.cols) board.cols) ∙ ap (λ (x : ℕ). x % board.cols) (omega (arith, top))
+
+      to : next board (place - board.cols) R ≡ next board (place + 1) U
+      to = right_is board (place - board.cols) some (λ e. short (ap (λ (x : ℕ). x + 1) (sym column) ∙ e)) ∙ (omega (arith, top) ∙ sym (up_is board (place + 1) (omega (arith, top))))
+
+  -- and so does the next one below
+  pub run_below : bb ≡ true → is_wall board (next board (place + 1) D) ≡ false → Awaits board p2 (next board (place + 1) D)
+  run_below is open_here = elim (cases_lt (place + 1 + board.cols) (length board.cells)) [
+    | inl lt ↦ subst (λ (x : ℕ). is_wall board x ≡ false → Awaits board p2 x) (to lt) (λ h. along here_below h) open_here
+    | inr ge ↦ absurd (not_at_end board (next board (place + 1) D) open_here (down_ends board (place + 1) ge))
+  ]
+    where
+      here_below : Awaits board p2 (place + board.cols)
+      here_below = seed_awaits board (set marks place true) p1 p2 (place + board.cols) b bb sb below_known is
+
+      column : (place + board.cols) % board.cols ≡ place % board.cols
+      column = add-mod_right place board.cols
+
+      to : place + 1 + board.cols < length board.cells → next board (place + board.cols) R ≡ next board (place + 1) D
+      to lt = right_is board (place + board.cols) some (λ e. short (ap (λ (x : ℕ). x + 1) (sym column) ∙ e)) ∙ (omega arith ∙ sym (down_is board (place + 1) lt))
+
+  -- there is no more work than before
+  pub run_work : work (set marks place true) p2 ≤ work marks p0
+  run_work =
+      let e = sum_by-set (λ x. cond (not x) 1 0) marks place true false lies in
+      let g : ◌≡◌ {A = ℕ} (cond (not (get_or marks place false)) 1 0) 1 = rw free refl in
+      omega (arith, e, g, sa.few, sb.few)
+
+-- ---- where a run ends
+
+-- what is fresh is no wall and has no mark
+pub fresh_parts : (w m r : Bool) → r ≡ (not w && not m) → r ≡ true → (w ≡ false) × (m ≡ false)
+fresh_parts true m r is h = absurd (false≢true (sym is ∙ h))
+fresh_parts false true r is h = absurd (false≢true (sym is ∙ h))
+fresh_parts false false r is h = (refl, refl)
+
+-- and what is not fresh and no wall has its mark
+pub stale_marked : (w m r : Bool) → r ≡ (not w && not m) → r ≡ false → w ≡ false → m ≡ true
+stale_marked true m r is no_more floor = absurd (true≢false floor)
+stale_marked false true r is no_more floor = refl
+stale_marked false false r is no_more floor = absurd (true≢false (sym is ∙ no_more))
+
+-- what is pending and no wall is of the room
+pub first_in_room : (board : Board) (marks : List Bool) (p place : ℕ) (xs : List ℕ) → IsRunning board marks (p ∷ xs) place → is_wall board p ≡ false → InRoom board p
+first_in_room board marks p place xs f floor = f.waits p (or_left (eqb p p) (contains xs p) (eq-eqb p p refl)) floor
+
+-- the columns of a run's next square
+pub row_more : (cols first place : ℕ) → 1 ≤ cols → place ≡ first + place % cols → (place ≡ first + cols - 1 → ⊥) → (place % cols + 1 ≡ cols → ⊥) × (place + 1 ≡ first + (place + 1) % cols)
+row_more cols first place some row more = (short, omega (arith, row, next_column place cols (place % cols) some refl short, ap (λ (x : ℕ). x % cols) is))
+  where
+    is : place + 1 ≡ suc place
+    is = omega arith
+
+    short : place % cols + 1 ≡ cols → ⊥
+    short e = more (omega (arith, e, row, some))
+
+-- at the end of a row the room lies open
+pub open_right : (board : Board) (first place : ℕ) → 1 ≤ board.cols → place ≡ first + place % board.cols → place ≡ first + board.cols - 1 → InRoom board place → IsOpen board
+open_right board first place some row last r = (place, R, r, right_ends board place (omega (arith, row, last, some)))
+
+-- and at its beginning
+pub open_left : (board : Board) (place : ℕ) → place % board.cols ≡ 0 → InRoom board place → IsOpen board
+open_left board place first r = (place, L, r, left_ends board place first)
+
+-- and in the last row
+pub open_below : (board : Board) (place : ℕ) → length board.cells ≤ place + board.cols → InRoom board place → IsOpen board
+open_below board place low r = (place, D, r, down_ends board place low)
+
+-- and in the first
+pub open_above : (board : Board) (place : ℕ) → place < board.cols → InRoom board place → IsOpen board
+open_above board place top r = (place, U, r, up_ends board place top)
+
+-- the run of a pending square is to be marked from its first square on
+pub run_first : (board : Board) (marks : List Bool) (p start : ℕ) (xs : List ℕ) → IsFilling board marks (p ∷ xs) → is_wall board p ≡ false
+    → Awaits board (start ∷ []) p → (InRoom board p → InRoom board start) → IsRunning board marks (start ∷ xs) start
+run_first board marks p start xs f floor run room = record {
+  size = f.size;
+  start = elim f.start [ inl e ↦ inl e | inr w ↦ inr (to w) ];
+  inside = f.inside;
+  waits = λ r there open_here. elim (or_cases (eqb start r) (contains xs r) there) [
+    | inl e ↦ subst (InRoom board) (eqb-true start r e) (room (f.waits p (or_left (eqb p p) (contains xs p) (eq-eqb p p refl)) floor))
+    | inr e ↦ f.waits r (or_right (eqb p r) (contains xs r) e) open_here
+  ];
+  whole = λ r h open_here. elim (f.whole r h open_here) [ inl m ↦ inl m | inr e ↦ absurd (not_at_end board (next board r R) open_here e) ];
+  closed = λ r d h open_here. elim (f.closed r d h open_here) [ inl m ↦ inl m | inr w ↦ inr (to w) ];
+  inner = f.inner;
+}
+  where
+    to : {x : ℕ} → Awaits board (p ∷ xs) x → Awaits board (start ∷ xs) x
+    to (listed {q} there open_here) = elim (or_cases (eqb p q) (contains xs q) there) [
+      | inl e ↦ subst (Awaits board (start ∷ xs)) (eqb-true p q e) (awaits_more board (start ∷ []) (start ∷ xs) first p run)
+      | inr e ↦ listed (or_right (eqb start q) (contains xs q) e) open_here
+    ]
+      where
+        first : (y : ℕ) → contains (start ∷ []) y ≡ true → contains (start ∷ xs) y ≡ true
+        first y h = elim (or_cases (eqb start y) false h) [ inl e ↦ or_left (eqb start y) (contains xs y) e | inr e ↦ absurd (false≢true e) ]
+    to (along {q} before open_here) = along (to before) open_here
+
+-- a pending square that is a wall or has its mark is no longer pending
+pub forget_first : (board : Board) (marks : List Bool) (p : ℕ) (xs : List ℕ) → IsFilling board marks (p ∷ xs) → (is_wall board p ≡ false → IsMarked marks p) → IsFilling board marks xs
+forget_first board marks p xs f gone = forget board marks p (length board.cells) xs f gone (λ floor. absurd (true≢false (sym (wall_at_end board) ∙ floor)))
