@@ -174,7 +174,7 @@ fn seed(
     ensures { IfOk result (λ fresh. Seeds (board_of cols cells.now) room.now pending.old.items place before pending.new.items fresh) }
 {
     let fresh = is_fresh(cols, cells, room, place);
-    if fresh && !before {
+    if fresh & !before {
         pending.push(Square(place as u16))?;
     }
     Ok(fresh)
@@ -187,7 +187,7 @@ fn is_fresh(cols: usize, cells: &[Cell], room: &[bool], place: usize) -> bool
     requires inside { place < length cells.now }
     ensures { result ≡ (not (is_wall (board_of cols cells.now) place) && not (slice_index_or room.now place false)) }
 {
-    !is_wall_at(cols, cells, place) && !room[place]
+    !is_wall_at(cols, cells, place) & !room[place]
 }
 
 // Whether the square of the grid is a wall.

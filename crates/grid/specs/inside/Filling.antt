@@ -38,7 +38,8 @@ pub record IsRunning (board : Board) (marks : List Bool) (pending : List ℕ) (p
   pub inside : (q : ℕ) → IsMarked marks q → InRoom board q
   pub waits : (q : ℕ) → contains pending q ≡ true → is_wall board q ≡ false → InRoom board q
   pub whole : (q : ℕ) → IsMarked marks q → is_wall board (next board q R) ≡ false → IsMarked marks (next board q R) ⊎ (next board q R ≡ place)
-  pub closed : (q : ℕ) (d : Dir) → IsMarked marks q → is_wall board (next board q d) ≡ false → IsMarked marks (next board q d) ⊎ Awaits board pending (next board q d)
+  pub closed : (q : ℕ) (d : Dir) → IsMarked marks q → is_wall board (next board q d) ≡ false
+      → IsMarked marks (next board q d) ⊎ Awaits board pending (next board q d)
   pub inner : (q : ℕ) (d : Dir) → IsMarked marks q → ¬ (next board q d ≡ length board.cells)
 
 -- the room half filled, by whole runs

@@ -3,7 +3,7 @@ use Rattle.std.proofs.lemmas.Bool.{true≢false}
 use Rattle.grid.specs.Board.{Board, is_wall}
 use Rattle.grid.specs.Lawful.{InRoom}
 use Rattle.grid.specs.inside.Filling.{Awaits, IsMarked, board_of}
-use Rattle.grid.proofs.Filling.{first_in_room, forget_first, open_above, open_left, run_first}
+use Rattle.grid.proofs.Runs.{first_in_room, forget_first, open_above, open_left, run_first}
 use Rattle.grid.proofs.lemmas.Steps.{inside_grid}
 use Rattle.grid.proofs.room.fill_from.Goals as goal
 use Rattle.grid.proofs.room.fill_from.Goals.{then-start-first-via-then-start-first, then-start-first-via-else-start-first+then-start-cols}

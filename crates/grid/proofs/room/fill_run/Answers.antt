@@ -3,7 +3,8 @@ use Rattle.std.proofs.lemmas.List.{get_or-set_same, length-set}
 use Rattle.grid.specs.Board.{Board, is_wall}
 use Rattle.grid.specs.Lawful.{InRoom}
 use Rattle.grid.specs.inside.Filling.{IsMarked, board_of}
-use Rattle.grid.proofs.Filling.{first_in_room, forget, fresh_parts, open_below, open_right, row_more, run_above, run_below, run_more, run_work, stale_marked}
+use Rattle.grid.proofs.Filling.{forget}
+use Rattle.grid.proofs.Runs.{first_in_room, fresh_parts, open_below, open_right, row_more, run_above, run_below, run_more, run_work, stale_marked}
 use Rattle.grid.proofs.room.fill_run.Goals as goal
 use Rattle.grid.proofs.room.fill_run.Goals.{then-place-last-via-then-place-last, then-place-last-via-else-place-last+then-cells-place}
 

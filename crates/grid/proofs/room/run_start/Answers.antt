@@ -1,7 +1,7 @@
 use Rattle.std.proofs.Common.{sym, ◌∙◌, arith}
 use Rattle.grid.specs.Board.{Board}
 use Rattle.grid.specs.inside.Filling.{board_of}
-use Rattle.grid.proofs.Filling.{run_back, waits_itself}
+use Rattle.grid.proofs.Rows.{run_back, waits_itself}
 use Rattle.grid.proofs.lemmas.Steps.{inside_grid}
 use Rattle.grid.proofs.room.run_start.Goals as goal
 
