@@ -1,24 +1,17 @@
 -- Filling the player's room: marks grow until they are closed under steps.
-use Rattle.std.proofs.Common.{◌≡◌, ℕ, ◌+◌, ◌<◌, Bool, true, false, not, cond, eqb, ◌||◌, List, [], ◌∷◌, ◌++◌, length, get_or, set, replicate, count_by, ◌⊎◌, ◌↔◌, inl, inr, refl, sym, ap, subst, ◌∙◌, arith}
-use Rattle.std.proofs.lemmas.Bool.{eqb-true, eq-eqb, cases_eq, cases_lt, or_cases, or_left, or_right, false≢true}
-use Rattle.std.proofs.lemmas.List.{get_or_past, get_or-set_same, get_or-set_other, get_or-replicate, length-set, length-append, length-replicate}
-use Rattle.std.proofs.lemmas.List.Sums.{sum_by-set}
-use Rattle.grid.specs.declared.dir.Dir.{Dir}
-use Rattle.grid.specs.declared.dir.Dir.TheVariants.{D, L, R, U}
+use Rattle.std.proofs.Common.{◌≡◌, ℕ, Bool, true, false, eqb, ◌||◌, List, [], ◌∷◌, ◌++◌, length, replicate, ◌⊎◌, ◌↔◌, inl, inr, refl, sym, subst, ◌∙◌, arith}
+use Rattle.std.proofs.lemmas.Bool.{eqb-true, eq-eqb, cases_lt, or_cases, or_left, or_right, false≢true}
+use Rattle.std.proofs.lemmas.List.{get_or_past, get_or-replicate, length-replicate}
+use Rattle.grid.specs.declared.dir.Dir.TheVariants.{R}
 use Rattle.grid.specs.Board.{Board, is_wall, next, start_player}
 use Rattle.grid.specs.Lawful.{InRoom, IsOpen}
 use Rattle.grid.specs.Lawful.InRoom.{here, beside}
 use Rattle.grid.specs.Squares.{contains}
-use Rattle.grid.specs.inside.Filling.{IsMarked, Grows}
+use Rattle.grid.specs.inside.Filling.{Awaits, IsFilling, IsMarked, IsRunning}
+use Rattle.grid.specs.inside.Filling.Awaits.{listed, along}
+use Rattle.grid.proofs.lemmas.Steps.{inside_grid}
 
 -- ---- marks and pending squares
-
--- a marked square has a place among the marks
-pub marked_inside : (marks : List Bool) (q : ℕ) → IsMarked marks q → q < length marks
-marked_inside marks q h = elim (cases_lt q (length marks)) [
-  | inl lt ↦ lt
-  | inr ge ↦ absurd (false≢true (sym (get_or_past marks q false ge) ∙ h))
-]
 
 -- one square more at the end of those that are pending
 pub contains_push : (xs : List ℕ) (q r : ℕ) → contains (xs ++ q ∷ []) r ≡ (contains xs r || eqb q r)
@@ -45,69 +38,6 @@ contains_push_cases xs q r h = elim (or_cases (contains xs r) (eqb q r) (sym (co
   | inr e ↦ inr (eqb-true q r e)
 ]
 
--- ---- growing
-
--- nothing happened
-pub grows_none : (Ok : ℕ → Type 0) (marks : List Bool) (pending : List ℕ) → Grows Ok marks pending marks pending
-grows_none Ok marks pending = record { size = refl; kept = λ q h. h; fresh = λ q h. inl h; waits = λ q h. h; marked = λ q h. inl h; work = omega arith }
-
--- one square was marked and put among those that are pending
-pub grows_one : (Ok : ℕ → Type 0) (marks : List Bool) (pending : List ℕ) (q : ℕ) → q < length marks → get_or marks q false ≡ false → Ok q → Grows Ok marks pending (set marks q true) (pending ++ q ∷ [])
-grows_one Ok marks pending q inside free ok = record {
-  size = length-set marks q true;
-  kept = λ r h. elim (cases_eq r q) [
-    | inl e ↦ subst (λ (x : ℕ). IsMarked (set marks q true) x) (sym e) (get_or-set_same marks q true false inside)
-    | inr ne ↦ get_or-set_other marks q r true false ne ∙ h
-  ];
-  fresh = λ r h. elim (cases_eq r q) [
-    | inl e ↦ inr (subst (λ (x : ℕ). contains (pending ++ q ∷ []) x ≡ true) (sym e) (contains_push_here pending q), subst Ok (sym e) ok)
-    | inr ne ↦ inl (sym (get_or-set_other marks q r true false ne) ∙ h)
-  ];
-  waits = λ r h. contains_push_before pending q r h;
-  marked = λ r h. elim (contains_push_cases pending q r h) [
-    | inl e ↦ inl e
-    | inr e ↦ inr (subst (λ (x : ℕ). IsMarked (set marks q true) x) e (get_or-set_same marks q true false inside))
-  ];
-  work =
-      let counted : count_by not (set marks q true) + 1 ≡ count_by not marks = one_less in
-      omega (arith, counted, length-append pending (q ∷ []));
-}
-  where
-    one_less : count_by not (set marks q true) + 1 ≡ count_by not marks
-    one_less =
-        let e = sum_by-set (λ b. cond (not b) 1 0) marks q true false inside in
-        let f : ◌≡◌ {A = ℕ} (cond (not (get_or marks q false)) 1 0) 1 = rw free refl in
-        omega (arith, e, f)
-
--- first one, then the other
-pub grows_then : (Ok : ℕ → Type 0) (m n o : List Bool) (p q r : List ℕ) → Grows Ok m p n q → Grows Ok n q o r → Grows Ok m p o r
-grows_then Ok m n o p q r g h = record {
-  size = h.size ∙ g.size;
-  kept = λ x k. h.kept x (g.kept x k);
-  fresh = λ x k. elim (h.fresh x k) [
-    | inl e ↦ elim (g.fresh x e) [ inl f ↦ inl f | inr f ↦ inr (h.waits x f.0, f.1) ]
-    | inr e ↦ inr e
-  ];
-  waits = λ x k. h.waits x (g.waits x k);
-  marked = λ x k. elim (h.marked x k) [
-    | inl e ↦ elim (g.marked x e) [ inl f ↦ inl f | inr f ↦ inr (h.kept x f) ]
-    | inr e ↦ inr e
-  ];
-  work = omega (arith, g.work, h.work);
-}
-
--- ---- the room, half filled
-
--- the marks are in the room, a step from a marked square to one without a mark starts at a pending one, and so does
--- one that leads out of the grid
-pub record IsFilling (board : Board) (marks : List Bool) (pending : List ℕ) : Type 0 where
-  pub size : length marks ≡ length board.cells
-  pub start : IsMarked marks (start_player board)
-  pub inside : (q : ℕ) → IsMarked marks q → InRoom board q
-  pub marked : (q : ℕ) → contains pending q ≡ true → IsMarked marks q
-  pub closed : (q : ℕ) (d : Dir) → IsMarked marks q → is_wall board (next board q d) ≡ false → (contains pending q ≡ true) ⊎ IsMarked marks (next board q d)
-  pub inner : (q : ℕ) (d : Dir) → IsMarked marks q → next board q d ≡ length board.cells → contains pending q ≡ true
-
 -- no mark, before the first
 pub unmarked : (n q : ℕ) → IsMarked (replicate n false) q → ⊥
 unmarked n q h = elim (cases_lt q n) [
@@ -115,64 +45,118 @@ unmarked n q h = elim (cases_lt q n) [
   | inr ge ↦ false≢true (sym (get_or_past (replicate n false) q false (omega (arith, length-replicate n false))) ∙ h)
 ]
 
--- the player's square was visited first
-pub fill_start : (board : Board) (clear marks : List Bool) (pending : List ℕ) → length clear ≡ length board.cells → ((q : ℕ) → IsMarked clear q → ⊥) → Grows (InRoom board) clear [] marks pending → IsMarked marks (start_player board) → IsFilling board marks pending
-fill_start board clear marks pending sized none g start = record {
-  size = g.size ∙ sized;
-  start = start;
-  inside = λ q h. elim (g.fresh q h) [ inl e ↦ absurd (none q e) | inr e ↦ e.1 ];
-  marked = λ q h. elim (g.marked q h) [ inl e ↦ absurd (false≢true e) | inr e ↦ e ];
-  closed = λ q d h floor. elim (g.fresh q h) [ inl e ↦ absurd (none q e) | inr e ↦ inl e.0 ];
-  inner = λ q d h edge. elim (g.fresh q h) [ inl e ↦ absurd (none q e) | inr e ↦ e.0 ];
-}
+-- ---- what awaits its mark
 
--- one pending square was taken and its neighbours visited, and none of them lies outside the grid
-pub fill_turn : (board : Board) (marks more : List Bool) (rest later : List ℕ) (q : ℕ) → IsFilling board marks (rest ++ q ∷ []) → Grows (InRoom board) marks rest more later
-    → ((d : Dir) → is_wall board (next board q d) ≡ false → IsMarked more (next board q d)) → ((d : Dir) → next board q d ≡ length board.cells → ⊥) → IsFilling board more later
-fill_turn board marks more rest later q f g visited within = record {
-  size = g.size ∙ f.size;
-  start = g.kept (start_player board) f.start;
-  inside = λ x h. elim (g.fresh x h) [ inl e ↦ f.inside x e | inr e ↦ e.1 ];
-  marked = λ x h. elim (g.marked x h) [ inl e ↦ g.kept x (f.marked x (contains_push_before rest q x e)) | inr e ↦ e ];
-  closed = λ x d h floor. elim (g.fresh x h) [
-    | inl e ↦ elim (f.closed x d e floor) [
-      | inl there ↦ elim (contains_push_cases rest q x there) [
-        | inl waits ↦ inl (g.waits x waits)
-        | inr same ↦ inr (subst (λ (y : ℕ). is_wall board (next board y d) ≡ false → IsMarked more (next board y d)) same (visited d) floor)
-      ]
-      | inr there ↦ inr (g.kept (next board x d) there)
+-- where p is no longer pending since it is marked, or awaits its mark for another reason, so is what followed it
+pub awaits_without : (board : Board) (marks : List Bool) (p : ℕ) (xs ys : List ℕ)
+    → ((r : ℕ) → contains xs r ≡ true → contains ys r ≡ true)
+    → (is_wall board p ≡ false → IsMarked marks p ⊎ Awaits board ys p)
+    → ((q : ℕ) → IsMarked marks q → is_wall board (next board q R) ≡ false → IsMarked marks (next board q R) ⊎ Awaits board ys (next board q R))
+    → (x : ℕ) → Awaits board (p ∷ xs) x → IsMarked marks x ⊎ Awaits board ys x
+awaits_without board marks p xs ys more gone whole x a = go a
+  where
+    go : {y : ℕ} → Awaits board (p ∷ xs) y → IsMarked marks y ⊎ Awaits board ys y
+    go (listed {q} there floor) = elim (or_cases (eqb p q) (contains xs q) there) [
+      | inl e ↦ subst (λ (y : ℕ). is_wall board y ≡ false → IsMarked marks y ⊎ Awaits board ys y) (eqb-true p q e) gone floor
+      | inr e ↦ inr (listed (more q e) floor)
     ]
-    | inr e ↦ inl e.0
-  ];
-  inner = λ x d h edge. elim (g.fresh x h) [
-    | inl e ↦ elim (contains_push_cases rest q x (f.inner x d e edge)) [
-      | inl waits ↦ g.waits x waits
-      | inr same ↦ absurd (within d (ap (λ (y : ℕ). next board y d) same ∙ edge))
-    ]
-    | inr e ↦ e.0
-  ];
+    go (along {q} before floor) = elim (go before) [ inl e ↦ whole q e floor | inr e ↦ inr (along e floor) ]
+
+-- what awaits its mark awaits it where more is pending
+pub awaits_more : (board : Board) (xs ys : List ℕ) → ((r : ℕ) → contains xs r ≡ true → contains ys r ≡ true) → (x : ℕ) → Awaits board xs x → Awaits board ys x
+awaits_more board xs ys more x a = go a
+  where
+    go : {y : ℕ} → Awaits board xs y → Awaits board ys y
+    go (listed {q} there floor) = listed (more q there) floor
+    go (along {q} before floor) = along (go before) floor
+
+-- what awaits its mark is of the room, where what is pending is
+pub awaits_none : (board : Board) (x : ℕ) → Awaits board [] x → ⊥
+awaits_none board x a = go a
+  where
+    go : {y : ℕ} → Awaits board [] y → ⊥
+    go (listed {q} there floor) = false≢true there
+    go (along {q} before floor) = go before
+
+-- no step to the right leads to the end and to a square that is no wall
+pub not_at_end : (board : Board) (q : ℕ) → is_wall board q ≡ false → q ≡ length board.cells → ⊥
+not_at_end board q floor e = (let lt = inside_grid board q floor in omega (arith, lt, e))
+
+-- p is no longer pending, since it is a wall or has its mark
+pub forget : (board : Board) (marks : List Bool) (p place : ℕ) (xs : List ℕ) → IsRunning board marks (p ∷ xs) place
+    → (is_wall board p ≡ false → IsMarked marks p) → (is_wall board place ≡ false → IsMarked marks place) → IsFilling board marks xs
+forget board marks p place xs f gone ended = record {
+  size = f.size;
+  start = elim f.start [ inl e ↦ inl e | inr e ↦ without (start_player board) e ];
+  inside = f.inside;
+  waits = λ q there floor. f.waits q (or_right (eqb p q) (contains xs q) there) floor;
+  whole = λ q h floor. inl (right q h floor);
+  closed = λ q d h floor. elim (f.closed q d h floor) [ inl e ↦ inl e | inr e ↦ without (next board q d) e ];
+  inner = f.inner;
 }
+  where
+    right : (q : ℕ) → IsMarked marks q → is_wall board (next board q R) ≡ false → IsMarked marks (next board q R)
+    right q h floor = elim (f.whole q h floor) [
+      | inl e ↦ e
+      | inr e ↦ subst (λ (y : ℕ). is_wall board y ≡ false → IsMarked marks y) (sym e) ended floor
+    ]
+
+    without : (x : ℕ) → Awaits board (p ∷ xs) x → IsMarked marks x ⊎ Awaits board xs x
+    without x a = awaits_without board marks p xs xs (λ r h. h) (λ floor. inl (gone floor)) (λ q h floor. inl (right q h floor)) x a
+
+-- ---- the beginning and the end
+
+-- the player's square is pending
+pub fill_start : (board : Board) (clear : List Bool) (pending : List ℕ) → length clear ≡ length board.cells → ((q : ℕ) → IsMarked clear q → ⊥)
+    → pending ≡ start_player board ∷ [] → is_wall board (start_player board) ≡ false → IsFilling board clear pending
+fill_start board clear pending sized none is floor = subst (IsFilling board clear) (sym is) first
+  where
+    first : IsFilling board clear (start_player board ∷ [])
+    first = record {
+      size = sized;
+      start = inr (listed (or_left (eqb (start_player board) (start_player board)) false (eq-eqb (start_player board) (start_player board) refl)) floor);
+      inside = λ q h. absurd (none q h);
+      waits = λ q there open_here. elim (or_cases (eqb (start_player board) q) false there) [
+        | inl e ↦ subst (InRoom board) (eqb-true (start_player board) q e) here
+        | inr e ↦ absurd (false≢true e)
+      ];
+      whole = λ q h open_here. absurd (none q h);
+      closed = λ q d h open_here. absurd (none q h);
+      inner = λ q d h e. none q h;
+    }
+
+-- the last of those that are pending may stand first
+pub last_first : (board : Board) (marks : List Bool) (xs : List ℕ) (p : ℕ) → IsFilling board marks (xs ++ p ∷ []) → IsFilling board marks (p ∷ xs)
+last_first board marks xs p f = record {
+  size = f.size;
+  start = elim f.start [ inl e ↦ inl e | inr e ↦ inr (awaits_more board (xs ++ p ∷ []) (p ∷ xs) to (start_player board) e) ];
+  inside = f.inside;
+  waits = λ q there floor. f.waits q (back q there) floor;
+  whole = f.whole;
+  closed = λ q d h floor. elim (f.closed q d h floor) [ inl e ↦ inl e | inr e ↦ inr (awaits_more board (xs ++ p ∷ []) (p ∷ xs) to (next board q d) e) ];
+  inner = f.inner;
+}
+  where
+    to : (r : ℕ) → contains (xs ++ p ∷ []) r ≡ true → contains (p ∷ xs) r ≡ true
+    to r h = elim (contains_push_cases xs p r h) [
+      | inl e ↦ or_right (eqb p r) (contains xs r) e
+      | inr e ↦ or_left (eqb p r) (contains xs r) (eq-eqb p r e)
+    ]
+
+    back : (r : ℕ) → contains (p ∷ xs) r ≡ true → contains (xs ++ p ∷ []) r ≡ true
+    back r h = elim (or_cases (eqb p r) (contains xs r) h) [
+      | inl e ↦ subst (λ (y : ℕ). contains (xs ++ p ∷ []) y ≡ true) (eqb-true p r e) (contains_push_here xs p)
+      | inr e ↦ contains_push_before xs p r e
+    ]
 
 -- nothing is pending: the marks are the room
 pub fill_done : (board : Board) (marks : List Bool) → IsFilling board marks [] → (q : ℕ) → IsMarked marks q ↔ InRoom board q
 fill_done board marks f q = (f.inside q, reached)
   where
     reached : {x : ℕ} → InRoom board x → IsMarked marks x
-    reached here = f.start
-    reached (beside {q} d r floor) = elim (f.closed q d (reached r) floor) [ inl e ↦ absurd (false≢true e) | inr e ↦ e ]
+    reached here = elim f.start [ inl e ↦ e | inr e ↦ absurd (awaits_none board (start_player board) e) ]
+    reached (beside {q} d r floor) = elim (f.closed q d (reached r) floor) [ inl e ↦ e | inr e ↦ absurd (awaits_none board (next board q d) e) ]
 
 -- nothing is pending: the room is closed
 pub fill_closed : (board : Board) (marks : List Bool) → IsFilling board marks [] → IsOpen board → ⊥
-fill_closed board marks f gap = false≢true (f.inner gap.0 gap.1 ((fill_done board marks f gap.0).1 gap.2) gap.3)
-
--- four visits, one to each neighbour
-pub grows_around : (board : Board) (q : ℕ) (m0 m1 m2 m3 m4 : List Bool) (p0 p1 p2 p3 p4 : List ℕ) → Grows (InRoom board) m0 p0 m1 p1 → Grows (InRoom board) m1 p1 m2 p2 → Grows (InRoom board) m2 p2 m3 p3 → Grows (InRoom board) m3 p3 m4 p4 → Grows (InRoom board) m0 p0 m4 p4
-grows_around board q m0 m1 m2 m3 m4 p0 p1 p2 p3 p4 d l r u =
-    let Ok = InRoom board in
-    grows_then Ok m0 m1 m4 p0 p1 p4 d (grows_then Ok m1 m2 m4 p1 p2 p4 l (grows_then Ok m2 m3 m4 p2 p3 p4 r u))
-
-pub marked_around : (board : Board) (q : ℕ) (m1 m2 m3 m4 : List Bool) (p1 p2 p3 p4 : List ℕ) → Grows (InRoom board) m1 p1 m2 p2 → Grows (InRoom board) m2 p2 m3 p3 → Grows (InRoom board) m3 p3 m4 p4 → (is_wall board (next board q D) ≡ false → IsMarked m1 (next board q D)) → (is_wall board (next board q L) ≡ false → IsMarked m2 (next board q L)) → (is_wall board (next board q R) ≡ false → IsMarked m3 (next board q R)) → (is_wall board (next board q U) ≡ false → IsMarked m4 (next board q U)) → (d : Dir) → is_wall board (next board q d) ≡ false → IsMarked m4 (next board q d)
-marked_around board q m1 m2 m3 m4 p1 p2 p3 p4 l r u md ml mr mu D floor = u.kept _ (r.kept _ (l.kept _ (md floor)))
-marked_around board q m1 m2 m3 m4 p1 p2 p3 p4 l r u md ml mr mu L floor = u.kept _ (r.kept _ (ml floor))
-marked_around board q m1 m2 m3 m4 p1 p2 p3 p4 l r u md ml mr mu R floor = u.kept _ (mr floor)
-marked_around board q m1 m2 m3 m4 p1 p2 p3 p4 l r u md ml mr mu U floor = mu floor
+fill_closed board marks f gap = f.inner gap.0 gap.1 ((fill_done board marks f gap.0).1 gap.2) gap.3

@@ -1,6 +1,8 @@
 pub mod lemmas
 pub mod Marked
 pub mod Filling
+pub mod Rows
+pub mod Runs
 pub mod Equality
 pub mod Settle
 pub mod Bits

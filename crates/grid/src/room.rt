@@ -1,15 +1,11 @@
-ghost use Rattle.std.specs.Prelude.{◌≡◌, ℕ, ◌<◌, ◌≤◌, ◌↔◌, IfOk, IfErr, OnOk, false, length, slice_index_or};
-ghost use Rattle.grid.specs.declared.dir.Dir.{Dir};
-ghost use Rattle.grid.specs.Board.{is_wall, next, start_player};
+ghost use Rattle.std.specs.Prelude.{◌≡◌, ℕ, ◌+◌, ◌-◌, ◌%◌, ◌<◌, ◌≤◌, ◌∷◌, [], ◌↔◌, ◌&&◌, not, IfOk, IfErr, OnOk, true, false, length, slice_index_or};
+ghost use Rattle.grid.specs.Board.{is_wall, start_player};
 ghost use Rattle.grid.specs.Lawful.{InRoom, IsOpen};
-ghost use Rattle.grid.specs.inside.Filling.{AreMarkedAround, Grows, IsMarked, IsRoomFault, board_of};
-ghost use Rattle.grid.specs.inside.PlanView.{around_of};
+ghost use Rattle.grid.specs.inside.Filling.{Awaits, IsFilling, IsMarked, IsRoomFault, IsRunning, Seeds, board_of, work};
 
-use crate::around::Around;
 use crate::cell::Cell;
 use crate::fault::LevelFault;
 use crate::limits::{MAX_COLS, MAX_SQUARES};
-use crate::plan::neighbours_of;
 use crate::square::Square;
 use std::alloc::{AllocError, Global};
 
@@ -35,7 +31,8 @@ pub(crate) fn room_of(
     Ok(room)
 }
 
-// Marks the squares of the room, where there is no mark yet, up to the first at the grid's edge.
+// Marks the squares of the room, where there is no mark yet, run by run: a run is what lies in one row between two walls.
+// What is pending are the first squares of runs, or squares in them, that are to be marked.
 fn fill(
     alloc: Global,
     cols: usize,
@@ -54,17 +51,24 @@ fn fill(
     ensures closed { OnOk result (¬ (IsOpen (board_of cols cells.now))) }
     ensures err { IfErr result (λ f. IsRoomFault (board_of cols cells.now) f) }
 {
-    let mut pending = Vec::new(alloc);
-    visit(cols, cells, room, &mut pending, player)?;
+    let mut pending = only(alloc, player)?;
     while let Some(square) = pending.pop() {
-        visit_around(cols, cells, room, &mut pending, square)?;
+        fill_from(cols, cells, room, &mut pending, square)?;
     }
     Ok(())
 }
 
-// Visits the four squares next to a square of the room, unless it lies at the grid's edge.
-#[inline(always)]
-fn visit_around(
+// A list of one square.
+fn only(alloc: Global, square: Square) -> Result<Vec<Square>, AllocError>
+    ensures { IfOk result (λ list. list.items ≡ square ∷ []) }
+{
+    let mut list = Vec::new(alloc);
+    list.push(square)?;
+    Ok(list)
+}
+
+// Marks the run of a pending square, unless it has its marks.
+fn fill_from(
     cols: usize,
     cells: &[Cell],
     room: &mut [bool],
@@ -74,58 +78,127 @@ fn visit_around(
     requires columns { 1 ≤ cols }
     requires wide { cols ≤ MAX_COLS }
     requires bound { length cells.now ≤ MAX_SQUARES }
-    requires size { length room.old ≡ length cells.now }
-    requires inside { square < length cells.now }
-    requires reached { InRoom (board_of cols cells.now) square }
-    ensures grows { OnOk result (Grows (InRoom (board_of cols cells.now)) room.old pending.old.items room.new pending.new.items) }
-    ensures marked { OnOk result (AreMarkedAround (board_of cols cells.now) room.new square) }
-    ensures inner { OnOk result ((d : Dir) → ¬ (next (board_of cols cells.now) square d ≡ length cells.now)) }
+    requires filling { IsFilling (board_of cols cells.now) room.old (square ∷ pending.old.items) }
+    ensures filling { OnOk result (IsFilling (board_of cols cells.now) room.new pending.new.items) }
+    ensures work { OnOk result (work room.new pending.new.items ≤ work room.old pending.old.items) }
     ensures err { IfErr result (λ f. IsRoomFault (board_of cols cells.now) f) }
 {
-    let end = Square(cells.len() as u16);
-    let around = around_at(cols, cells, square);
-    if [around.d, around.l, around.r, around.u].contains(&end) {
+    if is_wall(cols, cells, square) {
+        return Ok(());
+    }
+    let at = square.0 as usize;
+    if room[at] {
+        return Ok(());
+    }
+    let first = at - (square.0 % cols as u16) as usize;
+    let start = run_start(cols, cells, first, at);
+    if start == first || start < cols {
         return Err(LevelFault::Open);
     }
-    visit(cols, cells, room, pending, around.d)?;
-    visit(cols, cells, room, pending, around.l)?;
-    visit(cols, cells, room, pending, around.r)?;
-    visit(cols, cells, room, pending, around.u)?;
-    Ok(())
+    fill_run(cols, cells, room, pending, first, start)
 }
 
-// The four squares next to a square.
+// The leftmost square that steps to the left over squares that are no wall reach in a row.
 #[inline(always)]
-fn around_at(cols: usize, cells: &[Cell], square: Square) -> Around
+fn run_start(cols: usize, cells: &[Cell], first: usize, square: usize) -> usize
     requires columns { 1 ≤ cols }
-    requires wide { cols ≤ MAX_COLS }
-    requires bound { length cells.now ≤ MAX_SQUARES }
-    requires inside { square < length cells.now }
-    ensures { result ≡ around_of (board_of cols cells.now) square }
+    requires row { square ≡ first + square % cols }
+    requires floor { is_wall (board_of cols cells.now) square ≡ false }
+    ensures row { result ≡ first + result % cols }
+    ensures floor { is_wall (board_of cols cells.now) result ≡ false }
+    ensures behind { first < result → is_wall (board_of cols cells.now) (result - 1) ≡ true }
+    ensures run { Awaits (board_of cols cells.now) (result ∷ []) square }
+    ensures room { InRoom (board_of cols cells.now) square → InRoom (board_of cols cells.now) result }
 {
-    let column = square.0 % cols as u16;
-    neighbours_of(cols, cells, square.0 as usize, column as usize)
+    let mut start = square;
+    while first < start && !is_wall_at(cols, cells, start - 1) {
+        start -= 1;
+    }
+    start
 }
 
-// Marks a square that is no wall and has no mark, and puts it among those to look at.
+// Marks the squares of a run from the first on, and makes those above and below that have no mark pending: of several
+// in a row the first. Up to the first at the grid's edge.
 #[inline(always)]
-fn visit(
+fn fill_run(
     cols: usize,
     cells: &[Cell],
     room: &mut [bool],
     pending: &mut Vec<Square>,
-    square: Square,
-) -> Result<(), AllocError>
-    requires size { length room.old ≡ length cells.now }
-    requires reached { is_wall (board_of cols cells.now) square ≡ false → InRoom (board_of cols cells.now) square }
-    ensures grows { OnOk result (Grows (InRoom (board_of cols cells.now)) room.old pending.old.items room.new pending.new.items) }
-    ensures marked { OnOk result (is_wall (board_of cols cells.now) square ≡ false → IsMarked room.new square) }
+    first: usize,
+    start: usize,
+) -> Result<(), LevelFault>
+    requires columns { 1 ≤ cols }
+    requires wide { cols ≤ MAX_COLS }
+    requires bound { length cells.now ≤ MAX_SQUARES }
+    requires row { start ≡ first + start % cols }
+    requires edge { first < start }
+    requires top { cols ≤ start }
+    requires inside { start < length cells.now }
+    requires behind { is_wall (board_of cols cells.now) (start - 1) ≡ true }
+    requires filling { IsRunning (board_of cols cells.now) room.old (start ∷ pending.old.items) start }
+    ensures filling { OnOk result (IsFilling (board_of cols cells.now) room.new pending.new.items) }
+    ensures work { OnOk result (work room.new pending.new.items ≤ work room.old pending.old.items) }
+    ensures err { IfErr result (λ f. IsRoomFault (board_of cols cells.now) f) }
 {
-    if !is_wall(cols, cells, square) && !room[square.0 as usize] {
-        room[square.0 as usize] = true;
-        pending.push(square)?;
+    let last = first + cols - 1;
+    let mut above = false;
+    let mut below = false;
+    let mut place = start;
+    while is_fresh(cols, cells, room, place) {
+        if place == last || cells.len() <= place + cols {
+            return Err(LevelFault::Open);
+        }
+        room[place] = true;
+        above = seed(cols, cells, room, pending, place - cols, above)?;
+        below = seed(cols, cells, room, pending, place + cols, below)?;
+        place += 1;
     }
     Ok(())
+}
+
+// Whether the square is no wall and has no mark. Where it is so and the square before it in its row was none such, it is
+// pending now.
+#[inline(always)]
+fn seed(
+    cols: usize,
+    cells: &[Cell],
+    room: &[bool],
+    pending: &mut Vec<Square>,
+    place: usize,
+    before: bool,
+) -> Result<bool, AllocError>
+    requires bound { length cells.now ≤ MAX_SQUARES }
+    requires size { length room.now ≡ length cells.now }
+    requires inside { place < length cells.now }
+    ensures { IfOk result (λ fresh. Seeds (board_of cols cells.now) room.now pending.old.items place before pending.new.items fresh) }
+{
+    let fresh = is_fresh(cols, cells, room, place);
+    if fresh & !before {
+        pending.push(Square(place as u16))?;
+    }
+    Ok(fresh)
+}
+
+// Whether the square is no wall and has no mark.
+#[inline(always)]
+fn is_fresh(cols: usize, cells: &[Cell], room: &[bool], place: usize) -> bool
+    requires size { length room.now ≡ length cells.now }
+    requires inside { place < length cells.now }
+    ensures { result ≡ (not (is_wall (board_of cols cells.now) place) && not (slice_index_or room.now place false)) }
+{
+    !is_wall_at(cols, cells, place) & !room[place]
+}
+
+// Whether the square of the grid is a wall.
+#[inline(always)]
+#[tactic(auto, unfolding(crate::specs::Board::is_wall))]
+fn is_wall_at(cols: usize, cells: &[Cell], place: usize) -> bool
+    requires inside { place < length cells.now }
+    ensures { result ≡ is_wall (board_of cols cells.now) place }
+{
+    let _ = cols;
+    cells[place].is_wall()
 }
 
 // Whether the square is a wall; everything outside the grid is.

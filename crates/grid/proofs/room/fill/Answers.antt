@@ -1,35 +1,33 @@
-use Rattle.std.proofs.Common.{◌≡◌, ℕ, Bool, true, List, [], subst, sym, arith}
+use Rattle.std.proofs.Common.{◌≡◌, ℕ, ◌∷◌, Bool, false, List, [], ap, subst, ◌∙◌, arith}
 use Rattle.std.proofs.lemmas.List.{nil_from_length}
-use Rattle.grid.specs.Board.{Board}
-use Rattle.grid.specs.Lawful.{InRoom}
-use Rattle.grid.specs.Lawful.InRoom.{here}
-use Rattle.grid.specs.Squares.{contains}
-use Rattle.grid.proofs.Filling.{IsFilling, marked_inside, contains_push_here, fill_done, fill_closed}
+use Rattle.grid.specs.Board.{Board, is_wall}
+use Rattle.grid.specs.inside.Filling.{IsFilling, board_of}
+use Rattle.grid.proofs.Filling.{fill_closed, fill_done, fill_start, last_first}
 use Rattle.grid.proofs.room.fill.Goals as goal
 
 -- what nothing pending leaves
 done : (board : Board) (marks : List Bool) (pending : List ℕ) → pending ≡ [] → IsFilling board marks pending → IsFilling board marks []
 done board marks pending none f = subst (λ (xs : List ℕ). IsFilling board marks xs) none f
 
-pub visit-requires-clause-reached : goal.visit-requires-clause-reached
-visit-requires-clause-reached c = λ _.
-    let board : Board = record { cols = c.args.cols; cells = c.args.cells.now } in
-    subst (InRoom board) (sym c.requires.start) here
+pub loop-square-init : goal.loop-square-init
+loop-square-init c =
+    let board : Board = board_of c.args.cols c.args.cells.now in
+    let floor = subst (λ (q : ℕ). is_wall board q ≡ false) c.requires.start c.requires.floor in
+    fill_start board c.args.room.now c.in_ok-pending.pending.items c.requires.size c.requires.clear (c.in_ok-pending.ensures ∙ ap (λ (q : ℕ). q ∷ []) c.requires.start) floor
 
-pub visit_around-requires-clause-inside : goal.visit_around-requires-clause-inside
-visit_around-requires-clause-inside c =
-    let q = c.in-Some.square in
-    let waits : contains c.loop-square.pending.items q ≡ true = subst (λ (xs : List ℕ). contains xs q ≡ true) (sym c.in-Some.ensures.items) (contains_push_here c.pop.new.self.items q) in
-    omega (arith, marked_inside c.loop-square.room q (c.loop-square.invariant.marked q waits), c.loop-square.invariant.size)
+pub fill_from-requires-clause-filling : goal.fill_from-requires-clause-filling
+fill_from-requires-clause-filling c =
+    let board : Board = board_of c.args.cols c.args.cells.now in
+    last_first board c.loop-square.room c.pop.new.self.items c.in-Some.square (subst (IsFilling board c.loop-square.room) c.in-Some.ensures.items c.loop-square.invariant)
 
 pub returns-clause-marked : goal.returns-clause-marked
 returns-clause-marked c =
-    let board : Board = record { cols = c.args.cols; cells = c.args.cells.now } in
+    let board : Board = board_of c.args.cols c.args.cells.now in
     let none : c.loop-square.pending.items ≡ [] = nil_from_length c.loop-square.pending.items (omega (arith, c.in_default.ensures.cases.0, c.loop-square.pending.ok.0)) in
     fill_done board c.loop-square.room (done board c.loop-square.room c.loop-square.pending.items none c.loop-square.invariant)
 
 pub returns-clause-closed : goal.returns-clause-closed
 returns-clause-closed c =
-    let board : Board = record { cols = c.args.cols; cells = c.args.cells.now } in
+    let board : Board = board_of c.args.cols c.args.cells.now in
     let none : c.loop-square.pending.items ≡ [] = nil_from_length c.loop-square.pending.items (omega (arith, c.in_default.ensures.cases.0, c.loop-square.pending.ok.0)) in
     fill_closed board c.loop-square.room (done board c.loop-square.room c.loop-square.pending.items none c.loop-square.invariant)

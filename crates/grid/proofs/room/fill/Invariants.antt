@@ -1,5 +1,4 @@
-use Rattle.grid.specs.inside.Filling.{work}
-use Rattle.grid.proofs.Filling.{IsFilling}
+use Rattle.grid.specs.inside.Filling.{IsFilling, work}
 use Rattle.grid.proofs.room.fill.Given as goal
 
 abbrev pub invariant-loop-square : goal.invariant-loop-square
