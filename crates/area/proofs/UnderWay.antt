@@ -6,7 +6,7 @@ use Rattle.std.proofs.lemmas.List.{get_or_past, get_or-set_same, get_or-set_othe
 use Rattle.std.proofs.lemmas.List.Sums.{sum_by-set, sum_by-cons}
 use Rattle.grid.specs.declared.dir.Dir.{Dir}
 use Rattle.grid.specs.Board.{Board, is_wall, next, dir_number}
-use Rattle.grid.specs.inside.PlanView.{way}
+use Rattle.grid.specs.inside.AroundView.{way}
 use Rattle.grid.proofs.lemmas.Steps.{inside_grid}
 use Rattle.area.specs.inside.Spread.{IsSpreading, IsUnderWay, AreWithin, untouched}
 use Rattle.area.proofs.Spreading.{skipped, visited, turned, past_end}

@@ -11,7 +11,7 @@ use Rattle.grid.specs.declared.masks.StepMasks.{StepMasks}
 use Rattle.grid.specs.declared.masks.TheConstants.{WORD_BITS}
 use Rattle.grid.specs.Board.{Board, is_wall, next, opposite}
 use Rattle.grid.specs.Masks.{has_bit, word_for, words_for, can_enter, square_to}
-use Rattle.grid.specs.inside.PlanView.{around_of}
+use Rattle.grid.specs.inside.AroundView.{around_of}
 use Rattle.grid.proofs.lemmas.Steps.{wall_outside}
 
 -- ---- one bit

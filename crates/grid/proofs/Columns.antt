@@ -6,7 +6,7 @@ use Rattle.std.proofs.lemmas.Bool.{cases_lt}
 use Rattle.std.proofs.lemmas.List.{get_or_append_left}
 use Rattle.grid.specs.declared.around.Around.{Around}
 use Rattle.grid.specs.Board.{Board}
-use Rattle.grid.specs.inside.PlanView.{around_of}
+use Rattle.grid.specs.inside.AroundView.{around_of}
 
 -- after the last column comes the first one
 pub next_row : (q cols column : ℕ) → column ≡ q % cols → column + 1 ≡ cols → suc q % cols ≡ 0

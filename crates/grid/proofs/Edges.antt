@@ -5,7 +5,7 @@ use Rattle.grid.specs.declared.around.Around.{Around}
 use Rattle.grid.specs.declared.dir.Dir.{Dir}
 use Rattle.grid.specs.declared.dir.Dir.TheVariants.{D, L, R, U}
 use Rattle.grid.specs.Board.{Board, next}
-use Rattle.grid.specs.inside.PlanView.{around_of}
+use Rattle.grid.specs.inside.AroundView.{around_of}
 
 -- one of four numbers is k
 one_of : (k d l r u : ℕ) → Bool

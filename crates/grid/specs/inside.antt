@@ -1,6 +1,6 @@
 -- What keeps the books of the code: what its loops keep, what fields hold, why it ends. No report rests on it.
 pub mod Filling
-pub mod PlanView
+pub mod AroundView
 pub mod BoardView
 pub mod LevelView
 pub mod BoxesView

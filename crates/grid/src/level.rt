@@ -2,17 +2,16 @@ ghost use Rattle.std.specs.Prelude.{◌≡◌, ◌%◌, ◌<◌, ◌≤◌, ◌�
 ghost use Rattle.grid.specs.Board.{is_wall, is_goal, has_box, next, start, start_player};
 ghost use Rattle.grid.specs.Lawful.{row_count, box_count, HasFault, InRoom, IsLevel};
 ghost use Rattle.grid.specs.States.{FitsLevel};
-ghost use Rattle.grid.specs.inside.PlanView.{around_of, ways_of};
+ghost use Rattle.grid.specs.inside.AroundView.{around_of, ways_of};
 ghost use Rattle.grid.specs.Masks.{AreMasks};
 
-use crate::around::Around;
+use crate::around::{Around, neighbours};
 use crate::board::Board;
 use crate::cell::Cell;
 use crate::dir::Dir;
 use crate::fault::LevelFault;
 use crate::limits::MAX_SQUARES;
 use crate::masks::{StepMasks, masks_of};
-use crate::plan::neighbours;
 use crate::square::Square;
 use std::alloc::{AllocError, Global};
 use std::marker::Model;

@@ -14,7 +14,6 @@ mod level;
 mod limits;
 mod masks;
 mod moves;
-mod plan;
 mod position;
 mod room;
 mod square;

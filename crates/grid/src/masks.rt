@@ -1,6 +1,6 @@
 ghost use Rattle.std.specs.Prelude.{◌≡◌, ℕ, ◌*◌, ◌<◌, ◌≤◌, ◌==◌, ◌&&◌, IfOk, length, if◌then◌else◌};
 ghost use Rattle.std.specs.Int.{bit_at};
-ghost use Rattle.grid.specs.inside.PlanView.{AreAround};
+ghost use Rattle.grid.specs.inside.AroundView.{AreAround};
 ghost use Rattle.grid.specs.Masks.{AreMasks};
 ghost use Rattle.grid.specs.inside.MaskWords.{AddsBit, AreMasksAt};
 

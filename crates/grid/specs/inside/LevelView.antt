@@ -3,7 +3,7 @@ use Rattle.std.specs.Prelude.{◌≡◌, length}
 use Rattle.grid.specs.declared.level.Level.TheInside.{Inside}
 use Rattle.grid.specs.Board.{Board}
 use Rattle.grid.specs.Masks.{AreMasks}
-use Rattle.grid.specs.inside.PlanView.{AreAround}
+use Rattle.grid.specs.inside.AroundView.{AreAround}
 
 -- a level is seen as its board
 abbrev pub level_seen : Inside → Board

@@ -2,7 +2,7 @@ use Rattle.std.proofs.Common.{◌≡◌, ◌+◌, ◌*◌, ◌<◌, true, false,
 use Rattle.std.specs.Int.{bit_at}
 use Rattle.grid.specs.declared.masks.TheConstants.{WORD_BITS}
 use Rattle.grid.specs.Board.{Board, is_wall, opposite}
-use Rattle.grid.specs.inside.PlanView.{around_of}
+use Rattle.grid.specs.inside.AroundView.{around_of}
 use Rattle.grid.specs.Masks.{word_for, square_to}
 use Rattle.grid.proofs.Bits.{square_to-around_of, bit_added, bit_left_out, within_end}
 use Rattle.grid.proofs.masks.word_masks.Goals as goal

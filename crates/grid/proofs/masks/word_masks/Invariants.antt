@@ -1,7 +1,7 @@
 use Rattle.std.proofs.Common.{◌≡◌, ℕ, ◌+◌, eqb, ltb, ◌&&◌}
 use Rattle.std.specs.Int.{bit_at}
 use Rattle.grid.specs.declared.dir.Dir.{Dir}
-use Rattle.grid.specs.inside.PlanView.{AreAround}
+use Rattle.grid.specs.inside.AroundView.{AreAround}
 use Rattle.grid.specs.Masks.{word_for, can_enter}
 use Rattle.grid.proofs.masks.word_masks.Given as goal
 

@@ -3,8 +3,8 @@ use Rattle.std.proofs.lemmas.List.{length-append}
 use Rattle.std.proofs.Math.Numerals.{add-one}
 use Rattle.grid.specs.Board.{Board}
 use Rattle.grid.proofs.Columns.{next_row, next_column, one_more}
-use Rattle.grid.proofs.plan.neighbours.Goals as goal
-use Rattle.grid.proofs.plan.neighbours.Goals.{then-column-cols, else-column-cols}
+use Rattle.grid.proofs.around.neighbours.Goals as goal
+use Rattle.grid.proofs.around.neighbours.Goals.{then-column-cols, else-column-cols}
 
 pub loop-square-preserved : goal.loop-square-preserved
 loop-square-preserved c =

@@ -3,8 +3,8 @@ use Rattle.std.proofs.lemmas.Bool.Decides.{nat_tests}
 use Rattle.grid.specs.declared.dir.Dir.TheVariants.{D, L, R, U}
 use Rattle.grid.specs.Board.{Board, next}
 use Rattle.grid.proofs.Columns.{next_row, next_column}
-use Rattle.grid.proofs.plan.neighbours_of.Goals as goal
-use Rattle.grid.proofs.plan.neighbours_of.Goals.{then-square-cols, else-square-cols, then-column-eq0, else-column-eq0, then-column-cols, else-column-cols, then-square-cols-2, else-square-cols-2}
+use Rattle.grid.proofs.around.neighbours_of.Goals as goal
+use Rattle.grid.proofs.around.neighbours_of.Goals.{then-square-cols, else-square-cols, then-column-eq0, else-column-eq0, then-column-cols, else-column-cols, then-square-cols-2, else-square-cols-2}
 
 pub returns : goal.returns
 unfolding next

@@ -1,7 +1,7 @@
 use Rattle.std.proofs.Common.{◌≡◌, ℕ, ◌%◌, ◌<◌, ◌≤◌, length, get_or, vec_capacity}
 use Rattle.grid.specs.declared.around.Around.{Around}
-use Rattle.grid.specs.inside.PlanView.{around_of}
-use Rattle.grid.proofs.plan.neighbours.Given as goal
+use Rattle.grid.specs.inside.AroundView.{around_of}
+use Rattle.grid.proofs.around.neighbours.Given as goal
 
 abbrev pub invariant-loop-square : goal.invariant-loop-square
 invariant-loop-square l = record {
