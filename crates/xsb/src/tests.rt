@@ -6,6 +6,8 @@ use std::alloc::Global;
 use std::process::Abort;
 use std::test::Fail;
 
+mod one_by_one;
+
 // The rows, columns and boxes of a level, or its fault.
 type Shape = Result<(usize, usize, usize), LevelFault>;
 
