@@ -9,7 +9,7 @@ use Rattle.claims.specs.declared.views.Hand.{Hand}
 use Rattle.crew.specs.Work.{IsOfLayer}
 use Rattle.crew.specs.declared.end.End.{End}
 use Rattle.crew.specs.declared.end.End.TheVariants.{Drained, Stopped}
-use Rattle.crew.specs.inside.Lots.{AreOfLayer, IfDrained, IsLot, IsPut}
+use Rattle.crew.specs.inside.Lots.{AreOfLayer, IfDrained, IsGrown, IsLot, IsPut}
 
 -- ---- parcels
 
@@ -18,6 +18,11 @@ of_more layer [] p of it zero q at = subst (IsOfLayer layer) (same_Some p q at) 
 of_more layer [] p of it (suc i) q at = absurd (none-some q at)
 of_more layer (x ∷ xs) p of it zero q at = of 0 q at
 of_more layer (x ∷ xs) p of it (suc i) q at = of_more layer xs p (λ j r e. of (suc j) r e) it i q at
+
+of_both : (layer : LayerView) (xs ys : List ParcelView) → AreOfLayer layer xs → AreOfLayer layer ys → AreOfLayer layer (xs ++ ys)
+of_both layer [] ys of also i parcel at = also i parcel at
+of_both layer (x ∷ xs) ys of also zero parcel at = of 0 parcel at
+of_both layer (x ∷ xs) ys of also (suc i) parcel at = of_both layer xs ys (λ j q e. of (suc j) q e) also i parcel at
 
 -- ---- lots
 
@@ -33,6 +38,31 @@ one_more layer before filled parcels more hand after rank so drew (parcel, of, i
 -- the first rank of a lot
 pub one_drawn : (layer : LayerView) (before after : Hand) (rank : ℕ) (parcels more : List ParcelView) → after.numbers ≡ before.numbers ++ rank ∷ [] → IsPut layer rank 0 parcels more → IsLot layer before (take 1 more) after
 one_drawn layer before after rank parcels more drew put = one_more layer before 0 parcels more before after rank (record { of = λ i parcel at. absurd (none-some parcel at); drawn = sym (append-nil before.numbers) }) drew put
+
+-- nothing was drawn, and nothing came
+pub grown_none : (layer : LayerView) (hand after : Hand) (lot : List ParcelView) → after.numbers ≡ hand.numbers → IsGrown layer hand lot lot after
+grown_none layer hand after lot same = ([], sym (append-nil lot), record { of = λ i parcel at. absurd (none-some parcel at); drawn = same ∙ sym (append-nil hand.numbers) })
+
+-- what comes in two steps
+pub grown_twice : (layer : LayerView) (before hand after : Hand) (xs ys zs : List ParcelView) → IsGrown layer before xs ys hand → IsGrown layer hand ys zs after → IsGrown layer before xs zs after
+grown_twice layer before hand after xs ys zs (more, is, so) (rest, was, then) =
+    let rank_of : ParcelView → ℕ = λ p. p.rank in (
+      more ++ rest,
+      was ∙ ap (λ (ps : List ParcelView). ps ++ rest) is ∙ append_assoc xs more rest,
+      record {
+        of = of_both layer more rest so.of then.of;
+        drawn = then.drawn ∙ ap (λ (ns : List ℕ). ns ++ map rank_of rest) so.drawn ∙ append_assoc before.numbers (map rank_of more) (map rank_of rest)
+            ∙ ap (λ (ns : List ℕ). before.numbers ++ ns) (sym (map-append rank_of more rest));
+      },
+    )
+
+-- a lot of the layer stays so
+pub grown_of_layer : (layer : LayerView) (before after : Hand) (xs ys : List ParcelView) → AreOfLayer layer xs → IsGrown layer before xs ys after → AreOfLayer layer ys
+grown_of_layer layer before after xs ys of (more, is, so) = subst (AreOfLayer layer) (sym is) (of_both layer xs more of so.of)
+
+-- no parcel is one of the layer
+pub none_of_layer : (layer : LayerView) → AreOfLayer layer []
+none_of_layer layer i parcel at = absurd (none-some parcel at)
 
 -- ---- the end of a layer
 

@@ -4,22 +4,23 @@ ghost use Rattle.claims.specs.Hands.{newcomer};
 ghost use Rattle.crew.specs.inside.Desks.{AreRoomy, HaveDrawers};
 
 use crate::gate::Gate;
+use crate::lots::Lots;
 use crate::workers::work_all;
 use area::Scratch;
 use claims::{Drawer, Ledger, PLACES};
 use grid::Level;
-use layers::{Book, Layer, Parcel, Pruner};
+use layers::{Book, Layer, Pruner};
 use std::alloc::{AllocError, Global};
 use std::marker::Model;
 use std::sync::{Mutex, Wait};
 use std::thread::Threads;
 
-/// What a worker works with: a scratch and parcels, which it keeps from layer to layer, and a drawer of the ledger of the
+/// What a worker works with: a scratch and lots of ranks, which it keeps from layer to layer, and a drawer of the ledger of the
 /// layer at work.
 #[derive(Drop)]
 pub(crate) struct Desk<'a> {
     pub(crate) scratch: Scratch,
-    pub(crate) parcels: Vec<Parcel<'a>>,
+    pub(crate) lots: Lots<'a>,
     pub(crate) drawer: Option<Drawer>,
 }
 
@@ -101,9 +102,10 @@ fn append_desk<'a>(
     ensures room { AreRoomy (length level.now.cells) desks.old.items → AreRoomy (length level.now.cells) desks.new.items }
 {
     let scratch = Scratch::new(alloc, level)?;
+    let lots = Lots::of(alloc)?;
     desks.push(Desk {
         scratch,
-        parcels: Vec::new(alloc),
+        lots,
         drawer: None,
     })?;
     Ok(())

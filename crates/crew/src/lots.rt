@@ -1,7 +1,8 @@
 //! The lots of ranks that a worker draws at a time, and their parcels.
-ghost use Rattle.std.specs.Prelude.{◌≡◌, ◌<◌, ◌≤◌, IfErr, IfOk, length, slice_set, take, vec_capacity};
+ghost use Rattle.std.specs.Prelude.{◌≡◌, ◌<◌, ◌≤◌, [], true, false, IfErr, IfOk, length, slice_set, vec_capacity};
 ghost use Rattle.crew.specs.Work.{IsAtPlace, MayEnd, EndsWith, WasAnswered};
-ghost use Rattle.crew.specs.inside.Lots.{IsLot, IsOfRank, IsPut};
+ghost use Rattle.crew.specs.declared.end.End.TheVariants.{Drained};
+ghost use Rattle.crew.specs.inside.Lots.{IsGrown, IsOfRank, IsPut};
 ghost use Rattle.layers.specs.ParcelView.{ParcelView};
 
 use crate::end::End;
@@ -11,71 +12,178 @@ use area::Scratch;
 use claims::{Drawer, Ledger};
 use grid::Level;
 use layers::{Layer, Parcel, Pruner, expand_over, expand_over_into};
+use std::alloc::{AllocError, Global};
+use std::marker::Model;
 
 // The greatest number of ranks of a lot.
-const MOST: u64 = 16;
+pub(crate) const MOST: u64 = 16;
 
 // A lot is one of so many parts of the ranks that are left, as far as there may be as many in a lot.
 const PARTS: u64 = 64;
 
+/// The lots of a worker: the one that it hands back, and the one that it draws next.
+#[derive(Drop)]
+pub(crate) struct Lots<'a> {
+    pub(crate) ready: Lot<'a>,
+    pub(crate) next: Lot<'a>,
+}
+
+impl<'a> Lots<'a> {
+    /// Lots of a rank each, and none is drawn. The only error is that memory was refused.
+    pub(crate) fn of(alloc: Global) -> Result<Lots<'a>, AllocError> {
+        let ready = Lot::of(alloc)?;
+        let next = Lot::of(alloc)?;
+        Ok(Lots { ready, next })
+    }
+
+    /// Makes room for the greatest lots of a layer of so many positions. Where memory is refused the lots stay as small as they are.
+    pub(crate) fn have_room(&mut self, positions: u64) {
+        let size = lot_size(positions);
+        self.ready.have_room(size);
+        self.next.have_room(size);
+    }
+}
+
+/// The parcels of the ranks of a lot, in the order in which the ranks were drawn. There is room for one at least.
+#[derive(Drop)]
+pub(crate) struct Lot<'a> {
+    // the first so many are the lot; the others are there to be filled again
+    parcels: Vec<Parcel<'a>>,
+    filled: usize,
+    // how many ranks it is to have, once it has one
+    size: usize,
+}
+
+impl<'a> Model for Lot<'a> {
+    ghost use Rattle.std.specs.Prelude.{◌<◌, ◌≤◌, List, length, take, vec_capacity};
+    ghost use Rattle.layers.specs.ParcelView.{ParcelView};
+
+    ghost Value = { List ParcelView };
+
+    ghost view = { λ a. take a.filled a.parcels.items };
+
+    ghost invariant = { λ a. (a.filled ≤ length a.parcels.items) × (0 < vec_capacity a.parcels) × (a.size ≤ vec_capacity a.parcels) };
+}
+
+impl<'a> Lot<'a> {
+    // A lot without a rank, with room for one. The only error is that memory was refused.
+    fn of(alloc: Global) -> Result<Lot<'a>, AllocError>
+        ensures { IfOk result (λ lot. lot ≡ []) }
+    {
+        let parcels = Vec::with_capacity(alloc, 1)?;
+        Ok(Lot {
+            parcels,
+            filled: 0,
+            size: 0,
+        })
+    }
+
+    // Makes room for so many ranks. Where memory is refused the lot stays as small as it is.
+    fn have_room(&mut self, size: usize)
+        ensures { self.new ≡ self.old }
+    {
+        if self.parcels.capacity() < size {
+            let _ = self.parcels.reserve(size - self.parcels.len());
+        }
+    }
+
+    /// The parcels.
+    pub(crate) fn parcels(&self) -> &[Parcel<'a>]
+        ensures { result.now ≡ self.now }
+    {
+        &self.parcels.as_slice()[..self.filled]
+    }
+
+    /// Whether no rank is drawn.
+    pub(crate) fn is_empty(&self) -> bool
+        ensures some { result ≡ false → 0 < length self.now }
+        ensures none { result ≡ true → self.now ≡ [] }
+    {
+        self.filled == 0
+    }
+
+    /// Takes all ranks away.
+    pub(crate) fn clear(&mut self)
+        ensures { self.new ≡ [] }
+    {
+        self.filled = 0;
+    }
+
+    /// Draws one more rank, and puts its parcel behind the others; `false` where the lot has as many as it is to have, or
+    /// no rank is left.
+    pub(crate) fn draw_more<G: Gate>(
+        &mut self,
+        level: &'a Level,
+        layer: &Layer,
+        pruner: &Pruner,
+        ledger: &Ledger,
+        drawer: &mut Drawer,
+        worker: u8,
+        scratch: &mut Scratch,
+        gate: &G,
+        nth: &mut u64,
+    ) -> Result<bool, End>
+        requires level { level.now ≡ layer.now.level.board }
+        requires pruner_of_level { pruner.now ≡ layer.now.level }
+        requires room { scratch.old.size ≡ length layer.now.level.board.cells }
+        requires ranks { ledger.now.len ≤ length layer.now.places }
+        requires place { IsAtPlace ledger.now worker drawer.old }
+        ensures grown { IfOk result (λ more. IsGrown layer.now drawer.old.hand self.old self.new drawer.new.hand) }
+        ensures none { IfOk result (λ more. more ≡ false → self.new ≡ [] → EndsWith worker drawer.new.hand Drained) }
+        ensures end { IfErr result (λ end. MayEnd G.may_stop end) }
+        ensures hand { IfErr result (λ end. EndsWith worker drawer.new.hand end) }
+        ensures answered { IfErr result (λ end. WasAnswered layer.now worker end) }
+        ensures place { IsAtPlace ledger.now worker drawer.new }
+        ensures size { scratch.new.size ≡ scratch.old.size }
+    {
+        if 0 < self.filled && self.size <= self.filled {
+            return Ok(false);
+        }
+        let rank = match draw(layer, ledger, drawer, worker, gate, nth) {
+            Ok(rank) => rank,
+            Err(End::Drained) => return Ok(false),
+            Err(end) => return Err(end),
+        };
+        let place = self.filled;
+        self.size = size_at(
+            place,
+            self.size,
+            layer.len() - rank,
+            self.parcels.capacity(),
+        );
+        put(
+            level,
+            layer,
+            pruner,
+            rank,
+            scratch,
+            &mut self.parcels,
+            place,
+        );
+        self.filled = place + 1;
+        Ok(true)
+    }
+}
+
 // How many ranks a lot has where so many of the layer are left: fewer toward its end, so that no worker waits long for
 // another's lot.
-pub(crate) fn lot_size(left: u64) -> usize
+fn lot_size(left: u64) -> usize
     ensures { 0 < result }
 {
     (left / PARTS).clamp(1, MOST) as usize
 }
 
-// Makes room for a lot of so many parcels, in a list that may hold some already. Where memory is refused the list stays as
-// it was.
-pub(crate) fn have_room(parcels: &mut Vec<Parcel<'_>>, size: usize) {
-    if parcels.capacity() < size {
-        let _ = parcels.reserve(size - parcels.len());
-    }
-}
-
-// Draws the ranks of a lot, and puts their parcels into the first places of a list that has room for one at least. Gives
-// how many they are. The lot ends early where no rank is left, and drains the worker where none is left at all.
-pub(crate) fn fill<'a, G: Gate>(
-    level: &'a Level,
-    layer: &Layer,
-    pruner: &Pruner,
-    ledger: &Ledger,
-    drawer: &mut Drawer,
-    worker: u8,
-    scratch: &mut Scratch,
-    gate: &G,
-    nth: &mut u64,
-    parcels: &mut Vec<Parcel<'a>>,
-) -> Result<usize, End>
-    requires level { level.now ≡ layer.now.level.board }
-    requires pruner_of_level { pruner.now ≡ layer.now.level }
-    requires room { scratch.old.size ≡ length layer.now.level.board.cells }
-    requires ranks { ledger.now.len ≤ length layer.now.places }
-    requires place { IsAtPlace ledger.now worker drawer.old }
-    requires capacity { 0 < vec_capacity parcels.old }
-    ensures within { IfOk result (λ filled. filled ≤ length parcels.new.items) }
-    ensures lot { IfOk result (λ filled. IsLot layer.now drawer.old.hand (take filled parcels.new.items) drawer.new.hand) }
-    ensures end { IfErr result (λ end. MayEnd G.may_stop end) }
-    ensures hand { IfErr result (λ end. EndsWith worker drawer.new.hand end) }
-    ensures answered { IfErr result (λ end. WasAnswered layer.now worker end) }
-    ensures place { IsAtPlace ledger.now worker drawer.new }
-    ensures capacity { vec_capacity parcels.new ≡ vec_capacity parcels.old }
-    ensures size { scratch.new.size ≡ scratch.old.size }
+// How many ranks a lot is to have that has so many: where it gets its first one, what those tell that are left, as far as there
+// is room; and then what it was to have.
+fn size_at(place: usize, size: usize, left: u64, room: usize) -> usize
+    requires { size ≤ room }
+    ensures { result ≤ room }
 {
-    let first = draw(layer, ledger, drawer, worker, gate, nth)?;
-    put(level, layer, pruner, first, scratch, parcels, 0);
-    let size = lot_size(layer.len() - first).min(parcels.capacity());
-    let mut filled = 1;
-    while filled < size {
-        match draw(layer, ledger, drawer, worker, gate, nth) {
-            Ok(rank) => put(level, layer, pruner, rank, scratch, parcels, filled),
-            Err(End::Drained) => return Ok(filled),
-            Err(end) => return Err(end),
-        }
-        filled += 1;
+    if place == 0 {
+        lot_size(left).min(room)
+    } else {
+        size
     }
-    Ok(filled)
 }
 
 // Makes the parcel of a rank the one in a place of a list, or behind its last one, where there is room.

@@ -1,21 +1,21 @@
-ghost use Rattle.std.specs.Prelude.{◌≡◌, ◌<◌, ◌≤◌, [], ◌∷◌, ◌++◌, IsNone, IfErr, IfOk, OnErr, OnOk, length, vec_capacity};
+ghost use Rattle.std.specs.Prelude.{◌≡◌, ◌<◌, ◌≤◌, [], ◌∷◌, ◌++◌, IsNone, IfErr, IfOk, OnErr, OnOk, length};
 ghost use Rattle.layers.specs.Books.{MayEnter, with_parcel};
 ghost use Rattle.claims.specs.declared.views.Hand.{Hand};
 ghost use Rattle.crew.specs.Work.{IsOwn, IsOfLayer, IsAtPlace, HasDrawn, DrawEnds, HandEnds, after_end, MayEnd, EndsWith, WasAnswered};
 ghost use Rattle.crew.specs.declared.end.End.TheVariants.{Stopped};
-ghost use Rattle.crew.specs.inside.Lots.{AreOfLayer, IfDrained};
+ghost use Rattle.crew.specs.inside.Lots.{AreOfLayer, IfDrained, IsGrown};
 ghost use Rattle.layers.specs.LayerView.{LayerView};
 
 use crate::end::End;
 use crate::gate::Gate;
 use crate::locking::lock_soon;
-use crate::lots::{fill, have_room, lot_size};
+use crate::lots::{Lot, Lots, MOST};
 use area::Scratch;
 use claims::{Drawer, Ledger, PLACES};
 use grid::Level;
 use layers::{Book, Layer, Parcel, Pruner, Refusal, expand_by, expand_into};
-use std::slice::from_ref;
-use std::sync::{Mutex, Wait};
+use std::mem::swap;
+use std::sync::{Mutex, MutexGuard, Wait};
 
 /// Works on a layer as one worker, until it ends: draws a lot of ranks, expands each of them while no lock is held, and
 /// hands the parcels back to each of the books in order, under one lock at a time and each under a lock of its own. A lot
@@ -49,7 +49,11 @@ pub fn work<R: Wait, G: Gate>(
     ensures ledger { drawer.new.ledger ≡ ledger.now }
     ensures size { scratch.new.size ≡ scratch.old.size }
 {
-    let mut parcels = Vec::new(scratch.allocator());
+    let Ok(mut lots) = Lots::of(scratch.allocator()) else {
+        return work_by_ones(
+            rt, layer, pruner, books, ledger, drawer, worker, scratch, gate,
+        );
+    };
     work_at(
         rt,
         layer.level(),
@@ -61,12 +65,12 @@ pub fn work<R: Wait, G: Gate>(
         worker,
         scratch,
         gate,
-        &mut parcels,
+        &mut lots,
     )
 }
 
-// Works on a layer as [`work`] does, with parcels that are kept in this list, over a level that is that of the layer. The
-// list grows to a lot of the layer; where that is refused the lots are as small as it is, or one rank.
+// Works on a layer as [`work`] does, with lots that are kept from layer to layer, over a level that is that of the layer. They
+// grow to the lots of the layer; where that is refused they are as small as they were.
 pub(crate) fn work_at<'a, R: Wait, G: Gate>(
     rt: &R,
     level: &'a Level,
@@ -78,7 +82,7 @@ pub(crate) fn work_at<'a, R: Wait, G: Gate>(
     worker: u8,
     scratch: &mut Scratch,
     gate: &G,
-    parcels: &mut Vec<Parcel<'a>>,
+    lots: &mut Lots<'a>,
 ) -> End
     requires level { level.now ≡ layer.now.level.board }
     requires pruner_of_level { pruner.now ≡ layer.now.level }
@@ -96,14 +100,54 @@ pub(crate) fn work_at<'a, R: Wait, G: Gate>(
         return End::NoPlace;
     }
     let mut nth = 0;
-    have_room(parcels, lot_size(layer.len()));
-    if parcels.capacity() == 0 {
-        return by_ones(
-            rt, layer, pruner, books, ledger, drawer, worker, scratch, gate, &mut nth,
-        );
-    }
+    lots.have_room(layer.len());
+    lots.next.clear();
     by_lots(
-        rt, level, layer, pruner, books, ledger, drawer, worker, scratch, gate, &mut nth, parcels,
+        rt,
+        level,
+        layer,
+        pruner,
+        books,
+        ledger,
+        drawer,
+        worker,
+        scratch,
+        gate,
+        &mut nth,
+        &mut lots.ready,
+        &mut lots.next,
+    )
+}
+
+// Works on a layer as [`work`] does, without memory for lots: rank by rank.
+fn work_by_ones<R: Wait, G: Gate>(
+    rt: &R,
+    layer: &Layer,
+    pruner: &Pruner,
+    books: &[Mutex<Book>],
+    ledger: &Ledger,
+    drawer: &mut Drawer,
+    worker: u8,
+    scratch: &mut Scratch,
+    gate: &G,
+) -> End
+    requires pruner_of_level { pruner.now ≡ layer.now.level }
+    requires room { scratch.old.size ≡ length layer.now.level.board.cells }
+    requires ranks { ledger.now.len ≤ length layer.now.places }
+    requires drawer { (drawer.old.ledger ≡ ledger.now) × IsNone drawer.old.hand.place }
+    requires place { worker < PLACES }
+    ensures end { MayEnd G.may_stop result }
+    ensures hand { EndsWith worker drawer.new.hand result }
+    ensures answered { WasAnswered layer.now worker result }
+    ensures ledger { drawer.new.ledger ≡ ledger.now }
+    ensures size { scratch.new.size ≡ scratch.old.size }
+{
+    if !ledger.enrol(drawer, worker) {
+        return End::NoPlace;
+    }
+    let mut nth = 0;
+    by_ones(
+        rt, layer, pruner, books, ledger, drawer, worker, scratch, gate, &mut nth,
     )
 }
 
@@ -136,7 +180,7 @@ fn by_ones<R: Wait, G: Gate>(
     };
     let mut parcel = expand_by(layer, pruner, rank, scratch);
     for _ in rt.forever() {
-        if let Err(end) = hand_back(rt, layer, books, worker, from_ref(&parcel), gate, nth) {
+        if let Err(end) = hand_back(rt, layer, books, worker, &parcel, gate, nth) {
             return end;
         }
         match draw(layer, ledger, drawer, worker, gate, nth) {
@@ -147,8 +191,8 @@ fn by_ones<R: Wait, G: Gate>(
     unreachable!()
 }
 
-// Draws lot after lot, and hands the parcels of each back before it draws the next. They are kept in this list, which has
-// room for one at least.
+// Draws lot after lot, and hands the parcels of each back. Where a book is held by another worker meanwhile, the next lot is
+// drawn on.
 fn by_lots<'a, R: Wait, G: Gate>(
     rt: &R,
     level: &'a Level,
@@ -161,14 +205,15 @@ fn by_lots<'a, R: Wait, G: Gate>(
     scratch: &mut Scratch,
     gate: &G,
     nth: &mut u64,
-    parcels: &mut Vec<Parcel<'a>>,
+    ready: &mut Lot<'a>,
+    next: &mut Lot<'a>,
 ) -> End
     requires level { level.now ≡ layer.now.level.board }
     requires pruner_of_level { pruner.now ≡ layer.now.level }
     requires room { scratch.old.size ≡ length layer.now.level.board.cells }
     requires ranks { ledger.now.len ≤ length layer.now.places }
     requires place { IsAtPlace ledger.now worker drawer.old }
-    requires capacity { 0 < vec_capacity parcels.old }
+    requires lot { AreOfLayer layer.now next.old }
     ensures end { MayEnd G.may_stop result }
     ensures hand { EndsWith worker drawer.new.hand result }
     ensures answered { WasAnswered layer.now worker result }
@@ -176,14 +221,33 @@ fn by_lots<'a, R: Wait, G: Gate>(
     ensures size { scratch.new.size ≡ scratch.old.size }
 {
     for _ in rt.forever() {
-        let filled = match fill(
-            level, layer, pruner, ledger, drawer, worker, scratch, gate, nth, parcels,
+        match next.draw_more(
+            level, layer, pruner, ledger, drawer, worker, scratch, gate, nth,
         ) {
-            Ok(filled) => filled,
+            Ok(true) => continue,
+            Ok(false) => (),
             Err(end) => return end,
-        };
-        let lot = &parcels.as_slice()[..filled];
-        if let Err(end) = hand_back(rt, layer, books, worker, lot, gate, nth) {
+        }
+        if next.is_empty() {
+            return End::Drained;
+        }
+        swap(ready, next);
+        next.clear();
+        if let Err(end) = hand_lot(
+            rt,
+            level,
+            layer,
+            pruner,
+            books,
+            ledger,
+            drawer,
+            worker,
+            scratch,
+            gate,
+            nth,
+            ready.parcels(),
+            next,
+        ) {
             return end;
         }
     }
@@ -229,53 +293,11 @@ fn draw_rank(layer: &Layer, ledger: &Ledger, drawer: &mut Drawer, worker: u8) ->
     }
 }
 
-// Hands the parcels of a lot back to each of the books in order.
+// Hands a parcel back to each of the books in order.
 fn hand_back<R: Wait, G: Gate>(
     rt: &R,
     layer: &Layer,
     books: &[Mutex<Book>],
-    worker: u8,
-    lot: &[Parcel<'_>],
-    gate: &G,
-    nth: &mut u64,
-) -> Result<(), End>
-    requires { AreOfLayer layer.now lot.now }
-    ensures end { IfErr result (λ end. MayEnd G.may_stop end) }
-    ensures hand { (hand : Hand) → IfErr result (λ end. EndsWith worker hand end) }
-    ensures answered { IfErr result (λ end. WasAnswered layer.now worker end) }
-{
-    for book in books {
-        hand_lot(rt, layer, book, worker, lot, gate, nth)?;
-    }
-    Ok(())
-}
-
-// Hands the parcels of a lot back to one book, in order.
-fn hand_lot<R: Wait, G: Gate>(
-    rt: &R,
-    layer: &Layer,
-    book: &Mutex<Book>,
-    worker: u8,
-    lot: &[Parcel<'_>],
-    gate: &G,
-    nth: &mut u64,
-) -> Result<(), End>
-    requires { AreOfLayer layer.now lot.now }
-    ensures end { IfErr result (λ end. MayEnd G.may_stop end) }
-    ensures hand { (hand : Hand) → IfErr result (λ end. EndsWith worker hand end) }
-    ensures answered { IfErr result (λ end. WasAnswered layer.now worker end) }
-{
-    for parcel in lot {
-        hand_to(rt, layer, book, worker, parcel, gate, nth)?;
-    }
-    Ok(())
-}
-
-// Hands a parcel back to one book under its lock, and then passes the gate.
-fn hand_to<R: Wait, G: Gate>(
-    rt: &R,
-    layer: &Layer,
-    book: &Mutex<Book>,
     worker: u8,
     parcel: &Parcel<'_>,
     gate: &G,
@@ -286,7 +308,145 @@ fn hand_to<R: Wait, G: Gate>(
     ensures hand { (hand : Hand) → IfErr result (λ end. EndsWith worker hand end) }
     ensures answered { IfErr result (λ end. WasAnswered layer.now worker end) }
 {
-    let handed = hand_in(&mut *lock_soon(rt, book), layer, worker, parcel);
+    for book in books {
+        hand_to(layer, lock_soon(rt, book), worker, parcel, gate, nth)?;
+    }
+    Ok(())
+}
+
+// Hands the parcels of a lot back to each of the books in order, and draws on the next lot where a book is held by another
+// worker.
+fn hand_lot<'a, R: Wait, G: Gate>(
+    rt: &R,
+    level: &'a Level,
+    layer: &Layer,
+    pruner: &Pruner,
+    books: &[Mutex<Book>],
+    ledger: &Ledger,
+    drawer: &mut Drawer,
+    worker: u8,
+    scratch: &mut Scratch,
+    gate: &G,
+    nth: &mut u64,
+    lot: &[Parcel<'_>],
+    next: &mut Lot<'a>,
+) -> Result<(), End>
+    requires level { level.now ≡ layer.now.level.board }
+    requires pruner_of_level { pruner.now ≡ layer.now.level }
+    requires room { scratch.old.size ≡ length layer.now.level.board.cells }
+    requires ranks { ledger.now.len ≤ length layer.now.places }
+    requires place { IsAtPlace ledger.now worker drawer.old }
+    requires lot { AreOfLayer layer.now lot.now }
+    ensures grown { OnOk result (IsGrown layer.now drawer.old.hand next.old next.new drawer.new.hand) }
+    ensures end { IfErr result (λ end. MayEnd G.may_stop end) }
+    ensures hand { IfErr result (λ end. EndsWith worker drawer.new.hand end) }
+    ensures answered { IfErr result (λ end. WasAnswered layer.now worker end) }
+    ensures place { IsAtPlace ledger.now worker drawer.new }
+    ensures size { scratch.new.size ≡ scratch.old.size }
+{
+    for book in books {
+        hand_lot_to(
+            rt, level, layer, pruner, book, ledger, drawer, worker, scratch, gate, nth, lot, next,
+        )?;
+    }
+    Ok(())
+}
+
+// Hands the parcels of a lot back to one book, in order.
+fn hand_lot_to<'a, R: Wait, G: Gate>(
+    rt: &R,
+    level: &'a Level,
+    layer: &Layer,
+    pruner: &Pruner,
+    book: &Mutex<Book>,
+    ledger: &Ledger,
+    drawer: &mut Drawer,
+    worker: u8,
+    scratch: &mut Scratch,
+    gate: &G,
+    nth: &mut u64,
+    lot: &[Parcel<'_>],
+    next: &mut Lot<'a>,
+) -> Result<(), End>
+    requires level { level.now ≡ layer.now.level.board }
+    requires pruner_of_level { pruner.now ≡ layer.now.level }
+    requires room { scratch.old.size ≡ length layer.now.level.board.cells }
+    requires ranks { ledger.now.len ≤ length layer.now.places }
+    requires place { IsAtPlace ledger.now worker drawer.old }
+    requires lot { AreOfLayer layer.now lot.now }
+    ensures grown { OnOk result (IsGrown layer.now drawer.old.hand next.old next.new drawer.new.hand) }
+    ensures end { IfErr result (λ end. MayEnd G.may_stop end) }
+    ensures hand { IfErr result (λ end. EndsWith worker drawer.new.hand end) }
+    ensures answered { IfErr result (λ end. WasAnswered layer.now worker end) }
+    ensures place { IsAtPlace ledger.now worker drawer.new }
+    ensures size { scratch.new.size ≡ scratch.old.size }
+{
+    for parcel in lot {
+        let guard = lock_or_draw(
+            rt, level, layer, pruner, book, ledger, drawer, worker, scratch, gate, nth, next,
+        )?;
+        hand_to(layer, guard, worker, parcel, gate, nth)?;
+    }
+    Ok(())
+}
+
+// Takes a book's lock. While another worker holds it, this one draws on the next lot, as far as that goes, and then waits.
+fn lock_or_draw<'a, 'b, R: Wait, G: Gate>(
+    rt: &R,
+    level: &'a Level,
+    layer: &Layer,
+    pruner: &Pruner,
+    book: &'b Mutex<Book>,
+    ledger: &Ledger,
+    drawer: &mut Drawer,
+    worker: u8,
+    scratch: &mut Scratch,
+    gate: &G,
+    nth: &mut u64,
+    next: &mut Lot<'a>,
+) -> Result<MutexGuard<'b, Book>, End>
+    requires level { level.now ≡ layer.now.level.board }
+    requires pruner_of_level { pruner.now ≡ layer.now.level }
+    requires room { scratch.old.size ≡ length layer.now.level.board.cells }
+    requires ranks { ledger.now.len ≤ length layer.now.places }
+    requires place { IsAtPlace ledger.now worker drawer.old }
+    ensures grown { OnOk result (IsGrown layer.now drawer.old.hand next.old next.new drawer.new.hand) }
+    ensures end { IfErr result (λ end. MayEnd G.may_stop end) }
+    ensures hand { IfErr result (λ end. EndsWith worker drawer.new.hand end) }
+    ensures answered { IfErr result (λ end. WasAnswered layer.now worker end) }
+    ensures place { IsAtPlace ledger.now worker drawer.new }
+    ensures size { scratch.new.size ≡ scratch.old.size }
+{
+    for _ in 0..MOST {
+        if let Some(guard) = book.try_lock() {
+            return Ok(guard);
+        }
+        if !next.draw_more(
+            level, layer, pruner, ledger, drawer, worker, scratch, gate, nth,
+        )? {
+            break;
+        }
+    }
+    Ok(lock_soon(rt, book))
+}
+
+// Hands a parcel back to a book whose lock is held, lets go of the lock, and then passes the gate.
+fn hand_to<G: Gate>(
+    layer: &Layer,
+    guard: MutexGuard<'_, Book>,
+    worker: u8,
+    parcel: &Parcel<'_>,
+    gate: &G,
+    nth: &mut u64,
+) -> Result<(), End>
+    requires { IsOfLayer layer.now parcel.now }
+    ensures end { IfErr result (λ end. MayEnd G.may_stop end) }
+    ensures hand { (hand : Hand) → IfErr result (λ end. EndsWith worker hand end) }
+    ensures answered { IfErr result (λ end. WasAnswered layer.now worker end) }
+{
+    let mut guard = guard;
+    let handed = hand_in(&mut *guard, layer, worker, parcel);
+    drop(guard);
     handed?;
     pass(gate, layer.number(), worker, nth)
 }

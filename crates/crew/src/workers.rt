@@ -96,7 +96,7 @@ fn help<'a, R: Wait, G: Gate>(
             worker,
             &mut desk.scratch,
             gate,
-            &mut desk.parcels,
+            &mut desk.lots,
         );
     }
 }

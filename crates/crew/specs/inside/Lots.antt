@@ -25,6 +25,10 @@ pub record IsLot (layer : LayerView) (before : Hand) (lot : List ParcelView) (af
   pub of : AreOfLayer layer lot
   pub drawn : after.numbers ≡ before.numbers ++ map (λ parcel. parcel.rank) lot
 
+-- behind the parcels that a lot had come those of exactly the ranks that the hand has drawn since, in order
+abbrev pub IsGrown : LayerView → Hand → List ParcelView → List ParcelView → Hand → Type 0
+IsGrown layer before had has after = (more : List ParcelView) × (has ≡ had ++ more) × IsLot layer before more after
+
 -- P, if the worker is drained
 abbrev pub IfDrained : End → Type 0 → Type 0
 IfDrained Drained P = P
