@@ -8,7 +8,7 @@ use Rattle.layers.specs.ParcelView.{ParcelView}
 use Rattle.claims.specs.declared.views.Hand.{Hand}
 use Rattle.crew.specs.Work.{IsOfLayer}
 use Rattle.crew.specs.declared.end.End.{End}
-use Rattle.crew.specs.declared.end.End.TheVariants.{Drained, Stopped}
+use Rattle.crew.specs.declared.end.End.TheVariants.{Stopped}
 use Rattle.crew.specs.inside.Lots.{AreOfLayer, IfDrained, IsGrown, IsLot, IsPut}
 
 -- ---- parcels
@@ -34,10 +34,6 @@ one_more layer before filled parcels more hand after rank so drew (parcel, of, i
       drawn = drew ∙ ap (λ (ns : List ℕ). ns ++ rank ∷ []) so.drawn ∙ append_assoc before.numbers (map rank_of xs) (rank ∷ [])
           ∙ ap (λ (ns : List ℕ). before.numbers ++ ns) (ap (λ r. map rank_of xs ++ r ∷ []) (sym of.1) ∙ sym (map-append rank_of xs (parcel ∷ [])) ∙ ap (map rank_of) (sym is));
     }
-
--- the first rank of a lot
-pub one_drawn : (layer : LayerView) (before after : Hand) (rank : ℕ) (parcels more : List ParcelView) → after.numbers ≡ before.numbers ++ rank ∷ [] → IsPut layer rank 0 parcels more → IsLot layer before (take 1 more) after
-one_drawn layer before after rank parcels more drew put = one_more layer before 0 parcels more before after rank (record { of = λ i parcel at. absurd (none-some parcel at); drawn = sym (append-nil before.numbers) }) drew put
 
 -- nothing was drawn, and nothing came
 pub grown_none : (layer : LayerView) (hand after : Hand) (lot : List ParcelView) → after.numbers ≡ hand.numbers → IsGrown layer hand lot lot after
@@ -69,11 +65,3 @@ none_of_layer layer i parcel at = absurd (none-some parcel at)
 -- a worker that is stopped is not drained
 pub stopped_not_drained : (P : Type 0) (end : End) → end ≡ Stopped → IfDrained end P
 stopped_not_drained P end is = subst (λ e. IfDrained e P) (sym is) tt
-
--- what holds of a drained worker
-pub of_drained : (P : Type 0) (end : End) → end ≡ Drained → IfDrained end P → P
-of_drained P end is so = subst (λ e. IfDrained e P) is so
-
--- where no rank was left, the lot stays
-pub none_more : (layer : LayerView) (before : Hand) (lot : List ParcelView) (hand after : Hand) → IsLot layer before lot hand → after.numbers ≡ hand.numbers → IsLot layer before lot after
-none_more layer before lot hand after so same = record { of = so.of; drawn = same ∙ so.drawn }

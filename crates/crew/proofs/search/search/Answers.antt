@@ -1,10 +1,9 @@
-use Rattle.std.proofs.Common.{◌+◌, [], IfOk, ap, subst, ◌∙◌}
+use Rattle.std.proofs.Common.{◌+◌, IfOk, ap, subst, ◌∙◌}
 use Rattle.grid.specs.Board.{Board}
 use Rattle.layers.specs.Tasks.{capped}
 use Rattle.std.specs.Prelude.{IfSome}
 use Rattle.solo.specs.Answers.{IsAnswer}
 use Rattle.solo.proofs.lemmas.Turns.{first_turn}
-use Rattle.crew.specs.inside.Turning.{ArePausedBy}
 use Rattle.crew.proofs.search.search.Goals as goal
 
 pub returns : goal.returns
