@@ -19,3 +19,4 @@ pub mod Joined
 pub mod Bringing
 pub mod Picking
 pub mod Shifting
+pub mod Dealt

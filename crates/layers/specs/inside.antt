@@ -7,3 +7,4 @@ pub mod Placing
 pub mod ParcelInside
 pub mod Pruned
 pub mod Sums
+pub mod Dealt

@@ -83,13 +83,7 @@ impl Book {
         }
         if self
             .found
-            .enter_all(
-                self.share,
-                self.shares,
-                parcel.rank(),
-                successors,
-                parcel.sums(),
-            )
+            .enter_all(self.share, self.shares, parcel)
             .is_err()
         {
             return Err(Refusal::OutOfMemory);

@@ -5,6 +5,7 @@ ghost use Rattle.layers.specs.Tasks.{capped, uncapped};
 ghost use Rattle.layers.specs.inside.ParcelInside.{parcel_of};
 ghost use Rattle.layers.specs.inside.Sums.{AreSums};
 
+use crate::dealing::Deal;
 use crate::layer::Layer;
 use crate::limits::MAX_SUCCESSORS;
 use crate::parcel::{Parcel, Slots};
@@ -120,6 +121,8 @@ pub fn expand_over_into<'a>(
     parcel.cap = cap_over(level, layer);
     parcel.layer = layer.number();
     parcel.rank = rank;
+    // what it held was dealt, and what it will hold is not
+    parcel.deal.shares = 0;
     parcel.count = successors_of(
         layer,
         pruner.dead(),
@@ -157,6 +160,7 @@ fn parcel_over<'a>(
         rank,
         slots: Slots::new(),
         count: 0,
+        deal: Deal::none(),
         pushes: ArrayVec::new(),
     };
     parcel.count = successors_of(

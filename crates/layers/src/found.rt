@@ -4,10 +4,9 @@ ghost use Rattle.layers.specs.BookView.{Closed, origins_of};
 ghost use Rattle.layers.specs.Books.{IsSortedAppend};
 ghost use Rattle.layers.specs.FoundView.{HaveFew, first_entries, origin_in, with_entered};
 ghost use Rattle.layers.specs.inside.Insides.{IsCopied, squares_of};
-ghost use Rattle.layers.specs.inside.Sums.{AreSums};
 
 use crate::origin::{MOST_RANKS, Origin};
-use crate::parcel::Successor;
+use crate::parcel::{Parcel, Successor};
 use crate::table::Table;
 use grid::{MAX_BOXES, Position, Square};
 use std::alloc::{AllocError, Global};
@@ -176,28 +175,25 @@ impl Found {
         }
     }
 
-    /// Enters the wanted successors of a rank, one after the other. An error leaves all as it was.
+    /// Enters the wanted successors of a parcel's rank, one after the other. An error leaves all as it was.
     pub(crate) fn enter_all(
         &mut self,
         share: u8,
         shares: u8,
-        rank: u64,
-        successors: &[Successor],
-        sums: &[u32],
+        parcel: &Parcel<'_>,
     ) -> Result<(), AllocError>
-        requires shares { 0 < shares }
-        requires rank { rank < MOST_RANKS }
-        requires few { HaveFew self.old.boxes successors.now }
-        requires sums { AreSums successors.now sums.now }
-        ensures ok { OnOk result (self.new ≡ with_entered self.old shares share rank successors.now) }
+        requires share { share < shares }
+        requires rank { parcel.now.rank < MOST_RANKS }
+        requires few { HaveFew self.old.boxes parcel.now.successors }
+        ensures ok { OnOk result (self.new ≡ with_entered self.old shares share parcel.now.rank parcel.now.successors) }
         ensures err { OnErr result (self.new ≡ self.old) }
     {
         match &mut self.tables {
-            Tables::Narrow(table) => table.enter_all(share, shares, rank, successors, sums),
-            Tables::Middle(table) => table.enter_all(share, shares, rank, successors, sums),
-            Tables::Wide(table) => table.enter_all(share, shares, rank, successors, sums),
-            Tables::Broad(table) => table.enter_all(share, shares, rank, successors, sums),
-            Tables::Widest(table) => table.enter_all(share, shares, rank, successors, sums),
+            Tables::Narrow(table) => table.enter_all(share, shares, parcel),
+            Tables::Middle(table) => table.enter_all(share, shares, parcel),
+            Tables::Wide(table) => table.enter_all(share, shares, parcel),
+            Tables::Broad(table) => table.enter_all(share, shares, parcel),
+            Tables::Widest(table) => table.enter_all(share, shares, parcel),
         }
     }
 

@@ -1,14 +1,15 @@
 //! Offers that wait in an inbox until they enter, many at a time.
-ghost use Rattle.std.specs.Prelude.{◌≡◌, ℕ, ◌+◌, ◌<◌, ◌≤◌, ◌++◌, length, vec_len, OnOk};
+ghost use Rattle.std.specs.Prelude.{◌≡◌, ℕ, ◌+◌, ◌<◌, ◌≤◌, ◌++◌, Some, length, slice_get, vec_len, OnOk};
 ghost use Rattle.std.specs.Vec.{vec_capacity};
 ghost use Rattle.indexmap.specs.IndexMap.{spare};
+ghost use Rattle.layers.specs.inside.Dealt.{offer_in, offers_at};
 ghost use Rattle.layers.specs.inside.Sums.{AreSums, scene_sum};
 ghost use Rattle.layers.specs.FoundView.{HaveFew, IsFound, found_view, offer_of, offers_of};
 
 use crate::entering::{enter_all, share_by};
 use crate::key::Key;
 use crate::origin::{ClosedOrigin, MOST_RANKS, Origin};
-use crate::parcel::Successor;
+use crate::parcel::{Parcel, Successor};
 use grid::MAX_BOXES;
 use indexmap::IndexMap;
 use std::alloc::AllocError;
@@ -56,9 +57,51 @@ fn enter_if_full<const N: usize>(
     }
 }
 
-/// Appends the offers of a rank's successors that are of the share, which the sum of each tells. The number of shares is
-/// looked at once, so that no successor waits for a division where it is a power of two.
-pub(crate) fn append_all<const N: usize>(
+/// Appends the offers of a parcel's successors that are of the share. Where they are dealt to as many shares, those of
+/// other shares are not looked at.
+pub(crate) fn append_parcel<const N: usize>(
+    inbox: &mut Vec<(Key<N>, Origin)>,
+    share: u8,
+    shares: u8,
+    parcel: &Parcel<'_>,
+)
+    requires width { N ≤ MAX_BOXES }
+    requires share { share < shares }
+    requires rank { parcel.now.rank < MOST_RANKS }
+    requires few { HaveFew N parcel.now.successors }
+    requires room { vec_len inbox.old + length parcel.now.successors ≤ vec_capacity inbox.old }
+    ensures { inbox.new.items ≡ inbox.old.items ++ offers_of shares share parcel.now.rank parcel.now.successors }
+{
+    let rank = parcel.rank();
+    let successors = parcel.successors();
+    match parcel.places(share, shares) {
+        Some(places) => append_dealt(inbox, rank, successors, places),
+        None => append_all(inbox, share, shares, rank, successors, parcel.sums()),
+    }
+}
+
+// Appends the offers of those of a rank's successors that stand at these places.
+fn append_dealt<const N: usize>(
+    inbox: &mut Vec<(Key<N>, Origin)>,
+    rank: u64,
+    successors: &[Successor],
+    places: &[u8],
+)
+    requires width { N ≤ MAX_BOXES }
+    requires rank { rank < MOST_RANKS }
+    requires few { HaveFew N successors.now }
+    requires places { (i p : ℕ) → slice_get places.now i ≡ Some p → p < length successors.now }
+    requires room { vec_len inbox.old + length places.now ≤ vec_capacity inbox.old }
+    ensures { inbox.new.items ≡ inbox.old.items ++ offers_at rank successors.now places.now }
+{
+    for place in places {
+        append_offer(inbox, rank, &successors[*place as usize]);
+    }
+}
+
+// Appends the offers of a rank's successors that are of the share, which the sum of each tells. The number of shares is
+// looked at once, so that no successor waits for a division where it is a power of two.
+fn append_all<const N: usize>(
     inbox: &mut Vec<(Key<N>, Origin)>,
     share: u8,
     shares: u8,
@@ -127,10 +170,23 @@ fn append<const N: usize>(
     ensures len { vec_len inbox.new ≤ vec_len inbox.old + 1 }
     ensures capacity { vec_capacity inbox.new ≡ vec_capacity inbox.old }
 {
-    let position = &successor.position;
     if share_by(sum, shares) != share {
         return;
     }
+    append_offer(inbox, rank, successor);
+}
+
+// Appends the offer of a rank's successor.
+#[inline(always)]
+fn append_offer<const N: usize>(inbox: &mut Vec<(Key<N>, Origin)>, rank: u64, successor: &Successor)
+    requires width { N ≤ MAX_BOXES }
+    requires rank { rank < MOST_RANKS }
+    requires few { length successor.now.position.boxes ≤ N }
+    requires room { vec_len inbox.old < vec_capacity inbox.old }
+    ensures items { inbox.new.items ≡ inbox.old.items ++ offer_in rank (Some successor.now) }
+    ensures len { vec_len inbox.new ≡ vec_len inbox.old + 1 }
+    ensures capacity { vec_capacity inbox.new ≡ vec_capacity inbox.old }
+{
     let origin = Origin::new(rank, successor.push);
-    inbox.push_reserved((Key::of(position), origin));
+    inbox.push_reserved((Key::of(&successor.position), origin));
 }

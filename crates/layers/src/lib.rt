@@ -5,6 +5,7 @@
 mod book;
 mod closing;
 mod copying;
+mod dealing;
 mod entering;
 mod events;
 mod expansion;

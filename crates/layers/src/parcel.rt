@@ -1,7 +1,9 @@
-ghost use Rattle.std.specs.Prelude.{◌≡◌, ◌↔◌, [], IsTrue};
+ghost use Rattle.std.specs.Prelude.{◌≡◌, ◌↔◌, ◌<◌, [], IfSome, IsTrue};
 ghost use Rattle.layers.specs.ParcelView.{IsParcel};
+ghost use Rattle.layers.specs.inside.Dealt.{successor_places};
 ghost use Rattle.layers.specs.inside.Sums.{AreSums};
 
+use crate::dealing::Deal;
 use crate::limits::MAX_SUCCESSORS;
 use crate::task::Task;
 use arrayvec::ArrayVec;
@@ -47,6 +49,8 @@ pub struct Parcel<'a> {
     // the first so many of these are the successors and their sums
     pub(crate) slots: Slots,
     pub(crate) count: usize,
+    // how the successors are dealt to shares, if they are
+    pub(crate) deal: Deal,
     // the pushes that are tried for a rank
     pub(crate) pushes: ArrayVec<Push, MAX_SUCCESSORS>,
 }
@@ -55,6 +59,7 @@ impl<'a> Model for Parcel<'a> {
     ghost use Rattle.std.specs.Prelude.{◌≤◌, length, take};
     ghost use Rattle.layers.specs.ParcelView.{ParcelView, IsParcel};
     ghost use Rattle.layers.specs.Tasks.{capped};
+    ghost use Rattle.layers.specs.inside.Dealt.{IsDealt};
     ghost use Rattle.layers.specs.inside.ParcelInside.{parcel_of};
     ghost use Rattle.layers.specs.inside.Sums.{AreSums};
 
@@ -64,6 +69,7 @@ impl<'a> Model for Parcel<'a> {
 
     ghost invariant = { λ a. (a.count ≤ length a.slots.successors.items)
         × AreSums (take a.count a.slots.successors.items) (take a.count a.slots.sums.items)
+        × IsDealt a.deal.shares a.deal.order a.deal.ends (take a.count a.slots.sums.items)
         × IsParcel (parcel_of (capped a.level.now a.cap) a.layer a.rank a.slots.successors.items a.count) };
 }
 
@@ -122,5 +128,27 @@ impl<'a> Parcel<'a> {
         ensures { AreSums self.now.successors result.now }
     {
         &self.slots.sums.as_slice()[..self.count]
+    }
+
+    /// Deals the successors to so many shares, so that a book that is one of so many need not look at those of the others.
+    /// What the parcel is stays as it was.
+    pub fn deal(&mut self, shares: u8)
+        ensures { self.new ≡ self.old }
+    {
+        let sums = &self.slots.sums.as_slice()[..self.count];
+        self.deal.deal(shares, sums);
+    }
+
+    /// The places of those successors that are of the share, where they are dealt to so many shares.
+    pub(crate) fn places(&self, share: u8, shares: u8) -> Option<&[u8]>
+        requires { share < shares }
+        ensures { IfSome result (λ places. places.now ≡ successor_places shares share self.now.successors) }
+    {
+        if self.deal.shares != shares {
+            return None;
+        }
+        let from = self.deal.ends[share as usize] as usize;
+        let end = self.deal.ends[share as usize + 1] as usize;
+        Some(&self.deal.order[from..end])
     }
 }

@@ -5,15 +5,14 @@ ghost use Rattle.layers.specs.BookView.{Closed, origins_of};
 ghost use Rattle.layers.specs.Books.{IsSortedAppend};
 ghost use Rattle.layers.specs.FoundView.{HaveFew, first_entries, origin_in, with_entered};
 ghost use Rattle.layers.specs.inside.Insides.{IsCopied, squares_of};
-ghost use Rattle.layers.specs.inside.Sums.{AreSums};
 
 use crate::closing::arrange;
 use crate::copying::{copy_entry, copy_from};
 use crate::entering::{count_new, enter_all};
-use crate::inbox::{append_all, make_room};
+use crate::inbox::{append_parcel, make_room};
 use crate::key::Key;
 use crate::origin::{ClosedOrigin, MOST_RANKS, Origin};
-use crate::parcel::Successor;
+use crate::parcel::{Parcel, Successor};
 use grid::{MAX_BOXES, Position, Square};
 use indexmap::IndexMap;
 use std::alloc::{AllocError, Global};
@@ -159,24 +158,22 @@ impl<const N: usize> Table<N> {
         count_new(&self.table, self.start, share, shares, successors) > room
     }
 
-    /// Enters the wanted successors of a rank, one after the other. An error leaves all as it was.
+    /// Enters the wanted successors of a parcel's rank, one after the other. An error leaves all as it was.
     pub(crate) fn enter_all(
         &mut self,
         share: u8,
         shares: u8,
-        rank: u64,
-        successors: &[Successor],
-        sums: &[u32],
+        parcel: &Parcel<'_>,
     ) -> Result<(), AllocError>
-        requires shares { 0 < shares }
-        requires rank { rank < MOST_RANKS }
-        requires few { HaveFew self.old.boxes successors.now }
-        requires sums { AreSums successors.now sums.now }
-        ensures ok { OnOk result (self.new ≡ with_entered self.old shares share rank successors.now) }
+        requires share { share < shares }
+        requires rank { parcel.now.rank < MOST_RANKS }
+        requires few { HaveFew self.old.boxes parcel.now.successors }
+        ensures ok { OnOk result (self.new ≡ with_entered self.old shares share parcel.now.rank parcel.now.successors) }
         ensures err { OnErr result (self.new ≡ self.old) }
     {
+        let successors = parcel.successors();
         make_room(&mut self.table, self.start, &mut self.inbox, successors)?;
-        append_all(&mut self.inbox, share, shares, rank, successors, sums);
+        append_parcel(&mut self.inbox, share, shares, parcel);
         Ok(())
     }
 

@@ -3,7 +3,6 @@ use Rattle.grid.specs.declared.square.Push.{Push}
 use Rattle.grid.specs.Board.{Scene}
 use Rattle.layers.specs.Openings.{Entry}
 use Rattle.layers.specs.Origins.{share_of}
-use Rattle.layers.specs.FoundView.{offer_of}
 use Rattle.layers.specs.declared.parcel.Successor.{Successor}
 use Rattle.layers.proofs.Tails.{same_number, other_number}
 use Rattle.std.proofs.lemmas.List.{append-nil}
@@ -23,7 +22,4 @@ returns-clause-items g c =
     let told : c.share_by.result ≡ share_of c.args.shares s.position = c.share_by.ensures ∙ ap (λ (n : ℕ). n % c.args.shares) c.requires.sum in
     let before : List (Entry Scene Push) = c.args.inbox.now.items in
     let e = same_number (share_of c.args.shares s.position) c.args.share (sym told ∙ c.if-share_by-share.false) in
-    let here : before ++ (c.of.result, c.new-origin.result) ∷ [] ≡ before ++ (s.position, (c.args.rank, s.push)) ∷ [] = λ i. before ++ (c.of.ensures i, c.new-origin.ensures i) ∷ [] in
-    let wanted : before ++ (s.position, (c.args.rank, s.push)) ∷ [] ≡ before ++ offer_of c.args.shares c.args.share c.args.rank s = λ i. before ++ (if sym e i then (s.position, (c.args.rank, s.push)) ∷ [] else []) in
-    let put : c.push_reserved.new.self.items ≡ before ++ (c.of.result, c.new-origin.result) ∷ [] = c.push_reserved.ensures.items in
-    ◌∙◌ {A = List (Entry Scene Push)} put (◌∙◌ {A = List (Entry Scene Push)} here wanted)
+    ◌∙◌ {A = List (Entry Scene Push)} c.append_offer.ensures.items (λ i. before ++ (if sym e i then (s.position, (c.args.rank, s.push)) ∷ [] else []))

@@ -1,4 +1,4 @@
-use Rattle.std.proofs.Common.{◌≡◌, ◌+◌, ◌<◌, List, length, fold, get_or, set, slice_get, true, false, Some, ap, sym, subst, ◌∙◌, arith}
+use Rattle.std.proofs.Common.{◌≡◌, ◌+◌, ◌<◌, List, length, fold, get_or, set, slice_get, true, false, Some, refl, ap, sym, subst, ◌∙◌, arith}
 use Rattle.grid.specs.Lawful.{box_count}
 use Rattle.layers.specs.BookView.{BookView, Closed, IsLawfulBook}
 use Rattle.layers.specs.FoundView.{FoundView, with_entered}
@@ -60,13 +60,13 @@ enter_all-requires-clause-rank c =
     let a = c.self.inside in
     let found : IsAtWork c.args.self.now c.args.parcel.now × (slice_get c.args.self.now.done c.args.parcel.now.rank ≡ Some false) = c.in_default.ensures.none in
     let lt : c.args.parcel.now.rank < length a.done.items = subst (λ v. c.args.parcel.now.rank < length v.done) (sym c.self.view_is) found.0.2 in
-    omega (arith, c.rank.ensures, few_ranks (book_view a) c.self.invariant.lawful c.args.parcel.now.rank lt)
+    omega (arith, few_ranks (book_view a) c.self.invariant.lawful c.args.parcel.now.rank lt)
 
 pub enter_all-requires-clause-few : goal.enter_all-requires-clause-few
 enter_all-requires-clause-few c = λ i s at.
     let found : IsAtWork c.args.self.now c.args.parcel.now × (slice_get c.args.self.now.done c.args.parcel.now.rank ≡ Some false) = c.in_default.ensures.none in
     let boxes : c.self.inside.found.boxes ≡ box_count c.args.self.now.level.board = c.self.invariant.boxes ∙ ap (λ (v : BookView). box_count v.level.board) c.self.view_is in
-    let few = fits_few c.args.parcel.now c.tell.ensures c.args.self.now.level found.0.0 c.successors-successors.result.now c.successors-successors.ensures i s at in
+    let few = fits_few c.args.parcel.now c.tell.ensures c.args.self.now.level found.0.0 c.args.parcel.now.successors refl i s at in
     omega (arith, few, boxes, ap (λ (f : FoundView). f.boxes) c.passes.ensures.same)
 
 pub invariant_of-self-then-is_err : goal.invariant_of-self-then-is_err
@@ -78,22 +78,22 @@ pub invariant_of-self-2 : goal.invariant_of-self-2
 invariant_of-self-2 c =
     let a = c.self.inside in let p = c.args.parcel.now in let now = c.args.self.now in
     let found : IsAtWork now p × (slice_get now.done p.rank ≡ Some false) = c.in_default.ensures.none in
-    let put = ok_is c.enter_all.result c.if-is_err.ensures.value c.enter_all.ensures.ok ∙ ap (λ (f : FoundView). with_entered f a.shares a.share c.rank.result c.successors-successors.result.now) c.passes.ensures.same in
+    let put = ok_is c.enter_all.result c.if-is_err.ensures.value c.enter_all.ensures.ok ∙ ap (λ (f : FoundView). with_entered f a.shares a.share p.rank p.successors) c.passes.ensures.same in
     let seen : c.enter_all.new.self.seen ≡ a.found.seen = ap (λ (f : FoundView). f.seen) put in
     let waits : c.enter_all.new.self.waiting ≡ fold (entered (is_wanted_in a.found.seen a.shares a.share) p.rank) a.found.waiting p.successors =
-    ap (λ (f : FoundView). f.waiting) put ∙ (λ i. fold (entered (is_wanted_in a.found.seen a.shares a.share) (c.rank.ensures i)) a.found.waiting (c.successors-successors.ensures i)) in
+    ap (λ (f : FoundView). f.waiting) put in
     let lt : c.args.worker < length a.tallies.items = omega (arith, subst (λ v. c.args.worker < v.workers) (sym c.self.view_is) c.requires, c.self.invariant.lawful.tallies.0) in
     let told : c.index_mut-2.result.now ≡ get_or a.tallies.items c.args.worker c.index_mut-2.result.now = c.index_mut-2.ensures.value in
     let tally : c.index_mut-2.result.now + 1 ≡ get_or a.tallies.items c.args.worker 0 + 1 = ap (λ n. n + 1) (told ∙ get_or_same a.tallies.items c.args.worker c.index_mut-2.result.now 0 lt) in
     record {
-      lawful = subst (λ (xs : List Closed). IsLawfulBook (record (book_view a) { closed = cut_at a.starts.items xs; done = set a.done.items c.rank-2.result true; waiting = c.enter_all.new.self.waiting; tallies = set a.tallies.items c.args.worker (c.index_mut-2.result.now + 1) })) (sym seen)
-          (handed a c.self.invariant.lawful c.self.invariant.cuts p c.tell.ensures now c.self.view_is found c.args.worker c.rank-2.result (c.index_mut-2.result.now + 1) c.enter_all.new.self.waiting
-          c.rank-2.ensures tally waits (subst (λ v. c.args.worker < v.workers) (sym c.self.view_is) c.requires) c.if-self.false
+      lawful = subst (λ (xs : List Closed). IsLawfulBook (record (book_view a) { closed = cut_at a.starts.items xs; done = set a.done.items c.rank.result true; waiting = c.enter_all.new.self.waiting; tallies = set a.tallies.items c.args.worker (c.index_mut-2.result.now + 1) })) (sym seen)
+          (handed a c.self.invariant.lawful c.self.invariant.cuts p c.tell.ensures now c.self.view_is found c.args.worker c.rank.result (c.index_mut-2.result.now + 1) c.enter_all.new.self.waiting
+          c.rank.ensures tally waits (subst (λ v. c.args.worker < v.workers) (sym c.self.view_is) c.requires) c.if-self.false
           (limit_same a c.self.invariant.cuts now c.self.view_is p.rank c.successors-successors.result.now p.successors c.successors-successors.ensures false (c.if-passes.ensures.passed p.rank)));
       few = c.self.invariant.few;
       boxes = ap (λ (f : FoundView). f.boxes) put ∙ c.self.invariant.boxes;
       cuts = subst (λ (xs : List Closed). AreCuts a.starts.items (length xs)) (sym seen) c.self.invariant.cuts;
-      taken = λ r lt. taken_done (book_view a) c.rank-2.result r (c.self.invariant.taken r lt);
+      taken = λ r lt. taken_done (book_view a) c.rank.result r (c.self.invariant.taken r lt);
     }
 
 pub returns-then-is_err-clause-err : goal.returns-then-is_err-clause-err
@@ -105,13 +105,13 @@ pub returns-clause-ok : goal.returns-clause-ok
 returns-clause-ok c =
     let a = c.self.inside in let p = c.args.parcel.now in let now = c.args.self.now in
     let found : IsAtWork now p × (slice_get now.done p.rank ≡ Some false) = c.in_default.ensures.none in
-    let put = ok_is c.enter_all.result c.if-is_err.ensures.value c.enter_all.ensures.ok ∙ ap (λ (f : FoundView). with_entered f a.shares a.share c.rank.result c.successors-successors.result.now) c.passes.ensures.same in
+    let put = ok_is c.enter_all.result c.if-is_err.ensures.value c.enter_all.ensures.ok ∙ ap (λ (f : FoundView). with_entered f a.shares a.share p.rank p.successors) c.passes.ensures.same in
     let seen : c.enter_all.new.self.seen ≡ a.found.seen = ap (λ (f : FoundView). f.seen) put in
     let waits : c.enter_all.new.self.waiting ≡ fold (entered (is_wanted_in a.found.seen a.shares a.share) p.rank) a.found.waiting p.successors =
-    ap (λ (f : FoundView). f.waiting) put ∙ (λ i. fold (entered (is_wanted_in a.found.seen a.shares a.share) (c.rank.ensures i)) a.found.waiting (c.successors-successors.ensures i)) in
+    ap (λ (f : FoundView). f.waiting) put in
     let lt : c.args.worker < length a.tallies.items = omega (arith, subst (λ v. c.args.worker < v.workers) (sym c.self.view_is) c.requires, c.self.invariant.lawful.tallies.0) in
     let told : c.index_mut-2.result.now ≡ get_or a.tallies.items c.args.worker c.index_mut-2.result.now = c.index_mut-2.ensures.value in
     let tally : c.index_mut-2.result.now + 1 ≡ get_or a.tallies.items c.args.worker 0 + 1 = ap (λ n. n + 1) (told ∙ get_or_same a.tallies.items c.args.worker c.index_mut-2.result.now 0 lt) in
-    ap (λ (xs : List Closed). record (book_view a) { closed = cut_at a.starts.items xs; done = set a.done.items c.rank-2.result true; waiting = c.enter_all.new.self.waiting; tallies = set a.tallies.items c.args.worker (c.index_mut-2.result.now + 1) }) seen
-    ∙ handed_view a c.self.invariant.lawful c.self.invariant.cuts p c.tell.ensures now c.self.view_is found c.args.worker c.rank-2.result (c.index_mut-2.result.now + 1) c.enter_all.new.self.waiting
-    c.rank-2.ensures tally waits
+    ap (λ (xs : List Closed). record (book_view a) { closed = cut_at a.starts.items xs; done = set a.done.items c.rank.result true; waiting = c.enter_all.new.self.waiting; tallies = set a.tallies.items c.args.worker (c.index_mut-2.result.now + 1) }) seen
+    ∙ handed_view a c.self.invariant.lawful c.self.invariant.cuts p c.tell.ensures now c.self.view_is found c.args.worker c.rank.result (c.index_mut-2.result.now + 1) c.enter_all.new.self.waiting
+    c.rank.ensures tally waits

@@ -9,15 +9,25 @@ returns-in_err-make_room-clause-err g c = on_err c.from_residual.result (c.make_
 
 pub invariant_of-self-2 : goal.invariant_of-self-2
 invariant_of-self-2 g c =
-    let offers = offers_of c.args.shares c.args.share c.args.rank c.args.successors.now in (
+    let p = c.args.parcel.now in
+    let offers = offers_of c.args.shares c.args.share p.rank p.successors in (
       c.self.invariant.0,
       c.self.invariant.1,
       c.make_room.ensures.found,
-      omega (arith, ap length c.append_all.ensures, length-append c.make_room.new.inbox.items offers, length-offers c.args.shares c.args.share c.args.rank c.args.successors.now, c.in_ok-make_room.ensures.ok.0),
+      omega (
+        arith,
+        ap length c.append_parcel.ensures,
+        length-append c.make_room.new.inbox.items offers,
+        length-offers c.args.shares c.args.share p.rank p.successors,
+        ap length c.successors-successors.ensures,
+        c.in_ok-make_room.ensures.ok.0,
+      ),
     )
 
 pub returns-clause-ok : goal.returns-clause-ok
 returns-clause-ok g c =
-    let a = c.self.inside in let es = c.make_room.new.table.entries in let waits = c.make_room.new.inbox.items in
-    ap (found_view a.boxes a.start es) c.append_all.ensures
-    ∙ offers_appended a.boxes a.start c.args.shares c.args.share c.args.rank es waits c.args.successors.now c.args.self.now (c.make_room.ensures.same a.boxes ∙ c.self.view_is)
+    let p = c.args.parcel.now in let a = c.self.inside in
+    let es = c.make_room.new.table.entries in let waits = c.make_room.new.inbox.items in
+    ap (found_view a.boxes a.start es) c.append_parcel.ensures
+    ∙ offers_appended a.boxes a.start c.args.shares c.args.share p.rank es waits p.successors c.args.self.now
+    (c.make_room.ensures.same a.boxes ∙ c.self.view_is)
