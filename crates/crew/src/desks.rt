@@ -45,12 +45,12 @@ impl<'a> Model for Desks<'a> {
 }
 
 impl<'a> Desks<'a> {
-    /// Desks for so many workers, or for as many as memory can be had for.
-    pub(crate) fn of(alloc: Global, level: &'a Level, workers: u8) -> Desks<'a>
+    /// Desks for so many workers over so many books, or for as many as memory can be had for.
+    pub(crate) fn of(alloc: Global, level: &'a Level, workers: u8, books: u8) -> Desks<'a>
         requires { workers ≤ PLACES }
         ensures { result ≡ level.now }
     {
-        let desks = desks_of(alloc, level, workers);
+        let desks = desks_of(alloc, level, workers, books);
         Desks { level, desks }
     }
 
@@ -78,31 +78,32 @@ impl<'a> Desks<'a> {
     }
 }
 
-// Desks for so many workers, or for as many as memory can be had for.
-fn desks_of<'a>(alloc: Global, level: &Level, workers: u8) -> Vec<Desk<'a>>
+// Desks for so many workers over so many books, or for as many as memory can be had for.
+fn desks_of<'a>(alloc: Global, level: &Level, workers: u8, books: u8) -> Vec<Desk<'a>>
     ensures many { length result.items ≤ workers }
     ensures room { AreRoomy (length level.now.cells) result.items }
 {
     let mut desks = Vec::new(alloc);
     for _ in 0..workers {
-        if append_desk(alloc, level, &mut desks).is_err() {
+        if append_desk(alloc, level, books, &mut desks).is_err() {
             return desks;
         }
     }
     desks
 }
 
-// Appends a desk for a worker. The only error is that memory was refused, which leaves the desks as they were.
+// Appends a desk for a worker over so many books. The only error is that memory was refused, which leaves the desks as they were.
 fn append_desk<'a>(
     alloc: Global,
     level: &Level,
+    books: u8,
     desks: &mut Vec<Desk<'a>>,
 ) -> Result<(), AllocError>
     ensures many { length desks.new.items ≤ length desks.old.items + 1 }
     ensures room { AreRoomy (length level.now.cells) desks.old.items → AreRoomy (length level.now.cells) desks.new.items }
 {
     let scratch = Scratch::new(alloc, level)?;
-    let lots = Lots::of(alloc)?;
+    let lots = Lots::of(alloc, books as usize)?;
     desks.push(Desk {
         scratch,
         lots,

@@ -11,7 +11,7 @@ use crate::worker::draw;
 use area::Scratch;
 use claims::{Drawer, Ledger};
 use grid::Level;
-use layers::{Layer, Parcel, Pruner, expand_over, expand_over_into};
+use layers::{Layer, MAX_SHARES, Parcel, Pruner, expand_over, expand_over_into};
 use std::alloc::{AllocError, Global};
 use std::marker::Model;
 
@@ -29,10 +29,11 @@ pub(crate) struct Lots<'a> {
 }
 
 impl<'a> Lots<'a> {
-    /// Lots of a rank each, and none is drawn. The only error is that memory was refused.
-    pub(crate) fn of(alloc: Global) -> Result<Lots<'a>, AllocError> {
-        let ready = Lot::of(alloc)?;
-        let next = Lot::of(alloc)?;
+    /// Lots of a rank each for so many books, and none is drawn. The only error is that memory was refused.
+    pub(crate) fn of(alloc: Global, books: usize) -> Result<Lots<'a>, AllocError> {
+        let shares = shares_of(books);
+        let ready = Lot::of(alloc, shares)?;
+        let next = Lot::of(alloc, shares)?;
         Ok(Lots { ready, next })
     }
 
@@ -52,6 +53,8 @@ pub(crate) struct Lot<'a> {
     filled: usize,
     // how many ranks it is to have, once it has one
     size: usize,
+    // to how many shares the successors are dealt
+    shares: u8,
 }
 
 impl<'a> Model for Lot<'a> {
@@ -67,7 +70,7 @@ impl<'a> Model for Lot<'a> {
 
 impl<'a> Lot<'a> {
     // A lot without a rank, with room for one. The only error is that memory was refused.
-    fn of(alloc: Global) -> Result<Lot<'a>, AllocError>
+    fn of(alloc: Global, shares: u8) -> Result<Lot<'a>, AllocError>
         ensures { IfOk result (λ lot. lot ≡ []) }
     {
         let parcels = Vec::with_capacity(alloc, 1)?;
@@ -75,6 +78,7 @@ impl<'a> Lot<'a> {
             parcels,
             filled: 0,
             size: 0,
+            shares,
         })
     }
 
@@ -159,9 +163,19 @@ impl<'a> Lot<'a> {
             scratch,
             &mut self.parcels,
             place,
+            self.shares,
         );
         self.filled = place + 1;
         Ok(true)
+    }
+}
+
+// To how many shares successors are dealt where there are so many books, if there may be as many.
+fn shares_of(books: usize) -> u8 {
+    if books <= MAX_SHARES as usize {
+        books as u8
+    } else {
+        0
     }
 }
 
@@ -186,7 +200,8 @@ fn size_at(place: usize, size: usize, left: u64, room: usize) -> usize
     }
 }
 
-// Makes the parcel of a rank the one in a place of a list, or behind its last one, where there is room.
+// Makes the parcel of a rank the one in a place of a list, or behind its last one, where there is room, and deals its
+// successors to so many shares.
 fn put<'a>(
     level: &'a Level,
     layer: &Layer,
@@ -195,6 +210,7 @@ fn put<'a>(
     scratch: &mut Scratch,
     parcels: &mut Vec<Parcel<'a>>,
     place: usize,
+    shares: u8,
 )
     requires level { level.now ≡ layer.now.level.board }
     requires within { rank < length layer.now.places }
@@ -215,13 +231,16 @@ fn put<'a>(
             scratch,
             parcels.as_mut_slice(),
             place,
+            shares,
         );
     } else {
-        parcels.push_reserved(expand_over(level, layer, pruner, rank, scratch));
+        let mut parcel = expand_over(level, layer, pruner, rank, scratch);
+        parcel.deal(shares);
+        parcels.push_reserved(parcel);
     }
 }
 
-// Makes the parcel in a place the one of another rank.
+// Makes the parcel in a place the one of another rank, and deals its successors to so many shares.
 fn refill<'a>(
     level: &'a Level,
     layer: &Layer,
@@ -230,6 +249,7 @@ fn refill<'a>(
     scratch: &mut Scratch,
     parcels: &mut [Parcel<'a>],
     place: usize,
+    shares: u8,
 )
     requires level { level.now ≡ layer.now.level.board }
     requires within { rank < length layer.now.places }
@@ -240,4 +260,5 @@ fn refill<'a>(
     ensures size { scratch.new.size ≡ scratch.old.size }
 {
     expand_over_into(level, layer, pruner, rank, scratch, &mut parcels[place]);
+    parcels[place].deal(shares);
 }

@@ -79,7 +79,7 @@ fn search<R: Threads + Wait + Sync, G: Gate + Sync>(
         config.locks,
         &mut scratch,
     )?;
-    let mut desks = Desks::of(alloc, level, config.workers);
+    let mut desks = Desks::of(alloc, level, config.workers, config.locks);
     all_turns(
         rt,
         alloc,

@@ -49,7 +49,7 @@ pub fn work<R: Wait, G: Gate>(
     ensures ledger { drawer.new.ledger ≡ ledger.now }
     ensures size { scratch.new.size ≡ scratch.old.size }
 {
-    let Ok(mut lots) = Lots::of(scratch.allocator()) else {
+    let Ok(mut lots) = Lots::of(scratch.allocator(), books.len()) else {
         return work_by_ones(
             rt, layer, pruner, books, ledger, drawer, worker, scratch, gate,
         );
