@@ -8,6 +8,7 @@ mod config;
 mod desks;
 mod end;
 mod gate;
+mod handing;
 mod lent;
 mod locking;
 mod lots;

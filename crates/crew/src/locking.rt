@@ -1,5 +1,4 @@
 //! Locks that are mostly free again before a thread could fall asleep and wake.
-use std::hint::spin_loop;
 use std::sync::{Mutex, MutexGuard, Wait};
 use std::thread::yield_now;
 
@@ -9,9 +8,6 @@ const TRIES: u32 = 200;
 // After how many tries the thread lets others run between two of them, as the one that holds the lock.
 const SPINS: u32 = 40;
 
-// How many hints that it waits a thread gives between two of the first tries.
-const PAUSES: u32 = 50;
-
 // Takes a lock as `lock` does, after it has tried for a while: what the locks of a search are held for takes less time
 // than falling asleep and being woken.
 pub(crate) fn lock_soon<'b, T, R: Wait>(rt: &R, mutex: &'b Mutex<T>) -> MutexGuard<'b, T> {
@@ -19,18 +15,9 @@ pub(crate) fn lock_soon<'b, T, R: Wait>(rt: &R, mutex: &'b Mutex<T>) -> MutexGua
         if let Some(guard) = mutex.try_lock() {
             return guard;
         }
-        if nth < SPINS {
-            pause();
-        } else {
+        if SPINS <= nth {
             yield_now();
         }
     }
     mutex.lock(rt)
-}
-
-// Lets a little time pass.
-fn pause() {
-    for _ in 0..PAUSES {
-        spin_loop();
-    }
 }

@@ -1,26 +1,26 @@
-ghost use Rattle.std.specs.Prelude.{◌≡◌, ◌<◌, ◌≤◌, [], ◌∷◌, ◌++◌, IsNone, IfErr, IfOk, OnErr, OnOk, length};
-ghost use Rattle.layers.specs.Books.{MayEnter, with_parcel};
+ghost use Rattle.std.specs.Prelude.{◌≡◌, ◌<◌, ◌≤◌, [], ◌∷◌, ◌++◌, IsNone, IfErr, IfOk, OnErr, length};
 ghost use Rattle.claims.specs.declared.views.Hand.{Hand};
-ghost use Rattle.crew.specs.Work.{IsOwn, IsOfLayer, IsAtPlace, HasDrawn, DrawEnds, HandEnds, after_end, MayEnd, EndsWith, WasAnswered};
+ghost use Rattle.crew.specs.Work.{IsAtPlace, HasDrawn, DrawEnds, MayEnd, EndsWith, WasAnswered};
 ghost use Rattle.crew.specs.declared.end.End.TheVariants.{Stopped};
-ghost use Rattle.crew.specs.inside.Lots.{AreOfLayer, IfDrained, IsGrown};
+ghost use Rattle.crew.specs.inside.Lots.{AreOfLayer, IfDrained};
 ghost use Rattle.layers.specs.LayerView.{LayerView};
 
 use crate::end::End;
 use crate::gate::Gate;
-use crate::locking::lock_soon;
-use crate::lots::{Lot, Lots, MOST};
+use crate::handing::{hand_back, hand_lot};
+use crate::lots::{Lot, Lots};
 use area::Scratch;
 use claims::{Drawer, Ledger, PLACES};
 use grid::Level;
-use layers::{Book, Layer, Parcel, Pruner, Refusal, expand_by, expand_into};
+use layers::{Book, Layer, Pruner, expand_by, expand_into};
 use std::mem::swap;
-use std::sync::{Mutex, MutexGuard, Wait};
+use std::sync::{Mutex, Wait};
 
 /// Works on a layer as one worker, until it ends: draws a lot of ranks, expands each of them while no lock is held, and
 /// hands the parcels back to each of the books in order, under one lock at a time and each under a lock of its own. A lot
-/// is one rank or a few, fewer in a small layer and toward the end of a large one. The worker's place in the ledger is its
-/// number. After each draw that gives a rank, and each parcel that a book accepted, it asks the gate, with no lock held.
+/// is one rank or a few, fewer in a small layer and toward the end of a large one. While another worker holds the book that
+/// it comes to, it draws on the next lot. The worker's place in the ledger is its number. After each draw that gives a rank,
+/// and each parcel that a book accepted, it asks the gate, with no lock held.
 ///
 /// What is behind a lock may be any book, so under the lock the worker asks for level, layer and its own number
 /// again. It ends with [`End::Stopped`] only where the gate may stop a worker, with [`End::Drained`] only where its
@@ -293,166 +293,8 @@ fn draw_rank(layer: &Layer, ledger: &Ledger, drawer: &mut Drawer, worker: u8) ->
     }
 }
 
-// Hands a parcel back to each of the books in order.
-fn hand_back<R: Wait, G: Gate>(
-    rt: &R,
-    layer: &Layer,
-    books: &[Mutex<Book>],
-    worker: u8,
-    parcel: &Parcel<'_>,
-    gate: &G,
-    nth: &mut u64,
-) -> Result<(), End>
-    requires { IsOfLayer layer.now parcel.now }
-    ensures end { IfErr result (λ end. MayEnd G.may_stop end) }
-    ensures hand { (hand : Hand) → IfErr result (λ end. EndsWith worker hand end) }
-    ensures answered { IfErr result (λ end. WasAnswered layer.now worker end) }
-{
-    for book in books {
-        hand_to(layer, lock_soon(rt, book), worker, parcel, gate, nth)?;
-    }
-    Ok(())
-}
-
-// Hands the parcels of a lot back to each of the books in order, and draws on the next lot where a book is held by another
-// worker.
-fn hand_lot<'a, R: Wait, G: Gate>(
-    rt: &R,
-    level: &'a Level,
-    layer: &Layer,
-    pruner: &Pruner,
-    books: &[Mutex<Book>],
-    ledger: &Ledger,
-    drawer: &mut Drawer,
-    worker: u8,
-    scratch: &mut Scratch,
-    gate: &G,
-    nth: &mut u64,
-    lot: &[Parcel<'_>],
-    next: &mut Lot<'a>,
-) -> Result<(), End>
-    requires level { level.now ≡ layer.now.level.board }
-    requires pruner_of_level { pruner.now ≡ layer.now.level }
-    requires room { scratch.old.size ≡ length layer.now.level.board.cells }
-    requires ranks { ledger.now.len ≤ length layer.now.places }
-    requires place { IsAtPlace ledger.now worker drawer.old }
-    requires lot { AreOfLayer layer.now lot.now }
-    ensures grown { OnOk result (IsGrown layer.now drawer.old.hand next.old next.new drawer.new.hand) }
-    ensures end { IfErr result (λ end. MayEnd G.may_stop end) }
-    ensures hand { IfErr result (λ end. EndsWith worker drawer.new.hand end) }
-    ensures answered { IfErr result (λ end. WasAnswered layer.now worker end) }
-    ensures place { IsAtPlace ledger.now worker drawer.new }
-    ensures size { scratch.new.size ≡ scratch.old.size }
-{
-    for book in books {
-        hand_lot_to(
-            rt, level, layer, pruner, book, ledger, drawer, worker, scratch, gate, nth, lot, next,
-        )?;
-    }
-    Ok(())
-}
-
-// Hands the parcels of a lot back to one book, in order.
-fn hand_lot_to<'a, R: Wait, G: Gate>(
-    rt: &R,
-    level: &'a Level,
-    layer: &Layer,
-    pruner: &Pruner,
-    book: &Mutex<Book>,
-    ledger: &Ledger,
-    drawer: &mut Drawer,
-    worker: u8,
-    scratch: &mut Scratch,
-    gate: &G,
-    nth: &mut u64,
-    lot: &[Parcel<'_>],
-    next: &mut Lot<'a>,
-) -> Result<(), End>
-    requires level { level.now ≡ layer.now.level.board }
-    requires pruner_of_level { pruner.now ≡ layer.now.level }
-    requires room { scratch.old.size ≡ length layer.now.level.board.cells }
-    requires ranks { ledger.now.len ≤ length layer.now.places }
-    requires place { IsAtPlace ledger.now worker drawer.old }
-    requires lot { AreOfLayer layer.now lot.now }
-    ensures grown { OnOk result (IsGrown layer.now drawer.old.hand next.old next.new drawer.new.hand) }
-    ensures end { IfErr result (λ end. MayEnd G.may_stop end) }
-    ensures hand { IfErr result (λ end. EndsWith worker drawer.new.hand end) }
-    ensures answered { IfErr result (λ end. WasAnswered layer.now worker end) }
-    ensures place { IsAtPlace ledger.now worker drawer.new }
-    ensures size { scratch.new.size ≡ scratch.old.size }
-{
-    for parcel in lot {
-        let guard = lock_or_draw(
-            rt, level, layer, pruner, book, ledger, drawer, worker, scratch, gate, nth, next,
-        )?;
-        hand_to(layer, guard, worker, parcel, gate, nth)?;
-    }
-    Ok(())
-}
-
-// Takes a book's lock. While another worker holds it, this one draws on the next lot, as far as that goes, and then waits.
-fn lock_or_draw<'a, 'b, R: Wait, G: Gate>(
-    rt: &R,
-    level: &'a Level,
-    layer: &Layer,
-    pruner: &Pruner,
-    book: &'b Mutex<Book>,
-    ledger: &Ledger,
-    drawer: &mut Drawer,
-    worker: u8,
-    scratch: &mut Scratch,
-    gate: &G,
-    nth: &mut u64,
-    next: &mut Lot<'a>,
-) -> Result<MutexGuard<'b, Book>, End>
-    requires level { level.now ≡ layer.now.level.board }
-    requires pruner_of_level { pruner.now ≡ layer.now.level }
-    requires room { scratch.old.size ≡ length layer.now.level.board.cells }
-    requires ranks { ledger.now.len ≤ length layer.now.places }
-    requires place { IsAtPlace ledger.now worker drawer.old }
-    ensures grown { OnOk result (IsGrown layer.now drawer.old.hand next.old next.new drawer.new.hand) }
-    ensures end { IfErr result (λ end. MayEnd G.may_stop end) }
-    ensures hand { IfErr result (λ end. EndsWith worker drawer.new.hand end) }
-    ensures answered { IfErr result (λ end. WasAnswered layer.now worker end) }
-    ensures place { IsAtPlace ledger.now worker drawer.new }
-    ensures size { scratch.new.size ≡ scratch.old.size }
-{
-    for _ in 0..MOST {
-        if let Some(guard) = book.try_lock() {
-            return Ok(guard);
-        }
-        if !next.draw_more(
-            level, layer, pruner, ledger, drawer, worker, scratch, gate, nth,
-        )? {
-            break;
-        }
-    }
-    Ok(lock_soon(rt, book))
-}
-
-// Hands a parcel back to a book whose lock is held, lets go of the lock, and then passes the gate.
-fn hand_to<G: Gate>(
-    layer: &Layer,
-    guard: MutexGuard<'_, Book>,
-    worker: u8,
-    parcel: &Parcel<'_>,
-    gate: &G,
-    nth: &mut u64,
-) -> Result<(), End>
-    requires { IsOfLayer layer.now parcel.now }
-    ensures end { IfErr result (λ end. MayEnd G.may_stop end) }
-    ensures hand { (hand : Hand) → IfErr result (λ end. EndsWith worker hand end) }
-    ensures answered { IfErr result (λ end. WasAnswered layer.now worker end) }
-{
-    let mut guard = guard;
-    let handed = hand_in(&mut *guard, layer, worker, parcel);
-    drop(guard);
-    handed?;
-    pass(gate, layer.number(), worker, nth)
-}
-
 // Counts one more event, and asks the gate.
-fn pass<G: Gate>(gate: &G, layer: u64, worker: u8, nth: &mut u64) -> Result<(), End>
+pub(crate) fn pass<G: Gate>(gate: &G, layer: u64, worker: u8, nth: &mut u64) -> Result<(), End>
     ensures stops { IfErr result (λ end. end ≡ Stopped) }
     ensures end { IfErr result (λ end. MayEnd G.may_stop end) }
     ensures hand { (hand : Hand) → IfErr result (λ end. EndsWith worker hand end) }
@@ -463,26 +305,5 @@ fn pass<G: Gate>(gate: &G, layer: u64, worker: u8, nth: &mut u64) -> Result<(), 
         Ok(())
     } else {
         Err(End::Stopped)
-    }
-}
-
-// Hands back a parcel of the layer.
-fn hand_in(book: &mut Book, layer: &Layer, worker: u8, parcel: &Parcel<'_>) -> Result<(), End>
-    requires { IsOfLayer layer.now parcel.now }
-    ensures may { OnOk result (IsOwn layer.now worker book.old × MayEnter book.old parcel.now) }
-    ensures ok { OnOk result (book.new ≡ with_parcel book.old worker parcel.now) }
-    ensures end { IfErr result (λ end. HandEnds layer.now worker book.old parcel.now end) }
-    ensures answered { IfErr result (λ end. WasAnswered layer.now worker end) }
-    ensures kept { IfErr result (λ end. book.new ≡ after_end book.old end) }
-{
-    book.tell();
-    if worker >= book.workers() {
-        return Err(End::Foreign);
-    }
-    match book.hand_back(worker, parcel) {
-        Ok(()) => Ok(()),
-        Err(Refusal::OtherLevel) => Err(End::Foreign),
-        Err(Refusal::OtherLayer) => Err(End::Foreign),
-        Err(refusal) => Err(End::Refused(refusal)),
     }
 }

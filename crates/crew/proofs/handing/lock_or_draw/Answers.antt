@@ -1,7 +1,7 @@
 use Rattle.std.proofs.Common.{◌∙◌, rules}
 use Rattle.crew.proofs.Drawing.{grown_twice}
-use Rattle.crew.proofs.worker.lock_or_draw.Goals.{else-loop-test, then-loop-test+in_default+in_ok-draw_more+then-not-branch}
-use Rattle.crew.proofs.worker.lock_or_draw.Goals as goal
+use Rattle.crew.proofs.handing.lock_or_draw.Goals.{else-loop-test, then-loop-test+in_default+in_ok-draw_more+then-not-branch}
+use Rattle.crew.proofs.handing.lock_or_draw.Goals as goal
 
 pub loop-preserved : goal.loop-preserved
 loop-preserved g c = record {

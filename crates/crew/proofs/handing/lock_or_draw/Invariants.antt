@@ -1,10 +1,10 @@
 use Rattle.std.proofs.Common.{◌≡◌}
 use Rattle.crew.specs.Work.{IsAtPlace}
 use Rattle.crew.specs.inside.Lots.{IsGrown}
-use Rattle.crew.proofs.worker.hand_lot.Given as goal
+use Rattle.crew.proofs.handing.lock_or_draw.Given as goal
 
-abbrev pub invariant-loop-book : goal.invariant-loop-book
-invariant-loop-book g l = record {
+abbrev pub invariant-loop : goal.invariant-loop
+invariant-loop g l = record {
   grown : IsGrown l.layer l.fn.drawer.hand l.fn.next l.next l.drawer.hand;
   place : IsAtPlace l.fn.ledger l.fn.worker l.drawer;
   size : l.scratch.size ≡ l.fn.scratch.size;

@@ -1,6 +1,6 @@
 use Rattle.std.proofs.Common.{◌∙◌}
 use Rattle.crew.proofs.Drawing.{grown_twice}
-use Rattle.crew.proofs.worker.hand_lot.Goals as goal
+use Rattle.crew.proofs.handing.hand_lot.Goals as goal
 
 pub loop-book-preserved : goal.loop-book-preserved
 loop-book-preserved g c = record {

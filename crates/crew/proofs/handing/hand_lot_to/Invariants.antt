@@ -1,7 +1,7 @@
 use Rattle.std.proofs.Common.{◌≡◌}
 use Rattle.crew.specs.Work.{IsAtPlace}
 use Rattle.crew.specs.inside.Lots.{IsGrown}
-use Rattle.crew.proofs.worker.hand_lot_to.Given as goal
+use Rattle.crew.proofs.handing.hand_lot_to.Given as goal
 
 abbrev pub invariant-loop-parcel : goal.invariant-loop-parcel
 invariant-loop-parcel g l = record {

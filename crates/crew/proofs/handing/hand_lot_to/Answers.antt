@@ -2,7 +2,7 @@ use Rattle.std.proofs.Common.{Some, sym, ap, ◌∙◌, rules}
 use Rattle.std.proofs.lemmas.Option.{slice_get-get_or}
 use Rattle.layers.specs.ParcelView.{ParcelView}
 use Rattle.crew.proofs.Drawing.{grown_twice}
-use Rattle.crew.proofs.worker.hand_lot_to.Goals as goal
+use Rattle.crew.proofs.handing.hand_lot_to.Goals as goal
 
 pub hand_to-requires : goal.hand_to-requires
 hand_to-requires g c =
