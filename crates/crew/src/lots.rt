@@ -1,5 +1,5 @@
 //! The lots of ranks that a worker draws at a time, and their parcels.
-ghost use Rattle.std.specs.Prelude.{◌≡◌, ◌<◌, ◌≤◌, [], true, false, IfErr, IfOk, length, slice_set, vec_capacity};
+ghost use Rattle.std.specs.Prelude.{◌≡◌, ◌<◌, ◌≤◌, [], ◌∷◌, ◌++◌, true, false, IfErr, IfOk, length, slice_set, vec_capacity};
 ghost use Rattle.crew.specs.Work.{IsAtPlace, MayEnd, EndsWith, WasAnswered};
 ghost use Rattle.crew.specs.declared.end.End.TheVariants.{Drained};
 ghost use Rattle.crew.specs.inside.Lots.{IsGrown, IsOfRank, IsPut};
@@ -234,10 +234,35 @@ fn put<'a>(
             shares,
         );
     } else {
-        let mut parcel = expand_over(level, layer, pruner, rank, scratch);
-        parcel.deal(shares);
-        parcels.push_reserved(parcel);
+        append(level, layer, pruner, rank, scratch, parcels, shares);
     }
+}
+
+// Makes the parcel of a rank and puts it behind the last one of a list, where there is room, once its successors are dealt to
+// so many shares. It is made here by value, which takes a large frame on the stack, so this is never a part of what is done
+// for each rank.
+#[inline(never)]
+fn append<'a>(
+    level: &'a Level,
+    layer: &Layer,
+    pruner: &Pruner,
+    rank: u64,
+    scratch: &mut Scratch,
+    parcels: &mut Vec<Parcel<'a>>,
+    shares: u8,
+)
+    requires level { level.now ≡ layer.now.level.board }
+    requires within { rank < length layer.now.places }
+    requires pruner_of_level { pruner.now ≡ layer.now.level }
+    requires room { scratch.old.size ≡ length layer.now.level.board.cells }
+    requires capacity { length parcels.old.items < vec_capacity parcels.old }
+    ensures appended { (parcel : ParcelView) × IsOfRank layer.now rank parcel × (parcels.new.items ≡ parcels.old.items ++ parcel ∷ []) }
+    ensures capacity { vec_capacity parcels.new ≡ vec_capacity parcels.old }
+    ensures size { scratch.new.size ≡ scratch.old.size }
+{
+    let mut parcel = expand_over(level, layer, pruner, rank, scratch);
+    parcel.deal(shares);
+    parcels.push_reserved(parcel);
 }
 
 // Makes the parcel in a place the one of another rank, and deals its successors to so many shares.
