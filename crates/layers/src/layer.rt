@@ -1,4 +1,5 @@
 ghost use Rattle.std.specs.Prelude.{◌≡◌, ◌+◌, ◌*◌, ◌<◌, ◌≤◌, ◌==◌, true, take, drop, length, slice_get, slice_index_or, Some};
+ghost use Rattle.grid.specs.Board.{Scene};
 ghost use Rattle.grid.specs.Squares.{is_rising};
 ghost use Rattle.grid.specs.States.{FitsLevel};
 ghost use Rattle.doom.specs.Deadlocks.{Undoomed};
@@ -94,6 +95,14 @@ impl Layer {
         Some(self.place(rank))
     }
 
+    /// The box squares of the position with a rank, in rising order.
+    pub fn boxes_at(&self, rank: u64) -> &[Square]
+        requires { rank < length self.now.places }
+        ensures { (m : Scene) → slice_get self.now.places rank ≡ Some m → result.now ≡ m.boxes }
+    {
+        read_boxes(self.squares.as_slice(), rank as usize, self.task.boxes())
+    }
+
     /// The rank of a position's parent in the layer before, and the push that leads from there; `None` exactly in
     /// layer 0 and beyond the layer.
     pub fn parent(&self, rank: u64) -> Option<(u64, Push)>
@@ -124,4 +133,14 @@ fn read_position(squares: &[Square], rank: usize, boxes: usize) -> Position
     let (_, row) = squares.split_at(rank * (boxes + 1));
     let (front, _) = row.split_at(boxes);
     Position::of_rising(front, row[boxes])
+}
+
+// The box squares of the position with a rank among those of so many boxes whose squares stand one after the other.
+fn read_boxes(squares: &[Square], rank: usize, boxes: usize) -> &[Square]
+    requires { rank * (boxes + 1) + (boxes + 1) ≤ length squares.now }
+    ensures { result.now ≡ take boxes (drop (rank * (boxes + 1)) squares.now) }
+{
+    let (_, row) = squares.split_at(rank * (boxes + 1));
+    let (front, _) = row.split_at(boxes);
+    front
 }
