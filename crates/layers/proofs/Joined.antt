@@ -31,7 +31,7 @@ wholes_long v book = go v.begun refl
     go true e = omega (arith, (book.begun e).0)
     go false e = omega (arith, (book.not_begun e).0)
 
-one_of_all : {A : Type 0} (xss : List (List A)) (k : ℕ) → length (get_or xss k []) ≤ total xss
+pub one_of_all : {A : Type 0} (xss : List (List A)) (k : ℕ) → length (get_or xss k []) ≤ total xss
 one_of_all [] k = omega arith
 one_of_all (xs ∷ xss) zero = omega (arith, sum_by_first length xs xss)
 one_of_all (xs ∷ xss) (suc k) = omega (arith, sum_by_first length xs xss, one_of_all xss k)

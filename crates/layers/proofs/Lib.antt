@@ -16,6 +16,7 @@ pub mod Ordered
 pub mod Exchanging
 pub mod Merged
 pub mod Joined
+pub mod Stretches
 pub mod Bringing
 pub mod Picking
 pub mod Shifting

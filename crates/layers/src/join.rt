@@ -1,17 +1,18 @@
-ghost use Rattle.std.specs.Prelude.{◌≡◌, ◌↔◌, IsTrue, IfOk, MatchResult, ◌≤◌, Some, ◌∷◌, [], map, slice_get};
+ghost use Rattle.std.specs.Prelude.{◌≡◌, ◌↔◌, ℕ, IsTrue, IfOk, IfSome, MatchOption, MatchResult, ◌≤◌, Some, ◌∷◌, [], map, slice_get};
 ghost use Rattle.grid.specs.Lawful.{box_count};
 ghost use Rattle.layers.specs.declared.limits.TheConstants.{MOST_POSITIONS};
 ghost use Rattle.layers.specs.Reaching.{total};
 ghost use Rattle.std.specs.Bool.{MatchBool};
 ghost use Rattle.layers.specs.BookView.{AreLawfulBooks, last_layer, last_list};
 ghost use Rattle.layers.specs.Books.{AreAllShares, IsJoinOf, IsShareBeside, JoinRefused};
-ghost use Rattle.layers.specs.inside.Merging.{AreMerged};
+ghost use Rattle.layers.specs.inside.Merging.{AreMerged, IsStretchOf};
 
 use crate::book::{Book, last_start};
 use crate::fault::JoinFault;
 use crate::layer::Layer;
 use crate::merging::merge;
 use crate::origin::Origin;
+use crate::stretch::{Stretch, put_together};
 use grid::{MAX_BOXES, Square};
 use std::alloc::{AllocError, Global};
 
@@ -21,17 +22,44 @@ impl Layer {
     pub fn join(alloc: Global, books: &[Book]) -> Result<Layer, JoinFault>
         ensures { MatchResult result (λ layer. IsJoinOf books.now layer) (λ fault. JoinRefused books.now fault) }
     {
-        let Some(first) = books.first() else {
+        let Some(first) = first_of_all(books) else {
             return Err(JoinFault::NotWhole);
         };
-        if !are_all_shares(books, first) {
-            return Err(JoinFault::NotWhole);
-        }
         match join_all(alloc, books, first) {
             Ok(layer) => Ok(layer),
             Err(_) => Err(JoinFault::OutOfMemory),
         }
     }
+
+    /// The same as [`Layer::join`] gives, made of the stretches of that layer, where all of it was merged in them; otherwise
+    /// joined as that does.
+    pub fn join_stretches(
+        alloc: Global,
+        books: &[Book],
+        stretches: &[Stretch],
+    ) -> Result<Layer, JoinFault>
+        requires { (i : ℕ) (s : Stretch) → slice_get stretches.now i ≡ Some s → IsStretchOf books.now s }
+        ensures { MatchResult result (λ layer. IsJoinOf books.now layer) (λ fault. JoinRefused books.now fault) }
+    {
+        let Some(first) = first_of_all(books) else {
+            return Err(JoinFault::NotWhole);
+        };
+        match join_merged(alloc, books, first, stretches) {
+            Ok(Some(layer)) => Ok(layer),
+            _ => Layer::join(alloc, books),
+        }
+    }
+}
+
+// The first of the books, if they are all the shares, in order.
+fn first_of_all(books: &[Book]) -> Option<&Book>
+    ensures { MatchOption result (¬ (AreAllShares books.now)) (λ first. (slice_get books.now 0 ≡ Some first.now) × AreAllShares books.now) }
+{
+    let first = books.first()?;
+    if !are_all_shares(books, first) {
+        return None;
+    }
+    Some(first)
 }
 
 // Whether the books, the first of which is given, are all the shares, in order.
@@ -57,8 +85,44 @@ fn join_all(alloc: Global, books: &[Book], first: &Book) -> Result<Layer, AllocE
     ensures { IfOk result (λ layer. IsJoinOf books.now layer) }
 {
     tell_all(books);
+    tell_few(books);
     let boxes = first.boxes();
-    let (count, squares, origins) = merged_rows(alloc, books, boxes)?;
+    let rows = merged_rows(alloc, books, boxes)?;
+    layer_of(books, first, rows)
+}
+
+// The same of the stretches, where all of it was merged in them.
+fn join_merged(
+    alloc: Global,
+    books: &[Book],
+    first: &Book,
+    stretches: &[Stretch],
+) -> Result<Option<Layer>, AllocError>
+    requires first { slice_get books.now 0 ≡ Some first.now }
+    requires all { AreAllShares books.now }
+    requires stretches { (i : ℕ) (s : Stretch) → slice_get stretches.now i ≡ Some s → IsStretchOf books.now s }
+    ensures { IfOk result (λ found. IfSome found (λ layer. IsJoinOf books.now layer)) }
+{
+    tell_few(books);
+    match put_together(alloc, books, first.boxes(), stretches)? {
+        Some(rows) => Ok(Some(layer_of(books, first, rows)?)),
+        None => Ok(None),
+    }
+}
+
+// The last closed layer of all the shares, the first of which is given, of its positions' squares and origins.
+fn layer_of(
+    books: &[Book],
+    first: &Book,
+    rows: (usize, Vec<Square>, Vec<Origin>),
+) -> Result<Layer, AllocError>
+    requires first { slice_get books.now 0 ≡ Some first.now }
+    requires all { AreAllShares books.now }
+    requires rows { AreMerged (map last_list books.now) rows.0 rows.1.items rows.2.items }
+    ensures { IfOk result (λ layer. IsJoinOf books.now layer) }
+{
+    tell_all(books);
+    let (count, squares, origins) = rows;
     let task = first.task.try_clone()?;
     let number = first.layer();
     Ok(Layer {
@@ -86,8 +150,16 @@ fn merged_rows(
     }
 }
 
+// Tells that the last closed lists of all the shares are no more than there may be positions.
+fn tell_few(books: &[Book])
+    requires { AreAllShares books.now }
+    ensures { total (map last_list books.now) ≤ MOST_POSITIONS }
+{
+    tell_all(books);
+}
+
 // Tells what is true of every book.
-fn tell_all(books: &[Book])
+pub(crate) fn tell_all(books: &[Book])
     ensures { AreLawfulBooks books.now }
 {
     for place in 0..books.len() {
@@ -97,7 +169,7 @@ fn tell_all(books: &[Book])
 
 impl Book {
     // The number of boxes of a position.
-    fn boxes(&self) -> usize
+    pub(crate) fn boxes(&self) -> usize
         ensures boxes { result ≡ box_count self.now.level.board }
         ensures few { result ≤ MAX_BOXES }
     {

@@ -24,6 +24,7 @@ mod parents;
 mod pruner;
 mod pruning;
 mod pushing;
+mod stretch;
 mod table;
 mod task;
 
@@ -35,3 +36,4 @@ pub use limits::{MAX_SHARES, MAX_SUCCESSORS, MAX_WORKERS, MOST_POSITIONS};
 pub use parcel::{Parcel, Successor};
 pub use parents::Parents;
 pub use pruner::Pruner;
+pub use stretch::Stretch;

@@ -1,10 +1,10 @@
 //! The last closed lists of the books of several shares, merged into one by their origins.
-ghost use Rattle.std.specs.Prelude.{◌≡◌, ◌<◌, ◌≤◌, ◌∷◌, List, IfOk, MatchOption, OnOk, length, map};
+ghost use Rattle.std.specs.Prelude.{◌≡◌, ◌<◌, ◌≤◌, ◌∷◌, List, IfOk, IfSome, MatchOption, OnOk, drop, length, map, slice_index_or, true};
 ghost use Rattle.layers.specs.declared.limits.TheConstants.{MOST_POSITIONS};
 ghost use Rattle.layers.specs.Reaching.{total};
 ghost use Rattle.layers.specs.BookView.{Closed, last_list};
 ghost use Rattle.layers.specs.inside.Insides.{IsCopied};
-ghost use Rattle.layers.specs.inside.Merging.{AreMerged, HasLeastFirst, first_origin};
+ghost use Rattle.layers.specs.inside.Merging.{AreMerged, HasLeastFirst, first_origin, left_of};
 
 use crate::book::{Book, last_start};
 use crate::found::Found;
@@ -15,7 +15,7 @@ use std::marker::Model;
 
 /// What is left of a book's last closed list while it is merged.
 #[derive(Drop)]
-struct Rest<'a> {
+pub(crate) struct Rest<'a> {
     found: &'a Found,
     // the place of the first position that is left, where the list ends, and the first one's origin
     place: usize,
@@ -37,15 +37,17 @@ impl<'a> Model for Rest<'a> {
 }
 
 impl<'a> Rest<'a> {
-    // The whole of the last closed list.
-    fn of(book: &'a Book) -> Rest<'a>
-        ensures { result ≡ last_list book.now }
+    // What is left of the last closed list once so many of its positions were taken.
+    fn of(book: &'a Book, taken: usize) -> Rest<'a>
+        ensures { result ≡ drop taken (last_list book.now) }
     {
-        let place = last_start(book.starts.as_slice());
+        let from = last_start(book.starts.as_slice());
+        let end = book.found.closed_len();
+        let place = from + taken.min(end - from);
         Rest {
             found: &book.found,
             place,
-            end: book.found.closed_len(),
+            end,
             first: book.found.origin_at(place),
         }
     }
@@ -65,7 +67,7 @@ impl<'a> Rest<'a> {
     }
 
     // Copies the first position that is left, which is left no more.
-    fn take(
+    pub(crate) fn take(
         &mut self,
         squares: &mut Vec<Square>,
         origins: &mut Vec<Origin>,
@@ -91,7 +93,7 @@ pub(crate) fn merge(
     requires few { total (map last_list books.now) ≤ MOST_POSITIONS }
     ensures { IfOk result (λ r. AreMerged (map last_list books.now) r.0 r.1.items r.2.items) }
 {
-    let mut rests = rests_of(alloc, books)?;
+    let mut rests = rests_of(alloc, books, &[])?;
     let count = count_all(rests.as_slice());
     let mut squares = Vec::with_capacity(alloc, count.saturating_mul(boxes + 1))?;
     let mut origins = Vec::with_capacity(alloc, count)?;
@@ -101,19 +103,34 @@ pub(crate) fn merge(
     Ok((count, squares, origins))
 }
 
-// The last closed list of each book.
-fn rests_of<'a>(alloc: Global, books: &'a [Book]) -> Result<Vec<Rest<'a>>, AllocError>
-    ensures { IfOk result (λ rests. rests.items ≡ map last_list books.now) }
+// What is left of the last closed list of each book once so many positions of each were taken, or none where no number is
+// given.
+pub(crate) fn rests_of<'a>(
+    alloc: Global,
+    books: &'a [Book],
+    taken: &[usize],
+) -> Result<Vec<Rest<'a>>, AllocError>
+    ensures { IfOk result (λ rests. rests.items ≡ left_of books.now taken.now) }
 {
     let mut rests = Vec::with_capacity(alloc, books.len())?;
     for place in 0..books.len() {
-        rests.push(Rest::of(&books[place]))?;
+        rests.push(Rest::of(&books[place], taken_at(taken, place)))?;
     }
     Ok(rests)
 }
 
+// The number at a place, or none where there is no such place.
+fn taken_at(taken: &[usize], place: usize) -> usize
+    ensures { result ≡ slice_index_or taken.now place 0 }
+{
+    match taken.get(place) {
+        Some(number) => *number,
+        None => 0,
+    }
+}
+
 // How many positions are left of all.
-fn count_all(rests: &[Rest<'_>]) -> usize
+pub(crate) fn count_all(rests: &[Rest<'_>]) -> usize
     requires { total rests.now ≤ MOST_POSITIONS }
     ensures { result ≡ total rests.now }
 {
@@ -122,6 +139,13 @@ fn count_all(rests: &[Rest<'_>]) -> usize
         count += rests[place].len();
     }
     count
+}
+
+// Whether nothing is left of any.
+pub(crate) fn is_none_left(rests: &[Rest<'_>]) -> bool
+    ensures { result ≡ true → total rests.now ≡ 0 }
+{
+    least_of(rests).is_none()
 }
 
 // The place of a list whose first position has the least origin; `None` exactly where nothing is left.
@@ -139,4 +163,19 @@ fn least_of(rests: &[Rest<'_>]) -> Option<usize>
         }
     }
     least
+}
+
+// The same, where its origin comes before a bound, if there is one.
+pub(crate) fn next_of(rests: &[Rest<'_>], bound: &Option<Origin>) -> Option<usize>
+    ensures { IfSome result (λ s. HasLeastFirst rests.now s) }
+{
+    let place = least_of(rests)?;
+    if let Some(bound) = bound {
+        if let Some(origin) = rests[place].first() {
+            if !origin.is_before(*bound) {
+                return None;
+            }
+        }
+    }
+    Some(place)
 }

@@ -1,11 +1,12 @@
 -- Lists that are merged by their origins: again and again the least first entry of all is taken.
-use Rattle.std.specs.Prelude.{◌≡◌, ℕ, false, List, [], ◌∷◌, ◌++◌, length, slice_get, slice_set, Option, Some, None}
+use Rattle.std.specs.Prelude.{◌≡◌, ℕ, false, List, [], ◌∷◌, ◌++◌, drop, length, slice_get, slice_set, Option, Some, None, IfSome}
 use Rattle.std.specs.Ordering.{is_gt}
 use Rattle.grid.specs.declared.square.Push.{Push}
 use Rattle.grid.specs.Board.{push_cmp}
 use Rattle.layers.specs.Openings.{Origin, origin_cmp}
+use Rattle.layers.specs.declared.stretch.Stretch.{Stretch}
 use Rattle.layers.specs.Reaching.{total}
-use Rattle.layers.specs.BookView.{Closed, places_of, origins_of}
+use Rattle.layers.specs.BookView.{BookView, Closed, last_list, places_of, origins_of}
 use Rattle.layers.specs.FoundView.{origin_in}
 use Rattle.layers.specs.inside.Insides.{squares_of}
 
@@ -39,3 +40,21 @@ pub record AreMerged (lists : List (List Closed)) (count : ℕ) (squares : List 
   pub counted : count ≡ length entries
   pub squares_are : squares ≡ squares_of (places_of entries)
   pub origins_are : origins ≡ origins_of entries
+
+-- what is left of each book's last closed list once so many of its entries were taken, or none where no number is given
+abbrev pub left_of : List BookView → List ℕ → List (List Closed)
+left_of [] ns = []
+left_of (v ∷ vs) [] = last_list v ∷ left_of vs []
+left_of (v ∷ vs) (n ∷ ns) = drop n (last_list v) ∷ left_of vs ns
+
+-- the squares and the origins are those of entries that were taken from the last closed lists, of which so many had been taken
+-- before, and so many of each were after that
+pub record AreTaken (books : List BookView) (starts ends squares : List ℕ) (origins : List (Origin Push)) : Type 0 where
+  pub entries : List Closed
+  pub taken : Takes (left_of books starts) entries (left_of books ends)
+  pub squares_are : squares ≡ squares_of (places_of entries)
+  pub origins_are : origins ≡ origins_of entries
+
+-- the stretch holds what was taken of the books' last closed lists from its start on, if it was merged
+abbrev pub IsStretchOf : List BookView → Stretch → Type 0
+IsStretchOf books s = IfSome s.merged (λ m. AreTaken books s.starts.items m.ends.items m.squares.items m.origins.items)

@@ -1,14 +1,16 @@
-use Rattle.std.proofs.Common.{◌≡◌, [], ◌∷◌, map, length, sym, ap, subst, ◌∙◌, arith}
+use Rattle.std.proofs.Common.{◌≡◌, ◌≤◌, [], ◌∷◌, map, length, sym, ap, subst, ◌∙◌, arith}
 use Rattle.std.proofs.lemmas.Option.{slice_get_within}
+use Rattle.layers.specs.declared.limits.TheConstants.{MOST_POSITIONS}
 use Rattle.layers.specs.Reaching.{total}
 use Rattle.layers.specs.BookView.{last_list}
 use Rattle.layers.specs.inside.Merging.{HasLeastFirst, Takes}
 use Rattle.layers.specs.inside.Merging.Takes.{nothing}
 use Rattle.layers.proofs.Rests.{first_there, one_more, taken_counted}
+use Rattle.layers.proofs.Stretches.{left_all}
 use Rattle.layers.proofs.merging.merge.Goals as goal
 
 pub loop-place-init : goal.loop-place-init
-loop-place-init c = ([], subst (Takes (map last_list c.args.books.now) []) (sym c.in_ok-rests.ensures) nothing, c.in_ok-squares.ensures.items, c.in_ok-origins.ensures.items)
+loop-place-init c = ([], subst (Takes (map last_list c.args.books.now) []) (sym (c.in_ok-rests.ensures ∙ left_all c.args.books.now)) nothing, c.in_ok-squares.ensures.items, c.in_ok-origins.ensures.items)
 
 pub index_mut-requires : goal.index_mut-requires
 index_mut-requires c =
@@ -41,7 +43,10 @@ returns c =
     record {
       entries = c.loop-place.invariant.0;
       merged = (c.loop-place.rests.items, c.loop-place.invariant.1, none);
-      counted = c.count_all-count.ensures ∙ (ap total (c.as_slice.ensures.value ∙ c.in_ok-rests.ensures) ∙ omega (arith, taken_counted c.loop-place.invariant.1, none));
+      counted = c.count_all-count.ensures ∙ (ap total (c.as_slice.ensures.value ∙ c.in_ok-rests.ensures ∙ left_all c.args.books.now) ∙ omega (arith, taken_counted c.loop-place.invariant.1, none));
       squares_are = c.loop-place.invariant.2;
       origins_are = c.loop-place.invariant.3;
     }
+
+pub count_all-count-requires : goal.count_all-count-requires
+count_all-count-requires c = subst (λ xs. total xs ≤ MOST_POSITIONS) (sym (c.as_slice.ensures.value ∙ c.in_ok-rests.ensures ∙ left_all c.args.books.now)) c.requires.few

@@ -1,6 +1,6 @@
-use Rattle.std.proofs.Common.{◌≡◌, map, take}
-use Rattle.layers.specs.BookView.{last_list}
+use Rattle.std.proofs.Common.{◌≡◌, take}
+use Rattle.layers.specs.inside.Merging.{left_of}
 use Rattle.layers.proofs.merging.rests_of.Given as goal
 
 abbrev pub invariant-loop-place : goal.invariant-loop-place
-invariant-loop-place l = l.rests.items ≡ map last_list (take l.place l.books)
+invariant-loop-place l = l.rests.items ≡ left_of (take l.place l.books) l.taken

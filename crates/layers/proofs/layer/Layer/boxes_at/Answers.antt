@@ -1,4 +1,4 @@
-use Rattle.std.proofs.Common.{◌≡◌, ◌∙◌, ap, sym}
+use Rattle.std.proofs.Common.{◌∙◌, ap, sym}
 use Rattle.std.proofs.lemmas.Option.{same_Some}
 use Rattle.grid.specs.Board.{Scene}
 use Rattle.layers.proofs.Flat.{row_scene, layer_row}

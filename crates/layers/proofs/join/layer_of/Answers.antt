@@ -8,16 +8,13 @@ use Rattle.grid.specs.declared.limits.TheConstants.{MAX_BOXES}
 use Rattle.layers.specs.BookView.{BookView, Closed, last_layer, places_of}
 use Rattle.layers.specs.inside.Insides.{scenes_of, layer_view}
 use Rattle.layers.proofs.Flat.{HaveBoxes, length-squares_of, scenes-squares}
-use Rattle.layers.proofs.Joined.{few_last, joined_boxes, joined_whole}
-use Rattle.layers.proofs.join.join_all.Goals as goal
-
-pub merged_rows-requires-clause-few : goal.merged_rows-requires-clause-few
-merged_rows-requires-clause-few c = few_last c.args.books.now c.requires.all c.tell_all.ensures
+use Rattle.layers.proofs.Joined.{joined_boxes, joined_whole}
+use Rattle.layers.proofs.join.layer_of.Goals as goal
 
 pub invariant_of-result : goal.invariant_of-result
 invariant_of-result c =
     let books = c.args.books.now in let all = c.requires.all in
-    let merged = c.in_ok-count.ensures in
+    let merged = c.requires.rows in
     let es : List Closed = merged.entries in
     let ms : List Scene = places_of es in
     let same : c.args.first.now ≡ all.first = same_Some c.args.first.now all.first (sym c.requires.first ∙ all.head) in
@@ -26,11 +23,11 @@ invariant_of-result c =
     let task : c.in_ok-task.task ≡ a.task = c.in_ok-task.ensures in
     let level : a.task ≡ all.first.level = ap (λ (v : BookView). v.level) (c.first.view_is ∙ same) in
     let have : HaveBoxes b ms = subst (λ (l : Task). HaveBoxes (box_count l.board) ms) (sym level) (joined_boxes books all c.tell_all.ensures es merged.merged) in
-    let count : c.in_ok-count.count ≡ length ms = merged.counted ∙ sym (length-map es (λ (e : Closed). e.0)) in
-    let read : scenes_of (box_count c.in_ok-task.task.board) c.in_ok-count.count c.in_ok-count.squares.items ≡ ms =
+    let count : c.args.rows.0 ≡ length ms = merged.counted ∙ sym (length-map es (λ (e : Closed). e.0)) in
+    let read : scenes_of (box_count c.in_ok-task.task.board) c.args.rows.0 c.args.rows.1.items ≡ ms =
     (λ i. scenes_of (box_count (task i).board) (count i) (merged.squares_are i)) ∙ scenes-squares b ms have in
     record {
-      whole = joined_whole books all c.tell_all.ensures es merged.merged (layer_view (record { task = c.in_ok-task.task; number = c.layer-number.result; count = c.in_ok-count.count; squares = c.in_ok-count.squares; origins = c.in_ok-count.origins }))
+      whole = joined_whole books all c.tell_all.ensures es merged.merged (layer_view (record { task = c.in_ok-task.task; number = c.layer-number.result; count = c.args.rows.0; squares = c.args.rows.1; origins = c.args.rows.2 }))
           (task ∙ level) (c.layer-number.ensures ∙ ap last_layer same) read merged.origins_are;
       few = subst (λ (l : Task). box_count l.board ≤ MAX_BOXES) (sym task) c.first.invariant.few;
       squares = ap length merged.squares_are ∙ length-squares_of b ms have ∙ (λ i. sym count i * suc (box_count (sym task i).board));

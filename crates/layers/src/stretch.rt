@@ -1,0 +1,311 @@
+//! Stretches of the layer that books closed last, each merged apart from the others, so that they can be merged side by
+//! side.
+ghost use Rattle.std.specs.Prelude.{◌≡◌, ℕ, ◌<◌, ◌≤◌, [], true, IfOk, IfSome, Some, length, map, slice_get};
+ghost use Rattle.layers.specs.declared.limits.TheConstants.{MOST_POSITIONS};
+ghost use Rattle.layers.specs.Reaching.{total};
+ghost use Rattle.layers.specs.BookView.{last_list};
+ghost use Rattle.layers.specs.inside.Merging.{AreMerged, AreTaken, IsStretchOf};
+
+use crate::book::{Book, last_start};
+use crate::join::tell_all;
+use crate::merging::{count_all, is_none_left, next_of, rests_of};
+use crate::origin::Origin;
+use grid::Square;
+use std::alloc::{AllocError, Global};
+
+/// The least number of positions of a stretch. Fewer are merged in less time than a thread takes to start.
+const LEAST: usize = 4096;
+
+/// How often a list is halved at most until one place is left.
+const HALVINGS: u32 = 64;
+
+/// A stretch of the layer that books closed last: from so many positions of each book's share of it on, up to an origin.
+#[derive(Drop)]
+pub struct Stretch {
+    // how many positions of each book's last list come before it
+    pub(crate) starts: Vec<usize>,
+    // it ends before the first origin that does not come before this one, if there is one
+    bound: Option<Origin>,
+    // how many positions there is to be room for
+    room: usize,
+    pub(crate) merged: Option<Merged>,
+}
+
+/// The positions of a stretch, in the order of their origins.
+#[derive(Drop)]
+pub(crate) struct Merged {
+    // how many positions of each book's last list come before its end
+    pub(crate) ends: Vec<usize>,
+    pub(crate) squares: Vec<Square>,
+    pub(crate) origins: Vec<Origin>,
+}
+
+impl Stretch {
+    /// The layer that the books closed last in as many stretches as it is worth, up to so many; none where one thread joins it
+    /// in less time. The only error is that memory was refused.
+    pub fn all(alloc: Global, books: &[Book], most: usize) -> Result<Vec<Stretch>, AllocError> {
+        let parts = most.min(count_of(books) / LEAST);
+        let mut stretches = Vec::new(alloc);
+        if parts < 2 {
+            return Ok(stretches);
+        }
+        for part in 0..parts {
+            let stretch = Stretch::of_part(alloc, books, part, parts)?;
+            stretches.push(stretch)?;
+        }
+        Ok(stretches)
+    }
+
+    // One of so many parts of the layer, which is not merged yet. The only error is that memory was refused.
+    fn of_part(
+        alloc: Global,
+        books: &[Book],
+        part: usize,
+        parts: usize,
+    ) -> Result<Stretch, AllocError>
+        requires { part < parts }
+    {
+        let starts = match part {
+            0 => vec![in alloc; 0; books.len()]?,
+            _ => places_at(alloc, books, bound_at(books, part, parts))?,
+        };
+        let bound = match part + 1 < parts {
+            true => bound_at(books, part + 1, parts),
+            false => None,
+        };
+        let room = count_of(books) / parts;
+        Ok(Stretch {
+            starts,
+            bound,
+            room,
+            merged: None,
+        })
+    }
+
+    /// Merges the stretch, which the books it was made of are lent for. Where memory is refused it stays apart, and the whole layer
+    /// is joined as [`Layer::join`](crate::Layer::join) does.
+    pub fn merge(&mut self, alloc: Global, books: &[Book])
+        ensures { IsStretchOf books.now self.new }
+    {
+        self.merged = merge_some(
+            alloc,
+            books,
+            self.starts.as_slice(),
+            self.bound,
+            self.room,
+        );
+    }
+}
+
+// Merges what is left of the books' last lists once so many of each were taken, up to a bound; `None` where that is not
+// said for each of the books, or where memory is refused.
+fn merge_some(
+    alloc: Global,
+    books: &[Book],
+    starts: &[usize],
+    bound: Option<Origin>,
+    room: usize,
+) -> Option<Merged>
+    ensures { IfSome result (λ merged. AreTaken books.now starts.now merged.ends.items merged.squares.items merged.origins.items) }
+{
+    if starts.len() != books.len() {
+        return None;
+    }
+    match merge_upto(alloc, books, starts, bound, room) {
+        Ok(merged) => Some(merged),
+        Err(_) => None,
+    }
+}
+
+// The same, where it is said for each of the books.
+fn merge_upto(
+    alloc: Global,
+    books: &[Book],
+    starts: &[usize],
+    bound: Option<Origin>,
+    room: usize,
+) -> Result<Merged, AllocError>
+    requires { length starts.now ≡ length books.now }
+    ensures { IfOk result (λ merged. AreTaken books.now starts.now merged.ends.items merged.squares.items merged.origins.items) }
+{
+    tell_all(books);
+    let mut rests = rests_of(alloc, books, starts)?;
+    let mut ends = Vec::new(alloc);
+    ends.extend_from_slice(starts)?;
+    let mut squares = Vec::with_capacity(alloc, room.saturating_mul(row_of(books)))?;
+    let mut origins = Vec::with_capacity(alloc, room)?;
+    while let Some(place) = next_of(rests.as_slice(), &bound) {
+        rests[place].take(&mut squares, &mut origins)?;
+        ends[place] += 1;
+    }
+    Ok(Merged {
+        ends,
+        squares,
+        origins,
+    })
+}
+
+// The squares of the positions of all the stretches and their origins, and how many they are; `None` where the stretches do not follow
+// each other from the first position to the last one, or one of them is not merged. The only error is that memory was refused.
+pub(crate) fn put_together(
+    alloc: Global,
+    books: &[Book],
+    boxes: usize,
+    stretches: &[Stretch],
+) -> Result<Option<(usize, Vec<Square>, Vec<Origin>)>, AllocError>
+    requires few { total (map last_list books.now) ≤ MOST_POSITIONS }
+    requires stretches { (i : ℕ) (s : Stretch) → slice_get stretches.now i ≡ Some s → IsStretchOf books.now s }
+    ensures { IfOk result (λ found. IfSome found (λ r. AreMerged (map last_list books.now) r.0 r.1.items r.2.items)) }
+{
+    let whole = rests_of(alloc, books, &[])?;
+    let count = count_all(whole.as_slice());
+    let Some(merged) = append_each(alloc, count, boxes, books, stretches)? else {
+        return Ok(None);
+    };
+    let rests = rests_of(alloc, books, merged.ends.as_slice())?;
+    if !is_none_left(rests.as_slice()) {
+        return Ok(None);
+    }
+    let Merged {
+        squares, origins, ..
+    } = merged;
+    Ok(Some((count, squares, origins)))
+}
+
+// What stretches hold that follow each other from the first position on, with room for so many positions of so many boxes; `None`
+// where they do not, or one of them is not merged. The only error is that memory was refused.
+fn append_each(
+    alloc: Global,
+    count: usize,
+    boxes: usize,
+    books: &[Book],
+    stretches: &[Stretch],
+) -> Result<Option<Merged>, AllocError>
+    requires stretches { (i : ℕ) (s : Stretch) → slice_get stretches.now i ≡ Some s → IsStretchOf books.now s }
+    ensures { IfOk result (λ found. IfSome found (λ merged. AreTaken books.now [] merged.ends.items merged.squares.items merged.origins.items)) }
+{
+    let mut whole = Merged {
+        ends: vec![in alloc; 0; books.len()]?,
+        squares: Vec::with_capacity(alloc, count.saturating_mul(boxes.saturating_add(1)))?,
+        origins: Vec::with_capacity(alloc, count)?,
+    };
+    for place in 0..stretches.len() {
+        if !append_stretch(&mut whole, books, &stretches[place])? {
+            return Ok(None);
+        }
+    }
+    Ok(Some(whole))
+}
+
+// Appends what a stretch holds, if it begins where the others end and is merged, and tells whether it does. The only error is
+// that memory was refused.
+fn append_stretch(
+    whole: &mut Merged,
+    books: &[Book],
+    stretch: &Stretch,
+) -> Result<bool, AllocError>
+    requires stretch { IsStretchOf books.now stretch.now }
+    requires whole { AreTaken books.now [] whole.old.ends.items whole.old.squares.items whole.old.origins.items }
+    ensures { IfOk result (λ follows. follows ≡ true → AreTaken books.now [] whole.new.ends.items whole.new.squares.items whole.new.origins.items) }
+{
+    let Some(more) = &stretch.merged else {
+        return Ok(false);
+    };
+    if !are_same(whole.ends.as_slice(), stretch.starts.as_slice()) {
+        return Ok(false);
+    }
+    whole.ends.clear();
+    whole.ends.extend_from_slice(more.ends.as_slice())?;
+    whole.squares.extend_from_slice(more.squares.as_slice())?;
+    whole.origins.extend_from_slice(more.origins.as_slice())?;
+    Ok(true)
+}
+
+// Whether the places are the same.
+fn are_same(places: &[usize], others: &[usize]) -> bool
+    ensures { result ≡ true → places.now ≡ others.now }
+{
+    if places.len() != others.len() {
+        return false;
+    }
+    for place in 0..places.len() {
+        if places[place] != others[place] {
+            return false;
+        }
+    }
+    true
+}
+
+// How many squares a position of the books has: those of its boxes, and its player's.
+fn row_of(books: &[Book]) -> usize {
+    match books.first() {
+        Some(book) => book.boxes().saturating_add(1),
+        None => 1,
+    }
+}
+
+// How many positions the layer has that the books closed last.
+fn count_of(books: &[Book]) -> usize {
+    let mut count: usize = 0;
+    for book in books {
+        count = count.saturating_add(book.last_len());
+    }
+    count
+}
+
+// The origin of the position with which a part of so many begins, by the book with the most positions.
+fn bound_at(books: &[Book], part: usize, parts: usize) -> Option<Origin>
+    requires { 1 ≤ parts }
+{
+    let mut longest = books.first()?;
+    for book in books {
+        if longest.last_len() < book.last_len() {
+            longest = book;
+        }
+    }
+    longest.last_origin((longest.last_len() / parts).saturating_mul(part))
+}
+
+// How many positions of each book's last list come before a bound.
+fn places_at(alloc: Global, books: &[Book], bound: Option<Origin>) -> Result<Vec<usize>, AllocError> {
+    let mut places = Vec::with_capacity(alloc, books.len())?;
+    for book in books {
+        let place = match bound {
+            Some(bound) => book.last_before(bound),
+            None => book.last_len(),
+        };
+        places.push(place)?;
+    }
+    Ok(places)
+}
+
+impl Book {
+    // How many positions the last closed list has.
+    fn last_len(&self) -> usize {
+        let from = last_start(self.starts.as_slice());
+        self.found.closed_len().saturating_sub(from)
+    }
+
+    // The origin at a place of the last closed list.
+    fn last_origin(&self, place: usize) -> Option<Origin> {
+        let from = last_start(self.starts.as_slice());
+        self.found.origin_at(from.saturating_add(place))
+    }
+
+    // How many positions of the last closed list come before a bound, if its origins rise.
+    fn last_before(&self, bound: Origin) -> usize {
+        let mut from = 0;
+        let mut to = self.last_len();
+        for _ in 0..HALVINGS {
+            if to <= from {
+                return from;
+            }
+            let middle = from + (to - from) / 2;
+            match self.last_origin(middle) {
+                Some(origin) if origin.is_before(bound) => from = middle + 1,
+                _ => to = middle,
+            }
+        }
+        from
+    }
+}
