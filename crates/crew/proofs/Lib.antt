@@ -1,4 +1,5 @@
 pub mod Dealing
 pub mod Drawing
 pub mod Lending
+pub mod Parted
 pub mod Turning

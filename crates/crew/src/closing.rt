@@ -4,11 +4,12 @@ ghost use Rattle.layers.specs.BookView.{BookView};
 ghost use Rattle.solo.specs.inside.Rests.{MayBeClosed, MayBeClosedEach};
 ghost use Rattle.solo.specs.inside.Turns.{AreWorkingOn, WorkAnswers};
 
+use crate::spreading::for_each_spread;
 use area::Scratch;
 use layers::{Book, Layer, Pruner};
 use solo::turn::{Worked, close_ahead, finish_rest};
 use std::alloc::AllocError;
-use std::thread::{Threads, for_each_mut};
+use std::thread::Threads;
 
 // The least number of positions of a layer after which the books close side by side. After fewer a close takes less time
 // than the start of a thread.
@@ -41,14 +42,12 @@ pub(crate) fn finish_all<R: Threads + Sync>(
 fn close_side_by_side<R: Threads + Sync>(rt: &R, books: &mut [Book], layer: &Layer)
     ensures { MayBeClosedEach books.old books.new }
 {
-    let count = books.len();
-    if count < 2 || layer.len() < SIDE_BY_SIDE {
+    if books.len() < 2 || layer.len() < SIDE_BY_SIDE {
         return;
     }
-    for_each_mut(
+    for_each_spread(
         rt,
         books,
-        count,
         &|_, book: &mut Book|
             ensures { MayBeClosed book.entry.now book.exit.now }
         { close_ahead(book) },

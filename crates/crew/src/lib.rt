@@ -13,6 +13,7 @@ mod lent;
 mod locking;
 mod lots;
 mod search;
+mod spreading;
 #[cfg(test)]
 mod tests;
 mod turns;

@@ -5,12 +5,13 @@ ghost use Rattle.crew.specs.inside.Desks.{AreRoomy, HaveDrawers};
 
 use crate::desks::Desk;
 use crate::gate::Gate;
+use crate::spreading::for_each_spread;
 use crate::worker::work_at;
 use claims::{Ledger, PLACES};
 use grid::Level;
 use layers::{Book, Layer, Pruner};
 use std::sync::{Mutex, Wait};
-use std::thread::{Threads, for_each_mut};
+use std::thread::Threads;
 
 // Lends the books and the ledger to a worker at each of the desks, each in a thread of its own where one can be started,
 // and waits until all of them have ended.
@@ -32,14 +33,9 @@ pub(crate) fn work_all<'a, R: Threads + Wait + Sync, G: Gate + Sync>(
     requires room { AreRoomy (length layer.now.level.board.cells) desks.old }
     ensures room { AreRoomy (length layer.now.level.board.cells) desks.new }
 {
-    let count = desks.len();
-    if count == 0 {
-        return;
-    }
-    for_each_mut(
+    for_each_spread(
         rt,
         desks,
-        count,
         &|place, desk: &mut Desk<'_>|
             requires level { level.now ≡ layer.now.level.board }
             requires pruner_of_level { pruner.now ≡ layer.now.level }

@@ -1,0 +1,83 @@
+//! Calls at each place of a slice, each in a thread of its own, where the caller starts all of the threads: one that a just
+//! started thread starts is mostly put on the same processor, and the two take turns there.
+ghost use Rattle.std.specs.Prelude.{◌≡◌, ◌+◌, ◌^◌, ◌<◌, length};
+ghost use Rattle.std.specs.Fork.{AcceptsAt, ChangesAt, AcceptsEach, ChangesEach};
+ghost use Rattle.crew.specs.inside.Places.{HoldsFrom, ChangesFrom};
+ghost use denote.Param.Send.{IsSync, IsSend};
+
+use std::thread::{Threads, join_mut};
+
+// Calls f(i, &mut s[i]) at each place, each in a thread of its own where one can be started; the caller starts all of them,
+// and does the last one itself.
+pub(crate) fn for_each_spread<R: Threads + Sync, T: Send, F: Fn(usize, &mut T) + Sync>(
+    rt: &R,
+    s: &mut [T],
+    f: &F,
+)
+    requires { AcceptsEach F.Fn f.now s.old }
+    ensures { ChangesEach F.Fn f.now s.old s.new }
+{
+    if !s.is_empty() {
+        spread_from(rt, f, 0, s);
+    }
+}
+
+// Calls f at each place of a slice that stands at `base` of the whole one. The slice is the last parameter, since what a
+// closure reads after it lends a captured `&mut` is not covered by the borrow checker.
+#[cycle(rest)]
+fn spread_from<R: Threads + Sync, T: Send, F: Fn(usize, &mut T) + Sync>(
+    rt: &R,
+    f: &F,
+    base: usize,
+    s: &mut [T],
+)
+    requires some { 0 < length s.old }
+    requires room { base + length s.old < 2 ^ 64 }
+    requires accepts { HoldsFrom (AcceptsAt F.Fn f.now) base s.old }
+    ensures { ChangesFrom (ChangesAt F.Fn f.now) base s.old s.new }
+{
+    if s.len() == 1 {
+        at_only(f, base, s);
+        return;
+    }
+    let (one, more) = s.split_at_mut(1);
+    first_and_rest(rt, f, base, one, base + 1, more);
+}
+
+// Calls f at one place in a new thread, and meanwhile at those after it.
+#[cycle(rest)]
+fn first_and_rest<R: Threads + Sync, T: Send, F: Fn(usize, &mut T) + Sync>(
+    rt: &R,
+    f: &F,
+    place: usize,
+    one: &mut [T],
+    base: usize,
+    more: &mut [T],
+)
+    requires one { length one.old ≡ 1 }
+    requires accepts_one { HoldsFrom (AcceptsAt F.Fn f.now) place one.old }
+    requires some { 0 < length more.old }
+    requires room { base + length more.old < 2 ^ 64 }
+    requires accepts { HoldsFrom (AcceptsAt F.Fn f.now) base more.old }
+    ensures one { ChangesFrom (ChangesAt F.Fn f.now) place one.old one.new }
+    ensures more { ChangesFrom (ChangesAt F.Fn f.now) base more.old more.new }
+{
+    let mut front = ||
+        requires { IsSync F.row × IsSend T.row × (length one.now ≡ 1) × HoldsFrom (AcceptsAt F.Fn f.now) place one.now }
+        ensures { ChangesFrom (ChangesAt F.Fn f.entry.now) place one.entry.now one.exit.now }
+    { at_only(f, place, one) };
+    let mut back = ||
+        requires { IsSync R.row × IsSync F.row × IsSend T.row × (0 < length more.now) × (base + length more.now < 2 ^ 64) × HoldsFrom (AcceptsAt F.Fn f.now) base more.now }
+        ensures { ChangesFrom (ChangesAt F.Fn f.entry.now) base more.entry.now more.exit.now }
+    { spread_from(rt, f, base, more) };
+    join_mut(rt, &mut front, &mut back);
+}
+
+// Calls f at the one place that there is.
+fn at_only<T, F: Fn(usize, &mut T)>(f: &F, place: usize, one: &mut [T])
+    requires one { length one.old ≡ 1 }
+    requires accepts { HoldsFrom (AcceptsAt F.Fn f.now) place one.old }
+    ensures { ChangesFrom (ChangesAt F.Fn f.now) place one.old one.new }
+{
+    f(place, &mut one[0]);
+}
