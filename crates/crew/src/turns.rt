@@ -9,11 +9,12 @@ use crate::closing::finish_all;
 use crate::config::Config;
 use crate::desks::Desks;
 use crate::gate::Gate;
+use crate::joining::join_layer;
 use crate::lent::{come_back, lend};
 use area::Scratch;
 use layers::{Book, Layer, Parents, Pruner};
 use solo::Answer;
-use solo::turn::{Worked, begin_each, last_layer, look};
+use solo::turn::{Worked, begin_each, look};
 use std::alloc::{AllocError, Global};
 use std::sync::Wait;
 use std::thread::Threads;
@@ -51,7 +52,7 @@ pub(crate) fn turn<R: Threads + Wait + Sync, G: Gate + Sync>(
     ensures size { scratch.new.size ≡ scratch.old.size }
     ensures desks { desks.new ≡ desks.old }
 {
-    let layer = last_layer(alloc, books.as_slice())?;
+    let layer = join_layer(rt, alloc, books.as_slice(), config.workers)?;
     let found = look(
         alloc,
         trail.as_slice(),

@@ -1,4 +1,4 @@
-use Rattle.std.proofs.Common.{◌≡◌, ◌+◌, ◌<◌, ◌≤◌, [], ◌∷◌, ◌++◌, length, sym, ap, subst, ◌∙◌, arith}
+use Rattle.std.proofs.Common.{rules, ◌≡◌, ◌+◌, ◌<◌, ◌≤◌, [], ◌∷◌, ◌++◌, length, sym, ap, subst, ◌∙◌, arith}
 use Rattle.std.specs.Prelude.{IfNone, IfSome}
 use Rattle.layers.specs.Tasks.{Task}
 use Rattle.layers.specs.Books.{AreAllShares, IsJoinOf}
@@ -8,9 +8,9 @@ use Rattle.crew.specs.inside.Turning.{AreWorkedBy}
 use Rattle.crew.proofs.Turning.{begins, ends_over, goes_on, joinable, looked_before, next_layer}
 use Rattle.crew.proofs.turns.turn.Goals as goal
 
-pub last_layer-requires : goal.last_layer-requires
-last_layer-requires g c =
-    subst AreAllShares (sym c.as_slice.ensures.value) (joinable c.args.config c.args.pruner.now c.args.books.items c.args.trail.now.items c.args.positions.now c.requires.limits c.requires.turn)
+pub join_layer-requires : goal.join_layer-requires
+join_layer-requires g c =
+    (search rules, subst AreAllShares (sym c.as_slice.ensures.value) (joinable c.args.config c.args.pruner.now c.args.books.items c.args.trail.now.items c.args.positions.now c.requires.limits c.requires.turn))
 
 pub look-requires-clause-looked : goal.look-requires-clause-looked
 look-requires-clause-looked g c =
