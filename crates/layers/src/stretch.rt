@@ -43,7 +43,9 @@ pub(crate) struct Merged {
 impl Stretch {
     /// The layer that the books closed last in as many stretches as it is worth, up to so many; none where one thread joins it
     /// in less time, as where it is small or stands in one book. The only error is that memory was refused.
-    pub fn all(alloc: Global, books: &[Book], most: usize) -> Result<Vec<Stretch>, AllocError> {
+    pub fn all(alloc: Global, books: &[Book], most: usize) -> Result<Vec<Stretch>, AllocError>
+        ensures { IfOk result (λ stretches. length stretches.items ≤ most) }
+    {
         let parts = most.min(count_of(books) / LEAST);
         let mut stretches = Vec::new(alloc);
         if parts < 2 || books.len() < 2 {
