@@ -9,6 +9,9 @@ use solo::turn::last_layer;
 use std::alloc::{AllocError, Global};
 use std::thread::Threads;
 
+// The least number of positions of a stretch. Fewer are merged in less time than a thread takes to start.
+const LEAST: usize = 4096;
+
 // The last layer that the books have closed, which are all the shares in order. Where it is large it is merged in as many
 // stretches as there are workers, each in a thread of its own where one can be started. The only error is that memory was
 // refused.
@@ -21,7 +24,7 @@ pub(crate) fn join_layer<R: Threads + Sync>(
     requires { AreAllShares books.now }
     ensures { IfOk result (λ layer. IsJoinOf books.now layer) }
 {
-    let Ok(mut stretches) = Stretch::all(alloc, books, workers as usize) else {
+    let Ok(mut stretches) = Stretch::all(alloc, books, workers as usize, LEAST) else {
         return last_layer(alloc, books);
     };
     if stretches.is_empty() {

@@ -13,9 +13,6 @@ use crate::origin::Origin;
 use grid::Square;
 use std::alloc::{AllocError, Global};
 
-/// The least number of positions of a stretch. Fewer are merged in less time than a thread takes to start.
-const LEAST: usize = 4096;
-
 /// How often a list is halved at most until one place is left.
 const HALVINGS: u32 = 64;
 
@@ -41,12 +38,17 @@ pub(crate) struct Merged {
 }
 
 impl Stretch {
-    /// The layer that the books closed last in as many stretches as it is worth, up to so many; none where one thread joins it
-    /// in less time, as where it is small or stands in one book. The only error is that memory was refused.
-    pub fn all(alloc: Global, books: &[Book], most: usize) -> Result<Vec<Stretch>, AllocError>
+    /// The layer that the books closed last, in as many stretches as there may be where each has about so many positions or
+    /// more; none where that is one, or there is one book. The only error is that memory was refused.
+    pub fn all(
+        alloc: Global,
+        books: &[Book],
+        most: usize,
+        least: usize,
+    ) -> Result<Vec<Stretch>, AllocError>
         ensures { IfOk result (λ stretches. length stretches.items ≤ most) }
     {
-        let parts = most.min(count_of(books) / LEAST);
+        let parts = most.min(count_of(books) / least.max(1));
         let mut stretches = Vec::new(alloc);
         if parts < 2 || books.len() < 2 {
             return Ok(stretches);

@@ -1,11 +1,14 @@
 //! Calls on books, layers and ledgers.
+ghost use Rattle.std.specs.Prelude.{◌≡◌, ℕ, Some, slice_get};
+ghost use Rattle.layers.specs.inside.Merging.{IsStretchOf};
+
 use crate::told;
 use crate::values::{
     THERE_AND_BACK, YARD, book_of, close_book, first_book, joined, level_of, parcel_of, start,
     work_last, work_through, yard,
 };
 use claims::Ledger;
-use layers::{BeginFault, Book, CloseFault, JoinFault, Layer, Parcel, Refusal};
+use layers::{BeginFault, Book, CloseFault, JoinFault, Layer, Parcel, Refusal, Stretch};
 use std::alloc::Global;
 use std::slice;
 
@@ -140,19 +143,48 @@ fn close_twice<R: Print>(rt: &R, book: &mut Book) -> Option<()> {
 /// Joins the books of all shares that have closed layer 1.
 pub(crate) fn join<R: Print>(rt: &R, alloc: Global, shares: u8) -> Option<()> {
     let books = all_books(alloc, shares)?;
-    join_twice(rt, alloc, books.as_slice())
+    join_twice(rt, alloc, books.as_slice(), false)
 }
 
-// Joins books, and once more where memory is refused.
-fn join_twice<R: Print>(rt: &R, alloc: Global, books: &[Book]) -> Option<()> {
+/// Joins the books of three shares that have closed layer 1, in stretches.
+pub(crate) fn join_stretches<R: Print>(rt: &R, alloc: Global) -> Option<()> {
+    let books = all_books(alloc, 3)?;
+    join_twice(rt, alloc, books.as_slice(), true)
+}
+
+// Joins books, as a whole or in stretches, and once more where memory is refused.
+fn join_twice<R: Print>(rt: &R, alloc: Global, books: &[Book], stretched: bool) -> Option<()> {
     told::left(rt, books)?;
     for _ in 0..2 {
-        if !is_refused(rt, &Layer::join(alloc, books))? {
+        let answer = if stretched {
+            join_stretched(alloc, books)
+        } else {
+            Layer::join(alloc, books)
+        };
+        if !is_refused(rt, &answer)? {
             break;
         }
         told::left(rt, books)?;
     }
     Some(())
+}
+
+// Joins books in up to three stretches of a position or more.
+fn join_stretched(alloc: Global, books: &[Book]) -> Result<Layer, JoinFault> {
+    let Ok(mut stretches) = Stretch::all(alloc, books, 3, 1) else {
+        return Err(JoinFault::OutOfMemory);
+    };
+    merge_each(alloc, books, stretches.as_mut_slice());
+    Layer::join_stretches(alloc, books, stretches.as_slice())
+}
+
+// Merges each of the stretches.
+fn merge_each(alloc: Global, books: &[Book], stretches: &mut [Stretch])
+    ensures { (i : ℕ) (s : Stretch) → slice_get stretches.new i ≡ Some s → IsStretchOf books.now s }
+{
+    for place in 0..stretches.len() {
+        stretches[place].merge(alloc, books);
+    }
 }
 
 // Prints what a join answers, and says whether memory was refused.

@@ -33,6 +33,7 @@ fn perform<R: Print>(rt: &R, alloc: Global, call: &str) -> Option<()> {
         "close_turned" => books::close_turned(rt, alloc),
         "join" => books::join(rt, alloc, 1),
         "join_shares" => books::join(rt, alloc, 3),
+        "join_stretches" => books::join_stretches(rt, alloc),
         "ledger" => books::ledger(rt, alloc),
         "read" => letters::read(rt, alloc),
         "write_level" => letters::write_level(rt, alloc),

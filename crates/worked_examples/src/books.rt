@@ -119,6 +119,8 @@ fn check_place(rt: &impl Abort, layer: &Layer, rank: u64, place: Place) {
     assert_eq!(rt; layer.parent(rank), parent);
     let position = layer.position(rank).expect(rt, "a position");
     assert!(rt; is_position(&position, boxes, player));
+    assert!(rt; rank < layer.len());
+    assert_eq!(rt; layer.boxes_at(rank), position.boxes());
 }
 
 /// Whether a position has these boxes and this player.
