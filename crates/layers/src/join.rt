@@ -31,8 +31,8 @@ impl Layer {
         }
     }
 
-    /// The same as [`Layer::join`] gives, made of the stretches of that layer, where all of it was merged in them; otherwise
-    /// joined as that does.
+    /// What [`Layer::join`] gives, made of stretches of that layer where all of it was merged in them, and otherwise of the
+    /// books. The errors are those of [`Layer::join`].
     pub fn join_stretches(
         alloc: Global,
         books: &[Book],

@@ -16,7 +16,8 @@ use std::alloc::{AllocError, Global};
 /// How often a list is halved at most until one place is left.
 const HALVINGS: u32 = 64;
 
-/// A stretch of the layer that books closed last: from so many positions of each book's share of it on, up to an origin.
+/// A stretch of the layer that books closed last: from so many positions of each book's share of it on, up to an origin. It
+/// holds its positions once it is merged.
 #[derive(Drop)]
 pub struct Stretch {
     // how many positions of each book's last list come before it
@@ -38,8 +39,8 @@ pub(crate) struct Merged {
 }
 
 impl Stretch {
-    /// The layer that the books closed last, in as many stretches as there may be where each has about so many positions or
-    /// more; none where that is one, or there is one book. The only error is that memory was refused.
+    /// The layer that the books closed last, in up to `most` stretches of about as many positions each, and `least` or more;
+    /// none where that would be one stretch, or where there is one book. The only error is that memory was refused.
     pub fn all(
         alloc: Global,
         books: &[Book],
@@ -69,13 +70,15 @@ impl Stretch {
     ) -> Result<Stretch, AllocError>
         requires { part < parts }
     {
-        let starts = match part {
-            0 => vec![in alloc; 0; books.len()]?,
-            _ => places_at(alloc, books, bound_at(books, part, parts))?,
+        let starts = if part == 0 {
+            vec![in alloc; 0; books.len()]?
+        } else {
+            places_at(alloc, books, bound_at(books, part, parts))?
         };
-        let bound = match part + 1 < parts {
-            true => bound_at(books, part + 1, parts),
-            false => None,
+        let bound = if part + 1 < parts {
+            bound_at(books, part + 1, parts)
+        } else {
+            None
         };
         let room = count_of(books) / parts;
         Ok(Stretch {
@@ -86,8 +89,8 @@ impl Stretch {
         })
     }
 
-    /// Merges the stretch, which the books it was made of are lent for. Where memory is refused it stays apart, and the whole layer
-    /// is joined as [`Layer::join`](crate::Layer::join) does.
+    /// Merges the positions of the stretch, of the books that it was made of, by the origins. Where memory is refused it is not
+    /// merged, and then [`Layer::join_stretches`](crate::Layer::join_stretches) makes nothing of it.
     pub fn merge(&mut self, alloc: Global, books: &[Book])
         ensures { IsStretchOf books.now self.new }
     {
