@@ -52,12 +52,7 @@ fn join_side_by_side<R: Threads + Sync>(
 }
 
 // Merges each of the stretches, in a thread of its own where one can be started.
-fn merge_each<R: Threads + Sync>(
-    rt: &R,
-    alloc: Global,
-    books: &[Book],
-    stretches: &mut [Stretch],
-)
+fn merge_each<R: Threads + Sync>(rt: &R, alloc: Global, books: &[Book], stretches: &mut [Stretch])
     ensures { (i : ℕ) (s : Stretch) → slice_get stretches.new i ≡ Some s → IsStretchOf books.now s }
 {
     for_each_spread(

@@ -94,13 +94,7 @@ impl Stretch {
     pub fn merge(&mut self, alloc: Global, books: &[Book])
         ensures { IsStretchOf books.now self.new }
     {
-        self.merged = merge_some(
-            alloc,
-            books,
-            self.starts.as_slice(),
-            self.bound,
-            self.room,
-        );
+        self.merged = merge_some(alloc, books, self.starts.as_slice(), self.bound, self.room);
     }
 }
 
@@ -174,7 +168,9 @@ pub(crate) fn put_together(
         return Ok(None);
     }
     let Merged {
-        squares, origins, ..
+        squares,
+        origins,
+        ..
     } = merged;
     Ok(Some((count, squares, origins)))
 }
@@ -206,11 +202,7 @@ fn append_each(
 
 // Appends what a stretch holds, if it begins where the others end and is merged, and tells whether it does. The only error is
 // that memory was refused.
-fn append_stretch(
-    whole: &mut Merged,
-    books: &[Book],
-    stretch: &Stretch,
-) -> Result<bool, AllocError>
+fn append_stretch(whole: &mut Merged, books: &[Book], stretch: &Stretch) -> Result<bool, AllocError>
     requires stretch { IsStretchOf books.now stretch.now }
     requires whole { AreTaken books.now [] whole.old.ends.items whole.old.squares.items whole.old.origins.items }
     ensures { IfOk result (λ follows. follows ≡ true → AreTaken books.now [] whole.new.ends.items whole.new.squares.items whole.new.origins.items) }
@@ -274,7 +266,11 @@ fn bound_at(books: &[Book], part: usize, parts: usize) -> Option<Origin>
 }
 
 // How many positions of each book's last list come before a bound.
-fn places_at(alloc: Global, books: &[Book], bound: Option<Origin>) -> Result<Vec<usize>, AllocError> {
+fn places_at(
+    alloc: Global,
+    books: &[Book],
+    bound: Option<Origin>,
+) -> Result<Vec<usize>, AllocError> {
     let mut places = Vec::with_capacity(alloc, books.len())?;
     for book in books {
         let place = match bound {

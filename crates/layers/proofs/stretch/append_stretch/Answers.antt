@@ -15,4 +15,4 @@ returns c = λ follows.
     let squares = c.in_ok-extend_from_slice-2.ensures.items ∙ ap (λ xs. w.squares.items ++ xs) c.as_slice-4.ensures.value in
     let origins = c.in_ok-extend_from_slice-3.ensures.items ∙ ap (λ xs. w.origins.items ++ xs) c.as_slice-5.ensures.value in
     subst (λ ns. AreTaken books [] ns c.extend_from_slice-2.new.self.items c.extend_from_slice-3.new.self.items) (sym ends)
-        (subst (λ xs. AreTaken books [] m.ends.items xs c.extend_from_slice-3.new.self.items) (sym squares) (subst (AreTaken books [] m.ends.items (w.squares.items ++ m.squares.items)) (sym origins) all))
+    (subst (λ xs. AreTaken books [] m.ends.items xs c.extend_from_slice-3.new.self.items) (sym squares) (subst (AreTaken books [] m.ends.items (w.squares.items ++ m.squares.items)) (sym origins) all))
