@@ -2,4 +2,5 @@
 pub mod Desks
 pub mod Lots
 pub mod Places
+pub mod Shifts
 pub mod Turning

@@ -5,6 +5,7 @@ ghost use Rattle.crew.specs.inside.Desks.{AreRoomy, HaveDrawers};
 
 use crate::gate::Gate;
 use crate::lots::Lots;
+use crate::shift::Shift;
 use crate::workers::work_all;
 use area::Scratch;
 use claims::{Drawer, Ledger, PLACES};
@@ -71,10 +72,17 @@ impl<'a> Desks<'a> {
         requires drawer { drawer ≡ newcomer ledger.now }
         ensures { self.new ≡ self.old }
     {
-        let level = self.level;
+        let shift = Shift {
+            level: self.level,
+            layer,
+            pruner,
+            books,
+            ledger,
+            gate,
+        };
         let desks = self.desks.as_mut_slice();
         deal(ledger, drawer, desks);
-        work_all(rt, desks, level, layer, pruner, books, ledger, gate);
+        work_all(rt, desks, &shift);
     }
 }
 

@@ -1,5 +1,5 @@
 //! Parcels that are handed back to books, each under its book's lock.
-ghost use Rattle.std.specs.Prelude.{◌≡◌, ◌≤◌, IfErr, OnOk, length};
+ghost use Rattle.std.specs.Prelude.{◌≡◌, IfErr, OnOk, length};
 ghost use Rattle.layers.specs.Books.{MayEnter, with_parcel};
 ghost use Rattle.claims.specs.declared.views.Hand.{Hand};
 ghost use Rattle.crew.specs.Work.{IsOwn, IsOfLayer, IsAtPlace, HandEnds, after_end, MayEnd, EndsWith, WasAnswered};
@@ -9,30 +9,28 @@ use crate::end::End;
 use crate::gate::Gate;
 use crate::locking::lock_soon;
 use crate::lots::{Lot, MOST};
+use crate::shift::Shift;
 use crate::worker::pass;
 use area::Scratch;
-use claims::{Drawer, Ledger};
-use grid::Level;
-use layers::{Book, Layer, Parcel, Pruner, Refusal};
+use claims::Drawer;
+use layers::{Book, Layer, Parcel, Refusal};
 use std::sync::{Mutex, MutexGuard, Wait};
 
 // Hands a parcel back to each of the books in order.
 pub(crate) fn hand_back<R: Wait, G: Gate>(
     rt: &R,
-    layer: &Layer,
-    books: &[Mutex<Book>],
+    shift: &Shift<'_, '_, G>,
     worker: u8,
     parcel: &Parcel<'_>,
-    gate: &G,
     nth: &mut u64,
 ) -> Result<(), End>
-    requires { IsOfLayer layer.now parcel.now }
+    requires { IsOfLayer shift.now.layer parcel.now }
     ensures end { IfErr result (λ end. MayEnd G.may_stop end) }
     ensures hand { (hand : Hand) → IfErr result (λ end. EndsWith worker hand end) }
-    ensures answered { IfErr result (λ end. WasAnswered layer.now worker end) }
+    ensures answered { IfErr result (λ end. WasAnswered shift.now.layer worker end) }
 {
-    for book in books {
-        hand_to(layer, lock_soon(rt, book), worker, parcel, gate, nth)?;
+    for book in shift.books {
+        hand_to(shift, lock_soon(rt, book), worker, parcel, nth)?;
     }
     Ok(())
 }
@@ -41,36 +39,26 @@ pub(crate) fn hand_back<R: Wait, G: Gate>(
 // worker.
 pub(crate) fn hand_lot<'a, R: Wait, G: Gate>(
     rt: &R,
-    level: &'a Level,
-    layer: &Layer,
-    pruner: &Pruner,
-    books: &[Mutex<Book>],
-    ledger: &Ledger,
+    shift: &Shift<'_, 'a, G>,
     drawer: &mut Drawer,
     worker: u8,
     scratch: &mut Scratch,
-    gate: &G,
     nth: &mut u64,
     lot: &[Parcel<'_>],
     next: &mut Lot<'a>,
 ) -> Result<(), End>
-    requires level { level.now ≡ layer.now.level.board }
-    requires pruner_of_level { pruner.now ≡ layer.now.level }
-    requires room { scratch.old.size ≡ length layer.now.level.board.cells }
-    requires ranks { ledger.now.len ≤ length layer.now.places }
-    requires place { IsAtPlace ledger.now worker drawer.old }
-    requires lot { AreOfLayer layer.now lot.now }
-    ensures grown { OnOk result (IsGrown layer.now drawer.old.hand next.old next.new drawer.new.hand) }
+    requires room { scratch.old.size ≡ length shift.now.layer.level.board.cells }
+    requires place { IsAtPlace shift.now.ledger worker drawer.old }
+    requires lot { AreOfLayer shift.now.layer lot.now }
+    ensures grown { OnOk result (IsGrown shift.now.layer drawer.old.hand next.old next.new drawer.new.hand) }
     ensures end { IfErr result (λ end. MayEnd G.may_stop end) }
     ensures hand { IfErr result (λ end. EndsWith worker drawer.new.hand end) }
-    ensures answered { IfErr result (λ end. WasAnswered layer.now worker end) }
-    ensures place { IsAtPlace ledger.now worker drawer.new }
+    ensures answered { IfErr result (λ end. WasAnswered shift.now.layer worker end) }
+    ensures place { IsAtPlace shift.now.ledger worker drawer.new }
     ensures size { scratch.new.size ≡ scratch.old.size }
 {
-    for book in books {
-        hand_lot_to(
-            rt, level, layer, pruner, book, ledger, drawer, worker, scratch, gate, nth, lot, next,
-        )?;
+    for book in shift.books {
+        hand_lot_to(rt, shift, book, drawer, worker, scratch, nth, lot, next)?;
     }
     Ok(())
 }
@@ -78,37 +66,28 @@ pub(crate) fn hand_lot<'a, R: Wait, G: Gate>(
 // Hands the parcels of a lot back to one book, in order.
 fn hand_lot_to<'a, R: Wait, G: Gate>(
     rt: &R,
-    level: &'a Level,
-    layer: &Layer,
-    pruner: &Pruner,
+    shift: &Shift<'_, 'a, G>,
     book: &Mutex<Book>,
-    ledger: &Ledger,
     drawer: &mut Drawer,
     worker: u8,
     scratch: &mut Scratch,
-    gate: &G,
     nth: &mut u64,
     lot: &[Parcel<'_>],
     next: &mut Lot<'a>,
 ) -> Result<(), End>
-    requires level { level.now ≡ layer.now.level.board }
-    requires pruner_of_level { pruner.now ≡ layer.now.level }
-    requires room { scratch.old.size ≡ length layer.now.level.board.cells }
-    requires ranks { ledger.now.len ≤ length layer.now.places }
-    requires place { IsAtPlace ledger.now worker drawer.old }
-    requires lot { AreOfLayer layer.now lot.now }
-    ensures grown { OnOk result (IsGrown layer.now drawer.old.hand next.old next.new drawer.new.hand) }
+    requires room { scratch.old.size ≡ length shift.now.layer.level.board.cells }
+    requires place { IsAtPlace shift.now.ledger worker drawer.old }
+    requires lot { AreOfLayer shift.now.layer lot.now }
+    ensures grown { OnOk result (IsGrown shift.now.layer drawer.old.hand next.old next.new drawer.new.hand) }
     ensures end { IfErr result (λ end. MayEnd G.may_stop end) }
     ensures hand { IfErr result (λ end. EndsWith worker drawer.new.hand end) }
-    ensures answered { IfErr result (λ end. WasAnswered layer.now worker end) }
-    ensures place { IsAtPlace ledger.now worker drawer.new }
+    ensures answered { IfErr result (λ end. WasAnswered shift.now.layer worker end) }
+    ensures place { IsAtPlace shift.now.ledger worker drawer.new }
     ensures size { scratch.new.size ≡ scratch.old.size }
 {
     for parcel in lot {
-        let guard = lock_or_draw(
-            rt, level, layer, pruner, book, ledger, drawer, worker, scratch, gate, nth, next,
-        )?;
-        hand_to(layer, guard, worker, parcel, gate, nth)?;
+        let guard = lock_or_draw(rt, shift, book, drawer, worker, scratch, nth, next)?;
+        hand_to(shift, guard, worker, parcel, nth)?;
     }
     Ok(())
 }
@@ -116,37 +95,28 @@ fn hand_lot_to<'a, R: Wait, G: Gate>(
 // Takes a book's lock. While another worker holds it, this one draws on the next lot, as far as that goes, and then waits.
 fn lock_or_draw<'a, 'b, R: Wait, G: Gate>(
     rt: &R,
-    level: &'a Level,
-    layer: &Layer,
-    pruner: &Pruner,
+    shift: &Shift<'_, 'a, G>,
     book: &'b Mutex<Book>,
-    ledger: &Ledger,
     drawer: &mut Drawer,
     worker: u8,
     scratch: &mut Scratch,
-    gate: &G,
     nth: &mut u64,
     next: &mut Lot<'a>,
 ) -> Result<MutexGuard<'b, Book>, End>
-    requires level { level.now ≡ layer.now.level.board }
-    requires pruner_of_level { pruner.now ≡ layer.now.level }
-    requires room { scratch.old.size ≡ length layer.now.level.board.cells }
-    requires ranks { ledger.now.len ≤ length layer.now.places }
-    requires place { IsAtPlace ledger.now worker drawer.old }
-    ensures grown { OnOk result (IsGrown layer.now drawer.old.hand next.old next.new drawer.new.hand) }
+    requires room { scratch.old.size ≡ length shift.now.layer.level.board.cells }
+    requires place { IsAtPlace shift.now.ledger worker drawer.old }
+    ensures grown { OnOk result (IsGrown shift.now.layer drawer.old.hand next.old next.new drawer.new.hand) }
     ensures end { IfErr result (λ end. MayEnd G.may_stop end) }
     ensures hand { IfErr result (λ end. EndsWith worker drawer.new.hand end) }
-    ensures answered { IfErr result (λ end. WasAnswered layer.now worker end) }
-    ensures place { IsAtPlace ledger.now worker drawer.new }
+    ensures answered { IfErr result (λ end. WasAnswered shift.now.layer worker end) }
+    ensures place { IsAtPlace shift.now.ledger worker drawer.new }
     ensures size { scratch.new.size ≡ scratch.old.size }
 {
     for _ in 0..MOST {
         if let Some(guard) = book.try_lock() {
             return Ok(guard);
         }
-        if !next.draw_more(
-            level, layer, pruner, ledger, drawer, worker, scratch, gate, nth,
-        )? {
+        if !next.draw_more(shift, drawer, worker, scratch, nth)? {
             break;
         }
     }
@@ -155,23 +125,22 @@ fn lock_or_draw<'a, 'b, R: Wait, G: Gate>(
 
 // Hands a parcel back to a book whose lock is held, lets go of the lock, and then passes the gate.
 fn hand_to<G: Gate>(
-    layer: &Layer,
+    shift: &Shift<'_, '_, G>,
     guard: MutexGuard<'_, Book>,
     worker: u8,
     parcel: &Parcel<'_>,
-    gate: &G,
     nth: &mut u64,
 ) -> Result<(), End>
-    requires { IsOfLayer layer.now parcel.now }
+    requires { IsOfLayer shift.now.layer parcel.now }
     ensures end { IfErr result (λ end. MayEnd G.may_stop end) }
     ensures hand { (hand : Hand) → IfErr result (λ end. EndsWith worker hand end) }
-    ensures answered { IfErr result (λ end. WasAnswered layer.now worker end) }
+    ensures answered { IfErr result (λ end. WasAnswered shift.now.layer worker end) }
 {
     let mut guard = guard;
-    let handed = hand_in(&mut *guard, layer, worker, parcel);
+    let handed = hand_in(&mut *guard, shift.layer, worker, parcel);
     drop(guard);
     handed?;
-    pass(gate, layer.number(), worker, nth)
+    pass(shift, worker, nth)
 }
 
 // Hands back a parcel of the layer.

@@ -14,6 +14,7 @@ mod lent;
 mod locking;
 mod lots;
 mod search;
+mod shift;
 mod spreading;
 #[cfg(test)]
 mod tests;

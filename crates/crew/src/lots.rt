@@ -7,11 +7,11 @@ ghost use Rattle.layers.specs.ParcelView.{ParcelView};
 
 use crate::end::End;
 use crate::gate::Gate;
+use crate::shift::Shift;
 use crate::worker::draw;
 use area::Scratch;
-use claims::{Drawer, Ledger};
-use grid::Level;
-use layers::{Layer, MAX_SHARES, Parcel, Pruner, expand_over, expand_over_into};
+use claims::Drawer;
+use layers::{MAX_SHARES, Parcel, expand_over, expand_over_into};
 use std::alloc::{AllocError, Global};
 use std::marker::Model;
 
@@ -117,33 +117,26 @@ impl<'a> Lot<'a> {
     /// no rank is left.
     pub(crate) fn draw_more<G: Gate>(
         &mut self,
-        level: &'a Level,
-        layer: &Layer,
-        pruner: &Pruner,
-        ledger: &Ledger,
+        shift: &Shift<'_, 'a, G>,
         drawer: &mut Drawer,
         worker: u8,
         scratch: &mut Scratch,
-        gate: &G,
         nth: &mut u64,
     ) -> Result<bool, End>
-        requires level { level.now ≡ layer.now.level.board }
-        requires pruner_of_level { pruner.now ≡ layer.now.level }
-        requires room { scratch.old.size ≡ length layer.now.level.board.cells }
-        requires ranks { ledger.now.len ≤ length layer.now.places }
-        requires place { IsAtPlace ledger.now worker drawer.old }
-        ensures grown { IfOk result (λ more. IsGrown layer.now drawer.old.hand self.old self.new drawer.new.hand) }
+        requires room { scratch.old.size ≡ length shift.now.layer.level.board.cells }
+        requires place { IsAtPlace shift.now.ledger worker drawer.old }
+        ensures grown { IfOk result (λ more. IsGrown shift.now.layer drawer.old.hand self.old self.new drawer.new.hand) }
         ensures none { IfOk result (λ more. more ≡ false → self.new ≡ [] → EndsWith worker drawer.new.hand Drained) }
         ensures end { IfErr result (λ end. MayEnd G.may_stop end) }
         ensures hand { IfErr result (λ end. EndsWith worker drawer.new.hand end) }
-        ensures answered { IfErr result (λ end. WasAnswered layer.now worker end) }
-        ensures place { IsAtPlace ledger.now worker drawer.new }
+        ensures answered { IfErr result (λ end. WasAnswered shift.now.layer worker end) }
+        ensures place { IsAtPlace shift.now.ledger worker drawer.new }
         ensures size { scratch.new.size ≡ scratch.old.size }
     {
         if 0 < self.filled && self.size <= self.filled {
             return Ok(false);
         }
-        let rank = match draw(layer, ledger, drawer, worker, gate, nth) {
+        let rank = match draw(shift, drawer, worker, nth) {
             Ok(rank) => rank,
             Err(End::Drained) => return Ok(false),
             Err(end) => return Err(end),
@@ -152,13 +145,11 @@ impl<'a> Lot<'a> {
         self.size = size_at(
             place,
             self.size,
-            layer.len() - rank,
+            shift.layer.len() - rank,
             self.parcels.capacity(),
         );
         put(
-            level,
-            layer,
-            pruner,
+            shift,
             rank,
             scratch,
             &mut self.parcels,
@@ -202,31 +193,25 @@ fn size_at(place: usize, size: usize, left: u64, room: usize) -> usize
 
 // Makes the parcel of a rank the one in a place of a list, or behind its last one, where there is room, and deals its
 // successors to so many shares.
-fn put<'a>(
-    level: &'a Level,
-    layer: &Layer,
-    pruner: &Pruner,
+fn put<'a, G: Gate>(
+    shift: &Shift<'_, 'a, G>,
     rank: u64,
     scratch: &mut Scratch,
     parcels: &mut Vec<Parcel<'a>>,
     place: usize,
     shares: u8,
 )
-    requires level { level.now ≡ layer.now.level.board }
-    requires within { rank < length layer.now.places }
-    requires pruner_of_level { pruner.now ≡ layer.now.level }
-    requires room { scratch.old.size ≡ length layer.now.level.board.cells }
+    requires within { rank < length shift.now.layer.places }
+    requires room { scratch.old.size ≡ length shift.now.layer.level.board.cells }
     requires place { place ≤ length parcels.old.items }
     requires capacity { place < vec_capacity parcels.old }
-    ensures put { IsPut layer.now rank place parcels.old.items parcels.new.items }
+    ensures put { IsPut shift.now.layer rank place parcels.old.items parcels.new.items }
     ensures capacity { vec_capacity parcels.new ≡ vec_capacity parcels.old }
     ensures size { scratch.new.size ≡ scratch.old.size }
 {
     if place < parcels.len() {
         refill(
-            level,
-            layer,
-            pruner,
+            shift,
             rank,
             scratch,
             parcels.as_mut_slice(),
@@ -234,7 +219,7 @@ fn put<'a>(
             shares,
         );
     } else {
-        append(level, layer, pruner, rank, scratch, parcels, shares);
+        append(shift, rank, scratch, parcels, shares);
     }
 }
 
@@ -242,48 +227,47 @@ fn put<'a>(
 // so many shares. It is made here by value, which takes a large frame on the stack, so this is never a part of what is done
 // for each rank.
 #[inline(never)]
-fn append<'a>(
-    level: &'a Level,
-    layer: &Layer,
-    pruner: &Pruner,
+fn append<'a, G: Gate>(
+    shift: &Shift<'_, 'a, G>,
     rank: u64,
     scratch: &mut Scratch,
     parcels: &mut Vec<Parcel<'a>>,
     shares: u8,
 )
-    requires level { level.now ≡ layer.now.level.board }
-    requires within { rank < length layer.now.places }
-    requires pruner_of_level { pruner.now ≡ layer.now.level }
-    requires room { scratch.old.size ≡ length layer.now.level.board.cells }
+    requires within { rank < length shift.now.layer.places }
+    requires room { scratch.old.size ≡ length shift.now.layer.level.board.cells }
     requires capacity { length parcels.old.items < vec_capacity parcels.old }
-    ensures appended { (parcel : ParcelView) × IsOfRank layer.now rank parcel × (parcels.new.items ≡ parcels.old.items ++ parcel ∷ []) }
+    ensures appended { (parcel : ParcelView) × IsOfRank shift.now.layer rank parcel × (parcels.new.items ≡ parcels.old.items ++ parcel ∷ []) }
     ensures capacity { vec_capacity parcels.new ≡ vec_capacity parcels.old }
     ensures size { scratch.new.size ≡ scratch.old.size }
 {
-    let mut parcel = expand_over(level, layer, pruner, rank, scratch);
+    let mut parcel = expand_over(shift.level, shift.layer, shift.pruner, rank, scratch);
     parcel.deal(shares);
     parcels.push_reserved(parcel);
 }
 
 // Makes the parcel in a place the one of another rank, and deals its successors to so many shares.
-fn refill<'a>(
-    level: &'a Level,
-    layer: &Layer,
-    pruner: &Pruner,
+fn refill<'a, G: Gate>(
+    shift: &Shift<'_, 'a, G>,
     rank: u64,
     scratch: &mut Scratch,
     parcels: &mut [Parcel<'a>],
     place: usize,
     shares: u8,
 )
-    requires level { level.now ≡ layer.now.level.board }
-    requires within { rank < length layer.now.places }
-    requires pruner_of_level { pruner.now ≡ layer.now.level }
-    requires room { scratch.old.size ≡ length layer.now.level.board.cells }
+    requires within { rank < length shift.now.layer.places }
+    requires room { scratch.old.size ≡ length shift.now.layer.level.board.cells }
     requires place { place < length parcels.old }
-    ensures refilled { (parcel : ParcelView) × IsOfRank layer.now rank parcel × (parcels.new ≡ slice_set parcels.old place parcel) }
+    ensures refilled { (parcel : ParcelView) × IsOfRank shift.now.layer rank parcel × (parcels.new ≡ slice_set parcels.old place parcel) }
     ensures size { scratch.new.size ≡ scratch.old.size }
 {
-    expand_over_into(level, layer, pruner, rank, scratch, &mut parcels[place]);
+    expand_over_into(
+        shift.level,
+        shift.layer,
+        shift.pruner,
+        rank,
+        scratch,
+        &mut parcels[place],
+    );
     parcels[place].deal(shares);
 }

@@ -9,9 +9,9 @@ use crate::end::End;
 use crate::gate::Gate;
 use crate::handing::{hand_back, hand_lot};
 use crate::lots::{Lot, Lots};
+use crate::shift::Shift;
 use area::Scratch;
 use claims::{Drawer, Ledger, PLACES};
-use grid::Level;
 use layers::{Book, Layer, Pruner, expand_by, expand_into};
 use std::mem::swap;
 use std::sync::{Mutex, Wait};
@@ -49,71 +49,50 @@ pub fn work<R: Wait, G: Gate>(
     ensures ledger { drawer.new.ledger ≡ ledger.now }
     ensures size { scratch.new.size ≡ scratch.old.size }
 {
-    let Ok(mut lots) = Lots::of(scratch.allocator(), books.len()) else {
-        return work_by_ones(
-            rt, layer, pruner, books, ledger, drawer, worker, scratch, gate,
-        );
-    };
-    work_at(
-        rt,
-        layer.level(),
+    let shift = Shift {
+        level: layer.level(),
         layer,
         pruner,
         books,
         ledger,
-        drawer,
-        worker,
-        scratch,
         gate,
-        &mut lots,
-    )
+    };
+    match Lots::of(scratch.allocator(), books.len()) {
+        Ok(mut lots) => work_at(rt, &shift, drawer, worker, scratch, &mut lots),
+        Err(_) => work_by_ones(rt, &shift, drawer, worker, scratch),
+    }
 }
 
-// Works on a layer as [`work`] does, with lots that are kept from layer to layer, over a level that is that of the layer. They
-// grow to the lots of the layer; where that is refused they are as small as they were.
+// Works on a layer as [`work`] does, with lots that are kept from layer to layer. They grow to the lots of the layer; where that
+// is refused they are as small as they were.
 pub(crate) fn work_at<'a, R: Wait, G: Gate>(
     rt: &R,
-    level: &'a Level,
-    layer: &Layer,
-    pruner: &Pruner,
-    books: &[Mutex<Book>],
-    ledger: &Ledger,
+    shift: &Shift<'_, 'a, G>,
     drawer: &mut Drawer,
     worker: u8,
     scratch: &mut Scratch,
-    gate: &G,
     lots: &mut Lots<'a>,
 ) -> End
-    requires level { level.now ≡ layer.now.level.board }
-    requires pruner_of_level { pruner.now ≡ layer.now.level }
-    requires room { scratch.old.size ≡ length layer.now.level.board.cells }
-    requires ranks { ledger.now.len ≤ length layer.now.places }
-    requires drawer { (drawer.old.ledger ≡ ledger.now) × IsNone drawer.old.hand.place }
+    requires room { scratch.old.size ≡ length shift.now.layer.level.board.cells }
+    requires drawer { (drawer.old.ledger ≡ shift.now.ledger) × IsNone drawer.old.hand.place }
     requires place { worker < PLACES }
     ensures end { MayEnd G.may_stop result }
     ensures hand { EndsWith worker drawer.new.hand result }
-    ensures answered { WasAnswered layer.now worker result }
-    ensures ledger { drawer.new.ledger ≡ ledger.now }
+    ensures answered { WasAnswered shift.now.layer worker result }
+    ensures ledger { drawer.new.ledger ≡ shift.now.ledger }
     ensures size { scratch.new.size ≡ scratch.old.size }
 {
-    if !ledger.enrol(drawer, worker) {
+    if !shift.ledger.enrol(drawer, worker) {
         return End::NoPlace;
     }
-    let mut nth = 0;
-    lots.have_room(layer.len());
+    lots.have_room(shift.layer.len());
     lots.next.clear();
     by_lots(
         rt,
-        level,
-        layer,
-        pruner,
-        books,
-        ledger,
+        shift,
         drawer,
         worker,
         scratch,
-        gate,
-        &mut nth,
         &mut lots.ready,
         &mut lots.next,
     )
@@ -122,68 +101,55 @@ pub(crate) fn work_at<'a, R: Wait, G: Gate>(
 // Works on a layer as [`work`] does, without memory for lots: rank by rank.
 fn work_by_ones<R: Wait, G: Gate>(
     rt: &R,
-    layer: &Layer,
-    pruner: &Pruner,
-    books: &[Mutex<Book>],
-    ledger: &Ledger,
+    shift: &Shift<'_, '_, G>,
     drawer: &mut Drawer,
     worker: u8,
     scratch: &mut Scratch,
-    gate: &G,
 ) -> End
-    requires pruner_of_level { pruner.now ≡ layer.now.level }
-    requires room { scratch.old.size ≡ length layer.now.level.board.cells }
-    requires ranks { ledger.now.len ≤ length layer.now.places }
-    requires drawer { (drawer.old.ledger ≡ ledger.now) × IsNone drawer.old.hand.place }
+    requires room { scratch.old.size ≡ length shift.now.layer.level.board.cells }
+    requires drawer { (drawer.old.ledger ≡ shift.now.ledger) × IsNone drawer.old.hand.place }
     requires place { worker < PLACES }
     ensures end { MayEnd G.may_stop result }
     ensures hand { EndsWith worker drawer.new.hand result }
-    ensures answered { WasAnswered layer.now worker result }
-    ensures ledger { drawer.new.ledger ≡ ledger.now }
+    ensures answered { WasAnswered shift.now.layer worker result }
+    ensures ledger { drawer.new.ledger ≡ shift.now.ledger }
     ensures size { scratch.new.size ≡ scratch.old.size }
 {
-    if !ledger.enrol(drawer, worker) {
+    if !shift.ledger.enrol(drawer, worker) {
         return End::NoPlace;
     }
-    let mut nth = 0;
-    by_ones(
-        rt, layer, pruner, books, ledger, drawer, worker, scratch, gate, &mut nth,
-    )
+    by_ones(rt, shift, drawer, worker, scratch)
 }
 
 // Draws rank after rank, and hands the parcel of each back before it draws the next.
 fn by_ones<R: Wait, G: Gate>(
     rt: &R,
-    layer: &Layer,
-    pruner: &Pruner,
-    books: &[Mutex<Book>],
-    ledger: &Ledger,
+    shift: &Shift<'_, '_, G>,
     drawer: &mut Drawer,
     worker: u8,
     scratch: &mut Scratch,
-    gate: &G,
-    nth: &mut u64,
 ) -> End
-    requires pruner_of_level { pruner.now ≡ layer.now.level }
-    requires room { scratch.old.size ≡ length layer.now.level.board.cells }
-    requires ranks { ledger.now.len ≤ length layer.now.places }
-    requires place { IsAtPlace ledger.now worker drawer.old }
+    requires room { scratch.old.size ≡ length shift.now.layer.level.board.cells }
+    requires place { IsAtPlace shift.now.ledger worker drawer.old }
     ensures end { MayEnd G.may_stop result }
     ensures hand { EndsWith worker drawer.new.hand result }
-    ensures answered { WasAnswered layer.now worker result }
-    ensures ledger { drawer.new.ledger ≡ ledger.now }
+    ensures answered { WasAnswered shift.now.layer worker result }
+    ensures ledger { drawer.new.ledger ≡ shift.now.ledger }
     ensures size { scratch.new.size ≡ scratch.old.size }
 {
-    let rank = match draw(layer, ledger, drawer, worker, gate, nth) {
+    let layer = shift.layer;
+    let pruner = shift.pruner;
+    let mut nth = 0;
+    let rank = match draw(shift, drawer, worker, &mut nth) {
         Ok(rank) => rank,
         Err(end) => return end,
     };
     let mut parcel = expand_by(layer, pruner, rank, scratch);
     for _ in rt.forever() {
-        if let Err(end) = hand_back(rt, layer, books, worker, &parcel, gate, nth) {
+        if let Err(end) = hand_back(rt, shift, worker, &parcel, &mut nth) {
             return end;
         }
-        match draw(layer, ledger, drawer, worker, gate, nth) {
+        match draw(shift, drawer, worker, &mut nth) {
             Ok(rank) => expand_into(layer, pruner, rank, scratch, &mut parcel),
             Err(end) => return end,
         }
@@ -195,35 +161,25 @@ fn by_ones<R: Wait, G: Gate>(
 // drawn on.
 fn by_lots<'a, R: Wait, G: Gate>(
     rt: &R,
-    level: &'a Level,
-    layer: &Layer,
-    pruner: &Pruner,
-    books: &[Mutex<Book>],
-    ledger: &Ledger,
+    shift: &Shift<'_, 'a, G>,
     drawer: &mut Drawer,
     worker: u8,
     scratch: &mut Scratch,
-    gate: &G,
-    nth: &mut u64,
     ready: &mut Lot<'a>,
     next: &mut Lot<'a>,
 ) -> End
-    requires level { level.now ≡ layer.now.level.board }
-    requires pruner_of_level { pruner.now ≡ layer.now.level }
-    requires room { scratch.old.size ≡ length layer.now.level.board.cells }
-    requires ranks { ledger.now.len ≤ length layer.now.places }
-    requires place { IsAtPlace ledger.now worker drawer.old }
-    requires lot { AreOfLayer layer.now next.old }
+    requires room { scratch.old.size ≡ length shift.now.layer.level.board.cells }
+    requires place { IsAtPlace shift.now.ledger worker drawer.old }
+    requires lot { AreOfLayer shift.now.layer next.old }
     ensures end { MayEnd G.may_stop result }
     ensures hand { EndsWith worker drawer.new.hand result }
-    ensures answered { WasAnswered layer.now worker result }
-    ensures ledger { drawer.new.ledger ≡ ledger.now }
+    ensures answered { WasAnswered shift.now.layer worker result }
+    ensures ledger { drawer.new.ledger ≡ shift.now.ledger }
     ensures size { scratch.new.size ≡ scratch.old.size }
 {
+    let mut nth = 0;
     for _ in rt.forever() {
-        match next.draw_more(
-            level, layer, pruner, ledger, drawer, worker, scratch, gate, nth,
-        ) {
+        match next.draw_more(shift, drawer, worker, scratch, &mut nth) {
             Ok(true) => continue,
             Ok(false) => (),
             Err(end) => return end,
@@ -233,21 +189,8 @@ fn by_lots<'a, R: Wait, G: Gate>(
         }
         swap(ready, next);
         next.clear();
-        if let Err(end) = hand_lot(
-            rt,
-            level,
-            layer,
-            pruner,
-            books,
-            ledger,
-            drawer,
-            worker,
-            scratch,
-            gate,
-            nth,
-            ready.parcels(),
-            next,
-        ) {
+        let lot = ready.parcels();
+        if let Err(end) = hand_lot(rt, shift, drawer, worker, scratch, &mut nth, lot, next) {
             return end;
         }
     }
@@ -256,25 +199,22 @@ fn by_lots<'a, R: Wait, G: Gate>(
 
 // Draws a rank of the layer, and then passes the gate.
 pub(crate) fn draw<G: Gate>(
-    layer: &Layer,
-    ledger: &Ledger,
+    shift: &Shift<'_, '_, G>,
     drawer: &mut Drawer,
     worker: u8,
-    gate: &G,
     nth: &mut u64,
 ) -> Result<u64, End>
-    requires ranks { ledger.now.len ≤ length layer.now.places }
-    requires place { IsAtPlace ledger.now worker drawer.old }
-    ensures within { IfOk result (λ rank. rank < length layer.now.places) }
+    requires place { IsAtPlace shift.now.ledger worker drawer.old }
+    ensures within { IfOk result (λ rank. rank < length shift.now.layer.places) }
     ensures drawn { IfOk result (λ rank. drawer.new.hand.numbers ≡ drawer.old.hand.numbers ++ rank ∷ []) }
     ensures none { IfErr result (λ end. IfDrained end (drawer.new.hand.numbers ≡ drawer.old.hand.numbers)) }
     ensures end { IfErr result (λ end. MayEnd G.may_stop end) }
     ensures hand { IfErr result (λ end. EndsWith worker drawer.new.hand end) }
-    ensures answered { IfErr result (λ end. WasAnswered layer.now worker end) }
-    ensures place { IsAtPlace ledger.now worker drawer.new }
+    ensures answered { IfErr result (λ end. WasAnswered shift.now.layer worker end) }
+    ensures place { IsAtPlace shift.now.ledger worker drawer.new }
 {
-    let rank = draw_rank(layer, ledger, drawer, worker)?;
-    pass(gate, layer.number(), worker, nth)?;
+    let rank = draw_rank(shift.layer, shift.ledger, drawer, worker)?;
+    pass(shift, worker, nth)?;
     Ok(rank)
 }
 
@@ -294,14 +234,14 @@ fn draw_rank(layer: &Layer, ledger: &Ledger, drawer: &mut Drawer, worker: u8) ->
 }
 
 // Counts one more event, and asks the gate.
-pub(crate) fn pass<G: Gate>(gate: &G, layer: u64, worker: u8, nth: &mut u64) -> Result<(), End>
+pub(crate) fn pass<G: Gate>(shift: &Shift<'_, '_, G>, worker: u8, nth: &mut u64) -> Result<(), End>
     ensures stops { IfErr result (λ end. end ≡ Stopped) }
     ensures end { IfErr result (λ end. MayEnd G.may_stop end) }
     ensures hand { (hand : Hand) → IfErr result (λ end. EndsWith worker hand end) }
     ensures answered { (layer : LayerView) → IfErr result (λ end. WasAnswered layer worker end) }
 {
     *nth = nth.saturating_add(1);
-    if gate.pass(layer, worker, *nth) {
+    if shift.gate.pass(shift.layer.number(), worker, *nth) {
         Ok(())
     } else {
         Err(End::Stopped)

@@ -5,93 +5,56 @@ ghost use Rattle.crew.specs.inside.Desks.{AreRoomy, HaveDrawers};
 
 use crate::desks::Desk;
 use crate::gate::Gate;
+use crate::shift::Shift;
 use crate::spreading::for_each_spread;
 use crate::worker::work_at;
-use claims::{Ledger, PLACES};
-use grid::Level;
-use layers::{Book, Layer, Pruner};
-use std::sync::{Mutex, Wait};
+use claims::PLACES;
+use std::sync::Wait;
 use std::thread::Threads;
 
-// Lends the books and the ledger to a worker at each of the desks, each in a thread of its own where one can be started,
-// and waits until all of them have ended.
+// Lets a worker at each of the desks work on the layer, each in a thread of its own where one can be started, and waits until
+// all of them have ended.
 pub(crate) fn work_all<'a, R: Threads + Wait + Sync, G: Gate + Sync>(
     rt: &R,
     desks: &mut [Desk<'a>],
-    level: &'a Level,
-    layer: &Layer,
-    pruner: &Pruner,
-    books: &[Mutex<Book>],
-    ledger: &Ledger,
-    gate: &G,
+    shift: &Shift<'_, 'a, G>,
 )
-    requires level { level.now ≡ layer.now.level.board }
-    requires pruner_of_level { pruner.now ≡ layer.now.level }
-    requires ranks { ledger.now.len ≤ length layer.now.places }
     requires places { length desks.old ≤ PLACES }
-    requires drawers { HaveDrawers ledger.now (length desks.old) desks.old }
-    requires room { AreRoomy (length layer.now.level.board.cells) desks.old }
-    ensures room { AreRoomy (length layer.now.level.board.cells) desks.new }
+    requires drawers { HaveDrawers shift.now.ledger (length desks.old) desks.old }
+    requires room { AreRoomy (length shift.now.layer.level.board.cells) desks.old }
+    ensures room { AreRoomy (length shift.now.layer.level.board.cells) desks.new }
 {
     for_each_spread(
         rt,
         desks,
         &|place, desk: &mut Desk<'_>|
-            requires level { level.now ≡ layer.now.level.board }
-            requires pruner_of_level { pruner.now ≡ layer.now.level }
-            requires ranks { ledger.now.len ≤ length layer.now.places }
             requires place { place < PLACES }
-            requires drawer { desk.now.drawer ≡ Some (newcomer ledger.now) }
-            requires room { desk.now.scratch.size ≡ length layer.now.level.board.cells }
+            requires drawer { desk.now.drawer ≡ Some (newcomer shift.now.ledger) }
+            requires room { desk.now.scratch.size ≡ length shift.now.layer.level.board.cells }
             ensures { desk.exit.now.scratch.size ≡ desk.entry.now.scratch.size }
-        {
-            help(
-                rt,
-                desk,
-                level,
-                layer,
-                pruner,
-                books,
-                ledger,
-                place as u8,
-                gate,
-            )
-        },
+        { help(rt, desk, shift, place as u8) },
     );
 }
 
-// Works on a layer as one worker, with what is on the desk. How it ends decides nothing.
+// Works on the layer as one worker, with what is on the desk. How it ends decides nothing.
 fn help<'a, R: Wait, G: Gate>(
     rt: &R,
     desk: &mut Desk<'a>,
-    level: &'a Level,
-    layer: &Layer,
-    pruner: &Pruner,
-    books: &[Mutex<Book>],
-    ledger: &Ledger,
+    shift: &Shift<'_, 'a, G>,
     worker: u8,
-    gate: &G,
 )
-    requires level { level.now ≡ layer.now.level.board }
-    requires pruner_of_level { pruner.now ≡ layer.now.level }
-    requires ranks { ledger.now.len ≤ length layer.now.places }
     requires place { worker < PLACES }
-    requires drawer { desk.old.drawer ≡ Some (newcomer ledger.now) }
-    requires room { desk.old.scratch.size ≡ length layer.now.level.board.cells }
+    requires drawer { desk.old.drawer ≡ Some (newcomer shift.now.ledger) }
+    requires room { desk.old.scratch.size ≡ length shift.now.layer.level.board.cells }
     ensures room { desk.new.scratch.size ≡ desk.old.scratch.size }
 {
     if let Some(mut own) = desk.drawer.take() {
         work_at(
             rt,
-            level,
-            layer,
-            pruner,
-            books,
-            ledger,
+            shift,
             &mut own,
             worker,
             &mut desk.scratch,
-            gate,
             &mut desk.lots,
         );
     }

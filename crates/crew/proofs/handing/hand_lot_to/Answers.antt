@@ -14,7 +14,7 @@ returns-in_err-hand_to-clause-hand g c = let ended = c.in_err-hand_to.ensures.ha
 
 pub loop-parcel-preserved : goal.loop-parcel-preserved
 loop-parcel-preserved g c = record {
-  grown = grown_twice c.args.layer.now c.args.drawer.now.hand c.loop-parcel.drawer.hand c.lock_or_draw.new.drawer.hand c.args.next.now c.loop-parcel.next c.lock_or_draw.new.next c.loop-parcel.invariant.grown c.in_ok-guard.ensures.grown;
+  grown = grown_twice c.args.shift.now.layer c.args.drawer.now.hand c.loop-parcel.drawer.hand c.lock_or_draw.new.drawer.hand c.args.next.now c.loop-parcel.next c.lock_or_draw.new.next c.loop-parcel.invariant.grown c.in_ok-guard.ensures.grown;
   place = c.in_ok-guard.ensures.place;
   size = c.in_ok-guard.ensures.size ∙ c.loop-parcel.invariant.size;
 }

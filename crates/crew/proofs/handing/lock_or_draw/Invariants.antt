@@ -5,7 +5,7 @@ use Rattle.crew.proofs.handing.lock_or_draw.Given as goal
 
 abbrev pub invariant-loop : goal.invariant-loop
 invariant-loop g l = record {
-  grown : IsGrown l.layer l.fn.drawer.hand l.fn.next l.next l.drawer.hand;
-  place : IsAtPlace l.fn.ledger l.fn.worker l.drawer;
+  grown : IsGrown l.shift.layer l.fn.drawer.hand l.fn.next l.next l.drawer.hand;
+  place : IsAtPlace l.fn.shift.ledger l.fn.worker l.drawer;
   size : l.scratch.size ≡ l.fn.scratch.size;
 }

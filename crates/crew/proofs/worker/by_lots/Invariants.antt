@@ -5,4 +5,4 @@ use Rattle.crew.proofs.worker.by_lots.Given as goal
 
 abbrev pub invariant-loop : goal.invariant-loop
 invariant-loop g l =
-    (goal.iterator-loop g).can_next l.iterator' × (goal.iterator-loop g).is_finite l.iterator' × AreOfLayer l.layer l.next × IsAtPlace l.fn.ledger l.fn.worker l.drawer × (l.scratch.size ≡ l.fn.scratch.size)
+    (goal.iterator-loop g).can_next l.iterator' × (goal.iterator-loop g).is_finite l.iterator' × AreOfLayer l.shift.layer l.next × IsAtPlace l.fn.shift.ledger l.fn.worker l.drawer × (l.scratch.size ≡ l.fn.scratch.size)

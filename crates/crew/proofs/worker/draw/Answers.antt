@@ -8,7 +8,7 @@ returns-in_err-pass-clause-hand g c =
 
 pub returns-in_err-pass-clause-answered : goal.returns-in_err-pass-clause-answered
 returns-in_err-pass-clause-answered g c =
-    let answered = c.in_err-pass.ensures.answered c.args.layer.now in search (rules, answered)
+    let answered = c.in_err-pass.ensures.answered c.args.shift.now.layer in search (rules, answered)
 
 pub returns-in_err-pass-clause-none : goal.returns-in_err-pass-clause-none
 returns-in_err-pass-clause-none g c =

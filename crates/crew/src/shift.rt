@@ -1,0 +1,33 @@
+//! What the workers of a layer share.
+ghost use Rattle.std.specs.Prelude.{◌≡◌, ◌≤◌, length};
+ghost use Rattle.crew.specs.inside.Shifts.{ShiftView};
+
+use crate::gate::Gate;
+use claims::Ledger;
+use grid::Level;
+use layers::{Book, Layer, Pruner};
+use std::marker::Model;
+use std::sync::Mutex;
+
+/// What the workers of a layer share: the layer and its level, what leaves positions out, the books, each behind a lock of its
+/// own, the ledger of the layer's ranks, and the gate. Contracts see the layer and the ledger.
+#[derive(Drop)]
+pub(crate) struct Shift<'s, 'a, G: Gate> {
+    pub(crate) level: &'a Level,
+    pub(crate) layer: &'s Layer,
+    pub(crate) pruner: &'s Pruner,
+    pub(crate) books: &'s [Mutex<Book>],
+    pub(crate) ledger: &'s Ledger,
+    pub(crate) gate: &'s G,
+}
+
+impl<'s, 'a, G: Gate> Model for Shift<'s, 'a, G> {
+    ghost use Rattle.std.specs.Prelude.{◌≡◌, ◌≤◌, length};
+    ghost use Rattle.crew.specs.inside.Shifts.{ShiftView};
+
+    ghost Value = { ShiftView };
+
+    ghost view = { λ a. record { layer = a.layer.now; ledger = a.ledger.now } };
+
+    ghost invariant = { λ a. (a.level.now ≡ a.layer.now.level.board) × (a.pruner.now ≡ a.layer.now.level) × (a.ledger.now.len ≤ length a.layer.now.places) };
+}
