@@ -148,14 +148,7 @@ impl<'a> Lot<'a> {
             shift.layer.len() - rank,
             self.parcels.capacity(),
         );
-        put(
-            shift,
-            rank,
-            scratch,
-            &mut self.parcels,
-            place,
-            self.shares,
-        );
+        put(shift, rank, scratch, &mut self.parcels, place, self.shares);
         self.filled = place + 1;
         Ok(true)
     }
@@ -210,14 +203,7 @@ fn put<'a, G: Gate>(
     ensures size { scratch.new.size ≡ scratch.old.size }
 {
     if place < parcels.len() {
-        refill(
-            shift,
-            rank,
-            scratch,
-            parcels.as_mut_slice(),
-            place,
-            shares,
-        );
+        refill(shift, rank, scratch, parcels.as_mut_slice(), place, shares);
     } else {
         append(shift, rank, scratch, parcels, shares);
     }

@@ -1,7 +1,4 @@
 //! What the workers of a layer share.
-ghost use Rattle.std.specs.Prelude.{◌≡◌, ◌≤◌, length};
-ghost use Rattle.crew.specs.inside.Shifts.{ShiftView};
-
 use crate::gate::Gate;
 use claims::Ledger;
 use grid::Level;
@@ -22,12 +19,11 @@ pub(crate) struct Shift<'s, 'a, G: Gate> {
 }
 
 impl<'s, 'a, G: Gate> Model for Shift<'s, 'a, G> {
-    ghost use Rattle.std.specs.Prelude.{◌≡◌, ◌≤◌, length};
-    ghost use Rattle.crew.specs.inside.Shifts.{ShiftView};
+    ghost use Rattle.crew.specs.inside.Shifts.{AreOfOneLayer, ShiftView};
 
     ghost Value = { ShiftView };
 
     ghost view = { λ a. record { layer = a.layer.now; ledger = a.ledger.now } };
 
-    ghost invariant = { λ a. (a.level.now ≡ a.layer.now.level.board) × (a.pruner.now ≡ a.layer.now.level) × (a.ledger.now.len ≤ length a.layer.now.places) };
+    ghost invariant = { λ a. AreOfOneLayer a.layer.now a.level.now a.pruner.now a.ledger.now };
 }

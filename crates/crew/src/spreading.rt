@@ -63,11 +63,16 @@ fn first_and_rest<R: Threads + Sync, T: Send, F: Fn(usize, &mut T) + Sync>(
     ensures more { ChangesFrom (ChangesAt F.Fn f.now) base more.old more.new }
 {
     let mut front = ||
-        requires { IsSync F.row × IsSend T.row × (length one.now ≡ 1) × HoldsFrom (AcceptsAt F.Fn f.now) place one.now }
+        requires threads { IsSync F.row × IsSend T.row }
+        requires one { length one.now ≡ 1 }
+        requires accepts { HoldsFrom (AcceptsAt F.Fn f.now) place one.now }
         ensures { ChangesFrom (ChangesAt F.Fn f.entry.now) place one.entry.now one.exit.now }
     { at_only(f, place, one) };
     let mut back = ||
-        requires { IsSync R.row × IsSync F.row × IsSend T.row × (0 < length more.now) × (base + length more.now < 2 ^ 64) × HoldsFrom (AcceptsAt F.Fn f.now) base more.now }
+        requires threads { IsSync R.row × IsSync F.row × IsSend T.row }
+        requires some { 0 < length more.now }
+        requires room { base + length more.now < 2 ^ 64 }
+        requires accepts { HoldsFrom (AcceptsAt F.Fn f.now) base more.now }
         ensures { ChangesFrom (ChangesAt F.Fn f.entry.now) base more.entry.now more.exit.now }
     { spread_from(rt, f, base, more) };
     join_mut(rt, &mut front, &mut back);

@@ -37,12 +37,7 @@ pub(crate) fn work_all<'a, R: Threads + Wait + Sync, G: Gate + Sync>(
 }
 
 // Works on the layer as one worker, with what is on the desk. How it ends decides nothing.
-fn help<'a, R: Wait, G: Gate>(
-    rt: &R,
-    desk: &mut Desk<'a>,
-    shift: &Shift<'_, 'a, G>,
-    worker: u8,
-)
+fn help<'a, R: Wait, G: Gate>(rt: &R, desk: &mut Desk<'a>, shift: &Shift<'_, 'a, G>, worker: u8)
     requires place { worker < PLACES }
     requires drawer { desk.old.drawer ≡ Some (newcomer shift.now.ledger) }
     requires room { desk.old.scratch.size ≡ length shift.now.layer.level.board.cells }
