@@ -37,18 +37,15 @@ install: all
 demo: all
 	@levels/demo target/sokopar
 
-# rt ci sets aside what earlier runs left in crates/*/out, so crates/cli/out/cli is the program that it proved and built just now.
 test: toolchain
 	@tests/believed
-	@rm -f target/sokopar
-	@$(RT) ci
-	@mkdir -p target
-	@cp crates/cli/out/cli target/sokopar
+	@rm -f target/sokopar target/refusals
+	@RT=$(RT) tests/gate
 	@tests/cli/run target/sokopar
 	@tests/before/run target/sokopar
 	@tests/workers/run target/sokopar
 	@tests/hostile/run target/sokopar
-	@tests/refusals/run crates/refusals/out/refusals
+	@tests/refusals/run target/refusals
 	@tests/fuzz/run target/sokopar
 
 bench: all

@@ -16,8 +16,6 @@ mod lots;
 mod search;
 mod shift;
 mod spreading;
-#[cfg(test)]
-mod tests;
 mod turns;
 mod worker;
 mod workers;

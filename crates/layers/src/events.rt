@@ -4,6 +4,7 @@ ghost use Rattle.layers.specs.Books.{IsAtWork, MayBegin, with_begun, BeginRefuse
 use crate::book::{Book, Claim, Closed};
 use crate::closing::{all_marked, push_within};
 use crate::fault::{BeginFault, CloseFault, Refusal};
+use crate::inbox::most_waiting;
 use crate::layer::Layer;
 use crate::parcel::Parcel;
 
@@ -81,9 +82,11 @@ impl Book {
             self.over = true;
             return Err(Refusal::Over);
         }
+        // the last number of a worker is that of the one who does what the others left
+        let most = most_waiting(worker, self.workers - 1, self.share, self.shares);
         if self
             .found
-            .enter_all(self.share, self.shares, parcel)
+            .enter_all(most, self.share, self.shares, parcel)
             .is_err()
         {
             return Err(Refusal::OutOfMemory);

@@ -175,9 +175,11 @@ impl Found {
         }
     }
 
-    /// Enters the wanted successors of a parcel's rank, one after the other. An error leaves all as it was.
+    /// Enters the wanted successors of a parcel's rank, one after the other; so many offers may wait before they do. An
+    /// error leaves all as it was.
     pub(crate) fn enter_all(
         &mut self,
+        most: usize,
         share: u8,
         shares: u8,
         parcel: &Parcel<'_>,
@@ -189,11 +191,11 @@ impl Found {
         ensures err { OnErr result (self.new ≡ self.old) }
     {
         match &mut self.tables {
-            Tables::Narrow(table) => table.enter_all(share, shares, parcel),
-            Tables::Middle(table) => table.enter_all(share, shares, parcel),
-            Tables::Wide(table) => table.enter_all(share, shares, parcel),
-            Tables::Broad(table) => table.enter_all(share, shares, parcel),
-            Tables::Widest(table) => table.enter_all(share, shares, parcel),
+            Tables::Narrow(table) => table.enter_all(most, share, shares, parcel),
+            Tables::Middle(table) => table.enter_all(most, share, shares, parcel),
+            Tables::Wide(table) => table.enter_all(most, share, shares, parcel),
+            Tables::Broad(table) => table.enter_all(most, share, shares, parcel),
+            Tables::Widest(table) => table.enter_all(most, share, shares, parcel),
         }
     }
 

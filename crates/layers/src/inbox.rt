@@ -14,15 +14,33 @@ use grid::MAX_BOXES;
 use indexmap::IndexMap;
 use std::alloc::AllocError;
 
-/// So many offers wait before they enter, so that an inbox stays small beside the map.
-const FULL: usize = 32;
+/// So many offers wait before they enter where a book's own worker hands back.
+const FEW: usize = 32;
 
-/// Makes room for the offers of a rank's successors, in the inbox and in the map that they are to enter; where many
-/// wait already, these enter first. What is found stays as it was. The only error is that memory was refused.
+/// So many offers wait before they enter where another worker hands back: more than come between two of its own worker's
+/// turns, and few beside the map.
+const MANY: usize = 1024;
+
+/// How many offers may wait in the inbox of a book before they enter, where one of so many workers hands back to it. The
+/// books are dealt to the workers, and mostly it is a book's own worker that enters what all of them have brought, since
+/// what it entered before is in its processor's cache; the others append to the inbox, and soon let go of the lock.
+pub(crate) fn most_waiting(worker: u8, workers: u8, share: u8, shares: u8) -> usize
+    requires { 0 < shares }
+{
+    if workers == 0 || worker % shares == share % workers {
+        FEW
+    } else {
+        MANY
+    }
+}
+
+/// Makes room for the offers of a rank's successors, in the inbox and in the map that they are to enter; where
+/// as many wait already as may, these enter first. What is found stays as it was. The only error is that memory was refused.
 pub(crate) fn make_room<const N: usize>(
     table: &mut IndexMap<Key<N>, ClosedOrigin>,
     start: usize,
     inbox: &mut Vec<(Key<N>, Origin)>,
+    most: usize,
     successors: &[Successor],
 ) -> Result<(), AllocError>
     requires width { N ≤ MAX_BOXES }
@@ -33,17 +51,18 @@ pub(crate) fn make_room<const N: usize>(
     ensures room { length inbox.new.items ≤ spare table.new }
     ensures ok { OnOk result ((length inbox.new.items + length successors.now ≤ spare table.new) × (vec_len inbox.new + length successors.now ≤ vec_capacity inbox.new)) }
 {
-    enter_if_full(table, start, inbox);
+    enter_if_full(table, start, inbox, most);
     let more = successors.len();
     table.reserve(inbox.len() + more)?;
     inbox.reserve(more)
 }
 
-// The offers of an inbox enter, if it is full. What is found stays as it was.
+// The offers of an inbox enter, if as many wait as may. What is found stays as it was.
 fn enter_if_full<const N: usize>(
     table: &mut IndexMap<Key<N>, ClosedOrigin>,
     start: usize,
     inbox: &mut Vec<(Key<N>, Origin)>,
+    most: usize,
 )
     requires width { N ≤ MAX_BOXES }
     requires room { length inbox.old.items ≤ spare table.old }
@@ -52,7 +71,7 @@ fn enter_if_full<const N: usize>(
     ensures same { (boxes : ℕ) → found_view boxes start table.new.entries inbox.new.items ≡ found_view boxes start table.old.entries inbox.old.items }
     ensures room { length inbox.new.items ≤ spare table.new }
 {
-    if inbox.len() >= FULL {
+    if inbox.len() >= most {
         enter_all(table, start, inbox);
     }
 }

@@ -158,9 +158,11 @@ impl<const N: usize> Table<N> {
         count_new(&self.table, self.start, share, shares, successors) > room
     }
 
-    /// Enters the wanted successors of a parcel's rank, one after the other. An error leaves all as it was.
+    /// Enters the wanted successors of a parcel's rank, one after the other; so many offers may wait in the inbox. An
+    /// error leaves all as it was.
     pub(crate) fn enter_all(
         &mut self,
+        most: usize,
         share: u8,
         shares: u8,
         parcel: &Parcel<'_>,
@@ -172,7 +174,13 @@ impl<const N: usize> Table<N> {
         ensures err { OnErr result (self.new ≡ self.old) }
     {
         let successors = parcel.successors();
-        make_room(&mut self.table, self.start, &mut self.inbox, successors)?;
+        make_room(
+            &mut self.table,
+            self.start,
+            &mut self.inbox,
+            most,
+            successors,
+        )?;
         append_parcel(&mut self.inbox, share, shares, parcel);
         Ok(())
     }

@@ -5,6 +5,8 @@
 mod boards;
 #[cfg(test)]
 mod books;
+#[cfg(test)]
+mod crews;
 mod ends;
 #[cfg(test)]
 mod tests;

@@ -2,10 +2,11 @@
 ghost use Rattle.std.specs.Prelude.{◌≡◌};
 ghost use Rattle.claims.specs.Hands.{newcomer};
 
-use crate::tests::{TWO_ENDS, level_of};
-use crate::{End, Free, work};
+use crate::boards::TWO_ENDS;
+use crate::books::level_of;
 use area::Scratch;
 use claims::{Drawer, Ledger};
+use crew::{End, Free, work};
 use layers::{Book, Claim, Layer, Pruner, Refusal, expand_by};
 use std::alloc::Global;
 use std::process::Abort;

@@ -1,8 +1,11 @@
+//! Crews of workers on worked examples.
 ghost use Rattle.std.specs.Prelude.{◌≡◌, false};
 
 mod draws;
 
-use crate::{Config, Free, Gate, solve};
+use crate::boards::TWO_ENDS;
+use crate::books::level_of;
+use crew::{Config, Free, Gate, solve};
 use grid::{Cell, Level, MAX_BOXES};
 use layers::{MAX_SHARES, MAX_WORKERS};
 use solo::{Answer, SolveFault};
@@ -12,11 +15,6 @@ use std::sync::atomic::{AtomicU64, Ordering};
 use std::sync::{Arc, Wait};
 use std::thread;
 use std::thread::Threads;
-
-/// A level by its columns and its cells, row after row.
-type Board = (usize, &'static [u8]);
-
-const TWO_ENDS: Board = (7, b"########.$@$.########");
 
 /// How often a worker that is held looks for the one that frees it.
 const TURNS: u32 = 1_000_000;
@@ -86,29 +84,6 @@ impl Gate for Holding {
         }
         true
     }
-}
-
-fn cell_of(byte: u8) -> Cell {
-    match byte {
-        b'#' => Cell::Wall,
-        b'.' => Cell::Goal,
-        b'$' => Cell::Box,
-        b'*' => Cell::BoxOnGoal,
-        b'@' => Cell::Player,
-        _ => Cell::Floor,
-    }
-}
-
-fn level_of(rt: &impl Abort, alloc: Global, board: Board) -> Arc<Level> {
-    let (cols, bytes) = board;
-    let mut cells = Vec::new(alloc);
-    for byte in bytes {
-        cells.push(cell_of(*byte)).expect(rt, "memory");
-    }
-    assert!(rt; cols >= 1);
-    assert!(rt; cells.len() % cols == 0);
-    let level = Level::from_cells(alloc, cols, cells).expect(rt, "a level");
-    Arc::new(alloc, level).expect(rt, "memory")
 }
 
 /// The level of three rows in which so many boxes stand on goals beside the player.
