@@ -83,7 +83,7 @@ impl Book {
             return Err(Refusal::Over);
         }
         // the last number of a worker is that of the one who does what the others left
-        let most = most_waiting(worker, self.workers - 1, self.share, self.shares);
+        let most = most_waiting(worker, self.workers - 1, self.share);
         if self
             .found
             .enter_all(most, self.share, self.shares, parcel)

@@ -21,13 +21,12 @@ const FEW: usize = 32;
 /// turns, and few beside the map.
 const MANY: usize = 1024;
 
-/// How many offers may wait in the inbox of a book before they enter, where one of so many workers hands back to it. The
-/// books are dealt to the workers, and mostly it is a book's own worker that enters what all of them have brought, since
-/// what it entered before is in its processor's cache; the others append to the inbox, and soon let go of the lock.
-pub(crate) fn most_waiting(worker: u8, workers: u8, share: u8, shares: u8) -> usize
-    requires { 0 < shares }
-{
-    if workers == 0 || worker % shares == share % workers {
+/// How many offers may wait in the inbox of the book of a share before they enter, where one of so many workers hands back to
+/// it. The books are dealt to the workers, and mostly it is a book's own worker that enters what all of them have brought,
+/// since what it entered before is in its processor's cache; the others append to the inbox, and soon let go of the lock.
+/// Where there are more workers than books, some own none.
+pub(crate) fn most_waiting(worker: u8, workers: u8, share: u8) -> usize {
+    if workers == 0 || worker == share % workers {
         FEW
     } else {
         MANY
