@@ -56,3 +56,33 @@ roomy_each size before after same kept roomy i desk at =
     let lt : i < length before = omega (arith, slice_get_within after i desk at, same) in
     let was : (get_or before i desk).scratch.size ≡ size = roomy i (get_or before i desk) (slice_get-get_or before i desk lt) in
     ap (λ (d : Desk). d.scratch.size) (sym (get_or_from_slice_get after i desk desk at)) ∙ kept i desk lt ∙ was
+
+-- what stands in the first of two lists stands in both
+in_front : {A : Type 0} (xs ys : List A) (i : ℕ) (x : A) → slice_get xs i ≡ Some x → slice_get (xs ++ ys) i ≡ Some x
+in_front [] ys i x e = cc
+in_front (z ∷ xs) ys zero x e = e
+in_front (z ∷ xs) ys (suc i) x e = in_front xs ys i x e
+
+-- and so does what stands in the second
+in_back : {A : Type 0} (xs ys : List A) (i : ℕ) (x : A) → slice_get ys i ≡ Some x → (j : ℕ) × (slice_get (xs ++ ys) j ≡ Some x)
+in_back [] ys i x e = (i, e)
+in_back (z ∷ xs) ys i x e = (suc (in_back xs ys i x e).0, (in_back xs ys i x e).1)
+
+-- what stands in both stands in one of them
+in_either : {A : Type 0} (xs ys : List A) (i : ℕ) (x : A) → slice_get (xs ++ ys) i ≡ Some x → (slice_get xs i ≡ Some x) ⊎ ((j : ℕ) × (slice_get ys j ≡ Some x))
+in_either [] ys i x e = inr (i, e)
+in_either (z ∷ xs) ys zero x e = inl e
+in_either (z ∷ xs) ys (suc i) x e = in_either xs ys i x e
+
+-- of roomy desks the first ones and the others are roomy
+pub roomy_cut : (size : ℕ) (all front back : List Desk) → all ≡ front ++ back → AreRoomy size all → AreRoomy size front × AreRoomy size back
+roomy_cut size all front back is roomy = (
+  (λ i desk at. roomy i desk (ap (λ l. slice_get l i) is ∙ in_front front back i desk at)),
+  (λ i desk at. let h = in_back front back i desk at in roomy h.0 desk (ap (λ l. slice_get l h.0) is ∙ h.1)),
+)
+
+pub roomy_joined : (size : ℕ) (front back : List Desk) → AreRoomy size front → AreRoomy size back → AreRoomy size (front ++ back)
+roomy_joined size front back a b i desk at = elim (in_either front back i desk at) [
+  | inl h ↦ a i desk h
+  | inr h ↦ b h.0 desk h.1
+]

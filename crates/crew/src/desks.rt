@@ -80,9 +80,7 @@ impl<'a> Desks<'a> {
             ledger,
             gate,
         };
-        let desks = self.desks.as_mut_slice();
-        deal(ledger, drawer, desks);
-        work_all(rt, desks, &shift);
+        work_first(rt, self.desks.as_mut_slice(), &shift, drawer);
     }
 }
 
@@ -118,6 +116,36 @@ fn append_desk<'a>(
         drawer: None,
     })?;
     Ok(())
+}
+
+// Gives a drawer to as many of the workers at these desks as the layer has ranks, lets these work, and waits until all of them
+// have ended. One more would find no rank, and its thread would be started for nothing.
+fn work_first<'a, R: Threads + Wait + Sync, G: Gate + Sync>(
+    rt: &R,
+    desks: &mut [Desk<'a>],
+    shift: &Shift<'_, 'a, G>,
+    drawer: Drawer,
+)
+    requires places { length desks.old ≤ PLACES }
+    requires room { AreRoomy (length shift.now.layer.level.board.cells) desks.old }
+    requires drawer { drawer ≡ newcomer shift.now.ledger }
+    ensures room { AreRoomy (length shift.now.layer.level.board.cells) desks.new }
+{
+    let many = most_at_work(desks.len(), shift.layer.len());
+    let first = &mut desks[..many];
+    deal(shift.ledger, drawer, first);
+    work_all(rt, first, shift);
+}
+
+// How many of so many workers find a rank where there are so many.
+fn most_at_work(workers: usize, ranks: u64) -> usize
+    ensures { result ≤ workers }
+{
+    if ranks < workers as u64 {
+        ranks as usize
+    } else {
+        workers
+    }
 }
 
 // Gives each desk a drawer of its own.
