@@ -23,6 +23,8 @@ pub(crate) struct Desk<'a> {
     pub(crate) scratch: Scratch,
     pub(crate) lots: Lots<'a>,
     pub(crate) drawer: Option<Drawer>,
+    // keeps what the next worker writes off the lines of memory that this one reads
+    apart: [u64; 16],
 }
 
 /// The desks of workers over one level.
@@ -114,6 +116,7 @@ fn append_desk<'a>(
         scratch,
         lots,
         drawer: None,
+        apart: [0; 16],
     })?;
     Ok(())
 }

@@ -8,7 +8,7 @@ ghost use Rattle.crew.specs.inside.Lots.{AreOfLayer, IsGrown};
 use crate::end::End;
 use crate::gate::Gate;
 use crate::locking::lock_soon;
-use crate::lots::{Lot, MOST};
+use crate::lots::{AHEAD, Lot, MOST};
 use crate::shift::Shift;
 use crate::worker::pass;
 use area::Scratch;
@@ -116,7 +116,7 @@ fn lock_or_draw<'a, 'b, R: Wait, G: Gate>(
         if let Some(guard) = book.try_lock() {
             return Ok(guard);
         }
-        if !next.draw_more(shift, drawer, worker, scratch, nth)? {
+        if !next.draw_more(shift, drawer, worker, scratch, nth, AHEAD)? {
             break;
         }
     }

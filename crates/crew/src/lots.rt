@@ -18,7 +18,13 @@ use std::marker::Model;
 // The greatest number of ranks of a lot.
 pub(crate) const MOST: u64 = 16;
 
-// A lot is one of so many parts of the ranks that are left, as far as there may be as many in a lot.
+// So many times as many ranks as a lot is to have it gets at most, while its worker would wait for a book.
+pub(crate) const AHEAD: usize = 4;
+
+// The greatest number of ranks that a lot is to have.
+const USUAL: u64 = MOST / AHEAD as u64;
+
+// A lot is to have one of so many parts of the ranks that are left, as far as it may have as many.
 const PARTS: u64 = 64;
 
 /// The lots of a worker: the one that it hands back, and the one that it draws next.
@@ -39,9 +45,9 @@ impl<'a> Lots<'a> {
 
     /// Makes room for the greatest lots of a layer of so many positions. Where memory is refused the lots stay as small as they are.
     pub(crate) fn have_room(&mut self, positions: u64) {
-        let size = lot_size(positions);
-        self.ready.have_room(size);
-        self.next.have_room(size);
+        let most = lot_size(positions).saturating_mul(AHEAD);
+        self.ready.have_room(most);
+        self.next.have_room(most);
     }
 }
 
@@ -113,8 +119,8 @@ impl<'a> Lot<'a> {
         self.filled = 0;
     }
 
-    /// Draws one more rank, and puts its parcel behind the others; `false` where the lot has as many as it is to have, or
-    /// no rank is left.
+    /// Draws one more rank, and puts its parcel behind the others; `false` where the lot has so many times as many as it is to
+    /// have, or as there is room for, or no rank is left.
     pub(crate) fn draw_more<G: Gate>(
         &mut self,
         shift: &Shift<'_, 'a, G>,
@@ -122,6 +128,7 @@ impl<'a> Lot<'a> {
         worker: u8,
         scratch: &mut Scratch,
         nth: &mut u64,
+        times: usize,
     ) -> Result<bool, End>
         requires room { scratch.old.size ≡ length shift.now.layer.level.board.cells }
         requires place { IsAtPlace shift.now.ledger worker drawer.old }
@@ -133,7 +140,8 @@ impl<'a> Lot<'a> {
         ensures place { IsAtPlace shift.now.ledger worker drawer.new }
         ensures size { scratch.new.size ≡ scratch.old.size }
     {
-        if 0 < self.filled && self.size <= self.filled {
+        let most = self.size.saturating_mul(times).min(self.parcels.capacity());
+        if 0 < self.filled && most <= self.filled {
             return Ok(false);
         }
         let rank = match draw(shift, drawer, worker, nth) {
@@ -163,12 +171,12 @@ fn shares_of(books: usize) -> u8 {
     }
 }
 
-// How many ranks a lot has where so many of the layer are left: fewer toward its end, so that no worker waits long for
+// How many ranks a lot is to have where so many of the layer are left: fewer toward its end, so that no worker waits long for
 // another's lot.
 fn lot_size(left: u64) -> usize
     ensures { 0 < result }
 {
-    (left / PARTS).clamp(1, MOST) as usize
+    (left / PARTS).clamp(1, USUAL) as usize
 }
 
 // How many ranks a lot is to have that has so many: where it gets its first one, what those tell that are left, as far as there

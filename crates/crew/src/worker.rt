@@ -179,7 +179,7 @@ fn by_lots<'a, R: Wait, G: Gate>(
 {
     let mut nth = 0;
     for _ in rt.forever() {
-        match next.draw_more(shift, drawer, worker, scratch, &mut nth) {
+        match next.draw_more(shift, drawer, worker, scratch, &mut nth, 1) {
             Ok(true) => continue,
             Ok(false) => (),
             Err(end) => return end,

@@ -1,4 +1,4 @@
-ghost use Rattle.std.specs.Prelude.{◌≡◌, ◌+◌, ◌-◌, ◌*◌, ◌<◌, ◌≤◌, ◌↔◌, IsTrue, IfOk, IfSome, MatchOption, MatchResult, length, slice_get, slice_index_or, true, Some};
+ghost use Rattle.std.specs.Prelude.{◌≡◌, ◌+◌, ◌-◌, ◌*◌, ◌<◌, ◌≤◌, ◌↔◌, IsTrue, IfOk, IfSome, MatchOption, MatchResult, length, replicate, slice_get, slice_index_or, true, Some};
 ghost use Rattle.grid.specs.Board.{start};
 ghost use Rattle.grid.specs.Lawful.{box_count};
 ghost use Rattle.grid.specs.States.{FitsLevel};
@@ -23,6 +23,10 @@ use grid::{Level, MAX_BOXES, Position};
 use std::alloc::{AllocError, Global};
 use std::marker::Model;
 use std::sync::Arc;
+
+// So many words are two lines of memory, which processors fetch together. What two workers write that far apart does not take
+// the one's lines away from the other's processor.
+const APART: usize = 16;
 
 /// A rank of a layer that a worker is to expand.
 #[derive(Clone, Copy, PartialEq, Eq, Debug)]
@@ -57,6 +61,8 @@ pub struct Book {
     pub(crate) next: usize,
     pub(crate) tallies: Vec<u64>,
     pub(crate) over: bool,
+    // keeps what is written of the next book in a list off the lines of memory that this one is on
+    apart: [u64; APART],
 }
 
 impl Model for Book {
@@ -164,8 +170,7 @@ impl Book {
         let found = Found::of(alloc, task.boxes(), &own)?;
         let mut starts = Vec::new(alloc);
         starts.resize(1, 0)?;
-        let mut tallies = Vec::new(alloc);
-        tallies.resize(workers as usize, 0)?;
+        let tallies = first_tallies(alloc, workers)?;
         Ok(Book {
             task,
             limit,
@@ -180,6 +185,7 @@ impl Book {
             next: 0,
             tallies,
             over: false,
+            apart: [0; APART],
         })
     }
 
@@ -330,6 +336,16 @@ fn first_position(
     }
     let normal = normal(level, position, scratch);
     Some(normal)
+}
+
+// The tallies of so many workers, who have handed nothing back. They take more room than they have words, so that the tallies of
+// the next book are not on their lines of memory.
+fn first_tallies(alloc: Global, workers: u8) -> Result<Vec<u64>, AllocError>
+    ensures { IfOk result (λ tallies. tallies.items ≡ replicate workers 0) }
+{
+    let mut tallies = Vec::with_capacity(alloc, workers as usize + APART)?;
+    tallies.resize(workers as usize, 0)?;
+    Ok(tallies)
 }
 
 // The share's position of layer 0: the first position, if there is one and it is of the share.
