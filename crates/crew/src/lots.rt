@@ -19,7 +19,7 @@ use std::marker::Model;
 pub(crate) const MOST: u64 = 16;
 
 // So many times as many ranks as a lot is to have it gets at most, while its worker would wait for a book.
-pub(crate) const AHEAD: usize = 4;
+pub(crate) const AHEAD: usize = 2;
 
 // The greatest number of ranks that a lot is to have.
 const USUAL: u64 = MOST / AHEAD as u64;
