@@ -1,5 +1,5 @@
 //! The lots of ranks that a worker draws at a time, and their parcels.
-ghost use Rattle.std.specs.Prelude.{◌≡◌, ◌<◌, ◌≤◌, [], ◌∷◌, ◌++◌, true, false, IfErr, IfOk, length, slice_set, vec_capacity};
+ghost use Rattle.std.specs.Prelude.{◌≡◌, ◌+◌, ◌<◌, ◌≤◌, [], ◌∷◌, ◌++◌, true, false, IfErr, IfOk, length, slice_set, vec_capacity};
 ghost use Rattle.crew.specs.Work.{IsAtPlace, MayEnd, EndsWith, WasAnswered};
 ghost use Rattle.crew.specs.declared.end.End.TheVariants.{Drained};
 ghost use Rattle.crew.specs.inside.Lots.{IsGrown, IsOfRank, IsPut};
@@ -133,6 +133,7 @@ impl<'a> Lot<'a> {
         requires room { scratch.old.size ≡ length shift.now.layer.level.board.cells }
         requires place { IsAtPlace shift.now.ledger worker drawer.old }
         ensures grown { IfOk result (λ more. IsGrown shift.now.layer drawer.old.hand self.old self.new drawer.new.hand) }
+        ensures more { IfOk result (λ more. more ≡ true → length self.new ≡ length self.old + 1) }
         ensures none { IfOk result (λ more. more ≡ false → self.new ≡ [] → EndsWith worker drawer.new.hand Drained) }
         ensures end { IfErr result (λ end. MayEnd G.may_stop end) }
         ensures hand { IfErr result (λ end. EndsWith worker drawer.new.hand end) }
