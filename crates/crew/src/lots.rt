@@ -134,6 +134,7 @@ impl<'a> Lot<'a> {
         requires place { IsAtPlace shift.now.ledger worker drawer.old }
         ensures grown { IfOk result (λ more. IsGrown shift.now.layer drawer.old.hand self.old self.new drawer.new.hand) }
         ensures more { IfOk result (λ more. more ≡ true → length self.new ≡ length self.old + 1) }
+        ensures no_more { IfOk result (λ more. more ≡ false → self.new ≡ self.old) }
         ensures none { IfOk result (λ more. more ≡ false → self.new ≡ [] → EndsWith worker drawer.new.hand Drained) }
         ensures end { IfErr result (λ end. MayEnd G.may_stop end) }
         ensures hand { IfErr result (λ end. EndsWith worker drawer.new.hand end) }
