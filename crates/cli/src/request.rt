@@ -64,6 +64,13 @@ fn number_operand<'a>(alloc: Global) -> Arg<'a> {
         .value_parser(value_parser!(u32).range(1..))
 }
 
+/// The operand SOLUTION.
+fn solution_operand<'a>(alloc: Global) -> Arg<'a> {
+    Arg::new(alloc, "SOLUTION")
+        .help("A file with the moves in LURD notation")
+        .required(true)
+}
+
 /// The option `--limit L`.
 fn limit_option<'a>(alloc: Global) -> Arg<'a> {
     Arg::new(alloc, "limit")
@@ -103,49 +110,77 @@ fn locks_option<'a>(alloc: Global) -> Arg<'a> {
         .value_parser(value_parser!(u32).range(1..=MAX_SHARES as i64))
 }
 
-/// The command line that the program understands; `notes` ends its help.
-fn command<'a>(alloc: Global, notes: &'a str) -> Result<Command<'a>, AllocError> {
-    let check = Command::new(alloc, "check")
+/// The subcommand `check`.
+fn check_command<'a>(alloc: Global) -> Result<Command<'a>, AllocError> {
+    Command::new(alloc, "check")
         .about("Checks each level")
         .after_help(help::CHECK_NOTES)
-        .arg(file_operand(alloc))?;
-    let show = Command::new(alloc, "show")
-        .about("Shows a level in plain rows")
+        .arg(file_operand(alloc))
+}
+
+/// A subcommand on level N of a collection.
+fn level_command<'a>(
+    alloc: Global,
+    name: &'a str,
+    about: &'a str,
+) -> Result<Command<'a>, AllocError> {
+    Command::new(alloc, name)
+        .about(about)
         .arg(file_operand(alloc))?
-        .arg(number_operand(alloc))?;
-    let dead = Command::new(alloc, "dead")
-        .about("Shows walls, goals and dead squares of a level")
-        .arg(file_operand(alloc))?
-        .arg(number_operand(alloc))?;
-    let solution = Arg::new(alloc, "SOLUTION")
-        .help("A file with the moves in LURD notation")
-        .required(true);
-    let replay = Command::new(alloc, "replay")
-        .about("Replays a solution on a level")
+        .arg(number_operand(alloc))
+}
+
+/// The subcommand `show`.
+fn show_command<'a>(alloc: Global) -> Result<Command<'a>, AllocError> {
+    level_command(alloc, "show", "Shows a level in plain rows")
+}
+
+/// The subcommand `dead`.
+fn dead_command<'a>(alloc: Global) -> Result<Command<'a>, AllocError> {
+    level_command(
+        alloc,
+        "dead",
+        "Shows walls, goals and dead squares of a level",
+    )
+}
+
+/// The subcommand `replay`.
+fn replay_command<'a>(alloc: Global) -> Result<Command<'a>, AllocError> {
+    level_command(alloc, "replay", "Replays a solution on a level")?
         .after_help(help::REPLAY_NOTES)
-        .arg(file_operand(alloc))?
-        .arg(number_operand(alloc))?
-        .arg(solution)?;
-    let solve = Command::new(alloc, "solve")
-        .about("Solves a level with the fewest pushes")
+        .arg(solution_operand(alloc))
+}
+
+/// The subcommand `solve`.
+fn solve_command<'a>(alloc: Global) -> Result<Command<'a>, AllocError> {
+    level_command(alloc, "solve", "Solves a level with the fewest pushes")?
         .after_help(help::SOLVE_NOTES)
-        .arg(file_operand(alloc))?
-        .arg(number_operand(alloc))?
         .arg(workers_option(alloc))?
         .arg(locks_option(alloc))?
         .arg(limit_option(alloc))?
-        .arg(max_pushes_option(alloc))?;
-    Command::new(alloc, "sokopar")
-        .bin_name("sokopar")?
-        .about("Checks, shows, replays and solves Sokoban levels")
-        .version(help::VERSION)
-        .after_help(notes)
-        .subcommand_required(true)
-        .subcommand(check)?
-        .subcommand(show)?
-        .subcommand(dead)?
-        .subcommand(replay)?
-        .subcommand(solve)
+        .arg(max_pushes_option(alloc))
+}
+
+/// The program's command line without its subcommands.
+fn bare_command<'a>(alloc: Global, notes: &'a str) -> Result<Command<'a>, AllocError> {
+    Ok(
+        Command::new(alloc, "sokopar")
+            .bin_name("sokopar")?
+            .about("Checks, shows, replays and solves Sokoban levels")
+            .version(help::VERSION)
+            .after_help(notes)
+            .subcommand_required(true),
+    )
+}
+
+/// The command line that the program understands; `notes` ends its help.
+fn command<'a>(alloc: Global, notes: &'a str) -> Result<Command<'a>, AllocError> {
+    bare_command(alloc, notes)?
+        .subcommand(check_command(alloc)?)?
+        .subcommand(show_command(alloc)?)?
+        .subcommand(dead_command(alloc)?)?
+        .subcommand(replay_command(alloc)?)?
+        .subcommand(solve_command(alloc)?)
 }
 
 /// A value that its argument does not take.

@@ -12,7 +12,7 @@ use crate::lots::{Lot, Lots};
 use crate::shift::Shift;
 use area::Scratch;
 use claims::{Drawer, Ledger, PLACES};
-use layers::{Book, Layer, Pruner, expand_by, expand_into};
+use layers::{Book, Layer, Pruner, expand_over, expand_over_into};
 use std::mem::swap;
 use std::sync::{Mutex, Wait};
 
@@ -144,13 +144,13 @@ fn by_ones<R: Wait, G: Gate>(
         Ok(rank) => rank,
         Err(end) => return end,
     };
-    let mut parcel = expand_by(layer, pruner, rank, scratch);
+    let mut parcel = expand_over(layer.level(), layer, pruner, rank, scratch);
     for _ in rt.forever() {
         if let Err(end) = hand_back(rt, shift, worker, &parcel, &mut nth) {
             return end;
         }
         match draw(shift, drawer, worker, &mut nth) {
-            Ok(rank) => expand_into(layer, pruner, rank, scratch, &mut parcel),
+            Ok(rank) => expand_over_into(layer.level(), layer, pruner, rank, scratch, &mut parcel),
             Err(end) => return end,
         }
     }

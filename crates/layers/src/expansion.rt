@@ -37,44 +37,8 @@ pub fn expand<'a>(
     parcel_over(layer.level(), layer, dead, Some(bound), rank, scratch)
 }
 
-/// The parcel that [`expand`] gives, by a pruner, which has a bound only where a cap is set. Takes no memory.
-pub fn expand_by<'a>(
-    layer: &'a Layer,
-    pruner: &Pruner,
-    rank: u64,
-    scratch: &mut Scratch,
-) -> Parcel<'a>
-    requires within { rank < length layer.now.places }
-    requires pruner_of_level { pruner.now ≡ layer.now.level }
-    requires room { scratch.old.size ≡ length layer.now.level.board.cells }
-    ensures of { (result.level ≡ layer.now.level) × (result.layer ≡ layer.now.number) × (result.rank ≡ rank) }
-    ensures successors { (n : Scene) → slice_get layer.now.places rank ≡ Some n → AreSuccessors layer.now.level layer.now.number n result.successors }
-    ensures size { scratch.new.size ≡ scratch.old.size }
-{
-    expand_over(layer.level(), layer, pruner, rank, scratch)
-}
-
-/// Makes a parcel that is there the one of another rank, as [`expand_by`] gives it, so that nothing large is made or
-/// copied. Takes no memory.
-pub fn expand_into<'a>(
-    layer: &'a Layer,
-    pruner: &Pruner,
-    rank: u64,
-    scratch: &mut Scratch,
-    parcel: &mut Parcel<'a>,
-)
-    requires within { rank < length layer.now.places }
-    requires pruner_of_level { pruner.now ≡ layer.now.level }
-    requires room { scratch.old.size ≡ length layer.now.level.board.cells }
-    ensures of { (parcel.new.level ≡ layer.now.level) × (parcel.new.layer ≡ layer.now.number) × (parcel.new.rank ≡ rank) }
-    ensures successors { (n : Scene) → slice_get layer.now.places rank ≡ Some n → AreSuccessors layer.now.level layer.now.number n parcel.new.successors }
-    ensures size { scratch.new.size ≡ scratch.old.size }
-{
-    expand_over_into(layer.level(), layer, pruner, rank, scratch, parcel);
-}
-
-/// What [`expand_by`] gives, in a parcel over a level that is lent for itself and is that of the layer, so that the parcel
-/// may outlive the layer. Takes no memory.
+/// The parcel that [`expand`] gives, by a pruner, which has a bound only where a cap is set, over the layer's level, which is
+/// lent for itself so that the parcel may outlive the layer. Takes no memory.
 pub fn expand_over<'a>(
     level: &'a Level,
     layer: &Layer,

@@ -31,6 +31,19 @@ pub(crate) enum Tables {
     Widest(Table<MAX_BOXES>),
 }
 
+// The same call on what is found, whatever the width of its keys.
+macro_rules! in_each {
+    ($tables:expr, $table:ident => $call:expr) => {
+        match $tables {
+            Tables::Narrow($table) => $call,
+            Tables::Middle($table) => $call,
+            Tables::Wide($table) => $call,
+            Tables::Broad($table) => $call,
+            Tables::Widest($table) => $call,
+        }
+    };
+}
+
 /// The positions that a book has found: the closed ones, and those that stand open.
 #[derive(Debug, Drop)]
 pub(crate) struct Found {
@@ -77,39 +90,21 @@ impl Found {
     pub(crate) fn closed_len(&self) -> usize
         ensures { result ≡ length self.now.seen }
     {
-        match &self.tables {
-            Tables::Narrow(table) => table.closed_len(),
-            Tables::Middle(table) => table.closed_len(),
-            Tables::Wide(table) => table.closed_len(),
-            Tables::Broad(table) => table.closed_len(),
-            Tables::Widest(table) => table.closed_len(),
-        }
+        in_each!(&self.tables, table => table.closed_len())
     }
 
     /// The closed position at a place; `None` exactly beyond them.
     pub(crate) fn closed_at(&self, place: usize) -> Option<Position>
         ensures { result ≡ option_map (λ e. e.0) (slice_get self.now.seen place) }
     {
-        match &self.tables {
-            Tables::Narrow(table) => table.closed_at(place),
-            Tables::Middle(table) => table.closed_at(place),
-            Tables::Wide(table) => table.closed_at(place),
-            Tables::Broad(table) => table.closed_at(place),
-            Tables::Widest(table) => table.closed_at(place),
-        }
+        in_each!(&self.tables, table => table.closed_at(place))
     }
 
     /// The origin of the closed position at a place; `None` exactly beyond them.
     pub(crate) fn origin_at(&self, place: usize) -> Option<Origin>
         ensures { result ≡ option_map (λ e. origin_in e.1) (slice_get self.now.seen place) }
     {
-        match &self.tables {
-            Tables::Narrow(table) => table.origin_at(place),
-            Tables::Middle(table) => table.origin_at(place),
-            Tables::Wide(table) => table.origin_at(place),
-            Tables::Broad(table) => table.origin_at(place),
-            Tables::Widest(table) => table.origin_at(place),
-        }
+        in_each!(&self.tables, table => table.origin_at(place))
     }
 
     /// Appends the squares of the closed position at a place, and its origin if it has one. The only error is that
@@ -123,13 +118,7 @@ impl Found {
         requires { place < length self.now.seen }
         ensures { OnOk result ((e : Closed) → slice_get self.now.seen place ≡ Some e → IsCopied e squares.old.items squares.new.items origins.old.items origins.new.items) }
     {
-        match &self.tables {
-            Tables::Narrow(table) => table.copy_at(place, squares, origins),
-            Tables::Middle(table) => table.copy_at(place, squares, origins),
-            Tables::Wide(table) => table.copy_at(place, squares, origins),
-            Tables::Broad(table) => table.copy_at(place, squares, origins),
-            Tables::Widest(table) => table.copy_at(place, squares, origins),
-        }
+        in_each!(&self.tables, table => table.copy_at(place, squares, origins))
     }
 
     /// What is closed from a place on: the squares of the positions, one after the other, and the origins of those that
@@ -143,13 +132,7 @@ impl Found {
         ensures squares { IfOk result (λ r. r.0.items ≡ squares_of (map (λ e. e.0) (drop from self.now.seen))) }
         ensures origins { IfOk result (λ r. r.1.items ≡ origins_of (drop from self.now.seen)) }
     {
-        match &self.tables {
-            Tables::Narrow(table) => table.closed_from(alloc, from),
-            Tables::Middle(table) => table.closed_from(alloc, from),
-            Tables::Wide(table) => table.closed_from(alloc, from),
-            Tables::Broad(table) => table.closed_from(alloc, from),
-            Tables::Widest(table) => table.closed_from(alloc, from),
-        }
+        in_each!(&self.tables, table => table.closed_from(alloc, from))
     }
 
     /// Whether there would be more positions than a limit once the wanted successors of a rank have entered.
@@ -166,13 +149,7 @@ impl Found {
         ensures passed { (rank : ℕ) → result ≡ nat_lt limit (length self.old.seen + length (with_entered self.old shares share rank successors.now).waiting) }
         ensures same { self.new ≡ self.old }
     {
-        match &mut self.tables {
-            Tables::Narrow(table) => table.passes(limit, share, shares, successors),
-            Tables::Middle(table) => table.passes(limit, share, shares, successors),
-            Tables::Wide(table) => table.passes(limit, share, shares, successors),
-            Tables::Broad(table) => table.passes(limit, share, shares, successors),
-            Tables::Widest(table) => table.passes(limit, share, shares, successors),
-        }
+        in_each!(&mut self.tables, table => table.passes(limit, share, shares, successors))
     }
 
     /// Enters the wanted successors of a parcel's rank, one after the other; so many offers may wait before they do. An
@@ -190,13 +167,7 @@ impl Found {
         ensures ok { OnOk result (self.new ≡ with_entered self.old shares share parcel.now.rank parcel.now.successors) }
         ensures err { OnErr result (self.new ≡ self.old) }
     {
-        match &mut self.tables {
-            Tables::Narrow(table) => table.enter_all(most, share, shares, parcel),
-            Tables::Middle(table) => table.enter_all(most, share, shares, parcel),
-            Tables::Wide(table) => table.enter_all(most, share, shares, parcel),
-            Tables::Broad(table) => table.enter_all(most, share, shares, parcel),
-            Tables::Widest(table) => table.enter_all(most, share, shares, parcel),
-        }
+        in_each!(&mut self.tables, table => table.enter_all(most, share, shares, parcel))
     }
 
     /// Closes what stands open, in the order of the origins. Where it is to look ahead, it makes room for as many
@@ -207,12 +178,6 @@ impl Found {
         ensures waiting { OnOk result (self.new.waiting ≡ []) }
         ensures err { OnErr result (self.new ≡ self.old) }
     {
-        match &mut self.tables {
-            Tables::Narrow(table) => table.close(ahead),
-            Tables::Middle(table) => table.close(ahead),
-            Tables::Wide(table) => table.close(ahead),
-            Tables::Broad(table) => table.close(ahead),
-            Tables::Widest(table) => table.close(ahead),
-        }
+        in_each!(&mut self.tables, table => table.close(ahead))
     }
 }

@@ -29,7 +29,7 @@ mod table;
 mod task;
 
 pub use book::{Book, Claim, Closed};
-pub use expansion::{expand, expand_by, expand_into, expand_over, expand_over_into};
+pub use expansion::{expand, expand_over, expand_over_into};
 pub use fault::{BeginFault, BookFault, CloseFault, JoinFault, Refusal};
 pub use layer::Layer;
 pub use limits::{MAX_SHARES, MAX_SUCCESSORS, MAX_WORKERS, MOST_POSITIONS};

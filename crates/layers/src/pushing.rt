@@ -166,40 +166,9 @@ fn make_successor(
     ensures kept { scratch.new ≡ scratch.old }
 {
     let Push { square, dir } = push;
-    slot.push = Push { square, dir };
-    make_push(
-        level,
-        dead,
-        position,
-        Push { square, dir },
-        scratch,
-        &mut slot.position,
-    )
-}
-
-// Makes a position what a push leads to, where the last flood was that of the position before it; `false` exactly where
-// that is doomed.
-fn make_push(
-    level: &Level,
-    dead: &Dead,
-    position: &Position,
-    push: Push,
-    scratch: &mut Scratch,
-    moved: &mut Position,
-) -> bool
-    requires fits { FitsLevel level.now position.now }
-    requires undoomed { Undoomed level.now position.now }
-    requires dead_of_level { dead.now ≡ level.now }
-    requires room { scratch.old.size ≡ length level.now.cells }
-    requires flooded { IsAreaOf level.now position.now scratch.old.reached }
-    requires boxes { scratch.old.boxes ≡ position.now.boxes }
-    requires possible { CanPush level.now position.now push }
-    ensures some { IsTrue result → IsSuccessor level.now position.now push moved.new × FitsLevel level.now moved.new }
-    ensures none { result ≡ false → (m : Scene) → ¬ (IsSuccessor level.now position.now push m) }
-    ensures kept { scratch.new ≡ scratch.old }
-{
-    let Push { square, dir } = push;
     let ahead = level.next(square, dir);
+    slot.push = Push { square, dir };
+    let moved = &mut slot.position;
     moved.copy_from(position);
     moved.push(square, ahead);
     if !doom::is_loose(level, dead, scratch, Push { square, dir })

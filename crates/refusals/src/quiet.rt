@@ -8,7 +8,7 @@ use area::{Scratch, flood, normal};
 use claims::{Drawer, Ledger};
 use doom::{Dead, doomed};
 use grid::{Dir, Level, Position, Square, State};
-use layers::{Book, Layer, Pruner, expand_by};
+use layers::{Book, Layer, Pruner, expand_over};
 use std::alloc::Global;
 use std::slice;
 
@@ -76,7 +76,8 @@ fn expands<R: Print>(rt: &R, layer: &Layer, pruner: &Pruner, scratch: &mut Scrat
     if layer.len() <= 2 {
         return None;
     }
-    told::parcel(rt, &expand_by(layer, pruner, 2, scratch))
+    let level = layer.level();
+    told::parcel(rt, &expand_over(level, layer, pruner, 2, scratch))
 }
 
 // Draws from a ledger.

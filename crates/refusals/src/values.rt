@@ -3,7 +3,7 @@ ghost use Rattle.std.specs.Prelude.{◌≡◌, ◌<◌, length};
 
 use area::Scratch;
 use grid::Level;
-use layers::{Book, Layer, MAX_SHARES, Parcel, Pruner, expand_by};
+use layers::{Book, Layer, MAX_SHARES, Parcel, Pruner, expand_over};
 use std::alloc::Global;
 use std::slice;
 use std::sync::Arc;
@@ -59,7 +59,13 @@ fn with_scratch<'a>(
     requires room { scratch.old.size ≡ length layer.now.level.board.cells }
 {
     let pruner = Pruner::of(alloc, layer.level(), layer.cap()).ok()?;
-    Some(expand_by(layer, &pruner, rank, scratch))
+    Some(expand_over(
+        layer.level(),
+        layer,
+        &pruner,
+        rank,
+        scratch,
+    ))
 }
 
 /// Hands a rank of a layer back to a book.

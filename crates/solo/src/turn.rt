@@ -20,7 +20,7 @@ use area::Scratch;
 use grid::Level;
 use layers::{
     BeginFault, Book, BookFault, CloseFault, JoinFault, Layer, Parcel, Parents, Pruner, Refusal,
-    expand_by, expand_into,
+    expand_over, expand_over_into,
 };
 use std::alloc::{AllocError, Global};
 use std::sync::Arc;
@@ -301,7 +301,7 @@ fn do_ranks(
     let Some(first) = book.claim() else {
         return Ok(true);
     };
-    let mut parcel = expand_by(layer, pruner, first.rank, scratch);
+    let mut parcel = expand_over(layer.level(), layer, pruner, first.rank, scratch);
     loop {
         if !enter(book, worker, &parcel)? {
             return Ok(false);
@@ -309,7 +309,7 @@ fn do_ranks(
         let Some(claim) = book.claim() else {
             return Ok(true);
         };
-        expand_into(layer, pruner, claim.rank, scratch, &mut parcel);
+        expand_over_into(layer.level(), layer, pruner, claim.rank, scratch, &mut parcel);
     }
 }
 

@@ -7,7 +7,7 @@ use crate::books::level_of;
 use area::Scratch;
 use claims::{Drawer, Ledger};
 use crew::{End, Free, work};
-use layers::{Book, Claim, Layer, Pruner, Refusal, expand_by};
+use layers::{Book, Claim, Layer, Pruner, Refusal, expand_over};
 use std::alloc::Global;
 use std::process::Abort;
 use std::slice;
@@ -72,7 +72,8 @@ fn again(rt: &impl Abort, alloc: Global, layer: &Layer, book: &mut Book) -> Resu
     assert!(rt; book.workers() >= 1);
     let pruner = Pruner::of(alloc, layer.level(), layer.cap()).expect(rt, "memory");
     let mut scratch = Scratch::new(alloc, layer.level()).expect(rt, "memory");
-    book.hand_back(0, &expand_by(layer, &pruner, 0, &mut scratch))
+    let parcel = expand_over(layer.level(), layer, &pruner, 0, &mut scratch);
+    book.hand_back(0, &parcel)
 }
 
 #[test]

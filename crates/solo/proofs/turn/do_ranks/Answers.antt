@@ -7,8 +7,8 @@ use Rattle.solo.proofs.turn.do_ranks.Goals as goal
 
 pub loop-book-init : goal.loop-book-init
 loop-book-init c = record {
-  due = due_next c.args.book.now c.args.book.now c.claim.new.self c.args.layer.now c.expand_by-parcel.result c.in-Some.first c.requires.still (λ r e. subst (λ bs. get_or bs r false ≡ true) c.requires.reopened e) c.in-Some.ensures c.expand_by-parcel.ensures.of;
-  size = c.expand_by-parcel.ensures.size;
+  due = due_next c.args.book.now c.args.book.now c.claim.new.self c.args.layer.now c.expand_over-parcel.result c.in-Some.first c.requires.still (λ r e. subst (λ bs. get_or bs r false ≡ true) c.requires.reopened e) c.in-Some.ensures c.expand_over-parcel.ensures.of;
+  size = c.expand_over-parcel.ensures.size;
 }
 
 pub enter-requires-clause-work : goal.enter-requires-clause-work
@@ -26,6 +26,6 @@ loop-book-preserved c =
     let due = c.loop-book.invariant.due in
     let entered : after ≡ with_parcel book c.args.worker parcel = subst (λ within. MatchBool within (after ≡ with_parcel book c.args.worker parcel) (after ≡ with_over book)) c.if-not-branch.false c.in_ok-enter.ensures.ok in
     record {
-      due = due_next start after c.claim-in-loop-book.new.self c.args.layer.now c.expand_into.new.parcel c.in-Some-claim.claim (done_still start book after c.args.layer.now parcel c.args.worker due entered) (done_claimed start book after c.args.layer.now parcel c.args.worker due entered) c.in-Some-claim.ensures c.expand_into.ensures.of;
-      size = c.expand_into.ensures.size ∙ c.loop-book.invariant.size;
+      due = due_next start after c.claim-in-loop-book.new.self c.args.layer.now c.expand_over_into.new.parcel c.in-Some-claim.claim (done_still start book after c.args.layer.now parcel c.args.worker due entered) (done_claimed start book after c.args.layer.now parcel c.args.worker due entered) c.in-Some-claim.ensures c.expand_over_into.ensures.of;
+      size = c.expand_over_into.ensures.size ∙ c.loop-book.invariant.size;
     }

@@ -13,8 +13,8 @@ use Rattle.doom.proofs.lemmas.Loose.{loose_dooms_nothing}
 use Rattle.area.specs.After.{IsAreaOf}
 use Rattle.layers.specs.Expansion.{after_push}
 use Rattle.layers.proofs.lemmas.Successors.{after_fits, successor_is, come_by}
-use Rattle.layers.proofs.pushing.make_push.Goals as goal
-use Rattle.layers.proofs.pushing.make_push.Goals.{else-not-is_loose-via-then-not-is_loose+else-doomed_after, else-not-is_loose-via-else-not-is_loose}
+use Rattle.layers.proofs.pushing.make_successor.Goals as goal
+use Rattle.layers.proofs.pushing.make_successor.Goals.{else-not-is_loose-via-then-not-is_loose+else-doomed_after, else-not-is_loose-via-else-not-is_loose}
 
 pub next-ahead-requires : goal.next-ahead-requires
 next-ahead-requires c = inside_grid c.args.level.now c.args.push.square (c.requires.fits.scene.boxes c.args.push.square c.requires.possible.there)
