@@ -8,7 +8,8 @@ use Rattle.grid.specs.declared.masks.TheConstants.{WORD_BITS}
 use Rattle.grid.specs.Board.{Board, Scene, IsFree, is_wall, next}
 use Rattle.grid.specs.States.{IsScene}
 use Rattle.grid.specs.Masks.{has_bit, word_count}
-use Rattle.grid.specs.Squares.{Squares, contains, is_rising}
+use Rattle.grid.specs.Squares.{Squares, contains}
+use Rattle.grid.specs.Rising.{is_rising}
 use Rattle.area.specs.Area.{Area}
 use Rattle.area.specs.Groups.{HangsWith, itself, onto}
 use Rattle.area.specs.Words.{passing_from, word_bit}

@@ -31,7 +31,3 @@ repeats (b ∷ bs) = decimal (b ∷ bs)
 -- a count or no digit at all, after which something is meant n times
 abbrev pub Means : List ℕ → ℕ → Type 0
 Means digits n = ((digits ≡ []) ⊎ IsCount digits) × (n ≡ repeats digits)
-
--- some digits that are no count
-abbrev pub IsNoCount : List ℕ → Type 0
-IsNoCount digits = (1 ≤ length digits) × ¬ (IsCount digits)

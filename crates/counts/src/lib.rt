@@ -5,7 +5,8 @@
 ghost use Rattle.std.specs.Prelude.{◌≡◌, ◌≤◌, length, IfSome, IfNone};
 ghost use Rattle.std.specs.Char.{is_ascii_digit};
 ghost use Rattle.std.specs.List.{prefix_len};
-ghost use Rattle.counts.specs.Counts.{AreDigits, IsNoCount, Means, decimal};
+ghost use Rattle.counts.specs.Counts.{AreDigits, Means, decimal};
+ghost use Rattle.counts.specs.NoCount.{IsNoCount};
 
 /// The greatest number of digits of a count.
 pub const MAX_DIGITS: usize = 4;

@@ -1,4 +1,5 @@
 pub mod Bounds
+pub mod Sums
 pub mod Deadlocks
 pub mod Lost
 pub mod Loose

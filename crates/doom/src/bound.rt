@@ -1,6 +1,7 @@
 ghost use Rattle.std.specs.Prelude.{◌≡◌, ◌≤◌, IfNone, IfOk, IfSome, MatchOption, length};
 ghost use Rattle.grid.specs.States.{FitsLevel};
-ghost use Rattle.doom.specs.Bounds.{HaveDead, IsFar, IsLower, LessenByOne, NeedAtLeast};
+ghost use Rattle.doom.specs.Bounds.{IsFar, IsLower};
+ghost use Rattle.doom.specs.Sums.{HaveDead, LessenByOne, NeedAtLeast};
 ghost use Rattle.doom.specs.Deadlocks.{IsDead};
 ghost use Rattle.doom.specs.Lost.{AreLost};
 ghost use Rattle.doom.specs.inside.Pulling.{far_at};

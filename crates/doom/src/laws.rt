@@ -1,6 +1,6 @@
 //! Laws of deadlocks that callers may rely on. Each is the contract of a function that does nothing.
 ghost use Rattle.grid.specs.Squares.{Squares};
-ghost use Rattle.doom.specs.Bounds.{HaveOneSum, PushLessensByOne, SolvedNeedNone};
+ghost use Rattle.doom.specs.Sums.{HaveOneSum, PushLessensByOne, SolvedNeedNone};
 ghost use Rattle.doom.specs.Deadlocks.{Doomed};
 ghost use Rattle.doom.specs.Lost.{AreLost, SolvesSafely};
 ghost use Rattle.doom.specs.Loose.{LooseDoomsNothing};

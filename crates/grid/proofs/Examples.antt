@@ -5,7 +5,8 @@ use Rattle.grid.specs.declared.dir.Dir.TheVariants.{D, L, R, U}
 use Rattle.grid.specs.declared.fault.LevelFault.TheVariants.{NoPlayer, TwoPlayers, NoBox, Counts}
 use Rattle.grid.specs.Board.{Board, Pushes, is_wall, is_goal, next, start}
 use Rattle.grid.specs.Lawful.{cell_fault}
-use Rattle.grid.specs.Squares.{insert, is_rising, remove}
+use Rattle.grid.specs.Squares.{insert, remove}
+use Rattle.grid.specs.Rising.{is_rising}
 use Rattle.grid.specs.Marks.{marked}
 
 -- one push solves this level:

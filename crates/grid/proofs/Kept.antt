@@ -2,8 +2,10 @@
 use Rattle.std.proofs.Common.{◌≡◌, ℕ, ◌+◌, ◌<◌, ◌≤◌, Bool, true, false, eqb, List, [], ◌∷◌, ◌++◌, length, get_or, set, map, take, ◌⊎◌, inl, inr, refl, sym, ap, ◌∙◌, append-nil, arith}
 use Rattle.std.proofs.lemmas.List.{get_or_past, length-append}
 use Rattle.std.proofs.lemmas.List.Folds.{list_any-append}
-use Rattle.grid.specs.Board.{Board, box_cell, start_boxes}
-use Rattle.grid.specs.Squares.{Squares, is_rising, contains, insert, remove}
+use Rattle.grid.specs.Board.{Board, box_cell}
+use Rattle.grid.specs.States.{start_boxes}
+use Rattle.grid.specs.Squares.{Squares, contains, insert, remove}
+use Rattle.grid.specs.Rising.{is_rising}
 use Rattle.grid.specs.Marks.{marked}
 use Rattle.grid.proofs.lemmas.Squares.{is_rising-insert, is_rising-remove, length-moved, length-le_bound}
 use Rattle.grid.proofs.lemmas.Places.{places_more_yes, places_more_no, places_room}

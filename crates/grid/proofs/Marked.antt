@@ -3,7 +3,8 @@ use Rattle.std.proofs.Common.{◌≡◌, ℕ, zero, suc, ◌+◌, ◌<◌, ◌�
 use Rattle.std.proofs.lemmas.Bool.{eqb-true, ne_eqb, cases_eq, cases_lt, false≢true}
 use Rattle.std.proofs.lemmas.List.{get_or_past, get_or-set_same, get_or-set_other, length-set}
 use Rattle.std.proofs.lemmas.List.Recursion.{is_count_by}
-use Rattle.grid.specs.Squares.{Squares, rises_from, is_rising, contains, remove, insert, places_from, first_or_0}
+use Rattle.grid.specs.Squares.{Squares, contains, remove, insert, places_from, first_or_0}
+use Rattle.grid.specs.Rising.{rises_from, is_rising}
 use Rattle.grid.specs.Marks.{marked}
 use Rattle.grid.proofs.lemmas.Squares.{contains-below, contains-insert_here, contains-insert_other, contains-remove_here, contains-remove_other, contains_head, is_rising-insert, is_rising-remove, rises_from-cons, rises_from-weaker, same_set}
 

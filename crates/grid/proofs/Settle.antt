@@ -4,7 +4,8 @@ use Rattle.std.specs.List.{prefix_len, insert as insert_at, remove as remove_at}
 use Rattle.std.proofs.lemmas.Bool.{lt-ltb, le-ltb, cases_eq, true≢false}
 use Rattle.std.proofs.lemmas.List.Edits.{get_or-remove_below, get_or-remove_above, length-remove}
 use Rattle.std.proofs.lemmas.List.Sums.{prefix_len_is}
-use Rattle.grid.specs.Squares.{is_rising, contains, insert}
+use Rattle.grid.specs.Squares.{contains, insert}
+use Rattle.grid.specs.Rising.{is_rising}
 use Rattle.grid.proofs.lemmas.Squares.{rising_places, contains-get_or}
 use Rattle.grid.proofs.lemmas.Places.{insert_place}
 

@@ -5,7 +5,7 @@ use Rattle.std.specs.Ordering.{nat_cmp, ordering_then}
 use Rattle.grid.specs.declared.dir.Dir.{Dir}
 use Rattle.grid.specs.declared.dir.Dir.TheVariants.{D, L, R, U}
 use Rattle.grid.specs.declared.cell.Cell.{Cell}
-use Rattle.grid.specs.declared.cell.Cell.TheVariants.{Wall, Floor, Goal, Box, BoxOnGoal, Player, PlayerOnGoal}
+use Rattle.grid.specs.declared.cell.Cell.TheVariants.{Wall, Goal, Box, BoxOnGoal, Player, PlayerOnGoal}
 use Rattle.grid.specs.declared.square.Push.{Push}
 use Rattle.grid.specs.Squares.{Squares, contains, insert, remove, places_from, first_or_0}
 
@@ -18,42 +18,26 @@ pub record Board : Type 0 where
 -- the cell is a wall
 abbrev pub wall_cell : Cell → Bool
 wall_cell Wall = true
-wall_cell Floor = false
-wall_cell Goal = false
-wall_cell Box = false
-wall_cell BoxOnGoal = false
-wall_cell Player = false
-wall_cell PlayerOnGoal = false
+wall_cell cell = false
 
 -- the cell has a goal
 abbrev pub goal_cell : Cell → Bool
-goal_cell Wall = false
-goal_cell Floor = false
 goal_cell Goal = true
-goal_cell Box = false
 goal_cell BoxOnGoal = true
-goal_cell Player = false
 goal_cell PlayerOnGoal = true
+goal_cell cell = false
 
 -- the cell has a box at the start
 abbrev pub box_cell : Cell → Bool
-box_cell Wall = false
-box_cell Floor = false
-box_cell Goal = false
 box_cell Box = true
 box_cell BoxOnGoal = true
-box_cell Player = false
-box_cell PlayerOnGoal = false
+box_cell cell = false
 
 -- the cell has the player at the start
 abbrev pub player_cell : Cell → Bool
-player_cell Wall = false
-player_cell Floor = false
-player_cell Goal = false
-player_cell Box = false
-player_cell BoxOnGoal = false
 player_cell Player = true
 player_cell PlayerOnGoal = true
+player_cell cell = false
 
 -- the square is a wall; everything outside the grid is
 unfoldable pub is_wall : Board → ℕ → Bool
@@ -88,17 +72,13 @@ pub record Scene : Type 0 where
   pub boxes : Squares
   pub player : ℕ
 
--- the squares of the first boxes
-abbrev pub start_boxes : Board → Squares
-start_boxes board = places_from box_cell 0 board.cells
-
 -- the player's first square
 abbrev pub start_player : Board → ℕ
 start_player board = first_or_0 (places_from player_cell 0 board.cells)
 
--- the state in which a level begins
+-- the state in which a level begins: a box on each square whose cell has one
 unfoldable pub start : Board → Scene
-start board = record { boxes = start_boxes board; player = start_player board }
+start board = record { boxes = places_from box_cell 0 board.cells; player = start_player board }
 
 -- the square is neither a wall nor a box's
 abbrev pub IsFree : Board → Squares → ℕ → Type 0
@@ -125,7 +105,3 @@ dir_cmp d e = nat_cmp (dir_number d) (dir_number e)
 -- pushes are ordered by the square that the box left, then by direction
 abbrev pub push_cmp : Push → Push → Ordering
 push_cmp p q = ordering_then (nat_cmp p.square q.square) (dir_cmp p.dir q.dir)
-
--- a box stands on the square at the start
-unfoldable pub has_box : Board → ℕ → Bool
-has_box board q = box_cell (slice_index_or board.cells q Wall)

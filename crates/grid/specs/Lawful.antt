@@ -1,6 +1,5 @@
 -- When cells make a lawful level, and which fault is the first.
 use Rattle.std.specs.Prelude.{◌≡◌, ℕ, ◌/◌, ◌%◌, ◌≤◌, false, cond, ◌==◌, nat_lt, length, count_by, Option, None, Some, ◌⊎◌}
-use Rattle.std.specs.Option.{option_or}
 use Rattle.grid.specs.declared.fault.LevelFault.{LevelFault}
 use Rattle.grid.specs.declared.fault.LevelFault.TheVariants.{TooTall, TooWide, NoPlayer, TwoPlayers, NoBox, Counts, Open}
 use Rattle.grid.specs.declared.limits.TheConstants.{MAX_ROWS, MAX_COLS}
@@ -19,19 +18,6 @@ goal_count board = count_by goal_cell board.cells
 abbrev pub player_count : Board → ℕ
 player_count board = count_by player_cell board.cells
 
--- what is wrong with the size of a board
-abbrev pub size_fault : ℕ → ℕ → Option LevelFault
-size_fault rows cols =
-    cond (nat_lt MAX_ROWS rows) (Some TooTall) (cond (nat_lt MAX_COLS cols) (Some TooWide) None)
-
--- what is wrong with the number of players, boxes and goals
-abbrev pub count_fault : Board → Option LevelFault
-count_fault board =
-    cond (player_count board == 0) (Some NoPlayer)
-    (cond (nat_lt 1 (player_count board)) (Some TwoPlayers)
-    (cond (box_count board == 0) (Some NoBox)
-    (cond (box_count board == goal_count board) None (Some (Counts (box_count board) (goal_count board))))))
-
 -- the player's room: what four-way steps over squares that are no wall reach from the player, boxes ignored
 pub data InRoom (board : Board) : ℕ → Type 0 where
   here : InRoom board (start_player board)
@@ -41,9 +27,16 @@ pub data InRoom (board : Board) : ℕ → Type 0 where
 abbrev pub IsOpen : Board → Type 0
 IsOpen board = (q : ℕ) × (d : Dir) × InRoom board q × (next board q d ≡ length board.cells)
 
--- the faults that looking at the cells alone finds, in the order of their numbers
+-- the first fault that looking at the cells alone finds, in the order of their numbers: what is wrong with the size of the
+-- board, and then with the numbers of players, boxes and goals
 abbrev pub cell_fault : Board → Option LevelFault
-cell_fault board = option_or (size_fault (row_count board) board.cols) (count_fault board)
+cell_fault board =
+    cond (nat_lt MAX_ROWS (row_count board)) (Some TooTall)
+    (cond (nat_lt MAX_COLS board.cols) (Some TooWide)
+    (cond (player_count board == 0) (Some NoPlayer)
+    (cond (nat_lt 1 (player_count board)) (Some TwoPlayers)
+    (cond (box_count board == 0) (Some NoBox)
+    (cond (box_count board == goal_count board) None (Some (Counts (box_count board) (goal_count board))))))))
 
 -- f is the first fault of the board, in the order of their numbers
 abbrev pub HasFault : Board → LevelFault → Type 0

@@ -1,4 +1,5 @@
 pub mod Squares
+pub mod Rising
 pub mod Marks
 pub mod Board
 pub mod States

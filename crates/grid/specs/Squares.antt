@@ -1,19 +1,10 @@
 -- Sets of squares.
-use Rattle.std.specs.Prelude.{ℕ, suc, Bool, true, cond, ◌==◌, ◌&&◌, nat_lt, nat_le, List, [], ◌∷◌}
+use Rattle.std.specs.Prelude.{ℕ, suc, Bool, cond, ◌==◌, nat_lt, List, [], ◌∷◌}
 use Rattle.std.specs.List.{list_any}
 
 -- a set of squares is the rising list of their numbers, so that equal sets are equal lists
 abbrev pub Squares : Type 0
 Squares = List ℕ
-
--- each number is at least k and less than those after it
-abbrev pub rises_from : ℕ → List ℕ → Bool
-rises_from k [] = true
-rises_from k (x ∷ xs) = nat_le k x && rises_from (suc x) xs
-
--- each number is less than those after it
-abbrev pub is_rising : List ℕ → Bool
-is_rising xs = rises_from 0 xs
 
 -- the square is in the set
 abbrev pub contains : Squares → ℕ → Bool

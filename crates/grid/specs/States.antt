@@ -1,11 +1,21 @@
 -- The states of a level, the positions that may be played on it, and what a step answers.
-use Rattle.std.specs.Prelude.{◌≡◌, ℕ, true, false, length}
+use Rattle.std.specs.Prelude.{◌≡◌, ℕ, Bool, true, false, length, slice_index_or}
+use Rattle.grid.specs.declared.cell.Cell.TheVariants.{Wall}
 use Rattle.grid.specs.declared.dir.Dir.{Dir}
 use Rattle.grid.specs.declared.state.Step.{Step}
 use Rattle.grid.specs.declared.state.Step.TheVariants.{Blocked, Walked, Pushed}
-use Rattle.grid.specs.Squares.{is_rising, contains}
-use Rattle.grid.specs.Board.{Board, IsFree, Pushes, Scene, Walks, is_wall}
+use Rattle.grid.specs.Squares.{Squares, contains, places_from}
+use Rattle.grid.specs.Rising.{is_rising}
+use Rattle.grid.specs.Board.{Board, IsFree, Pushes, Scene, Walks, box_cell, is_wall}
 use Rattle.grid.specs.Lawful.{box_count}
+
+-- a box stands on the square at the start
+unfoldable pub has_box : Board → ℕ → Bool
+has_box board q = box_cell (slice_index_or board.cells q Wall)
+
+-- the squares of the first boxes
+abbrev pub start_boxes : Board → Squares
+start_boxes board = places_from box_cell 0 board.cells
 
 -- a state of the level: boxes and player stand on no wall, the player on no box
 pub record IsScene (board : Board) (s : Scene) : Type 0 where

@@ -4,4 +4,5 @@ pub mod AroundView
 pub mod BoardView
 pub mod LevelView
 pub mod BoxesView
+pub mod Counting
 pub mod MaskWords

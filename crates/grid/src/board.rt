@@ -1,5 +1,6 @@
 ghost use Rattle.std.specs.Prelude.{◌≡◌, ◌%◌, ◌≤◌, ◌⊎◌, ◌↔◌, IsTrue, IfOk, IfErr, length};
-ghost use Rattle.grid.specs.Board.{is_wall, is_goal, has_box, start_player};
+ghost use Rattle.grid.specs.Board.{is_wall, is_goal, start_player};
+ghost use Rattle.grid.specs.States.{has_box};
 ghost use Rattle.grid.specs.Lawful.{row_count, box_count, HasFault, InRoom, IsLevel};
 
 use crate::cell::Cell;
@@ -116,7 +117,7 @@ impl Board {
     }
 
     /// Whether a box stands on the square at the start.
-    #[tactic(auto, unfolding(crate::specs::Board::has_box))]
+    #[tactic(auto, unfolding(crate::specs::States::has_box))]
     pub(crate) fn has_box(&self, square: Square) -> bool
         ensures { result ≡ has_box self.now square }
     {

@@ -1,5 +1,6 @@
 ghost use Rattle.std.specs.Prelude.{◌≡◌, ◌≤◌, ◌⊎◌, ◌++◌, [], IfOk, false, true, length, map, vec_capacity};
-ghost use Rattle.grid.specs.Board.{box_cell, start_boxes};
+ghost use Rattle.grid.specs.Board.{box_cell};
+ghost use Rattle.grid.specs.States.{start_boxes};
 ghost use Rattle.grid.specs.Marks.{marked};
 ghost use Rattle.grid.specs.Squares.{contains, insert, remove};
 

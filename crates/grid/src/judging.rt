@@ -1,7 +1,8 @@
 //! What is wrong with the cells of a board: its size, and the numbers of players, boxes and goals.
 ghost use Rattle.std.specs.Prelude.{◌≡◌, ℕ, ◌%◌, ◌≤◌, length, count_by};
 ghost use Rattle.grid.specs.Board.{box_cell, goal_cell, player_cell, start_player};
-ghost use Rattle.grid.specs.Lawful.{cell_fault, count_fault};
+ghost use Rattle.grid.specs.Lawful.{cell_fault};
+ghost use Rattle.grid.specs.inside.Counting.{count_fault};
 
 use crate::cell::Cell;
 use crate::fault::LevelFault;

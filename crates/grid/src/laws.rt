@@ -1,6 +1,7 @@
 //! Laws of the game that callers may rely on. Each is the contract of a function that does nothing.
 ghost use Rattle.std.specs.Prelude.{◌≡◌, ℕ, ◌≤◌, Bool, true, List, [], ◌∷◌, length, ◌⊎◌};
-ghost use Rattle.grid.specs.Squares.{Squares, is_rising, contains};
+ghost use Rattle.grid.specs.Squares.{Squares, contains};
+ghost use Rattle.grid.specs.Rising.{is_rising};
 ghost use Rattle.grid.specs.Board.{Board, Scene, Walks, start, opposite, dir_cmp, push_cmp};
 ghost use Rattle.grid.specs.States.{IsScene, Steps};
 ghost use Rattle.grid.specs.Laws.{HasAsManyBoxes, scene_cmp};

@@ -1,7 +1,7 @@
 ghost use Rattle.std.specs.Prelude.{◌≡◌, ◌%◌, ◌<◌, ◌≤◌, ◌⊎◌, ◌↔◌, IsTrue, IfOk, IfErr, length, if◌then◌else◌};
-ghost use Rattle.grid.specs.Board.{is_wall, is_goal, has_box, next, start, start_player};
+ghost use Rattle.grid.specs.Board.{is_wall, is_goal, next, start, start_player};
 ghost use Rattle.grid.specs.Lawful.{row_count, box_count, HasFault, InRoom, IsLevel};
-ghost use Rattle.grid.specs.States.{FitsLevel};
+ghost use Rattle.grid.specs.States.{FitsLevel, has_box};
 ghost use Rattle.grid.specs.inside.AroundView.{around_of, ways_of};
 ghost use Rattle.grid.specs.Masks.{AreMasks};
 

@@ -1,9 +1,10 @@
 ghost use Rattle.std.specs.Prelude.{⊤, ◌≡◌, ℕ, ◌+◌, ◌-◌, ◌<◌, ◌≤◌, ◌↔◌, IsTrue, true, false, IfSome, IsSome, length, slice_index, nat_lt};
 ghost use Rattle.std.specs.List.{prefix_len, list_any, remove as remove_at};
-ghost use Rattle.grid.specs.Board.{Board, Scene, is_wall, start, start_boxes};
+ghost use Rattle.grid.specs.Board.{Board, Scene, is_wall, start};
 ghost use Rattle.grid.specs.Lawful.{box_count};
-ghost use Rattle.grid.specs.States.{FitsLevel};
-ghost use Rattle.grid.specs.Squares.{is_rising, contains, insert, remove};
+ghost use Rattle.grid.specs.States.{FitsLevel, start_boxes};
+ghost use Rattle.grid.specs.Squares.{contains, insert, remove};
+ghost use Rattle.grid.specs.Rising.{is_rising};
 
 use crate::level::Level;
 use crate::limits::{MAX_BOXES, MAX_SQUARES};
@@ -22,7 +23,7 @@ pub struct Position {
 impl Model for Position {
     ghost use Rattle.std.specs.Prelude.{◌≡◌, true, length};
     ghost use Rattle.grid.specs.Board.{Scene};
-    ghost use Rattle.grid.specs.Squares.{is_rising};
+    ghost use Rattle.grid.specs.Rising.{is_rising};
 
     ghost Value = { Scene };
 

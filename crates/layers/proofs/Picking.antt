@@ -10,7 +10,8 @@ use Rattle.grid.specs.Squares.{Squares, contains}
 use Rattle.grid.specs.Board.{Board, Scene}
 use Rattle.grid.specs.States.{FitsLevel}
 use Rattle.doom.specs.Deadlocks.{Live, IsDead}
-use Rattle.doom.specs.Bounds.{IsLower, HaveDead}
+use Rattle.doom.specs.Bounds.{IsLower}
+use Rattle.doom.specs.Sums.{HaveDead}
 use Rattle.doom.proofs.lemmas.Bounds.{lower_once}
 use Rattle.layers.specs.declared.parcel.Successor.{Successor}
 use Rattle.layers.specs.Layered.{IsIn}

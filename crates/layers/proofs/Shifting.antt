@@ -2,7 +2,8 @@
 use Rattle.std.proofs.Common.{◌≡◌, ℕ, suc, ◌+◌, Bool, true, false, cond, eqb, ltb, ◌||◌, List, [], ◌∷◌, sum, refl, ap, arith}
 use Rattle.std.proofs.lemmas.Bool.{eqb-true, true≢false, false≢true}
 use Rattle.grid.specs.declared.square.Push.{Push}
-use Rattle.grid.specs.Squares.{Squares, rises_from, is_rising, contains, insert, remove}
+use Rattle.grid.specs.Squares.{Squares, contains, insert, remove}
+use Rattle.grid.specs.Rising.{rises_from, is_rising}
 use Rattle.grid.specs.Board.{Board, Scene, next}
 use Rattle.grid.specs.States.{IsScene}
 use Rattle.grid.proofs.lemmas.Squares.{contains-below, contains-remove_out, rises_from-parts, remove_out}

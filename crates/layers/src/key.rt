@@ -18,7 +18,7 @@ pub(crate) struct Key<const N: usize> {
 impl<const N: usize> Model for Key<N> {
     ghost use Rattle.std.specs.Prelude.{◌≡◌, ◌≤◌, true};
     ghost use Rattle.grid.specs.Board.{Scene};
-    ghost use Rattle.grid.specs.Squares.{is_rising};
+    ghost use Rattle.grid.specs.Rising.{is_rising};
     ghost use Rattle.grid.specs.declared.limits.TheConstants.{MAX_BOXES};
 
     ghost Value = { Scene };

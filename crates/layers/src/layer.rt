@@ -1,6 +1,6 @@
 ghost use Rattle.std.specs.Prelude.{◌≡◌, ◌+◌, ◌*◌, ◌<◌, ◌≤◌, ◌==◌, true, take, drop, length, slice_get, slice_index_or, Some};
 ghost use Rattle.grid.specs.Board.{Scene};
-ghost use Rattle.grid.specs.Squares.{is_rising};
+ghost use Rattle.grid.specs.Rising.{is_rising};
 ghost use Rattle.grid.specs.States.{FitsLevel};
 ghost use Rattle.doom.specs.Deadlocks.{Undoomed};
 ghost use Rattle.layers.specs.LayerView.{IsWhole};

@@ -22,7 +22,7 @@ bad_byte (b ∷ bs) some blank none letter = record {
   byte = b;
   more = bs;
   cut = refl;
-  no_letter = λ (x, is). letter (x, bs, ap (λ y. y ∷ bs) (sym is));
+  no_letter = λ x is. letter (x, bs, ap (λ y. y ∷ bs) (sym is));
   no_digit = no_digit_by (digit_count bs) (is_ascii_digit b) none;
   no_blank = blank;
 }

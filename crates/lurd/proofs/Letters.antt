@@ -11,17 +11,18 @@ use Rattle.grid.specs.declared.moves.Letter.{Letter}
 use Rattle.lurd.specs.declared.fault.LurdFault.{LurdFault}
 use Rattle.lurd.specs.declared.fault.LurdFault.TheVariants.{BadByte, BadCount, TooManyMoves, OutOfMemory}
 use Rattle.lurd.specs.declared.limits.TheConstants.{MAX_MOVES}
-use Rattle.counts.specs.Counts.{AreDigits, IsCount, IsNoCount, begins_with_digit, repeats}
+use Rattle.counts.specs.Counts.{AreDigits, IsCount, begins_with_digit, repeats}
+use Rattle.counts.specs.NoCount.{IsNoCount}
 use Rattle.counts.proofs.lemmas.Digits.{digit_count, digits_in_front, SameRun, one_run, digits_of_count, count_or_not}
 use Rattle.lurd.specs.ExactlyOne.{ExactlyOne}
-use Rattle.lurd.specs.inside.Item.{TakesItem}
-use Rattle.lurd.specs.Text.{byte_by_case, byte_of, is_blank, Piece, blank, item, spelling, meaning, IsPiece, IsText, IsLetterByte, BeginsWithLetter, BeginsBadly, BeginsWithBadCount, BeginsWithTooMany, FaultsAt}
+use Rattle.lurd.specs.inside.Item.{TakesItem, IsLetterByte}
+use Rattle.lurd.specs.Text.{byte_of, is_blank, Piece, blank, item, spelling, meaning, IsPiece, IsText, BeginsWithLetter, BeginsBadly, BeginsWithBadCount, BeginsWithTooMany, FaultsAt}
 use Rattle.lurd.specs.Parsing.{Reads}
 use Rattle.lurd.proofs.Items.{bad_byte, bad_count, too_many, takes_item}
 use Rattle.lurd.proofs.Leading.{letter_by}
 use Rattle.lurd.proofs.Texts.{text_of_nothing, text_and_piece}
 
-no_digit_by : (d : Dir) (b : Bool) → is_ascii_digit (byte_by_case b d) ≡ false
+no_digit_by : (d : Dir) (b : Bool) → is_ascii_digit (byte_of (letter_by d b)) ≡ false
 no_digit_by D true = refl
 no_digit_by L true = refl
 no_digit_by R true = refl
@@ -35,7 +36,7 @@ no_digit_by U false = refl
 pub letter_no_digit : (x : Letter) → is_ascii_digit (byte_of x) ≡ false
 letter_no_digit x = no_digit_by x.dir x.push
 
-no_blank_by : (d : Dir) (b : Bool) → is_blank (byte_by_case b d) ≡ false
+no_blank_by : (d : Dir) (b : Bool) → is_blank (byte_of (letter_by d b)) ≡ false
 no_blank_by D true = refl
 no_blank_by L true = refl
 no_blank_by R true = refl
@@ -61,7 +62,7 @@ abbrev find_letter : ℕ → List Letter → Option Letter
 find_letter b [] = None
 find_letter b (x ∷ xs) = cond (eqb (byte_of x) b) (Some x) (find_letter b xs)
 
-found_by : (d : Dir) (b : Bool) → find_letter (byte_by_case b d) letters_all ≡ Some (letter_by d b)
+found_by : (d : Dir) (b : Bool) → find_letter (byte_of (letter_by d b)) letters_all ≡ Some (letter_by d b)
 found_by D true = refl
 found_by L true = refl
 found_by R true = refl

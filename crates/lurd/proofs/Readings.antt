@@ -11,11 +11,12 @@ use Rattle.grid.specs.declared.moves.Letter.{Letter}
 use Rattle.lurd.specs.declared.fault.LurdFault.{LurdFault}
 use Rattle.lurd.specs.declared.fault.LurdFault.TheVariants.{BadByte, BadCount, TooManyMoves, OutOfMemory}
 use Rattle.lurd.specs.declared.limits.TheConstants.{MAX_MOVES}
-use Rattle.counts.specs.Counts.{AreDigits, IsCount, IsNoCount, begins_with_digit, repeats}
+use Rattle.counts.specs.Counts.{AreDigits, IsCount, begins_with_digit, repeats}
+use Rattle.counts.specs.NoCount.{IsNoCount}
 use Rattle.counts.proofs.lemmas.Digits.{digit_count, digits_in_front, SameRun, one_run, digits_of_count, count_or_not}
 use Rattle.lurd.specs.ExactlyOne.{ExactlyOne}
-use Rattle.lurd.specs.inside.Item.{TakesItem}
-use Rattle.lurd.specs.Text.{byte_by_case, byte_of, is_blank, Piece, blank, item, spelling, meaning, IsPiece, IsText, IsLetterByte, BeginsWithLetter, BeginsBadly, BeginsWithBadCount, BeginsWithTooMany, FaultsAt}
+use Rattle.lurd.specs.inside.Item.{TakesItem, IsLetterByte}
+use Rattle.lurd.specs.Text.{byte_of, is_blank, Piece, blank, item, spelling, meaning, IsPiece, IsText, BeginsWithLetter, BeginsBadly, BeginsWithBadCount, BeginsWithTooMany, FaultsAt}
 use Rattle.lurd.specs.Parsing.{Reads}
 use Rattle.lurd.proofs.Items.{bad_byte, bad_count, too_many, takes_item}
 use Rattle.lurd.proofs.Letters.{letter_no_digit, letter_no_blank, blank_no_digit, one_letter, letter_or_not}
@@ -68,7 +69,7 @@ bad_or_piece (blank b) bytes m bad is same =
 bad_or_piece (item [] x) bytes m bad is same =
     let cut = bad.cut in
     let head : byte_of x ≡ bad.byte = cc in
-    bad.no_letter (x, head)
+    bad.no_letter x head
 bad_or_piece (item (d ∷ ds) x) bytes m bad is same =
     let cut = bad.cut in
     let head : d ≡ bad.byte = cc in

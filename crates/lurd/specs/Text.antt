@@ -1,5 +1,5 @@
 -- LURD text: which bytes are a text, which letters it stands for, and which fault is the first.
-use Rattle.std.specs.Prelude.{◌≡◌, ℕ, ◌+◌, ◌<◌, ◌≤◌, Bool, true, false, ◌||◌, ◌==◌, ◌⊎◌, List, [], ◌∷◌, ◌++◌, length, replicate, map}
+use Rattle.std.specs.Prelude.{◌≡◌, ℕ, ◌+◌, ◌-◌, ◌<◌, ◌≤◌, Bool, true, false, if◌then◌else◌, ◌||◌, ◌==◌, ◌⊎◌, List, [], ◌∷◌, ◌++◌, length, replicate, map}
 use Rattle.std.specs.Char.{is_ascii_digit}
 use Rattle.std.specs.List.{AllByRecursion, flat_map}
 use Rattle.counts.specs.Counts.{AreDigits, IsCount, begins_with_digit, repeats}
@@ -17,21 +17,9 @@ lower_byte L = 108
 lower_byte R = 114
 lower_byte U = 117
 
--- the byte of a letter in upper case: D, L, R or U
-abbrev pub upper_byte : Dir → ℕ
-upper_byte D = 68
-upper_byte L = 76
-upper_byte R = 82
-upper_byte U = 85
-
--- a step that pushes is written in upper case, any other in lower case
-abbrev pub byte_by_case : Bool → Dir → ℕ
-byte_by_case true dir = upper_byte dir
-byte_by_case false dir = lower_byte dir
-
--- the byte that writes a letter
+-- the byte that writes a letter: a step that pushes is written in upper case, whose bytes are 32 less, any other in lower case
 abbrev pub byte_of : Letter → ℕ
-byte_of letter = byte_by_case letter.push letter.dir
+byte_of letter = if letter.push then lower_byte letter.dir - 32 else lower_byte letter.dir
 
 -- the bytes that write letters: one each, without counts or blanks
 abbrev pub bytes_of : List Letter → List ℕ
@@ -69,10 +57,6 @@ pub record IsText (bytes : List ℕ) (letters : List Letter) : Type 0 where
   pub meant : letters ≡ flat_map meaning pieces
   pub few : length letters ≤ MAX_MOVES
 
--- the byte writes a letter
-abbrev pub IsLetterByte : ℕ → Type 0
-IsLetterByte b = (letter : Letter) × (byte_of letter ≡ b)
-
 -- the bytes begin with a letter
 abbrev pub BeginsWithLetter : List ℕ → Type 0
 BeginsWithLetter bytes = (letter : Letter) × (more : List ℕ) × (bytes ≡ byte_of letter ∷ more)
@@ -82,7 +66,7 @@ pub record BeginsBadly (bytes : List ℕ) : Type 0 where
   pub byte : ℕ
   pub more : List ℕ
   pub cut : bytes ≡ byte ∷ more
-  pub no_letter : ¬ (IsLetterByte byte)
+  pub no_letter : (letter : Letter) → ¬ (byte_of letter ≡ byte)
   pub no_digit : is_ascii_digit byte ≡ false
   pub no_blank : is_blank byte ≡ false
 

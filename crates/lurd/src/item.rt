@@ -1,6 +1,6 @@
 ghost use Rattle.std.specs.Prelude.{◌≡◌, ℕ, ◌<◌, ◌≤◌, ◌∷◌, IfOk, IfErr, IfSome, IfNone, false, length, slice_index, List};
-ghost use Rattle.lurd.specs.inside.Item.{TakesItem};
-ghost use Rattle.lurd.specs.Text.{IsLetterByte, BeginsWithLetter, FaultsAt, byte_of, is_blank};
+ghost use Rattle.lurd.specs.inside.Item.{TakesItem, IsLetterByte};
+ghost use Rattle.lurd.specs.Text.{BeginsWithLetter, FaultsAt, byte_of, is_blank};
 
 use crate::fault::LurdFault;
 use crate::limits::MAX_MOVES;

@@ -6,7 +6,8 @@ use Rattle.std.proofs.Math.Nat.{mul-le-mul_right}
 use Rattle.xsb.proofs.GapsAndBoards.{drop-zero}
 use Rattle.grid.specs.declared.cell.Cell.{Cell}
 use Rattle.grid.specs.declared.cell.Cell.TheVariants.{Wall, Floor, Goal, Box, BoxOnGoal, Player, PlayerOnGoal}
-use Rattle.grid.specs.Board.{Board, wall_cell, box_cell, goal_cell, player_cell, is_wall, is_goal, has_box, start_player}
+use Rattle.grid.specs.Board.{Board, wall_cell, box_cell, goal_cell, player_cell, is_wall, is_goal, start_player}
+use Rattle.grid.specs.States.{has_box}
 use Rattle.grid.specs.Lawful.{IsLevel, row_count, player_count}
 use Rattle.grid.proofs.lemmas.Levels.{counts_of, player_at_start, start_player_is}
 use Rattle.xsb.specs.Boards.{before_rest, cut_end, cut_row, is_floor}

@@ -4,10 +4,13 @@ use Rattle.std.specs.Char.{is_ascii_digit}
 use Rattle.std.specs.List.{prefix_len}
 use Rattle.std.proofs.lemmas.Bool.Decides.{nat_tests}
 use Rattle.grid.specs.declared.cell.Cell.{Cell}
-use Rattle.counts.specs.Counts.{AreDigits, begins_with_digit, Means, IsNoCount}
+use Rattle.counts.specs.Counts.{AreDigits, begins_with_digit, Means}
+use Rattle.counts.specs.NoCount.{IsNoCount}
 use Rattle.counts.proofs.lemmas.Digits.{digits_in_front, no_digit_behind, one_run, digits_of_count, means_or_not}
-use Rattle.xsb.specs.Rows.{IsItem, counted, cell_of}
+use Rattle.xsb.specs.Rows.{IsItem, counted}
+use Rattle.xsb.specs.inside.Bytes.{cell_of}
 use Rattle.xsb.specs.inside.Reading.{HasNoItem, BeginsWithItem}
+use Rattle.xsb.proofs.CellBytes.{cell_that_stands, stands_by_cell}
 
 -- a digit is no cell byte
 pub cell_of-digit : (b : ℕ) → is_ascii_digit b ≡ true → cell_of b ≡ None
@@ -44,15 +47,15 @@ shape-item (counted digits n b c means e) = record {
   cell = c;
   whole = refl;
   decimal = digits_of_count digits means.0;
-  other = cell-is_no_digit b c _ refl e;
+  other = cell-is_no_digit b c _ refl (cell_that_stands b c e);
   counts = means;
-  cell_is = e;
+  cell_is = cell_that_stands b c e;
   cells_are = refl;
 }
 
 pub begins-with_item : (piece digits rest : List ℕ) (b n : ℕ) (c : Cell) → piece ≡ digits ++ b ∷ rest → Means digits n → cell_of b ≡ Some c → BeginsWithItem piece (record { count = n; cell = c }) rest
 begins-with_item piece digits rest b n c e counts cell =
-    (digits ++ b ∷ [], counted digits n b c counts cell, e ∙ sym (append_assoc digits (b ∷ []) rest))
+    (digits ++ b ∷ [], counted digits n b c counts (stands_by_cell b c cell), e ∙ sym (append_assoc digits (b ∷ []) rest))
 
 -- where the bytes after the digits at its front don't end an item, a piece begins with none
 pub no-item : (piece digits rest : List ℕ) → piece ≡ digits ++ rest → AreDigits digits → begins_with_digit rest ≡ false → ((b n : ℕ) (more : List ℕ) (c : Cell) → rest ≡ b ∷ more → cell_of b ≡ Some c → Means digits n → ⊥) → HasNoItem piece

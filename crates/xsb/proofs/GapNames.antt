@@ -2,8 +2,8 @@
 use Rattle.std.proofs.Common.{◌≡◌, ℕ, List, [], ◌∷◌, ◌++◌, Option, Some, None, option_copied, unwrap_or, Bor, refl, sym, ap, ◌∙◌}
 use Rattle.std.specs.Option.{option_or}
 use Rattle.xsb.specs.declared.names.Gap.{Gap}
-use Rattle.xsb.specs.Names.{first_some, last_some, comment_of, title_of, trimmed, name_of}
-use Rattle.xsb.specs.inside.Gaps.{IsGap}
+use Rattle.xsb.specs.Names.{first_some, last_some, trimmed, name_of}
+use Rattle.xsb.specs.inside.Gaps.{IsGap, comment_of, title_of}
 
 or-none : {A : Type 0} (o : Option A) → option_or o None ≡ o
 or-none None = refl

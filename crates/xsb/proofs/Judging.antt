@@ -12,7 +12,8 @@ use Rattle.grid.specs.declared.fault.LevelFault.{LevelFault}
 use Rattle.grid.specs.declared.fault.LevelFault.TheVariants.{TooTall, TooWide, OutOfMemory}
 use Rattle.grid.specs.declared.limits.TheConstants.{MAX_ROWS, MAX_COLS}
 use Rattle.grid.specs.Board.{Board}
-use Rattle.grid.specs.Lawful.{HasFault, row_count, count_fault}
+use Rattle.grid.specs.Lawful.{HasFault, row_count}
+use Rattle.grid.specs.inside.Counting.{count_fault}
 use Rattle.xsb.specs.declared.boards.Stretch.{Stretch}
 use Rattle.xsb.specs.Boards.{board_of, cols_of, cut_row, padded}
 use Rattle.xsb.specs.Rows.{IsRowLine}
@@ -53,7 +54,7 @@ too-tall {stretch} rows has tall =
     let many = row_count-board_of rows (HasRows-cols has) in
     let long : MAX_ROWS < row_count (board_of rows) = omega arith in
     let test : nat_lt MAX_ROWS (row_count (board_of rows)) ≡ true = grind (arith, nat_tests) in
-    inl (ap (λ t. option_or (cond t (Some TooTall) (cond (nat_lt MAX_COLS (cols_of rows)) (Some TooWide) None)) (count_fault (board_of rows))) test)
+    inl (ap (λ t. cond t (Some TooTall) (cond (nat_lt MAX_COLS (cols_of rows)) (Some TooWide) (count_fault (board_of rows)))) test)
 
 pub too-wide : {stretch : Stretch} (rows : List (List Cell)) → HasRows stretch rows → stretch.size.rows ≤ MAX_ROWS → MAX_COLS < stretch.size.cols → HasFault (board_of rows) TooWide
 unfolding board_of
@@ -64,8 +65,8 @@ too-wide {stretch} rows has short wide =
     let test : nat_lt MAX_ROWS (row_count (board_of rows)) ≡ false = grind (arith, nat_tests) in
     let broad : MAX_COLS < cols_of rows = omega arith in
     let other : nat_lt MAX_COLS (cols_of rows) ≡ true = grind (arith, nat_tests) in
-    inl (ap (λ t. option_or (cond t (Some TooTall) (cond (nat_lt MAX_COLS (cols_of rows)) (Some TooWide) None)) (count_fault (board_of rows))) test
-    ∙ ap (λ t. option_or (cond t (Some TooWide) None) (count_fault (board_of rows))) other)
+    inl (ap (λ t. cond t (Some TooTall) (cond (nat_lt MAX_COLS (cols_of rows)) (Some TooWide) (count_fault (board_of rows)))) test
+    ∙ ap (λ t. cond t (Some TooWide) (count_fault (board_of rows))) other)
 
 -- the columns that were counted are those of the rows, where there are not too many
 pub cols-exact : {stretch : Stretch} (rows : List (List Cell)) → HasRows stretch rows → stretch.size.cols ≤ MAX_COLS → cols_of rows ≡ stretch.size.cols

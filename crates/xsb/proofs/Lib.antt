@@ -1,3 +1,4 @@
+pub mod CellBytes
 pub mod FirstItem
 pub mod CutEnds
 pub mod RowItems

@@ -4,7 +4,7 @@ use Rattle.std.specs.List.{slice_split, onto_first}
 use Rattle.std.proofs.lemmas.Simd.{map-map}
 use Rattle.bstr.specs.Text.{line_len, lines_of}
 use Rattle.bstr.proofs.lemmas.LineLemmas.{lines-nil, lines-step}
-use Rattle.xsb.specs.Bytes.{line_feed, carriage_return}
+use Rattle.xsb.specs.inside.Bytes.{line_feed, carriage_return}
 use Rattle.xsb.specs.Lines.{without_last, without_last_empty, without_mark, lines_of_text}
 use Rattle.xsb.specs.inside.Reading.{cut_lines}
 use Rattle.xsb.proofs.CutEnds.{take-zero}

@@ -11,14 +11,15 @@ use Rattle.grid.specs.declared.cell.Cell.{Cell}
 use Rattle.grid.specs.declared.cell.Cell.TheVariants.{Wall, Floor, Goal, Box, BoxOnGoal, Player, PlayerOnGoal}
 use Rattle.grid.specs.Board.{Board}
 use Rattle.grid.specs.Lawful.{IsLevel, row_count}
-use Rattle.xsb.specs.Bytes.{bar, wall_byte, line_feed, carriage_return}
+use Rattle.xsb.specs.inside.Bytes.{bar, wall_byte, line_feed, carriage_return, cell_of}
 use Rattle.xsb.specs.Lines.{without_mark, without_last, without_last_empty, lines_of_text}
 use Rattle.xsb.specs.Boards.{before_rest, cut_end, cut_row, is_floor, cols_of, padded, board_of}
 use Rattle.xsb.specs.Names.{name_of}
-use Rattle.xsb.specs.Rows.{counted, IsRow, done, more, IsRowLine, cell_of}
+use Rattle.xsb.specs.Rows.{counted, IsRow, done, more, IsRowLine, byte_of}
 use Rattle.xsb.specs.Collection.{Part, IsCollection}
-use Rattle.xsb.specs.Written.{byte_of, written, written_row, rows_from, rows_of_board}
+use Rattle.xsb.specs.Written.{written, written_row, rows_from, rows_of_board}
 use Rattle.xsb.specs.Rereading.{HasWallInEachRow, HasFullRow}
+use Rattle.xsb.proofs.CellBytes.{cell_of-byte_of}
 use Rattle.xsb.proofs.CutEnds.{filled-padded, length-cut_end}
 use Rattle.xsb.proofs.RowLines.{some_of, has_byte-is}
 use Rattle.xsb.proofs.Walls.{Has, has-contains, cut-wall}
@@ -29,15 +30,6 @@ abbrev line_of : List Cell → List ℕ
 line_of row = map byte_of (cut_row row)
 
 -- ---- bytes that are written
-
-cell_of-byte_of : (c : Cell) → cell_of (byte_of c) ≡ Some c
-cell_of-byte_of Wall = refl
-cell_of-byte_of Floor = refl
-cell_of-byte_of Goal = refl
-cell_of-byte_of Box = refl
-cell_of-byte_of BoxOnGoal = refl
-cell_of-byte_of Player = refl
-cell_of-byte_of PlayerOnGoal = refl
 
 no-cell : (b : ℕ) (c : Cell) (t : Bool) → (byte_of c == b) ≡ t → cell_of b ≡ None → t ≡ false
 no-cell b c false e none = refl
@@ -56,7 +48,7 @@ other-bytes b (c ∷ cells) none = (other-byte b c none, other-bytes b cells non
 -- cells are read as they are written, one by one
 row-written : (cells : List Cell) → IsRow (map byte_of cells) cells
 row-written [] = done
-row-written (c ∷ cells) = more (byte_of c ∷ []) (map byte_of cells) (c ∷ []) cells (counted [] 1 (byte_of c) c (inl refl, refl) (cell_of-byte_of c)) (row-written cells)
+row-written (c ∷ cells) = more (byte_of c ∷ []) (map byte_of cells) (c ∷ []) cells (counted [] 1 (byte_of c) c (inl refl, refl) (inl refl)) (row-written cells)
 
 -- ---- a written row is a row line
 

@@ -7,7 +7,7 @@ use Rattle.std.proofs.lemmas.Bool.{false≢true}
 use Rattle.std.proofs.lemmas.Bool.Decides.{nat_tests}
 use Rattle.std.proofs.lemmas.List.Elements.{filter-append}
 use Rattle.grid.specs.declared.cell.Cell.{Cell}
-use Rattle.xsb.specs.Bytes.{bar, wall_byte}
+use Rattle.xsb.specs.inside.Bytes.{bar, wall_byte}
 use Rattle.xsb.specs.declared.sizes.Size.{Size}
 use Rattle.xsb.specs.Boards.{cols_of, cut_row, padded}
 use Rattle.xsb.proofs.CutEnds.{take-zero}

@@ -4,11 +4,12 @@ use Rattle.std.specs.List.{AllZip, slice_split, prefix_len}
 use Rattle.std.specs.Char.{is_ascii_digit}
 use Rattle.std.proofs.lemmas.Bool.{false≢true, eqb-true, eq-eqb}
 use Rattle.grid.specs.declared.cell.Cell.{Cell}
-use Rattle.xsb.specs.Bytes.{bar, wall_byte}
+use Rattle.xsb.specs.inside.Bytes.{bar, wall_byte, cell_of}
 use Rattle.xsb.specs.declared.items.Run.{Run}
-use Rattle.xsb.specs.Rows.{IsRow, done, more, IsRowLine, IsTextLine, cell_of}
+use Rattle.xsb.specs.Rows.{IsRow, done, more, IsRowLine, IsTextLine}
 use Rattle.xsb.specs.inside.Reading.{HasNoItem, BeginsWithItem}
-use Rattle.counts.specs.Counts.{IsCount, IsNoCount, repeats}
+use Rattle.counts.specs.Counts.{IsCount, repeats}
+use Rattle.counts.specs.NoCount.{IsNoCount}
 use Rattle.counts.proofs.lemmas.Digits.{count_or_not}
 use Rattle.xsb.proofs.FirstItem.{IsCutAtDigits, cut-at_digits, begins-with_item, no-item_empty, no-item_cell, no-item_count}
 use Rattle.xsb.proofs.RowItems.{item-some, no-row, row-rest}

@@ -7,9 +7,9 @@ use Rattle.std.proofs.lemmas.Bool.{false≢true}
 use Rattle.grid.specs.declared.cell.Cell.{Cell}
 use Rattle.grid.specs.declared.cell.Cell.TheVariants.{Wall}
 use Rattle.counts.specs.Counts.{AreDigits}
-use Rattle.xsb.specs.Bytes.{bar, wall_byte}
+use Rattle.xsb.specs.inside.Bytes.{bar, wall_byte, cell_of}
 use Rattle.xsb.specs.Boards.{cols_of, cut_row, before_rest, is_floor}
-use Rattle.xsb.specs.Rows.{IsItem, IsRow, done, more, IsRowLine, cell_of}
+use Rattle.xsb.specs.Rows.{IsItem, IsRow, done, more, IsRowLine}
 use Rattle.xsb.proofs.FirstItem.{shape-item}
 use Rattle.xsb.proofs.RowItems.{item-cells}
 use Rattle.xsb.proofs.RowLines.{has_byte-is, some_of}

@@ -1,7 +1,7 @@
 -- The board that rows of cells make.
 use Rattle.std.specs.Prelude.{ℕ, ◌-◌, max, Bool, true, false, List, [], ◌∷◌, ◌++◌, length, replicate, flat_map}
 use Rattle.grid.specs.declared.cell.Cell.{Cell}
-use Rattle.grid.specs.declared.cell.Cell.TheVariants.{Wall, Floor, Goal, Box, BoxOnGoal, Player, PlayerOnGoal}
+use Rattle.grid.specs.declared.cell.Cell.TheVariants.{Floor}
 use Rattle.grid.specs.Board.{Board}
 
 -- x before a list; nothing where x is to go and nothing follows it
@@ -17,13 +17,8 @@ cut_end test (x ∷ xs) = before_rest (test x) x (cut_end test xs)
 
 -- the cell is floor with nothing on it
 abbrev pub is_floor : Cell → Bool
-is_floor Wall = false
 is_floor Floor = true
-is_floor Goal = false
-is_floor Box = false
-is_floor BoxOnGoal = false
-is_floor Player = false
-is_floor PlayerOnGoal = false
+is_floor cell = false
 
 -- a row without the floor at its end
 abbrev pub cut_row : List Cell → List Cell

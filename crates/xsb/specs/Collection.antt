@@ -27,9 +27,8 @@ pub record IsPart (part : Part) : Type 0 where
 
 -- between two boards stands a text line, so that each board is a longest run of row lines
 abbrev pub AreApart : List Part → Type 0
-AreApart [] = ⊤
-AreApart (part ∷ []) = ⊤
 AreApart (part ∷ next ∷ parts) = (0 < length part.gap) × AreApart (next ∷ parts)
+AreApart parts = ⊤
 
 -- the lines are a gap, and then boards, each with the gap after it
 pub record AreParts (lines gap : List (List ℕ)) (parts : List Part) : Type 0 where
@@ -47,10 +46,9 @@ pub record IsFound (line : ℕ) (before : List (List ℕ)) (part : Part) (found 
 -- what stands in the parts, in order, the first of which begins at a line and after a gap
 abbrev pub AreFound : ℕ → List (List ℕ) → List Part → List Found → Type 0
 AreFound line before [] [] = ⊤
-AreFound line before [] (found ∷ founds) = ⊥
-AreFound line before (part ∷ parts) [] = ⊥
 AreFound line before (part ∷ parts) (found ∷ founds) =
     IsFound line before part found × AreFound (line + length (part.board ++ part.gap)) part.gap parts founds
+AreFound line before parts founds = ⊥
 
 -- the bytes are a collection of these boards: its lines are cut into gaps and boards, and these are what is found
 unfoldable pub IsCollection : List ℕ → List Found → Type 0

@@ -1,7 +1,6 @@
 -- How bytes are cut into lines.
 use Rattle.std.specs.Prelude.{ℕ, cond, ◌==◌, nat_eq, List, [], ◌∷◌, drop, map}
 use Rattle.std.specs.List.{slice_split, starts_with}
-use Rattle.xsb.specs.Bytes.{line_feed, carriage_return}
 
 -- the three bytes of a byte order mark are skipped at the beginning
 abbrev pub without_mark : List ℕ → List ℕ
@@ -21,7 +20,7 @@ without_last c [] = []
 without_last c (b ∷ []) = cond (b == c) [] (b ∷ [])
 without_last c (b ∷ next ∷ bytes) = b ∷ without_last c (next ∷ bytes)
 
--- the lines: each ends at a line feed or at the end of the input, and one carriage return right before that is no
--- part of it
+-- the lines: each ends at a line feed, which is the byte 10, or at the end of the input, and one carriage return, which is
+-- the byte 13, right before that is no part of it
 unfoldable pub lines_of_text : List ℕ → List (List ℕ)
-lines_of_text bytes = map (without_last carriage_return) (without_last_empty (slice_split (λ b. b == line_feed) (without_mark bytes)))
+lines_of_text bytes = map (without_last 13) (without_last_empty (slice_split (λ b. b == 10) (without_mark bytes)))

@@ -8,14 +8,6 @@ use Rattle.xsb.specs.Boards.{cut_end}
 abbrev pub after_prefix : List ℕ → List ℕ → Option (List ℕ)
 after_prefix prefix bytes = cond (starts_with nat_eq bytes prefix) (Some (drop (length prefix) bytes)) None
 
--- what a line whose first byte is `;` names
-abbrev pub comment_of : List ℕ → Option (List ℕ)
-comment_of line = after_prefix (codes ";") line
-
--- what a line that begins with `Title:` names
-abbrev pub title_of : List ℕ → Option (List ℕ)
-title_of line = after_prefix (codes "Title:") line
-
 -- the first value that a function gives on a list
 abbrev pub first_some : {A B : Type 0} → (A → Option B) → List A → Option B
 first_some f [] = None
@@ -42,4 +34,5 @@ trimmed bytes = cut_end is_blank (cut_start is_blank bytes)
 -- the name of a board between two gaps: that of the last `;` line of the gap before; else that of the first `Title:`
 -- line of the gap after; else the empty name. A line so chosen decides even if its name is empty
 unfoldable pub name_of : List (List ℕ) → List (List ℕ) → List ℕ
-name_of before after = trimmed (unwrap_or (option_or (last_some comment_of before) (first_some title_of after)) [])
+name_of before after =
+    trimmed (unwrap_or (option_or (last_some (after_prefix (codes ";")) before) (first_some (after_prefix (codes "Title:")) after)) [])

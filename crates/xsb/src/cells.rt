@@ -1,8 +1,8 @@
 //! Cells and their bytes.
 ghost use Rattle.std.specs.Prelude.{◌≡◌};
 ghost use Rattle.xsb.specs.Boards.{is_floor};
-ghost use Rattle.xsb.specs.Rows.{cell_of};
-ghost use Rattle.xsb.specs.Written.{byte_of};
+ghost use Rattle.xsb.specs.inside.Bytes.{cell_of};
+ghost use Rattle.xsb.specs.Rows.{byte_of};
 
 use crate::bytes::{
     BOX, BOX_ON_GOAL, FLOOR, FLOOR_DASH, FLOOR_LOW_LINE, GOAL, PLAYER, PLAYER_ON_GOAL, WALL,

@@ -8,7 +8,8 @@ use Rattle.grid.specs.declared.masks.TheConstants.{WORD_BITS}
 use Rattle.grid.specs.Board.{Board, Scene, IsFree, is_wall, next, opposite}
 use Rattle.grid.specs.States.{IsScene}
 use Rattle.grid.specs.Masks.{has_bit, word_count, can_enter}
-use Rattle.grid.specs.Squares.{Squares, contains, is_rising}
+use Rattle.grid.specs.Squares.{Squares, contains}
+use Rattle.grid.specs.Rising.{is_rising}
 use Rattle.grid.proofs.lemmas.Squares.{same_set}
 use Rattle.grid.proofs.lemmas.Steps.{inside_grid, next_back_inside}
 use Rattle.area.specs.Area.{Area, IsNorm, at}

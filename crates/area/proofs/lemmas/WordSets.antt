@@ -7,7 +7,8 @@ use Rattle.std.proofs.lemmas.List.{get_or-set_same, get_or-set_other, get_or-rep
 use Rattle.std.proofs.lemmas.Nat.Bits.{bit_at_set_same, bit_at_set_other, bit_at_clear_same, bit_at_clear_other, bit_at-trailing_zeros}
 use Rattle.grid.specs.declared.masks.TheConstants.{WORD_BITS}
 use Rattle.grid.specs.Masks.{has_bit}
-use Rattle.grid.specs.Squares.{Squares, contains, is_rising, rises_from}
+use Rattle.grid.specs.Squares.{Squares, contains}
+use Rattle.grid.specs.Rising.{is_rising, rises_from}
 use Rattle.grid.proofs.lemmas.Squares.{rises_from-cons, rises_from-weaker}
 use Rattle.area.specs.inside.Detours.{IsLeastWith}
 use Rattle.area.specs.Words.{word_bit, passing_from, squares_of}

@@ -3,7 +3,8 @@ use Rattle.std.proofs.Common.{◌≡◌, ℕ, zero, suc, ◌+◌, ◌<◌, ◌�
 use Rattle.std.specs.Char.{is_ascii_digit}
 use Rattle.std.specs.List.{prefix_len}
 use Rattle.std.proofs.lemmas.Bool.{cases_lt}
-use Rattle.counts.specs.Counts.{AreDigits, begins_with_digit, decimal, repeats, IsCount, Means, IsNoCount}
+use Rattle.counts.specs.Counts.{AreDigits, begins_with_digit, decimal, repeats, IsCount, Means}
+use Rattle.counts.specs.NoCount.{IsNoCount}
 
 -- how many digits bytes begin with
 abbrev pub digit_count : List ℕ → ℕ

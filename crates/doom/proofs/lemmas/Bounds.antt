@@ -4,14 +4,16 @@ use Rattle.std.proofs.lemmas.Bool.{false≢true, true≢false, cases_lt, eqb-tru
 use Rattle.grid.specs.declared.dir.Dir.{Dir}
 use Rattle.grid.specs.declared.dir.Dir.TheVariants.{D, L, R, U}
 use Rattle.grid.specs.declared.square.Push.{Push}
-use Rattle.grid.specs.Squares.{Squares, contains, insert, remove, rises_from}
+use Rattle.grid.specs.Squares.{Squares, contains, insert, remove}
+use Rattle.grid.specs.Rising.{rises_from}
 use Rattle.grid.specs.Board.{Board, Scene, IsSolved, is_wall, is_goal, next, opposite}
 use Rattle.grid.specs.States.{IsScene}
 use Rattle.grid.specs.Plays.{Play, Any, stay, walk, push}
 use Rattle.grid.proofs.lemmas.Squares.{contains_head, contains-remove_out, contains-below, remove_out, rises_from-parts}
 use Rattle.grid.proofs.lemmas.Steps.{next_back, push_boxes, walk_boxes, scene_after_walk, scene_after_push}
 use Rattle.doom.specs.Deadlocks.{Live, home, onward}
-use Rattle.doom.specs.Bounds.{IsFar, IsLower, NeedAtLeast, HaveOneSum, HaveDead, LessenByOne, PushLessensByOne, SolvedNeedNone, pushes_of}
+use Rattle.doom.specs.Bounds.{IsFar, IsLower, pushes_of}
+use Rattle.doom.specs.Sums.{NeedAtLeast, HaveOneSum, HaveDead, LessenByOne, PushLessensByOne, SolvedNeedNone}
 use Rattle.doom.specs.inside.Pulling.{HasWay}
 use Rattle.doom.specs.Lost.{AreLost}
 use Rattle.doom.proofs.lemmas.Soundness.{dead_loses_box}

@@ -1,6 +1,5 @@
 -- Laws of lawful levels, and of the state in which a level begins.
 use Rattle.std.proofs.Common.{◌≡◌, ◌≢◌, ℕ, ◌+◌, ◌*◌, ◌%◌, ◌≤◌, Bool, true, false, cond, eqb, ltb, length, get_or, Option, Some, None, refl, sym, ◌∙◌, mul-le-mul, div-add-mod', arith}
-use Rattle.std.specs.Option.{option_or}
 use Rattle.std.proofs.lemmas.Bool.{eqb-true, eqb-false, ltb-false, false≢true}
 use Rattle.grid.specs.declared.limits.TheConstants.{MAX_ROWS, MAX_COLS, MAX_SQUARES}
 use Rattle.grid.specs.declared.fault.LevelFault.TheVariants.{TooTall, TooWide, NoPlayer, TwoPlayers, NoBox, Counts}
@@ -9,17 +8,14 @@ use Rattle.grid.specs.declared.cell.Cell.{Cell}
 use Rattle.grid.specs.declared.cell.Cell.TheVariants.{Wall, Floor, Goal, Box, BoxOnGoal, Player, PlayerOnGoal}
 use Rattle.grid.specs.declared.state.Step.{Step}
 use Rattle.grid.specs.Squares.{contains, places_from}
-use Rattle.grid.specs.Board.{Board, Scene, is_wall, has_box, wall_cell, box_cell, player_cell, start, start_boxes, start_player}
-use Rattle.grid.specs.States.{IsScene, Steps, FitsLevel}
-use Rattle.grid.specs.Lawful.{IsLevel, row_count, box_count, goal_count, player_count, size_fault, count_fault, cell_fault}
+use Rattle.grid.specs.Board.{Board, Scene, is_wall, wall_cell, box_cell, player_cell, start, start_player}
+use Rattle.grid.specs.States.{IsScene, Steps, FitsLevel, has_box, start_boxes}
+use Rattle.grid.specs.Lawful.{IsLevel, row_count, box_count, goal_count, player_count, cell_fault}
+use Rattle.grid.specs.inside.Counting.{count_fault}
 use Rattle.grid.proofs.Marked.{is_rising-places_from, contains-places, contains-first_or_0, length-places_from, first_place}
 use Rattle.grid.proofs.lemmas.Steps.{scene_after_step, length-step}
 
 -- ---- what a lawful level has
-
-either_none : {A : Type 0} (a b : Option A) → option_or a b ≡ None → (a ≡ None) × (b ≡ None)
-either_none None b e = (refl, e)
-either_none (Some x) b e = absurd cc
 
 guard_none : {A : Type 0} (b : Bool) (x : A) (rest : Option A) → cond b (Some x) rest ≡ None → (b ≡ false) × (rest ≡ None)
 guard_none true x rest e = absurd cc
@@ -40,10 +36,9 @@ pub record HasCounts (board : Board) : Type 0 where
 -- cells without a fault keep the limits and have one player, some box, and as many goals as boxes
 pub counts_of : (board : Board) → cell_fault board ≡ None → HasCounts board
 counts_of board e =
-    let both = either_none (size_fault (row_count board) board.cols) (count_fault board) e in
-    let tall = guard_none (ltb MAX_ROWS (row_count board)) TooTall (cond (ltb MAX_COLS board.cols) (Some TooWide) None) both.0 in
-    let wide = guard_none (ltb MAX_COLS board.cols) TooWide None tall.1 in
-    let one = guard_none (eqb (player_count board) 0) NoPlayer (cond (ltb 1 (player_count board)) (Some TwoPlayers) (cond (eqb (box_count board) 0) (Some NoBox) (cond (eqb (box_count board) (goal_count board)) None (Some (Counts (box_count board) (goal_count board)))))) both.1 in
+    let tall = guard_none (ltb MAX_ROWS (row_count board)) TooTall (cond (ltb MAX_COLS board.cols) (Some TooWide) (count_fault board)) e in
+    let wide = guard_none (ltb MAX_COLS board.cols) TooWide (count_fault board) tall.1 in
+    let one = guard_none (eqb (player_count board) 0) NoPlayer (cond (ltb 1 (player_count board)) (Some TwoPlayers) (cond (eqb (box_count board) 0) (Some NoBox) (cond (eqb (box_count board) (goal_count board)) None (Some (Counts (box_count board) (goal_count board)))))) wide.1 in
     let two = guard_none (ltb 1 (player_count board)) TwoPlayers (cond (eqb (box_count board) 0) (Some NoBox) (cond (eqb (box_count board) (goal_count board)) None (Some (Counts (box_count board) (goal_count board))))) one.1 in
     let some = guard_none (eqb (box_count board) 0) NoBox (cond (eqb (box_count board) (goal_count board)) None (Some (Counts (box_count board) (goal_count board)))) two.1 in
     let same = last_guard_none (eqb (box_count board) (goal_count board)) (Counts (box_count board) (goal_count board)) some.1 in

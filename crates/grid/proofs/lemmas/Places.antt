@@ -4,7 +4,8 @@ use Rattle.std.specs.List.{prefix_len, list_any, insert as insert_at, remove as 
 use Rattle.std.proofs.lemmas.Bool.{eqb-true, eqb-false, eq-eqb, ltb-true, ltb-false, le-ltb, or_right, true≢false, false≢true}
 use Rattle.std.proofs.lemmas.List.{take_more, length-take-le}
 use Rattle.std.proofs.lemmas.List.Sums.{count_by_more_yes, sum_by-cons, sum_by-take-le}
-use Rattle.grid.specs.Squares.{Squares, rises_from, is_rising, contains, remove, insert, places_from}
+use Rattle.grid.specs.Squares.{Squares, contains, remove, insert, places_from}
+use Rattle.grid.specs.Rising.{rises_from, is_rising}
 use Rattle.grid.specs.Board.{Board, is_wall}
 use Rattle.grid.proofs.lemmas.Squares.{rises_from-parts, contains-below, remove_out}
 use Rattle.grid.proofs.Marked.{places_push_yes, places_push_no, length-places_from}

@@ -1,7 +1,8 @@
 -- Laws of sets of squares.
 use Rattle.std.proofs.Common.{◌≡◌, ◌≢◌, ℕ, zero, suc, ◌+◌, ◌<◌, ◌≤◌, Bool, true, false, not, cond, eqb, ltb, leb, ◌&&◌, ◌||◌, List, [], ◌∷◌, ◌++◌, length, get_or, ◌⊎◌, inl, inr, refl, sym, ap, subst, ◌∙◌, arith}
 use Rattle.std.proofs.lemmas.Bool.{eqb-true, eqb-false, eq-eqb, ne_eqb, ltb-true, ltb-false, leb-true, le-leb, and_parts, and_from, cases_eq, cases_order, true≢false, false≢true}
-use Rattle.grid.specs.Squares.{Squares, rises_from, is_rising, contains, remove, insert}
+use Rattle.grid.specs.Squares.{Squares, contains, remove, insert}
+use Rattle.grid.specs.Rising.{rises_from, is_rising}
 
 -- ---- tests
 

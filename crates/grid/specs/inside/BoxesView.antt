@@ -3,7 +3,8 @@ use Rattle.std.specs.Prelude.{◌≡◌, ◌≤◌, ◌⊎◌, ◌++◌, [], tru
 use Rattle.grid.specs.declared.limits.TheConstants.{MAX_SQUARES}
 use Rattle.grid.specs.declared.boxes.Boxes.TheInside.{Inside}
 use Rattle.grid.specs.Marks.{marked}
-use Rattle.grid.specs.Squares.{Squares, is_rising}
+use Rattle.grid.specs.Squares.{Squares}
+use Rattle.grid.specs.Rising.{is_rising}
 
 -- the squares that are marked, and those that are listed
 abbrev pub boxes_in : Inside → Squares

@@ -3,7 +3,7 @@ use Rattle.std.specs.Prelude.{◌≡◌, ℕ, ◌+◌, ◌≤◌, List, ◌++◌
 use Rattle.grid.specs.declared.moves.Letter.{Letter}
 use Rattle.lurd.specs.declared.limits.TheConstants.{MAX_MOVES}
 use Rattle.counts.specs.Counts.{repeats}
-use Rattle.lurd.specs.Text.{item, IsPiece, spelling}
+use Rattle.lurd.specs.Text.{byte_of, item, IsPiece, spelling}
 
 -- the bytes begin with this letter and its count, if it has one; both take len bytes and mean the letter so many
 -- times, and with the moves before them these are not too many
@@ -15,3 +15,7 @@ pub record TakesItem (moves : ℕ) (bytes : List ℕ) (letter : Letter) (times l
   pub counted : times ≡ repeats digits
   pub taken : len ≡ length (spelling (item digits letter))
   pub few : moves + times ≤ MAX_MOVES
+
+-- the byte writes a letter
+abbrev pub IsLetterByte : ℕ → Type 0
+IsLetterByte b = (letter : Letter) × (byte_of letter ≡ b)

@@ -1,12 +1,20 @@
 -- What the reader keeps of a gap.
-use Rattle.std.specs.Prelude.{◌≡◌, ℕ, ◌+◌, ⊤, List, [], ◌∷◌, ◌++◌, length, option_copied}
+use Rattle.std.specs.Prelude.{◌≡◌, ℕ, ◌+◌, ⊤, List, [], ◌∷◌, ◌++◌, length, Option, codes, option_copied}
 use Rattle.std.specs.List.{AllByRecursion}
 use Rattle.grid.specs.declared.cell.Cell.{Cell}
 use Rattle.xsb.specs.declared.lines.Lines.{Lines}
 use Rattle.xsb.specs.declared.names.Gap.{Gap}
-use Rattle.xsb.specs.Names.{comment_of, title_of, first_some, last_some, name_of}
+use Rattle.xsb.specs.Names.{after_prefix, first_some, last_some, name_of}
 use Rattle.xsb.specs.Rows.{IsRowLine, IsTextLine}
 use Rattle.xsb.specs.inside.Reading.{cut_lines}
+
+-- what a line whose first byte is `;` names
+abbrev pub comment_of : List ℕ → Option (List ℕ)
+comment_of line = after_prefix (codes ";") line
+
+-- what a line that begins with `Title:` names
+abbrev pub title_of : List ℕ → Option (List ℕ)
+title_of line = after_prefix (codes "Title:") line
 
 -- the last comment and the first title among the lines of a gap
 pub record IsGap (gap : Gap) (lines : List (List ℕ)) : Type 0 where

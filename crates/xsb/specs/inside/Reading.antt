@@ -3,7 +3,7 @@ use Rattle.std.specs.Prelude.{◌≡◌, ℕ, ◌-◌, ◌^◌, ◌≤◌, min, 
 use Rattle.grid.specs.declared.cell.Cell.{Cell}
 use Rattle.xsb.specs.declared.items.Run.{Run}
 use Rattle.xsb.specs.declared.sizes.Size.{Size}
-use Rattle.xsb.specs.Bytes.{line_feed, carriage_return}
+use Rattle.xsb.specs.inside.Bytes.{line_feed, carriage_return}
 use Rattle.xsb.specs.Lines.{without_last}
 use Rattle.xsb.specs.Rows.{IsItem, IsRow, IsRowLine}
 use Rattle.xsb.specs.Boards.{cols_of, cut_row, padded}

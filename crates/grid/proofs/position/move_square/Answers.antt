@@ -1,6 +1,7 @@
 use Rattle.std.proofs.Common.{◌≡◌, ℕ, ltb, true, false, sym, ap, subst, ◌∙◌, arith}
 use Rattle.std.specs.List.{prefix_len, remove as remove_at}
-use Rattle.grid.specs.Squares.{Squares, is_rising, contains, insert, remove}
+use Rattle.grid.specs.Squares.{Squares, contains, insert, remove}
+use Rattle.grid.specs.Rising.{is_rising}
 use Rattle.grid.proofs.lemmas.Squares.{contains-remove_out, is_rising-remove}
 use Rattle.grid.proofs.lemmas.Places.{place_inside, remove_place}
 use Rattle.grid.proofs.position.move_square.Goals as goal

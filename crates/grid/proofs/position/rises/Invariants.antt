@@ -1,5 +1,5 @@
 use Rattle.std.proofs.Common.{◌≡◌, drop}
-use Rattle.grid.specs.Squares.{rises_from, is_rising}
+use Rattle.grid.specs.Rising.{rises_from, is_rising}
 use Rattle.grid.proofs.position.rises.Given as goal
 
 abbrev pub invariant-loop-square : goal.invariant-loop-square

@@ -1,6 +1,7 @@
 use Rattle.std.proofs.Common.{◌≡◌, false, true, sym, ap, subst, ◌∙◌}
 use Rattle.std.specs.List.{remove as remove_at}
-use Rattle.grid.specs.Squares.{Squares, is_rising, contains, insert}
+use Rattle.grid.specs.Squares.{Squares, contains, insert}
+use Rattle.grid.specs.Rising.{is_rising}
 use Rattle.grid.proofs.Settle.{settled}
 use Rattle.grid.proofs.position.settle.Goals as goal
 

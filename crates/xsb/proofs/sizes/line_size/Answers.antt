@@ -3,7 +3,7 @@ use Rattle.std.proofs.lemmas.Bool.Decides.{nat_tests}
 use Rattle.std.proofs.lemmas.Iterator.Consumers.{YieldsList-turn, YieldsList-end}
 use Rattle.std.proofs.lemmas.Iterator.Splits.{YieldsList-from_slice_split}
 use Rattle.std.proofs.lemmas.List.{map-append}
-use Rattle.xsb.specs.Bytes.{bar, wall_byte}
+use Rattle.xsb.specs.inside.Bytes.{bar, wall_byte}
 use Rattle.xsb.proofs.RowLines.{IsCounted-more, IsRowLine-counted, text-piece}
 use Rattle.xsb.proofs.sizes.line_size.Goals as goal
 

@@ -2,7 +2,7 @@ use Rattle.std.proofs.Common.{◌≡◌, ◌==◌, ◌<◌, ◌∷◌, [], lengt
 use Rattle.std.proofs.lemmas.Bool.Decides.{nat_tests}
 use Rattle.std.proofs.lemmas.Iterator.Consumers.{YieldsList-turn, YieldsList-end}
 use Rattle.std.proofs.lemmas.Iterator.Splits.{YieldsList-from_slice_split}
-use Rattle.xsb.specs.Bytes.{bar}
+use Rattle.xsb.specs.inside.Bytes.{bar}
 use Rattle.xsb.proofs.RowLines.{PushesRows-none, PushesRows-empty, PushesRows-more, PushesRows-all}
 use Rattle.xsb.proofs.sizes.push_line.Goals as goal
 

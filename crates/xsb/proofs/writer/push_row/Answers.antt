@@ -1,6 +1,6 @@
 use Rattle.std.proofs.Common.{◌++◌, ◌∷◌, [], map, take, drop, ap, ◌∙◌, append_assoc, arith, ◌≡◌}
-use Rattle.xsb.specs.Bytes.{line_feed}
-use Rattle.xsb.specs.Written.{byte_of}
+use Rattle.xsb.specs.inside.Bytes.{line_feed}
+use Rattle.xsb.specs.Rows.{byte_of}
 use Rattle.xsb.proofs.CellsByReaders.{kept-cells}
 use Rattle.xsb.proofs.writer.push_row.Goals as goal
 

@@ -1,5 +1,5 @@
 use Rattle.std.proofs.Common.{◌≡◌, ◌++◌, map, take, drop}
-use Rattle.xsb.specs.Written.{byte_of}
+use Rattle.xsb.specs.Rows.{byte_of}
 use Rattle.xsb.proofs.writer.push_row.Given as goal
 
 abbrev pub invariant-loop-col : goal.invariant-loop-col

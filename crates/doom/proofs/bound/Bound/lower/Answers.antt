@@ -1,7 +1,8 @@
 use Rattle.std.proofs.Common.{ℕ, Option, Some, None, MatchOption, IfSome, IfNone, subst}
 use Rattle.grid.specs.Board.{Board}
 use Rattle.grid.specs.Squares.{Squares}
-use Rattle.doom.specs.Bounds.{IsLower, LessenByOne, NeedAtLeast, HaveDead}
+use Rattle.doom.specs.Bounds.{IsLower}
+use Rattle.doom.specs.Sums.{LessenByOne, NeedAtLeast, HaveDead}
 use Rattle.doom.specs.Lost.{AreLost}
 use Rattle.doom.proofs.lemmas.Bounds.{lower_needed, lower_lessened, dead_are_lost}
 use Rattle.doom.proofs.bound.Bound.lower.Goals as goal

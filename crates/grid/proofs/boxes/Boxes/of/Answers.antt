@@ -1,7 +1,8 @@
 use Rattle.std.proofs.Common.{◌≡◌, ℕ, true, List, ◌++◌, length, map, inl, sym, ap, subst, ◌∙◌, append-nil, arith}
 use Rattle.std.proofs.lemmas.List.{length-map}
 use Rattle.grid.specs.Board.{box_cell}
-use Rattle.grid.specs.Squares.{Squares, is_rising}
+use Rattle.grid.specs.Squares.{Squares}
+use Rattle.grid.specs.Rising.{is_rising}
 use Rattle.grid.specs.Marks.{marked}
 use Rattle.grid.proofs.Kept.{marked_few, marked_first}
 use Rattle.grid.proofs.Marked.{is_rising-places_from}

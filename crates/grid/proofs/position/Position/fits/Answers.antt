@@ -3,7 +3,8 @@ use Rattle.std.proofs.lemmas.Bool.{not-true, not_from_false, false≢true}
 use Rattle.std.specs.List.{list_any}
 use Rattle.grid.specs.Board.{Scene, is_wall}
 use Rattle.grid.specs.Lawful.{box_count}
-use Rattle.grid.specs.Squares.{Squares, is_rising, contains}
+use Rattle.grid.specs.Squares.{Squares, contains}
+use Rattle.grid.specs.Rising.{is_rising}
 use Rattle.grid.proofs.lemmas.Places.{no_wall, all_clear}
 use Rattle.grid.proofs.position.Position.fits.Goals as goal
 

@@ -2,7 +2,8 @@ use Rattle.std.proofs.Common.{◌≡◌, false, true, length, sym, ap, subst, �
 use Rattle.arrayvec.specs.ArrayVec.{with_items}
 use Rattle.arrayvec.proofs.ArrayVecLemmas.{items-with_items}
 use Rattle.grid.specs.Board.{Scene}
-use Rattle.grid.specs.Squares.{Squares, is_rising, contains, insert, remove}
+use Rattle.grid.specs.Squares.{Squares, contains, insert, remove}
+use Rattle.grid.specs.Rising.{is_rising}
 use Rattle.grid.proofs.lemmas.Squares.{is_rising-insert, is_rising-remove}
 use Rattle.grid.proofs.position.Position.push.Goals as goal
 

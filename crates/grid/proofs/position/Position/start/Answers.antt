@@ -1,6 +1,7 @@
 use Rattle.std.proofs.Common.{◌≡◌, true, sym, subst}
 use Rattle.grid.specs.Board.{box_cell, start}
-use Rattle.grid.specs.Squares.{Squares, is_rising}
+use Rattle.grid.specs.Squares.{Squares}
+use Rattle.grid.specs.Rising.{is_rising}
 use Rattle.grid.proofs.Marked.{is_rising-places_from}
 use Rattle.grid.proofs.position.Position.start.Goals as goal
 
