@@ -13,8 +13,7 @@ use Rattle.grid.specs.Squares.{Squares, contains}
 use Rattle.grid.specs.Plays.{Play, Any, stay, walk, shortlex}
 use Rattle.grid.proofs.lemmas.Steps.{inside_grid, next_back_to, walk_player, walk_boxes, walk_to, scene_after_walk}
 use Rattle.grid.proofs.lemmas.Orders.{nat_cmp-less, shortlex-shorter, shortlex-even, not_gt_since_less, not_gt_itself, dir_cmp_total, shortlex_total, shortlex-append_not_gt}
-use Rattle.area.specs.Area.{IsWalk}
-use Rattle.area.specs.LeastWalks.{IsLeastWalk, walk_letters}
+use Rattle.area.specs.LeastWalks.{IsLeastWalk, walk_letters, IsWalk}
 use Rattle.area.specs.inside.Descent.{IsDown, IsFirstDown, IsDescent, IsDescending, arrived, onward}
 use Rattle.area.specs.inside.Spread.{IsSpread, IsSearched}
 use Rattle.area.proofs.Spreading.{dir_same}

@@ -8,7 +8,7 @@ use Rattle.grid.specs.Squares.{Squares, contains}
 use Rattle.grid.specs.Plays.{Play, Any, stay, walk}
 use Rattle.grid.proofs.lemmas.Steps.{walk_player, walk_boxes}
 use Rattle.grid.proofs.lemmas.Plays.{play_scene, walk_backwards, walk_keeps_boxes}
-use Rattle.area.specs.Area.{IsWalk}
+use Rattle.area.specs.LeastWalks.{IsWalk}
 use Rattle.area.specs.inside.Spread.{IsSpread}
 
 abbrev pub scene_at : Squares → ℕ → Scene

@@ -8,13 +8,9 @@ use Rattle.grid.specs.Plays.{Play, Any}
 abbrev pub at : Scene → ℕ → Scene
 at s q = record { boxes = s.boxes; player = q }
 
--- the directions of a play without a push from s to the square q
-abbrev pub IsWalk : Board → Scene → List Dir → ℕ → Type 0
-IsWalk board s ds q = Play board Any s ds [] (at s q)
-
 -- the area of s: a play without a push leads from s to the square q
 abbrev pub Area : Board → Scene → ℕ → Type 0
-Area board s q = (ds : List Dir) × IsWalk board s ds q
+Area board s q = (ds : List Dir) × Play board Any s ds [] (at s q)
 
 -- n is the normal form of s: the same boxes, and the least square of the area
 pub record IsNorm (board : Board) (s n : Scene) : Type 0 where

@@ -4,8 +4,12 @@ use Rattle.std.specs.Ordering.{is_gt}
 use Rattle.grid.specs.declared.dir.Dir.{Dir}
 use Rattle.grid.specs.declared.moves.Letter.{Letter}
 use Rattle.grid.specs.Board.{Board, Scene, dir_cmp}
-use Rattle.grid.specs.Plays.{shortlex}
-use Rattle.area.specs.Area.{IsWalk}
+use Rattle.grid.specs.Plays.{Play, Any, shortlex}
+use Rattle.area.specs.Area.{at}
+
+-- the directions of a play without a push from s to the square q
+abbrev pub IsWalk : Board → Scene → List Dir → ℕ → Type 0
+IsWalk board s ds q = Play board Any s ds [] (at s q)
 
 -- ds is the walk from s to q that comes first: no walk to q is shorter, and of those of its length none has the
 -- lesser text in the order d, l, r, u

@@ -6,7 +6,8 @@ use Rattle.grid.specs.declared.dir.Dir.{Dir}
 use Rattle.grid.specs.declared.dir.Dir.TheVariants.{D, L, R, U}
 use Rattle.grid.specs.Squares.{Squares, contains}
 use Rattle.grid.specs.Board.{Board}
-use Rattle.doom.specs.Deadlocks.{IsHeld, IsBlocked}
+use Rattle.doom.specs.Deadlocks.{IsHeld}
+use Rattle.doom.specs.Loose.{IsBlocked}
 use Rattle.doom.specs.inside.Peeling.{IsWithin}
 
 -- what blocks a square among some blocks it among more

@@ -19,15 +19,11 @@ abbrev pub IsHeld : Board → Squares → ℕ → Dir → Type 0
 IsHeld board members q d = let a = next board q d in let b = next board q (opposite d) in
     ((is_wall board a ≡ true) ⊎ (contains members a ≡ true)) ⊎ (((is_wall board b ≡ true) ⊎ (contains members b ≡ true)) ⊎ (IsDead board a × IsDead board b))
 
--- the square is held on both axes
-abbrev pub IsBlocked : Board → Squares → ℕ → Type 0
-IsBlocked board members q = (d : Dir) → IsHeld board members q d
-
--- some of the boxes, at least one of them off goal, each of which is blocked by walls, by the others or by dead squares
+-- some of the boxes, at least one of them off goal, each of which is held on both axes, by walls, the others or dead squares
 pub record IsFrozen (board : Board) (boxes members : Squares) : Type 0 where
   pub some : (q : ℕ) → contains members q ≡ true → contains boxes q ≡ true
   pub off_goal : (q : ℕ) × (contains members q ≡ true) × (is_goal board q ≡ false)
-  pub blocked : (q : ℕ) → contains members q ≡ true → IsBlocked board members q
+  pub blocked : (q : ℕ) → contains members q ≡ true → (d : Dir) → IsHeld board members q d
 
 -- a box stands on a dead square, or some of the boxes are frozen
 abbrev pub Doomed : Board → Squares → Type 0

@@ -1,8 +1,13 @@
 -- Boxes that can be pushed on some axis, or could once others are, and pushes that bring a box to where it is one.
 use Rattle.std.specs.Prelude.{ℕ}
+use Rattle.grid.specs.declared.dir.Dir.{Dir}
 use Rattle.grid.specs.Squares.{Squares, insert, remove}
 use Rattle.grid.specs.Board.{Board}
-use Rattle.doom.specs.Deadlocks.{IsDead, IsBlocked, Doomed}
+use Rattle.doom.specs.Deadlocks.{IsDead, IsHeld, Doomed}
+
+-- the square is held on both axes
+abbrev pub IsBlocked : Board → Squares → ℕ → Type 0
+IsBlocked board members q = (d : Dir) → IsHeld board members q d
 
 -- a box on the square, among these boxes: the square is not dead, and on some axis neither a wall nor one of the boxes nor
 -- two dead squares hold it

@@ -1,8 +1,8 @@
 ghost use Rattle.std.specs.Prelude.{◌≡◌, ◌≢◌, ◌<◌, ◌↔◌, ◌⊎◌, IsTrue, true, length};
 ghost use Rattle.grid.specs.Board.{next, opposite};
 ghost use Rattle.grid.specs.Squares.{contains, insert, remove};
-ghost use Rattle.doom.specs.Deadlocks.{IsBlocked, IsHeld};
-ghost use Rattle.doom.specs.Loose.{IsLoose};
+ghost use Rattle.doom.specs.Deadlocks.{IsHeld};
+ghost use Rattle.doom.specs.Loose.{IsLoose, IsBlocked};
 ghost use Rattle.doom.specs.inside.Holding.{IsFast};
 
 use crate::dead::Dead;

@@ -3,7 +3,7 @@ use Rattle.std.proofs.Common.{◌≡◌, ℕ, zero, suc, ◌+◌, ◌<◌, ◌�
 use Rattle.std.proofs.lemmas.Bool.{eqb-true, ne_eqb, cases_eq, cases_lt, false≢true}
 use Rattle.std.proofs.lemmas.List.{get_or_past, get_or-set_same, get_or-set_other, length-set}
 use Rattle.std.proofs.lemmas.List.Recursion.{is_count_by}
-use Rattle.grid.specs.Squares.{Squares, contains, remove, insert, places_from, first_or_0}
+use Rattle.grid.specs.Squares.{Squares, contains, remove, insert, places_from}
 use Rattle.grid.specs.Rising.{rises_from, is_rising}
 use Rattle.grid.specs.Marks.{marked}
 use Rattle.grid.proofs.lemmas.Squares.{contains-below, contains-insert_here, contains-insert_other, contains-remove_here, contains-remove_other, contains_head, is_rising-insert, is_rising-remove, rises_from-cons, rises_from-weaker, same_set}
@@ -82,11 +82,11 @@ pub places_push_no : {A : Type 0} (test : A → Bool) (cs : List A) (c : A) → 
 places_push_no test cs c fails = places_from-append test 0 cs (c ∷ []) ∙ rw fails (append-nil (places_from test 0 cs))
 
 -- the first number of a list that isn't empty is in it
-pub contains-first_or_0 : (xs : Squares) → 1 ≤ length xs → contains xs (first_or_0 xs) ≡ true
-contains-first_or_0 [] some = absurd (omega arith)
-contains-first_or_0 (x ∷ xs) some = contains_head x xs
+pub contains-first : (xs : Squares) → 1 ≤ length xs → contains xs (get_or xs 0 0) ≡ true
+contains-first [] some = absurd (omega arith)
+contains-first (x ∷ xs) some = contains_head x xs
 
-only_member : (xs : Squares) (q : ℕ) → length xs ≡ 1 → contains xs q ≡ true → first_or_0 xs ≡ q
+only_member : (xs : Squares) (q : ℕ) → length xs ≡ 1 → contains xs q ≡ true → get_or xs 0 0 ≡ q
 only_member [] q one here = absurd (omega arith)
 only_member (x ∷ []) q one here = only (eqb x q) (eqb-true x q) here
   where
@@ -96,7 +96,7 @@ only_member (x ∷ []) q one here = only (eqb x q) (eqb-true x q) here
 only_member (x ∷ y ∷ xs) q one here = absurd (omega arith)
 
 -- where one element passes, its place is the first
-pub first_place : {A : Type 0} (test : A → Bool) (cs : List A) (q : ℕ) (d : A) → test d ≡ false → count_by test cs ≡ 1 → test (get_or cs q d) ≡ true → first_or_0 (places_from test 0 cs) ≡ q
+pub first_place : {A : Type 0} (test : A → Bool) (cs : List A) (q : ℕ) (d : A) → test d ≡ false → count_by test cs ≡ 1 → test (get_or cs q d) ≡ true → get_or (places_from test 0 cs) 0 0 ≡ q
 first_place test cs q d fails one passes = only_member (places_from test 0 cs) q (length-places_from test 0 cs ∙ one) (contains-places test cs q d fails ∙ passes)
 
 -- ---- flags

@@ -7,7 +7,7 @@ use Rattle.grid.specs.declared.dir.Dir.TheVariants.{D, L, R, U}
 use Rattle.grid.specs.declared.cell.Cell.{Cell}
 use Rattle.grid.specs.declared.cell.Cell.TheVariants.{Wall, Goal, Box, BoxOnGoal, Player, PlayerOnGoal}
 use Rattle.grid.specs.declared.square.Push.{Push}
-use Rattle.grid.specs.Squares.{Squares, contains, insert, remove, places_from, first_or_0}
+use Rattle.grid.specs.Squares.{Squares, contains, insert, remove, places_from}
 
 -- what contracts see of a level: the length of a row, and the cells by rows.  A square is its row times the
 -- columns plus its column, both from 0, so it is the place of its cell in the list.
@@ -72,9 +72,9 @@ pub record Scene : Type 0 where
   pub boxes : Squares
   pub player : ℕ
 
--- the player's first square
+-- the player's square at the start: the first of those whose cell has the player, or 0 where none has
 abbrev pub start_player : Board → ℕ
-start_player board = first_or_0 (places_from player_cell 0 board.cells)
+start_player board = slice_index_or (places_from player_cell 0 board.cells) 0 0
 
 -- the state in which a level begins: a box on each square whose cell has one
 unfoldable pub start : Board → Scene

@@ -27,8 +27,7 @@ pub data InRoom (board : Board) : ℕ → Type 0 where
 abbrev pub IsOpen : Board → Type 0
 IsOpen board = (q : ℕ) × (d : Dir) × InRoom board q × (next board q d ≡ length board.cells)
 
--- the first fault that looking at the cells alone finds, in the order of their numbers: what is wrong with the size of the
--- board, and then with the numbers of players, boxes and goals
+-- the first fault that looking at the cells alone finds, in the order of their numbers: of the size, then of what stands there
 abbrev pub cell_fault : Board → Option LevelFault
 cell_fault board =
     cond (nat_lt MAX_ROWS (row_count board)) (Some TooTall)

@@ -12,8 +12,7 @@ use Rattle.grid.specs.Board.{Board, Scene, Walks, Pushes, IsSolved, next, start,
 abbrev pub push_at : Board → Scene → Dir → Push
 push_at board s d = record { square = next board s.player d; dir = d }
 
--- a play from s to t: steps one after the other through states that are all ok, with the directions of the
--- steps and the list of the pushes
+-- a play from s to t: steps one after the other through states that are all ok, with the steps' directions and the list of pushes
 pub data Play (board : Board) (ok : Scene → Type 0) : Scene → List Dir → List Push → Scene → Type 0 where
   stay : {s : Scene} → ok s → Play board ok s [] [] s
   walk : {s m t : Scene} {d : Dir} {ds : List Dir} {ps : List Push} → ok s → Walks board s d m → Play board ok m ds ps t → Play board ok s (d ∷ ds) ps t
@@ -31,18 +30,11 @@ IsSolution board ds ps = (t : Scene) × Play board Any (start board) ds ps t × 
 abbrev pub shortlex : {P : Type 0} → (P → P → Ordering) → List P → List P → Ordering
 shortlex cmp ps qs = ordering_then (nat_cmp (length ps) (length qs)) (slice_cmp cmp ps qs)
 
--- the order of solutions: fewer pushes, then the lesser push list, then fewer moves, then the lesser text
-abbrev pub solution_cmp : List Dir → List Push → List Dir → List Push → Ordering
-solution_cmp ds ps es qs = ordering_then (shortlex push_cmp ps qs) (shortlex dir_cmp ds es)
-
--- the directions ds with the pushes ps do not come after es with qs in that order
-abbrev pub NotAfter : List Dir → List Push → List Dir → List Push → Type 0
-NotAfter ds ps es qs = is_gt (solution_cmp ds ps es qs) ≡ false
-
--- the first solution in that order
+-- the first solution: none has fewer pushes, or else a lesser push list, or else fewer moves, or else a lesser text
 abbrev pub IsLeastSolution : Board → List Dir → List Push → Type 0
 IsLeastSolution board ds ps =
-    IsSolution board ds ps × ((es : List Dir) (qs : List Push) → IsSolution board es qs → NotAfter ds ps es qs)
+    IsSolution board ds ps ×
+    ((es : List Dir) (qs : List Push) → IsSolution board es qs → is_gt (ordering_then (shortlex push_cmp ps qs) (shortlex dir_cmp ds es)) ≡ false)
 
 -- the directions of a list of letters
 abbrev pub dirs_of : List Letter → List Dir

@@ -24,8 +24,3 @@ insert (x ∷ xs) q = cond (nat_lt q x) (q ∷ x ∷ xs) (cond (x == q) (x ∷ x
 abbrev pub places_from : {A : Type 0} → (A → Bool) → ℕ → List A → Squares
 places_from test k [] = []
 places_from test k (c ∷ cs) = cond (test c) (k ∷ places_from test (suc k) cs) (places_from test (suc k) cs)
-
--- the first number of a list, or 0
-abbrev pub first_or_0 : List ℕ → ℕ
-first_or_0 [] = 0
-first_or_0 (x ∷ xs) = x

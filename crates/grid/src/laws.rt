@@ -4,11 +4,11 @@ ghost use Rattle.grid.specs.Squares.{Squares, contains};
 ghost use Rattle.grid.specs.Rising.{is_rising};
 ghost use Rattle.grid.specs.Board.{Board, Scene, Walks, start, opposite, dir_cmp, push_cmp};
 ghost use Rattle.grid.specs.States.{IsScene, Steps};
-ghost use Rattle.grid.specs.Laws.{HasAsManyBoxes, scene_cmp};
+ghost use Rattle.grid.specs.Laws.{HasAsManyBoxes, scene_cmp, NotAfter};
 ghost use Rattle.grid.specs.declared.dir.Dir.TheVariants.{D, L, R, U};
 ghost use Rattle.grid.specs.Lawful.{IsLevel};
 ghost use Rattle.grid.specs.States.{FitsLevel};
-ghost use Rattle.grid.specs.Plays.{Play, Any, IsLeastSolution, NotAfter};
+ghost use Rattle.grid.specs.Plays.{Play, Any, IsLeastSolution};
 
 use crate::dir::Dir;
 use crate::position::Position;

@@ -15,7 +15,8 @@ use Rattle.area.specs.Area.{IsNorm}
 use Rattle.doom.specs.Deadlocks.{Doomed, Undoomed}
 use Rattle.layers.specs.Layered.{IsLead}
 use Rattle.layers.specs.Openings.{Origin, Entry}
-use Rattle.layers.specs.Tasks.{Task, Admits}
+use Rattle.layers.specs.Tasks.{Task}
+use Rattle.layers.specs.Capping.{Admits}
 use Rattle.layers.specs.Reaching.{Reaches}
 use Rattle.layers.specs.Origins.{share_of}
 use Rattle.layers.specs.BookView.{BookView, Closed, IsShareOfLayer, AreBounds, IsLawfulBook}

@@ -11,7 +11,8 @@ use Rattle.grid.specs.Lawful.{IsLevel}
 use Rattle.layers.specs.declared.parcel.Successor.{Successor}
 use Rattle.layers.specs.LayerView.{LayerView, IsWhole}
 use Rattle.layers.specs.ParcelView.{AreSuccessors, FitLevel, IsParcel}
-use Rattle.layers.specs.Tasks.{Task, uncapped}
+use Rattle.layers.specs.Tasks.{Task}
+use Rattle.layers.specs.Capping.{uncapped}
 use Rattle.layers.specs.Reaching.{IsLayerOf}
 use Rattle.layers.specs.Origins.{IsSuccessor}
 use Rattle.layers.proofs.lemmas.Successors.{successor_unique}

@@ -15,8 +15,10 @@ use Rattle.grid.specs.States.{FitsLevel}
 use Rattle.layers.specs.Layered.{IsIn}
 use Rattle.layers.specs.Openings.{Origin, origin_cmp, IsLayered}
 use Rattle.layers.specs.Origins.{IsSuccessor, share_of}
-use Rattle.layers.specs.Tasks.{Task, Admits}
-use Rattle.layers.specs.Reaching.{Reaches, IsLayerOf, IsLeadOf}
+use Rattle.layers.specs.Tasks.{Task}
+use Rattle.layers.specs.Capping.{Admits}
+use Rattle.layers.specs.Reaching.{Reaches, IsLayerOf}
+use Rattle.layers.specs.Leads.{IsLeadOf}
 use Rattle.layers.specs.BookView.{Closed, places_of, HasClosedOrigin, AreSharesOfLayer}
 use Rattle.layers.specs.FoundView.{origin_in}
 use Rattle.layers.specs.inside.Merging.{IsMerged}

@@ -15,7 +15,8 @@ use Rattle.doom.specs.Sums.{HaveDead}
 use Rattle.doom.proofs.lemmas.Bounds.{lower_once}
 use Rattle.layers.specs.declared.parcel.Successor.{Successor}
 use Rattle.layers.specs.Layered.{IsIn}
-use Rattle.layers.specs.Tasks.{Task, capped, uncapped}
+use Rattle.layers.specs.Tasks.{Task}
+use Rattle.layers.specs.Capping.{capped, uncapped}
 use Rattle.layers.specs.ParcelView.{AreSuccessors, FitLevel}
 use Rattle.layers.specs.inside.Sums.{AreSums}
 use Rattle.layers.specs.inside.Pruned.{Picks, IsWithin, ArePicked}

@@ -9,7 +9,8 @@ use Rattle.grid.specs.Lawful.{IsLevel}
 use Rattle.layers.specs.declared.limits.TheConstants.{MAX_SHARES, MAX_WORKERS, MOST_POSITIONS}
 use Rattle.layers.specs.Layered.{IsIn, IsLayer}
 use Rattle.layers.specs.Openings.{Origin, Entry, IsOpen}
-use Rattle.layers.specs.Tasks.{Task, Admits}
+use Rattle.layers.specs.Tasks.{Task}
+use Rattle.layers.specs.Capping.{Admits}
 use Rattle.layers.specs.Reaching.{Reaches, AreLayersOf, total}
 use Rattle.layers.specs.Origins.{IsSuccessor, HasOrigin, same_scene, share_of}
 use Rattle.layers.specs.Distances.{AreDistinct, IsAtDistance}

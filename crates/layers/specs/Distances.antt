@@ -2,7 +2,7 @@
 use Rattle.std.specs.Prelude.{◌≡◌, ℕ, ◌≤◌, List, length, slice_get, Some}
 use Rattle.grid.specs.declared.square.Push.{Push}
 use Rattle.grid.specs.Board.{Scene}
-use Rattle.layers.specs.Tasks.{Task, Admits}
+use Rattle.layers.specs.Tasks.{Task, IsAdmitted}
 use Rattle.layers.specs.Reaching.{Reaches}
 
 -- no position stands twice
@@ -11,4 +11,4 @@ AreDistinct ms = (i j : ℕ) (m : Scene) → slice_get ms i ≡ Some m → slice
 
 -- k pushes through undoomed positions lead to m, and no fewer, and m is admitted there
 abbrev pub IsAtDistance : Task → Scene → ℕ → Type 0
-IsAtDistance task m k = ((ps : List Push) × Reaches task.board ps m × (length ps ≡ k)) × ((qs : List Push) → Reaches task.board qs m → k ≤ length qs) × Admits task k m
+IsAtDistance task m k = ((ps : List Push) × Reaches task.board ps m × (length ps ≡ k)) × ((qs : List Push) → Reaches task.board qs m → k ≤ length qs) × IsAdmitted task.board task.cap k m

@@ -1,7 +1,9 @@
 pub mod Layered
 pub mod Openings
 pub mod Tasks
+pub mod Capping
 pub mod Reaching
+pub mod Leads
 pub mod Origins
 pub mod LayerView
 pub mod ParcelView

@@ -8,8 +8,10 @@ use Rattle.grid.specs.Plays.{Play}
 use Rattle.area.specs.Area.{IsNorm}
 use Rattle.doom.specs.Deadlocks.{Undoomed}
 use Rattle.layers.specs.Openings.{Origin}
-use Rattle.layers.specs.Tasks.{Task, Admits}
-use Rattle.layers.specs.Reaching.{IsLayerOf, IsLeadOf}
+use Rattle.layers.specs.Tasks.{Task}
+use Rattle.layers.specs.Capping.{Admits}
+use Rattle.layers.specs.Reaching.{IsLayerOf}
+use Rattle.layers.specs.Leads.{IsLeadOf}
 
 -- m is an undoomed successor of n by a push: a play from n with that push alone ends in a state of the normal form m
 abbrev pub IsSuccessor : Board → Scene → Push → Scene → Type 0

@@ -6,20 +6,16 @@ use Rattle.grid.specs.Board.{Board, Scene, start, push_cmp}
 use Rattle.grid.specs.Plays.{Play}
 use Rattle.area.specs.Area.{IsNorm}
 use Rattle.doom.specs.Deadlocks.{Undoomed}
-use Rattle.layers.specs.Layered.{IsLead, IsLayer}
-use Rattle.layers.specs.Tasks.{Task, Admits}
+use Rattle.layers.specs.Layered.{IsLayer}
+use Rattle.layers.specs.Tasks.{Task, IsAdmitted}
 
 -- ps are the pushes of a play from the start, through undoomed positions alone, to a state of the normal form n
 abbrev pub Reaches : Board → List Push → Scene → Type 0
 Reaches board ps n = (ds : List Dir) × (t : Scene) × Play board (Undoomed board) (start board) ds ps t × IsNorm board t n
 
--- ps is the lead of n: the least push list through undoomed positions that leads there
-abbrev pub IsLeadOf : Board → Scene → List Push → Type 0
-IsLeadOf board n ps = IsLead push_cmp (Reaches board) n ps
-
 -- xs is layer k of the level under its cap: the admitted normal forms whose leads have length k, in the order of their leads
 abbrev pub IsLayerOf : Task → ℕ → List Scene → Type 0
-IsLayerOf task k xs = IsLayer push_cmp (Reaches task.board) (Admits task) k xs
+IsLayerOf task k xs = IsLayer push_cmp (Reaches task.board) (IsAdmitted task.board task.cap) k xs
 
 -- layers holds the first layers of the level, layer 0 first
 abbrev pub AreLayersOf : Task → List (List Scene) → Type 0

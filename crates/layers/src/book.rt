@@ -3,7 +3,7 @@ ghost use Rattle.grid.specs.Board.{start};
 ghost use Rattle.grid.specs.Lawful.{box_count};
 ghost use Rattle.grid.specs.States.{FitsLevel};
 ghost use Rattle.layers.specs.BookView.{AreBounds, IsLawfulBook, IsShareOfLayer, last_layer};
-ghost use Rattle.layers.specs.Tasks.{HasBound, capped};
+ghost use Rattle.layers.specs.Capping.{HasBound, capped};
 ghost use Rattle.layers.specs.Books.{AreNewShares, IsNew, BookRefused, closed_place};
 ghost use Rattle.layers.specs.inside.BookInside.{AreCuts, IsFirst, IsPiece};
 ghost use Rattle.layers.specs.FoundView.{first_entries};

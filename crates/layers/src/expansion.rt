@@ -1,7 +1,7 @@
 ghost use Rattle.std.specs.Prelude.{◌≡◌, ◌<◌, ◌≤◌, MatchOption, None, length, take, slice_get, Some};
 ghost use Rattle.grid.specs.Board.{Scene};
 ghost use Rattle.layers.specs.ParcelView.{AreSuccessors, FitLevel, IsParcel};
-ghost use Rattle.layers.specs.Tasks.{capped, uncapped};
+ghost use Rattle.layers.specs.Capping.{capped, uncapped};
 ghost use Rattle.layers.specs.inside.ParcelInside.{parcel_of};
 ghost use Rattle.layers.specs.inside.Sums.{AreSums};
 

@@ -58,7 +58,7 @@ pub struct Parcel<'a> {
 impl<'a> Model for Parcel<'a> {
     ghost use Rattle.std.specs.Prelude.{◌≤◌, length, take};
     ghost use Rattle.layers.specs.ParcelView.{ParcelView, IsParcel};
-    ghost use Rattle.layers.specs.Tasks.{capped};
+    ghost use Rattle.layers.specs.Capping.{capped};
     ghost use Rattle.layers.specs.inside.Dealt.{IsDealt};
     ghost use Rattle.layers.specs.inside.ParcelInside.{parcel_of};
     ghost use Rattle.layers.specs.inside.Sums.{AreSums};

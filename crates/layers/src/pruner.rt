@@ -1,5 +1,5 @@
 ghost use Rattle.std.specs.Prelude.{◌≡◌, IfOk};
-ghost use Rattle.layers.specs.Tasks.{HasBound, capped};
+ghost use Rattle.layers.specs.Capping.{HasBound, capped};
 
 use crate::pruning::bound_for;
 use doom::{Bound, Dead};
@@ -17,7 +17,8 @@ pub struct Pruner {
 }
 
 impl Model for Pruner {
-    ghost use Rattle.layers.specs.Tasks.{Task, HasBound, capped};
+    ghost use Rattle.layers.specs.Tasks.{Task};
+    ghost use Rattle.layers.specs.Capping.{HasBound, capped};
 
     ghost Value = { Task };
 

@@ -3,7 +3,7 @@ ghost use Rattle.std.specs.Prelude.{◌≡◌, ◌<◌, ◌≤◌, ◌↔◌, So
 ghost use Rattle.std.specs.List.{swap};
 ghost use Rattle.grid.specs.Board.{Scene};
 ghost use Rattle.grid.specs.States.{FitsLevel};
-ghost use Rattle.layers.specs.Tasks.{Admits, HasBound, capped, uncapped};
+ghost use Rattle.layers.specs.Capping.{Admits, HasBound, capped, uncapped};
 ghost use Rattle.layers.specs.ParcelView.{AreSuccessors, FitLevel};
 ghost use Rattle.layers.specs.inside.Pruned.{ArePicked, IsWithin};
 ghost use Rattle.layers.specs.inside.Sums.{AreSums};

@@ -5,7 +5,7 @@ ghost use Rattle.grid.specs.States.{FitsLevel};
 ghost use Rattle.doom.specs.Deadlocks.{Undoomed};
 ghost use Rattle.layers.specs.ParcelView.{AreSuccessors, FitLevel, IsAppended};
 ghost use Rattle.layers.specs.Origins.{IsSuccessor};
-ghost use Rattle.layers.specs.Tasks.{uncapped};
+ghost use Rattle.layers.specs.Capping.{uncapped};
 ghost use Rattle.area.specs.Pushes.{ArePushes, CanPush};
 ghost use Rattle.area.specs.After.{IsAreaOf};
 ghost use Rattle.layers.specs.inside.Sums.{AreSums, scene_sum};

@@ -1,7 +1,7 @@
 ghost use Rattle.std.specs.Prelude.{◌≡◌, ◌↔◌, IsTrue, IfOk};
 ghost use Rattle.std.specs.Arc.{arc_value};
 ghost use Rattle.grid.specs.Lawful.{IsLevel, box_count};
-ghost use Rattle.layers.specs.Tasks.{capped};
+ghost use Rattle.layers.specs.Capping.{capped};
 
 use grid::Level;
 use std::alloc::AllocError;
@@ -17,7 +17,8 @@ pub(crate) struct Task {
 
 impl Model for Task {
     ghost use Rattle.std.specs.Arc.{arc_value};
-    ghost use Rattle.layers.specs.Tasks.{Task as LevelWithCap, capped};
+    ghost use Rattle.layers.specs.Tasks.{Task as LevelWithCap};
+    ghost use Rattle.layers.specs.Capping.{capped};
 
     ghost Value = { LevelWithCap };
 

@@ -10,7 +10,8 @@ use Rattle.grid.specs.Board.{Board, Scene, Walks, Pushes, IsSolved, start, next,
 use Rattle.grid.specs.Plays.{Play, stay, walk, push, Any, letters_of}
 use Rattle.lurd.specs.declared.verdict.Verdict.{Verdict}
 use Rattle.lurd.specs.declared.verdict.Verdict.TheVariants.{Solved, Unsolved, Blocked, WrongCase}
-use Rattle.lurd.specs.Verdict.{Leads, IsBlocked, StepsAgainstCase, HasWrongCase, StopsAt, EndsAs, IsVerdict, upper_count}
+use Rattle.lurd.specs.Verdict.{Leads, IsBlocked, StepsAgainstCase, HasWrongCase, StopsAt, EndsAs, IsVerdict}
+use Rattle.lurd.specs.inside.Item.{upper_count}
 use Rattle.lurd.specs.ExactlyOne.{ExactlyOne}
 use Rattle.lurd.proofs.Leading.{letter_by, leads_nowhere, leads_on_by_walk, leads_on_by_push}
 

@@ -18,7 +18,7 @@ use Rattle.grid.proofs.lemmas.Orders.{not_gt_itself, not_gt_since_less, dir_cmp_
 use Rattle.grid.proofs.lemmas.Plays.{play_scene, play_push_on, walk_keeps_boxes, push_from, cut_push, cut_last_push}
 use Rattle.area.specs.Area.{at, Area}
 use Rattle.area.specs.LeastWalks.{IsLeastWalk, WalkAnswer, walk_letters}
-use Rattle.layers.specs.Reaching.{IsLeadOf}
+use Rattle.layers.specs.Leads.{IsLeadOf}
 use Rattle.layers.specs.Expansion.{after_push}
 use Rattle.area.specs.Pushes.{CanPush}
 use Rattle.layers.proofs.lemmas.Successors.{pushes_on, after_scene}

@@ -12,7 +12,8 @@ use Rattle.layers.specs.Distances.{IsAtDistance}
 use Rattle.layers.proofs.lemmas.Layers.{place_unique}
 use Rattle.layers.proofs.lemmas.Closings.{take_at}
 use Rattle.layers.proofs.lemmas.Books.{level_laws, read_at, take_short, total-take_more}
-use Rattle.solo.specs.Answers.{HaveTotal, HasInAll, IsFewest, IsSolutionOf, IsUnsolvable, PassesLimit}
+use Rattle.solo.specs.Answers.{HaveTotal, HasInAll, IsSolutionOf, PassesLimit}
+use Rattle.solo.specs.Fewest.{IsFewest, IsUnsolvable}
 use Rattle.solo.proofs.Solving.{layer_distance}
 use Rattle.solo.proofs.Uniqueness.{solved_passes, unsolvable_passes}
 

@@ -10,7 +10,8 @@ use Rattle.grid.proofs.lemmas.Plays.{play_any}
 use Rattle.layers.specs.Tasks.{Task}
 use Rattle.layers.specs.LayerView.{LayerView, IsWhole}
 use Rattle.layers.specs.Openings.{Origin}
-use Rattle.layers.specs.Reaching.{IsLayerOf, IsLeadOf}
+use Rattle.layers.specs.Reaching.{IsLayerOf}
+use Rattle.layers.specs.Leads.{IsLeadOf}
 use Rattle.layers.specs.Origins.{HasOrigin}
 use Rattle.solo.specs.Leads.{AreFirstLayers, WritesLead, places_or_none, last_places, level_of}
 use Rattle.solo.specs.inside.Searched.{AreTrailed, IsNextOf}

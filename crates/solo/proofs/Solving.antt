@@ -13,7 +13,8 @@ use Rattle.grid.specs.declared.moves.Letter.{Letter}
 use Rattle.grid.specs.Squares.{Squares, contains}
 use Rattle.grid.specs.Board.{Board, Scene, IsSolved, start, dir_cmp, push_cmp}
 use Rattle.grid.specs.Lawful.{IsLevel}
-use Rattle.grid.specs.Plays.{Play, Any, IsSolution, shortlex, solution_cmp, dirs_of}
+use Rattle.grid.specs.Plays.{Play, Any, IsSolution, shortlex, dirs_of}
+use Rattle.grid.specs.Laws.{solution_cmp}
 use Rattle.grid.proofs.lemmas.Levels.{start_is_scene}
 use Rattle.grid.proofs.lemmas.Orders.{push_cmp_total, push_cmp_exact, shortlex_total, shortlex_exact}
 use Rattle.grid.proofs.lemmas.Plays.{play_scene, play_boxes}
@@ -21,8 +22,10 @@ use Rattle.area.proofs.lemmas.Norms.{norm_exists}
 use Rattle.doom.proofs.lemmas.Bounds.{solved_need_none}
 use Rattle.doom.proofs.lemmas.Soundness.{solution_safe}
 use Rattle.layers.specs.Layered.{IsIn}
-use Rattle.layers.specs.Tasks.{Task, Admits, IsAdmitted}
-use Rattle.layers.specs.Reaching.{Reaches, IsLeadOf, IsLayerOf, AreLayersOf, total}
+use Rattle.layers.specs.Tasks.{Task, IsAdmitted}
+use Rattle.layers.specs.Capping.{Admits}
+use Rattle.layers.specs.Reaching.{Reaches, IsLayerOf, AreLayersOf, total}
+use Rattle.layers.specs.Leads.{IsLeadOf}
 use Rattle.layers.specs.Distances.{IsAtDistance}
 use Rattle.layers.proofs.lemmas.Exchange.{lead-length, lead_unique, found}
 use Rattle.layers.proofs.lemmas.Layers.{place_unique}

@@ -12,7 +12,8 @@ use Rattle.grid.specs.Plays.{Play, stay, walk, push, dirs_of, letters_of}
 use Rattle.grid.proofs.lemmas.Orders.{least_solution_same}
 use Rattle.grid.proofs.lemmas.Steps.{walk_same, push_same, not_both}
 use Rattle.layers.specs.Layered.{IsIn}
-use Rattle.layers.specs.Tasks.{Task, Admits}
+use Rattle.layers.specs.Tasks.{Task}
+use Rattle.layers.specs.Capping.{Admits}
 use Rattle.layers.specs.Reaching.{IsLayerOf, AreLayersOf, total}
 use Rattle.layers.specs.Distances.{AreDistinct, IsAtDistance}
 use Rattle.layers.proofs.lemmas.Exchange.{lead-length}

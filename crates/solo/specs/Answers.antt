@@ -35,18 +35,13 @@ IsSolutionOf task ds ps = IsSolution task.board ds ps × KeepsCap task.cap (leng
 abbrev pub HaveTotal : Task → ℕ → ℕ → Type 0
 HaveTotal task n positions = (layers : List (List Scene)) × AreLayersOf task layers × (length layers ≡ n) × (total layers ≡ positions)
 
--- all layers of the level together have so many positions: layer n is the first without one, so all later ones are
--- empty too
+-- all layers of the level together have so many positions: layer n is the first without one, so all later ones are empty too
 pub record HasInAll (task : Task) (positions : ℕ) : Type 0 where
   pub layers : List (List Scene)
   pub are : AreLayersOf task layers
   pub last : slice_get layers (length layers - 1) ≡ Some []
   pub first : (j : ℕ) → slice_get layers j ≡ Some [] → j ≡ length layers - 1
   pub total : total layers ≡ positions
-
--- no play solves the level within the cap
-abbrev pub IsUnsolvable : Task → Type 0
-IsUnsolvable task = (ds : List Dir) (ps : List Push) → ¬ (IsSolutionOf task ds ps)
 
 -- the positions that are needed are more than the limit: those of the layers before some layer k together with some
 -- positions of layer k, while each solution within the cap has k pushes or more
@@ -61,7 +56,8 @@ pub record PassesLimit (task : Task) (limit : ℕ) : Type 0 where
 
 -- no play solves the level within the cap, and all its layers together have so many positions, no more than the limit
 abbrev pub HasNone : Task → ℕ → ℕ → Type 0
-HasNone task limit positions = IsUnsolvable task × HasInAll task positions × (positions ≤ limit)
+HasNone task limit positions =
+    ((ds : List Dir) (ps : List Push) → ¬ (IsSolutionOf task ds ps)) × HasInAll task positions × (positions ≤ limit)
 
 -- the answer: the least solution, with its number of pushes, which are within the cap, and the number of positions that so
 -- many pushes or fewer lead to; or that no play ends solved, within the cap if one is set, with the number of all
@@ -72,8 +68,3 @@ IsAnswer task limit (Solved moves pushes positions) =
 IsAnswer task limit (Unsolvable positions) = (task.cap ≡ None) × HasNone task limit positions
 IsAnswer task limit (NoneWithin positions) = ¬ (task.cap ≡ None) × HasNone task limit positions
 IsAnswer task limit Limit = PassesLimit task limit
-
--- k is the least number of pushes of a solution within the cap
-abbrev pub IsFewest : Task → ℕ → Type 0
-IsFewest task k =
-    ((ds : List Dir) × (ps : List Push) × IsSolutionOf task ds ps × (length ps ≡ k)) × ((ds : List Dir) (ps : List Push) → IsSolutionOf task ds ps → k ≤ length ps)

@@ -7,7 +7,8 @@ ghost use Rattle.layers.specs.BookView.{BookView, IsLawfulBook};
 ghost use Rattle.grid.specs.declared.square.Push.{Push};
 ghost use Rattle.layers.specs.Openings.{Origin};
 ghost use Rattle.layers.specs.Reaching.{IsLayerOf};
-ghost use Rattle.solo.specs.Answers.{HasInAll, HaveTotal, IsAnswer, IsFewest, IsUnsolvable};
+ghost use Rattle.solo.specs.Answers.{HasInAll, HaveTotal, IsAnswer};
+ghost use Rattle.solo.specs.Fewest.{IsFewest, IsUnsolvable};
 ghost use Rattle.solo.specs.inside.Searched.{IsLookedAt};
 ghost use Rattle.solo.specs.declared.answer.Answer.TheVariants.{Limit};
 

@@ -16,8 +16,7 @@ use Rattle.xsb.specs.inside.Reading.{cut_lines}
 use Rattle.xsb.specs.inside.Gaps.{IsGap, ReadsGap, BeginsBoard, BeginsGap}
 use Rattle.xsb.specs.inside.Stretches.{ReadsBoard, ReadsNoBoard, HasRows}
 use Rattle.xsb.specs.Entries.{IsBoardEntry, IsEntry}
-use Rattle.xsb.specs.Judged.{IsJudged}
-use Rattle.xsb.specs.Collection.{Found, Part, IsPart, AreApart, AreFound, IsCollection}
+use Rattle.xsb.specs.Collection.{Found, Part, IsPart, AreApart, AreFound, IsCollection, IsJudged}
 use Rattle.xsb.specs.declared.reader.Collection.{Collection}
 use Rattle.xsb.specs.inside.Progress.{HasRead, GivesNext}
 use Rattle.xsb.proofs.RowLines.{AllZip-last}

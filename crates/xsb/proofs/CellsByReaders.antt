@@ -12,7 +12,8 @@ use Rattle.grid.specs.Lawful.{IsLevel, row_count, player_count}
 use Rattle.grid.proofs.lemmas.Levels.{counts_of, player_at_start, start_player_is}
 use Rattle.xsb.specs.Boards.{before_rest, cut_end, cut_row, is_floor}
 use Rattle.xsb.specs.Rereading.{cell_with}
-use Rattle.xsb.specs.Written.{written, written_row, rows_from}
+use Rattle.xsb.specs.Written.{written, rows_from}
+use Rattle.xsb.specs.inside.Bytes.{written_row}
 use Rattle.xsb.proofs.CutEnds.{cut_end-last_blank, cut_end-last_other}
 
 cell_with-cell : (c : Cell) → cell_with (wall_cell c) (box_cell c) (player_cell c) (goal_cell c) ≡ c

@@ -11,14 +11,14 @@ use Rattle.grid.specs.declared.cell.Cell.{Cell}
 use Rattle.grid.specs.declared.cell.Cell.TheVariants.{Wall, Floor, Goal, Box, BoxOnGoal, Player, PlayerOnGoal}
 use Rattle.grid.specs.Board.{Board}
 use Rattle.grid.specs.Lawful.{IsLevel, row_count}
-use Rattle.xsb.specs.inside.Bytes.{bar, wall_byte, line_feed, carriage_return, cell_of}
+use Rattle.xsb.specs.inside.Bytes.{bar, wall_byte, line_feed, carriage_return, cell_of, written_row}
 use Rattle.xsb.specs.Lines.{without_mark, without_last, without_last_empty, lines_of_text}
 use Rattle.xsb.specs.Boards.{before_rest, cut_end, cut_row, is_floor, cols_of, padded, board_of}
 use Rattle.xsb.specs.Names.{name_of}
 use Rattle.xsb.specs.Rows.{counted, IsRow, done, more, IsRowLine, byte_of}
 use Rattle.xsb.specs.Collection.{Part, IsCollection}
-use Rattle.xsb.specs.Written.{written, written_row, rows_from, rows_of_board}
-use Rattle.xsb.specs.Rereading.{HasWallInEachRow, HasFullRow}
+use Rattle.xsb.specs.Written.{written, rows_from}
+use Rattle.xsb.specs.Rereading.{HasWallInEachRow, HasFullRow, rows_of_board}
 use Rattle.xsb.proofs.CellBytes.{cell_of-byte_of}
 use Rattle.xsb.proofs.CutEnds.{filled-padded, length-cut_end}
 use Rattle.xsb.proofs.RowLines.{some_of, has_byte-is}

@@ -1,8 +1,10 @@
--- The boards of a collection: a relation between bytes and what stands in them.
-use Rattle.std.specs.Prelude.{◌≡◌, ℕ, suc, ◌+◌, ◌<◌, ⊤, List, [], ◌∷◌, ◌++◌, length, flat_map}
+-- The boards of a collection: a relation between bytes and what stands in them, and how a board is judged.
+use Rattle.std.specs.Prelude.{◌≡◌, ℕ, suc, ◌+◌, ◌<◌, ⊤, List, [], ◌∷◌, ◌++◌, length, flat_map, Result, Ok, Err}
 use Rattle.std.specs.List.{AllZip, AllByRecursion}
 use Rattle.grid.specs.declared.cell.Cell.{Cell}
+use Rattle.grid.specs.declared.fault.LevelFault.{LevelFault}
 use Rattle.grid.specs.Board.{Board}
+use Rattle.grid.specs.Lawful.{IsLevel, HasFault}
 use Rattle.xsb.specs.Lines.{lines_of_text}
 use Rattle.xsb.specs.Rows.{IsRowLine, IsTextLine}
 use Rattle.xsb.specs.Boards.{board_of}
@@ -54,3 +56,8 @@ AreFound line before parts founds = ⊥
 unfoldable pub IsCollection : List ℕ → List Found → Type 0
 IsCollection bytes founds =
     (gap : List (List ℕ)) × (parts : List Part) × AreParts (lines_of_text bytes) gap parts × AreFound (suc (length gap)) gap parts founds
+
+-- the board is a lawful level and that level is given, or it has the fault that is given
+abbrev pub IsJudged : Board → Result Board LevelFault → Type 0
+IsJudged board (Ok level) = (level ≡ board) × IsLevel level
+IsJudged board (Err fault) = HasFault board fault

@@ -2,8 +2,7 @@
 use Rattle.std.specs.Prelude.{◌≡◌}
 use Rattle.xsb.specs.declared.entry.BoardEntry.{BoardEntry}
 use Rattle.xsb.specs.declared.entry.Entry.{Entry}
-use Rattle.xsb.specs.Collection.{Found}
-use Rattle.xsb.specs.Judged.{IsJudged}
+use Rattle.xsb.specs.Collection.{Found, IsJudged}
 
 -- the entry of a board that was found
 pub record IsEntry (entry : Entry) (found : Found) : Type 0 where

@@ -4,7 +4,6 @@ pub mod Boards
 pub mod Names
 pub mod Collection
 pub mod Entries
-pub mod Judged
 pub mod Written
 pub mod Rereading
 pub mod inside

@@ -1,10 +1,15 @@
 -- When a written level is read back as it was.
-use Rattle.std.specs.Prelude.{◌≡◌, Bool, cond, Any, All, Contains}
+use Rattle.std.specs.Prelude.{◌≡◌, Bool, List, cond, Any, All, Contains}
 use Rattle.grid.specs.declared.cell.Cell.{Cell}
 use Rattle.grid.specs.declared.cell.Cell.TheVariants.{Wall, Floor, Goal, Box, BoxOnGoal, Player, PlayerOnGoal}
 use Rattle.grid.specs.Board.{Board}
+use Rattle.grid.specs.Lawful.{row_count}
 use Rattle.xsb.specs.Boards.{cut_row}
-use Rattle.xsb.specs.Written.{rows_of_board}
+use Rattle.xsb.specs.Written.{rows_from}
+
+-- the rows of a board
+abbrev pub rows_of_board : Board → List (List Cell)
+rows_of_board board = rows_from (row_count board) board.cols board.cells
 
 -- each row has a wall
 abbrev pub HasWallInEachRow : Board → Type 0

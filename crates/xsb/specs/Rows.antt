@@ -15,8 +15,7 @@ byte_of BoxOnGoal = 42
 byte_of Goal = 46
 byte_of Floor = 32
 
--- the byte stands for the cell: `#` wall, `@` player, `+` player on goal, `$` box, `*` box on goal, `.` goal; the space, `-` and
--- `_` floor
+-- the byte stands for the cell: `#` wall, `@` player, `+` player on goal, `$` box, `*` box on goal, `.` goal; space, `-`, `_` floor
 abbrev pub StandsFor : ℕ → Cell → Type 0
 StandsFor b c = (b ≡ byte_of c) ⊎ (((b ≡ 45) ⊎ (b ≡ 95)) × (c ≡ Floor))
 

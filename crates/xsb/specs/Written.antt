@@ -1,6 +1,5 @@
 -- How a level is written.
 use Rattle.std.specs.Prelude.{ℕ, zero, suc, List, [], ◌∷◌, ◌++◌, map, take, drop, flat_map}
-use Rattle.grid.specs.declared.cell.Cell.{Cell}
 use Rattle.grid.specs.Board.{Board}
 use Rattle.grid.specs.Lawful.{row_count}
 use Rattle.xsb.specs.Rows.{byte_of}
@@ -11,14 +10,6 @@ abbrev pub rows_from : {A : Type 0} → ℕ → ℕ → List A → List (List A)
 rows_from zero cols xs = []
 rows_from (suc n) cols xs = take cols xs ∷ rows_from n cols (drop cols xs)
 
--- the rows of a board
-abbrev pub rows_of_board : Board → List (List Cell)
-rows_of_board board = rows_from (row_count board) board.cols board.cells
-
--- a row as it is written: without floor at its end, ended by a line feed
-abbrev pub written_row : List Cell → List ℕ
-written_row row = map byte_of (cut_row row) ++ 10 ∷ []
-
--- a board as it is written, row by row
+-- a board as it is written, row by row: each without floor at its end, and ended by a line feed
 unfoldable pub written : Board → List ℕ
-written board = flat_map written_row (rows_of_board board)
+written board = flat_map (λ row. map byte_of (cut_row row) ++ 10 ∷ []) (rows_from (row_count board) board.cols board.cells)

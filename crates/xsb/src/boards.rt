@@ -2,7 +2,7 @@
 ghost use Rattle.std.specs.Prelude.{◌≡◌, ◌≢◌, List, MatchOption, MatchBool, IfOk};
 ghost use Rattle.grid.specs.declared.cell.Cell.{Cell};
 ghost use Rattle.xsb.specs.Boards.{board_of};
-ghost use Rattle.xsb.specs.Judged.{IsJudged};
+ghost use Rattle.xsb.specs.Collection.{IsJudged};
 ghost use Rattle.xsb.specs.inside.Stretches.{AreCellsOf, HasRows, ReadsBoard, ReadsNoBoard};
 
 use crate::lines::{Lines, cut_line};

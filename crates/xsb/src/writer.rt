@@ -4,7 +4,8 @@ ghost use Rattle.grid.specs.Lawful.{IsLevel};
 ghost use Rattle.xsb.specs.Boards.{cut_row};
 ghost use Rattle.xsb.specs.Collection.{IsCollection};
 ghost use Rattle.xsb.specs.Rereading.{cell_with, HasWallInEachRow, HasFullRow};
-ghost use Rattle.xsb.specs.Written.{written, written_row};
+ghost use Rattle.xsb.specs.Written.{written};
+ghost use Rattle.xsb.specs.inside.Bytes.{written_row};
 
 use crate::bytes::LINE_FEED;
 use crate::cells::{byte_of, is_floor};

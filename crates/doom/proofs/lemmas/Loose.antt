@@ -5,8 +5,8 @@ use Rattle.grid.specs.Squares.{Squares, insert, remove}
 use Rattle.grid.specs.Board.{Board}
 use Rattle.grid.proofs.lemmas.Squares.{contains-insert_cases, contains-remove_parts}
 use Rattle.grid.proofs.lemmas.Steps.{inside_grid}
-use Rattle.doom.specs.Deadlocks.{IsDead, IsBlocked, IsFrozen}
-use Rattle.doom.specs.Loose.{IsLoose, LooseDoomsNothing}
+use Rattle.doom.specs.Deadlocks.{IsDead, IsFrozen}
+use Rattle.doom.specs.Loose.{IsLoose, LooseDoomsNothing, IsBlocked}
 use Rattle.doom.proofs.Peeling.{held_by_more}
 use Rattle.doom.proofs.Ways.{live_floor}
 

@@ -12,7 +12,7 @@ use Rattle.grid.specs.Board.{Board, Scene, is_wall, wall_cell, box_cell, player_
 use Rattle.grid.specs.States.{IsScene, Steps, FitsLevel, has_box, start_boxes}
 use Rattle.grid.specs.Lawful.{IsLevel, row_count, box_count, goal_count, player_count, cell_fault}
 use Rattle.grid.specs.inside.Counting.{count_fault}
-use Rattle.grid.proofs.Marked.{is_rising-places_from, contains-places, contains-first_or_0, length-places_from, first_place}
+use Rattle.grid.proofs.Marked.{is_rising-places_from, contains-places, contains-first, length-places_from, first_place}
 use Rattle.grid.proofs.lemmas.Steps.{scene_after_step, length-step}
 
 -- ---- what a lawful level has
@@ -108,7 +108,7 @@ pub player_at_start : (board : Board) → player_count board ≡ 1 → player_ce
 player_at_start board one =
     let places = places_from player_cell 0 board.cells in
     let size = length-places_from player_cell 0 board.cells in
-    sym (contains-places player_cell board.cells (start_player board) Wall refl) ∙ contains-first_or_0 places (omega arith)
+    sym (contains-places player_cell board.cells (start_player board) Wall refl) ∙ contains-first places (omega arith)
 
 -- a square whose cell has the player is the player's at the start
 pub start_player_is : (board : Board) (q : ℕ) → player_count board ≡ 1 → player_cell (get_or board.cells q Wall) ≡ true → start_player board ≡ q

@@ -12,7 +12,8 @@ use Rattle.grid.specs.declared.dir.Dir.{Dir}
 use Rattle.grid.specs.declared.dir.Dir.TheVariants.{D, L, R, U}
 use Rattle.grid.specs.declared.square.Push.{Push}
 use Rattle.grid.specs.Board.{Board, dir_cmp, push_cmp, dir_number}
-use Rattle.grid.specs.Plays.{IsSolution, IsLeastSolution, shortlex, solution_cmp}
+use Rattle.grid.specs.Plays.{IsSolution, IsLeastSolution, shortlex}
+use Rattle.grid.specs.Laws.{solution_cmp}
 use Rattle.grid.proofs.lemmas.Plays.{play_same}
 
 -- ---- one order, then another

@@ -11,7 +11,8 @@ use Rattle.grid.proofs.lemmas.Steps.{walk_boxes, scene_after_walk, scene_after_p
 use Rattle.area.proofs.lemmas.Norms.{norm_walk}
 use Rattle.doom.specs.Bounds.{IsLower}
 use Rattle.doom.proofs.lemmas.Bounds.{push_lessens}
-use Rattle.layers.specs.Tasks.{Task, IsAdmitted, Admits}
+use Rattle.layers.specs.Tasks.{Task, IsAdmitted}
+use Rattle.layers.specs.Capping.{Admits}
 use Rattle.layers.specs.Reaching.{Reaches}
 use Rattle.layers.specs.Origins.{IsSuccessor}
 

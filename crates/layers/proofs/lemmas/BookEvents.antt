@@ -12,7 +12,7 @@ use Rattle.grid.specs.Board.{Scene, push_cmp}
 use Rattle.grid.specs.States.{FitsLevel}
 use Rattle.layers.specs.Layered.{IsLayer}
 use Rattle.layers.specs.Openings.{Origin, origin_cmp, Entry, IsNext, IsOpen, IsLayered}
-use Rattle.layers.specs.Tasks.{Admits}
+use Rattle.layers.specs.Capping.{Admits}
 use Rattle.layers.specs.Reaching.{Reaches, IsLayerOf, total}
 use Rattle.layers.specs.Origins.{IsSuccessor, HasOrigin}
 use Rattle.layers.specs.LayerView.{LayerView, IsWhole}

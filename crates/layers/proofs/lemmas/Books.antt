@@ -15,7 +15,8 @@ use Rattle.grid.proofs.lemmas.Levels.{start_is_scene}
 use Rattle.layers.specs.declared.parcel.Successor.{Successor}
 use Rattle.layers.specs.Layered.{IsIn}
 use Rattle.layers.specs.Openings.{Entry, IsOpen, IsLayered}
-use Rattle.layers.specs.Tasks.{Task, Admits}
+use Rattle.layers.specs.Tasks.{Task}
+use Rattle.layers.specs.Capping.{Admits}
 use Rattle.layers.specs.Reaching.{Reaches, IsLayerOf, AreLayersOf, total}
 use Rattle.layers.specs.Origins.{IsSuccessor, IsSuccessorIn, same_scene, share_of}
 use Rattle.layers.specs.LayerView.{LayerView, IsWhole}

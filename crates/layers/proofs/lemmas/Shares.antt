@@ -9,8 +9,10 @@ use Rattle.grid.specs.Board.{Scene}
 use Rattle.grid.specs.Lawful.{IsLevel}
 use Rattle.layers.specs.Layered.{IsIn}
 use Rattle.layers.specs.Origins.{share_of}
-use Rattle.layers.specs.Tasks.{Task, Admits}
-use Rattle.layers.specs.Reaching.{IsLayerOf, IsLeadOf, AreLayersOf, total}
+use Rattle.layers.specs.Tasks.{Task}
+use Rattle.layers.specs.Capping.{Admits}
+use Rattle.layers.specs.Reaching.{IsLayerOf, AreLayersOf, total}
+use Rattle.layers.specs.Leads.{IsLeadOf}
 use Rattle.layers.specs.BookView.{BookView, Closed, places_of, last_layer, last_list, IsShareOfLayer, AreSharesOfLayer, IsLawfulBook, AreLawfulBooks}
 use Rattle.layers.specs.Books.{AreAllShares}
 use Rattle.layers.proofs.lemmas.Layers.{member, place_unique, layers_apart}

@@ -7,7 +7,8 @@ use Rattle.grid.specs.declared.moves.Letter.{Letter}
 use Rattle.grid.specs.Board.{Board, Scene, start}
 use Rattle.grid.specs.Plays.{Play, stay, walk, push, Any, IsSolution, dirs_of, letters_of}
 use Rattle.lurd.specs.declared.verdict.Verdict.TheVariants.{Solved}
-use Rattle.lurd.specs.Verdict.{IsVerdict, upper_count}
+use Rattle.lurd.specs.Verdict.{IsVerdict}
+use Rattle.lurd.specs.inside.Item.{upper_count}
 use Rattle.lurd.specs.Solving.{WritesSolution}
 
 -- the directions of the letters of a play are its directions

@@ -10,7 +10,7 @@ use Rattle.area.specs.LeastWalks.{IsLeastWalk, walk_letters}
 use Rattle.layers.specs.LayerView.{LayerView}
 use Rattle.layers.specs.Openings.{Origin}
 use Rattle.layers.specs.Tasks.{Task}
-use Rattle.layers.specs.Reaching.{IsLeadOf}
+use Rattle.layers.specs.Leads.{IsLeadOf}
 use Rattle.solo.specs.Leads.{last_places}
 
 -- some play from the start has these pushes

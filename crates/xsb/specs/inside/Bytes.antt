@@ -1,7 +1,9 @@
--- The names of the bytes that part a text, and the cell of each byte.
-use Rattle.std.specs.Prelude.{ℕ, cond, ◌==◌, Option, Some, None}
+-- The names of the bytes that part a text, the cell of each byte, and the bytes of a row.
+use Rattle.std.specs.Prelude.{ℕ, cond, ◌==◌, List, [], ◌∷◌, ◌++◌, map, Option, Some, None}
 use Rattle.grid.specs.declared.cell.Cell.{Cell}
 use Rattle.grid.specs.declared.cell.Cell.TheVariants.{Wall, Floor, Goal, Box, BoxOnGoal, Player, PlayerOnGoal}
+use Rattle.xsb.specs.Boards.{cut_row}
+use Rattle.xsb.specs.Rows.{byte_of}
 
 -- LF ends a line
 abbrev pub line_feed : ℕ
@@ -31,3 +33,7 @@ cell_of b =
     (cond (b == 32) (Some Floor)
     (cond (b == 45) (Some Floor)
     (cond (b == 95) (Some Floor) None))))))))
+
+-- a row as it is written: without floor at its end, ended by a line feed
+abbrev pub written_row : List Cell → List ℕ
+written_row row = map byte_of (cut_row row) ++ 10 ∷ []

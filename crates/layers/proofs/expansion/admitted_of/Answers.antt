@@ -4,7 +4,7 @@ use Rattle.grid.specs.Board.{Board}
 use Rattle.grid.specs.States.{FitsLevel}
 use Rattle.layers.specs.declared.parcel.Successor.{Successor}
 use Rattle.layers.specs.ParcelView.{AreSuccessors, FitLevel}
-use Rattle.layers.specs.Tasks.{capped, uncapped}
+use Rattle.layers.specs.Capping.{capped, uncapped}
 use Rattle.layers.proofs.Appending.{slots_refilled}
 use Rattle.layers.proofs.Picking.{under_cap, sums_refilled}
 use Rattle.layers.proofs.expansion.admitted_of.Goals as goal

@@ -2,7 +2,7 @@ use Rattle.std.proofs.Common.{refl, subst, take}
 use Rattle.grid.specs.Board.{Board}
 use Rattle.grid.specs.States.{FitsLevel}
 use Rattle.layers.specs.ParcelView.{AreSuccessors}
-use Rattle.layers.specs.Tasks.{uncapped}
+use Rattle.layers.specs.Capping.{uncapped}
 use Rattle.layers.proofs.Gathering.{is_parcel}
 use Rattle.layers.proofs.expansion.successors_of.Goals as goal
 

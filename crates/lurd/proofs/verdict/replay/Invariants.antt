@@ -1,7 +1,8 @@
 use Rattle.std.proofs.Common.{◌≡◌, take}
 use Rattle.grid.specs.States.{IsScene}
 use Rattle.grid.specs.Board.{start}
-use Rattle.lurd.specs.Verdict.{Leads, upper_count}
+use Rattle.lurd.specs.Verdict.{Leads}
+use Rattle.lurd.specs.inside.Item.{upper_count}
 use Rattle.lurd.proofs.verdict.replay.Given as goal
 
 -- the letters so far write a play from the start to the state, and their pushes are counted

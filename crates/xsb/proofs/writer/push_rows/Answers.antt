@@ -1,6 +1,6 @@
 use Rattle.std.proofs.Common.{◌++◌, ◌*◌, ◌+◌, [], take, drop, sym, ap, ◌∙◌, append_assoc, arith}
 use Rattle.std.proofs.lemmas.List.{append-nil}
-use Rattle.xsb.specs.Written.{written_row}
+use Rattle.xsb.specs.inside.Bytes.{written_row}
 use Rattle.xsb.proofs.CellsByReaders.{left_from, left-none, left-more}
 use Rattle.xsb.proofs.writer.push_rows.Goals as goal
 

@@ -1,0 +1,10 @@
+-- The lead of a position.
+use Rattle.std.specs.Prelude.{List}
+use Rattle.grid.specs.declared.square.Push.{Push}
+use Rattle.grid.specs.Board.{Board, Scene, push_cmp}
+use Rattle.layers.specs.Layered.{IsLead}
+use Rattle.layers.specs.Reaching.{Reaches}
+
+-- ps is the lead of n: the least push list through undoomed positions that leads there
+abbrev pub IsLeadOf : Board → Scene → List Push → Type 0
+IsLeadOf board n ps = IsLead push_cmp (Reaches board) n ps

@@ -1,0 +1,15 @@
+-- The fewest pushes of a solution, and that there is none: what laws of answers speak of.
+use Rattle.std.specs.Prelude.{◌≡◌, ℕ, ◌≤◌, List, length}
+use Rattle.grid.specs.declared.dir.Dir.{Dir}
+use Rattle.grid.specs.declared.square.Push.{Push}
+use Rattle.layers.specs.Tasks.{Task}
+use Rattle.solo.specs.Answers.{IsSolutionOf}
+
+-- no play solves the level within the cap
+abbrev pub IsUnsolvable : Task → Type 0
+IsUnsolvable task = (ds : List Dir) (ps : List Push) → ¬ (IsSolutionOf task ds ps)
+
+-- k is the least number of pushes of a solution within the cap
+abbrev pub IsFewest : Task → ℕ → Type 0
+IsFewest task k =
+    ((ds : List Dir) × (ps : List Push) × IsSolutionOf task ds ps × (length ps ≡ k)) × ((ds : List Dir) (ps : List Push) → IsSolutionOf task ds ps → k ≤ length ps)
