@@ -4,5 +4,6 @@ mod Maps
 mod Piping
 mod Reading
 mod Solutions
+mod Solved
 mod Walks
 mod Writing

@@ -15,7 +15,8 @@ use Rattle.xsb.specs.declared.limits.TheConstants.{MAX_FILE}
 use Rattle.xsb.specs.declared.reader.Collection.{Collection}
 use Rattle.xsb.specs.inside.Progress.{HasRead, GivesNext, lines_left}
 use Rattle.sokopar.specs.Entries.{listed_of}
-use Rattle.sokopar.specs.Listing.{Listed, IsListed, IsListing, IsLevelOf, is_good, level_at}
+use Rattle.sokopar.specs.Listing.{Listed, IsListed, IsListing, IsLevelOf, level_at}
+use Rattle.sokopar.specs.inside.Parts.{is_good}
 use Rattle.sokopar.specs.Report.{Report, IsReplayOf, ReplaysOn, IsReplayReport, IsCheckReport, line, check_line, check_lines, good_count}
 
 -- the boards so far, judged

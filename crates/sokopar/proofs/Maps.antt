@@ -5,7 +5,8 @@ use Rattle.std.proofs.Math.Seq.{get_or-append_seam}
 use Rattle.std.proofs.lemmas.Bool.{cases_lt}
 use Rattle.grid.specs.Board.{Board}
 use Rattle.xsb.specs.Boards.{cut_end, before_rest}
-use Rattle.sokopar.specs.DeadMap.{IsMark, AreMarks, rows_of, marked_row}
+use Rattle.xsb.specs.Written.{rows_from}
+use Rattle.sokopar.specs.DeadMap.{IsMark, AreMarks, marked_row}
 
 -- the first squares have their marks
 abbrev pub HaveMarks : Board → List ℕ → Type 0
@@ -44,7 +45,7 @@ cut_other (b ∷ row) last is = ap (before_rest (b == 32) b) (cut_other row last
 
 -- the rows that are left are one and those after it
 map_step : (rows i cols : ℕ) (rest : List ℕ) → i < rows
-    → flat_map marked_row (rows_of (rows - i) cols rest) ≡ marked_row (take (min cols (length rest)) rest) ++ flat_map marked_row (rows_of (rows - (i + 1)) cols (drop (min cols (length rest)) rest))
+    → flat_map marked_row (rows_from (rows - i) cols rest) ≡ marked_row (take (min cols (length rest)) rest) ++ flat_map marked_row (rows_from (rows - (i + 1)) cols (drop (min cols (length rest)) rest))
 map_step rows i cols rest below =
     let left : rows - i ≡ suc (rows - (i + 1)) = omega arith in
     let t = take_min cols rest in
@@ -53,7 +54,7 @@ map_step rows i cols rest below =
 
 -- after the next row the text with the rows that are left is as before
 pub map_goes_on : (rows i cols : ℕ) (rest row later text new : List ℕ) → i < rows → row ≡ take (min cols (length rest)) rest → later ≡ drop (min cols (length rest)) rest
-    → new ≡ text ++ marked_row row → new ++ flat_map marked_row (rows_of (rows - (i + 1)) cols later) ≡ text ++ flat_map marked_row (rows_of (rows - i) cols rest)
+    → new ≡ text ++ marked_row row → new ++ flat_map marked_row (rows_from (rows - (i + 1)) cols later) ≡ text ++ flat_map marked_row (rows_from (rows - i) cols rest)
 map_goes_on rows i cols rest row later text new below is_row is_later is_new =
     let step = map_step rows i cols rest below in
     rw (is_new, is_later, is_row, step) (append_assoc text (marked_row (take (min cols (length rest)) rest)) _)

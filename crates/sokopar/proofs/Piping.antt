@@ -15,13 +15,13 @@ use Rattle.lurd.specs.declared.verdict.Verdict.{Verdict}
 use Rattle.lurd.specs.declared.verdict.Verdict.TheVariants as verdict
 use Rattle.solo.specs.declared.answer.Answer.{Answer}
 use Rattle.solo.specs.declared.answer.Answer.TheVariants as answer
-use Rattle.layers.specs.Tasks.{capped}
+use Rattle.layers.specs.Capping.{capped}
 use Rattle.solo.specs.Answers.{IsAnswer}
-use Rattle.xsb.specs.Collection.{Found, IsCollection}
-use Rattle.xsb.specs.Judged.{IsJudged}
+use Rattle.xsb.specs.Collection.{Found, IsCollection, IsJudged}
 use Rattle.sokopar.specs.Listing.{Listed, IsListed, IsListing, level_at}
 use Rattle.sokopar.specs.Report.{Report, IsReplayOf, IsReplayReport, ReplaysOn, line, verdict_report}
-use Rattle.sokopar.specs.Solving.{IsSolveReport, SolvesOn, answer_report}
+use Rattle.sokopar.specs.Solving.{IsSolveReport, answer_report}
+use Rattle.sokopar.specs.inside.Parts.{SolvesOn}
 use Rattle.sokopar.specs.Retelling.{ReplaysAsTold}
 use Rattle.sokopar.proofs.Solutions.{solution_replays, text_line, said_once}
 

@@ -10,12 +10,13 @@ use Rattle.lurd.specs.declared.verdict.Verdict.TheVariants as verdict
 use Rattle.lurd.specs.ExactlyOne.{ExactlyOne}
 use Rattle.lurd.specs.Text.{Piece, blank, IsPiece, IsText, spelling, meaning}
 use Rattle.lurd.specs.Parsing.{Reads}
-use Rattle.lurd.specs.Verdict.{IsVerdict, upper_count}
+use Rattle.lurd.specs.Verdict.{IsVerdict}
+use Rattle.lurd.specs.inside.Item.{upper_count}
 use Rattle.lurd.specs.declared.fault.LurdFault.{LurdFault}
 use Rattle.lurd.specs.declared.verdict.Verdict.{Verdict}
 use Rattle.lurd.proofs.lemmas.Solutions.{pushes_of_play}
 use Rattle.solo.specs.declared.answer.Answer.TheVariants as answer
-use Rattle.layers.specs.Tasks.{capped}
+use Rattle.layers.specs.Capping.{capped}
 use Rattle.solo.specs.Answers.{IsAnswer}
 use Rattle.sokopar.specs.Report.{Report, IsReplayOf, line, verdict_report}
 

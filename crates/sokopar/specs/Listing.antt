@@ -1,10 +1,9 @@
 -- The levels of a collection, each judged.
-use Rattle.std.specs.Prelude.{◌≡◌, ℕ, ◌-◌, Bool, List, Result, Ok, Option, Some, option_map, slice_get, is_ok}
+use Rattle.std.specs.Prelude.{◌≡◌, ℕ, ◌-◌, List, Result, Ok, Option, Some, option_map, slice_get}
 use Rattle.std.specs.List.{AllZip}
 use Rattle.grid.specs.Board.{Board}
 use Rattle.grid.specs.declared.fault.LevelFault.{LevelFault}
-use Rattle.xsb.specs.Collection.{Found, IsCollection}
-use Rattle.xsb.specs.Judged.{IsJudged}
+use Rattle.xsb.specs.Collection.{Found, IsCollection, IsJudged}
 
 -- a board of a collection: its name, the number of its first line, and the level or the first fault of its cells
 pub record Listed : Type 0 where
@@ -21,10 +20,6 @@ pub record IsListed (listed : Listed) (found : Found) : Type 0 where
 -- the bytes are a collection of these levels, in order
 abbrev pub IsListing : List ℕ → List Listed → Type 0
 IsListing bytes listing = (founds : List Found) × IsCollection bytes founds × AllZip IsListed listing founds
-
--- the board is a lawful level
-abbrev pub is_good : Listed → Bool
-is_good listed = is_ok listed.board
 
 -- level N of a listing, counted from 1; none where there are fewer
 abbrev pub level_at : List Listed → ℕ → Option (Result Board LevelFault)

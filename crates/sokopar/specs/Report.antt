@@ -1,5 +1,5 @@
 -- What the program writes, and its exit status.
-use Rattle.std.specs.Prelude.{◌≡◌, ℕ, suc, ◌==◌, if◌then◌else◌, List, [], ◌∷◌, ◌++◌, length, count_by, Result, Ok, Err, Option, Some, None, codes, decimal, ◌⊎◌}
+use Rattle.std.specs.Prelude.{◌≡◌, ℕ, suc, ◌==◌, if◌then◌else◌, List, [], ◌∷◌, ◌++◌, length, count_by, is_ok, Result, Ok, Err, Option, Some, None, codes, decimal, ◌⊎◌}
 use Rattle.grid.specs.Board.{Board}
 use Rattle.grid.specs.Lawful.{row_count, box_count}
 use Rattle.grid.specs.declared.fault.LevelFault.{LevelFault}
@@ -12,7 +12,7 @@ use Rattle.lurd.specs.declared.fault.LurdFault.TheVariants as text
 use Rattle.lurd.specs.declared.verdict.Verdict.{Verdict}
 use Rattle.lurd.specs.declared.verdict.Verdict.TheVariants as verdict
 use Rattle.xsb.specs.Written.{written}
-use Rattle.sokopar.specs.Listing.{Listed, IsListing, is_good, level_at}
+use Rattle.sokopar.specs.Listing.{Listed, IsListing, level_at}
 
 -- what is written, byte by byte, and the exit status: 0 for good, 1 where something is wrong with a level or a solution
 pub record Report : Type 0 where
@@ -27,40 +27,21 @@ line words = words ++ 10 ∷ []
 abbrev pub one_line : List ℕ → ℕ → Report
 one_line words status = record { text = line words; status = status }
 
--- the number and the name of a fault
-abbrev pub fault_name : LevelFault → List ℕ
-fault_name level.TooTall = codes "1 TooTall"
-fault_name level.TooWide = codes "2 TooWide"
-fault_name level.NoPlayer = codes "3 NoPlayer"
-fault_name level.TwoPlayers = codes "4 TwoPlayers"
-fault_name level.NoBox = codes "5 NoBox"
-fault_name (level.Counts boxes goals) = codes "6 Counts"
-fault_name level.Open = codes "7 Open"
-fault_name level.OutOfMemory = codes "8 OutOfMemory"
-
--- what is told of a fault beside its name: the numbers of boxes and goals where they differ
-abbrev pub fault_counts : LevelFault → List ℕ
-fault_counts level.TooTall = []
-fault_counts level.TooWide = []
-fault_counts level.NoPlayer = []
-fault_counts level.TwoPlayers = []
-fault_counts level.NoBox = []
-fault_counts (level.Counts boxes goals) = codes " " ++ decimal boxes ++ codes " " ++ decimal goals
-fault_counts level.Open = []
-fault_counts level.OutOfMemory = []
-
--- how a fault is told
+-- how a fault is told: its number and its name, and the numbers of boxes and goals where they differ
 abbrev pub fault_words : LevelFault → List ℕ
-fault_words fault = codes "fault " ++ fault_name fault ++ fault_counts fault
+fault_words level.TooTall = codes "fault 1 TooTall"
+fault_words level.TooWide = codes "fault 2 TooWide"
+fault_words level.NoPlayer = codes "fault 3 NoPlayer"
+fault_words level.TwoPlayers = codes "fault 4 TwoPlayers"
+fault_words level.NoBox = codes "fault 5 NoBox"
+fault_words (level.Counts boxes goals) = codes "fault 6 Counts " ++ decimal boxes ++ codes " " ++ decimal goals
+fault_words level.Open = codes "fault 7 Open"
+fault_words level.OutOfMemory = codes "fault 8 OutOfMemory"
 
--- how a lawful level is told: its rows, columns and boxes
-abbrev pub level_words : Board → List ℕ
-level_words board =
-    codes "ok " ++ decimal (row_count board) ++ codes "x" ++ decimal board.cols ++ codes " " ++ decimal (box_count board) ++ codes " boxes"
-
--- how a judged board is told
+-- how a judged board is told: a lawful level by its rows, columns and boxes
 abbrev pub judged_words : Result Board LevelFault → List ℕ
-judged_words (Ok board) = level_words board
+judged_words (Ok board) =
+    codes "ok " ++ decimal (row_count board) ++ codes "x" ++ decimal board.cols ++ codes " " ++ decimal (box_count board) ++ codes " boxes"
 judged_words (Err fault) = fault_words fault
 
 -- a name after one space; nothing for the empty name
@@ -80,16 +61,14 @@ check_lines n (listed ∷ listing) = check_line n listed ++ check_lines (suc n) 
 
 -- the number of lawful levels
 abbrev pub good_count : List Listed → ℕ
-good_count listing = count_by is_good listing
+good_count listing = count_by (λ listed. is_ok listed.board) listing
 
--- the last line: how many levels there are, and how many of them are lawful
-abbrev pub totals_line : List Listed → List ℕ
-totals_line listing = line (decimal (length listing) ++ codes " levels, " ++ decimal (good_count listing) ++ codes " good")
-
--- the report of checking a collection: a line for each level, and the totals; good where each level is lawful
+-- the report of checking a collection: a line for each level, and then their number and that of the lawful ones; good if all are
 abbrev pub check_report : List Listed → Report
-check_report listing =
-    record { text = check_lines 1 listing ++ totals_line listing; status = if good_count listing == length listing then 0 else 1 }
+check_report listing = record {
+  text = check_lines 1 listing ++ line (decimal (length listing) ++ codes " levels, " ++ decimal (good_count listing) ++ codes " good");
+  status = if good_count listing == length listing then 0 else 1;
+}
 
 -- the report where the collection has fewer than n levels
 abbrev pub no_level : ℕ → Report
@@ -99,15 +78,15 @@ no_level n = one_line (codes "no level " ++ decimal n) 1
 abbrev pub fault_report : LevelFault → Report
 fault_report fault = one_line (fault_words fault) 1
 
--- the report of showing a level: its rows
-abbrev pub shown : Board → Report
-shown board = record { text = written board; status = 0 }
+-- the report on level n of a listing: that there is none, the fault of its board, or the report that the level has
+abbrev pub ReportsOn : (Board → Report → Type 0) → ℕ → Option (Result Board LevelFault) → Report → Type 0
+ReportsOn Has n None report = report ≡ no_level n
+ReportsOn Has n (Some (Err fault)) report = report ≡ fault_report fault
+ReportsOn Has n (Some (Ok board)) report = Has board report
 
--- the report of showing level n of a listing
-abbrev pub show_report : ℕ → Option (Result Board LevelFault) → Report
-show_report n None = no_level n
-show_report n (Some (Err fault)) = fault_report fault
-show_report n (Some (Ok board)) = shown board
+-- the report of showing a level: its rows
+abbrev pub IsShown : Board → Report → Type 0
+IsShown board report = report ≡ record { text = written board; status = 0 }
 
 -- the numbers of pushes and of moves
 abbrev pub counts_words : ℕ → ℕ → List ℕ
@@ -145,7 +124,7 @@ IsCheckReport bytes report = (listing : List Listed) × IsListing bytes listing 
 
 -- the report of showing level n of these bytes
 abbrev pub IsShowReport : ℕ → List ℕ → Report → Type 0
-IsShowReport n bytes report = (listing : List Listed) × IsListing bytes listing × (report ≡ show_report n (level_at listing n))
+IsShowReport n bytes report = (listing : List Listed) × IsListing bytes listing × ReportsOn IsShown n (level_at listing n) report
 
 -- the report of replaying on level n of these bytes a solution, if one was read
 abbrev pub IsReplayReport : ℕ → List ℕ → Option (List ℕ) → Report → Type 0

@@ -39,14 +39,12 @@ pub record Stops (old new : Seen) (fault : RunFault) : Type 0 where
   pub cause : StopsFor old new bytes fault
   pub first : Consumes old.known new.known bytes
 
--- the sink took the whole text, no write failed, and no other was asked for; what it holds, where that is known, is
--- what it held and then the text
+-- the sink took the whole text, no write failed, and no other was asked for; what it holds, if known, has grown by the text
 pub record WritesWhole (old new : Seen) (text : List ℕ) : Type 0 where
   pub taken : Pass old.acts new.acts text
   pub holds : Appends old.known new.known text
 
--- the sink took a beginning of the text, then a write failed, and no other was asked for; what it holds, where that is
--- known, is what it held and then that beginning
+-- the sink took a beginning of the text, then a write failed, and no other was asked for; what it holds, if known, has grown by it
 pub record WritesPart (old new : Seen) (text : List ℕ) : Type 0 where
   pub part : List ℕ
   pub rest : List ℕ
@@ -65,9 +63,7 @@ Runs IsReport source read sink written (Ok status) =
     (status ≡ report.status)
 Runs IsReport source read sink written (Err Write) =
     (bytes : List ℕ) × (report : Report) × ReadsWhole source read bytes × IsReport bytes report × WritesPart sink written report.text
-Runs IsReport source read sink written (Err Read) = Stops source read Read × (written ≡ sink)
-Runs IsReport source read sink written (Err TooLong) = Stops source read TooLong × (written ≡ sink)
-Runs IsReport source read sink written (Err OutOfMemory) = Stops source read OutOfMemory × (written ≡ sink)
+Runs IsReport source read sink written (Err fault) = Stops source read fault × (written ≡ sink)
 
 -- a second source was read to its end, or left alone
 abbrev pub ReadsIfSome : Seen → Seen → Option (List ℕ) → Type 0
@@ -90,6 +86,4 @@ Replays n source read second second_read sink written (Ok status) =
 Replays n source read second second_read sink written (Err Write) =
     (bytes : List ℕ) × (solution : Option (List ℕ)) × (report : Report) × ReadsWhole source read bytes × ReadsIfSome second second_read solution ×
     IsReplayReport n bytes solution report × WritesPart sink written report.text
-Replays n source read second second_read sink written (Err Read) = StopsInTwo n source read second second_read Read × (written ≡ sink)
-Replays n source read second second_read sink written (Err TooLong) = StopsInTwo n source read second second_read TooLong × (written ≡ sink)
-Replays n source read second second_read sink written (Err OutOfMemory) = StopsInTwo n source read second second_read OutOfMemory × (written ≡ sink)
+Replays n source read second second_read sink written (Err fault) = StopsInTwo n source read second second_read fault × (written ≡ sink)

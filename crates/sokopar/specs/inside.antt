@@ -1,3 +1,4 @@
 -- What keeps the books of the code: what its loops keep, what fields hold, why it ends. No report rests on it.
 pub mod Sending
 pub mod Trail
+pub mod Parts

@@ -1,7 +1,7 @@
 ghost use Rattle.std.specs.Prelude.{◌≡◌, ◌≤◌, ◌++◌, length, codes, decimal, OnOk, IfOk};
 ghost use Rattle.sokopar.specs.Entries.{listed_of};
-ghost use Rattle.sokopar.specs.Listing.{is_good};
-ghost use Rattle.sokopar.specs.Report.{fault_name, fault_words, level_words, named, line, check_line, IsCheckReport};
+ghost use Rattle.sokopar.specs.Report.{fault_words, named, line, check_line, IsCheckReport};
+ghost use Rattle.sokopar.specs.inside.Parts.{is_good, level_words};
 
 use crate::report::Report;
 use crate::text::Text;
@@ -9,35 +9,25 @@ use grid::{Board, LevelFault};
 use std::alloc::{AllocError, Global};
 use xsb::{BoardEntry, Collection, MAX_FILE};
 
-/// The number and the name of a fault.
-fn fault_name(fault: LevelFault) -> &'static [u8]
-    ensures { result.now ≡ fault_name fault }
-{
-    match fault {
-        LevelFault::TooTall => b"1 TooTall",
-        LevelFault::TooWide => b"2 TooWide",
-        LevelFault::NoPlayer => b"3 NoPlayer",
-        LevelFault::TwoPlayers => b"4 TwoPlayers",
-        LevelFault::NoBox => b"5 NoBox",
-        LevelFault::Counts { .. } => b"6 Counts",
-        LevelFault::Open => b"7 Open",
-        LevelFault::OutOfMemory => b"8 OutOfMemory",
-    }
-}
-
 /// Appends how a fault is told.
 pub(crate) fn put_fault(text: &mut Text, fault: LevelFault) -> Result<(), AllocError>
     ensures { OnOk result (text.new ≡ text.old ++ fault_words fault) }
 {
-    text.put(b"fault ")?;
-    text.put(fault_name(fault))?;
-    if let LevelFault::Counts { boxes, goals } = fault {
-        text.put(b" ")?;
-        text.put_number(boxes)?;
-        text.put(b" ")?;
-        text.put_number(goals)?;
+    match fault {
+        LevelFault::TooTall => text.put(b"fault 1 TooTall"),
+        LevelFault::TooWide => text.put(b"fault 2 TooWide"),
+        LevelFault::NoPlayer => text.put(b"fault 3 NoPlayer"),
+        LevelFault::TwoPlayers => text.put(b"fault 4 TwoPlayers"),
+        LevelFault::NoBox => text.put(b"fault 5 NoBox"),
+        LevelFault::Counts { boxes, goals } => {
+            text.put(b"fault 6 Counts ")?;
+            text.put_number(boxes)?;
+            text.put(b" ")?;
+            text.put_number(goals)
+        }
+        LevelFault::Open => text.put(b"fault 7 Open"),
+        LevelFault::OutOfMemory => text.put(b"fault 8 OutOfMemory"),
     }
-    Ok(())
 }
 
 /// Appends how a lawful level is told, of which the board is enough.

@@ -1,7 +1,9 @@
 ghost use Rattle.std.specs.Prelude.{◌≡◌, ◌==◌, ◌++◌, ◌<◌, ◌≤◌, OnOk, IfOk, length, flat_map};
 ghost use Rattle.grid.specs.Lawful.{row_count};
-ghost use Rattle.sokopar.specs.DeadMap.{IsMark, AreMarks, IsMapOf, MapsOn, IsDeadReport, marked_row, rows_of};
+ghost use Rattle.sokopar.specs.DeadMap.{IsMark, AreMarks, IsMapOf, IsDeadReport, marked_row};
+ghost use Rattle.sokopar.specs.inside.Parts.{MapsOn};
 ghost use Rattle.xsb.specs.Boards.{cut_end};
+ghost use Rattle.xsb.specs.Written.{rows_from};
 
 use crate::listing::{Chosen, level_of};
 use crate::report::Report;
@@ -66,7 +68,7 @@ fn put_row(text: &mut Text, row: &[u8]) -> Result<(), AllocError>
 
 /// Appends rows of a length, as many as `rows` says.
 fn put_map(text: &mut Text, rows: usize, cols: usize, marks: &[u8]) -> Result<(), AllocError>
-    ensures { OnOk result (text.new ≡ text.old ++ flat_map marked_row (rows_of rows cols marks.now)) }
+    ensures { OnOk result (text.new ≡ text.old ++ flat_map marked_row (rows_from rows cols marks.now)) }
 {
     let mut rest = marks;
     for _ in 0..rows {

@@ -1,5 +1,5 @@
 ghost use Rattle.std.specs.Prelude.{◌≡◌, ◌≤◌, length, IfOk};
-ghost use Rattle.sokopar.specs.Report.{no_level, fault_report, shown, show_report, IsShowReport};
+ghost use Rattle.sokopar.specs.Report.{no_level, fault_report, IsShown, ReportsOn, IsShowReport};
 
 use crate::check::put_fault;
 use crate::listing::{Chosen, level_of};
@@ -32,7 +32,7 @@ pub(crate) fn fault_report(alloc: Global, fault: LevelFault) -> Result<Report, A
 
 /// The report of showing a level.
 fn shown(alloc: Global, level: &Level) -> Result<Report, AllocError>
-    ensures { IfOk result (λ report. report ≡ shown level.now) }
+    ensures { IfOk result (λ report. IsShown level.now report) }
 {
     let mut text = Text::new(alloc);
     text.put_rows(level)?;
@@ -42,7 +42,7 @@ fn shown(alloc: Global, level: &Level) -> Result<Report, AllocError>
 /// The report of showing level N.
 pub(crate) fn show_report(alloc: Global, chosen: &Chosen, number: u32) -> Result<Report, AllocError>
     requires { 1 ≤ number }
-    ensures { IfOk result (λ report. report ≡ show_report number chosen.now) }
+    ensures { IfOk result (λ report. ReportsOn IsShown number chosen.now report) }
 {
     match chosen {
         None => no_level(alloc, number),

@@ -1,6 +1,8 @@
 ghost use Rattle.std.specs.Prelude.{◌≡◌, ◌++◌, ◌≤◌, None, OnOk, IfOk, length};
 ghost use Rattle.sokopar.specs.Report.{line};
-ghost use Rattle.sokopar.specs.Solving.{too_many_boxes, positions_words, none_within, solved_text, answer_report, IsSolveOf, SolvesOn, IsSolveReport};
+ghost use Rattle.sokopar.specs.Solving.{positions_words, answer_report, IsSolveOf, IsSolveReport};
+ghost use Rattle.sokopar.specs.Retelling.{solved_text};
+ghost use Rattle.sokopar.specs.inside.Parts.{too_many_boxes, none_within, SolvesOn};
 ghost use Rattle.lurd.specs.Text.{bytes_of};
 ghost use Rattle.crew.specs.Configured.{IsWithinLimits};
 

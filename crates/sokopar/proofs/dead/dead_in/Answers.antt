@@ -1,5 +1,5 @@
 -- The report on the level that was chosen is that on the level of the number.
-use Rattle.sokopar.specs.DeadMap.{MapsOn}
+use Rattle.sokopar.specs.inside.Parts.{MapsOn}
 use Rattle.sokopar.proofs.Listings.{at_number}
 use Rattle.sokopar.proofs.dead.dead_in.Goals as goal
 

@@ -1,0 +1,34 @@
+-- The parts of reports that functions of their own write.
+use Rattle.std.specs.Prelude.{ℕ, Bool, List, ◌++◌, Result, Option, is_ok, codes, decimal}
+use Rattle.grid.specs.Board.{Board}
+use Rattle.grid.specs.Lawful.{row_count, box_count}
+use Rattle.grid.specs.declared.fault.LevelFault.{LevelFault}
+use Rattle.sokopar.specs.DeadMap.{IsMapOf}
+use Rattle.sokopar.specs.Listing.{Listed}
+use Rattle.sokopar.specs.Report.{Report, ReportsOn, one_line}
+use Rattle.sokopar.specs.Solving.{IsSolveOf, cap_words, positions_words}
+
+-- the board is a lawful level
+abbrev pub is_good : Listed → Bool
+is_good listed = is_ok listed.board
+
+-- how a lawful level is told: its rows, columns and boxes
+abbrev pub level_words : Board → List ℕ
+level_words board =
+    codes "ok " ++ decimal (row_count board) ++ codes "x" ++ decimal board.cols ++ codes " " ++ decimal (box_count board) ++ codes " boxes"
+
+-- the report where the level has more boxes than the solver takes
+abbrev pub too_many_boxes : Report
+too_many_boxes = one_line (codes "too many boxes") 1
+
+-- the report that no play solves a level within a cap
+abbrev pub none_within : Option ℕ → ℕ → Report
+none_within cap positions = one_line (codes "none within " ++ cap_words cap ++ codes " pushes" ++ positions_words positions) 1
+
+-- the report of the dead squares of level n of a listing
+abbrev pub MapsOn : ℕ → Option (Result Board LevelFault) → Report → Type 0
+MapsOn n level report = ReportsOn IsMapOf n level report
+
+-- the report of solving level n of a listing under a cap of pushes and a limit of positions
+abbrev pub SolvesOn : Option ℕ → ℕ → ℕ → Option (Result Board LevelFault) → Report → Type 0
+SolvesOn cap limit n level report = ReportsOn (IsSolveOf cap limit) n level report
