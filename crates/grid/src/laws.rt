@@ -65,10 +65,11 @@ pub fn pushes_decide_an_area()
         → (fs : List Dir) × Play board Any t fs [] u }
 {}
 
-/// Directions are ordered down, left, right, up, and [`Dir::ALL`] has them in this order.
+/// Directions are ordered down, left, right, up, [`Dir::ALL`] has them in this order, and the default is the first.
 pub fn directions_are_ordered()
     ensures order { (d e : Dir) → ⟦<Dir as Ord>⟧.cmp d e ≡ dir_cmp d e }
     ensures all { Dir.ALL ≡ D ∷ L ∷ R ∷ U ∷ [] }
+    ensures default { (d : Dir) → ⟦<Dir as Default>⟧.is_default d → d ≡ D }
 {}
 
 /// Pushes are ordered by the square that the box left, then by the direction.

@@ -1,4 +1,5 @@
 pub mod lemmas
+pub mod Credits
 pub mod Each
 pub mod Finishing
 pub mod LeastPlays

@@ -1,6 +1,6 @@
 //! The turns of a search, for one worker and for several: each looks at the next layer, and where that gives no answer
 //! has its ranks done until the layer after it is closed. The only error is that memory was refused.
-ghost use Rattle.std.specs.Prelude.{◌≡◌, ◌+◌, ◌-◌, ◌<◌, ◌≤◌, ℕ, List, [], ◌∷◌, ◌++◌, Some, true, false, IfNone, IfOk, IfSome, MatchBool, OnErr, OnOk, length, slice_get};
+ghost use Rattle.std.specs.Prelude.{◌≡◌, ◌≢◌, ◌+◌, ◌-◌, ◌<◌, ◌≤◌, ◌↔◌, ℕ, List, [], ◌∷◌, ◌++◌, Some, true, false, IfNone, IfOk, IfSome, MatchBool, OnErr, OnOk, length, slice_get};
 ghost use Rattle.std.specs.Arc.{arc_value};
 ghost use Rattle.grid.specs.Lawful.{box_count};
 ghost use Rattle.grid.specs.declared.limits.TheConstants.{MAX_BOXES};
@@ -9,9 +9,10 @@ ghost use Rattle.layers.specs.BookView.{BookView, Closed};
 ghost use Rattle.layers.specs.Books.{AllDone, AreAllShares, AreNewShares, HasBegun, IsAtWork, IsJoinOf, MayBegin, with_begun, with_closed, with_parcel};
 ghost use Rattle.solo.specs.Answers.{HasNone, IsAnswer};
 ghost use Rattle.solo.specs.Leads.{IsFirstSolved};
+ghost use Rattle.solo.specs.declared.answer.Answer.TheVariants.{Limit};
 ghost use Rattle.solo.specs.inside.Searched.{HaveBefore, IsLookedAt};
 ghost use Rattle.solo.specs.inside.Rests.{MayBeClosed, RestAnswer, RestAnswers};
-ghost use Rattle.solo.specs.inside.Turns.{HaveBegun, IsStillAt, MayBeWorked, MayHaveBegun, WorkAnswer, WorkAnswers, with_over};
+ghost use Rattle.solo.specs.inside.Turns.{AreDoneBy, HaveBegun, IsDoneBy, IsStillAt, MayBeWorked, MayHaveBegun, WorkAnswer, WorkAnswers, with_over};
 
 use crate::answer::Answer;
 use crate::goals::first_solved;
@@ -64,9 +65,9 @@ pub fn new_books(
 /// Looks at the next layer of a level, after those whose parents are kept: the answer, if it gives one; otherwise its
 /// positions are counted.
 ///
-/// The layer is counted first. More positions than the limit are the answer `Limit`, a solved position is the answer
-/// `Solved`, and a layer without positions is the answer `Unsolvable`, or `NoneWithin` where a cap is set. An error leaves
-/// the count as it was.
+/// The layer is counted first. More positions than the limit, in it and the layers before it together, are the answer
+/// `Limit`, a solved position is the answer `Solved`, and a layer without positions is the answer `Unsolvable`, or
+/// `NoneWithin` where a cap is set. An answer and an error leave the count as it was.
 pub fn look(
     alloc: Global,
     trail: &[Parents],
@@ -80,8 +81,10 @@ pub fn look(
     requires room { scratch.old.size ≡ length layer.now.level.board.cells }
     ensures answer { IfOk result (λ found. IfSome found (λ answer. IsAnswer layer.now.level limit answer)) }
     ensures looked { IfOk result (λ found. IfNone found (IsLookedAt layer.now.level limit (trail.now ++ layer.now.origins ∷ []) positions.new)) }
+    ensures limit { IfOk result (λ found. (found ≡ Some Limit) ↔ (limit < positions.old + length layer.now.places)) }
     ensures ranks { IfOk result (λ found. IfNone found ((0 < length layer.now.places) × (length layer.now.places ≤ limit))) }
     ensures count { IfOk result (λ found. IfNone found (positions.new ≡ positions.old + length layer.now.places)) }
+    ensures kept { IfOk result (λ found. IfSome found (λ _. positions.new ≡ positions.old)) }
     ensures err { OnErr result (positions.new ≡ positions.old) }
     ensures size { scratch.new.size ≡ scratch.old.size }
 {
@@ -103,7 +106,8 @@ pub fn look(
 
 // The answer where no play solves the level within the layer's cap.
 fn none_of(layer: &Layer, positions: u64) -> Answer
-    ensures { (limit : ℕ) → HasNone layer.now.level limit positions → IsAnswer layer.now.level limit result }
+    ensures answer { (limit : ℕ) → HasNone layer.now.level limit positions → IsAnswer layer.now.level limit result }
+    ensures known { result ≢ Limit }
 {
     match layer.cap() {
         None => Answer::Unsolvable { positions },
@@ -125,6 +129,7 @@ fn solved(
     requires first { IsFirstSolved layer.now.level.board layer.now.places rank }
     requires room { scratch.old.size ≡ length layer.now.level.board.cells }
     ensures answer { IfOk result (λ answer. (limit : ℕ) → positions ≤ limit → IsAnswer layer.now.level limit answer) }
+    ensures known { IfOk result (λ answer. answer ≢ Limit) }
     ensures size { scratch.new.size ≡ scratch.old.size }
 {
     layer.tell();
@@ -190,6 +195,7 @@ pub fn finish_each(
     requires room { scratch.old.size ≡ length layer.now.level.board.cells }
     ensures worked { IfOk result (λ worked. WorkAnswers books.old worked books.new) }
     ensures err { OnErr result (MayBeWorked books.old layer.now books.new) }
+    ensures credited { AreDoneBy worker books.old books.new }
     ensures size { scratch.new.size ≡ scratch.old.size }
 {
     for place in 0..books.len() {
@@ -218,6 +224,7 @@ pub fn finish_rest(
     requires room { scratch.old.size ≡ length layer.now.level.board.cells }
     ensures worked { IfOk result (λ worked. RestAnswers books.old worked books.new) }
     ensures err { OnErr result (MayBeWorked books.old layer.now books.new) }
+    ensures credited { AreDoneBy worker books.old books.new }
     ensures size { scratch.new.size ≡ scratch.old.size }
 {
     for place in 0..books.len() {
@@ -245,6 +252,7 @@ fn finish_begun(
     requires room { scratch.old.size ≡ length layer.now.level.board.cells }
     ensures worked { IfOk result (λ worked. RestAnswer book.old worked book.new) }
     ensures err { OnErr result (IsStillAt book.old layer.now book.new) }
+    ensures credited { IsDoneBy worker book.old book.new }
     ensures size { scratch.new.size ≡ scratch.old.size }
 {
     if !book.has_begun() {
@@ -255,7 +263,7 @@ fn finish_begun(
 
 /// Does as one of the workers whatever is left of the last closed layer, whoever claimed it, and closes the next one;
 /// unless the book is over, or comes to be. After an error the book is still at work on that layer, perhaps with more of
-/// its ranks done.
+/// its ranks done. That worker alone is credited, with each rank that is done here.
 pub fn finish(
     book: &mut Book,
     layer: &Layer,
@@ -269,6 +277,7 @@ pub fn finish(
     requires room { scratch.old.size ≡ length layer.now.level.board.cells }
     ensures worked { IfOk result (λ worked. WorkAnswer book.old worked book.new) }
     ensures err { OnErr result (IsStillAt book.old layer.now book.new) }
+    ensures credited { IsDoneBy worker book.old book.new }
     ensures size { scratch.new.size ≡ scratch.old.size }
 {
     book.tell();
@@ -296,6 +305,7 @@ fn do_ranks(
     requires room { scratch.old.size ≡ length layer.now.level.board.cells }
     ensures still { IsStillAt book.old layer.now book.new }
     ensures done { IfOk result (λ within. MatchBool within (AllDone book.new) (book.new.over ≡ true)) }
+    ensures credited { IsDoneBy worker book.old book.new }
     ensures size { scratch.new.size ≡ scratch.old.size }
 {
     let Some(first) = book.claim() else {

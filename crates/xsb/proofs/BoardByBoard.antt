@@ -99,14 +99,27 @@ HasRead-more {bytes} {mid} {stretch} {founds} first last entry is board gap name
       },
     )
 
+-- reading from a copy of the lines reads from the lines
+pub ReadsBoard-copy : {first mid : Lines} {stretch : Stretch} (lines : Lines) → lines.rest ≡ first.rest → lines.number ≡ first.number → ReadsBoard lines mid stretch → ReadsBoard first mid stretch
+ReadsBoard-copy lines same count is = record {
+  lines = is.lines;
+  rows = is.rows;
+  read = record { whole = sym (ap cut_lines same) ∙ is.read.whole; number = is.read.number ∙ ap (λ n. n + length is.lines) count; rows_are = is.read.rows_are; size_is = is.read.size_is };
+  some = is.some;
+  first_line = is.first_line ∙ count;
+  count = is.count;
+  from = is.from ∙ same;
+  ends = is.ends;
+}
+
 both-empty : (lines : List (List ℕ)) → BeginsBoard lines → BeginsGap lines → lines ≡ []
 both-empty [] row text = refl
 both-empty (line ∷ lines) row text = absurd (text row.0 row.1)
 
 -- no board more: the collection is read
-pub HasRead-all : {bytes : List ℕ} {last : Lines} {founds : List Found} (left : Collection) → HasRead bytes left founds → ReadsNoBoard left.lines last → IsCollection bytes founds
-HasRead-all {bytes} {last} {founds} left is none =
-    let empty = both-empty (cut_lines left.lines.rest) is.begins none.ends in
+pub HasRead-all : {bytes : List ℕ} {lines last : Lines} {founds : List Found} (left : Collection) → HasRead bytes left founds → lines.rest ≡ left.lines.rest → ReadsNoBoard lines last → IsCollection bytes founds
+HasRead-all {bytes} {lines} {last} {founds} left is same none =
+    let empty = both-empty (cut_lines left.lines.rest) is.begins (subst (λ rest. BeginsGap (cut_lines rest)) same none.ends) in
     subst (λ fs. IsCollection bytes fs) (append-nil founds) (is.onto [] [] (record { whole = empty; boards = tt; apart = tt; found = tt }))
 
 -- the entries so far are those of the boards so far

@@ -35,6 +35,17 @@ impl<'a> Lines<'a> {
         }
     }
 
+    /// The same lines once more.
+    pub(crate) fn copy(&self) -> Lines<'a>
+        ensures rest { result.rest ≡ self.now.rest }
+        ensures number { result.number ≡ self.now.number }
+    {
+        Lines {
+            rest: self.rest.clone().unwrap(),
+            number: self.number,
+        }
+    }
+
     /// The next line, without what ends it.
     pub(crate) fn peek(&self) -> Option<&'a [u8]>
         ensures { MatchOption result (self.now.rest ≡ []) (λ line. ComesNext self.now.rest line.now) }

@@ -1,4 +1,4 @@
-ghost use Rattle.std.specs.Prelude.{◌≡◌, ℕ, ◌≤◌, ◌<◌, ◌↔◌, List, [], length, IfOk, IfErr, IfSome, Err};
+ghost use Rattle.std.specs.Prelude.{◌≡◌, ℕ, ◌≤◌, ◌<◌, ◌↔◌, List, [], length, IfOk, IfErr, IfSome, OnErr, Err};
 ghost use Rattle.std.specs.List.{AllZip};
 ghost use Rattle.xsb.specs.Collection.{Found, IsCollection};
 ghost use Rattle.xsb.specs.Entries.{IsEntry};
@@ -39,17 +39,20 @@ impl<'a> Collection<'a> {
     }
 
     /// The next board, as [`read`] gives it, but without a level of it; `None` where there is none any more. A want of
-    /// memory is the error, also while the board is made; it is then passed over.
+    /// memory is the error, also while the board is made; the collection is then as it was, and the board comes next.
     pub fn next_board(&mut self, alloc: Global) -> Result<Option<BoardEntry>, AllocError>
         ensures next { (bytes : List ℕ) (founds : List Found) → HasRead bytes self.old founds → IfOk result (GivesNext bytes founds self.new) }
         ensures fewer { IfOk result (λ next. IfSome next (λ _. lines_left self.new < lines_left self.old)) }
+        ensures err { OnErr result (self.new ≡ self.old) }
     {
-        let Some(board) = read_board(&mut self.lines) else {
+        let mut lines = self.lines.copy();
+        let Some(board) = read_board(&mut lines) else {
             return Ok(None);
         };
-        let after = read_gap(&mut self.lines);
+        let after = read_gap(&mut lines);
         let name = Vec::from_slice(alloc, self.before.name_with(&after))?;
         let judged = board.board(alloc)?;
+        self.lines = lines;
         self.before = after;
         Ok(Some(BoardEntry {
             name,

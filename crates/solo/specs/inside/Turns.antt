@@ -1,6 +1,6 @@
 -- What a search keeps between two turns, each of which looks at the next layer and does its ranks, and what its books are
 -- meanwhile: one for each share of the positions.
-use Rattle.std.specs.Prelude.{◌≡◌, ℕ, suc, ◌<◌, ◌⊎◌, true, false, List, length, slice_get, slice_index_or, Some}
+use Rattle.std.specs.Prelude.{◌≡◌, ℕ, suc, ◌+◌, ◌<◌, ◌⊎◌, true, false, not, List, length, count_by, slice_get, slice_index_or, slice_set, Some}
 use Rattle.grid.specs.declared.square.Push.{Push}
 use Rattle.layers.specs.Tasks.{Task}
 use Rattle.layers.specs.LayerView.{LayerView}
@@ -95,6 +95,24 @@ MayBeWorked before layer after =
     (length after ≡ length before)
     × ((i : ℕ) (v : BookView) → slice_get before i ≡ Some v
     → (w : BookView) × (slice_get after i ≡ Some w) × ((w ≡ v) ⊎ IsStillAt v layer w ⊎ WorkAnswer v Through w))
+
+-- how many ranks of the layer at work are not done
+abbrev pub left_ranks : BookView → ℕ
+left_ranks v = count_by not v.done
+
+-- the worker has handed back so many ranks more, and no other worker any
+abbrev pub IsCredited : ℕ → ℕ → BookView → BookView → Type 0
+IsCredited worker ranks before after = after.tallies ≡ slice_set before.tallies worker (slice_index_or before.tallies worker 0 + ranks)
+
+-- the worker alone is credited with what was done meanwhile: as many ranks as there are fewer left. A book that has closed the next layer has
+-- none left
+abbrev pub IsDoneBy : ℕ → BookView → BookView → Type 0
+IsDoneBy worker before after = (ranks : ℕ) × (left_ranks before ≡ left_ranks after + ranks) × IsCredited worker ranks before after
+
+-- so it is with each of several books
+abbrev pub AreDoneBy : ℕ → List BookView → List BookView → Type 0
+AreDoneBy worker before after =
+    (length after ≡ length before) × ((i : ℕ) (v : BookView) → slice_get before i ≡ Some v → (w : BookView) × (slice_get after i ≡ Some w) × IsDoneBy worker v w)
 
 -- the parcel is of a rank of the layer
 abbrev pub IsOfRank : LayerView → ℕ → ParcelView → Type 0

@@ -1,5 +1,7 @@
 use Rattle.std.proofs.Common.{get_or, subst, ◌∙◌, arith}
 use Rattle.solo.specs.inside.Rests.{RestAnswer}
+use Rattle.solo.specs.inside.Turns.{IsDoneBy}
+use Rattle.solo.proofs.Credits.{are_done_by, are_done_by_now}
 use Rattle.solo.proofs.Each.{next_kept, on_err, one_changed, read_back}
 use Rattle.solo.proofs.Rests.{IsRestThrough, rest_may_be_worked, rest_over, rests_through}
 use Rattle.solo.proofs.turn.finish_rest.Goals as goal
@@ -37,9 +39,26 @@ loop-place-preserved c =
             subst (λ worked. RestAnswer (get_or books place d) worked after) c.in-Through.is c.in_ok-worked.ensures.worked,
             read_back c.args.books.now place books after c.index-books-place-in-loop-place.result (omega (arith, c.loop-place-test.true)) c.loop-place.invariant.through.same c.tell.ensures,
           );
+      credited = one_changed (IsDoneBy c.args.worker) c.args.books.now place books (get_or books place d) after c.loop-place.invariant.credited
+          (next_kept (IsDoneBy c.args.worker) c.args.books.now place books d (omega (arith, c.loop-place-test.true)) c.loop-place.invariant.credited) c.finish_begun.ensures.credited;
       size = c.finish_begun.ensures.size ∙ c.loop-place.invariant.size;
     }
 
 pub returns-clause-worked : goal.returns-clause-worked
 returns-clause-worked c =
     rests_through c.args.books.now c.loop-place.place c.loop-place.books (omega (arith, c.loop-place-test.false, c.loop-place.invariant.through.same)) c.loop-place.invariant.through
+
+pub returns-clause-credited : goal.returns-clause-credited
+returns-clause-credited c = are_done_by c.args.worker c.args.books.now c.loop-place.place c.loop-place.books c.loop-place.invariant.credited
+
+pub returns-in_err-worked-clause-credited : goal.returns-in_err-worked-clause-credited
+returns-in_err-worked-clause-credited c =
+    let books = c.loop-place.books in let place = c.loop-place.place in let d = c.index-books-place.result in
+    are_done_by_now c.args.worker c.args.books.now place books (get_or books place d) c.finish_begun.new.book c.loop-place.invariant.credited
+    (next_kept (IsDoneBy c.args.worker) c.args.books.now place books d (omega (arith, c.loop-place-test.true)) c.loop-place.invariant.credited) c.finish_begun.ensures.credited
+
+pub returns-in-Over-clause-credited : goal.returns-in-Over-clause-credited
+returns-in-Over-clause-credited c =
+    let books = c.loop-place.books in let place = c.loop-place.place in let d = c.index-books-place.result in
+    are_done_by_now c.args.worker c.args.books.now place books (get_or books place d) c.finish_begun.new.book c.loop-place.invariant.credited
+    (next_kept (IsDoneBy c.args.worker) c.args.books.now place books d (omega (arith, c.loop-place-test.true)) c.loop-place.invariant.credited) c.finish_begun.ensures.credited

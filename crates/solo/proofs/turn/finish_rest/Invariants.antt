@@ -1,4 +1,5 @@
 use Rattle.std.proofs.Common.{◌≡◌}
+use Rattle.solo.specs.inside.Turns.{IsDoneBy}
 use Rattle.solo.proofs.Each.{HaveChangedUpTo}
 use Rattle.solo.proofs.Rests.{IsRestThrough}
 use Rattle.solo.proofs.turn.finish_rest.Given as goal
@@ -6,5 +7,6 @@ use Rattle.solo.proofs.turn.finish_rest.Given as goal
 abbrev pub invariant-loop-place : goal.invariant-loop-place
 invariant-loop-place l = record {
   through : HaveChangedUpTo IsRestThrough l.fn.books l.place l.books;
+  credited : HaveChangedUpTo (IsDoneBy l.worker) l.fn.books l.place l.books;
   size : l.scratch.size ≡ l.fn.scratch.size;
 }

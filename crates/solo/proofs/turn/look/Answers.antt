@@ -12,7 +12,7 @@ solved-requires-clause-looked c =
     have_before c.args.limit c.args.positions.now (c.args.positions.now + c.len.result) c.args.trail.now c.args.layer.now c.requires.looked (omega (arith, c.len.ensures))
 
 pub returns-then-is_empty-clause-answer : goal.returns-then-is_empty-clause-answer
-returns-then-is_empty-clause-answer c = c.none_of.ensures c.args.limit
+returns-then-is_empty-clause-answer c = c.none_of.ensures.answer c.args.limit
     (look_none c.args.limit c.args.positions.now (c.args.positions.now + c.len.result) c.args.trail.now c.args.layer.now c.requires.looked c.requires.next c.tell.ensures
     (eqb-true _ _ (sym c.is_empty.ensures ∙ c.if-is_empty.true)) (omega (arith, c.len.ensures)))
 
