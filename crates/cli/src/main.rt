@@ -1,55 +1,28 @@
 //! The program: reads its command line, opens its files and runs an engine.
 #![tactic(auto)]
 
-ghost use Rattle.crew.specs.Configured.{IsWithinLimits};
-
+mod commands;
 mod help;
 mod request;
 mod steady;
 mod trouble;
 
 use clap::error::ErrorKind;
-use crew::Config;
-use layers::{MAX_SHARES, MAX_WORKERS};
+use commands::{check, config_of, dead, replay, show, solve};
+use help::Notes;
 use request::Request;
-use sokopar::{Reader, RunFault, Writer, run_check, run_dead, run_replay, run_show, run_solve};
+use sokopar::RunFault;
 use std::alloc::Global;
 use std::env::Env;
-use std::num::NonZeroU32;
 use std::process::ExitCode;
 use std::rt::Files;
 use std::sync::Wait;
 use std::thread::Threads;
-use std::{env, fs, io};
-use steady::Steady;
+use std::{env, io};
 use trouble::Trouble;
 
 /// The exit status of a fault of the command line.
 const USAGE: u8 = 2;
-
-/// Opens a file as a source.
-fn open<'a, R: Files>(rt: &R, path: &'a str) -> Result<Reader<Steady<R::File>>, Trouble<'a>> {
-    match fs::open(rt, path) {
-        Ok(file) => Ok(Reader::new(Steady::new(file))),
-        Err(error) if error.kind() == io::ErrorKind::OutOfMemory => {
-            Err(Trouble::Run(RunFault::OutOfMemory))
-        }
-        Err(_) => Err(Trouble::Open(path)),
-    }
-}
-
-/// How a level is solved by so many workers over so many locks, which the command line holds to their ranges, under a
-/// limit of positions, and within a cap of pushes if one is set.
-fn config_of(workers: NonZeroU32, locks: NonZeroU32, limit: NonZeroU32, cap: Option<u32>) -> Config
-    ensures { IsWithinLimits result }
-{
-    Config {
-        workers: workers.get().min(MAX_WORKERS as u32) as u8,
-        locks: locks.get().min(MAX_SHARES as u32) as u8,
-        limit: limit.get(),
-        cap,
-    }
-}
 
 /// Opens the files of a request, all before the first is read, and runs its engine. Gives the exit status.
 fn perform<'a, R: Files + Print + Threads + Wait + Sync>(
@@ -57,29 +30,15 @@ fn perform<'a, R: Files + Print + Threads + Wait + Sync>(
     alloc: Global,
     request: Request<'a>,
 ) -> Result<u8, Trouble<'a>> {
-    let mut sink = Writer::new(Steady::new(io::writer(rt)));
-    let status = match request {
-        Request::Check { file } => {
-            let mut source = open(rt, file)?;
-            run_check(alloc, &mut source, &mut sink)
-        }
-        Request::Show { file, number } => {
-            let mut source = open(rt, file)?;
-            run_show(alloc, &mut source, number.get(), &mut sink)
-        }
-        Request::Dead { file, number } => {
-            let mut source = open(rt, file)?;
-            run_dead(alloc, &mut source, number.get(), &mut sink)
-        }
+    match request {
+        Request::Check { file } => check(rt, alloc, file),
+        Request::Show { file, number } => show(rt, alloc, file, number),
+        Request::Dead { file, number } => dead(rt, alloc, file, number),
         Request::Replay {
             file,
             number,
             solution,
-        } => {
-            let mut source = open(rt, file)?;
-            let mut solution = open(rt, solution)?;
-            run_replay(alloc, &mut source, number.get(), &mut solution, &mut sink)
-        }
+        } => replay(rt, alloc, file, number, solution),
         Request::Solve {
             file,
             number,
@@ -88,12 +47,10 @@ fn perform<'a, R: Files + Print + Threads + Wait + Sync>(
             limit,
             cap,
         } => {
-            let mut source = open(rt, file)?;
             let config = config_of(workers, locks, limit, cap);
-            run_solve(rt, alloc, &mut source, number.get(), config, &mut sink)
+            solve(rt, alloc, file, number, config)
         }
-    };
-    Ok(status?)
+    }
 }
 
 /// Prints why a command line gives no request: help or the version on standard output, a fault on standard error.
@@ -123,10 +80,10 @@ fn run<R: Files + Print + Eprint + Threads + Wait + Sync>(
     alloc: Global,
     words: &[String],
 ) -> u8 {
-    let Ok(notes) = help::notes(alloc) else {
+    let Ok(notes) = Notes::new(alloc) else {
         return complain(rt, Trouble::Run(RunFault::OutOfMemory));
     };
-    match request::parse(alloc, words, notes.as_str()) {
+    match request::parse(alloc, words, &notes) {
         Ok(request) => match perform(rt, alloc, request) {
             Ok(status) => status,
             Err(trouble) => complain(rt, trouble),

@@ -1,6 +1,7 @@
 use crate::help;
+use crate::help::Notes;
 use clap::error::ErrorKind;
-use clap::{Arg, ArgMatches, Command, Error, value_parser};
+use clap::{Arg, ArgMatches, Command, Error};
 use layers::{MAX_SHARES, MAX_WORKERS};
 use std::alloc::{AllocError, Global};
 use std::num::NonZeroU32;
@@ -61,7 +62,6 @@ fn number_operand<'a>(alloc: Global) -> Arg<'a> {
     Arg::new(alloc, "N")
         .help("The number of a level, counted from 1")
         .required(true)
-        .value_parser(value_parser!(u32).range(1..))
 }
 
 /// The operand SOLUTION.
@@ -76,9 +76,8 @@ fn limit_option<'a>(alloc: Global) -> Arg<'a> {
     Arg::new(alloc, "limit")
         .long("limit")
         .value_name("L")
-        .help("Gives up where more positions are needed")
+        .help("Gives up beyond so many positions")
         .default_value(DEFAULT_LIMIT)
-        .value_parser(value_parser!(u32).range(1..))
 }
 
 /// The option `--max-pushes M`.
@@ -86,8 +85,7 @@ fn max_pushes_option<'a>(alloc: Global) -> Arg<'a> {
     Arg::new(alloc, "max-pushes")
         .long("max-pushes")
         .value_name("M")
-        .help("Looks for solutions with at most so many pushes")
-        .value_parser(value_parser!(u32).range(0..))
+        .help("Looks only for solutions with at most M pushes")
 }
 
 /// The option `--workers W`.
@@ -95,9 +93,8 @@ fn workers_option<'a>(alloc: Global) -> Arg<'a> {
     Arg::new(alloc, "workers")
         .long("workers")
         .value_name("W")
-        .help("Searches with so many threads")
+        .help("Number of threads")
         .default_value(DEFAULT_WORKERS)
-        .value_parser(value_parser!(u32).range(1..=MAX_WORKERS as i64))
 }
 
 /// The option `--locks K`.
@@ -105,16 +102,15 @@ fn locks_option<'a>(alloc: Global) -> Arg<'a> {
     Arg::new(alloc, "locks")
         .long("locks")
         .value_name("K")
-        .help("Keeps the positions behind so many locks")
+        .help("Number of locks: as many as workers is best")
         .default_value(DEFAULT_LOCKS)
-        .value_parser(value_parser!(u32).range(1..=MAX_SHARES as i64))
 }
 
 /// The subcommand `check`.
-fn check_command<'a>(alloc: Global) -> Result<Command<'a>, AllocError> {
+fn check_command<'a>(alloc: Global, notes: &'a str) -> Result<Command<'a>, AllocError> {
     Command::new(alloc, "check")
         .about("Checks each level")
-        .after_help(help::CHECK_NOTES)
+        .after_help(notes)
         .arg(file_operand(alloc))
 }
 
@@ -145,16 +141,16 @@ fn dead_command<'a>(alloc: Global) -> Result<Command<'a>, AllocError> {
 }
 
 /// The subcommand `replay`.
-fn replay_command<'a>(alloc: Global) -> Result<Command<'a>, AllocError> {
+fn replay_command<'a>(alloc: Global, notes: &'a str) -> Result<Command<'a>, AllocError> {
     level_command(alloc, "replay", "Replays a solution on a level")?
-        .after_help(help::REPLAY_NOTES)
+        .after_help(notes)
         .arg(solution_operand(alloc))
 }
 
 /// The subcommand `solve`.
-fn solve_command<'a>(alloc: Global) -> Result<Command<'a>, AllocError> {
+fn solve_command<'a>(alloc: Global, notes: &'a str) -> Result<Command<'a>, AllocError> {
     level_command(alloc, "solve", "Solves a level with the fewest pushes")?
-        .after_help(help::SOLVE_NOTES)
+        .after_help(notes)
         .arg(workers_option(alloc))?
         .arg(locks_option(alloc))?
         .arg(limit_option(alloc))?
@@ -173,14 +169,33 @@ fn bare_command<'a>(alloc: Global, notes: &'a str) -> Result<Command<'a>, AllocE
     )
 }
 
-/// The command line that the program understands; `notes` ends its help.
-fn command<'a>(alloc: Global, notes: &'a str) -> Result<Command<'a>, AllocError> {
-    bare_command(alloc, notes)?
-        .subcommand(check_command(alloc)?)?
+/// A command line with the subcommands that show and check.
+fn with_looks<'a>(
+    alloc: Global,
+    line: Command<'a>,
+    notes: &'a str,
+) -> Result<Command<'a>, AllocError> {
+    line.subcommand(check_command(alloc, notes)?)?
         .subcommand(show_command(alloc)?)?
-        .subcommand(dead_command(alloc)?)?
-        .subcommand(replay_command(alloc)?)?
-        .subcommand(solve_command(alloc)?)
+        .subcommand(dead_command(alloc)?)
+}
+
+/// A command line with the subcommands that replay and solve.
+fn with_plays<'a>(
+    alloc: Global,
+    line: Command<'a>,
+    replay_notes: &'a str,
+    solve_notes: &'a str,
+) -> Result<Command<'a>, AllocError> {
+    line.subcommand(replay_command(alloc, replay_notes)?)?
+        .subcommand(solve_command(alloc, solve_notes)?)
+}
+
+/// The command line that the program understands; the notes end its helps.
+fn command<'a>(alloc: Global, notes: &'a Notes) -> Result<Command<'a>, AllocError> {
+    let bare = bare_command(alloc, notes.program.as_str())?;
+    let looks = with_looks(alloc, bare, notes.check.as_str())?;
+    with_plays(alloc, looks, notes.replay.as_str(), notes.solve.as_str())
 }
 
 /// A value that its argument does not take.
@@ -189,14 +204,22 @@ struct BadValue<'a> {
     /// The argument, as usage shows it.
     argument: &'static str,
     value: &'a str,
+    /// The least and the greatest number that it takes.
+    least: u32,
+    most: u32,
 }
 
-/// A number of the command line: decimal digits alone, from 1 to the greatest `u32`.
-fn number_from(text: &str) -> Option<NonZeroU32> {
+/// A number of the command line: decimal digits alone, from 1 to a greatest number.
+fn number_from(text: &str, most: u32) -> Option<NonZeroU32> {
     if !text.bytes().all(|byte| byte.is_ascii_digit()) {
         return None;
     }
-    text.parse::<NonZeroU32>().ok()
+    let number = text.parse::<NonZeroU32>().ok()?;
+    if number.get() <= most {
+        Some(number)
+    } else {
+        None
+    }
 }
 
 /// A cap of the command line: decimal digits alone, from 0 to the greatest `u32`.
@@ -207,26 +230,20 @@ fn cap_from(text: &str) -> Option<u32> {
     text.parse::<u32>().ok()
 }
 
-/// The value of an argument that usage shows so.
-fn text_of<'a>(
-    matches: &ArgMatches<'a>,
-    name: &str,
-    argument: &'static str,
-) -> Result<&'a str, BadValue<'a>> {
-    matches.get_str(name).ok_or(BadValue {
-        argument,
-        value: "",
-    })
-}
-
-/// The number that an argument has that usage shows so.
+/// The number, at most so great, that an argument has that usage shows so.
 fn number_of<'a>(
     matches: &ArgMatches<'a>,
     name: &str,
     argument: &'static str,
+    most: u32,
 ) -> Result<NonZeroU32, BadValue<'a>> {
-    let value = text_of(matches, name, argument)?;
-    number_from(value).ok_or(BadValue { argument, value })
+    let value = matches.get_str(name).unwrap_or("");
+    number_from(value, most).ok_or(BadValue {
+        argument,
+        value,
+        least: 1,
+        most,
+    })
 }
 
 /// The cap of pushes, if one is given.
@@ -239,17 +256,39 @@ fn cap_of<'a>(matches: &ArgMatches<'a>) -> Result<Option<u32>, BadValue<'a>> {
         None => Err(BadValue {
             argument: "--max-pushes <M>",
             value,
+            least: 0,
+            most: u32::MAX,
         }),
     }
 }
 
+/// What the matches of `solve` ask for.
+fn solve_request<'a>(
+    file: &'a str,
+    number: NonZeroU32,
+    matches: &ArgMatches<'a>,
+) -> Result<Request<'a>, BadValue<'a>> {
+    let workers = number_of(matches, "workers", "--workers <W>", MAX_WORKERS as u32)?;
+    let locks = number_of(matches, "locks", "--locks <K>", MAX_SHARES as u32)?;
+    let limit = number_of(matches, "limit", "--limit <L>", u32::MAX)?;
+    let cap = cap_of(matches)?;
+    Ok(Request::Solve {
+        file,
+        number,
+        workers,
+        locks,
+        limit,
+        cap,
+    })
+}
+
 /// What the matches of a subcommand ask for.
 fn request_of<'a>(name: &str, matches: &ArgMatches<'a>) -> Result<Request<'a>, BadValue<'a>> {
-    let file = text_of(matches, "FILE", "<FILE>")?;
+    let file = matches.get_str("FILE").unwrap_or("");
     if name == "check" {
         return Ok(Request::Check { file });
     }
-    let number = number_of(matches, "N", "<N>")?;
+    let number = number_of(matches, "N", "<N>", u32::MAX)?;
     if name == "show" {
         return Ok(Request::Show { file, number });
     }
@@ -257,20 +296,9 @@ fn request_of<'a>(name: &str, matches: &ArgMatches<'a>) -> Result<Request<'a>, B
         return Ok(Request::Dead { file, number });
     }
     if name == "solve" {
-        let workers = number_of(matches, "workers", "--workers <W>")?;
-        let locks = number_of(matches, "locks", "--locks <K>")?;
-        let limit = number_of(matches, "limit", "--limit <L>")?;
-        let cap = cap_of(matches)?;
-        return Ok(Request::Solve {
-            file,
-            number,
-            workers,
-            locks,
-            limit,
-            cap,
-        });
+        return solve_request(file, number, matches);
     }
-    let solution = text_of(matches, "SOLUTION", "<SOLUTION>")?;
+    let solution = matches.get_str("SOLUTION").unwrap_or("");
     Ok(Request::Replay {
         file,
         number,
@@ -278,27 +306,61 @@ fn request_of<'a>(name: &str, matches: &ArgMatches<'a>) -> Result<Request<'a>, B
     })
 }
 
-/// The error that names the argument whose number is not written in digits alone.
-fn refusal(alloc: Global, bad: BadValue<'_>) -> Result<Error, AllocError> {
-    let BadValue { argument, value } = bad;
-    let message = format!(in alloc;
-        "invalid value '{value}' for '{argument}': a number is written in decimal digits alone"
-    )?;
-    command(alloc, "")?.error(ErrorKind::ValueValidation, message.as_str())
+/// A subcommand that takes numbers, for its usage.
+fn own_command<'a>(alloc: Global, name: &str) -> Result<Command<'a>, AllocError> {
+    if name == "show" {
+        return show_command(alloc);
+    }
+    if name == "dead" {
+        return dead_command(alloc);
+    }
+    if name == "replay" {
+        return replay_command(alloc, "");
+    }
+    solve_command(alloc, "")
 }
 
-/// Reads the words of a command line; `notes` ends the program's help. An error has the text for the user, and says
-/// whether help or the version was asked for.
-pub fn parse<'a>(alloc: Global, words: &'a [String], notes: &'a str) -> Result<Request<'a>, Error> {
-    let matches = command(alloc, notes)?.try_get_matches_from(words)?;
+/// The error that names the argument whose number is out of its range or not written in digits alone, with the usage of the
+/// subcommand of this name.
+fn refusal(alloc: Global, name: &str, bad: BadValue<'_>) -> Result<Error, AllocError> {
+    let BadValue {
+        argument,
+        value,
+        least,
+        most,
+    } = bad;
+    let message = format!(in alloc;
+        "invalid value '{value}' for '{argument}': a number from {least} to {most}, in decimal digits alone, is wanted"
+    )?;
+    let usage = format!(in alloc; "sokopar {name}")?;
+    own_command(alloc, name)?
+        .bin_name(usage.as_str())?
+        .error(ErrorKind::ValueValidation, message.as_str())
+}
+
+/// The error that there is no subcommand.
+fn missing_subcommand(alloc: Global, notes: &Notes) -> Result<Error, AllocError> {
+    command(alloc, notes)?.error(ErrorKind::MissingSubcommand, "a subcommand is required")
+}
+
+/// What the matches of the command line ask for.
+fn asked<'a>(alloc: Global, matches: &ArgMatches<'a>, notes: &Notes) -> Result<Request<'a>, Error> {
     match matches.subcommand() {
         Some((name, inner)) => match request_of(name, inner) {
             Ok(request) => Ok(request),
-            Err(bad) => Err(refusal(alloc, bad)?),
+            Err(bad) => Err(refusal(alloc, name, bad)?),
         },
-        None => Err(command(alloc, notes)?.error(
-            ErrorKind::MissingSubcommand,
-            "a subcommand is required",
-        )?),
+        None => Err(missing_subcommand(alloc, notes)?),
     }
+}
+
+/// Reads the words of a command line; the notes end its helps. An error has the text for the user, and says whether help or
+/// the version was asked for.
+pub fn parse<'a>(
+    alloc: Global,
+    words: &'a [String],
+    notes: &'a Notes,
+) -> Result<Request<'a>, Error> {
+    let matches = command(alloc, notes)?.try_get_matches_from(words)?;
+    asked(alloc, &matches, notes)
 }

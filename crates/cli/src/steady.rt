@@ -1,7 +1,10 @@
+ghost use Rattle.std.specs.Prelude.{◌≡◌};
+
 use std::io;
 use std::io::{ErrorKind, Read, Write};
 
-/// A file or a stream whose reads and writes are made once more where a signal interrupted them.
+/// A file or a stream whose reads and writes are made once more where a signal interrupted them. The bytes that it has left
+/// or holds, where they are known, are those of the end inside.
 #[derive(Drop)]
 pub(crate) struct Steady<E> {
     end: E,
@@ -9,12 +12,16 @@ pub(crate) struct Steady<E> {
 
 impl<E: Drop> Steady<E> {
     /// The same end, made steady.
-    pub(crate) fn new(end: E) -> Steady<E> {
+    pub(crate) fn new(end: E) -> Steady<E>
+        ensures { result.end ≡ end }
+    {
         Steady { end }
     }
 }
 
 impl<E: Read + Drop> Read for Steady<E> {
+    ghost remaining = { λ it. E.remaining it.end };
+
     fn read(&mut self, buffer: &mut [u8]) -> io::Result<usize> {
         for _ in 0..u64::MAX {
             match self.end.read(buffer) {
@@ -27,6 +34,8 @@ impl<E: Read + Drop> Read for Steady<E> {
 }
 
 impl<E: Write + Drop> Write for Steady<E> {
+    ghost contents = { λ it. E.contents it.end };
+
     fn write(&mut self, bytes: &[u8]) -> io::Result<usize> {
         for _ in 0..u64::MAX {
             match self.end.write(bytes) {

@@ -1,6 +1,7 @@
 mod Acts
 mod Listings
 mod Maps
+mod OneReport
 mod Piping
 mod Reading
 mod Solutions

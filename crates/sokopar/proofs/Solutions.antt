@@ -1,24 +1,19 @@
 -- A solution that is given replays as solved, and so does the line that holds it.
-use Rattle.std.proofs.Common.{◌≡◌, ℕ, List, [], ◌∷◌, ◌++◌, length, Option, refl, sym, ap, subst, ◌∙◌, inl, inr, append-nil, Result, Ok, Err}
-use Rattle.std.specs.Prelude.{⊤}
+use Rattle.std.proofs.Common.{◌≡◌, ℕ, List, [], ◌∷◌, ◌++◌, length, Option, refl, sym, ap, ◌∙◌, append-nil}
 use Rattle.std.proofs.lemmas.Grind.{flat_map-append}
 use Rattle.std.specs.List.{AllByRecursion, flat_map}
 use Rattle.grid.specs.declared.moves.Letter.{Letter}
 use Rattle.grid.specs.Board.{Board}
 use Rattle.grid.specs.Plays.{dirs_of}
 use Rattle.lurd.specs.declared.verdict.Verdict.TheVariants as verdict
-use Rattle.lurd.specs.ExactlyOne.{ExactlyOne}
 use Rattle.lurd.specs.Text.{Piece, blank, IsPiece, IsText, spelling, meaning}
-use Rattle.lurd.specs.Parsing.{Reads}
 use Rattle.lurd.specs.Verdict.{IsVerdict}
 use Rattle.lurd.specs.inside.Item.{upper_count}
-use Rattle.lurd.specs.declared.fault.LurdFault.{LurdFault}
-use Rattle.lurd.specs.declared.verdict.Verdict.{Verdict}
 use Rattle.lurd.proofs.lemmas.Solutions.{pushes_of_play}
 use Rattle.solo.specs.declared.answer.Answer.TheVariants as answer
 use Rattle.layers.specs.Capping.{capped}
 use Rattle.solo.specs.Answers.{IsAnswer}
-use Rattle.sokopar.specs.Report.{Report, IsReplayOf, line, verdict_report}
+use Rattle.sokopar.specs.Report.{line}
 
 pub solution_replays : (board : Board) (cap : Option ℕ) (limit : ℕ) (moves : List Letter) (pushes positions : ℕ) → IsAnswer (capped board cap) limit (answer.Solved moves pushes positions) → IsVerdict board moves (verdict.Solved pushes (length moves))
 solution_replays board cap limit moves pushes positions is =
@@ -48,25 +43,3 @@ text_line bytes letters text =
       meant = text.meant ∙ sym (flat_map-append meaning text.pieces (feed ∷ []) ∙ append-nil (flat_map meaning text.pieces));
       few = text.few;
     }
-
--- the letters that were read, or none
-abbrev letters_or_none : Result (List Letter) LurdFault → List Letter
-letters_or_none (Ok letters) = letters
-letters_or_none (Err fault) = []
-
--- there is a fault
-abbrev IsRefused : Result (List Letter) LurdFault → Type 0
-IsRefused (Ok letters) = ⊥
-IsRefused (Err fault) = ⊤
-
--- what is said of a text of letters that are judged solved is that alone
-pub said_once : (board : Board) (bytes : List ℕ) (moves : List Letter) (solved : Verdict) → ExactlyOne (λ r. Reads bytes r) → ExactlyOne (λ v. IsVerdict board moves v)
-    → IsText bytes moves → IsVerdict board moves solved → (replay : Report) → IsReplayOf board bytes replay → replay ≡ verdict_report solved
-said_once board bytes moves solved reading judging text judged replay (inl (letters, v, reads, is, told)) =
-    let same : letters ≡ moves = ap letters_or_none (reading.2 (Ok letters) reads ∙ sym (reading.2 (Ok moves) text)) in
-    let P : List Letter → Type 0 = λ ls. IsVerdict board ls v in
-    let one : v ≡ solved = judging.2 v (subst P same is) ∙ sym (judging.2 solved judged) in
-    told ∙ ap verdict_report one
-said_once board bytes moves solved reading judging text judged replay (inr (fault, bad, told)) =
-    let same : Err fault ≡ Ok moves = reading.2 (Err fault) bad ∙ sym (reading.2 (Ok moves) text) in
-    absurd (subst IsRefused same tt)

@@ -5,5 +5,6 @@ pub mod Entries
 pub mod Report
 pub mod Runs
 pub mod Solving
+pub mod OneReport
 pub mod Retelling
 pub mod inside

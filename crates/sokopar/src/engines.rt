@@ -1,9 +1,9 @@
 ghost use Rattle.std.specs.Prelude.{◌≡◌, ◌≤◌};
 ghost use Rattle.crew.specs.Configured.{IsWithinLimits};
 ghost use Rattle.sokopar.specs.DeadMap.{IsDeadReport};
+ghost use Rattle.sokopar.specs.OneReport.{IsOnlySolveReport};
 ghost use Rattle.sokopar.specs.Report.{IsCheckReport, IsShowReport};
 ghost use Rattle.sokopar.specs.Runs.{Runs, Replays};
-ghost use Rattle.sokopar.specs.Solving.{IsSolveReport};
 
 use crate::check::check_report;
 use crate::dead::dead_in;
@@ -14,7 +14,7 @@ use crate::show::show_in;
 use crate::sink::Sink;
 use crate::solve::solve_in;
 use crate::source::Source;
-use crew::Config;
+use crew::{Config, Free, Gate};
 use std::alloc::Global;
 use std::sync::Wait;
 use std::thread::Threads;
@@ -91,11 +91,11 @@ pub fn run_replay<S: Source, T: Source, K: Sink>(
     report.send(sink)
 }
 
-#[tactic(auto, using(crate::proofs::Reading::stops_after))]
 /// Solves a level of a collection, counted from 1, with the fewest pushes, by the configuration's workers: writes the
 /// numbers of its least solution and the solution as LURD text, or that there is none, or that more positions than the
 /// limit are needed to say so. Gives the exit status, 0 where the level is solved, 4 where the limit was reached, else
-/// 1. The faults are those of [`run_check`].
+/// 1. What is written is the only report of these bytes under this cap and this limit, so the same bytes for every number of
+/// workers and of locks. The faults are those of [`run_check`].
 pub fn run_solve<R: Threads + Wait + Sync, S: Source, K: Sink>(
     rt: &R,
     alloc: Global,
@@ -106,9 +106,28 @@ pub fn run_solve<R: Threads + Wait + Sync, S: Source, K: Sink>(
 ) -> Result<u8, RunFault>
     requires number { 1 ≤ number }
     requires limits { IsWithinLimits config }
-    ensures { Runs (IsSolveReport config.cap config.limit number) (S.seen source.old) (S.seen source.new) (K.seen sink.old) (K.seen sink.new) result }
+    ensures { Runs (IsOnlySolveReport config.cap config.limit number) (S.seen source.old) (S.seen source.new) (K.seen sink.old) (K.seen sink.new) result }
+{
+    run_solve_with(rt, alloc, source, number, config, &Free, sink)
+}
+
+#[tactic(auto, using(crate::proofs::Reading::stops_after))]
+/// Solves a level as [`run_solve`] does, and asks a gate after each event of a worker whether that worker goes on. The report
+/// is the same for every gate.
+pub fn run_solve_with<R: Threads + Wait + Sync, S: Source, G: Gate + Sync, K: Sink>(
+    rt: &R,
+    alloc: Global,
+    source: &mut S,
+    number: u32,
+    config: Config,
+    gate: &G,
+    sink: &mut K,
+) -> Result<u8, RunFault>
+    requires number { 1 ≤ number }
+    requires limits { IsWithinLimits config }
+    ensures { Runs (IsOnlySolveReport config.cap config.limit number) (S.seen source.old) (S.seen source.new) (K.seen sink.old) (K.seen sink.new) result }
 {
     let bytes = read_whole(alloc, source)?;
-    let report = solve_in(rt, alloc, bytes.as_slice(), number, config)?;
+    let report = solve_in(rt, alloc, bytes.as_slice(), number, config, gate)?;
     report.send(sink)
 }

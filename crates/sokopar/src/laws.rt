@@ -5,13 +5,16 @@ ghost use Rattle.grid.specs.declared.moves.Letter.{Letter};
 ghost use Rattle.lurd.specs.Verdict.{IsVerdict};
 ghost use Rattle.layers.specs.Capping.{capped};
 ghost use Rattle.solo.specs.Answers.{IsAnswer};
-ghost use Rattle.sokopar.specs.Report.{Report};
+ghost use Rattle.sokopar.specs.DeadMap.{IsDeadReport};
+ghost use Rattle.sokopar.specs.OneReport.{IsOneAtMost};
+ghost use Rattle.sokopar.specs.Report.{Report, IsCheckReport, IsShowReport, IsReplayReport};
 ghost use Rattle.sokopar.specs.Solving.{IsSolveReport};
 ghost use Rattle.sokopar.specs.Retelling.{ReplaysAsTold};
 
 use lurd::Verdict;
 use lurd::laws::{one_reading, one_verdict, written_text};
 use solo::Answer;
+use solo::laws::an_answer_is_the_only_one;
 use xsb::laws::one_collection;
 
 /// A solution that is given replays as solved, with the numbers of pushes and of moves that are told with it.
@@ -30,4 +33,19 @@ pub fn printed_solution_replays()
     one_reading();
     one_verdict();
     one_collection();
+}
+
+/// Each input has at most one report: for each command, level number, solution, cap and limit two reports of the same bytes
+/// are the same text and the same status.
+pub fn one_report()
+    ensures check { (bytes : List ℕ) → IsOneAtMost (λ report. IsCheckReport bytes report) }
+    ensures show { (n : ℕ) (bytes : List ℕ) → IsOneAtMost (λ report. IsShowReport n bytes report) }
+    ensures dead { (n : ℕ) (bytes : List ℕ) → IsOneAtMost (λ report. IsDeadReport n bytes report) }
+    ensures replay { (n : ℕ) (bytes : List ℕ) (solution : Option (List ℕ)) → IsOneAtMost (λ report. IsReplayReport n bytes solution report) }
+    ensures solve { (cap : Option ℕ) (limit n : ℕ) (bytes : List ℕ) → IsOneAtMost (λ report. IsSolveReport cap limit n bytes report) }
+{
+    one_collection();
+    one_reading();
+    one_verdict();
+    an_answer_is_the_only_one();
 }

@@ -18,9 +18,9 @@ mod text;
 mod trail;
 mod writes;
 
-pub use engines::{run_check, run_dead, run_replay, run_show, run_solve};
+pub use engines::{run_check, run_dead, run_replay, run_show, run_solve, run_solve_with};
 pub use fault::RunFault;
-pub use laws::{printed_solution_replays, solution_replays};
+pub use laws::{one_report, printed_solution_replays, solution_replays};
 pub use sink::{Sink, Writer};
 pub use source::{Reader, Source};
 pub use trail::Failed;

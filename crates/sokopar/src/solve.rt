@@ -1,17 +1,19 @@
 ghost use Rattle.std.specs.Prelude.{◌≡◌, ◌++◌, ◌≤◌, None, OnOk, IfOk, length};
+ghost use Rattle.sokopar.specs.OneReport.{IsOnlySolveReport};
 ghost use Rattle.sokopar.specs.Report.{line};
-ghost use Rattle.sokopar.specs.Solving.{positions_words, answer_report, IsSolveOf, IsSolveReport};
+ghost use Rattle.sokopar.specs.Solving.{positions_words, answer_report, IsSolveOf};
 ghost use Rattle.sokopar.specs.Retelling.{solved_text};
 ghost use Rattle.sokopar.specs.inside.Parts.{too_many_boxes, none_within, SolvesOn};
 ghost use Rattle.lurd.specs.Text.{bytes_of};
 ghost use Rattle.crew.specs.Configured.{IsWithinLimits};
 
+use crate::laws::one_report;
 use crate::listing::{Chosen, level_of};
 use crate::replay::put_counts;
 use crate::report::Report;
 use crate::show::{fault_report, no_level};
 use crate::text::Text;
-use crew::{Config, Free};
+use crew::{Config, Gate};
 use grid::{Level, Moves};
 use solo::{Answer, SolveFault};
 use std::alloc::{AllocError, Global};
@@ -109,18 +111,19 @@ fn answer_report(
     }
 }
 
-/// The report of solving a level by a configuration.
-fn solve_level<R: Threads + Wait + Sync>(
+/// The report of solving a level by a configuration, with a gate for its workers.
+fn solve_level<R: Threads + Wait + Sync, G: Gate + Sync>(
     rt: &R,
     alloc: Global,
     level: &Level,
     config: Config,
+    gate: &G,
 ) -> Result<Report, AllocError>
     requires limits { IsWithinLimits config }
     ensures { IfOk result (λ report. IsSolveOf config.cap config.limit level.now report) }
 {
     let level = Arc::new(alloc, level.copy()?)?;
-    match crew::solve(rt, alloc, &level, config, &Free) {
+    match crew::solve(rt, alloc, &level, config, gate) {
         Ok(answer) => answer_report(alloc, &answer, config.cap, config.limit),
         Err(SolveFault::TooManyBoxes) => too_many_boxes(alloc),
         Err(SolveFault::OutOfMemory) => Err(AllocError),
@@ -128,13 +131,14 @@ fn solve_level<R: Threads + Wait + Sync>(
     }
 }
 
-/// The report of solving level N by a configuration.
-pub(crate) fn solve_report<R: Threads + Wait + Sync>(
+/// The report of solving level N by a configuration, with a gate for its workers.
+pub(crate) fn solve_report<R: Threads + Wait + Sync, G: Gate + Sync>(
     rt: &R,
     alloc: Global,
     chosen: &Chosen,
     number: u32,
     config: Config,
+    gate: &G,
 ) -> Result<Report, AllocError>
     requires number { 1 ≤ number }
     requires limits { IsWithinLimits config }
@@ -143,23 +147,26 @@ pub(crate) fn solve_report<R: Threads + Wait + Sync>(
     match chosen {
         None => no_level(alloc, number),
         Some(Err(fault)) => fault_report(alloc, *fault),
-        Some(Ok(level)) => solve_level(rt, alloc, level, config),
+        Some(Ok(level)) => solve_level(rt, alloc, level, config, gate),
     }
 }
 
-/// The report of solving level N of a collection by a configuration.
-pub(crate) fn solve_in<R: Threads + Wait + Sync>(
+/// The report of solving level N of a collection by a configuration, with a gate for its workers; there is no other report
+/// under its cap and its limit.
+pub(crate) fn solve_in<R: Threads + Wait + Sync, G: Gate + Sync>(
     rt: &R,
     alloc: Global,
     bytes: &[u8],
     number: u32,
     config: Config,
+    gate: &G,
 ) -> Result<Report, AllocError>
     requires number { 1 ≤ number }
     requires limits { IsWithinLimits config }
     requires bound { length bytes.now ≤ MAX_FILE }
-    ensures { IfOk result (λ report. IsSolveReport config.cap config.limit number bytes.now report) }
+    ensures { IfOk result (λ report. IsOnlySolveReport config.cap config.limit number bytes.now report) }
 {
+    one_report();
     let chosen = level_of(alloc, bytes, number)?;
-    solve_report(rt, alloc, &chosen, number, config)
+    solve_report(rt, alloc, &chosen, number, config, gate)
 }
