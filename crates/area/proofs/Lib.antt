@@ -2,6 +2,7 @@ pub mod lemmas
 pub mod Descents
 pub mod Detours
 pub mod Gathers
+pub mod Moving
 pub mod Nearness
 pub mod Reached
 pub mod Rings

@@ -1,17 +1,21 @@
-ghost use Rattle.std.specs.Prelude.{◌≡◌, ◌≢◌, ℕ, ◌<◌, ◌≤◌, true, false, IsTrue, ◌⊎◌, length};
+ghost use Rattle.std.specs.Prelude.{◌≡◌, ◌≢◌, ℕ, ◌*◌, ◌<◌, ◌≤◌, true, false, IsTrue, ◌⊎◌, length};
 ghost use Rattle.grid.specs.States.{FitsLevel};
-ghost use Rattle.grid.specs.Squares.{contains};
+ghost use Rattle.grid.specs.Masks.{has_bit};
+ghost use Rattle.grid.specs.Squares.{contains, insert, remove};
 ghost use Rattle.grid.specs.Board.{next, opposite};
 ghost use Rattle.area.specs.Area.{Area, IsNorm, at};
+ghost use Rattle.area.specs.Words.{squares_of};
 ghost use Rattle.area.specs.After.{IsAreaOf, IsPushed};
 ghost use Rattle.area.specs.inside.Detours.{across, Skirts, IsKnown, GainsNothing, StaysJoined, GoesPast, GoesRound};
 
 use crate::bits::least_of;
-use crate::floods::{flood_on, flood_sets, flood_to};
+use crate::floods::{flood_on, flood_round};
 use crate::scratch::Scratch;
-use grid::{Dir, Level, Position, Push, Square};
+use crate::set::SquareSet;
+use grid::{Dir, Level, Position, Push, Square, WORD_BITS};
 
-/// Makes the position after a push normal, where the last flood was that of the position before it, and stays so.
+/// Makes the position after a push normal, where the last flood was that of the position before it, round its boxes, and
+/// stays so.
 ///
 /// What the player reaches mostly follows from that flood and the squares round the box. Only where it doesn't is there
 /// another flood.
@@ -27,6 +31,7 @@ pub fn normalise_after(
     requires pushed { IsPushed level.now before.now push after.old }
     requires room { scratch.old.size ≡ length level.now.cells }
     requires flooded { IsAreaOf level.now before.now scratch.old.reached }
+    requires boxes { scratch.old.boxes ≡ before.now.boxes }
     ensures norm { IsNorm level.now after.old after.new }
     ensures fits { FitsLevel level.now after.new }
     ensures kept { scratch.new ≡ scratch.old }
@@ -34,91 +39,129 @@ pub fn normalise_after(
     let Push { square, dir } = push;
     let ahead = level.next(square, dir);
     let joined = stays_joined(level, square, dir, ahead, scratch);
-    let player = if gains_nothing(level, before, square, dir, scratch) {
+    let player = if gains_nothing(level, square, dir, scratch) {
         let least = scratch.least_with(ahead, square);
         if joined {
             least
         } else {
-            least_left(level, after, least, scratch)
+            least_left(level, after, square, ahead, least, scratch)
         }
     } else if joined {
-        least_grown(level, after, ahead, scratch)
+        least_grown(level, after, square, ahead, scratch)
     } else {
-        least_aside(level, after, scratch)
+        least_aside(level, after, square, ahead, scratch)
     };
     after.set_player(player);
 }
 
-// The least square that the player reaches, by a flood that leaves what the last one reached.
-fn least_aside(level: &Level, position: &Position, scratch: &mut Scratch) -> Square
+// The least square that the player reaches once a box was moved, by a flood that leaves what the last one reached.
+fn least_aside(
+    level: &Level,
+    position: &Position,
+    square: Square,
+    ahead: Square,
+    scratch: &mut Scratch,
+) -> Square
     requires fits { FitsLevel level.now position.now }
     requires room { scratch.old.size ≡ length level.now.cells }
+    requires inside { square < length level.now.cells }
+    requires ahead { ahead < length level.now.cells }
+    requires moved { position.now.boxes ≡ insert (remove scratch.old.boxes square) ahead }
     ensures norm { IsNorm level.now position.now (at position.now result) }
     ensures kept { scratch.new ≡ scratch.old }
 {
-    flood_sets(
+    move_box(&scratch.boxes, square, ahead, &mut scratch.spare_boxes);
+    flood_round(
         level,
         position,
+        &None,
+        &scratch.spare_boxes,
         &mut scratch.spare,
-        &mut scratch.spare_boxes,
     );
     least_of(scratch.spare.as_words())
 }
 
 // The same where it is known that the player reaches no square less than a given one: the flood may end there.
-fn least_left(level: &Level, position: &Position, least: Square, scratch: &mut Scratch) -> Square
+fn least_left(
+    level: &Level,
+    position: &Position,
+    square: Square,
+    ahead: Square,
+    least: Square,
+    scratch: &mut Scratch,
+) -> Square
     requires fits { FitsLevel level.now position.now }
     requires room { scratch.old.size ≡ length level.now.cells }
+    requires inside { square < length level.now.cells }
+    requires ahead { ahead < length level.now.cells }
+    requires moved { position.now.boxes ≡ insert (remove scratch.old.boxes square) ahead }
     requires least { (q : ℕ) → Area level.now position.now q → least ≤ q }
     ensures norm { IsNorm level.now position.now (at position.now result) }
     ensures kept { scratch.new ≡ scratch.old }
 {
-    flood_to(
+    move_box(&scratch.boxes, square, ahead, &mut scratch.spare_boxes);
+    flood_round(
         level,
         position,
         &Some(least),
+        &scratch.spare_boxes,
         &mut scratch.spare,
-        &mut scratch.spare_boxes,
     );
     least_of(scratch.spare.as_words())
 }
 
 // The same where what the last flood reached, but for the square ahead, is reached still: the flood begins with that.
-fn least_grown(level: &Level, position: &Position, ahead: Square, scratch: &mut Scratch) -> Square
+fn least_grown(
+    level: &Level,
+    position: &Position,
+    square: Square,
+    ahead: Square,
+    scratch: &mut Scratch,
+) -> Square
     requires fits { FitsLevel level.now position.now }
     requires room { scratch.old.size ≡ length level.now.cells }
-    requires inside { ahead < length level.now.cells }
+    requires inside { square < length level.now.cells }
+    requires ahead { ahead < length level.now.cells }
+    requires moved { position.now.boxes ≡ insert (remove scratch.old.boxes square) ahead }
     requires known { (q : ℕ) → contains scratch.old.reached q ≡ true → q ≢ ahead → Area level.now position.now q }
     ensures norm { IsNorm level.now position.now (at position.now result) }
     ensures kept { scratch.new ≡ scratch.old }
 {
+    move_box(&scratch.boxes, square, ahead, &mut scratch.spare_boxes);
     flood_on(
         level,
         position,
         &scratch.reached,
         ahead,
+        &scratch.spare_boxes,
         &mut scratch.spare,
-        &mut scratch.spare_boxes,
     );
     least_of(scratch.spare.as_words())
 }
 
+// Makes a set the same as another but for a box that was moved from one square to another.
+#[inline(always)]
+fn move_box(boxes: &SquareSet, square: Square, ahead: Square, moved: &mut SquareSet)
+    requires room { length moved.old ≡ length boxes.now }
+    requires inside { square < WORD_BITS * length boxes.now }
+    requires ahead { ahead < WORD_BITS * length boxes.now }
+    ensures moved { (q : ℕ) → has_bit moved.new q ≡ contains (insert (remove (squares_of boxes.now) square) ahead) q }
+    ensures size { length moved.new ≡ length moved.old }
+{
+    moved.copy_from(boxes);
+    moved.take_out(square);
+    moved.put(ahead);
+}
+
 // Whether nothing free is beside a box's square but what the last flood reached, and the square ahead. The player
 // walks behind the box, so what is left to look at is on its two sides.
-fn gains_nothing(
-    level: &Level,
-    position: &Position,
-    square: Square,
-    push_dir: Dir,
-    scratch: &Scratch,
-) -> bool
+fn gains_nothing(level: &Level, square: Square, push_dir: Dir, scratch: &Scratch) -> bool
     requires inside { square < length level.now.cells }
     requires behind { contains scratch.now.reached (next level.now square (opposite push_dir)) ≡ true }
-    ensures { IsTrue result → GainsNothing level.now position.now.boxes scratch.now.reached (next level.now square push_dir) square }
+    ensures { IsTrue result → GainsNothing level.now scratch.now.boxes scratch.now.reached (next level.now square push_dir) square }
 {
     let side = across(push_dir);
-    is_known(level, position, square, side, scratch)
-        && is_known(level, position, square, side.opposite(), scratch)
+    is_known(level, square, side, scratch) && is_known(level, square, side.opposite(), scratch)
 }
 
 // A direction at right angles to another.
@@ -134,12 +177,12 @@ fn across(dir: Dir) -> Dir
 
 // Whether the square beside a square in a direction is one that the last flood reached, or not free.
 #[inline(always)]
-fn is_known(level: &Level, position: &Position, square: Square, dir: Dir, scratch: &Scratch) -> bool
+fn is_known(level: &Level, square: Square, dir: Dir, scratch: &Scratch) -> bool
     requires inside { square < length level.now.cells }
-    ensures { IsTrue result → (but : ℕ) → IsKnown level.now position.now.boxes scratch.now.reached but square dir }
+    ensures { IsTrue result → (but : ℕ) → IsKnown level.now scratch.now.boxes scratch.now.reached but square dir }
 {
     let beside = level.next(square, dir);
-    scratch.reaches(beside) || level.is_wall(beside) || position.contains(beside)
+    scratch.reaches(beside) || level.is_wall(beside) || scratch.has_box(beside)
 }
 
 // Whether what the last flood reached beside the square ahead stays joined, by steps round that square.

@@ -52,81 +52,79 @@ pub(crate) fn flood_sets(
     ensures room { length reached.new ≡ length reached.old }
     ensures places { length boxes.new ≡ length boxes.old }
 {
-    flood_to(level, position, &None, reached, boxes);
+    boxes.put_all(position.boxes());
+    flood_round(level, position, &None, boxes, reached);
 }
 
-// The same, but where an aim is given, it may end as soon as the player reaches that: then the set need not have all
-// squares.
-pub(crate) fn flood_to(
+// Makes a set of the squares that the player reaches round a set of the boxes. Where an aim is given, it may end as soon as
+// the player reaches that: then the set need not have all squares.
+pub(crate) fn flood_round(
     level: &Level,
     position: &Position,
     aim: &Option<Square>,
+    boxes: &SquareSet,
     reached: &mut SquareSet,
-    boxes: &mut SquareSet,
 )
     requires fits { FitsLevel level.now position.now }
     requires room { length reached.old ≡ word_count (length level.now.cells) }
-    requires places { length boxes.old ≡ word_count (length level.now.cells) }
+    requires places { length boxes.now ≡ word_count (length level.now.cells) }
+    requires boxes { (q : ℕ) → has_bit boxes.now q ≡ contains position.now.boxes q }
     ensures begun { has_bit reached.new position.now.player ≡ true }
     ensures within { (q : ℕ) → has_bit reached.new q ≡ true → Area level.now position.now q }
     ensures whole { HasAim aim.now reached.new ⊎ ((q : ℕ) → Area level.now position.now q → has_bit reached.new q ≡ true) }
-    ensures boxes { (q : ℕ) → has_bit boxes.new q ≡ contains position.now.boxes q }
     ensures room { length reached.new ≡ length reached.old }
-    ensures places { length boxes.new ≡ length boxes.old }
 {
     reached.clear();
     reached.put(position.player());
-    flood_from(level, position, aim, reached, boxes);
+    flood_from(level, position, aim, boxes, reached);
 }
 
-// The same where it is known that the player reaches each square of an earlier set but for one: the flood begins with
-// those.
+// The same without an aim, where it is known that the player reaches each square of an earlier set but for one: the flood
+// begins with those.
 pub(crate) fn flood_on(
     level: &Level,
     position: &Position,
     known: &SquareSet,
     but: Square,
+    boxes: &SquareSet,
     reached: &mut SquareSet,
-    boxes: &mut SquareSet,
 )
     requires fits { FitsLevel level.now position.now }
     requires words { length known.now ≡ word_count (length level.now.cells) }
     requires room { length reached.old ≡ word_count (length level.now.cells) }
-    requires places { length boxes.old ≡ word_count (length level.now.cells) }
+    requires places { length boxes.now ≡ word_count (length level.now.cells) }
+    requires boxes { (q : ℕ) → has_bit boxes.now q ≡ contains position.now.boxes q }
     requires inside { but < length level.now.cells }
     requires known { (q : ℕ) → has_bit known.now q ≡ true → q ≢ but → Area level.now position.now q }
     ensures reached { (q : ℕ) → (has_bit reached.new q ≡ true) ↔ Area level.now position.now q }
     ensures room { length reached.new ≡ length reached.old }
-    ensures places { length boxes.new ≡ length boxes.old }
 {
     reached.copy_from(known);
     reached.take_out(but);
     reached.put(position.player());
-    flood_from(level, position, &None, reached, boxes);
+    flood_from(level, position, &None, boxes, reached);
 }
 
-// Adds to a set of squares that the player reaches, its own among them, all others, unless it ends at an aim that is
-// given; makes another set of the boxes' squares.
+// Adds to a set of squares that the player reaches round a set of the boxes, its own among them, all others, unless it ends
+// at an aim that is given.
 fn flood_from(
     level: &Level,
     position: &Position,
     aim: &Option<Square>,
+    boxes: &SquareSet,
     reached: &mut SquareSet,
-    boxes: &mut SquareSet,
 )
     requires fits { FitsLevel level.now position.now }
     requires room { length reached.old ≡ word_count (length level.now.cells) }
-    requires places { length boxes.old ≡ word_count (length level.now.cells) }
+    requires places { length boxes.now ≡ word_count (length level.now.cells) }
+    requires boxes { (q : ℕ) → has_bit boxes.now q ≡ contains position.now.boxes q }
     requires begun { has_bit reached.old position.now.player ≡ true }
     requires within { (q : ℕ) → has_bit reached.old q ≡ true → Area level.now position.now q }
     ensures begun { has_bit reached.new position.now.player ≡ true }
     ensures within { (q : ℕ) → has_bit reached.new q ≡ true → Area level.now position.now q }
     ensures whole { HasAim aim.now reached.new ⊎ ((q : ℕ) → Area level.now position.now q → has_bit reached.new q ≡ true) }
-    ensures boxes { (q : ℕ) → has_bit boxes.new q ≡ contains position.now.boxes q }
     ensures room { length reached.new ≡ length reached.old }
-    ensures places { length boxes.new ≡ length boxes.old }
 {
-    boxes.put_all(position.boxes());
     grow(level, aim, boxes, reached);
 }
 

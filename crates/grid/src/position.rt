@@ -98,8 +98,14 @@ impl Position {
     pub fn copy_from(&mut self, other: &Position)
         ensures { self.new ≡ other.now }
     {
-        self.boxes.clear();
-        let _ = self.boxes.try_extend_from_slice(other.boxes.as_slice());
+        if self.boxes.len() == other.boxes.len() {
+            self.boxes
+                .as_mut_slice()
+                .copy_from_slice(other.boxes.as_slice());
+        } else {
+            self.boxes.clear();
+            let _ = self.boxes.try_extend_from_slice(other.boxes.as_slice());
+        }
         self.player = other.player;
     }
 

@@ -1,8 +1,10 @@
 use Rattle.std.proofs.Common.{length, refl, ap, ◌∙◌}
 use Rattle.area.specs.Reach.{Reach}
-use Rattle.area.proofs.lemmas.Flooding.{words_few, area_seen, norm_of_least}
+use Rattle.area.proofs.lemmas.Flooding.{words_enough, words_few, area_seen, norm_of_least}
 use Rattle.area.proofs.lemmas.Norms.{area_here}
 use Rattle.area.proofs.lemmas.WordSets.{listed}
+use Rattle.grid.specs.Masks.{word_count}
+use Rattle.area.proofs.Moving.{moved_boxes}
 use Rattle.area.proofs.after.least_grown.Goals as goal
 
 pub least_of-requires-clause-some : goal.least_of-requires-clause-some
@@ -21,3 +23,12 @@ returns-clause-norm c =
 
 pub flood_on-requires-clause-known : goal.flood_on-requires-clause-known
 flood_on-requires-clause-known c = λ q there. c.requires.known q (listed c.scratch.inside.reached c.scratch.inside.reached c.args.scratch.now.reached q (ap (λ (r : Reach). r.reached) c.scratch.view_is) refl ∙ there)
+
+pub move_box-requires-clause-inside : goal.move_box-requires-clause-inside
+move_box-requires-clause-inside c = words_enough (length c.args.level.now.cells) (length c.scratch.inside.boxes) c.args.square (c.scratch.invariant.boxes_words ∙ ap word_count (ap (λ (r : Reach). r.size) c.scratch.view_is ∙ c.requires.room)) c.requires.inside
+
+pub move_box-requires-clause-ahead : goal.move_box-requires-clause-ahead
+move_box-requires-clause-ahead c = words_enough (length c.args.level.now.cells) (length c.scratch.inside.boxes) c.args.ahead (c.scratch.invariant.boxes_words ∙ ap word_count (ap (λ (r : Reach). r.size) c.scratch.view_is ∙ c.requires.room)) c.requires.ahead
+
+pub flood_on-requires-clause-boxes : goal.flood_on-requires-clause-boxes
+flood_on-requires-clause-boxes c = moved_boxes c.scratch.inside.boxes c.move_box.new.moved c.args.scratch.now.boxes c.args.position.now.boxes c.args.square c.args.ahead (ap (λ (r : Reach). r.boxes) c.scratch.view_is) c.requires.moved c.move_box.ensures.moved

@@ -1,8 +1,9 @@
 use Rattle.std.proofs.Common.{ℕ, ◌<◌, length, refl, sym, ap, subst, ◌∙◌}
+use Rattle.grid.specs.Squares.{Squares}
 use Rattle.grid.specs.Board.{Scene, next}
 use Rattle.grid.proofs.lemmas.Steps.{inside_grid}
 use Rattle.area.specs.Area.{IsNorm, at}
-use Rattle.area.specs.inside.Detours.{StaysJoined, IsLeastWith}
+use Rattle.area.specs.inside.Detours.{GainsNothing, StaysJoined, IsLeastWith}
 use Rattle.area.proofs.Detours.{still_reached, none_below, norm_after}
 use Rattle.area.proofs.lemmas.Norms.{norm_fits}
 use Rattle.area.proofs.Reached.{walk_free}
@@ -27,7 +28,22 @@ stays_joined-joined-requires-clause-reached c = λ q there.
     inside_grid c.args.level.now q (walk_free c.args.level.now c.args.before.now walked.0 q c.requires.fits_before.scene walked.1).0
 
 pub least_grown-requires-clause-inside : goal.least_grown-requires-clause-inside
-least_grown-requires-clause-inside c = subst (λ (x : ℕ). x < length c.args.level.now.cells) (sym c.next-ahead.ensures) (inside_grid c.args.level.now _ c.requires.pushed.ahead.0)
+least_grown-requires-clause-inside c = inside_grid c.args.level.now c.args.push.square (c.requires.fits_before.scene.boxes c.args.push.square c.requires.pushed.there)
+
+pub least_grown-requires-clause-ahead : goal.least_grown-requires-clause-ahead
+least_grown-requires-clause-ahead c = subst (λ (x : ℕ). x < length c.args.level.now.cells) (sym c.next-ahead.ensures) (inside_grid c.args.level.now _ c.requires.pushed.ahead.0)
+
+pub least_left-requires-clause-inside : goal.least_left-requires-clause-inside
+least_left-requires-clause-inside c = inside_grid c.args.level.now c.args.push.square (c.requires.fits_before.scene.boxes c.args.push.square c.requires.pushed.there)
+
+pub least_left-requires-clause-ahead : goal.least_left-requires-clause-ahead
+least_left-requires-clause-ahead c = subst (λ (x : ℕ). x < length c.args.level.now.cells) (sym c.next-ahead.ensures) (inside_grid c.args.level.now _ c.requires.pushed.ahead.0)
+
+pub least_aside-requires-clause-inside : goal.least_aside-requires-clause-inside
+least_aside-requires-clause-inside c = inside_grid c.args.level.now c.args.push.square (c.requires.fits_before.scene.boxes c.args.push.square c.requires.pushed.there)
+
+pub least_aside-requires-clause-ahead : goal.least_aside-requires-clause-ahead
+least_aside-requires-clause-ahead c = subst (λ (x : ℕ). x < length c.args.level.now.cells) (sym c.next-ahead.ensures) (inside_grid c.args.level.now _ c.requires.pushed.ahead.0)
 
 pub least_grown-requires-clause-known : goal.least_grown-requires-clause-known
 least_grown-requires-clause-known c = λ q there other.
@@ -37,7 +53,7 @@ least_grown-requires-clause-known c = λ q there other.
 pub least_left-requires-clause-least : goal.least_left-requires-clause-least
 least_left-requires-clause-least c =
     let least = subst (λ (x : ℕ). IsLeastWith c.args.scratch.now.reached x c.args.push.square c.least_with-least.result) c.next-ahead.ensures c.least_with-least.ensures in
-    none_below c.args.level.now c.args.before.now c.args.push c.args.after.now c.requires.fits_before.scene c.requires.pushed c.args.scratch.now.reached c.requires.flooded c.requires.fits.scene (c.if-gains_nothing.ensures refl) c.least_with-least.result least
+    none_below c.args.level.now c.args.before.now c.args.push c.args.after.now c.requires.fits_before.scene c.requires.pushed c.args.scratch.now.reached c.requires.flooded c.requires.fits.scene (subst (λ (bs : Squares). GainsNothing c.args.level.now bs c.args.scratch.now.reached (next c.args.level.now c.args.push.square c.args.push.dir) c.args.push.square) c.requires.boxes (c.if-gains_nothing.ensures refl)) c.least_with-least.result least
 
 pub returns-clause-norm : goal.returns-clause-norm
 returns-clause-norm c =
@@ -46,7 +62,7 @@ returns-clause-norm c =
     let ahead : ℕ = next board c.args.push.square c.args.push.dir in
     elim c.if-gains_nothing.branch [
       | then-gains_nothing+then-joined w ↦
-          (let known = w.if-gains_nothing.ensures refl in
+          (let known = subst (λ (bs : Squares). GainsNothing board bs reached ahead c.args.push.square) c.requires.boxes (w.if-gains_nothing.ensures refl) in
           let joined = subst (λ (x : ℕ). StaysJoined board reached x c.args.push.square) c.next-ahead.ensures (c.stays_joined-joined.ensures w.if-joined.true) in
           let least = subst (λ (x : ℕ). IsLeastWith reached x c.args.push.square w.least_with-least.result) c.next-ahead.ensures w.least_with-least.ensures in
           norm_after board c.args.before.now c.args.push c.args.after.now c.requires.fits_before.scene c.requires.pushed reached c.requires.flooded c.requires.fits.scene known joined c.set_player.new.self w.least_with-least.result (c.set_player.ensures ∙ ap (λ (q : ℕ). at c.args.after.now q) w.player-is) least)

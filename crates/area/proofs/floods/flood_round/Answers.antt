@@ -4,7 +4,7 @@ use Rattle.grid.specs.Board.{is_wall}
 use Rattle.grid.specs.Masks.{has_bit}
 use Rattle.grid.proofs.lemmas.Steps.{inside_grid}
 use Rattle.area.proofs.lemmas.Flooding.{words_enough, player_alone}
-use Rattle.area.proofs.floods.flood_to.Goals as goal
+use Rattle.area.proofs.floods.flood_round.Goals as goal
 
 pub put-requires : goal.put-requires
 put-requires c =
@@ -15,6 +15,7 @@ flood_from-requires c = record {
   fits = c.requires.fits;
   room = c.put.ensures.size ∙ (c.clear.ensures.size ∙ c.requires.room);
   places = c.requires.places;
+  boxes = c.requires.boxes;
   begun = alone _ ∙ eq-eqb c.player.result c.args.position.now.player c.player.ensures;
   within = player_alone c.args.level.now c.args.position.now c.put.new.self c.player.result c.player.ensures alone;
 }
