@@ -1,6 +1,7 @@
 # make         builds the proved program at target/sokopar; what the prover says is kept in target/build.log
 # make install builds it and copies it to PREFIX/bin
-# make demo    runs it on the collections of levels/
+# make quick   builds target/sokopar-unproved from the program's text alone, in a minute or two, with nothing proved
+# make demo    runs the proved program on the collections of levels/, or the unproved one where no proved one is built
 # make test    checks the table of what must be believed, proves everything from nothing, runs the tests, and then tests the
 #              program that this built as a process
 # make bench   measures it
@@ -12,7 +13,7 @@ LOG = target/build.log
 # the crates that the program is made of, lowest first
 LIBRARIES = $(shell sed -n '/^cli:/q; s/^\([a-z0-9_]*\)[ :].*/\1/p' crates.txt)
 
-.PHONY: all install demo test bench toolchain
+.PHONY: all install quick demo test bench toolchain needs
 
 # Says a crate's name while its step goes on, and then the time; where it fails, its status and the log decide.
 define step
@@ -34,10 +35,15 @@ install: all
 	@install -m 755 target/sokopar $(DESTDIR)$(PREFIX)/bin/sokopar
 	@echo "$(DESTDIR)$(PREFIX)/bin/sokopar"
 
-demo: all
-	@levels/demo target/sokopar
+quick: toolchain
+	@echo "target/sokopar-unproved: a minute or two of compiling, with nothing proved"
+	@RT=$(RT) build/quick cli target/sokopar-unproved
 
-test: toolchain
+demo:
+	@[ -x target/sokopar ] || $(MAKE) --no-print-directory quick
+	@if [ -x target/sokopar ]; then levels/demo target/sokopar; else levels/demo target/sokopar-unproved; fi
+
+test: needs
 	@tests/believed
 	@rm -f target/sokopar target/refusals
 	@RT=$(RT) tests/gate
@@ -53,3 +59,9 @@ bench: all
 
 toolchain:
 	@command -v $(RT) > /dev/null || { echo "The Rattle toolchain is not here: no command '$(RT)' on PATH."; exit 1; }
+
+# What the tests need: all of it that is missing in one line
+needs:
+	@missing=; for it in $(RT) python3; do command -v $$it > /dev/null || missing="$$missing, $$it"; done; \
+	command -v cc > /dev/null || command -v gcc > /dev/null || command -v clang > /dev/null || missing="$$missing, a C compiler (cc, gcc or clang)"; \
+	[ -z "$$missing" ] || { echo "Not on PATH, and the tests need it: $${missing#, }"; exit 1; }
