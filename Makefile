@@ -1,4 +1,4 @@
-# make         builds the proved program at target/sokopar; what the prover says is kept in target/build.log
+# make         proves the program and builds it at target/sokopar; what the prover says is kept in target/build.log
 # make install builds it and copies it to PREFIX/bin
 # make quick   builds target/sokopar-unproved from the program's text alone, in a minute or two, with nothing proved
 # make demo    runs the proved program on the collections of levels/, or the unproved one where no proved one is built
@@ -8,27 +8,11 @@
 
 RT ?= rt
 PREFIX ?= /usr/local
-LOG = target/build.log
-
-# the crates that the program is made of, lowest first
-LIBRARIES = $(shell sed -n '/^cli:/q; s/^\([a-z0-9_]*\)[ :].*/\1/p' crates.txt)
 
 .PHONY: all install quick demo test bench toolchain needs
 
-# Says a crate's name while its step goes on, and then the time; where it fails, its status and the log decide.
-define step
-	printf '%-10s' "$$crate"; start=$$(date +%s); \
-	(cd crates/$$crate && $(RT) $(1)) >> $(LOG) 2>&1; status=$$?; \
-	if [ $$status -ne 0 ]; then echo "failed: $(LOG) says why"; exit $$status; fi; \
-	echo "proved  $$(($$(date +%s) - start)) s"
-endef
-
 all: toolchain
-	@mkdir -p target
-	@: > $(LOG)
-	@for crate in $(LIBRARIES); do $(call step,lib); done
-	@crate=cli; $(call step,run -- --help)
-	@cp -f crates/cli/out/cli target/sokopar
+	@RT=$(RT) build/all
 
 install: all
 	@mkdir -p $(DESTDIR)$(PREFIX)/bin
@@ -45,13 +29,13 @@ demo:
 
 test: needs
 	@tests/believed
-	@rm -f target/sokopar target/refusals
+	@rm -f target/sokopar target/refusals-unproved
 	@RT=$(RT) tests/gate
 	@tests/cli/run target/sokopar
 	@tests/before/run target/sokopar
 	@tests/workers/run target/sokopar
 	@tests/hostile/run target/sokopar
-	@tests/refusals/run target/refusals
+	@tests/refusals/run target/refusals-unproved
 	@tests/fuzz/run target/sokopar
 
 bench: all
