@@ -4,12 +4,13 @@
 # make demo    runs the proved program on the collections of levels/, or the unproved one where no proved one is built
 # make test    checks the table of what must be believed, proves everything from nothing, runs the tests, and then tests the
 #              program that this built as a process
+# make check   tries in minutes what a change touches, for whoever makes it
 # make bench   measures it
 
 RT ?= rt
 PREFIX ?= /usr/local
 
-.PHONY: all install quick demo test bench toolchain needs
+.PHONY: all install quick demo test check bench toolchain needs
 
 all: toolchain
 	@RT=$(RT) build/all
@@ -37,6 +38,9 @@ test: needs
 	@tests/hostile/run target/sokopar
 	@tests/refusals/run target/refusals-unproved
 	@tests/fuzz/run target/sokopar
+
+check: needs
+	@RT=$(RT) tests/check $(BASE)
 
 bench: all
 	@bench/run target/sokopar
