@@ -1,55 +1,55 @@
-# make         builds the proved program at target/sokopar; what the prover says is kept in target/build.log
+# make         proves the program and builds it at target/sokopar; what the prover says is kept in target/build.log
 # make install builds it and copies it to PREFIX/bin
-# make demo    runs it on the collections of levels/
+# make quick   builds target/sokopar-unproved from the program's text alone, in a minute or two, with nothing proved
+# make demo    runs the proved program on the collections of levels/, or the unproved one where no proved one is built
 # make test    checks the table of what must be believed, proves everything from nothing, runs the tests, and then tests the
 #              program that this built as a process
+# make check   tries in minutes what a change touches, for whoever makes it
 # make bench   measures it
 
 RT ?= rt
 PREFIX ?= /usr/local
-LOG = target/build.log
 
-# the crates that the program is made of, lowest first
-LIBRARIES = $(shell sed -n '/^cli:/q; s/^\([a-z0-9_]*\)[ :].*/\1/p' crates.txt)
-
-.PHONY: all install demo test bench toolchain
-
-# Says a crate's name while its step goes on, and then the time; where it fails, its status and the log decide.
-define step
-	printf '%-10s' "$$crate"; start=$$(date +%s); \
-	(cd crates/$$crate && $(RT) $(1)) >> $(LOG) 2>&1; status=$$?; \
-	if [ $$status -ne 0 ]; then echo "failed: $(LOG) says why"; exit $$status; fi; \
-	echo "proved  $$(($$(date +%s) - start)) s"
-endef
+.PHONY: all install quick demo test check bench toolchain needs
 
 all: toolchain
-	@mkdir -p target
-	@: > $(LOG)
-	@for crate in $(LIBRARIES); do $(call step,lib); done
-	@crate=cli; $(call step,run -- --help)
-	@cp -f crates/cli/out/cli target/sokopar
+	@RT=$(RT) build/all
 
 install: all
 	@mkdir -p $(DESTDIR)$(PREFIX)/bin
 	@install -m 755 target/sokopar $(DESTDIR)$(PREFIX)/bin/sokopar
 	@echo "$(DESTDIR)$(PREFIX)/bin/sokopar"
 
-demo: all
-	@levels/demo target/sokopar
+quick: toolchain
+	@echo "target/sokopar-unproved: a minute or two of compiling, with nothing proved"
+	@RT=$(RT) build/quick cli target/sokopar-unproved
 
-test: toolchain
+demo:
+	@[ -x target/sokopar ] || $(MAKE) --no-print-directory quick
+	@if [ -x target/sokopar ]; then levels/demo target/sokopar; else levels/demo target/sokopar-unproved; fi
+
+test: needs
 	@tests/believed
-	@rm -f target/sokopar target/refusals
+	@rm -f target/sokopar target/refusals-unproved
 	@RT=$(RT) tests/gate
 	@tests/cli/run target/sokopar
 	@tests/before/run target/sokopar
 	@tests/workers/run target/sokopar
 	@tests/hostile/run target/sokopar
-	@tests/refusals/run target/refusals
+	@tests/refusals/run target/refusals-unproved
 	@tests/fuzz/run target/sokopar
+
+check: needs
+	@RT=$(RT) tests/check $(BASE)
 
 bench: all
 	@bench/run target/sokopar
 
 toolchain:
 	@command -v $(RT) > /dev/null || { echo "The Rattle toolchain is not here: no command '$(RT)' on PATH."; exit 1; }
+
+# What the tests need: all of it that is missing in one line
+needs:
+	@missing=; for it in $(RT) python3; do command -v $$it > /dev/null || missing="$$missing, $$it"; done; \
+	command -v cc > /dev/null || command -v gcc > /dev/null || command -v clang > /dev/null || missing="$$missing, a C compiler (cc, gcc or clang)"; \
+	[ -z "$$missing" ] || { echo "Not on PATH, and the tests need it: $${missing#, }"; exit 1; }

@@ -8,13 +8,15 @@ TESTS = os.path.dirname(os.path.abspath(__file__))
 SECONDS = 60
 
 
+def compiler():
+    """A C compiler; without one the tests end, and have failed."""
+    return shutil.which("cc") or shutil.which("gcc") or shutil.which("clang") or sys.exit("no C compiler: no command cc, gcc or clang on PATH")
+
+
 def build(source, folder):
-    """The library made of a C file below tests/, in the folder; None without a C compiler."""
-    compiler = shutil.which("cc") or shutil.which("gcc") or shutil.which("clang")
-    if compiler is None:
-        return None
+    """The library made of a C file below tests/, in the folder."""
     shim = os.path.join(folder, os.path.basename(source)[:-2] + ".so")
-    subprocess.run([compiler, "-O1", "-shared", "-fPIC", "-fno-builtin", "-o", shim, os.path.join(TESTS, source), "-ldl"],
+    subprocess.run([compiler(), "-O1", "-shared", "-fPIC", "-fno-builtin", "-o", shim, os.path.join(TESTS, source), "-ldl"],
                    check=True)
     return shim
 
