@@ -31,12 +31,12 @@ KeepsCap (Some most) pushes = pushes ≤ most
 abbrev pub IsSolutionOf : Task → List Dir → List Push → Type 0
 IsSolutionOf task ds ps = IsSolution task.board ds ps × KeepsCap task.cap (length ps)
 
--- the first n layers of the level have so many positions together
+-- the first n layers of the level under its cap have so many positions together
 abbrev pub HaveTotal : Task → ℕ → ℕ → Type 0
 HaveTotal task n positions = (layers : List (List Scene)) × AreLayersOf task layers × (length layers ≡ n) × (total layers ≡ positions)
 
--- all layers of the level together have so many positions: layer n is the first without one, so all later ones are
--- empty too
+-- all layers of the level under its cap together have so many positions: layer n is the first without one, so all
+-- later ones are empty too
 pub record HasInAll (task : Task) (positions : ℕ) : Type 0 where
   pub layers : List (List Scene)
   pub are : AreLayersOf task layers
@@ -63,9 +63,9 @@ pub record PassesLimit (task : Task) (limit : ℕ) : Type 0 where
 abbrev pub HasNone : Task → ℕ → ℕ → Type 0
 HasNone task limit positions = IsUnsolvable task × HasInAll task positions × (positions ≤ limit)
 
--- the answer: the least solution, with its number of pushes, which are within the cap, and the number of positions that so
--- many pushes or fewer lead to; or that no play ends solved, within the cap if one is set, with the number of all
--- positions; or that this number is more than the limit
+-- the answer: the least solution, with its number of pushes, which are within the cap, and the number of positions of
+-- the layers up to it, under the cap; or that no play ends solved, within the cap if one is set, with the number of
+-- positions of all layers under the cap; or that the limit is passed
 abbrev pub IsAnswer : Task → ℕ → Answer → Type 0
 IsAnswer task limit (Solved moves pushes positions) =
     WritesLeastSolution task.board moves pushes × HaveTotal task (suc pushes) positions × (positions ≤ limit) × KeepsCap task.cap pushes
