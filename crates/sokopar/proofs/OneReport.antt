@@ -11,16 +11,18 @@ use Rattle.lurd.specs.ExactlyOne.{ExactlyOne}
 use Rattle.lurd.specs.Parsing.{Reads}
 use Rattle.lurd.specs.Verdict.{IsVerdict}
 use Rattle.lurd.specs.declared.fault.LurdFault.{LurdFault}
-use Rattle.layers.specs.Tasks.{Task, capped}
+use Rattle.layers.specs.Tasks.{Task}
+use Rattle.layers.specs.Capping.{capped}
 use Rattle.solo.specs.Answers.{IsAnswer}
 use Rattle.solo.specs.declared.answer.Answer.{Answer}
-use Rattle.xsb.specs.Collection.{Found, IsCollection}
-use Rattle.xsb.specs.Judged.{IsJudged}
-use Rattle.sokopar.specs.DeadMap.{IsMark, wall, goal, dead, other, AreMarks, MapsOn, IsDeadReport, marked_row, rows_of}
+use Rattle.xsb.specs.Collection.{Found, IsCollection, IsJudged}
+use Rattle.xsb.specs.Written.{rows_from}
+use Rattle.sokopar.specs.DeadMap.{IsMark, wall, goal, dead, other, AreMarks, IsDeadReport, marked_row}
 use Rattle.sokopar.specs.Listing.{Listed, IsListed, IsListing, level_at}
 use Rattle.sokopar.specs.OneReport.{IsOneAtMost, IsOnlyReport}
-use Rattle.sokopar.specs.Report.{Report, IsReplayOf, IsCheckReport, IsShowReport, IsReplayReport, ReplaysOn, check_report, show_report, verdict_report, text_fault_report}
-use Rattle.sokopar.specs.Solving.{IsSolveOf, IsSolveReport, SolvesOn, answer_report}
+use Rattle.sokopar.specs.Report.{Report, IsReplayOf, IsCheckReport, IsShowReport, IsReplayReport, ReplaysOn, ReportsOn, IsShown, check_report, verdict_report, text_fault_report}
+use Rattle.sokopar.specs.Solving.{IsSolveOf, IsSolveReport, answer_report}
+use Rattle.sokopar.specs.inside.Parts.{MapsOn, SolvesOn}
 
 -- ---- one listing
 
@@ -127,7 +129,7 @@ same_map : (n : ℕ) (level : Option (Result Board LevelFault)) → IsOneAtMost 
 same_map n None report others told also = also ∙ sym told
 same_map n (Some (Err fault)) report others told also = also ∙ sym told
 same_map n (Some (Ok board)) report others (xs, are, told) (ys, ares, also) =
-    let of : List ℕ → Report = λ marks. record { text = flat_map marked_row (rows_of (row_count board) board.cols marks); status = 0 } in
+    let of : List ℕ → Report = λ marks. record { text = flat_map marked_row (rows_from (row_count board) board.cols marks); status = 0 } in
     also ∙ ap of (same_marks board xs ys are ares) ∙ sym told
 
 -- the replay of a text
@@ -200,9 +202,15 @@ pub one_check_report : AreOneCollection → (bytes : List ℕ) → IsOneAtMost (
 one_check_report law bytes report others (xs, lists, told) (ys, listed, also) =
     also ∙ ap check_report (one_listing law bytes xs ys lists listed) ∙ sym told
 
+same_shown : (n : ℕ) (level : Option (Result Board LevelFault)) → IsOneAtMost (λ report. ReportsOn IsShown n level report)
+same_shown n None report others told also = also ∙ sym told
+same_shown n (Some (Err fault)) report others told also = also ∙ sym told
+same_shown n (Some (Ok board)) report others told also = also ∙ sym told
+
 pub one_show_report : AreOneCollection → (n : ℕ) (bytes : List ℕ) → IsOneAtMost (λ report. IsShowReport n bytes report)
 one_show_report law n bytes report others (xs, lists, told) (ys, listed, also) =
-    also ∙ ap (λ (l : List Listed). show_report n (level_at l n)) (one_listing law bytes xs ys lists listed) ∙ sym told
+    let P : List Listed → Type 0 = λ l. ReportsOn IsShown n (level_at l n) others in
+    same_shown n (level_at xs n) report others told (subst P (one_listing law bytes xs ys lists listed) also)
 
 pub one_dead_report : AreOneCollection → (n : ℕ) (bytes : List ℕ) → IsOneAtMost (λ report. IsDeadReport n bytes report)
 one_dead_report law n bytes report others (xs, lists, told) (ys, listed, also) =

@@ -31,7 +31,7 @@ KeepsCap (Some most) pushes = pushes ≤ most
 abbrev pub IsSolutionOf : Task → List Dir → List Push → Type 0
 IsSolutionOf task ds ps = IsSolution task.board ds ps × KeepsCap task.cap (length ps)
 
--- the first n layers of the level have so many positions together
+-- the first n layers of the level under its cap have so many positions together
 abbrev pub HaveTotal : Task → ℕ → ℕ → Type 0
 HaveTotal task n positions = (layers : List (List Scene)) × AreLayersOf task layers × (length layers ≡ n) × (total layers ≡ positions)
 
@@ -59,9 +59,9 @@ abbrev pub HasNone : Task → ℕ → ℕ → Type 0
 HasNone task limit positions =
     ((ds : List Dir) (ps : List Push) → ¬ (IsSolutionOf task ds ps)) × HasInAll task positions × (positions ≤ limit)
 
--- the answer: the least solution, with its number of pushes, which are within the cap, and the number of positions that so
--- many pushes or fewer lead to; or that no play ends solved, within the cap if one is set, with the number of all
--- positions; or that this number is more than the limit
+-- the answer: the least solution, with its number of pushes, which are within the cap, and the number of positions of
+-- the layers up to it, under the cap; or that no play ends solved, within the cap if one is set, with the number of
+-- positions of all layers under the cap; or that the limit is passed
 abbrev pub IsAnswer : Task → ℕ → Answer → Type 0
 IsAnswer task limit (Solved moves pushes positions) =
     WritesLeastSolution task.board moves pushes × HaveTotal task (suc pushes) positions × (positions ≤ limit) × KeepsCap task.cap pushes

@@ -10,23 +10,25 @@ use thiserror::Error;
 pub enum Answer {
     /// The least solution: the fewest pushes, of those the least push list, of those the fewest moves, of those the
     /// least text in the order `d`, `l`, `r`, `u`. `positions` counts the positions that so many pushes or fewer lead
-    /// to.
+    /// to through undoomed positions; where a cap is set, those of them that it admits: the fewest pushes that lead
+    /// there, and what lone boxes need from there, are together no more than the cap.
     Solved {
         moves: Moves,
         pushes: u64,
         positions: u64,
     },
-    /// No play at all ends with every box on a goal. `positions` counts all positions that pushes lead to.
+    /// No play at all ends with every box on a goal; answered only where no cap is set. `positions` counts all
+    /// positions that pushes lead to through undoomed positions.
     Unsolvable {
         positions: u64,
     },
     /// No play with so many pushes as the cap allows ends with every box on a goal; answered in place of
-    /// [`Unsolvable`](Answer::Unsolvable) exactly where a cap is set. `positions` counts all positions that pushes lead to
-    /// and from which the level may be solved within the cap, by what lone boxes need.
+    /// [`Unsolvable`](Answer::Unsolvable) exactly where a cap is set. `positions` counts all positions that pushes lead
+    /// to through undoomed positions and that the cap admits.
     NoneWithin {
         positions: u64,
     },
-    /// That count is more than the limit.
+    /// More positions than the limit are needed to give one of the other answers; nothing is said of the level.
     Limit,
 }
 
