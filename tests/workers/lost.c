@@ -1,12 +1,16 @@
 /* Loaded before the C library (LD_PRELOAD), it takes workers away from a program. The threads that it starts, but for the
    first LOST_AFTER ones, are refused; and so is each request for memory that is made in a thread but the first one, from
-   the request on whose number LOST_MEMORY gives, counted over all these threads from 1; with LOST_ALONE that one alone. */
+   the request on whose number LOST_MEMORY gives, counted over all these threads from 1; with LOST_ALONE that one alone. The
+   file LOST_COUNT, 8 bytes, holds how many threads it was to start: it is mapped, so that it is right however the process
+   ends. */
 #define _GNU_SOURCE
 #include <dlfcn.h>
 #include <errno.h>
+#include <fcntl.h>
 #include <pthread.h>
 #include <stddef.h>
 #include <stdlib.h>
+#include <sys/mman.h>
 #include <unistd.h>
 
 extern void *__libc_malloc(size_t size);
@@ -16,20 +20,30 @@ extern void *__libc_memalign(size_t align, size_t size);
 
 typedef int (*Start)(pthread_t *, const pthread_attr_t *, void *(*)(void *), void *);
 
-static unsigned long after = -1UL, from = -1UL, started, asked;
+static unsigned long after = -1UL, from = -1UL, uncounted, *started = &uncounted, asked;
 static int alone;
 static Start start;
 
+static void count_in(const char *path) {
+    int fd = open(path, O_RDWR | O_CREAT | O_TRUNC, 0600);
+    if (fd < 0 || ftruncate(fd, sizeof *started) != 0) _exit(99);
+    void *place = mmap(NULL, sizeof *started, PROT_READ | PROT_WRITE, MAP_SHARED, fd, 0);
+    if (place == MAP_FAILED) _exit(99);
+    close(fd);
+    started = place;
+}
+
 __attribute__((constructor)) static void begin(void) {
-    const char *threads = getenv("LOST_AFTER"), *memory = getenv("LOST_MEMORY");
+    const char *threads = getenv("LOST_AFTER"), *memory = getenv("LOST_MEMORY"), *count = getenv("LOST_COUNT");
     start = (Start)dlsym(RTLD_NEXT, "pthread_create");
     if (threads) after = strtoul(threads, NULL, 10);
     if (memory) from = strtoul(memory, NULL, 10);
     alone = getenv("LOST_ALONE") != NULL;
+    if (count) count_in(count);
 }
 
 int pthread_create(pthread_t *thread, const pthread_attr_t *kind, void *(*body)(void *), void *argument) {
-    if (__atomic_fetch_add(&started, 1, __ATOMIC_SEQ_CST) >= after) return EAGAIN;
+    if (__atomic_fetch_add(started, 1, __ATOMIC_SEQ_CST) >= after) return EAGAIN;
     return start(thread, kind, body, argument);
 }
 

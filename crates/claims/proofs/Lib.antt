@@ -5,3 +5,4 @@ pub mod Seats
 pub mod Drawing
 pub mod Enrolling
 pub mod Opening
+pub mod Auditing

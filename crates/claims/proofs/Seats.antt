@@ -53,7 +53,7 @@ sum_two : (f : Hand → ℕ) (h k : Hand) → sum_by f (h ∷ k ∷ []) ≡ f h 
 sum_two f h k = omega arith
 
 -- hands that are dealt to the views in another way, and empty ones beside them, keep the rule
-dealt : (size : ℕ) (words : List ℕ) (views after : List View) → IsDrawnOnce size words views
+pub dealt : (size : ℕ) (words : List ℕ) (views after : List View) → IsDrawnOnce size words views
     → ((f : Hand → ℕ) → f empty_hand ≡ 0 → over_hands f after ≡ over_hands f views) → AllFit size words after → IsDrawnOnce size words after
 dealt size words views after r same fit = record {
   ranges = r.ranges;

@@ -1,3 +1,4 @@
 pub mod Hands
+pub mod Audit
 pub mod Rule
 pub mod inside

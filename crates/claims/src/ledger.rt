@@ -1,10 +1,16 @@
-ghost use Rattle.std.specs.Prelude.{◌≡◌, ◌<◌, IfOk, IsNone, None};
-ghost use Rattle.claims.specs.Hands.{AreApart, Drew, Enrolled, newcomer};
+ghost use Rattle.std.specs.Prelude.{◌≡◌, ◌+◌, ◌%◌, ◌^◌, ◌<◌, suc, [], All, IfOk, IsNone, None};
+ghost use Rattle.claims.specs.Hands.{DrawerView, AreApart, Drew, Enrolled, newcomer};
+ghost use Rattle.claims.specs.Audit.{AreAudited, hands_of};
+ghost use Rattle.claims.specs.Rule.{holds};
+ghost use Rattle.claims.specs.inside.Plays.{draws};
+ghost use Rattle.claims.specs.inside.Views.{view_of};
+ghost use Rattle.atomic_table.specs.Table.{Allows, step};
+ghost use mathlib.Core.Option.{none};
 
 use crate::drawer::Drawer;
-use crate::steps::{Compares, Drawn, Draws, Enrols, Meeting, Newcomer};
+use crate::steps::{Audits, Compares, Drawn, Draws, Enrols, Gathers, Meeting, Newcomer};
 use crate::views::View;
-use atomic_table::Table;
+use atomic_table::{Seat, Shared, Table};
 use std::alloc::{AllocError, Global};
 use std::marker::Model;
 
@@ -94,10 +100,7 @@ impl Ledger {
         if drawer.place.is_none() || drawer.spent {
             return None;
         }
-        let found = self
-            .table
-            .shared
-            .fetch_add::<Draws>(&mut drawer.seat, NEXT, 1);
+        let found = draw_next(&self.table.shared, &mut drawer.seat);
         if found < u64::from(self.len) {
             Some(found as u32)
         } else {
@@ -134,4 +137,41 @@ impl Ledger {
         };
         (drawer, other)
     }
+
+    /// Puts drawers together for good, at any moment, and gives the number that is drawn next. With the other hands of
+    /// the ledger theirs keep its rule; where they have all places, each number below both the next one and the length
+    /// is in one of their lists, once.
+    pub fn audit(&self, drawers: Vec<Drawer>) -> u64
+        requires { All (λ (d : DrawerView). d.ledger ≡ self.now) drawers.items }
+        ensures { AreAudited self.now.len result (hands_of drawers.items) }
+    {
+        let shared = &self.table.shared;
+        let mut seat = gathered(shared, drawers);
+        shared.load::<Audits>(&mut seat, NEXT)
+    }
+}
+
+// What is drawn next, by the one step of a draw.
+fn draw_next(shared: &Shared<(), View, u32, Drawn>, seat: &mut Seat<(), View>) -> u64
+    requires seat { (seat.old.table_id ≡ shared.now.table_id) × (0 < shared.now.table_id.words) }
+    requires step { Allows (holds shared.now.key) shared.now.table_id.slots seat.old.id seat.old.me 0 (λ n. (n + 1) % 2 ^ 64) (draws (step shared.now.table_id.slots 0 1 0 none) seat.old.me) }
+    ensures seat { (seat.new.table_id ≡ seat.old.table_id) × (seat.new.id ≡ seat.old.id) }
+    ensures step { draws (step shared.now.table_id.slots 0 1 0 none) seat.old.me result seat.new.me }
+{
+    shared.fetch_add::<Draws>(seat, NEXT, 1)
+}
+
+// One seat with the hands of all drawers, in order.
+fn gathered(shared: &Shared<(), View, u32, Drawn>, drawers: Vec<Drawer>) -> Seat<(), View>
+    requires words { shared.now.table_id.words ≡ suc PLACES }
+    requires drawers { All (λ (d : DrawerView). (d.ledger.table ≡ shared.now.table_id) × (d.ledger.len ≡ shared.now.key)) drawers.items }
+    ensures table { result.table_id ≡ shared.now.table_id }
+    ensures hands { result.me ≡ (view_of shared.now.key (hands_of drawers.items), []) }
+{
+    let (_, mut seat) = shared.load_new_seat::<Gathers>(NEXT);
+    for drawer in drawers {
+        let Drawer { seat: other, .. } = drawer;
+        shared.join_seat::<Meeting>(&mut seat, other);
+    }
+    seat
 }

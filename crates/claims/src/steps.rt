@@ -41,6 +41,24 @@ impl Play<(), View> for Compares {
     ghost then = { compares };
 }
 
+/// A load that makes a seat with no hands, for an audit.
+pub(crate) struct Gathers;
+
+impl Play<(), View> for Gathers {
+    ghost use Rattle.claims.specs.inside.Plays.{gathers};
+
+    ghost then = { gathers };
+}
+
+/// A load that audits the hands of a seat.
+pub(crate) struct Audits;
+
+impl Play<(), View> for Audits {
+    ghost use Rattle.claims.specs.inside.Plays.{audits};
+
+    ghost then = { audits };
+}
+
 /// A new drawer beside one that stays as it is.
 pub(crate) struct Newcomer;
 

@@ -1,4 +1,4 @@
-ghost use Rattle.std.specs.Prelude.{◌≡◌};
+ghost use Rattle.std.specs.Prelude.{◌≡◌, [], ◌∷◌};
 
 mod races;
 
@@ -63,4 +63,50 @@ fn drawers_that_met_draw_on(rt: HostRuntime) {
     let (mut first, mut second) = ledger.meet(first, second);
     assert!(rt; first.has_place() && !second.has_place());
     assert!(rt; ledger.draw(&mut first) == Some(1) && ledger.draw(&mut second).is_none());
+}
+
+// Three drawers in a list.
+fn listed<R: Abort>(
+    rt: &R,
+    alloc: Global,
+    first: Drawer,
+    second: Drawer,
+    third: Drawer,
+) -> Vec<Drawer>
+    ensures { result.items ≡ first ∷ second ∷ third ∷ [] }
+{
+    let mut drawers = Vec::new(alloc);
+    drawers.push(first).expect(rt, "memory");
+    drawers.push(second).expect(rt, "memory");
+    drawers.push(third).expect(rt, "memory");
+    drawers
+}
+
+// What an audit of three drawers tells.
+fn audit_three<R: Abort>(
+    rt: &R,
+    alloc: Global,
+    ledger: &Ledger,
+    drawers: (Drawer, Drawer, Drawer),
+) -> u64
+    requires first { drawers.0.ledger ≡ ledger.now }
+    requires second { drawers.1.ledger ≡ ledger.now }
+    requires third { drawers.2.ledger ≡ ledger.now }
+{
+    let (first, second, third) = drawers;
+    let all = listed(rt, alloc, first, second, third);
+    ledger.audit(all)
+}
+
+#[test]
+fn an_audit_tells_the_number_that_is_drawn_next(rt: HostRuntime) {
+    let alloc = rt.alloc();
+    let (ledger, mut first, mut second, third) = with_three(&rt, alloc);
+    assert!(rt; ledger.audit(Vec::new(alloc)) == 0);
+    assert!(rt; ledger.draw(&mut first) == Some(0) && ledger.draw(&mut second) == Some(1));
+    assert!(rt; ledger.audit(Vec::new(alloc)) == 2);
+    assert!(rt; ledger.draw(&mut first) == Some(2) && ledger.draw(&mut first).is_none());
+    assert!(rt; ledger.draw(&mut first).is_none() && ledger.draw(&mut second).is_none());
+    let next = audit_three(&rt, alloc, &ledger, (first, second, third));
+    assert!(rt; next == 5, "two drawers asked once too often");
 }

@@ -4,6 +4,7 @@ use Rattle.atomic_table.specs.Table.{Me, Step}
 use Rattle.claims.specs.declared.views.Hand.{Hand}
 use Rattle.claims.specs.declared.views.View.{View}
 use Rattle.claims.specs.Hands.{AreApart, with_place, with_taken, with_number, spent_out}
+use Rattle.claims.specs.Audit.{AreAudited}
 use Rattle.claims.specs.inside.Views.{first_hand, other_hands, view_of}
 
 -- what a seat with no slot knows
@@ -34,3 +35,11 @@ draws st me found me' = (me' ≡ sat me.0.len (after_draw me.0.len found (first_
 -- meet: the seat stays as it is, and its first two hands are apart
 abbrev pub compares : Step (Unit {0}) → Sat → ℕ → Sat → Type 0
 compares st me found me' = (me' ≡ me) × AreApart (first_hand me.0.hands) (first_hand (other_hands me.0.hands))
+
+-- audit: a new seat with no hands
+abbrev pub gathers : Step (Unit {0}) → Sat → ℕ → Sat → Type 0
+gathers st me found me' = me' ≡ (view_of me.0.len [], [])
+
+-- audit: the seat stays as it is, and its hands are audited
+abbrev pub audits : Step (Unit {0}) → Sat → ℕ → Sat → Type 0
+audits st me found me' = (me' ≡ me) × AreAudited me.0.len found me.0.hands

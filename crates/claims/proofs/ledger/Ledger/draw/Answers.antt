@@ -1,11 +1,12 @@
-use Rattle.std.proofs.Common.{rules, sym, ap, ◌∙◌}
+use Rattle.std.proofs.Common.{rules, sym, ap, ◌∙◌, arith}
 use Rattle.std.specs.Prelude.{is_some}
 use Rattle.claims.proofs.Seats.{agrees}
 use Rattle.claims.proofs.Drawing.{draws_seat}
 use Rattle.claims.proofs.ledger.Ledger.draw.Goals as goal
 
-pub fetch_add-found-requires : goal.fetch_add-found-requires
-fetch_add-found-requires c =
+pub draw_next-found-requires : goal.draw_next-found-requires
+draw_next-found-requires c =
     let sound = c.drawer.invariant in
     let len = agrees c.drawer.inside c.self.inside c.args.drawer.now c.args.self.now c.drawer.view_is c.self.view_is c.requires c.self.invariant in
-    (search rules, search rules, draws_seat _ _ _ c.drawer.inside.seat.me sound.seated len (ap is_some (sym sound.place) ∙ c.if-is_none.ensures) (sym sound.spent ∙ c.if-drawer.false))
+    let words = c.self.invariant.0 in
+    record { seat = (search rules, omega arith); step = draws_seat _ _ _ c.drawer.inside.seat.me sound.seated len (ap is_some (sym sound.place) ∙ c.if-is_none.ensures) (sym sound.spent ∙ c.if-drawer.false) }
