@@ -9,6 +9,7 @@
 
 RT ?= rt
 PREFIX ?= /usr/local
+SOURCES = $(shell find crates -name out -prune -o -name '*.rt' -print)
 
 .PHONY: all install quick demo test check bench toolchain needs
 
@@ -20,9 +21,11 @@ install: all
 	@install -m 755 target/sokopar $(DESTDIR)$(PREFIX)/bin/sokopar
 	@echo "$(DESTDIR)$(PREFIX)/bin/sokopar"
 
-quick: toolchain
-	@echo "target/sokopar-unproved: a minute or two of compiling, with nothing proved"
-	@RT=$(RT) build/quick cli target/sokopar-unproved
+quick: target/sokopar-unproved
+
+target/sokopar-unproved: $(SOURCES) crates.txt build/quick | toolchain
+	@echo "$@: a minute or two of compiling, with nothing proved"
+	@RT=$(RT) build/quick cli $@
 
 demo:
 	@[ -x target/sokopar ] || $(MAKE) --no-print-directory quick
