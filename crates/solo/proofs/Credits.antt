@@ -6,7 +6,7 @@ use Rattle.layers.proofs.lemmas.Lists.{sum_by_first}
 use Rattle.layers.specs.ParcelView.{ParcelView}
 use Rattle.layers.specs.BookView.{BookView, Closed}
 use Rattle.layers.specs.Books.{AllDone, with_closed, with_parcel}
-use Rattle.solo.specs.inside.Turns.{AreDoneBy, IsDoneBy, left_ranks}
+use Rattle.solo.specs.inside.Turns.{AreDoneBy, IsDoneBy}
 use Rattle.solo.proofs.Each.{HaveChangedUpTo, one_changed, some_changed}
 
 -- ---- numbers and marks

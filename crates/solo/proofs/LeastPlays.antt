@@ -51,7 +51,7 @@ push_written : (board : Board) (s : Scene) (d : Dir) (t : Scene) → Pushes boar
 push_written board s d t h = (push tt h (stay tt), refl)
 
 -- the letters of a play have its directions
-dirs_written : {board : Board} {s t : Scene} {ds : List Dir} {ps : List Push} (q : Play board Any s ds ps t) → dirs_of (letters_of q) ≡ ds
+pub dirs_written : {board : Board} {s t : Scene} {ds : List Dir} {ps : List Push} (q : Play board Any s ds ps t) → dirs_of (letters_of q) ≡ ds
 dirs_written (stay o) = refl
 dirs_written (walk {d = d} o h q) = ap (λ (ds : List Dir). d ∷ ds) (dirs_written q)
 dirs_written (push {d = d} o h q) = ap (λ (ds : List Dir). d ∷ ds) (dirs_written q)

@@ -1,10 +1,13 @@
 pub mod lemmas
 pub mod Credits
 pub mod Each
+pub mod Existence
 pub mod Finishing
 pub mod LeastPlays
+pub mod LeastTexts
 pub mod Limits
 pub mod Looking
+pub mod NextLayers
 pub mod ReadingBack
 pub mod Rests
 pub mod Solved

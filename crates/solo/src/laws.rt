@@ -20,6 +20,12 @@ pub fn an_answer_is_the_only_one()
     ensures { (task : Task) (limit : ℕ) (a b : Answer) → IsLevel task.board → IsAnswer task limit a → IsAnswer task limit b → a ≡ b }
 {}
 
+/// A level with its cap and a limit is never without an answer: that none fits leads to a contradiction. Memory does not
+/// come into it, for this is about the definitions alone.
+pub fn an_answer_is_never_missing()
+    ensures { (task : Task) (limit : ℕ) → IsLevel task.board → ((answer : Answer) → ¬ (IsAnswer task limit answer)) → ⊥ }
+{}
+
 /// The answer is `Limit` exactly where the positions that are needed are more than the limit: for a level that is
 /// solved, those of the layers up to the least number of pushes of a solution; for one that is not, those of all
 /// layers.

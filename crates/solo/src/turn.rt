@@ -319,7 +319,14 @@ fn do_ranks(
         let Some(claim) = book.claim() else {
             return Ok(true);
         };
-        expand_over_into(layer.level(), layer, pruner, claim.rank, scratch, &mut parcel);
+        expand_over_into(
+            layer.level(),
+            layer,
+            pruner,
+            claim.rank,
+            scratch,
+            &mut parcel,
+        );
     }
 }
 
