@@ -122,11 +122,11 @@ examples are for the level #####|#@$.#|#####):
 /// The faults of solution texts that have no limit in them, in the help of `replay`.
 const TEXT_FAULTS: &str = "
   bad byte at A   Byte A of the file is no letter of l, u, r, d, L, U, R, D, no
-                  digit, blank or end of a line: Rx has it at 2. Leave out titles,
-                  comments, and the first line of what solve writes.
-  bad count at A  The digits from byte A on are no count, which has 1 to 4 digits,
-                  is not 0, and has a letter right after it: 0R, 2 R. A count says
-                  how often a letter stands: 3r is rrr.";
+                  digit, blank or end of a line: Rx has it at 2. Leave out
+                  titles, comments, and the first line of what solve writes.
+  bad count at A  The digits from byte A on are no count: it has 1 to 4 digits,
+                  is not 0, and a letter comes right after it. 0R and 2 R have
+                  no count. It says how often the letter stands: 3r is rrr.";
 
 /// The end of the help of `replay`: verdicts, the faults of texts, and an example.
 fn replay_notes(alloc: Global) -> Result<String, AllocError> {
@@ -156,16 +156,17 @@ The first line tells what was found:
 
 /// What a solution with the fewest pushes is, what a search takes, and examples, in the help of `solve`.
 const SEARCH: &str = "\
-No solution has fewer pushes than the one that is written. It is not the one with
-the fewest moves: another one may take fewer moves with more pushes, or with as
-many. Moves are all steps of the player, those that push a box among them.
+No solution has fewer pushes than the one that is written. Others may have fewer
+moves, with more pushes or with as many: the solution with the fewest pushes is
+not the one with the fewest moves. Each step of the player is a move, and each
+step that pushes a box is a push too.
 
 The answer is the same with any numbers of workers and locks. As many locks as
 workers is mostly fastest: --workers 4 --locks 4 on four processors.
 
 A position takes up to 150 bytes and 1 to 5 microseconds. So the default limit
-needs at most about 150 MB and 5 seconds, and 100000000 positions 15 GB and 10 to
-15 minutes. With more than 35 boxes a position takes more bytes, and in the
+needs at most about 150 MB and 5 seconds, and 100000000 positions 15 GB and 10
+to 15 minutes. With more than 35 boxes a position takes more bytes, and in the
 largest rooms more time, some 50 microseconds.
 
 With --max-pushes M only solutions with at most M pushes are looked for. That

@@ -74,21 +74,31 @@ fn complain<R: Eprint>(rt: &R, trouble: Trouble<'_>) -> u8 {
     trouble.status()
 }
 
+/// Does what the words of the command line ask for, with the notes that end its helps. Gives the exit status.
+fn answer<R: Files + Print + Eprint + Threads + Wait + Sync>(
+    rt: &R,
+    alloc: Global,
+    words: &[String],
+    notes: &Notes,
+) -> u8 {
+    match request::parse(alloc, words, notes) {
+        Ok(request) => match perform(rt, alloc, request) {
+            Ok(status) => status,
+            Err(trouble) => complain(rt, trouble),
+        },
+        Err(error) => explain(rt, error),
+    }
+}
+
 /// Runs the command line of these words. Gives the exit status.
 fn run<R: Files + Print + Eprint + Threads + Wait + Sync>(
     rt: &R,
     alloc: Global,
     words: &[String],
 ) -> u8 {
-    let Ok(notes) = Notes::new(alloc) else {
-        return complain(rt, Trouble::Run(RunFault::OutOfMemory));
-    };
-    match request::parse(alloc, words, &notes) {
-        Ok(request) => match perform(rt, alloc, request) {
-            Ok(status) => status,
-            Err(trouble) => complain(rt, trouble),
-        },
-        Err(error) => explain(rt, error),
+    match Notes::new(alloc) {
+        Ok(notes) => answer(rt, alloc, words, &notes),
+        Err(_) => complain(rt, Trouble::Run(RunFault::OutOfMemory)),
     }
 }
 

@@ -169,14 +169,9 @@ fn bare_command<'a>(alloc: Global, notes: &'a str) -> Result<Command<'a>, AllocE
     )
 }
 
-/// A command line with the subcommands that show and check.
-fn with_looks<'a>(
-    alloc: Global,
-    line: Command<'a>,
-    notes: &'a str,
-) -> Result<Command<'a>, AllocError> {
-    line.subcommand(check_command(alloc, notes)?)?
-        .subcommand(show_command(alloc)?)?
+/// A command line with the subcommands that look at a level.
+fn with_looks<'a>(alloc: Global, line: Command<'a>) -> Result<Command<'a>, AllocError> {
+    line.subcommand(show_command(alloc)?)?
         .subcommand(dead_command(alloc)?)
 }
 
@@ -194,7 +189,8 @@ fn with_plays<'a>(
 /// The command line that the program understands; the notes end its helps.
 fn command<'a>(alloc: Global, notes: &'a Notes) -> Result<Command<'a>, AllocError> {
     let bare = bare_command(alloc, notes.program.as_str())?;
-    let looks = with_looks(alloc, bare, notes.check.as_str())?;
+    let checks = bare.subcommand(check_command(alloc, notes.check.as_str())?)?;
+    let looks = with_looks(alloc, checks)?;
     with_plays(alloc, looks, notes.replay.as_str(), notes.solve.as_str())
 }
 
@@ -282,13 +278,13 @@ fn solve_request<'a>(
     })
 }
 
-/// What the matches of a subcommand ask for.
-fn request_of<'a>(name: &str, matches: &ArgMatches<'a>) -> Result<Request<'a>, BadValue<'a>> {
-    let file = matches.get_str("FILE").unwrap_or("");
-    if name == "check" {
-        return Ok(Request::Check { file });
-    }
-    let number = number_of(matches, "N", "<N>", u32::MAX)?;
+/// What the matches of a subcommand on level N ask for.
+fn level_request<'a>(
+    name: &str,
+    file: &'a str,
+    number: NonZeroU32,
+    matches: &ArgMatches<'a>,
+) -> Result<Request<'a>, BadValue<'a>> {
     if name == "show" {
         return Ok(Request::Show { file, number });
     }
@@ -306,6 +302,16 @@ fn request_of<'a>(name: &str, matches: &ArgMatches<'a>) -> Result<Request<'a>, B
     })
 }
 
+/// What the matches of a subcommand ask for.
+fn request_of<'a>(name: &str, matches: &ArgMatches<'a>) -> Result<Request<'a>, BadValue<'a>> {
+    let file = matches.get_str("FILE").unwrap_or("");
+    if name == "check" {
+        return Ok(Request::Check { file });
+    }
+    let number = number_of(matches, "N", "<N>", u32::MAX)?;
+    level_request(name, file, number, matches)
+}
+
 /// A subcommand that takes numbers, for its usage.
 fn own_command<'a>(alloc: Global, name: &str) -> Result<Command<'a>, AllocError> {
     if name == "show" {
@@ -320,22 +326,30 @@ fn own_command<'a>(alloc: Global, name: &str) -> Result<Command<'a>, AllocError>
     solve_command(alloc, "")
 }
 
-/// The error that names the argument whose number is out of its range or not written in digits alone, with the usage of the
-/// subcommand of this name.
-fn refusal(alloc: Global, name: &str, bad: BadValue<'_>) -> Result<Error, AllocError> {
+/// A subcommand that takes numbers, whose usage begins with the program's name.
+fn usage_of<'a>(alloc: Global, name: &str) -> Result<Command<'a>, AllocError> {
+    let words = format!(in alloc; "sokopar {name}")?;
+    own_command(alloc, name)?.bin_name(words.as_str())
+}
+
+/// What is said of a value that its argument does not take.
+fn words_of(alloc: Global, bad: BadValue<'_>) -> Result<String, AllocError> {
     let BadValue {
         argument,
         value,
         least,
         most,
     } = bad;
-    let message = format!(in alloc;
-        "invalid value '{value}' for '{argument}': a number from {least} to {most}, in decimal digits alone, is wanted"
-    )?;
-    let usage = format!(in alloc; "sokopar {name}")?;
-    own_command(alloc, name)?
-        .bin_name(usage.as_str())?
-        .error(ErrorKind::ValueValidation, message.as_str())
+    format!(in alloc;
+        "invalid value '{value}' for '{argument}': it takes {least} to {most}, in decimal digits alone"
+    )
+}
+
+/// The error that names the argument whose number is out of its range or not written in digits alone, with the usage of the
+/// subcommand of this name.
+fn refusal(alloc: Global, name: &str, bad: BadValue<'_>) -> Result<Error, AllocError> {
+    let words = words_of(alloc, bad)?;
+    usage_of(alloc, name)?.error(ErrorKind::ValueValidation, words.as_str())
 }
 
 /// The error that there is no subcommand.
