@@ -1,11 +1,8 @@
-ghost use Rattle.std.specs.Prelude.{◌≡◌, ◌+◌, ◌%◌, ◌^◌, ◌<◌, suc, [], All, IfOk, IsNone, None};
+ghost use Rattle.std.specs.Prelude.{◌≡◌, ◌<◌, suc, [], All, IfOk, IsNone, None};
 ghost use Rattle.claims.specs.Hands.{DrawerView, AreApart, Drew, Enrolled, newcomer};
 ghost use Rattle.claims.specs.Audit.{AreAudited, hands_of};
-ghost use Rattle.claims.specs.Rule.{holds};
-ghost use Rattle.claims.specs.inside.Plays.{draws};
+ghost use Rattle.claims.specs.inside.Plays.{MayAddOne, draws, one_more};
 ghost use Rattle.claims.specs.inside.Views.{view_of};
-ghost use Rattle.atomic_table.specs.Table.{Allows, step};
-ghost use mathlib.Core.Option.{none};
 
 use crate::drawer::Drawer;
 use crate::steps::{Audits, Compares, Drawn, Draws, Enrols, Gathers, Meeting, Newcomer};
@@ -154,9 +151,9 @@ impl Ledger {
 // What is drawn next, by the one step of a draw.
 fn draw_next(shared: &Shared<(), View, u32, Drawn>, seat: &mut Seat<(), View>) -> u64
     requires seat { (seat.old.table_id ≡ shared.now.table_id) × (0 < shared.now.table_id.words) }
-    requires step { Allows (holds shared.now.key) shared.now.table_id.slots seat.old.id seat.old.me 0 (λ n. (n + 1) % 2 ^ 64) (draws (step shared.now.table_id.slots 0 1 0 none) seat.old.me) }
+    requires step { MayAddOne shared.now.key shared.now.table_id.slots seat.old.id seat.old.me }
     ensures seat { (seat.new.table_id ≡ seat.old.table_id) × (seat.new.id ≡ seat.old.id) }
-    ensures step { draws (step shared.now.table_id.slots 0 1 0 none) seat.old.me result seat.new.me }
+    ensures step { draws (one_more shared.now.table_id.slots) seat.old.me result seat.new.me }
 {
     shared.fetch_add::<Draws>(seat, NEXT, 1)
 }

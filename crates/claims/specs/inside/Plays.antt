@@ -1,10 +1,12 @@
 -- What each kind of step at a ledger's table tells the seat that steps.
-use Rattle.std.specs.Prelude.{◌≡◌, ℕ, zero, suc, ◌-◌, ◌<◌, nat_lt, if◌then◌else◌, [], ◌∷◌, All}
-use Rattle.atomic_table.specs.Table.{Me, Step}
+use Rattle.std.specs.Prelude.{◌≡◌, ℕ, zero, suc, ◌+◌, ◌-◌, ◌%◌, ◌^◌, ◌<◌, nat_lt, if◌then◌else◌, [], ◌∷◌, All}
+use mathlib.Core.Option.{none}
+use Rattle.atomic_table.specs.Table.{Me, Step, Allows, step}
 use Rattle.claims.specs.declared.views.Hand.{Hand}
 use Rattle.claims.specs.declared.views.View.{View}
 use Rattle.claims.specs.Hands.{AreApart, with_place, with_taken, with_number, spent_out}
 use Rattle.claims.specs.Audit.{AreAudited}
+use Rattle.claims.specs.Rule.{holds}
 use Rattle.claims.specs.inside.Views.{first_hand, other_hands, view_of}
 
 -- what a seat with no slot knows
@@ -28,9 +30,17 @@ after_draw len found h = if nat_lt found len then with_number found h else spent
 abbrev pub enrols : Step (Unit {0}) → Sat → ℕ → Sat → Type 0
 enrols st me found me' = me' ≡ sat me.0.len (after_swap (st.word - 1) found (first_hand me.0.hands))
 
+-- one is added to the next number
+abbrev pub one_more : ℕ → Step (Unit {0})
+one_more slots = step slots 0 1 0 none
+
 -- draw: one addition to the next number, which was above all numbers of the hand
 abbrev pub draws : Step (Unit {0}) → Sat → ℕ → Sat → Type 0
 draws st me found me' = (me' ≡ sat me.0.len (after_draw me.0.len found (first_hand me.0.hands))) × All (λ x. x < found) (first_hand me.0.hands).numbers
+
+-- such an addition keeps the rule
+abbrev pub MayAddOne : ℕ → ℕ → ℕ → Sat → Type 0
+MayAddOne len slots id me = Allows (holds len) slots id me 0 (λ n. (n + 1) % 2 ^ 64) (draws (one_more slots) me)
 
 -- meet: the seat stays as it is, and its first two hands are apart
 abbrev pub compares : Step (Unit {0}) → Sat → ℕ → Sat → Type 0
