@@ -1,7 +1,7 @@
 -- The lots of ranks that a worker draws.
-use Rattle.std.proofs.Common.{◌≡◌, ℕ, zero, suc, ◌+◌, List, [], ◌∷◌, ◌++◌, map, take, Some, sym, ap, subst, ◌∙◌}
+use Rattle.std.proofs.Common.{◌≡◌, ℕ, zero, suc, ◌+◌, List, [], ◌∷◌, ◌++◌, length, map, take, Some, sym, ap, subst, ◌∙◌, arith, length-append}
 use Rattle.std.specs.Prelude.{slice_get}
-use Rattle.std.proofs.lemmas.List.{append_assoc, append-nil, map-append}
+use Rattle.std.proofs.lemmas.List.{append_assoc, append-nil, length-map, map-append}
 use Rattle.std.proofs.lemmas.Option.{none-some, same_Some}
 use Rattle.layers.specs.LayerView.{LayerView}
 use Rattle.layers.specs.ParcelView.{ParcelView}
@@ -55,6 +55,14 @@ grown_twice layer before hand after xs ys zs (more, is, so) (rest, was, then) =
 -- a lot of the layer stays so
 pub grown_of_layer : (layer : LayerView) (before after : Hand) (xs ys : List ParcelView) → AreOfLayer layer xs → IsGrown layer before xs ys after → AreOfLayer layer ys
 grown_of_layer layer before after xs ys of (more, is, so) = subst (AreOfLayer layer) (sym is) (of_both layer xs more of so.of)
+
+-- as many parcels come as ranks are drawn
+pub grown_long : (layer : LayerView) (before after : Hand) (xs ys : List ParcelView) → IsGrown layer before xs ys after → length after.numbers + length xs ≡ length before.numbers + length ys
+grown_long layer before after xs ys (more, is, so) =
+    let rank_of : ParcelView → ℕ = λ p. p.rank in
+    let ranks : length after.numbers ≡ length before.numbers + length more = ap length so.drawn ∙ length-append before.numbers (map rank_of more) ∙ ap (λ n. length before.numbers + n) (length-map more rank_of) in
+    let parcels : length ys ≡ length xs + length more = ap length is ∙ length-append xs more in
+    omega (arith, ranks, parcels)
 
 -- no parcel is one of the layer
 pub none_of_layer : (layer : LayerView) → AreOfLayer layer []

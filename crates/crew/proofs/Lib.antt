@@ -1,5 +1,6 @@
 pub mod Dealing
 pub mod Drawing
+pub mod Events
 pub mod Lending
 pub mod Parted
 pub mod Turning

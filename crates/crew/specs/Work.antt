@@ -1,9 +1,9 @@
 -- What one worker does to a book under its lock, and how it ends.
-use Rattle.std.specs.Prelude.{◌≡◌, ℕ, ◌<◌, Bool, true, Any, length, Some}
+use Rattle.std.specs.Prelude.{◌≡◌, ℕ, suc, ◌+◌, ◌-◌, ◌*◌, ◌^◌, ◌<◌, ◌≤◌, min, Bool, true, false, Any, length, Some}
 use Rattle.layers.specs.LayerView.{LayerView}
 use Rattle.layers.specs.ParcelView.{ParcelView}
 use Rattle.layers.specs.BookView.{BookView, IsLawfulBook, last_layer}
-use Rattle.layers.specs.Books.{HandBackRefused, after_refusal}
+use Rattle.layers.specs.Books.{MayEnter, HandBackRefused, after_refusal}
 use Rattle.claims.specs.declared.views.Hand.{Hand}
 use Rattle.claims.specs.Hands.{LedgerView, DrawerView, Drew}
 use Rattle.crew.specs.declared.end.End.{End}
@@ -48,6 +48,15 @@ HandEnds layer worker book parcel Drained = ⊥
 HandEnds layer worker book parcel Stopped = ⊥
 HandEnds layer worker book parcel NoPlace = ⊥
 
+-- how a hand back ends a worker that then asks the gate: the book answered so, or the gate did not let it go on, where the book
+-- was its own and nothing stood in the parcel's way
+abbrev pub HandOverEnds : LayerView → ℕ → BookView → ParcelView → End → Type 0
+HandOverEnds layer worker book parcel Stopped = IsOwn layer worker book × MayEnter book parcel
+HandOverEnds layer worker book parcel Foreign = HandEnds layer worker book parcel Foreign
+HandOverEnds layer worker book parcel (Refused refusal) = HandEnds layer worker book parcel (Refused refusal)
+HandOverEnds layer worker book parcel Drained = ⊥
+HandOverEnds layer worker book parcel NoPlace = ⊥
+
 -- the book after a hand back that ended a worker: over, where it passed its limit, and else as it was
 abbrev pub after_end : BookView → End → BookView
 after_end book (Refused refusal) = after_refusal book refusal
@@ -81,3 +90,39 @@ WasAnswered layer worker Foreign = (book : BookView) × IsLawfulBook book × ¬ 
 WasAnswered layer worker Drained = Unit {0}
 WasAnswered layer worker NoPlace = Unit {0}
 WasAnswered layer worker Stopped = Unit {0}
+
+-- ---- events and the gate
+
+-- the number of an event as the gate is told it: it counts from 1, and at the greatest number it stays
+abbrev pub told : ℕ → ℕ
+told n = min n (2 ^ 64 - 1)
+
+-- the gate may have let the worker go on after each of its first so many events
+abbrev pub LetsGoOn : (ℕ → Bool → Bool) → ℕ → Type 0
+LetsGoOn may_answer events = (n : ℕ) → 1 ≤ n → n ≤ events → may_answer (told n) true ≡ true
+
+-- what the gate may have answered to a worker that had so many events: that it goes on, each time; but where it ended as
+-- stopped, that it does not, to the last one
+abbrev pub MayAnswerEach : (ℕ → Bool → Bool) → ℕ → End → Type 0
+MayAnswerEach may_answer events Stopped = (before : ℕ) × (events ≡ suc before) × LetsGoOn may_answer before × (may_answer (told events) false ≡ true)
+MayAnswerEach may_answer events Drained = LetsGoOn may_answer events
+MayAnswerEach may_answer events (Refused refusal) = LetsGoOn may_answer events
+MayAnswerEach may_answer events Foreign = LetsGoOn may_answer events
+MayAnswerEach may_answer events NoPlace = LetsGoOn may_answer events
+
+-- how many parcels of a worker that drew so many ranks were accepted: each of them by each book, where it is drained, and else
+-- no more than these
+abbrev pub WereAccepted : ℕ → ℕ → ℕ → End → Type 0
+WereAccepted books drawn accepted Drained = accepted ≡ drawn * books
+WereAccepted books drawn accepted (Refused refusal) = accepted ≤ drawn * books
+WereAccepted books drawn accepted Stopped = accepted ≤ drawn * books
+WereAccepted books drawn accepted Foreign = accepted ≤ drawn * books
+WereAccepted books drawn accepted NoPlace = accepted ≤ drawn * books
+
+-- a worker's events are the ranks that its hand has drawn since, and the parcels that were accepted; of each the gate was told
+pub record AsksTheGate (may_answer : ℕ → Bool → Bool) (books : ℕ) (before after : Hand) (end : End) : Type 0 where
+  pub drawn : ℕ
+  pub accepted : ℕ
+  pub draws : length after.numbers ≡ length before.numbers + drawn
+  pub parcels : WereAccepted books drawn accepted end
+  pub answers : MayAnswerEach may_answer (drawn + accepted) end

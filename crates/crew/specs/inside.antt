@@ -1,5 +1,6 @@
 -- What keeps the books of the code: what its loops keep, and what its functions say to each other.
 pub mod Desks
+pub mod Events
 pub mod Lots
 pub mod Places
 pub mod Shifts

@@ -1,9 +1,12 @@
 //! Parcels that are handed back to books, each under its book's lock.
-ghost use Rattle.std.specs.Prelude.{◌≡◌, IfErr, OnOk, length};
+ghost use Rattle.std.specs.Prelude.{◌≡◌, ◌*◌, true, IfErr, OnOk, length};
+ghost use Rattle.std.specs.Sync.Mutex.{mutex_guard_value};
 ghost use Rattle.layers.specs.Books.{MayEnter, with_parcel};
 ghost use Rattle.claims.specs.declared.views.Hand.{Hand};
-ghost use Rattle.crew.specs.Work.{IsOwn, IsOfLayer, IsAtPlace, HandEnds, after_end, MayEnd, EndsWith, WasAnswered};
+ghost use Rattle.crew.specs.Work.{IsOwn, IsOfLayer, IsAtPlace, HandEnds, HandOverEnds, after_end, MayEnd, EndsWith, WasAnswered};
+ghost use Rattle.crew.specs.inside.Events.{IsTold, GoesOn, EndsAtOnce, IsCutOff, Works, WorksUntil};
 ghost use Rattle.crew.specs.inside.Lots.{AreOfLayer, IsGrown};
+ghost use Rattle.crew.specs.inside.Shifts.{answers_to};
 
 use crate::end::End;
 use crate::gate::Gate;
@@ -28,6 +31,8 @@ pub(crate) fn hand_back<R: Wait, G: Gate>(
     ensures end { IfErr result (λ end. MayEnd G.may_stop end) }
     ensures hand { (hand : Hand) → IfErr result (λ end. EndsWith worker hand end) }
     ensures answered { IfErr result (λ end. WasAnswered shift.now.layer worker end) }
+    ensures goes_on { OnOk result (GoesOn (answers_to G.may_answer shift.now worker) nth.old shift.now.books nth.new) }
+    ensures gate { IfErr result (λ end. IsCutOff (answers_to G.may_answer shift.now worker) shift.now.books nth.old nth.new end) }
 {
     for book in shift.books {
         hand_to(shift, lock_soon(rt, book), worker, parcel, nth)?;
@@ -54,6 +59,8 @@ pub(crate) fn hand_lot<'a, R: Wait, G: Gate>(
     ensures end { IfErr result (λ end. MayEnd G.may_stop end) }
     ensures hand { IfErr result (λ end. EndsWith worker drawer.new.hand end) }
     ensures answered { IfErr result (λ end. WasAnswered shift.now.layer worker end) }
+    ensures works { OnOk result (Works (answers_to G.may_answer shift.now worker) (shift.now.books * length lot.now) drawer.old.hand nth.old drawer.new.hand nth.new) }
+    ensures gate { IfErr result (λ end. WorksUntil (answers_to G.may_answer shift.now worker) (shift.now.books * length lot.now) drawer.old.hand nth.old drawer.new.hand nth.new end) }
     ensures place { IsAtPlace shift.now.ledger worker drawer.new }
     ensures size { scratch.new.size ≡ scratch.old.size }
 {
@@ -82,6 +89,8 @@ fn hand_lot_to<'a, R: Wait, G: Gate>(
     ensures end { IfErr result (λ end. MayEnd G.may_stop end) }
     ensures hand { IfErr result (λ end. EndsWith worker drawer.new.hand end) }
     ensures answered { IfErr result (λ end. WasAnswered shift.now.layer worker end) }
+    ensures works { OnOk result (Works (answers_to G.may_answer shift.now worker) (length lot.now) drawer.old.hand nth.old drawer.new.hand nth.new) }
+    ensures gate { IfErr result (λ end. WorksUntil (answers_to G.may_answer shift.now worker) (length lot.now) drawer.old.hand nth.old drawer.new.hand nth.new end) }
     ensures place { IsAtPlace shift.now.ledger worker drawer.new }
     ensures size { scratch.new.size ≡ scratch.old.size }
 {
@@ -109,6 +118,8 @@ fn lock_or_draw<'a, 'b, R: Wait, G: Gate>(
     ensures end { IfErr result (λ end. MayEnd G.may_stop end) }
     ensures hand { IfErr result (λ end. EndsWith worker drawer.new.hand end) }
     ensures answered { IfErr result (λ end. WasAnswered shift.now.layer worker end) }
+    ensures works { OnOk result (Works (answers_to G.may_answer shift.now worker) 0 drawer.old.hand nth.old drawer.new.hand nth.new) }
+    ensures gate { IfErr result (λ end. WorksUntil (answers_to G.may_answer shift.now worker) 0 drawer.old.hand nth.old drawer.new.hand nth.new end) }
     ensures place { IsAtPlace shift.now.ledger worker drawer.new }
     ensures size { scratch.new.size ≡ scratch.old.size }
 {
@@ -135,6 +146,10 @@ fn hand_to<G: Gate>(
     ensures end { IfErr result (λ end. MayEnd G.may_stop end) }
     ensures hand { (hand : Hand) → IfErr result (λ end. EndsWith worker hand end) }
     ensures answered { IfErr result (λ end. WasAnswered shift.now.layer worker end) }
+    ensures ok { OnOk result (IsOwn shift.now.layer worker (mutex_guard_value guard.entry) × MayEnter (mutex_guard_value guard.entry) parcel.now) }
+    ensures refused { IfErr result (λ end. HandOverEnds shift.now.layer worker (mutex_guard_value guard.entry) parcel.now end) }
+    ensures goes_on { OnOk result (IsTold (answers_to G.may_answer shift.now worker) nth.old true nth.new) }
+    ensures gate { IfErr result (λ end. EndsAtOnce (answers_to G.may_answer shift.now worker) nth.old nth.new end) }
 {
     let mut guard = guard;
     let handed = hand_in(&mut *guard, shift.layer, worker, parcel);

@@ -1,8 +1,10 @@
 //! The lots of ranks that a worker draws at a time, and their parcels.
-ghost use Rattle.std.specs.Prelude.{◌≡◌, ◌+◌, ◌<◌, ◌≤◌, [], ◌∷◌, ◌++◌, true, false, IfErr, IfOk, length, slice_set, vec_capacity};
+ghost use Rattle.std.specs.Prelude.{◌≡◌, ◌+◌, ◌<◌, ◌≤◌, [], ◌∷◌, ◌++◌, true, false, IfErr, IfOk, OnOk, length, slice_set, vec_capacity};
 ghost use Rattle.crew.specs.Work.{IsAtPlace, MayEnd, EndsWith, WasAnswered};
 ghost use Rattle.crew.specs.declared.end.End.TheVariants.{Drained};
+ghost use Rattle.crew.specs.inside.Events.{Works, WorksUntil};
 ghost use Rattle.crew.specs.inside.Lots.{IsGrown, IsOfRank, IsPut};
+ghost use Rattle.crew.specs.inside.Shifts.{answers_to};
 ghost use Rattle.layers.specs.ParcelView.{ParcelView};
 
 use crate::end::End;
@@ -139,6 +141,8 @@ impl<'a> Lot<'a> {
         ensures end { IfErr result (λ end. MayEnd G.may_stop end) }
         ensures hand { IfErr result (λ end. EndsWith worker drawer.new.hand end) }
         ensures answered { IfErr result (λ end. WasAnswered shift.now.layer worker end) }
+        ensures works { OnOk result (Works (answers_to G.may_answer shift.now worker) 0 drawer.old.hand nth.old drawer.new.hand nth.new) }
+        ensures gate { IfErr result (λ end. WorksUntil (answers_to G.may_answer shift.now worker) 0 drawer.old.hand nth.old drawer.new.hand nth.new end) }
         ensures place { IsAtPlace shift.now.ledger worker drawer.new }
         ensures size { scratch.new.size ≡ scratch.old.size }
     {

@@ -7,7 +7,7 @@ use std::marker::Model;
 use std::sync::Mutex;
 
 /// What the workers of a layer share: the layer and its level, what leaves positions out, the books, each behind a lock of its
-/// own, the ledger of the layer's ranks, and the gate. Contracts see the layer and the ledger.
+/// own, the ledger of the layer's ranks, and the gate. Contracts see the layer, the ledger, how many books there are, and the gate.
 #[derive(Drop)]
 pub(crate) struct Shift<'s, 'a, G: Gate> {
     pub(crate) level: &'a Level,
@@ -19,11 +19,12 @@ pub(crate) struct Shift<'s, 'a, G: Gate> {
 }
 
 impl<'s, 'a, G: Gate> Model for Shift<'s, 'a, G> {
+    ghost use Rattle.std.specs.Prelude.{length};
     ghost use Rattle.crew.specs.inside.Shifts.{AreOfOneLayer, ShiftView};
 
-    ghost Value = { ShiftView };
+    ghost Value = { ShiftView G };
 
-    ghost view = { λ a. record { layer = a.layer.now; ledger = a.ledger.now } };
+    ghost view = { λ a. record { layer = a.layer.now; ledger = a.ledger.now; books = length a.books.now; gate = a.gate.now } };
 
     ghost invariant = { λ a. AreOfOneLayer a.layer.now a.level.now a.pruner.now a.ledger.now };
 }

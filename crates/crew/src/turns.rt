@@ -1,8 +1,9 @@
 //! One turn of a search: its look at the next layer, and the workers' work on it.
-ghost use Rattle.std.specs.Prelude.{◌≡◌, ◌^◌, ◌<◌, ◌≤◌, ℕ, IfOk, IfSome, Some, length, slice_get};
+ghost use Rattle.std.specs.Prelude.{◌≡◌, ◌^◌, ◌<◌, ◌≤◌, ℕ, IfOk, IfSome, IsSome, None, Ok, Some, length, slice_get};
 ghost use Rattle.layers.specs.BookView.{BookView};
 ghost use Rattle.layers.specs.Books.{MayBegin};
 ghost use Rattle.crew.specs.Configured.{IsWithinLimits};
+ghost use Rattle.crew.specs.Lending.{ComeBack};
 ghost use Rattle.crew.specs.inside.Turning.{ArePausedBy, AreWorkedBy, TurnAnswer};
 
 use crate::closing::finish_all;
@@ -101,7 +102,28 @@ fn work_through<R: Threads + Wait + Sync, G: Gate + Sync>(
     ensures desks { desks.new ≡ desks.old }
 {
     begin_each(books.as_mut_slice(), layer)?;
-    let mut back = lend(rt, alloc, books, layer, pruner, desks, gate)?;
+    let back = lend(rt, alloc, books, layer, pruner, desks, gate)?;
+    finish_lent(rt, back, layer, pruner, scratch, config)
+}
+
+// Does book by book what is left of a layer in the books that came back; `None` exactly where they are others than were lent.
+// The only error is that memory was refused, and it never comes where they are others.
+fn finish_lent<R: Threads + Sync>(
+    rt: &R,
+    mut back: Vec<Book>,
+    layer: &Layer,
+    pruner: &Pruner,
+    scratch: &mut Scratch,
+    config: Config,
+) -> Result<Option<(Worked, Vec<Book>)>, AllocError>
+    requires limits { IsWithinLimits config }
+    requires pruner_of_level { pruner.now ≡ layer.now.level }
+    requires room { scratch.old.size ≡ length layer.now.level.board.cells }
+    ensures others { ¬ (ComeBack config layer.now back.items) → result ≡ Ok None }
+    ensures own { ComeBack config layer.now back.items → IfOk result IsSome }
+    ensures worked { IfOk result (λ back. IfSome back (λ b. AreWorkedBy config layer.now b.0 b.1.items)) }
+    ensures size { scratch.new.size ≡ scratch.old.size }
+{
     if !come_back(back.as_slice(), config, layer) {
         return Ok(None);
     }

@@ -1,8 +1,10 @@
-ghost use Rattle.std.specs.Prelude.{◌≡◌, ◌<◌, ◌≤◌, [], ◌∷◌, ◌++◌, IsNone, IfErr, IfOk, OnErr, length};
+ghost use Rattle.std.specs.Prelude.{◌≡◌, ◌<◌, ◌≤◌, [], ◌∷◌, ◌++◌, IsNone, true, IfErr, IfOk, OnErr, OnOk, length};
 ghost use Rattle.claims.specs.declared.views.Hand.{Hand};
-ghost use Rattle.crew.specs.Work.{IsAtPlace, HasDrawn, DrawEnds, MayEnd, EndsWith, WasAnswered};
+ghost use Rattle.crew.specs.Work.{IsAtPlace, HasDrawn, DrawEnds, MayEnd, EndsWith, WasAnswered, AsksTheGate};
 ghost use Rattle.crew.specs.declared.end.End.TheVariants.{Stopped};
-ghost use Rattle.crew.specs.inside.Lots.{AreOfLayer, IfDrained};
+ghost use Rattle.crew.specs.inside.Events.{IsTold, EndsAtOnce, DrawsAtLast};
+ghost use Rattle.crew.specs.inside.Lots.{IfDrained};
+ghost use Rattle.crew.specs.inside.Shifts.{answers_to};
 ghost use Rattle.layers.specs.LayerView.{LayerView};
 
 use crate::end::End;
@@ -27,6 +29,10 @@ use std::sync::{Mutex, Wait};
 /// drawer has its place and is spent out, with [`End::NoPlace`] only where its drawer has seen that place taken, with
 /// [`End::Refused`] only where a book of its own did not accept a parcel of the layer, for that reason, and with
 /// [`End::Foreign`] only where a book was not its own.
+///
+/// Its events are the ranks that it drew and the parcels that books accepted, and it tells the gate of each, by its number; it
+/// goes on only where the gate lets it, and ends as stopped at the first event after which the gate does not. Where it is
+/// drained, as many parcels were accepted as it drew ranks, times the number of books.
 pub fn work<R: Wait, G: Gate>(
     rt: &R,
     layer: &Layer,
@@ -46,6 +52,7 @@ pub fn work<R: Wait, G: Gate>(
     ensures end { MayEnd G.may_stop result }
     ensures hand { EndsWith worker drawer.new.hand result }
     ensures answered { WasAnswered layer.now worker result }
+    ensures gate { AsksTheGate (G.may_answer gate.now layer.now.number worker) (length books.now) drawer.old.hand drawer.new.hand result }
     ensures ledger { drawer.new.ledger ≡ ledger.now }
     ensures size { scratch.new.size ≡ scratch.old.size }
 {
@@ -79,6 +86,7 @@ pub(crate) fn work_at<'a, R: Wait, G: Gate>(
     ensures end { MayEnd G.may_stop result }
     ensures hand { EndsWith worker drawer.new.hand result }
     ensures answered { WasAnswered shift.now.layer worker result }
+    ensures gate { AsksTheGate (answers_to G.may_answer shift.now worker) shift.now.books drawer.old.hand drawer.new.hand result }
     ensures ledger { drawer.new.ledger ≡ shift.now.ledger }
     ensures size { scratch.new.size ≡ scratch.old.size }
 {
@@ -112,6 +120,7 @@ fn work_by_ones<R: Wait, G: Gate>(
     ensures end { MayEnd G.may_stop result }
     ensures hand { EndsWith worker drawer.new.hand result }
     ensures answered { WasAnswered shift.now.layer worker result }
+    ensures gate { AsksTheGate (answers_to G.may_answer shift.now worker) shift.now.books drawer.old.hand drawer.new.hand result }
     ensures ledger { drawer.new.ledger ≡ shift.now.ledger }
     ensures size { scratch.new.size ≡ scratch.old.size }
 {
@@ -134,6 +143,7 @@ fn by_ones<R: Wait, G: Gate>(
     ensures end { MayEnd G.may_stop result }
     ensures hand { EndsWith worker drawer.new.hand result }
     ensures answered { WasAnswered shift.now.layer worker result }
+    ensures gate { AsksTheGate (answers_to G.may_answer shift.now worker) shift.now.books drawer.old.hand drawer.new.hand result }
     ensures ledger { drawer.new.ledger ≡ shift.now.ledger }
     ensures size { scratch.new.size ≡ scratch.old.size }
 {
@@ -170,10 +180,11 @@ fn by_lots<'a, R: Wait, G: Gate>(
 ) -> End
     requires room { scratch.old.size ≡ length shift.now.layer.level.board.cells }
     requires place { IsAtPlace shift.now.ledger worker drawer.old }
-    requires lot { AreOfLayer shift.now.layer next.old }
+    requires lot { next.old ≡ [] }
     ensures end { MayEnd G.may_stop result }
     ensures hand { EndsWith worker drawer.new.hand result }
     ensures answered { WasAnswered shift.now.layer worker result }
+    ensures gate { AsksTheGate (answers_to G.may_answer shift.now worker) shift.now.books drawer.old.hand drawer.new.hand result }
     ensures ledger { drawer.new.ledger ≡ shift.now.ledger }
     ensures size { scratch.new.size ≡ scratch.old.size }
 {
@@ -211,6 +222,8 @@ pub(crate) fn draw<G: Gate>(
     ensures end { IfErr result (λ end. MayEnd G.may_stop end) }
     ensures hand { IfErr result (λ end. EndsWith worker drawer.new.hand end) }
     ensures answered { IfErr result (λ end. WasAnswered shift.now.layer worker end) }
+    ensures goes_on { OnOk result (IsTold (answers_to G.may_answer shift.now worker) nth.old true nth.new) }
+    ensures gate { IfErr result (λ end. DrawsAtLast (answers_to G.may_answer shift.now worker) drawer.old.hand nth.old drawer.new.hand nth.new end) }
     ensures place { IsAtPlace shift.now.ledger worker drawer.new }
 {
     let rank = draw_rank(shift.layer, shift.ledger, drawer, worker)?;
@@ -239,6 +252,8 @@ pub(crate) fn pass<G: Gate>(shift: &Shift<'_, '_, G>, worker: u8, nth: &mut u64)
     ensures end { IfErr result (λ end. MayEnd G.may_stop end) }
     ensures hand { (hand : Hand) → IfErr result (λ end. EndsWith worker hand end) }
     ensures answered { (layer : LayerView) → IfErr result (λ end. WasAnswered layer worker end) }
+    ensures goes_on { OnOk result (IsTold (answers_to G.may_answer shift.now worker) nth.old true nth.new) }
+    ensures gate { IfErr result (λ end. EndsAtOnce (answers_to G.may_answer shift.now worker) nth.old nth.new end) }
 {
     *nth = nth.saturating_add(1);
     if shift.gate.pass(shift.layer.number(), worker, *nth) {

@@ -1,14 +1,20 @@
 -- What the workers of a layer share.
-use Rattle.std.specs.Prelude.{◌≡◌, ◌≤◌, length}
+use Rattle.std.specs.Prelude.{◌≡◌, ℕ, ◌≤◌, Bool, length}
 use Rattle.grid.specs.Board.{Board}
 use Rattle.layers.specs.LayerView.{LayerView}
 use Rattle.layers.specs.Tasks.{Task}
 use Rattle.claims.specs.Hands.{LedgerView}
 
--- the layer that they work on, and the ledger that they draw its ranks from
-pub record ShiftView : Type 0 where
+-- the layer that they work on, the ledger that they draw its ranks from, how many books there are, and the gate
+pub record ShiftView (G : Type 0) : Type 0 where
   pub layer : LayerView
   pub ledger : LedgerView
+  pub books : ℕ
+  pub gate : G
+
+-- which answers the gate may give a worker of the layer, where it is told of an event
+abbrev pub answers_to : {G : Type 0} → (G → ℕ → ℕ → ℕ → Bool → Bool) → ShiftView G → ℕ → ℕ → Bool → Bool
+answers_to may_answer shift worker = may_answer shift.gate shift.layer.number worker
 
 -- the level is the layer's, positions are left out by what leaves them out there, and each rank of the ledger is one of the layer
 abbrev pub AreOfOneLayer : LayerView → Board → Task → LedgerView → Type 0

@@ -1,0 +1,254 @@
+-- Counts of events, and what the gate may have answered to them.
+use Rattle.std.proofs.Common.{◌≡◌, ℕ, zero, suc, ◌+◌, ◌-◌, ◌*◌, ◌^◌, ◌<◌, ◌≤◌, min, Bool, true, false, List, [], ◌∷◌, ◌++◌, length, inl, inr, refl, sym, ap, subst, ◌∙◌, arith, length-append}
+use Rattle.std.proofs.Math.Nat.{min-eq_left, min-eq_right}
+use Rattle.std.proofs.lemmas.Bool.{cases_lt}
+use Rattle.std.proofs.lemmas.Nat.{mul-le}
+use Rattle.claims.specs.declared.views.Hand.{Hand}
+use Rattle.layers.specs.LayerView.{LayerView}
+use Rattle.layers.specs.ParcelView.{ParcelView}
+use Rattle.layers.specs.BookView.{BookView}
+use Rattle.layers.specs.Books.{MayEnter}
+use Rattle.crew.specs.Work.{IsOwn, HandEnds, HandOverEnds, told, LetsGoOn, MayAnswerEach, WereAccepted, AsksTheGate}
+use Rattle.crew.specs.declared.end.End.{End}
+use Rattle.crew.specs.declared.end.End.TheVariants.{Drained, Refused, Stopped, Foreign, NoPlace}
+use Rattle.crew.specs.inside.Events.{counted, IsTold, GoesOn, EndsAtOnce, DrawsAtLast, GoesOnUntil, IsCutOff, Works, WorksUntil, HasLeft}
+
+-- ---- one after the other
+
+-- events, and further ones
+pub goes_twice : (may : ℕ → Bool → Bool) (nth j k all last after : ℕ) → all ≡ j + k → GoesOn may nth j last → GoesOn may last k after → GoesOn may nth all after
+goes_twice may nth j zero all last after sum on same =
+    let e : j ≡ all = omega (arith, sum) in
+    subst (λ n. GoesOn may nth n after) e (subst (GoesOn may nth j) (sym same) on)
+goes_twice may nth j (suc k) all last after sum on (mid, more, it) =
+    let e : suc (j + k) ≡ all = omega (arith, sum) in
+    subst (λ n. GoesOn may nth n after) e (mid, goes_twice may nth j k (j + k) last mid refl on more, it)
+
+-- events, and further ones of a worker that then ends
+pub goes_until : (may : ℕ → Bool → Bool) (nth j k all last after : ℕ) (end : End) → all ≡ j + k → GoesOn may nth j last → GoesOnUntil may last k after end → GoesOnUntil may nth all after end
+goes_until may nth j k all last after Stopped sum on (before, mid, is, more, it) =
+    (j + before, mid, omega (arith, sum, is), goes_twice may nth j before (j + before) last mid refl on more, it)
+goes_until may nth j k all last after Drained sum on more = absurd more
+goes_until may nth j k all last after (Refused refusal) sum on more = goes_twice may nth j k all last after sum on more
+goes_until may nth j k all last after Foreign sum on more = goes_twice may nth j k all last after sum on more
+goes_until may nth j k all last after NoPlace sum on more = absurd more
+
+-- one event more
+pub goes_once : (may : ℕ → Bool → Bool) (nth j all last after : ℕ) → all ≡ j + 1 → GoesOn may nth j last → IsTold may last true after → GoesOn may nth all after
+goes_once may nth j all last after sum on it = goes_twice may nth j 1 all last after sum on (last, refl, it)
+
+-- an end at once, after no event or one
+pub ends_at_once : (may : ℕ → Bool → Bool) (nth after : ℕ) (end : End) → EndsAtOnce may nth after end → IsCutOff may 1 nth after end
+ends_at_once may nth after Stopped it = record { events = 1; few = omega arith; until = (0, nth, refl, refl, it) }
+ends_at_once may nth after Drained it = absurd it
+ends_at_once may nth after (Refused refusal) it = record { events = 0; few = omega arith; until = it }
+ends_at_once may nth after Foreign it = record { events = 0; few = omega arith; until = it }
+ends_at_once may nth after NoPlace it = absurd it
+
+-- events, and then an end
+pub cut_off : (may : ℕ → Bool → Bool) (j k most nth last after : ℕ) (end : End) → j + k ≤ most → GoesOn may nth j last → IsCutOff may k last after end → IsCutOff may most nth after end
+cut_off may j k most nth last after end few on more = record {
+  events = j + more.events;
+  few = omega (arith, few, more.few);
+  until = goes_until may nth j more.events (j + more.events) last after end refl on more.until;
+}
+
+-- ---- with the hand
+
+-- nothing is drawn, and nothing handed back
+pub works_none : (may : ℕ → Bool → Bool) (hand later : Hand) (nth after : ℕ) → later.numbers ≡ hand.numbers → after ≡ nth → Works may 0 hand nth later after
+works_none may hand later nth after same still = record { drawn = 0; draws = let long = ap length same in omega (arith, long); on = still }
+
+-- one rank is drawn
+pub works_drawn : (may : ℕ → Bool → Bool) (hand later : Hand) (nth after rank : ℕ) → later.numbers ≡ hand.numbers ++ rank ∷ [] → IsTold may nth true after → Works may 0 hand nth later after
+works_drawn may hand later nth after rank drew it =
+    record { drawn = 1; draws = ap length drew ∙ length-append hand.numbers (rank ∷ []); on = (nth, refl, it) }
+
+-- as many parcels are accepted as there are events
+pub works_accepted : (may : ℕ → Bool → Bool) (hand : Hand) (events nth after : ℕ) → GoesOn may nth events after → Works may events hand nth hand after
+works_accepted may hand events nth after on = record { drawn = 0; draws = omega arith; on = goes_twice may nth 0 events (0 + events) nth after refl refl on }
+
+-- work, and further work
+pub works_twice : (may : ℕ → Bool → Bool) (j k all : ℕ) (hand mid later : Hand) (nth last after : ℕ) → all ≡ j + k → Works may j hand nth mid last → Works may k mid last later after → Works may all hand nth later after
+works_twice may j k all hand mid later nth last after sum before more = record {
+  drawn = before.drawn + more.drawn;
+  draws = omega (arith, before.draws, more.draws);
+  on = goes_twice may nth (before.drawn + j) (more.drawn + k) (before.drawn + more.drawn + all) last after (omega (arith, sum)) before.on more.on;
+}
+
+-- work, and further work that ends
+pub works_until : (may : ℕ → Bool → Bool) (j k most : ℕ) (hand mid later : Hand) (nth last after : ℕ) (end : End) → j + k ≤ most → Works may j hand nth mid last → WorksUntil may k mid last later after end → WorksUntil may most hand nth later after end
+works_until may j k most hand mid later nth last after end few before more = record {
+  drawn = before.drawn + more.drawn;
+  accepted = j + more.accepted;
+  few = omega (arith, few, more.few);
+  draws = omega (arith, before.draws, more.draws);
+  until = goes_until may nth (before.drawn + j) (more.drawn + more.accepted) (before.drawn + more.drawn + (j + more.accepted)) last after end (omega arith) before.on more.until;
+}
+
+-- events of parcels alone, and then an end
+pub works_cut_off : (may : ℕ → Bool → Bool) (hand : Hand) (most nth after : ℕ) (end : End) → IsCutOff may most nth after end → WorksUntil may most hand nth hand after end
+works_cut_off may hand most nth after end it = record {
+  drawn = 0;
+  accepted = it.events;
+  few = it.few;
+  draws = omega arith;
+  until = goes_until may nth 0 it.events (0 + it.events) nth after end refl refl it.until;
+}
+
+-- a draw that ends a worker that is not drained
+pub works_drawn_until : (may : ℕ → Bool → Bool) (hand later : Hand) (nth after : ℕ) (end : End) → ¬ (end ≡ Drained) → DrawsAtLast may hand nth later after end → WorksUntil may 0 hand nth later after end
+works_drawn_until may hand later nth after Stopped other it = record { drawn = 1; accepted = 0; few = omega arith; draws = it.0; until = (0, nth, refl, refl, it.1) }
+works_drawn_until may hand later nth after Drained other it = absurd (other refl)
+works_drawn_until may hand later nth after (Refused refusal) other it = absurd it
+works_drawn_until may hand later nth after Foreign other it = absurd it
+works_drawn_until may hand later nth after NoPlace other it = absurd it
+
+-- ---- what the gate was told
+
+-- one number more
+told_more : (n : ℕ) → counted (told n) ≡ told (suc n)
+told_more n = elim (cases_lt n (2 ^ 64 - 1)) [
+  | inl less ↦ (
+      let few : n ≤ 2 ^ 64 - 1 = omega (arith, less) in let same : told n ≡ n = min-eq_left few in
+      let next : n + 1 ≡ suc n = omega arith in
+      ap counted same ∙ ap (λ k. min k (2 ^ 64 - 1)) next)
+  | inr more ↦ (
+      let many : 2 ^ 64 - 1 ≤ n = omega (arith, more) in let most : told n ≡ 2 ^ 64 - 1 = min-eq_right many in
+      let beyond : 2 ^ 64 - 1 ≤ suc n = omega (arith, more) in let next : told (suc n) ≡ 2 ^ 64 - 1 = min-eq_right beyond in
+      let above : 2 ^ 64 - 1 ≤ 2 ^ 64 - 1 + 1 = omega arith in let top : counted (2 ^ 64 - 1) ≡ 2 ^ 64 - 1 = min-eq_right above in
+      ap counted most ∙ top ∙ sym next)
+]
+
+-- the count, and what the gate may have answered
+goes_told : (may : ℕ → Bool → Bool) (events after : ℕ) → GoesOn may 0 events after → (after ≡ told events) × LetsGoOn may events
+goes_told may zero after same = (same, λ n some few. absurd (omega (arith, some, few)))
+goes_told may (suc events) after (last, on, it) =
+    let before = goes_told may events last on in
+    let is : after ≡ told (suc events) = it.count ∙ ap counted before.0 ∙ told_more events in (
+      is,
+      λ n some few. elim (cases_lt n (suc events)) [
+        | inl less ↦ before.1 n some (omega (arith, less))
+        | inr more ↦ (let e : suc events ≡ n = omega (arith, more, few) in subst (λ k. may k true ≡ true) (is ∙ ap told e) it.may)
+      ],
+    )
+
+-- of a worker that is not drained
+answers_until : (may : ℕ → Bool → Bool) (events after : ℕ) (end : End) → GoesOnUntil may 0 events after end → MayAnswerEach may events end
+answers_until may events after Stopped (before, last, is, on, it) =
+    let told_all = goes_told may before last on in
+    let e : after ≡ told events = it.count ∙ ap counted told_all.0 ∙ told_more before ∙ ap told (sym is) in
+    (before, is, told_all.1, subst (λ k. may k false ≡ true) e it.may)
+answers_until may events after Drained it = absurd it
+answers_until may events after (Refused refusal) it = (goes_told may events after it).1
+answers_until may events after Foreign it = (goes_told may events after it).1
+answers_until may events after NoPlace it = absurd it
+
+accepted_until : (may : ℕ → Bool → Bool) (nth events after books drawn accepted : ℕ) (end : End) → GoesOnUntil may nth events after end → accepted ≤ drawn * books → WereAccepted books drawn accepted end
+accepted_until may nth events after books drawn accepted Stopped it few = few
+accepted_until may nth events after books drawn accepted Drained it few = absurd it
+accepted_until may nth events after books drawn accepted (Refused refusal) it few = few
+accepted_until may nth events after books drawn accepted Foreign it few = few
+accepted_until may nth events after books drawn accepted NoPlace it few = few
+
+-- a worker that got no place
+pub asks_nothing : (may : ℕ → Bool → Bool) (books : ℕ) (before after : Hand) → after.numbers ≡ before.numbers → AsksTheGate may books before after NoPlace
+asks_nothing may books before after same = record {
+  drawn = 0;
+  accepted = 0;
+  draws = let long = ap length same in omega (arith, long);
+  parcels = omega arith;
+  answers = λ n some few. absurd (omega (arith, some, few));
+}
+
+-- ---- ranks that are handed back to each book
+
+both_times : (a b n : ℕ) → (a + b) * n ≡ a * n + n * b
+both_times a b n = omega arith
+
+-- nothing is drawn yet
+pub has_none : (may : ℕ → Bool → Bool) (books : ℕ) (hand : Hand) → HasLeft may books 0 hand hand 0
+has_none may books hand = record {
+  done = 0;
+  all = omega arith;
+  works = record { drawn = 0; draws = omega arith; on = let e : 0 ≡ 0 + 0 * books = omega arith in subst (λ n. GoesOn may 0 n 0) e refl };
+}
+
+-- more ranks are drawn
+pub has_drawn : (may : ℕ → Bool → Bool) (books left all nth after : ℕ) (hand mid later : Hand) → length later.numbers + left ≡ length mid.numbers + all
+    → HasLeft may books left hand mid nth → Works may 0 mid nth later after → HasLeft may books all hand later after
+has_drawn may books left all nth after hand mid later more has it = record {
+  done = has.done;
+  all = omega (arith, more, has.all);
+  works = works_twice may (has.done * books) 0 (has.done * books) hand mid later 0 nth after (omega arith) has.works it;
+}
+
+-- those that are left are handed back, and others drawn
+pub has_handed : (may : ℕ → Bool → Bool) (books left many more nth after : ℕ) (hand mid later : Hand) → many ≡ books * left → length later.numbers ≡ length mid.numbers + more
+    → HasLeft may books left hand mid nth → Works may many mid nth later after → HasLeft may books more hand later after
+has_handed may books left many more nth after hand mid later all drawn has it = record {
+  done = has.done + left;
+  all = omega (arith, drawn, has.all);
+  works = works_twice may (has.done * books) many ((has.done + left) * books) hand mid later 0 nth after (both_times has.done left books ∙ ap (λ n. has.done * books + n) (sym all)) has.works it;
+}
+
+-- none is left, and the worker is drained
+pub asks_drained : (may : ℕ → Bool → Bool) (books after : ℕ) (hand later : Hand) → HasLeft may books 0 hand later after → AsksTheGate may books hand later Drained
+asks_drained may books after hand later has = record {
+  drawn = has.done;
+  accepted = has.done * books;
+  draws = omega (arith, has.all);
+  parcels = refl;
+  answers =
+      let e : has.works.drawn ≡ has.done = omega (arith, has.works.draws, has.all) in
+      (goes_told may (has.done + has.done * books) after (subst (λ n. GoesOn may 0 (n + has.done * books) after) e has.works.on)).1;
+}
+
+-- the worker ends, and is not drained
+pub asks_until : (may : ℕ → Bool → Bool) (books left most nth after : ℕ) (hand mid later : Hand) (end : End) → most ≤ books * left → HasLeft may books left hand mid nth
+    → WorksUntil may most mid nth later after end → AsksTheGate may books hand later end
+asks_until may books left most nth after hand mid later end within has more =
+    let both = works_until may (has.done * books) most (has.done * books + most) hand mid later 0 nth after end (omega arith) has.works more in
+    let many : has.done + left ≤ both.drawn = omega (arith, has.all, more.draws, both.draws) in
+    let sum = both_times has.done left books in
+    let few : both.accepted ≤ both.drawn * books = omega (arith, both.few, within, sum, mul-le (has.done + left) books both.drawn books many (omega arith)) in
+    record {
+      drawn = both.drawn;
+      accepted = both.accepted;
+      draws = both.draws;
+      parcels = accepted_until may 0 (both.drawn + both.accepted) after books both.drawn both.accepted end both.until few;
+      answers = answers_until may (both.drawn + both.accepted) after end both.until;
+    }
+
+-- a draw ends the worker
+pub asks_drawn : (may : ℕ → Bool → Bool) (books nth after : ℕ) (hand mid later : Hand) (end : End) → HasLeft may books 0 hand mid nth
+    → DrawsAtLast may mid nth later after end → AsksTheGate may books hand later end
+asks_drawn may books nth after hand mid later Stopped has it =
+    asks_until may books 0 0 nth after hand mid later Stopped (omega arith) has (record { drawn = 1; accepted = 0; few = omega arith; draws = it.0; until = (0, nth, refl, refl, it.1) })
+asks_drawn may books nth after hand mid later Drained has it =
+    let same = ap length it.0 in
+    asks_drained may books after hand later (has_drawn may books 0 0 nth after hand mid later (omega (arith, same)) has (works_none may mid later nth after it.0 it.1))
+asks_drawn may books nth after hand mid later (Refused refusal) has it = absurd it
+asks_drawn may books nth after hand mid later Foreign has it = absurd it
+asks_drawn may books nth after hand mid later NoPlace has it = absurd it
+
+-- ---- under a book's lock
+
+-- an end by the book comes with no event
+pub ends_by_book : (layer : LayerView) (worker : ℕ) (book : BookView) (parcel : ParcelView) (may : ℕ → Bool → Bool) (nth : ℕ) (end : End) → HandEnds layer worker book parcel end → EndsAtOnce may nth nth end
+ends_by_book layer worker book parcel may nth Foreign it = refl
+ends_by_book layer worker book parcel may nth (Refused refusal) it = refl
+ends_by_book layer worker book parcel may nth Drained it = absurd it
+ends_by_book layer worker book parcel may nth Stopped it = absurd it
+ends_by_book layer worker book parcel may nth NoPlace it = absurd it
+
+pub over_by_book : (layer : LayerView) (worker : ℕ) (book : BookView) (parcel : ParcelView) (end : End) → HandEnds layer worker book parcel end → HandOverEnds layer worker book parcel end
+over_by_book layer worker book parcel Foreign it = it
+over_by_book layer worker book parcel (Refused refusal) it = it
+over_by_book layer worker book parcel Drained it = absurd it
+over_by_book layer worker book parcel Stopped it = absurd it
+over_by_book layer worker book parcel NoPlace it = absurd it
+
+-- or by the gate
+pub over_by_gate : (layer : LayerView) (worker : ℕ) (book : BookView) (parcel : ParcelView) (end : End) → end ≡ Stopped → IsOwn layer worker book × MayEnter book parcel → HandOverEnds layer worker book parcel end
+over_by_gate layer worker book parcel end is may = subst (HandOverEnds layer worker book parcel) (sym is) may
