@@ -7,6 +7,7 @@ ghost use Rattle.crew.specs.inside.Lots.{AreOfLayer, IsGrown};
 
 use crate::end::End;
 use crate::gate::Gate;
+use crate::held::tell_growth;
 use crate::locking::lock_soon;
 use crate::lots::{AHEAD, Lot, MOST};
 use crate::shift::Shift;
@@ -137,7 +138,9 @@ fn hand_to<G: Gate>(
     ensures answered { IfErr result (λ end. WasAnswered shift.now.layer worker end) }
 {
     let mut guard = guard;
+    let before = guard.positions_at_least();
     let handed = hand_in(&mut *guard, shift.layer, worker, parcel);
+    tell_growth(shift.held, before, guard.positions_at_least());
     drop(guard);
     handed?;
     pass(shift, worker, nth)

@@ -1,4 +1,5 @@
 pub mod lemmas
+pub mod Counting
 pub mod Each
 pub mod Finishing
 pub mod LeastPlays
