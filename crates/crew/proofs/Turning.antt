@@ -1,5 +1,5 @@
 -- A turn of a search with workers.
-use Rattle.std.proofs.Common.{◌≡◌, ℕ, ◌+◌, List, [], ◌∷◌, ◌++◌, length, Some, refl, sym, subst}
+use Rattle.std.proofs.Common.{◌≡◌, ℕ, ◌+◌, List, [], ◌∷◌, ◌++◌, length, Some, inl, inr, refl, sym, subst}
 use Rattle.std.specs.Prelude.{slice_get}
 use Rattle.grid.specs.declared.square.Push.{Push}
 use Rattle.layers.specs.Tasks.{Task}
@@ -11,6 +11,7 @@ use Rattle.solo.specs.Answers.{IsAnswer}
 use Rattle.solo.specs.inside.Searched.{IsLookedAt}
 use Rattle.solo.specs.declared.answer.Answer.TheVariants.{Limit}
 use Rattle.solo.specs.declared.turn.Worked.TheVariants.{Through, Over}
+use Rattle.solo.proofs.lemmas.Together.{still_dealt, still_working, together_limit}
 use Rattle.solo.proofs.lemmas.Turns.{all_shares, may_begin, next_of, trail_grown, turn_on, turn_over}
 use Rattle.crew.specs.Configured.{IsWithinLimits}
 use Rattle.crew.specs.declared.config.Config.{Config}
@@ -41,8 +42,13 @@ module _ (config : Config) (task : Task) (books : List BookView) (trail : List (
       (trail_grown layer.level config.limit (config.workers + 1) config.locks after trail all parents count layer is same
       (turn_on layer.level config.limit (config.workers + 1) config.locks after trail count layer (refl, next.1) looked worked))
 
-  -- or one of them is over, and the answer is the limit
+  -- or they pass the limit, one of them or all together, and the answer is the limit
   pub ends_over : (layer : LayerView) (count : ℕ) (after : List BookView) → IsJoinOf books layer → IsLookedAt layer.level config.limit (trail ++ layer.origins ∷ []) count → AreWorkedBy config layer Over after → IsAnswer task config.limit Limit
   ends_over layer count after join looked worked =
       let next = next_layer layer join in
-      subst (λ b. IsAnswer b config.limit Limit) next.0 (turn_over layer.level config.limit (config.workers + 1) config.locks after trail count layer (refl, next.1) looked worked)
+      let before = worked.0 in
+      subst (λ b. IsAnswer b config.limit Limit) next.0 (elim worked.3 [
+        | inl over ↦ turn_over layer.level config.limit (config.workers + 1) config.locks after trail count layer (refl, next.1) looked (before, worked.1, worked.2, over)
+        | inr (still, passed) ↦ together_limit layer.level config.limit (config.workers + 1) config.locks after trail count layer limits.locks.0 (refl, next.1) looked
+            (still_dealt layer.level config.limit (config.workers + 1) config.locks layer before after worked.1 still) (still_working layer before after worked.2 still) passed
+      ])

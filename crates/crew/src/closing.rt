@@ -1,12 +1,15 @@
 //! Books that close the next layer side by side.
-ghost use Rattle.std.specs.Prelude.{◌≡◌, ◌<◌, ℕ, IfOk, Some, length, slice_get};
+ghost use Rattle.std.specs.Prelude.{◌≡◌, ◌<◌, ◌≤◌, ℕ, IfOk, Some, length, slice_get};
 ghost use Rattle.layers.specs.BookView.{BookView};
 ghost use Rattle.solo.specs.inside.Rests.{MayBeClosed, MayBeClosedEach};
-ghost use Rattle.solo.specs.inside.Turns.{AreWorkingOn, WorkAnswers};
+ghost use Rattle.layers.specs.declared.limits.TheConstants.{MAX_SHARES};
+ghost use Rattle.solo.specs.inside.Together.{AreFinished};
+ghost use Rattle.solo.specs.inside.Turns.{AreWorkingOn};
 
 use crate::spreading::for_each_spread;
 use area::Scratch;
 use layers::{Book, Layer, Pruner};
+use solo::rest::do_rest;
 use solo::turn::{Worked, close_ahead, finish_rest};
 use std::alloc::AllocError;
 use std::thread::Threads;
@@ -16,7 +19,8 @@ use std::thread::Threads;
 const SIDE_BY_SIDE: u64 = 4096;
 
 // Does as one of the workers whatever is left of the layer in each of the books, and closes the next one there; until one
-// of them is over, or comes to be. The books whose ranks are all done may close side by side.
+// of them is over, or comes to be, or all of them hold more positions together than the limit. No book closes before that is
+// known. They may close side by side.
 pub(crate) fn finish_all<R: Threads + Sync>(
     rt: &R,
     books: &mut [Book],
@@ -24,32 +28,40 @@ pub(crate) fn finish_all<R: Threads + Sync>(
     pruner: &Pruner,
     scratch: &mut Scratch,
     worker: u8,
+    limit: u32,
 ) -> Result<Worked, AllocError>
+    requires few { length books.old ≤ MAX_SHARES }
     requires working { AreWorkingOn layer.now books.old }
     requires worker { (i : ℕ) (v : BookView) → slice_get books.old i ≡ Some v → worker < v.workers }
     requires pruner_of_level { pruner.now ≡ layer.now.level }
     requires room { scratch.old.size ≡ length layer.now.level.board.cells }
-    ensures worked { IfOk result (λ worked. WorkAnswers books.old worked books.new) }
+    ensures worked { IfOk result (λ worked. AreFinished limit books.old layer.now worked books.new) }
     ensures size { scratch.new.size ≡ scratch.old.size }
 {
-    close_side_by_side(rt, books, layer);
+    let within = do_rest(books, layer, pruner, scratch, worker, limit)?;
+    let Some(left) = within else {
+        return Ok(Worked::Over);
+    };
+    close_side_by_side(rt, books, layer, left);
     let worked = finish_rest(books, layer, pruner, scratch, worker)?;
     Ok(worked)
 }
 
 // Where the layer is large, closes the next one in each of the books whose ranks are all done, each in a thread of its own
-// where one can be started. A book that is refused memory stays as it was.
-fn close_side_by_side<R: Threads + Sync>(rt: &R, books: &mut [Book], layer: &Layer)
+// where one can be started, and each takes room ahead for its part of what the limit leaves at most. A book that is refused
+// memory stays as it was.
+fn close_side_by_side<R: Threads + Sync>(rt: &R, books: &mut [Book], layer: &Layer, left: u64)
     ensures { MayBeClosedEach books.old books.new }
 {
     if books.len() < 2 || layer.len() < SIDE_BY_SIDE {
         return;
     }
+    let room = left / books.len() as u64;
     for_each_spread(
         rt,
         books,
         &|_, book: &mut Book|
             ensures { MayBeClosed book.entry.now book.exit.now }
-        { close_ahead(book) },
+        { close_ahead(book, room) },
     );
 }

@@ -4,6 +4,7 @@ ghost use Rattle.claims.specs.Hands.{newcomer};
 ghost use Rattle.crew.specs.inside.Desks.{AreRoomy, HaveDrawers};
 
 use crate::gate::Gate;
+use crate::held::Within;
 use crate::lots::Lots;
 use crate::shift::Shift;
 use crate::workers::work_all;
@@ -13,6 +14,7 @@ use grid::Level;
 use layers::{Book, Layer, Pruner};
 use std::alloc::{AllocError, Global};
 use std::marker::Model;
+use std::sync::atomic::AtomicU64;
 use std::sync::{Mutex, Wait};
 use std::thread::Threads;
 
@@ -57,7 +59,8 @@ impl<'a> Desks<'a> {
         Desks { level, desks }
     }
 
-    /// Lends the books and the ledger to the workers at these desks, and waits until all of them have ended.
+    /// Lends the books, which hold so many positions together, and the ledger to the workers at these desks, and waits until all
+    /// of them have ended, each at the latest soon after the books hold more than the limit.
     pub(crate) fn work<R: Threads + Wait + Sync, G: Gate + Sync>(
         &mut self,
         rt: &R,
@@ -67,6 +70,8 @@ impl<'a> Desks<'a> {
         ledger: &Ledger,
         drawer: Drawer,
         gate: &G,
+        positions: u64,
+        limit: u32,
     )
         requires level { self.old ≡ layer.now.level.board }
         requires pruner_of_level { pruner.now ≡ layer.now.level }
@@ -74,13 +79,20 @@ impl<'a> Desks<'a> {
         requires drawer { drawer ≡ newcomer ledger.now }
         ensures { self.new ≡ self.old }
     {
+        let held = AtomicU64::new(positions);
+        let within = Within {
+            gate,
+            held: &held,
+            limit,
+        };
         let shift = Shift {
             level: self.level,
             layer,
             pruner,
             books,
             ledger,
-            gate,
+            gate: &within,
+            held: &held,
         };
         work_first(rt, self.desks.as_mut_slice(), &shift, drawer);
     }

@@ -10,6 +10,7 @@ ghost use Rattle.crew.specs.inside.Shifts.{answers_to};
 
 use crate::end::End;
 use crate::gate::Gate;
+use crate::held::tell_growth;
 use crate::locking::lock_soon;
 use crate::lots::{AHEAD, Lot, MOST};
 use crate::shift::Shift;
@@ -152,7 +153,9 @@ fn hand_to<G: Gate>(
     ensures gate { IfErr result (λ end. EndsAtOnce (answers_to G.may_answer shift.now worker) nth.old nth.new end) }
 {
     let mut guard = guard;
+    let before = guard.positions_at_least();
     let handed = hand_in(&mut *guard, shift.layer, worker, parcel);
+    tell_growth(shift.held, before, guard.positions_at_least());
     drop(guard);
     handed?;
     pass(shift, worker, nth)

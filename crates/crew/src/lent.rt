@@ -14,8 +14,9 @@ use std::alloc::{AllocError, Global};
 use std::sync::{Mutex, Wait};
 use std::thread::Threads;
 
-// Lends the books to the workers at their desks for a layer, and gives what is behind the locks once all of them have
-// ended. The only error is that memory was refused.
+// Lends the books, which hold so many positions together, to the workers at their desks for a layer, and gives what is behind
+// the locks once all of them have ended, each at the latest soon after the books hold more than the limit. The only error is
+// that memory was refused.
 pub(crate) fn lend<R: Threads + Wait + Sync, G: Gate + Sync>(
     rt: &R,
     alloc: Global,
@@ -24,6 +25,8 @@ pub(crate) fn lend<R: Threads + Wait + Sync, G: Gate + Sync>(
     pruner: &Pruner,
     desks: &mut Desks<'_>,
     gate: &G,
+    positions: u64,
+    limit: u32,
 ) -> Result<Vec<Book>, AllocError>
     requires pruner_of_level { pruner.now ≡ layer.now.level }
     requires ranks { length layer.now.places < 2 ^ 32 }
@@ -32,7 +35,10 @@ pub(crate) fn lend<R: Threads + Wait + Sync, G: Gate + Sync>(
 {
     let (ledger, drawer) = ledger_of(alloc, layer)?;
     let locks = lock_each(alloc, books)?;
-    desks.work(rt, layer, pruner, locks.as_slice(), &ledger, drawer, gate);
+    let books = locks.as_slice();
+    desks.work(
+        rt, layer, pruner, books, &ledger, drawer, gate, positions, limit,
+    );
     unlock_each(alloc, locks)
 }
 

@@ -9,6 +9,7 @@ mod desks;
 mod end;
 mod gate;
 mod handing;
+mod held;
 mod joining;
 mod lent;
 mod locking;

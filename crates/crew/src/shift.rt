@@ -5,9 +5,11 @@ use grid::Level;
 use layers::{Book, Layer, Pruner};
 use std::marker::Model;
 use std::sync::Mutex;
+use std::sync::atomic::AtomicU64;
 
 /// What the workers of a layer share: the layer and its level, what leaves positions out, the books, each behind a lock of its
-/// own, the ledger of the layer's ranks, and the gate. Contracts see the layer, the ledger, how many books there are, and the gate.
+/// own, the ledger of the layer's ranks, the gate, and how many positions the books hold. Contracts see the layer, the ledger, how
+/// many books there are, and the gate.
 #[derive(Drop)]
 pub(crate) struct Shift<'s, 'a, G: Gate> {
     pub(crate) level: &'a Level,
@@ -16,6 +18,8 @@ pub(crate) struct Shift<'s, 'a, G: Gate> {
     pub(crate) books: &'s [Mutex<Book>],
     pub(crate) ledger: &'s Ledger,
     pub(crate) gate: &'s G,
+    // how many positions the books hold together, as the workers tell
+    pub(crate) held: &'s AtomicU64,
 }
 
 impl<'s, 'a, G: Gate> Model for Shift<'s, 'a, G> {

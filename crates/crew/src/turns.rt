@@ -66,7 +66,7 @@ pub(crate) fn turn<R: Threads + Wait + Sync, G: Gate + Sync>(
         return Ok(Turned::Found(answer));
     }
     let back = work_through(
-        rt, alloc, books, &layer, pruner, scratch, desks, config, gate,
+        rt, alloc, books, &layer, *positions, pruner, scratch, desks, config, gate,
     )?;
     let Some((worked, after)) = back else {
         return Ok(Turned::Foreign);
@@ -78,13 +78,14 @@ pub(crate) fn turn<R: Threads + Wait + Sync, G: Gate + Sync>(
     }
 }
 
-// Lends the books to the workers, and does book by book what they left of the last closed layer; `None` where other
-// books came back. The only error is that memory was refused.
+// Lends the books, which have closed so many positions together, to the workers, and does book by book what they left of the
+// last closed layer; `None` where other books came back. The only error is that memory was refused.
 fn work_through<R: Threads + Wait + Sync, G: Gate + Sync>(
     rt: &R,
     alloc: Global,
     mut books: Vec<Book>,
     layer: &Layer,
+    positions: u64,
     pruner: &Pruner,
     scratch: &mut Scratch,
     desks: &mut Desks<'_>,
@@ -102,7 +103,10 @@ fn work_through<R: Threads + Wait + Sync, G: Gate + Sync>(
     ensures desks { desks.new ≡ desks.old }
 {
     begin_each(books.as_mut_slice(), layer)?;
-    let back = lend(rt, alloc, books, layer, pruner, desks, gate)?;
+    let limit = config.limit;
+    let back = lend(
+        rt, alloc, books, layer, pruner, desks, gate, positions, limit,
+    )?;
     finish_lent(rt, back, layer, pruner, scratch, config)
 }
 
@@ -129,6 +133,7 @@ fn finish_lent<R: Threads + Sync>(
     }
     // the caller's own number is the last one
     let own = config.workers;
-    let worked = finish_all(rt, back.as_mut_slice(), layer, pruner, scratch, own)?;
+    let limit = config.limit;
+    let worked = finish_all(rt, back.as_mut_slice(), layer, pruner, scratch, own, limit)?;
     Ok(Some((worked, back)))
 }

@@ -16,6 +16,7 @@ use area::Scratch;
 use claims::{Drawer, Ledger, PLACES};
 use layers::{Book, Layer, Pruner, expand_over, expand_over_into};
 use std::mem::swap;
+use std::sync::atomic::AtomicU64;
 use std::sync::{Mutex, Wait};
 
 /// Works on a layer as one worker, until it ends: draws a lot of ranks, expands each of them while no lock is held, and
@@ -56,6 +57,7 @@ pub fn work<R: Wait, G: Gate>(
     ensures ledger { drawer.new.ledger ≡ ledger.now }
     ensures size { scratch.new.size ≡ scratch.old.size }
 {
+    let held = AtomicU64::new(0);
     let shift = Shift {
         level: layer.level(),
         layer,
@@ -63,6 +65,7 @@ pub fn work<R: Wait, G: Gate>(
         books,
         ledger,
         gate,
+        held: &held,
     };
     match Lots::of(scratch.allocator(), books.len()) {
         Ok(mut lots) => work_at(rt, &shift, drawer, worker, scratch, &mut lots),

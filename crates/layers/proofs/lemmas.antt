@@ -12,3 +12,4 @@ pub mod Joins
 pub mod Closings
 pub mod Counting
 pub mod Shares
+pub mod Holdings

@@ -10,6 +10,7 @@ pub mod ParcelView
 pub mod Expansion
 pub mod BookView
 pub mod Distances
+pub mod Holding
 pub mod Books
 pub mod FoundView
 pub mod Widths

@@ -138,9 +138,7 @@ impl Book {
         if self.starts.reserve(1).is_err() {
             return Err(CloseFault::OutOfMemory);
         }
-        // the books of several shares close side by side, and the workers wait while a map grows under its lock
-        let ahead = self.shares > 1;
-        if self.found.close(ahead).is_err() {
+        if self.found.close().is_err() {
             return Err(CloseFault::OutOfMemory);
         }
         let count = self.found.closed_len() - start;

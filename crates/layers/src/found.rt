@@ -170,14 +170,35 @@ impl Found {
         in_each!(&mut self.tables, table => table.enter_all(most, share, shares, parcel))
     }
 
-    /// Closes what stands open, in the order of the origins. Where it is to look ahead, it makes room for as many
-    /// positions more, which the next layer mostly has, where memory can be had for it. An error leaves all as it was.
-    pub(crate) fn close(&mut self, ahead: bool) -> Result<(), AllocError>
+    /// How many positions are found. What waits to enter does so first.
+    pub(crate) fn count(&mut self) -> usize
+        ensures count { result ≡ length self.old.seen + length self.old.waiting }
+        ensures same { self.new ≡ self.old }
+    {
+        in_each!(&mut self.tables, table => table.count())
+    }
+
+    /// How many positions are found, but for those that wait to enter.
+    pub(crate) fn count_entered(&self) -> usize
+        ensures { result ≤ length self.now.seen + length self.now.waiting }
+    {
+        in_each!(&self.tables, table => table.count_entered())
+    }
+
+    /// Makes room for so many positions more, where memory can be had for it.
+    pub(crate) fn have_room(&mut self, more: usize)
+        ensures { self.new ≡ self.old }
+    {
+        in_each!(&mut self.tables, table => table.have_room(more))
+    }
+
+    /// Closes what stands open, in the order of the origins. An error leaves all as it was.
+    pub(crate) fn close(&mut self) -> Result<(), AllocError>
         ensures boxes { self.new.boxes ≡ self.old.boxes }
         ensures seen { OnOk result (IsSortedAppend self.old.seen self.old.waiting self.new.seen) }
         ensures waiting { OnOk result (self.new.waiting ≡ []) }
         ensures err { OnErr result (self.new ≡ self.old) }
     {
-        in_each!(&mut self.tables, table => table.close(ahead))
+        in_each!(&mut self.tables, table => table.close())
     }
 }

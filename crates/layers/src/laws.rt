@@ -1,5 +1,5 @@
 //! Laws of books that callers may rely on. Each is the contract of a function that does nothing.
-ghost use Rattle.std.specs.Prelude.{◌≡◌, ℕ, ◌<◌, ◌≤◌, List, length, map, sum_by};
+ghost use Rattle.std.specs.Prelude.{◌≡◌, ℕ, ◌+◌, ◌<◌, ◌≤◌, List, length, map, sum_by};
 ghost use Rattle.grid.specs.Board.{Scene};
 ghost use Rattle.layers.specs.Tasks.{Task};
 ghost use Rattle.grid.specs.Lawful.{IsLevel};
@@ -7,6 +7,7 @@ ghost use Rattle.layers.specs.Reaching.{AreLayersOf, IsLayerOf, total};
 ghost use Rattle.layers.specs.BookView.{BookView, Closed, AreBounds, AreSharesOfLayer, AreLawfulBooks, IsLawfulBook, IsShareOfLayer, last_layer, last_list};
 ghost use Rattle.layers.specs.LayerView.{LayerView, IsWhole};
 ghost use Rattle.layers.specs.Books.{AreAllShares, HasBegun, IsNew};
+ghost use Rattle.layers.specs.Holding.{AreManyIn, all_held};
 ghost use Rattle.layers.specs.Events.{Event, History, AreMadeAlike, KeepsClosed, CloseAlike};
 
 /// After any list of begins, claims, hand backs, reopens and closes, each with any of its answers, a book that was
@@ -48,4 +49,11 @@ pub fn the_books_of_all_shares_hold_the_layers()
     ensures last { (books : List BookView) (all : AreAllShares books) → AreLawfulBooks books → AreSharesOfLayer all.first.level all.first.shares (last_layer all.first) (map last_list books) }
     ensures total { (books : List BookView) (all : AreAllShares books) → AreLawfulBooks books → (layers : List (List Scene)) → AreLayersOf all.first.level layers → length layers ≡ length all.first.closed → total layers ≡ sum_by (λ book. total book.closed) books }
     ensures part { (book : BookView) (layers : List (List Scene)) → IsLawfulBook book → AreLayersOf book.level layers → length book.closed ≤ length layers → total book.closed ≤ total layers }
+{}
+
+/// What lawful books that are all the shares hold together is the layers that they have closed, and so many different
+/// positions of the next one. So where that is more than a limit, the positions of these layers together with some of the next
+/// one are more.
+pub fn the_books_of_all_shares_hold_the_layers_and_some_of_the_next()
+    ensures { (books : List BookView) (all : AreAllShares books) → AreLawfulBooks books → (layers : List (List Scene)) → AreLayersOf all.first.level layers → length layers ≡ length all.first.closed → (many : ℕ) × AreManyIn all.first.level (length all.first.closed) many × (all_held books ≡ total layers + many) }
 {}

@@ -11,6 +11,7 @@ mod events;
 mod expansion;
 mod fault;
 mod found;
+mod holding;
 mod inbox;
 mod join;
 mod key;

@@ -185,25 +185,25 @@ impl<const N: usize> Table<N> {
         Ok(())
     }
 
-    /// Closes what stands open, in the order of the origins. Where it is to look ahead, it makes room for as many
-    /// positions more, which the next layer mostly has, where memory can be had for it. An error leaves all as it was.
-    pub(crate) fn close(&mut self, ahead: bool) -> Result<(), AllocError>
-        ensures boxes { self.new.boxes ≡ self.old.boxes }
-        ensures seen { OnOk result (IsSortedAppend self.old.seen self.old.waiting self.new.seen) }
-        ensures waiting { OnOk result (self.new.waiting ≡ []) }
-        ensures err { OnErr result (self.new ≡ self.old) }
+    /// How many positions are found. What waits in the inbox enters first.
+    pub(crate) fn count(&mut self) -> usize
+        ensures count { result ≡ length self.old.seen + length self.old.waiting }
+        ensures same { self.new ≡ self.old }
     {
-        let start = self.start;
-        self.close_open()?;
-        if ahead {
-            let more = self.start.saturating_sub(start);
-            self.have_room(more);
-        }
-        Ok(())
+        let inbox = &mut self.inbox;
+        enter_all(&mut self.table, self.start, inbox);
+        self.table.len()
     }
 
-    // Closes what stands open, in the order of the origins. An error leaves all as it was.
-    fn close_open(&mut self) -> Result<(), AllocError>
+    /// How many positions are found, but for those that wait in the inbox.
+    pub(crate) fn count_entered(&self) -> usize
+        ensures { result ≤ length self.now.seen + length self.now.waiting }
+    {
+        self.table.len()
+    }
+
+    /// Closes what stands open, in the order of the origins. An error leaves all as it was.
+    pub(crate) fn close(&mut self) -> Result<(), AllocError>
         ensures boxes { self.new.boxes ≡ self.old.boxes }
         ensures seen { OnOk result (IsSortedAppend self.old.seen self.old.waiting self.new.seen) }
         ensures waiting { OnOk result (self.new.waiting ≡ []) }
@@ -216,8 +216,8 @@ impl<const N: usize> Table<N> {
         Ok(())
     }
 
-    // Makes room for so many positions more, where memory can be had for it.
-    fn have_room(&mut self, more: usize)
+    /// Makes room for so many positions more, where memory can be had for it.
+    pub(crate) fn have_room(&mut self, more: usize)
         ensures { self.new ≡ self.old }
     {
         let _ = self.table.reserve(more);

@@ -23,7 +23,7 @@ set_here [] p y lt = absurd (omega arith)
 set_here (x ∷ xs) zero y lt = refl
 set_here (x ∷ xs) (suc p) y lt = set_here xs p y (omega arith)
 
-set_there : {A : Type 0} (xs : List A) (p i : ℕ) (y : A) → i ≢ p → slice_get (set xs p y) i ≡ slice_get xs i
+pub set_there : {A : Type 0} (xs : List A) (p i : ℕ) (y : A) → i ≢ p → slice_get (set xs p y) i ≡ slice_get xs i
 set_there [] p i y apart = refl
 set_there (x ∷ xs) zero zero y apart = absurd (apart refl)
 set_there (x ∷ xs) zero (suc i) y apart = refl

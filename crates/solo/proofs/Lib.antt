@@ -1,4 +1,5 @@
 pub mod lemmas
+pub mod Counting
 pub mod Credits
 pub mod Each
 pub mod Existence

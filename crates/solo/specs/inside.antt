@@ -2,4 +2,5 @@
 pub mod LeastPlays
 pub mod Rests
 pub mod Searched
+pub mod Together
 pub mod Turns

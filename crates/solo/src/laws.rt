@@ -3,7 +3,9 @@ ghost use Rattle.std.specs.Prelude.{◌≡◌, ℕ, suc, ◌<◌, ◌≤◌, ◌
 ghost use Rattle.grid.specs.Board.{Scene};
 ghost use Rattle.layers.specs.Tasks.{Task};
 ghost use Rattle.grid.specs.Lawful.{IsLevel};
-ghost use Rattle.layers.specs.BookView.{BookView, IsLawfulBook};
+ghost use Rattle.layers.specs.BookView.{AreLawfulBooks, BookView, IsLawfulBook};
+ghost use Rattle.layers.specs.Books.{AreAllShares};
+ghost use Rattle.layers.specs.Holding.{all_held};
 ghost use Rattle.grid.specs.declared.square.Push.{Push};
 ghost use Rattle.layers.specs.Openings.{Origin};
 ghost use Rattle.layers.specs.Reaching.{IsLayerOf};
@@ -42,4 +44,10 @@ pub fn an_empty_layer_is_the_last()
 /// Where a book of whatever share is over, and the layers that it has closed were looked at, the answer is `Limit`.
 pub fn a_book_that_is_over_passes_the_limit()
     ensures { (task : Task) (limit positions : ℕ) (trail : List (List (Origin Push))) (book : BookView) → IsLookedAt task limit trail positions → IsLawfulBook book → book.level ≡ task → book.limit ≡ limit → book.over ≡ true → length book.closed ≡ length trail → IsAnswer task limit Limit }
+{}
+
+/// Where the books of all shares hold more positions together than the limit, and the layers that they have closed were looked
+/// at, the answer is `Limit`, whichever ranks are done in which of them.
+pub fn books_that_hold_more_together_pass_the_limit()
+    ensures { (task : Task) (limit positions : ℕ) (trail : List (List (Origin Push))) (books : List BookView) (all : AreAllShares books) → IsLookedAt task limit trail positions → AreLawfulBooks books → all.first.level ≡ task → length all.first.closed ≡ length trail → limit < all_held books → IsAnswer task limit Limit }
 {}

@@ -7,6 +7,7 @@ mod goals;
 pub mod laws;
 mod lead;
 mod plays;
+pub mod rest;
 mod search;
 pub mod turn;
 

@@ -13,6 +13,7 @@ ghost use Rattle.solo.specs.declared.answer.Answer.TheVariants.{Limit};
 ghost use Rattle.solo.specs.inside.Searched.{HaveBefore, IsLookedAt};
 ghost use Rattle.solo.specs.inside.Rests.{MayBeClosed, RestAnswer, RestAnswers};
 ghost use Rattle.solo.specs.inside.Turns.{AreDoneBy, HaveBegun, IsDoneBy, IsStillAt, MayBeWorked, MayHaveBegun, WorkAnswer, WorkAnswers, with_over};
+ghost use Rattle.solo.specs.inside.Together.{IsFull};
 
 use crate::answer::Answer;
 use crate::goals::first_solved;
@@ -283,20 +284,24 @@ pub fn finish(
     book.tell();
     layer.tell();
     book.reopen();
-    if !do_ranks(book, layer, pruner, scratch, worker)? {
+    let most = u64::from(book.limit());
+    if !do_ranks(book, layer, pruner, scratch, worker, most)? {
+        book.tell();
         return Ok(Worked::Over);
     }
     close(book)?;
     Ok(Worked::Through)
 }
 
-// Does each rank that is not done, where none is claimed by others; `false` where the book is over.
-fn do_ranks(
+// Does each rank that is not done, where none is claimed by others; `false` where the book is over, or holds more positions
+// than it is to hold at most.
+pub(crate) fn do_ranks(
     book: &mut Book,
     layer: &Layer,
     pruner: &Pruner,
     scratch: &mut Scratch,
     worker: u8,
+    most: u64,
 ) -> Result<bool, AllocError>
     requires still { IsStillAt book.old layer.now book.old }
     requires reopened { book.old.claimed ≡ book.old.done }
@@ -304,7 +309,7 @@ fn do_ranks(
     requires pruner_of_level { pruner.now ≡ layer.now.level }
     requires room { scratch.old.size ≡ length layer.now.level.board.cells }
     ensures still { IsStillAt book.old layer.now book.new }
-    ensures done { IfOk result (λ within. MatchBool within (AllDone book.new) (book.new.over ≡ true)) }
+    ensures done { IfOk result (λ within. MatchBool within (AllDone book.new) (IsFull most book.new)) }
     ensures credited { IsDoneBy worker book.old book.new }
     ensures size { scratch.new.size ≡ scratch.old.size }
 {
@@ -316,17 +321,14 @@ fn do_ranks(
         if !enter(book, worker, &parcel)? {
             return Ok(false);
         }
+        if book.positions_at_least() > most {
+            return Ok(false);
+        }
         let Some(claim) = book.claim() else {
             return Ok(true);
         };
-        expand_over_into(
-            layer.level(),
-            layer,
-            pruner,
-            claim.rank,
-            scratch,
-            &mut parcel,
-        );
+        let rank = claim.rank;
+        expand_over_into(layer.level(), layer, pruner, rank, scratch, &mut parcel);
     }
 }
 
@@ -347,12 +349,17 @@ fn enter(book: &mut Book, worker: u8, parcel: &Parcel<'_>) -> Result<bool, Alloc
     }
 }
 
-/// Closes the next layer ahead of [`finish`], where each rank is done. Where one is not, or memory is refused, the book
-/// stays as it was.
-pub fn close_ahead(book: &mut Book)
+/// Closes the next layer ahead of [`finish`], where each rank is done, and makes room for as many positions more as it has,
+/// which the one after it mostly has too, unless these are more than `room`. Where a rank is not done, or memory is refused,
+/// the book stays as it was.
+pub fn close_ahead(book: &mut Book, room: u64)
     ensures { MayBeClosed book.old book.new }
 {
-    let _ = book.close();
+    if let Ok(closed) = book.close() {
+        if closed.count <= room {
+            book.have_room(closed.count);
+        }
+    }
 }
 
 // Closes the next layer, once each rank is done.

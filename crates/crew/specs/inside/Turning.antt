@@ -6,7 +6,8 @@ use Rattle.layers.specs.BookView.{BookView}
 use Rattle.layers.specs.LayerView.{LayerView}
 use Rattle.layers.specs.Openings.{Origin}
 use Rattle.solo.specs.Answers.{IsAnswer}
-use Rattle.solo.specs.inside.Turns.{AreBetweenTurns, AreWorked}
+use Rattle.solo.specs.inside.Together.{AreFinished}
+use Rattle.solo.specs.inside.Turns.{AreBetweenTurns, AreDealt, AreWorkingOn}
 use Rattle.solo.specs.declared.turn.Worked.{Worked}
 use Rattle.crew.specs.declared.config.Config.{Config}
 use Rattle.crew.specs.declared.turns.Turned.{Turned}
@@ -18,7 +19,8 @@ ArePausedBy config task books trail positions = AreBetweenTurns task config.limi
 
 -- the books of a search by the configuration were at work on the layer, and this is how its last ranks left them
 abbrev pub AreWorkedBy : Config → LayerView → Worked → List BookView → Type 0
-AreWorkedBy config layer worked books = AreWorked layer.level config.limit (config.workers + 1) config.locks layer worked books
+AreWorkedBy config layer worked books =
+    (before : List BookView) × AreDealt layer.level config.limit (config.workers + 1) config.locks before × AreWorkingOn layer before × AreFinished config.limit before layer worked books
 
 -- how a turn ends: the search goes on with books that have closed the next layer; or there is an answer; or other books
 -- came back

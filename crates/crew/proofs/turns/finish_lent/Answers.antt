@@ -1,9 +1,14 @@
 use Rattle.std.proofs.Common.{◌≡◌, ◌++◌, drop, length, take, sym, ap, subst, ◌∙◌, arith}
 use Rattle.std.proofs.Math.Seq.{take-append_seam}
-use Rattle.solo.specs.inside.Turns.{WorkAnswers}
+use Rattle.solo.specs.inside.Together.{AreFinished}
 use Rattle.crew.specs.Lending.{ComeBack}
 use Rattle.crew.proofs.Lending.{come_dealt}
 use Rattle.crew.proofs.turns.finish_lent.Goals as goal
+
+pub finish_all-requires-clause-few : goal.finish_all-requires-clause-few
+finish_all-requires-clause-few g c κs within =
+    let come : ComeBack c.args.config c.args.layer.now c.as_mut_slice.result.now = subst (ComeBack c.args.config c.args.layer.now) (c.as_slice.ensures.value ∙ sym c.as_mut_slice.ensures.value) c.if-not-come_back.ensures in
+    omega (arith, come.all, c.requires.limits.locks)
 
 pub finish_all-requires-clause-working : goal.finish_all-requires-clause-working
 finish_all-requires-clause-working g c κs within =
@@ -21,4 +26,4 @@ returns-clause-worked g c =
     let come : ComeBack config layer lent = subst (ComeBack config layer) (c.as_slice.ensures.value ∙ sym c.as_mut_slice.ensures.value) c.if-not-come_back.ensures in
     let whole : back.len ≡ length after = sym (c.finish_all.auto.books ∙ c.as_mut_slice.ensures.len) in
     let left : take back.len (after ++ drop (length after) back.items) ≡ after = ap (λ n. take n (after ++ drop (length after) back.items)) whole ∙ take-append_seam after (drop (length after) back.items) in
-    (lent, (come_dealt config layer lent come).0, (come_dealt config layer lent come).1, subst (WorkAnswers lent c.in_ok-worked.worked) (sym left) c.in_ok-worked.ensures.worked)
+    (lent, (come_dealt config layer lent come).0, (come_dealt config layer lent come).1, subst (AreFinished config.limit lent layer c.in_ok-worked.worked) (sym left) c.in_ok-worked.ensures.worked)

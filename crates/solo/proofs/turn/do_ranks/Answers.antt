@@ -52,3 +52,10 @@ loop-book-preserved c =
       due = due_next start after c.claim-in-loop-book.new.self c.args.layer.now c.expand_over_into.new.parcel c.in-Some-claim.claim (done_still start book after c.args.layer.now parcel c.args.worker due entered) (done_claimed start book after c.args.layer.now parcel c.args.worker due entered) c.in-Some-claim.ensures c.expand_over_into.ensures.of;
       size = c.expand_over_into.ensures.size ∙ c.loop-book.invariant.size;
     }
+
+pub expand_over_into-requires-clause-within : goal.expand_over_into-requires-clause-within
+expand_over_into-requires-clause-within c =
+    let book = c.loop-book.book in let parcel = c.loop-book.parcel in let after = c.enter.new.book in
+    let entered : after ≡ with_parcel book c.args.worker parcel = subst (λ within. MatchBool within (after ≡ with_parcel book c.args.worker parcel) (after ≡ with_over book)) c.if-not-branch.false c.in_ok-enter.ensures.ok in
+    let still = done_still c.args.book.now book after c.args.layer.now parcel c.args.worker c.loop-book.invariant.due entered in
+    omega (arith, slice_get_within after.done c.in-Some-claim.claim.rank false c.in-Some-claim.ensures.1.1, still.ranks)

@@ -1,7 +1,7 @@
 use Rattle.std.proofs.Common.{◌∙◌}
 use Rattle.layers.specs.FoundView.{found_view}
 use Rattle.layers.proofs.Inboxes.{all_closed, on_err}
-use Rattle.layers.proofs.table.Table.close_open.Goals as goal
+use Rattle.layers.proofs.table.Table.close.Goals as goal
 
 pub returns-in_err-arrange-clause-err : goal.returns-in_err-arrange-clause-err
 returns-in_err-arrange-clause-err g c =

@@ -1,0 +1,23 @@
+-- How many positions books hold.
+use Rattle.std.specs.Prelude.{◌≡◌, ℕ, ◌+◌, List, length, sum_by}
+use Rattle.grid.specs.Board.{Scene}
+use Rattle.layers.specs.Layered.{IsIn}
+use Rattle.layers.specs.Tasks.{Task}
+use Rattle.layers.specs.Reaching.{total}
+use Rattle.layers.specs.Distances.{AreDistinct, IsAtDistance}
+use Rattle.layers.specs.BookView.{BookView}
+
+-- how many positions a book holds: those that are closed and those that stand open
+abbrev pub held : BookView → ℕ
+held v = total v.closed + length v.waiting
+
+-- how many the books hold, each by itself
+abbrev pub all_held : List BookView → ℕ
+all_held books = sum_by held books
+
+-- so many different positions of layer k are known
+pub record AreManyIn (task : Task) (k many : ℕ) : Type 0 where
+  pub places : List Scene
+  pub distinct : AreDistinct places
+  pub away : (m : Scene) → IsIn places m → IsAtDistance task m k
+  pub count : length places ≡ many

@@ -1,0 +1,36 @@
+//! How many positions books hold, and room for more.
+ghost use Rattle.std.specs.Prelude.{◌≡◌, ◌≤◌};
+ghost use Rattle.layers.specs.Holding.{held};
+
+use crate::book::Book;
+
+impl Book {
+    /// How many positions the book holds: those that are closed and those that stand open.
+    pub fn positions(&mut self) -> u64
+        ensures count { result ≡ held self.old }
+        ensures same { self.new ≡ self.old }
+    {
+        self.found.count() as u64
+    }
+
+    /// How many positions the book holds at least, which costs nothing to ask: all of them but for some that came last.
+    pub fn positions_at_least(&self) -> u64
+        ensures { result ≤ held self.now }
+    {
+        self.found.count_entered() as u64
+    }
+
+    /// Whether the limit was passed.
+    pub fn is_over(&self) -> bool
+        ensures { result ≡ self.now.over }
+    {
+        self.over
+    }
+
+    /// Makes room for so many positions more, where memory can be had for it. What the book shows stays as it was.
+    pub fn have_room(&mut self, more: u64)
+        ensures { self.new ≡ self.old }
+    {
+        self.found.have_room(more as usize);
+    }
+}

@@ -1,0 +1,37 @@
+-- Books that pass the limit together.
+use Rattle.std.specs.Prelude.{◌≡◌, ℕ, ◌<◌, ◌⊎◌, true, List, length, slice_get, Some}
+use Rattle.layers.specs.LayerView.{LayerView}
+use Rattle.layers.specs.BookView.{BookView, AreLawfulBooks}
+use Rattle.layers.specs.Holding.{all_held, held}
+use Rattle.layers.specs.Books.{HasBegun}
+use Rattle.layers.specs.Events.{AreMadeAlike}
+use Rattle.solo.specs.inside.Turns.{WorkAnswers}
+use Rattle.solo.specs.declared.turn.Worked.{Worked}
+use Rattle.solo.specs.declared.turn.Worked.TheVariants.{Through, Over}
+
+-- the book is over, or holds more than so many positions
+abbrev pub IsFull : ℕ → BookView → Type 0
+IsFull most book = (book.over ≡ true) ⊎ (most < held book)
+
+-- one of the books is over
+abbrev pub IsOneOver : List BookView → Type 0
+IsOneOver books = (i : ℕ) × (v : BookView) × (slice_get books i ≡ Some v) × (v.over ≡ true)
+
+-- the books pass the limit: one of them is over, or all of them together hold more positions
+abbrev pub PassTogether : ℕ → List BookView → Type 0
+PassTogether limit books = AreLawfulBooks books × (IsOneOver books ⊎ (limit < all_held books))
+
+-- the book is at work on the layer, and was made as it was before, with the same closed layers
+abbrev pub IsStill : LayerView → BookView → BookView → Type 0
+IsStill layer before after = AreMadeAlike before after × (after.closed ≡ before.closed) × HasBegun after layer
+
+-- so is each of several books
+abbrev pub AreStill : LayerView → List BookView → List BookView → Type 0
+AreStill layer before after =
+    (length after ≡ length before) × ((i : ℕ) (v : BookView) → slice_get before i ≡ Some v → (w : BookView) × (slice_get after i ≡ Some w) × IsStill layer v w)
+
+-- how the last ranks of a layer leave books: each has closed the next layer; or one of them is over its limit; or they are
+-- still at work, and pass the limit together
+abbrev pub AreFinished : ℕ → List BookView → LayerView → Worked → List BookView → Type 0
+AreFinished limit before layer Through after = WorkAnswers before Through after
+AreFinished limit before layer Over after = WorkAnswers before Over after ⊎ (AreStill layer before after × PassTogether limit after)

@@ -1,0 +1,109 @@
+//! What is left of a layer in books that several workers shared, within what the limit leaves over all of them.
+ghost use Rattle.std.specs.Prelude.{◌≡◌, ◌<◌, ◌≤◌, ℕ, Some, true, IfNone, IfOk, OnOk, length, slice_get};
+ghost use Rattle.layers.specs.declared.limits.TheConstants.{MAX_SHARES};
+ghost use Rattle.layers.specs.BookView.{BookView, AreLawfulBooks};
+ghost use Rattle.layers.specs.Books.{HasBegun};
+ghost use Rattle.layers.specs.Holding.{all_held};
+ghost use Rattle.solo.specs.inside.Together.{AreStill, IsOneOver, IsStill, PassTogether};
+
+use crate::turn::do_ranks;
+use area::Scratch;
+use layers::{Book, Layer, Pruner};
+use std::alloc::AllocError;
+
+/// Does as one of the workers whatever ranks are left of the last closed layer in each of the books, one after the other, and
+/// closes none; until they pass the limit: one of them is over, or all of them together hold more positions. Gives what the
+/// limit leaves, or `None` where it is passed.
+pub fn do_rest(
+    books: &mut [Book],
+    layer: &Layer,
+    pruner: &Pruner,
+    scratch: &mut Scratch,
+    worker: u8,
+    limit: u32,
+) -> Result<Option<u64>, AllocError>
+    requires few { length books.old ≤ MAX_SHARES }
+    requires begun { (i : ℕ) (v : BookView) → slice_get books.old i ≡ Some v → HasBegun v layer.now }
+    requires worker { (i : ℕ) (v : BookView) → slice_get books.old i ≡ Some v → worker < v.workers }
+    requires pruner_of_level { pruner.now ≡ layer.now.level }
+    requires room { scratch.old.size ≡ length layer.now.level.board.cells }
+    ensures still { IfOk result (λ left. AreStill layer.now books.old books.new) }
+    ensures passed { IfOk result (λ left. IfNone left (PassTogether limit books.new)) }
+    ensures size { scratch.new.size ≡ scratch.old.size }
+{
+    for place in 0..books.len() {
+        let Some(left) = left_of(books, limit) else {
+            return Ok(None);
+        };
+        do_rest_of(&mut books[place], layer, pruner, scratch, worker, left)?;
+    }
+    Ok(left_of(books, limit))
+}
+
+// Does whatever ranks are left of the last closed layer in one of the books, until it is over or holds more than so many
+// positions more.
+fn do_rest_of(
+    book: &mut Book,
+    layer: &Layer,
+    pruner: &Pruner,
+    scratch: &mut Scratch,
+    worker: u8,
+    left: u64,
+) -> Result<(), AllocError>
+    requires begun { HasBegun book.old layer.now }
+    requires worker { worker < book.old.workers }
+    requires pruner_of_level { pruner.now ≡ layer.now.level }
+    requires room { scratch.old.size ≡ length layer.now.level.board.cells }
+    ensures still { OnOk result (IsStill layer.now book.old book.new) }
+    ensures size { scratch.new.size ≡ scratch.old.size }
+{
+    book.tell();
+    layer.tell();
+    let most = book.positions().saturating_add(left);
+    book.reopen();
+    do_ranks(book, layer, pruner, scratch, worker, most)?;
+    Ok(())
+}
+
+// What the limit leaves over all the books; `None` where one of them is over, or all of them together hold more positions.
+fn left_of(books: &mut [Book], limit: u32) -> Option<u64>
+    requires few { length books.old ≤ MAX_SHARES }
+    ensures passed { IfNone result (PassTogether limit books.new) }
+    ensures same { books.new ≡ books.old }
+{
+    let all = count_all(books);
+    if is_one_over(books) {
+        return None;
+    }
+    if all > u64::from(limit) {
+        return None;
+    }
+    Some(u64::from(limit) - all)
+}
+
+// Whether one of the books is over.
+fn is_one_over(books: &[Book]) -> bool
+    ensures { result ≡ true → IsOneOver books.now }
+{
+    for place in 0..books.len() {
+        if books[place].is_over() {
+            return true;
+        }
+    }
+    false
+}
+
+// How many positions all the books hold together.
+fn count_all(books: &mut [Book]) -> u64
+    requires few { length books.old ≤ MAX_SHARES }
+    ensures lawful { AreLawfulBooks books.new }
+    ensures count { result ≡ all_held books.new }
+    ensures same { books.new ≡ books.old }
+{
+    let mut all = 0;
+    for place in 0..books.len() {
+        books[place].tell();
+        all += books[place].positions();
+    }
+    all
+}
