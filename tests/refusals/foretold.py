@@ -91,12 +91,19 @@ def numbers(text):
     return "".join(f" {byte}" for byte in text)
 
 
-def read():
-    line = "answer"
+def entries():
+    """What is printed of each board of the collection."""
     for board in formats.boards_of(BOARDS):
         said = board.fault.split()[1] if board.fault else f"{board.height}x{board.width} {len(board.boxes)} boxes"
-        line += f" line {board.first} {said}{numbers(board.name)}"
-    return [line]
+        yield f" line {board.first} {said}{numbers(board.name)}"
+
+
+def read():
+    return ["answer" + "".join(entries())]
+
+
+def next_board():
+    return [*("answer" + entry for entry in entries()), "answer None"]
 
 
 def written(text):
@@ -159,4 +166,4 @@ def quiet():
 # each call, with what it prints and whether it takes memory; what takes none goes on where all requests are refused from some point on
 CALLS = {"begin": (begin, True), "hand_back": (hand_back, True), "close": (close, True), "close_turned": (close_turned, True),
          "join": (lambda: join(1), True), "join_shares": (lambda: join(3), True), "join_stretches": (lambda: join(3), True), "ledger": (ledger, True), "read": (read, True),
-         "write_level": (write_level, True), "parse": (parse, True), "write_moves": (write_moves, True), "walk": (walk, True), "quiet": (quiet, False)}
+         "next_board": (next_board, True), "write_level": (write_level, True), "parse": (parse, True), "write_moves": (write_moves, True), "walk": (walk, True), "quiet": (quiet, False)}

@@ -8,7 +8,7 @@ use area::Scratch;
 use grid::{Dir, Letter, Level, Moves, Square, State};
 use lurd::LurdFault;
 use std::alloc::Global;
-use xsb::{Entry, ReadFault};
+use xsb::{Collection, Entry, ReadFault};
 
 /// Two boards with names, one of which has a fault.
 const BOARDS: &[u8] = b"; one\n5#|#@$.#|5#\n\n####\n#@$.\n####\nTitle: two\n";
@@ -33,6 +33,38 @@ fn is_read_refused<R: Print>(rt: &R, answer: &Result<Vec<Entry>, ReadFault>) -> 
         Err(fault) => {
             told::refusal(rt, fault)?;
             Some(*fault == ReadFault::OutOfMemory)
+        }
+    }
+}
+
+// How often a board of the collection is asked for: once for each, once for none, and once more where memory is refused.
+const ASKED: u8 = 4;
+
+/// Reads the collection board by board.
+pub(crate) fn next_board<R: Print>(rt: &R, alloc: Global) -> Option<()> {
+    let mut boards = Collection::of(BOARDS).ok()?;
+    for _ in 0..ASKED {
+        if !is_asked_on(rt, alloc, &mut boards)? {
+            break;
+        }
+    }
+    Some(())
+}
+
+// Asks for the next board, prints the answer, and says whether to ask once more.
+fn is_asked_on<R: Print>(rt: &R, alloc: Global, boards: &mut Collection<'_>) -> Option<bool> {
+    match boards.next_board(alloc) {
+        Ok(Some(board)) => {
+            told::answer_board(rt, &board)?;
+            Some(true)
+        }
+        Ok(None) => {
+            told::answer_none(rt)?;
+            Some(false)
+        }
+        Err(fault) => {
+            told::refusal(rt, &fault)?;
+            Some(true)
         }
     }
 }

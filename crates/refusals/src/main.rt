@@ -36,6 +36,7 @@ fn perform<R: Print>(rt: &R, alloc: Global, call: &str) -> Option<()> {
         "join_stretches" => books::join_stretches(rt, alloc),
         "ledger" => books::ledger(rt, alloc),
         "read" => letters::read(rt, alloc),
+        "next_board" => letters::next_board(rt, alloc),
         "write_level" => letters::write_level(rt, alloc),
         "parse" => letters::parse(rt, alloc),
         "write_moves" => letters::write_moves(rt, alloc),

@@ -1,8 +1,8 @@
 //! Prints what a call answered and what it left, by public readers alone, so that the lines can be foretold.
-use grid::{Dir, Letter, Level, Moves, Position, Push};
+use grid::{Dir, Letter, Moves, Position, Push};
 use layers::{Book, Layer, Parcel};
 use std::fmt::Debug;
-use xsb::Entry;
+use xsb::{BoardEntry, Entry};
 
 /// Prints an answer.
 pub(crate) fn answer<R: Print, T: Debug>(rt: &R, answer: &T) -> Option<()> {
@@ -141,16 +141,32 @@ fn show_entry<R: Print>(rt: &R, entry: &Entry) -> Option<()> {
     let line = entry.first_line;
     print!(rt; " line {line}").ok()?;
     match &entry.board {
-        Ok(level) => show_level(rt, level)?,
+        Ok(level) => show_size(rt, level.rows(), level.cols(), level.boxes())?,
         Err(fault) => print!(rt; " {fault:?}").ok()?,
     }
     show_bytes(rt, entry.name.as_slice())
 }
 
-// Prints a level's size and its number of boxes.
-fn show_level<R: Print>(rt: &R, level: &Level) -> Option<()> {
-    let (rows, cols, boxes) = (level.rows(), level.cols(), level.boxes());
+// Prints a size and a number of boxes.
+fn show_size<R: Print>(rt: &R, rows: usize, cols: usize, boxes: usize) -> Option<()> {
     print!(rt; " {rows}x{cols} {boxes} boxes").ok()
+}
+
+/// Prints a board that was answered: its first line, its size or fault, and the bytes of its name.
+pub(crate) fn answer_board<R: Print>(rt: &R, entry: &BoardEntry) -> Option<()> {
+    let line = entry.first_line;
+    print!(rt; "answer line {line}").ok()?;
+    match &entry.board {
+        Ok(board) => show_size(rt, board.rows(), board.cols(), board.boxes())?,
+        Err(fault) => print!(rt; " {fault:?}").ok()?,
+    }
+    show_bytes(rt, entry.name.as_slice())?;
+    println!(rt; "").ok()
+}
+
+/// Prints that there was nothing to answer.
+pub(crate) fn answer_none<R: Print>(rt: &R) -> Option<()> {
+    println!(rt; "answer None").ok()
 }
 
 /// Prints moves under a name, a letter for each.

@@ -59,13 +59,7 @@ fn with_scratch<'a>(
     requires room { scratch.old.size ≡ length layer.now.level.board.cells }
 {
     let pruner = Pruner::of(alloc, layer.level(), layer.cap()).ok()?;
-    Some(expand_over(
-        layer.level(),
-        layer,
-        &pruner,
-        rank,
-        scratch,
-    ))
+    Some(expand_over(layer.level(), layer, &pruner, rank, scratch))
 }
 
 /// Hands a rank of a layer back to a book.
