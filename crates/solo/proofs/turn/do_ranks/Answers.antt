@@ -53,9 +53,8 @@ loop-book-preserved c =
       size = c.expand_over_into.ensures.size ∙ c.loop-book.invariant.size;
     }
 
-pub expand_over_into-requires-clause-within : goal.expand_over_into-requires-clause-within
-expand_over_into-requires-clause-within c =
+pub returns-then-positions_at_least-most-clause-credited : goal.returns-then-positions_at_least-most-clause-credited
+returns-then-positions_at_least-most-clause-credited c =
     let book = c.loop-book.book in let parcel = c.loop-book.parcel in let after = c.enter.new.book in
     let entered : after ≡ with_parcel book c.args.worker parcel = subst (λ within. MatchBool within (after ≡ with_parcel book c.args.worker parcel) (after ≡ with_over book)) c.if-not-branch.false c.in_ok-enter.ensures.ok in
-    let still = done_still c.args.book.now book after c.args.layer.now parcel c.args.worker c.loop-book.invariant.due entered in
-    omega (arith, slice_get_within after.done c.in-Some-claim.claim.rank false c.in-Some-claim.ensures.1.1, still.ranks)
+    by_both c.args.worker c.args.book.now book after c.loop-book.invariant.credited (by_parcel c.args.worker book after parcel c.loop-book.invariant.due.free entered)
