@@ -8,6 +8,13 @@ SIZE = 1 << 20
 MOST = 1 << 24
 ONE = b"#####\n#@$.#\n#####\n"
 
+# and so many bytes for each worker of a search, beside what README says of its limit
+A_WORKER = 1_500_000
+
+# an open room of 22 rows and columns with 11 boxes, which has far more positions than the default limit
+WIDE_ROWS = [" " * 20] * 7 + ["    $$$$$$$$$$$     "] + [" " * 20] * 5 + ["    ...........     "] + [" " * 20] * 5 + [" " * 19 + "@"]
+WIDE_ROOM = "\n".join(["#" * 22, *(f"#{row}#" for row in WIDE_ROWS), "#" * 22, ""]).encode()
+
 # a level of 255 rows and 255 columns in as few bytes as there are: most rows have one wall, and floor is filled in
 MOST_CELLS = b"255#|#@*#|4#|" + b"#|" * 251 + b"#\n\n"
 PARTS = {

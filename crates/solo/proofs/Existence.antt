@@ -8,7 +8,8 @@ use Rattle.grid.specs.Board.{Board, Scene, IsSolved, push_cmp}
 use Rattle.grid.specs.Lawful.{IsLevel}
 use Rattle.layers.specs.Layered.{IsLead}
 use Rattle.layers.specs.Reaching.{AreLayersOf, IsLayerOf, Reaches, total}
-use Rattle.layers.specs.Tasks.{Admits, Task}
+use Rattle.layers.specs.Capping.{Admits}
+use Rattle.layers.specs.Tasks.{Task}
 use Rattle.layers.proofs.lemmas.Books.{level_laws}
 use Rattle.layers.proofs.lemmas.Orders.{shortlex_shorter}
 use Rattle.grid.specs.Plays.{shortlex}

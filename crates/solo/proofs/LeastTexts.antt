@@ -11,7 +11,7 @@ use Rattle.grid.specs.Plays.{Play, Any, shortlex, dirs_of, letters_of}
 use Rattle.grid.specs.declared.moves.Letter.{Letter}
 use Rattle.grid.proofs.lemmas.Orders.{nat_cmp-less, nat_cmp-same}
 use Rattle.grid.proofs.lemmas.Plays.{play_any}
-use Rattle.layers.specs.Reaching.{IsLeadOf}
+use Rattle.layers.specs.Leads.{IsLeadOf}
 use Rattle.layers.proofs.lemmas.Orders.{shortlex_same, shortlex_shorter}
 use Rattle.solo.specs.Leads.{WritesLead}
 use Rattle.solo.proofs.LeastPlays.{dirs_written}

@@ -23,7 +23,8 @@ use Rattle.layers.specs.Layered.{IsIn}
 use Rattle.layers.specs.Openings.{Entry, IsNext, Origin, origin_cmp}
 use Rattle.layers.specs.Origins.{IsSuccessor}
 use Rattle.layers.specs.Reaching.{AreLayersOf, IsLayerOf}
-use Rattle.layers.specs.Tasks.{Admits, Task}
+use Rattle.layers.specs.Capping.{Admits}
+use Rattle.layers.specs.Tasks.{Task}
 use Rattle.layers.proofs.lemmas.Books.{level_laws, one_successor, read_at}
 use Rattle.layers.proofs.lemmas.Exchange.{next_layer}
 use Rattle.layers.proofs.lemmas.Lists.{at-push, at_before, at_seam}

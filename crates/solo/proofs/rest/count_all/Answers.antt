@@ -1,9 +1,9 @@
-use Rattle.std.proofs.Common.{◌≡◌, ◌<◌, ◌≤◌, length, get_or, set, Some, sym, ap, subst, ◌∙◌, arith}
+use Rattle.std.proofs.Common.{◌≡◌, ◌<◌, length, get_or, set, sym, ap, subst, ◌∙◌, arith}
 use Rattle.std.specs.Prelude.{slice_get}
 use Rattle.std.proofs.lemmas.List.{set-get_or}
 use Rattle.std.proofs.lemmas.Option.{same_Some, slice_get-get_or, slice_get_within}
-use Rattle.layers.specs.BookView.{AreLawfulBooks, BookView, IsLawfulBook}
-use Rattle.layers.specs.Holding.{all_held, held}
+use Rattle.layers.specs.BookView.{AreLawfulBooks, IsLawfulBook}
+use Rattle.layers.specs.Holding.{all_held}
 use Rattle.solo.proofs.Counting.{held_few, held_more, lawful_more, take_whole}
 use Rattle.solo.proofs.rest.count_all.Goals as goal
 
