@@ -19,7 +19,8 @@ use Rattle.xsb.specs.Collection.{Found, IsCollection, IsJudged}
 use Rattle.xsb.specs.Written.{rows_from}
 use Rattle.sokopar.specs.DeadMap.{IsMark, wall, goal, dead, other, AreMarks, IsDeadReport, marked_row}
 use Rattle.sokopar.specs.Listing.{Listed, IsListed, IsListing, level_at}
-use Rattle.sokopar.specs.OneReport.{IsOneAtMost, IsOnlyReport}
+use Rattle.sokopar.specs.OneAtMost.{IsOneAtMost}
+use Rattle.sokopar.specs.OneReport.{IsOnlyReport}
 use Rattle.sokopar.specs.Report.{Report, IsReplayOf, IsCheckReport, IsShowReport, IsReplayReport, ReplaysOn, ReportsOn, IsShown, check_report, verdict_report, text_fault_report}
 use Rattle.sokopar.specs.Solving.{IsSolveOf, IsSolveReport, answer_report}
 use Rattle.sokopar.specs.inside.Parts.{MapsOn, SolvesOn}

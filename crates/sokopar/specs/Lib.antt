@@ -6,5 +6,6 @@ pub mod Report
 pub mod Runs
 pub mod Solving
 pub mod OneReport
+pub mod OneAtMost
 pub mod Retelling
 pub mod inside

@@ -3,10 +3,6 @@ use Rattle.std.specs.Prelude.{◌≡◌, ℕ, List, Option}
 use Rattle.sokopar.specs.Report.{Report}
 use Rattle.sokopar.specs.Solving.{IsSolveReport}
 
--- two reports that are so are one: the same bytes and the same status
-abbrev pub IsOneAtMost : (Report → Type 0) → Type 0
-IsOneAtMost Is = (report other : Report) → Is report → Is other → other ≡ report
-
 -- a report of these bytes, and the only one
 pub record IsOnlyReport (IsReport : List ℕ → Report → Type 0) (bytes : List ℕ) (report : Report) : Type 0 where
   pub is : IsReport bytes report

@@ -6,7 +6,7 @@ ghost use Rattle.lurd.specs.Verdict.{IsVerdict};
 ghost use Rattle.layers.specs.Capping.{capped};
 ghost use Rattle.solo.specs.Answers.{IsAnswer};
 ghost use Rattle.sokopar.specs.DeadMap.{IsDeadReport};
-ghost use Rattle.sokopar.specs.OneReport.{IsOneAtMost};
+ghost use Rattle.sokopar.specs.OneAtMost.{IsOneAtMost};
 ghost use Rattle.sokopar.specs.Report.{Report, IsCheckReport, IsShowReport, IsReplayReport};
 ghost use Rattle.sokopar.specs.Solving.{IsSolveReport};
 ghost use Rattle.sokopar.specs.Retelling.{ReplaysAsTold};

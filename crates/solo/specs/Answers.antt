@@ -35,7 +35,7 @@ IsSolutionOf task ds ps = IsSolution task.board ds ps × KeepsCap task.cap (leng
 abbrev pub HaveTotal : Task → ℕ → ℕ → Type 0
 HaveTotal task n positions = (layers : List (List Scene)) × AreLayersOf task layers × (length layers ≡ n) × (total layers ≡ positions)
 
--- all layers of the level together have so many positions: layer n is the first without one, so all later ones are empty too
+-- all layers of the level under its cap together have so many positions; layer n is the first empty one, so later ones are too
 pub record HasInAll (task : Task) (positions : ℕ) : Type 0 where
   pub layers : List (List Scene)
   pub are : AreLayersOf task layers
