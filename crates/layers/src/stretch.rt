@@ -73,14 +73,16 @@ impl Stretch {
         let starts = if part == 0 {
             vec![in alloc; 0; books.len()]?
         } else {
-            places_at(alloc, books, bound_at(books, part, parts))?
+            places_at(alloc, books, &bound_at(books, part, parts))?
         };
         let bound = if part + 1 < parts {
             bound_at(books, part + 1, parts)
         } else {
             None
         };
-        let room = count_of(books) / parts;
+        // room for each position of it and no more, since the stretches stand beside the layer that they become
+        let ends = places_at(alloc, books, &bound)?;
+        let room = sum_of(ends.as_slice()).saturating_sub(sum_of(starts.as_slice()));
         Ok(Stretch {
             starts,
             bound,
@@ -252,6 +254,15 @@ fn count_of(books: &[Book]) -> usize {
     count
 }
 
+// The sum of places.
+fn sum_of(places: &[usize]) -> usize {
+    let mut sum: usize = 0;
+    for place in places {
+        sum = sum.saturating_add(*place);
+    }
+    sum
+}
+
 // The origin of the position with which a part of so many begins, by the book with the most positions.
 fn bound_at(books: &[Book], part: usize, parts: usize) -> Option<Origin>
     requires { 1 ≤ parts }
@@ -269,12 +280,12 @@ fn bound_at(books: &[Book], part: usize, parts: usize) -> Option<Origin>
 fn places_at(
     alloc: Global,
     books: &[Book],
-    bound: Option<Origin>,
+    bound: &Option<Origin>,
 ) -> Result<Vec<usize>, AllocError> {
     let mut places = Vec::with_capacity(alloc, books.len())?;
     for book in books {
         let place = match bound {
-            Some(bound) => book.last_before(bound),
+            Some(bound) => book.last_before(*bound),
             None => book.last_len(),
         };
         places.push(place)?;
