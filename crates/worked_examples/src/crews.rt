@@ -19,7 +19,7 @@ use std::thread;
 use std::thread::Threads;
 
 /// How often a worker that is held looks for the one that frees it.
-const TURNS: u32 = 1_000_000;
+const TURNS: u32 = 20_000_000;
 
 /// The layer in which a worker is held.
 const HELD_LAYER: u64 = 1;

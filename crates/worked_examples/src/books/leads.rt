@@ -60,7 +60,13 @@ fn lead_to(rt: &impl Abort, alloc: Global, layers: &[Layer]) -> Vec<u8>
 #[test]
 fn the_box_is_led_there_and_back(rt: HostRuntime) {
     let alloc = rt.alloc();
-    for (count, play) in [(1, ""), (2, "R"), (3, "RR"), (4, "RRdrruL"), (7, "RRdrruLLLL")] {
+    for (count, play) in [
+        (1, ""),
+        (2, "R"),
+        (3, "RR"),
+        (4, "RRdrruL"),
+        (7, "RRdrruLLLL"),
+    ] {
         let mut book = book_of(&rt, alloc, THERE_AND_BACK, AMPLE);
         let layers = first_layers(&rt, alloc, &mut book, count);
         let text = lead_to(&rt, alloc, layers.as_slice());

@@ -23,7 +23,7 @@ const PUSHES: u64 = 8;
 const POSITIONS: u64 = 1053;
 
 /// How often a worker that is held looks whether it may go on.
-const TURNS: u32 = 1_000_000;
+const TURNS: u32 = 20_000_000;
 
 /// A gate that counts the events of each worker in one layer. There it holds each worker at its first event until all of
 /// them have had one, and one of them, whose turn it is, until more events came than the layer has ranks: so another one has
@@ -58,10 +58,10 @@ impl Meeting {
         }
     }
 
-    /// Waits until the counter has come so far, for as many turns as there are at most.
+    /// Waits until the counter has come so far or another wait was in vain, for as many turns as there are at most.
     fn hold(&self, counter: &AtomicU64, least: u64) {
         for _ in 0..TURNS {
-            if counter.load(Ordering::SeqCst) >= least {
+            if counter.load(Ordering::SeqCst) >= least || self.ran_out.load(Ordering::SeqCst) == 1 {
                 return;
             }
             thread::yield_now();

@@ -1,4 +1,4 @@
-//! The engine hands on how many locks it was told: what passes the gate of a run tells their number.
+//! The engine hands on how many workers and locks it was told: what passes the gate of a run tells their numbers.
 ghost use Rattle.std.specs.Prelude.{◌≡◌, false};
 
 use super::solved::DEFAULT_LIMIT;
@@ -11,22 +11,42 @@ use std::alloc::Global;
 use std::process::Abort;
 use std::sync::Wait;
 use std::sync::atomic::{AtomicU64, Ordering};
+use std::thread;
 use std::thread::Threads;
 
 /// What is told of the level.
 const REPORT: &[u8] = b"solved 2 pushes, 3 moves, 4 positions\nLrR\n";
 
-/// A gate that counts what passes in each of the first two layers, and in all later ones together.
+/// How often a worker that is held looks whether it may go on.
+const TURNS: u32 = 20_000_000;
+
+/// A gate that counts what passes in each of the first two layers, and in all later ones together. In layer 1 it holds each
+/// worker at its first event until two of them have had one.
 #[derive(Drop)]
 struct Counting {
     passed: [AtomicU64; 3],
+    came: AtomicU64,
+    ran_out: AtomicU64,
 }
 
 impl Counting {
     fn new() -> Counting {
         Counting {
             passed: [AtomicU64::new(0), AtomicU64::new(0), AtomicU64::new(0)],
+            came: AtomicU64::new(0),
+            ran_out: AtomicU64::new(0),
         }
+    }
+
+    /// Waits until two workers came or another wait was in vain, for as many turns as there are at most.
+    fn hold(&self) {
+        for _ in 0..TURNS {
+            if self.came.load(Ordering::SeqCst) >= 2 || self.ran_out.load(Ordering::SeqCst) == 1 {
+                return;
+            }
+            thread::yield_now();
+        }
+        self.ran_out.store(1, Ordering::SeqCst);
     }
 
     fn counts(&self) -> [u64; 3] {
@@ -41,9 +61,13 @@ impl Counting {
 impl Gate for Counting {
     ghost may_stop = { false };
 
-    fn pass(&self, layer: u64, _worker: u8, _nth: u64) -> bool {
+    fn pass(&self, layer: u64, _worker: u8, nth: u64) -> bool {
         let place = layer.min(2) as usize;
         self.passed[place].fetch_add(1, Ordering::SeqCst);
+        if layer == 1 && nth == 1 {
+            self.came.fetch_add(1, Ordering::SeqCst);
+            self.hold();
+        }
         true
     }
 }
@@ -69,13 +93,18 @@ fn passed<R: Threads + Wait + Sync + Abort>(rt: &R, alloc: Global, locks: u8) ->
     );
     assert_eq!(rt; status, Ok(0));
     assert_eq!(rt; paper.text.as_slice(), REPORT);
+    assert_eq!(rt;
+        gate.ran_out.load(Ordering::SeqCst),
+        0,
+        "two workers at once"
+    );
     gate.counts()
 }
 
 // The first layer has one position and the second two. Each is drawn once, and handed back once to each of the books, of
 // which there are as many as locks.
 #[test]
-fn each_lock_has_a_book(rt: HostRuntime) {
+fn two_workers_meet_and_each_lock_has_a_book(rt: HostRuntime) {
     assert_eq!(&rt; passed(&rt, rt.alloc(), 1), [2, 4, 0]);
     assert_eq!(&rt; passed(&rt, rt.alloc(), 2), [3, 6, 0]);
 }
