@@ -133,6 +133,11 @@ def ledger():
     return ["answer Ok, true, [Some(0), Some(1), None]"]
 
 
+def work():
+    game = Game(THERE_AND_BACK)
+    return [game.left(game.book(0, True)), "answer Ok(())", game.left(game.book(0, True, 1))]
+
+
 def steps(board):
     """What a few steps from the start of a level answer, and whether it is solved after them."""
     boxes, player, lines = set(board.boxes), board.player, []
@@ -166,4 +171,5 @@ def quiet():
 # each call, with what it prints and whether it takes memory; what takes none goes on where all requests are refused from some point on
 CALLS = {"begin": (begin, True), "hand_back": (hand_back, True), "close": (close, True), "close_turned": (close_turned, True),
          "join": (lambda: join(1), True), "join_shares": (lambda: join(3), True), "join_stretches": (lambda: join(3), True), "ledger": (ledger, True), "read": (read, True),
-         "next_board": (next_board, True), "write_level": (write_level, True), "parse": (parse, True), "write_moves": (write_moves, True), "walk": (walk, True), "quiet": (quiet, False)}
+         "next_board": (next_board, True), "write_level": (write_level, True), "parse": (parse, True), "write_moves": (write_moves, True), "walk": (walk, True),
+         "work": (work, True), "quiet": (quiet, False)}

@@ -4,6 +4,7 @@
 #![tactic(auto)]
 
 mod books;
+mod crewed;
 mod letters;
 mod quiet;
 mod told;
@@ -13,6 +14,7 @@ use std::alloc::Global;
 use std::env;
 use std::env::Env;
 use std::process::ExitCode;
+use std::sync::Wait;
 
 /// The status where memory for the values was refused, or no call has the name that was given.
 const NOT_MADE: u8 = 5;
@@ -25,7 +27,7 @@ fn word<R: Env + AllocGlobal>(rt: &R) -> Option<String> {
 }
 
 /// Makes the call of this name; `None` where its values were not made.
-fn perform<R: Print>(rt: &R, alloc: Global, call: &str) -> Option<()> {
+fn perform<R: Print + Wait>(rt: &R, alloc: Global, call: &str) -> Option<()> {
     match call {
         "begin" => books::begin(rt, alloc),
         "hand_back" => books::hand_back(rt, alloc),
@@ -41,6 +43,7 @@ fn perform<R: Print>(rt: &R, alloc: Global, call: &str) -> Option<()> {
         "parse" => letters::parse(rt, alloc),
         "write_moves" => letters::write_moves(rt, alloc),
         "walk" => letters::walk(rt, alloc),
+        "work" => crewed::work_alone(rt, alloc),
         "quiet" => quiet::calls(rt, alloc),
         _ => None,
     }

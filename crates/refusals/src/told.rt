@@ -9,6 +9,11 @@ pub(crate) fn answer<R: Print, T: Debug>(rt: &R, answer: &T) -> Option<()> {
     println!(rt; "answer {answer:?}").ok()
 }
 
+/// Prints that a call was made.
+pub(crate) fn done<R: Print>(rt: &R) -> Option<()> {
+    println!(rt; "answer Ok(())").ok()
+}
+
 /// Prints a refusal.
 pub(crate) fn refusal<R: Print, T: Debug>(rt: &R, fault: &T) -> Option<()> {
     println!(rt; "answer Err({fault:?})").ok()

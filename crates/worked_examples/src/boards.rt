@@ -27,5 +27,10 @@ pub(crate) const APART: &[u8] = b"########\n#@ # $.#\n########\n";
 /// A box over another that has a dead square on each side.
 pub(crate) const STACKED: &[u8] = b"#####\n##.##\n##$##\n# $ #\n# @.#\n#####\n";
 
+/// A room with three boxes. A search of its own, in another language, counted its layers: 1, 9, 34, 87, 162, 221, 233, 187 and
+/// 119 positions, of which one of the last is solved.
+pub(crate) const ROOM: &[u8] =
+    b"#########\n#@      #\n# $ $ $ #\n#       #\n#.  .  .#\n#########\n";
+
 /// Nine lines with two boards, a lawful one and an open one.
 pub(crate) const TWO: &[u8] = b"; one\n#####\n#@$.#\n#####\n\n####\n#@$.\n####\nTitle: two";

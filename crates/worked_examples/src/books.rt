@@ -1,4 +1,5 @@
 //! Worked examples of layers and books.
+mod leads;
 mod orders;
 mod refusals;
 mod shares;

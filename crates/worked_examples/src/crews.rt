@@ -2,6 +2,8 @@
 ghost use Rattle.std.specs.Prelude.{◌≡◌, false};
 
 mod draws;
+mod ended;
+mod events;
 
 use crate::boards::TWO_ENDS;
 use crate::books::level_of;
@@ -17,7 +19,7 @@ use std::thread;
 use std::thread::Threads;
 
 /// How often a worker that is held looks for the one that frees it.
-const TURNS: u32 = 1_000_000;
+const TURNS: u32 = 20_000_000;
 
 /// The layer in which a worker is held.
 const HELD_LAYER: u64 = 1;
@@ -126,6 +128,12 @@ fn held<R: Threads + Wait + Sync + Abort>(
         gate.ran_out.load(Ordering::SeqCst),
         0,
         "the worker that was held is let go"
+    );
+    assert!(rt; gate.held.load(Ordering::SeqCst) < 2, "a worker was held");
+    assert_eq!(rt;
+        gate.freed.load(Ordering::SeqCst),
+        1,
+        "the other one let it go"
     );
     let calls = [
         gate.calls[0].load(Ordering::SeqCst),

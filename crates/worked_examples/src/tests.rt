@@ -3,6 +3,8 @@ mod checked;
 mod failing;
 mod large;
 mod mapped;
+mod once;
+mod passed;
 mod replayed;
 mod shown;
 mod solved;

@@ -2,11 +2,11 @@
 ghost use Rattle.std.specs.Prelude.{◌≡◌};
 ghost use Rattle.claims.specs.Hands.{newcomer};
 
-use crate::boards::TWO_ENDS;
-use crate::books::level_of;
+use crate::boards::{ROOM, TWO_ENDS};
+use crate::books::{AMPLE, book_of, joined, level_of, turn};
 use area::Scratch;
-use claims::{Drawer, Ledger};
-use crew::{End, Free, work};
+use claims::{Drawer, Ledger, PLACES};
+use crew::{End, Free, Gate, work};
 use layers::{Book, Claim, Layer, Pruner, Refusal, expand_over};
 use std::alloc::Global;
 use std::process::Abort;
@@ -14,10 +14,10 @@ use std::slice;
 use std::sync::{Mutex, Wait};
 
 /// The claim of the first rank.
-const FIRST: Claim = Claim { layer: 0, rank: 0 };
+pub(super) const FIRST: Claim = Claim { layer: 0, rank: 0 };
 
 /// A book at work on layer 0, and that layer, which has one position.
-fn begun(rt: &impl Abort, alloc: Global) -> (Book, Layer) {
+pub(super) fn begun(rt: &impl Abort, alloc: Global) -> (Book, Layer) {
     let level = level_of(rt, alloc, TWO_ENDS);
     let mut book = Book::of(alloc, level, None, 1_000_000, 2, 0, 1).expect(rt, "a book");
     let layer = Layer::join(alloc, slice::from_ref(&book)).expect(rt, "a layer");
@@ -26,7 +26,7 @@ fn begun(rt: &impl Abort, alloc: Global) -> (Book, Layer) {
 }
 
 /// A ledger of one number, and two drawers.
-fn one_number(rt: &impl Abort, alloc: Global) -> (Ledger, Drawer, Drawer)
+pub(super) fn one_number(rt: &impl Abort, alloc: Global) -> (Ledger, Drawer, Drawer)
     ensures len { result.0.len ≡ 1 }
     ensures drawers { (result.1 ≡ newcomer result.0) × (result.2 ≡ newcomer result.0) }
 {
@@ -35,19 +35,23 @@ fn one_number(rt: &impl Abort, alloc: Global) -> (Ledger, Drawer, Drawer)
     (ledger, first, second)
 }
 
-/// How worker 0 ends, and the book after it.
-fn worked<R: Wait + Abort>(
+/// How a worker ends that works over a ledger of so many numbers, and the book after it.
+pub(super) fn worked<R: Wait + Abort, G: Gate>(
     rt: &R,
     alloc: Global,
     layer: &Layer,
     book: Book,
     ledger: &Ledger,
     drawer: Drawer,
+    count: u32,
+    worker: u8,
+    gate: &G,
 ) -> (End, Book)
-    requires len { ledger.now.len ≡ 1 }
+    requires len { ledger.now.len ≡ count }
     requires drawer { drawer ≡ newcomer ledger.now }
 {
-    assert!(rt; layer.len() >= 1);
+    assert!(rt; layer.len() >= u64::from(count));
+    assert!(rt; worker < PLACES);
     let pruner = Pruner::of(alloc, layer.level(), layer.cap()).expect(rt, "memory");
     let mut scratch = Scratch::new(alloc, layer.level()).expect(rt, "memory");
     let lock = Mutex::new(book);
@@ -59,15 +63,20 @@ fn worked<R: Wait + Abort>(
         slice::from_ref(&lock),
         ledger,
         &mut own,
-        0,
+        worker,
         &mut scratch,
-        &Free,
+        gate,
     );
     (end, lock.into_inner())
 }
 
 /// What the book answers where the parcel of the first rank is handed back.
-fn again(rt: &impl Abort, alloc: Global, layer: &Layer, book: &mut Book) -> Result<(), Refusal> {
+pub(super) fn again(
+    rt: &impl Abort,
+    alloc: Global,
+    layer: &Layer,
+    book: &mut Book,
+) -> Result<(), Refusal> {
     assert!(rt; layer.len() >= 1);
     assert!(rt; book.workers() >= 1);
     let pruner = Pruner::of(alloc, layer.level(), layer.cap()).expect(rt, "memory");
@@ -82,7 +91,7 @@ fn a_worker_draws_its_ranks_from_the_ledger(rt: HostRuntime) {
     let (book, layer) = begun(&rt, alloc);
     let (ledger, mut other, own) = one_number(&rt, alloc);
     assert!(rt; ledger.enrol(&mut other, 1) && ledger.draw(&mut other) == Some(0));
-    let (end, mut book) = worked(&rt, alloc, &layer, book, &ledger, own);
+    let (end, mut book) = worked(&rt, alloc, &layer, book, &ledger, own, 1, 0, &Free);
     assert!(rt; end == End::Drained);
     assert!(rt; book.claim() == Some(FIRST), "the book is as it was");
 }
@@ -92,12 +101,43 @@ fn a_worker_does_what_it_drew(rt: HostRuntime) {
     let alloc = rt.alloc();
     let (book, layer) = begun(&rt, alloc);
     let (ledger, _, own) = one_number(&rt, alloc);
-    let (end, mut book) = worked(&rt, alloc, &layer, book, &ledger, own);
+    let (end, mut book) = worked(&rt, alloc, &layer, book, &ledger, own, 1, 0, &Free);
     assert!(rt; end == End::Drained);
     assert!(rt; book.claim().is_none());
     assert!(rt; again(&rt, alloc, &layer, &mut book) == Err(Refusal::Double));
     let closed = book.close().expect(&rt, "a close");
     assert!(rt; closed.layer == 1 && closed.count == 2);
+}
+
+/// How a worker ends that is alone with a layer, and the book after it.
+fn alone<R: Wait + Abort>(rt: &R, alloc: Global, layer: &Layer, book: Book) -> (End, Book) {
+    assert!(rt; layer.len() <= 1000);
+    let count = layer.len() as u32;
+    let (ledger, own) = Ledger::new(alloc, count).expect(rt, "memory");
+    worked(rt, alloc, layer, book, &ledger, own, count, 0, &Free)
+}
+
+/// A book of the room at work on its layer 3, and that layer, which has 87 positions.
+fn begun_room(rt: &impl Abort, alloc: Global) -> (Book, Layer) {
+    let mut book = book_of(rt, alloc, ROOM, AMPLE);
+    for _ in 0..3 {
+        turn(rt, alloc, &mut book);
+    }
+    let layer = joined(rt, alloc, &book);
+    book.begin(&layer).expect(rt, "a begin");
+    (book, layer)
+}
+
+#[test]
+fn a_worker_hands_back_each_rank_of_a_large_layer(rt: HostRuntime) {
+    let alloc = rt.alloc();
+    let (book, layer) = begun_room(&rt, alloc);
+    assert!(rt; layer.len() == 87);
+    let (end, mut book) = alone(&rt, alloc, &layer, book);
+    assert!(rt; end == End::Drained);
+    assert!(rt; book.claim().is_none());
+    let closed = book.close().expect(&rt, "a close");
+    assert!(rt; closed.layer == 4 && closed.count == 162);
 }
 
 #[test]
@@ -106,7 +146,7 @@ fn a_place_is_taken(rt: HostRuntime) {
     let (book, layer) = begun(&rt, alloc);
     let (ledger, mut other, own) = one_number(&rt, alloc);
     assert!(rt; ledger.enrol(&mut other, 0));
-    let (end, mut book) = worked(&rt, alloc, &layer, book, &ledger, own);
+    let (end, mut book) = worked(&rt, alloc, &layer, book, &ledger, own, 1, 0, &Free);
     assert!(rt; end == End::NoPlace);
     assert!(rt; book.claim() == Some(FIRST), "the book is as it was");
     assert!(rt;

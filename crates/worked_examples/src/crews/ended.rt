@@ -1,0 +1,114 @@
+//! How a worker ends where its gate says no, and where a book is not its own or refuses its parcel.
+ghost use Rattle.std.specs.Prelude.{◌≡◌, true};
+ghost use Rattle.claims.specs.Hands.{newcomer};
+
+use super::draws::{FIRST, again, begun, one_number, worked};
+use crate::boards::{ONE, TWO_ENDS};
+use crate::books::{AMPLE, book_of, level_of, turn};
+use crew::{End, Free, Gate};
+use layers::{Book, Layer, Refusal};
+use std::alloc::Global;
+use std::process::Abort;
+use std::slice;
+use std::sync::Wait;
+
+/// A gate that says no to an event of this number.
+#[derive(Drop)]
+struct Closed {
+    nth: u64,
+}
+
+impl Gate for Closed {
+    ghost may_stop = { true };
+
+    fn pass(&self, _layer: u64, _worker: u8, nth: u64) -> bool {
+        nth != self.nth
+    }
+}
+
+/// A book of one share of a level, made for so many workers and with this limit, at work on its layer 0.
+fn book_for(rt: &impl Abort, alloc: Global, text: &[u8], limit: u32, workers: u8) -> Book {
+    assert!(rt; limit >= 1);
+    assert!(rt; workers >= 1 && workers <= 16);
+    let level = level_of(rt, alloc, text);
+    let mut book = Book::of(alloc, level, None, limit, workers, 0, 1).expect(rt, "a book");
+    let layer = Layer::join(alloc, slice::from_ref(&book)).expect(rt, "a layer");
+    book.begin(&layer).expect(rt, "a begin");
+    book
+}
+
+/// How a worker of this number ends that works on layer 0 of two ends with this book, and whether the book is as it was.
+fn ended<R: Wait + Abort>(rt: &R, alloc: Global, book: Book, worker: u8) -> (End, bool) {
+    let (_, layer) = begun(rt, alloc);
+    let (ledger, _, own) = one_number(rt, alloc);
+    let (end, mut book) = worked(rt, alloc, &layer, book, &ledger, own, 1, worker, &Free);
+    let kept = book.claim() == Some(FIRST);
+    (end, kept)
+}
+
+#[test]
+fn a_gate_stops_a_worker_that_drew(rt: HostRuntime) {
+    let alloc = rt.alloc();
+    let (book, layer) = begun(&rt, alloc);
+    let (ledger, mut other, own) = one_number(&rt, alloc);
+    let gate = Closed { nth: 1 };
+    let (end, mut book) = worked(&rt, alloc, &layer, book, &ledger, own, 1, 0, &gate);
+    assert!(rt; end == End::Stopped);
+    assert!(rt; book.claim() == Some(FIRST), "the book is as it was");
+    assert!(rt; ledger.enrol(&mut other, 1));
+    assert!(rt; ledger.draw(&mut other).is_none(), "the rank was drawn");
+}
+
+#[test]
+fn a_gate_stops_a_worker_that_handed_back(rt: HostRuntime) {
+    let alloc = rt.alloc();
+    let (book, layer) = begun(&rt, alloc);
+    let (ledger, _, own) = one_number(&rt, alloc);
+    let gate = Closed { nth: 2 };
+    let (end, mut book) = worked(&rt, alloc, &layer, book, &ledger, own, 1, 0, &gate);
+    assert!(rt; end == End::Stopped);
+    assert!(rt; again(&rt, alloc, &layer, &mut book) == Err(Refusal::Double));
+}
+
+#[test]
+fn a_book_of_another_level_is_foreign(rt: HostRuntime) {
+    let alloc = rt.alloc();
+    let book = book_for(&rt, alloc, ONE, AMPLE, 2);
+    assert!(rt; ended(&rt, alloc, book, 0) == (End::Foreign, true));
+}
+
+#[test]
+fn a_book_at_another_layer_is_foreign(rt: HostRuntime) {
+    let alloc = rt.alloc();
+    let mut book = book_of(&rt, alloc, TWO_ENDS, AMPLE);
+    turn(&rt, alloc, &mut book);
+    let (end, _) = ended(&rt, alloc, book, 0);
+    assert!(rt; end == End::Foreign);
+}
+
+#[test]
+fn a_book_made_for_fewer_workers_is_foreign(rt: HostRuntime) {
+    let alloc = rt.alloc();
+    let book = book_for(&rt, alloc, TWO_ENDS, AMPLE, 2);
+    assert!(rt; ended(&rt, alloc, book, 2) == (End::Foreign, true));
+}
+
+#[test]
+fn a_book_at_its_limit_refuses(rt: HostRuntime) {
+    let alloc = rt.alloc();
+    // layer 0 has one position, and two come from it
+    let book = book_for(&rt, alloc, TWO_ENDS, 2, 2);
+    let (end, _) = ended(&rt, alloc, book, 0);
+    assert!(rt; end == End::Refused(Refusal::Over));
+    let book = book_for(&rt, alloc, TWO_ENDS, 3, 2);
+    assert!(rt; ended(&rt, alloc, book, 0) == (End::Drained, false));
+}
+
+#[test]
+fn a_rank_that_was_handed_back_is_refused(rt: HostRuntime) {
+    let alloc = rt.alloc();
+    let (mut book, layer) = begun(&rt, alloc);
+    again(&rt, alloc, &layer, &mut book).expect(&rt, "an accepted parcel");
+    let (end, _) = ended(&rt, alloc, book, 0);
+    assert!(rt; end == End::Refused(Refusal::Double));
+}

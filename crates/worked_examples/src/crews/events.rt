@@ -1,0 +1,199 @@
+//! The events of each worker in a layer of some hundred ranks.
+ghost use Rattle.std.specs.Prelude.{◌≡◌, false};
+
+use crate::boards::ROOM;
+use crate::books::level_of;
+use crew::{Config, Gate, solve};
+use solo::Answer;
+use std::alloc::Global;
+use std::process::Abort;
+use std::sync::Wait;
+use std::sync::atomic::{AtomicU64, Ordering};
+use std::thread;
+use std::thread::Threads;
+
+/// The layer whose events are counted, and how many ranks it has.
+const COUNTED: u64 = 6;
+
+const RANKS: u64 = 233;
+
+/// How many pushes the room takes, and how many positions are needed to know.
+const PUSHES: u64 = 8;
+
+const POSITIONS: u64 = 1053;
+
+/// How often a worker that is held looks whether it may go on.
+const TURNS: u32 = 20_000_000;
+
+/// A gate that counts the events of each worker in one layer. There it holds each worker at its first event until all of
+/// them have had one, and one of them, whose turn it is, until more events came than the layer has ranks: so another one has
+/// handed a parcel back meanwhile.
+#[derive(Drop)]
+struct Meeting {
+    turn: u64,
+    workers: u64,
+    events: AtomicU64,
+    came: AtomicU64,
+    let_go: AtomicU64,
+    ran_out: AtomicU64,
+    out_of_order: AtomicU64,
+    last: Vec<AtomicU64>,
+}
+
+impl Meeting {
+    fn new(rt: &impl Abort, alloc: Global, workers: u8, turn: u8) -> Meeting {
+        let mut last = Vec::new(alloc);
+        for _ in 0..workers {
+            last.push(AtomicU64::new(0)).expect(rt, "memory");
+        }
+        Meeting {
+            turn: turn as u64,
+            workers: workers as u64,
+            events: AtomicU64::new(0),
+            came: AtomicU64::new(0),
+            let_go: AtomicU64::new(0),
+            ran_out: AtomicU64::new(0),
+            out_of_order: AtomicU64::new(0),
+            last,
+        }
+    }
+
+    /// Waits until the counter has come so far or another wait was in vain, for as many turns as there are at most.
+    fn hold(&self, counter: &AtomicU64, least: u64) {
+        for _ in 0..TURNS {
+            if counter.load(Ordering::SeqCst) >= least || self.ran_out.load(Ordering::SeqCst) == 1 {
+                return;
+            }
+            thread::yield_now();
+        }
+        self.ran_out.store(1, Ordering::SeqCst);
+    }
+
+    /// Keeps the number of a worker's event. It is to be one more than the one before, from 1 on.
+    fn note(&self, worker: u8, nth: u64) {
+        let place = worker as usize;
+        if place >= self.last.len() {
+            self.out_of_order.store(1, Ordering::SeqCst);
+            return;
+        }
+        let before = self.last[place].swap(nth, Ordering::SeqCst);
+        if before.saturating_add(1) != nth {
+            self.out_of_order.store(1, Ordering::SeqCst);
+        }
+    }
+}
+
+impl Gate for Meeting {
+    ghost may_stop = { false };
+
+    fn pass(&self, layer: u64, worker: u8, nth: u64) -> bool {
+        if layer != COUNTED {
+            return true;
+        }
+        self.note(worker, nth);
+        self.events.fetch_add(1, Ordering::SeqCst);
+        if nth == 1 {
+            self.came.fetch_add(1, Ordering::SeqCst);
+            self.hold(&self.came, self.workers);
+            if worker as u64 == self.turn && self.workers > 1 {
+                self.hold(&self.events, RANKS + 1);
+                self.let_go.fetch_add(1, Ordering::SeqCst);
+            }
+        }
+        true
+    }
+}
+
+/// Checks the events of a run in which it is the turn of one worker to be held.
+fn check<R: Threads + Wait + Sync + Abort>(
+    rt: &R,
+    alloc: Global,
+    workers: u8,
+    locks: u8,
+    turn: u8,
+) {
+    let level = level_of(rt, alloc, ROOM);
+    let gate = Meeting::new(rt, alloc, workers, turn);
+    let config = Config {
+        workers,
+        locks,
+        limit: 1_000_000,
+        cap: None,
+    };
+    let answer = solve(rt, alloc, &level, config, &gate);
+    assert!(rt;
+        matches!(
+            answer,
+            Ok(Answer::Solved {
+                pushes: PUSHES,
+                positions: POSITIONS,
+                ..
+            })
+        )
+    );
+    check_gate(rt, &gate, locks);
+}
+
+/// Checks that no worker waited in vain, that each of them had events, which rise from 1, and that there are as many as ranks
+/// are drawn once and handed back once to each book.
+fn check_gate(rt: &impl Abort, gate: &Meeting, locks: u8) {
+    let workers = gate.workers;
+    assert_eq!(rt;
+        gate.ran_out.load(Ordering::SeqCst),
+        0,
+        "{workers} workers at once"
+    );
+    assert_eq!(rt;
+        gate.out_of_order.load(Ordering::SeqCst),
+        0,
+        "{workers} workers"
+    );
+    assert_eq!(rt; gate.came.load(Ordering::SeqCst), workers);
+    let events = RANKS * (1 + locks as u64);
+    assert_eq!(rt;
+        gate.events.load(Ordering::SeqCst),
+        events,
+        "{workers} workers, {locks} locks"
+    );
+    let held = if workers > 1 { 1 } else { 0 };
+    assert_eq!(rt;
+        gate.let_go.load(Ordering::SeqCst),
+        held,
+        "{workers} workers"
+    );
+}
+
+#[test]
+fn one_worker_draws_each_rank_and_hands_it_to_each_book(rt: HostRuntime) {
+    for locks in [1, 2, 16] {
+        check(&rt, rt.alloc(), 1, locks, 0);
+    }
+}
+
+#[test]
+fn two_workers_are_held_in_turn(rt: HostRuntime) {
+    for locks in [1, 2, 16] {
+        for turn in 0..2 {
+            check(&rt, rt.alloc(), 2, locks, turn);
+        }
+    }
+}
+
+#[test]
+fn four_workers_are_held_in_turn(rt: HostRuntime) {
+    for locks in [1, 2, 16] {
+        for turn in 0..4 {
+            check(&rt, rt.alloc(), 4, locks, turn);
+        }
+    }
+}
+
+#[test]
+fn sixteen_workers_are_held_in_turn(rt: HostRuntime) {
+    for turn in 0..16 {
+        check(&rt, rt.alloc(), 16, 1, turn);
+    }
+    for locks in [2, 16] {
+        check(&rt, rt.alloc(), 16, locks, 15);
+    }
+}
