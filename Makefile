@@ -33,6 +33,8 @@ demo:
 
 test: needs
 	@tests/believed
+	@tests/edits_named
+	@tests/cited
 	@rm -f target/sokopar target/refusals-unproved
 	@RT=$(RT) tests/gate
 	@tests/cli/run target/sokopar
