@@ -166,8 +166,8 @@ workers is mostly fastest: --workers 4 --locks 4 on four processors.
 
 A position takes up to 150 bytes and 1 to 5 microseconds. So the default limit
 needs at most about 150 MB and 5 seconds, and 100000000 positions 15 GB and 10
-to 15 minutes. With more than 35 boxes a position takes more bytes, and in the
-largest rooms more time, some 50 microseconds.
+to 15 minutes. With more than 11 boxes a position takes up to 240 bytes, with
+more than 35 up to 370, and in the largest rooms some 50 microseconds.
 
 With --max-pushes M only solutions with at most M pushes are looked for. That
 takes fewer positions, since those are left out from which the boxes need more.
