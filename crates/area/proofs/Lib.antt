@@ -10,6 +10,10 @@ pub mod Seams
 pub mod Spreading
 pub mod UnderWay
 pub mod Visiting
+pub mod Carries
+pub mod Arrays
+pub mod Widening
+pub mod EarlyEnds
 pub mod Chains
 pub mod Passes
 pub mod PushLists

@@ -9,8 +9,10 @@ pub mod laws;
 mod locked;
 mod possible;
 mod pushes;
+mod rooms;
 mod route;
 mod scratch;
+mod seeking;
 mod set;
 mod spread;
 #[cfg(test)]
