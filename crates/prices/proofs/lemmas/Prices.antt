@@ -15,7 +15,7 @@ use Rattle.prices.proofs.Goals.{contains-goals, is_rising-goals}
 
 -- ---- sums over squares
 
-in_tail : (x : ℕ) (xs : Squares) (q : ℕ) → contains xs q ≡ true → contains (x ∷ xs) q ≡ true
+pub in_tail : (x : ℕ) (xs : Squares) (q : ℕ) → contains xs q ≡ true → contains (x ∷ xs) q ≡ true
 in_tail x xs q there = or_right (eqb x q) (contains xs q) there
 
 -- one square more adds its number
