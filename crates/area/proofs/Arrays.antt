@@ -12,7 +12,7 @@ use Rattle.grid.specs.Masks.{has_bit}
 use Rattle.area.specs.Words.{word_bit}
 use Rattle.area.specs.inside.RoomFloods.{Meets}
 use Rattle.area.proofs.lemmas.Growing.{and_bit, bit_and_from}
-use Rattle.area.proofs.lemmas.WordBits.{has_bit-at, has_bit-parts, has_bit_inside, square_parts, word_bit-not, word_bit-zero, word_bit_inside}
+use Rattle.area.proofs.lemmas.WordBits.{has_bit-at, has_bit-parts, has_bit_inside, square_parts, word_bit-not, word_bit-zero}
 use Rattle.area.proofs.lemmas.WordSets.{lowest_bit, same_test}
 
 one_bit : (k j : ℕ) → k < WORD_BITS → word_bit (1 * 2 ^ k % 2 ^ 64) j ≡ eqb k j

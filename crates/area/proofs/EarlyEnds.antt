@@ -7,7 +7,7 @@ use Rattle.std.proofs.lemmas.List.{get_or-set_other, length-set}
 use Rattle.grid.specs.declared.dir.Dir.{Dir}
 use Rattle.grid.specs.declared.dir.Dir.TheVariants.{D, L, R, U}
 use Rattle.grid.specs.declared.masks.TheConstants.{WORD_BITS}
-use Rattle.grid.specs.Board.{Board, Scene, is_wall, next}
+use Rattle.grid.specs.Board.{Board, Scene, next}
 use Rattle.grid.specs.Lawful.{IsLevel, InRoom}
 use Rattle.grid.specs.States.{IsScene}
 use Rattle.grid.specs.Masks.{has_bit, word_count}

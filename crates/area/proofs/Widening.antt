@@ -2,7 +2,7 @@
 use Rattle.std.proofs.Common.{◌≡◌, ◌≢◌, ℕ, ◌+◌, ◌-◌, ◌*◌, ◌/◌, ◌%◌, ◌^◌, ◌<◌, ◌≤◌, Bool, true, false, not, eqb, ◌&&◌, ◌||◌, ◌⊎◌, ◌↔◌, List, length, get_or, set, inl, inr, refl, sym, ap, subst, ◌∙◌, arith}
 use Rattle.std.specs.Int.{bit_not, w64}
 use Rattle.std.specs.Int.RustNames.{bit_and, bit_or}
-use Rattle.std.proofs.lemmas.Bool.{cases_Bool, cases_lt, cases_eq, and_parts, and_from, not-true, not_from_false, eqb-true, eqb-false, or_cases, or_left, or_right, true≢false, false≢true}
+use Rattle.std.proofs.lemmas.Bool.{cases_Bool, cases_lt, cases_eq, and_parts, and_from, not-true, not_from_false, eqb-true, eqb-false, or_cases, true≢false, false≢true}
 use Rattle.std.proofs.lemmas.List.{get_or-set_same, get_or-set_other, length-set, ext_get_or}
 use Rattle.std.proofs.lemmas.List.Sums.{sum_by-set}
 use Rattle.std.proofs.lemmas.Nat.{le_or_l}
@@ -17,7 +17,7 @@ use Rattle.grid.specs.RoomMask.{IsRoomMask}
 use Rattle.grid.proofs.lemmas.Rooms.{room_floor, room_inner}
 use Rattle.area.specs.Area.{Area}
 use Rattle.area.specs.Words.{word_bit}
-use Rattle.area.specs.inside.Flooding.{comes_by, is_entered, AllPass, IsKept, IsGrowing, IsFlooded, IsGrown, PassesUp, PassesDown, PassesOn, room_left}
+use Rattle.area.specs.inside.Flooding.{AllPass, IsKept, IsGrowing, IsFlooded, IsGrown, PassesUp, PassesDown, PassesOn, room_left}
 use Rattle.area.specs.inside.RoomFloods.{AreFree, IsBeside, PassesOver, PassesAlong, IsWidened, IsFull, IsVisit, IsPassing, IsRound, IsWidening}
 use Rattle.area.proofs.lemmas.WordBits.{word_bit-and, word_bit-not, word_bit_inside, has_bit-at, has_bit-parts, has_bit_inside, square_parts}
 use Rattle.area.proofs.lemmas.Growing.{or_bit, and_bit, bit_or_left, bit_or_right, bit_and_from, grown_by, grown_then}

@@ -5,7 +5,6 @@ use Rattle.grid.specs.Board.{Board}
 use Rattle.grid.specs.Lawful.{InRoom}
 use Rattle.grid.specs.Masks.{has_bit}
 use Rattle.grid.specs.RoomMask.{IsRoomMask}
-use Rattle.area.specs.Words.{word_bit}
 use Rattle.area.specs.inside.Flooding.{AllPass, PassesUp, PassesDown, room_left}
 
 -- the squares of the player's room where no box stands

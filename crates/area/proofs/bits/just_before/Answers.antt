@@ -1,4 +1,4 @@
-use Rattle.std.proofs.Common.{◌≡◌, ℕ, ◌-◌, ◌+◌, false, get_or, sym, ap, ◌∙◌, arith}
+use Rattle.std.proofs.Common.{◌≡◌, ℕ, ◌-◌, false, get_or, sym, ap, ◌∙◌, arith}
 use Rattle.grid.specs.Masks.{has_bit}
 use Rattle.area.specs.Words.{word_bit}
 use Rattle.area.proofs.lemmas.WordBits.{has_bit-at, none_before, seen_before}

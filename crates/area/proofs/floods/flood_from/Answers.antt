@@ -1,4 +1,4 @@
-use Rattle.std.proofs.Common.{◌≡◌, ℕ, length, inl, inr, ◌∙◌}
+use Rattle.std.proofs.Common.{◌≡◌, length, inl, inr, ◌∙◌}
 use Rattle.grid.specs.Masks.{word_count}
 use Rattle.area.proofs.Widening.{area_in_room}
 use Rattle.area.proofs.lemmas.Flooding.{flood_inside, flood_whole}

@@ -1,5 +1,4 @@
-use Rattle.std.proofs.Common.{◌+◌, ◌*◌, sym, ◌∙◌, arith}
-use Rattle.grid.specs.declared.masks.TheConstants.{WORD_BITS}
+use Rattle.std.proofs.Common.{sym, ◌∙◌, arith}
 use Rattle.area.proofs.Arrays.{have_next, have_last}
 use Rattle.area.proofs.EarlyEnds.{IsSide}
 use Rattle.area.proofs.lemmas.Growing.{bit_and_from}
