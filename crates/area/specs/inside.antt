@@ -4,6 +4,7 @@ pub mod ScratchView
 pub mod Spread
 pub mod Detours
 pub mod Flooding
+pub mod Gathering
 pub mod PushWords
 pub mod Pushable
 pub mod PushLists

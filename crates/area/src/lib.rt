@@ -12,6 +12,7 @@ mod pushes;
 mod route;
 mod scratch;
 mod set;
+mod small;
 mod spread;
 #[cfg(test)]
 mod tests;
@@ -24,3 +25,4 @@ pub use possible::{MAX_PUSHES, possible_pushes};
 pub use route::walk;
 pub use scratch::Scratch;
 pub use set::SquareSet;
+pub use small::locked_after_push;
