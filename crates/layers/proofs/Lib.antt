@@ -21,3 +21,5 @@ pub mod Bringing
 pub mod Picking
 pub mod Shifting
 pub mod Dealt
+pub mod Bytes
+pub mod Lasts

@@ -12,7 +12,9 @@ use Rattle.layers.specs.Openings.{Entry}
 use Rattle.layers.specs.Tasks.{Task}
 use Rattle.layers.specs.Reaching.{total}
 use Rattle.layers.specs.Origins.{same_scene, share_of}
-use Rattle.layers.specs.FoundView.{HaveFew}
+use Rattle.grid.specs.States.{FitsLevel}
+use Rattle.layers.specs.FoundView.{AllFit, FoundView}
+use Rattle.layers.proofs.Bytes.{level_fits}
 use Rattle.layers.specs.ParcelView.{ParcelView, IsParcel}
 use Rattle.layers.specs.BookView.{BookView, Closed, IsLawfulBook}
 use Rattle.layers.specs.Books.{is_wanted, is_wanted_in, entered, all_entered, with_parcel, IsAtWork, PassesLimit, MayEnter, IsTaken, AllDone, with_closed, closed_entry, RiseByOrigin, AreReordered, IsSortedOpen, IsClosedBy}
@@ -96,11 +98,13 @@ module _ (a : Inside) (book : IsLawfulBook (book_view a)) (cuts : AreCuts a.star
   pub over_lawful : (true ≡ ltb now.limit (total now.closed + length (all_entered now parcel.rank parcel.successors))) → IsLawfulBook (record (book_view a) { over = true })
   over_lawful more = lawful_over (book_view a) parcel book is at_work.0 at_work.1 (subst (λ v. PassesLimit v parcel) (sym view) (over_limit now parcel more))
 
--- the successors of a parcel have as many boxes as its level
-pub fits_few : (parcel : ParcelView) → IsParcel parcel → (task : Task) → parcel.level ≡ task → (ss : List Successor) → ss ≡ parcel.successors → HaveFew (box_count task.board) ss
-fits_few parcel is task same ss e i s at =
-    let fits = is.fits i s (ap (λ xs. slice_get xs i) (sym e) ∙ at) in
-    omega (arith, fits.boxes, ap (λ (t : Task). box_count t.board) same)
+-- the successors of a parcel have as many boxes as its level, and stand on its grid
+pub fits_few : (parcel : ParcelView) → IsParcel parcel → (task : Task) → parcel.level ≡ task → (v : FoundView) → v.boxes ≡ box_count task.board → v.squares ≡ length task.board.cells → (ss : List Successor) → ss ≡ parcel.successors → AllFit v ss
+fits_few parcel is task same v boxes_are squares_are ss e = record {
+  each = λ i s at.
+  level_fits task.board v.boxes v.squares s.position boxes_are squares_are
+      (subst (λ (t : Task). FitsLevel t.board s.position) same (is.fits i s (ap (λ xs. slice_get xs i) (sym e) ∙ at)));
+}
 
 -- ranks stay taken when one more is done
 pub taken_done : (v : BookView) (k r : ℕ) → IsTaken v r → IsTaken (record v { done = set v.done k true }) r

@@ -5,9 +5,9 @@ use Rattle.grid.specs.Board.{Scene, push_cmp}
 use Rattle.layers.specs.Openings.{Origin, Entry, origin_cmp}
 use Rattle.layers.specs.BookView.{Closed}
 use Rattle.layers.specs.Books.{RiseByOrigin}
-use Rattle.layers.specs.FoundView.{open_of, open_entry}
+use Rattle.layers.specs.FoundView.{NoneExceed, open_of, open_entry}
 use Rattle.layers.proofs.lemmas.Books.{take_short}
-use Rattle.layers.proofs.Tails.{NoneExceed, entry_at, open_none, open_more, rise_none, rise_more}
+use Rattle.layers.proofs.Tails.{entry_at, open_none, open_more, rise_none, rise_more}
 use Rattle.layers.proofs.closing.do_rise.Goals as goal
 
 pub loop-place-init : goal.loop-place-init

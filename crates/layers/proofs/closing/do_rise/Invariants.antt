@@ -1,7 +1,6 @@
 use Rattle.std.proofs.Common.{take}
 use Rattle.layers.specs.Books.{RiseByOrigin}
-use Rattle.layers.specs.FoundView.{open_of}
-use Rattle.layers.proofs.Tails.{NoneExceed}
+use Rattle.layers.specs.FoundView.{NoneExceed, open_of}
 use Rattle.layers.proofs.closing.do_rise.Given as goal
 
 abbrev pub invariant-loop-place : goal.invariant-loop-place
