@@ -1,10 +1,11 @@
 use Rattle.std.proofs.Common.{◌≡◌, ◌≤◌, List, is_err, vec_len, length, replicate, sym, ap, subst, ◌∙◌, arith}
 use Rattle.grid.specs.Board.{Board}
 use Rattle.grid.specs.Lawful.{IsLevel}
-use Rattle.layers.proofs.Bytes.{first_fits}
-use Rattle.layers.specs.BookView.{Closed, IsShareOfLayer}
+use Rattle.layers.proofs.lemmas.BookFields.{first_fits}
+use Rattle.store.specs.Entries.{Closed}
+use Rattle.layers.specs.BookView.{IsShareOfLayer}
 use Rattle.layers.proofs.First.{first_few, fresh_lawful, fresh_cuts, fresh_new}
-use Rattle.layers.proofs.lemmas.Lists.{resized}
+use Rattle.successors.proofs.lemmas.Lists.{resized}
 use Rattle.layers.proofs.book.Book.with_first.Goals as goal
 
 pub invariant_of-result : goal.invariant_of-result
