@@ -27,8 +27,8 @@ offers_more shares share rank (t ∷ ss) s =
     ap (λ xs. offer_of shares share rank t ++ xs) (offers_more shares share rank ss s) ∙ sym (append_assoc (offer_of shares share rank t) (offers_of shares share rank ss) (offer_of shares share rank s))
 
 -- the sum beside a successor is that of its position
-pub sum_at : (ss : List Successor) (sums : List ℕ) (place : ℕ) (s : Successor) → AreSums ss sums → slice_get ss place ≡ Some s → get_or sums place 0 ≡ scene_sum s.position
-sum_at ss sums place s are at = ap (λ xs. get_or xs place 0) are ∙ go ss place at
+pub sum_beside : (ss : List Successor) (sums : List ℕ) (place : ℕ) (s : Successor) → AreSums ss sums → slice_get ss place ≡ Some s → get_or sums place 0 ≡ scene_sum s.position
+sum_beside ss sums place s are at = ap (λ xs. get_or xs place 0) are ∙ go ss place at
   where
     go : (ts : List Successor) (i : ℕ) → slice_get ts i ≡ Some s → get_or (map (λ (t : Successor). scene_sum t.position) ts) i 0 ≡ scene_sum s.position
     go [] i e = cc

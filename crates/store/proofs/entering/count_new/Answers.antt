@@ -8,7 +8,6 @@ use Rattle.store.proofs.lemmas.Offers.{length-entered}
 use Rattle.successors.proofs.lemmas.Lists.{take_short}
 use Rattle.store.proofs.entering.count_new.Goals.{then-is_new, else-is_new}
 use Rattle.store.proofs.entering.count_new.Goals as goal
-use Rattle.store.proofs.entering.count_new.Goals as goal
 
 pub loop-place-preserved : goal.loop-place-preserved
 loop-place-preserved g c =

@@ -6,7 +6,6 @@ use Rattle.store.proofs.lemmas.Offers.{on_ok}
 use Rattle.store.proofs.Lasts.{let_in_last}
 use Rattle.store.proofs.Tails.{joined, let_in_kept, let_in_put}
 use Rattle.store.proofs.entering.enter.Goals as goal
-use Rattle.store.proofs.entering.enter.Goals as goal
 
 pub returns-then-is_kept-clause-waiting : goal.returns-then-is_kept-clause-waiting
 returns-then-is_kept-clause-waiting g c =

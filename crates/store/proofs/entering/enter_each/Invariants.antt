@@ -2,7 +2,6 @@ use Rattle.std.proofs.Common.{◌≡◌, ◌+◌, ◌≤◌, length, take}
 use Rattle.indexmap.specs.IndexMap.{spare}
 use Rattle.store.specs.FoundView.{IsFound, NoneExceed, seen_of, open_of, all_let_in}
 use Rattle.store.proofs.entering.enter_each.Given as goal
-use Rattle.store.proofs.entering.enter_each.Given as goal
 
 abbrev pub invariant-loop-offer : goal.invariant-loop-offer
 invariant-loop-offer g l =

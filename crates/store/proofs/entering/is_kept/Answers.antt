@@ -3,7 +3,6 @@ use Rattle.store.proofs.Lasts.{closed_kept, late_kept}
 use Rattle.store.proofs.Tails.{absent_not_kept, there_kept, not_below}
 use Rattle.store.proofs.entering.is_kept.Goals as goal
 use Rattle.std.proofs.Common.{sym}
-use Rattle.store.proofs.entering.is_kept.Goals as goal
 
 pub returns-in-None : goal.returns-in-None
 returns-in-None g c = absent_not_kept c.args.key.now c.args.origin c.args.start c.args.table.now.entries c.requires.found (sym c.in-None.ensures.value)

@@ -3,7 +3,6 @@ use Rattle.std.proofs.lemmas.Option.{slice_get-get_or}
 use Rattle.successors.specs.declared.parcel.Successor.{Successor}
 use Rattle.store.proofs.DealtOffers.{offer_more}
 use Rattle.store.proofs.inbox.append_dealt.Goals as goal
-use Rattle.store.proofs.inbox.append_dealt.Goals as goal
 
 pub loop-place-preserved : goal.loop-place-preserved
 loop-place-preserved g c =

@@ -4,9 +4,7 @@ use Rattle.std.specs.Prelude.{slice_get}
 use Rattle.std.proofs.lemmas.Option.{slice_get-get_or}
 use Rattle.successors.specs.declared.parcel.Successor.{Successor}
 use Rattle.store.specs.FoundView.{offer_of, offers_of}
-use Rattle.store.proofs.Inboxes.{offers_more}
-use Rattle.successors.proofs.Bringing.{sum_at}
-use Rattle.store.proofs.inbox.append_each.Goals as goal
+use Rattle.store.proofs.Inboxes.{offers_more, sum_beside}
 use Rattle.store.proofs.inbox.append_each.Goals as goal
 
 pub loop-place-preserved : goal.loop-place-preserved
@@ -35,7 +33,7 @@ append-requires g c =
             c.requires.rank,
             (
               c.requires.few place s at,
-              (sum_at ss c.args.sums.now place s c.requires.sums at, omega (arith, c.loop-place.invariant.1, c.loop-place-test.true)),
+              (sum_beside ss c.args.sums.now place s c.requires.sums at, omega (arith, c.loop-place.invariant.1, c.loop-place-test.true)),
             ),
           ),
         ),

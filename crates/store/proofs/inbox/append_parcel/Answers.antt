@@ -5,7 +5,6 @@ use Rattle.successors.specs.inside.Sums.{AreSums}
 use Rattle.successors.proofs.lemmas.Dealt.{dealt_within, dealt_few}
 use Rattle.store.proofs.DealtOffers.{dealt_offers}
 use Rattle.store.proofs.inbox.append_parcel.Goals as goal
-use Rattle.store.proofs.inbox.append_parcel.Goals as goal
 
 pub append_dealt-requires : goal.append_dealt-requires
 append_dealt-requires g c =

@@ -4,7 +4,6 @@ use Rattle.store.specs.FoundView.{found_view, offers_of}
 use Rattle.store.proofs.Inboxes.{length-offers, offers_appended, on_err}
 use Rattle.store.proofs.Bytes.{found_suit}
 use Rattle.store.proofs.table.Table.enter_all.Goals as goal
-use Rattle.store.proofs.table.Table.enter_all.Goals as goal
 
 pub append_parcel-requires : goal.append_parcel-requires
 append_parcel-requires g c =

@@ -4,7 +4,6 @@ use Rattle.store.proofs.Inboxes.{length-found, within_limit, counted_limit}
 use Rattle.store.proofs.Bytes.{found_suit}
 use Rattle.store.proofs.table.Table.passes.Goals as goal
 use Rattle.std.proofs.Common.{[], ap, ◌∙◌, arith}
-use Rattle.store.proofs.table.Table.passes.Goals as goal
 
 pub count_new-requires : goal.count_new-requires
 count_new-requires g c =
