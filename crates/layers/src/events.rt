@@ -2,11 +2,11 @@ ghost use Rattle.std.specs.Prelude.{◌≡◌, ◌<◌, Some, false, slice_get, 
 ghost use Rattle.layers.specs.Books.{IsAtWork, MayBegin, with_begun, BeginRefused, ClaimAnswer, MayEnter, with_parcel, HandBackRefused, after_refusal, with_reopened, IsClosedBy, CloseRefused};
 
 use crate::book::{Book, Claim, Closed};
-use crate::closing::{all_marked, push_within};
 use crate::fault::{BeginFault, CloseFault, Refusal};
-use crate::inbox::most_waiting;
 use crate::layer::Layer;
-use crate::parcel::Parcel;
+use crate::marking::{all_marked, push_within};
+use store::most_waiting;
+use successors::Parcel;
 
 impl Book {
     /// Opens the ranks of the last closed layer. An error leaves the book as it was.
