@@ -1,8 +1,8 @@
 -- The rows of bytes of a key: how they are written, and what is read from them.
-use Rattle.std.proofs.Common.{◌≡◌, ℕ, zero, suc, ◌+◌, ◌*◌, ◌/◌, ◌%◌, ◌<◌, ◌≤◌, Bool, true, false, ◌&&◌, ◌||◌, ◌==◌, ◌⊎◌, inl, inr, List, [], ◌∷◌, ◌++◌, length, map, take, drop, set, fold, replicate, get_or, nat_eq, Some, None, add-one, refl, sym, ap, subst, ◌∙◌, arith}
+use Rattle.std.proofs.Common.{◌≡◌, ℕ, zero, suc, ◌+◌, ◌*◌, ◌/◌, ◌%◌, ◌<◌, ◌≤◌, Bool, true, false, ◌&&◌, ◌||◌, ◌==◌, ◌⊎◌, inl, inr, List, [], ◌∷◌, ◌++◌, length, map, take, drop, set, fold, replicate, get_or, nat_eq, Some, add-one, refl, sym, ap, subst, ◌∙◌, arith}
 use Rattle.std.proofs.lemmas.Bool.Decides.{nat_tests}
 use Rattle.std.proofs.lemmas.List.{append_assoc, length-map, length-take-le}
-use Rattle.std.proofs.lemmas.Option.{same_Some, none-some}
+use Rattle.std.proofs.lemmas.Option.{same_Some}
 use lib.Pointwise.{pointwise, bytes_decides}
 use Rattle.std.specs.Prelude.{slice_get}
 use Rattle.grid.specs.declared.square.Push.{Push}
@@ -11,7 +11,7 @@ use Rattle.successors.specs.declared.parcel.Successor.{Successor}
 use Rattle.store.specs.Entries.{Entry, Closed, same_scene}
 use Rattle.grid.specs.Rising.{is_rising}
 use Rattle.store.specs.FoundView.{AllFit, AreBelow, FitsGrid, FoundView, found_view}
-use Rattle.store.specs.inside.KeyRows.{AllSuit, IsKey, Suits, SuitsLevel, high_bytes, high_writes, joined_bytes, key_scene, key_squares, key_writes, low_bytes, padded, scene_in}
+use Rattle.store.specs.inside.KeyRows.{AllSuit, IsKey, Suits, SuitsLevel, high_bytes, joined_bytes, key_scene, key_squares, key_writes, low_bytes, padded, scene_in}
 use Rattle.store.proofs.lemmas.Offers.{and_both, same_true, same_since}
 use Rattle.successors.proofs.lemmas.Lists.{map-push}
 

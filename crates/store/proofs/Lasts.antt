@@ -1,5 +1,5 @@
 -- The last of the origins of what stands open, and what it tells of an offer.
-use Rattle.std.proofs.Common.{◌≡◌, ℕ, zero, suc, ◌<◌, ◌≤◌, Bool, true, false, ◌||◌, not, is_some, ltb, List, [], ◌∷◌, length, drop, map, position, Option, Some, None, refl, sym, ap, subst, ◌∙◌, if◌then◌else◌, arith}
+use Rattle.std.proofs.Common.{◌≡◌, ℕ, zero, suc, ◌<◌, ◌≤◌, Bool, true, false, ◌||◌, not, is_some, List, [], ◌∷◌, length, position, Option, Some, None, refl, sym, ap, subst, ◌∙◌, if◌then◌else◌, arith}
 use Rattle.std.proofs.lemmas.Option.{same_Some, none-some}
 use Rattle.std.specs.Prelude.{slice_get}
 use Rattle.std.specs.Cmp.{IsTotalOrder}
@@ -12,7 +12,7 @@ use Rattle.grid.specs.Board.{Scene, push_cmp}
 use Rattle.grid.proofs.lemmas.Orders.{push_cmp_total}
 use Rattle.store.specs.Entries.{Origin, origin_cmp, Entry, lesser, same_scene, Closed, origin_of}
 use Rattle.store.specs.Entering.{offered}
-use Rattle.store.specs.FoundView.{IsFound, NoneExceed, is_least, keeps, let_in, open_entry, open_of, seen_of}
+use Rattle.store.specs.FoundView.{IsFound, NoneExceed, is_least, keeps, let_in, open_of, seen_of}
 use Rattle.store.proofs.lemmas.Origins.{origin_total}
 use Rattle.store.proofs.lemmas.Offers.{origin-listed}
 use Rattle.store.proofs.Tails.{as_closed, below, least_first, look_rest, no_some, not_greater, placed}

@@ -46,6 +46,10 @@ all_let_in seen waiting offers = fold (let_in seen) waiting offers
 abbrev pub found_view : ℕ → ℕ → ℕ → List Closed → List (Entry Scene Push) → FoundView
 found_view boxes squares start es inbox = record { boxes = boxes; squares = squares; seen = seen_of start es; waiting = all_let_in (seen_of start es) (open_of start es) inbox }
 
+-- it is the same with these entries and that inbox, and with others and another one
+abbrev pub StaysFound : ℕ → List Closed → List (Entry Scene Push) → List Closed → List (Entry Scene Push) → Type 0
+StaysFound start es inbox others other = (boxes squares : ℕ) → found_view boxes squares start others other ≡ found_view boxes squares start es inbox
+
 -- what is found once the wanted successors of a rank have entered
 abbrev pub with_entered : FoundView → ℕ → ℕ → ℕ → List Successor → FoundView
 with_entered v shares share rank ss = record { boxes = v.boxes; squares = v.squares; seen = v.seen; waiting = fold (entered (is_wanted_in v.seen shares share) rank) v.waiting ss }

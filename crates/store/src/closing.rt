@@ -35,7 +35,10 @@ pub(crate) fn arrange<const N: usize, const M: usize>(
 }
 
 // Whether the origins of what stands open rise already, as they do where the ranks were handed back in their order.
-fn do_rise<const N: usize, const M: usize>(table: &IndexMap<Key<N, M>, ClosedOrigin>, start: usize) -> bool
+fn do_rise<const N: usize, const M: usize>(
+    table: &IndexMap<Key<N, M>, ClosedOrigin>,
+    start: usize,
+) -> bool
     requires width { (N ≤ MAX_BOXES + 1) × (M ≤ MAX_BOXES + 1) }
     requires within { start ≤ length table.now.entries }
     ensures rise { result ≡ true → RiseByOrigin (open_of start table.now.entries) }
@@ -53,7 +56,10 @@ fn do_rise<const N: usize, const M: usize>(table: &IndexMap<Key<N, M>, ClosedOri
 }
 
 // The origin at a place, which is one of what stands open.
-fn origin_at<const N: usize, const M: usize>(table: &IndexMap<Key<N, M>, ClosedOrigin>, place: usize) -> Origin
+fn origin_at<const N: usize, const M: usize>(
+    table: &IndexMap<Key<N, M>, ClosedOrigin>,
+    place: usize,
+) -> Origin
     requires width { (N ≤ MAX_BOXES + 1) × (M ≤ MAX_BOXES + 1) }
     requires within { place < length table.now.entries }
     ensures { (e : Closed) → slice_get table.now.entries place ≡ Some e → result ≡ origin_in e.1 }

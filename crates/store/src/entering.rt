@@ -5,9 +5,8 @@ ghost use Rattle.std.specs.List.{list_any};
 ghost use Rattle.store.specs.Entries.{origin_of, same_scene};
 ghost use Rattle.successors.specs.Shares.{share_of};
 ghost use Rattle.store.specs.Entering.{is_wanted_in, entered};
-ghost use Rattle.successors.specs.inside.Sums.{scene_sum};
 ghost use Rattle.store.specs.inside.KeyRows.{AllSuit, Suits};
-ghost use Rattle.store.specs.FoundView.{IsFound, NoneExceed, all_let_in, found_view, keeps, let_in, open_of, seen_of};
+ghost use Rattle.store.specs.FoundView.{IsFound, NoneExceed, StaysFound, all_let_in, keeps, let_in, open_of, seen_of};
 
 use crate::key::Key;
 use crate::origin::{ClosedOrigin, Origin};
@@ -104,7 +103,7 @@ pub(crate) fn enter_all<const N: usize, const M: usize>(
     requires last { NoneExceed (open_of start table.old.entries) last.old }
     ensures found { IsFound start table.new.entries }
     ensures last { NoneExceed (open_of start table.new.entries) last.new }
-    ensures same { (boxes squares : ℕ) → found_view boxes squares start table.new.entries [] ≡ found_view boxes squares start table.old.entries inbox.old.items }
+    ensures same { StaysFound start table.old.entries inbox.old.items table.new.entries [] }
     ensures empty { inbox.new.items ≡ [] }
 {
     enter_each(table, start, last, inbox.as_slice());

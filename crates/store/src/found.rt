@@ -151,13 +151,7 @@ impl Found {
 
     /// Whether there would be more positions than a limit once the wanted successors of a rank have entered.
     #[tactic(auto, using(crate::proofs::Bytes::carried))]
-    pub fn passes(
-        &mut self,
-        limit: usize,
-        share: u8,
-        shares: u8,
-        successors: &[Successor],
-    ) -> bool
+    pub fn passes(&mut self, limit: usize, share: u8, shares: u8, successors: &[Successor]) -> bool
         requires shares { 0 < shares }
         requires few { AllFit self.old successors.now }
         requires within { length self.old.seen + length self.old.waiting ≤ limit }

@@ -5,7 +5,7 @@ ghost use Rattle.indexmap.specs.IndexMap.{spare};
 ghost use Rattle.store.specs.inside.Offers.{offer_in, offers_at};
 ghost use Rattle.successors.specs.inside.Sums.{AreSums, scene_sum};
 ghost use Rattle.store.specs.inside.KeyRows.{AllSuit, Suits};
-ghost use Rattle.store.specs.FoundView.{IsFound, NoneExceed, found_view, offer_of, offers_of, open_of};
+ghost use Rattle.store.specs.FoundView.{IsFound, NoneExceed, StaysFound, offer_of, offers_of, open_of};
 
 use crate::entering::enter_all;
 use crate::key::Key;
@@ -50,7 +50,7 @@ pub(crate) fn make_room<const N: usize, const M: usize>(
     requires last { NoneExceed (open_of start table.old.entries) last.old }
     ensures found { IsFound start table.new.entries }
     ensures last { NoneExceed (open_of start table.new.entries) last.new }
-    ensures same { (boxes squares : ℕ) → found_view boxes squares start table.new.entries inbox.new.items ≡ found_view boxes squares start table.old.entries inbox.old.items }
+    ensures same { StaysFound start table.old.entries inbox.old.items table.new.entries inbox.new.items }
     ensures room { length inbox.new.items ≤ spare table.new }
     ensures ok { OnOk result ((length inbox.new.items + length successors.now ≤ spare table.new) × (vec_len inbox.new + length successors.now ≤ vec_capacity inbox.new)) }
 {
@@ -74,7 +74,7 @@ fn enter_if_full<const N: usize, const M: usize>(
     requires last { NoneExceed (open_of start table.old.entries) last.old }
     ensures found { IsFound start table.new.entries }
     ensures last { NoneExceed (open_of start table.new.entries) last.new }
-    ensures same { (boxes squares : ℕ) → found_view boxes squares start table.new.entries inbox.new.items ≡ found_view boxes squares start table.old.entries inbox.old.items }
+    ensures same { StaysFound start table.old.entries inbox.old.items table.new.entries inbox.new.items }
     ensures room { length inbox.new.items ≤ spare table.new }
 {
     if inbox.len() >= most {
@@ -203,7 +203,11 @@ fn append<const N: usize, const M: usize>(
 
 // Appends the offer of a rank's successor.
 #[inline(always)]
-fn append_offer<const N: usize, const M: usize>(inbox: &mut Vec<(Key<N, M>, Origin)>, rank: u64, successor: &Successor)
+fn append_offer<const N: usize, const M: usize>(
+    inbox: &mut Vec<(Key<N, M>, Origin)>,
+    rank: u64,
+    successor: &Successor,
+)
     requires width { (N ≤ MAX_BOXES + 1) × (M ≤ MAX_BOXES + 1) }
     requires rank { rank < MOST_RANKS }
     requires suits { Suits N M successor.now.position }

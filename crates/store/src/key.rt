@@ -1,5 +1,6 @@
 //! Positions in as few bytes as their boxes and their grid want, which is what a book holds.
-ghost use Rattle.std.specs.Prelude.{◌≡◌, ◌+◌, ◌*◌, ◌/◌, ◌%◌, ◌<◌, ◌≤◌, ◌∷◌, Some, length, nat_eq, replicate, slice_get, true};
+ghost use Rattle.std.specs.Prelude.{◌≡◌, ◌+◌, ◌*◌, ◌/◌, ◌%◌, ◌<◌, ◌≤◌, ◌∷◌};
+ghost use Rattle.std.specs.Prelude.{Some, length, nat_eq, replicate, slice_get, true};
 ghost use Rattle.grid.specs.Rising.{is_rising};
 ghost use Rattle.std.specs.Cmp.Lexicographic.{pointwise};
 ghost use Rattle.store.specs.Entries.{same_scene};

@@ -127,7 +127,7 @@ first_fits board boxes squares (Some m) boxes_are squares_are fits = level_fits 
 pub fits_few : (parcel : ParcelView) → IsParcel parcel → (task : Task) → parcel.level ≡ task → (v : FoundView) → v.boxes ≡ box_count task.board → v.squares ≡ length task.board.cells → (ss : List Successor) → ss ≡ parcel.successors → AllFit v ss
 fits_few parcel is task same v boxes_are squares_are ss e = record {
   each = λ i s at.
-  level_fits task.board v.boxes v.squares s.position boxes_are squares_are
+      level_fits task.board v.boxes v.squares s.position boxes_are squares_are
       (subst (λ (t : Task). FitsLevel t.board s.position) same (is.fits i s (ap (λ xs. slice_get xs i) (sym e) ∙ at)));
 }
 

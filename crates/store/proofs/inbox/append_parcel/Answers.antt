@@ -32,23 +32,22 @@ returns-in-Some g c =
     c.append_dealt.new.inbox.items c.append_dealt.ensures c.rank-rank.ensures c.successors-successors.ensures c.in-Some.ensures
 
 pub append_all-requires : goal.append_all-requires
-append_all-requires g c =
+append_all-requires g c = (
+  search rules,
+  (
+    c.requires.width,
     (
-      search rules,
+      omega (arith, c.requires.share),
       (
-        c.requires.width,
+        omega (arith, c.rank-rank.ensures, c.requires.rank),
         (
-          omega (arith, c.requires.share),
+          λ i s at. c.requires.few i s (subst (λ (xs : List Successor). slice_get xs i ≡ Some s) c.successors-successors.ensures at),
           (
-            omega (arith, c.rank-rank.ensures, c.requires.rank),
-            (
-              λ i s at. c.requires.few i s (subst (λ (xs : List Successor). slice_get xs i ≡ Some s) c.successors-successors.ensures at),
-              (
-                subst (λ (xs : List Successor). AreSums xs c.sums.result.now) (sym c.successors-successors.ensures) c.sums.ensures,
-                omega (arith, ap (length {A = Successor}) c.successors-successors.ensures, c.requires.room),
-              ),
-            ),
+            subst (λ (xs : List Successor). AreSums xs c.sums.result.now) (sym c.successors-successors.ensures) c.sums.ensures,
+            omega (arith, ap (length {A = Successor}) c.successors-successors.ensures, c.requires.room),
           ),
         ),
       ),
-    )
+    ),
+  ),
+)
