@@ -15,8 +15,8 @@ use grid::{Level, Square, WORD_BITS};
 const MOST_WORDS: usize = 4;
 
 /// Whether some of the boxes are locked once one of them was pushed from one square to another, where of the boxes round
-/// which the last flood went none were. It is found from the boxes that hang together with the pushed one, and ends as soon
-/// as nothing holds that one. `None` where the room is too large for that. Takes no memory.
+/// which the last flood went none were. Only boxes that hang together with the pushed one are asked, and the search ends as
+/// soon as nothing holds that one. `None` where the room is too large for that. Takes no memory.
 pub fn locked_after_push(
     level: &Level,
     holds: &Holds,

@@ -41,8 +41,9 @@ pub fn doomed_after(
 }
 
 /// What [`doomed_after`] says of the push of one of the boxes round which the last flood went, where these are not doomed:
-/// for a search that keeps its boxes as a set. It looks at the same boxes, and in small rooms finds the pushed box's group
-/// in words, and ends as soon as nothing holds that box. Takes no memory.
+/// for a search that keeps its boxes as a set. It looks at no box of which that function does not ask. In small rooms it
+/// follows the pushed box's group in words, by way of the boxes that are held on both axes, and ends as soon as nothing
+/// holds the pushed one; elsewhere it asks that function. Takes no memory.
 pub fn push_dooms(
     level: &Level,
     dead: &Dead,
