@@ -21,3 +21,4 @@ pub mod Bringing
 pub mod Picking
 pub mod Shifting
 pub mod Dealt
+pub mod Marking

@@ -14,6 +14,7 @@ use crate::fault::BookFault;
 use crate::found::Found;
 use crate::layer::Layer;
 use crate::limits::{MAX_SHARES, MAX_WORKERS};
+use crate::marks::Marks;
 use crate::pruner::Pruner;
 use crate::pruning::{bound_for, is_admitted};
 use crate::task::Task;
@@ -55,8 +56,8 @@ pub struct Book {
     pub(crate) found: Found,
     pub(crate) starts: Vec<usize>,
     pub(crate) begun: bool,
-    pub(crate) claimed: Vec<bool>,
-    pub(crate) done: Vec<bool>,
+    pub(crate) claimed: Marks,
+    pub(crate) done: Marks,
     // each rank below it is claimed or done
     pub(crate) next: usize,
     pub(crate) tallies: Vec<u64>,
@@ -180,8 +181,8 @@ impl Book {
             found,
             starts,
             begun: false,
-            claimed: Vec::new(alloc),
-            done: Vec::new(alloc),
+            claimed: Marks::none(alloc),
+            done: Marks::none(alloc),
             next: 0,
             tallies,
             over: false,

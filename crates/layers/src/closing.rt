@@ -1,10 +1,9 @@
 //! What stands open becomes a closed layer, in the map that holds it behind what is closed.
-ghost use Rattle.std.specs.Prelude.{◌≡◌, ℕ, ◌+◌, ◌<◌, ◌≤◌, [], ◌∷◌, ◌++◌, length, map, true, false, slice_get, slice_index_or, vec_len, Some, OnOk, OnErr, IfOk, IsPermutation};
+ghost use Rattle.std.specs.Prelude.{◌≡◌, ℕ, ◌+◌, ◌<◌, ◌≤◌, [], ◌∷◌, ◌++◌, length, map, true, false, slice_get, vec_len, Some, OnOk, OnErr, IfOk, IsPermutation};
 ghost use Rattle.std.specs.List.{IsDistinct};
 ghost use Rattle.grid.specs.Board.{push_cmp};
 ghost use Rattle.layers.specs.Openings.{origin_cmp};
 ghost use Rattle.layers.specs.Origins.{same_scene};
-ghost use Rattle.std.specs.Bool.{MatchBool};
 ghost use Rattle.std.specs.Vec.{vec_capacity};
 ghost use Rattle.layers.specs.BookView.{Closed};
 ghost use Rattle.layers.specs.Books.{RiseByOrigin, IsSortedAppend};
@@ -17,18 +16,6 @@ use grid::MAX_BOXES;
 use indexmap::IndexMap;
 use std::alloc::{AllocError, Global};
 use std::cmp::Ordering;
-
-/// Whether each mark is set.
-pub(crate) fn all_marked(marks: &[bool]) -> bool
-    ensures { MatchBool result ((r : ℕ) → r < length marks.now → slice_index_or marks.now r false ≡ true) ((r : ℕ) × (slice_get marks.now r ≡ Some false)) }
-{
-    for mark in marks {
-        if !*mark {
-            return false;
-        }
-    }
-    true
-}
 
 /// Appends a place to a list that has room for it.
 pub(crate) fn push_within(places: &mut Vec<usize>, place: usize)

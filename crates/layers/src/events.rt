@@ -2,7 +2,7 @@ ghost use Rattle.std.specs.Prelude.{◌≡◌, ◌<◌, Some, false, slice_get, 
 ghost use Rattle.layers.specs.Books.{IsAtWork, MayBegin, with_begun, BeginRefused, ClaimAnswer, MayEnter, with_parcel, HandBackRefused, after_refusal, with_reopened, IsClosedBy, CloseRefused};
 
 use crate::book::{Book, Claim, Closed};
-use crate::closing::{all_marked, push_within};
+use crate::closing::push_within;
 use crate::fault::{BeginFault, CloseFault, Refusal};
 use crate::inbox::most_waiting;
 use crate::layer::Layer;
@@ -23,10 +23,10 @@ impl Book {
             return Err(BeginFault::OtherLayer);
         }
         let ranks = layer.len() as usize;
-        if self.claimed.resize(ranks, false).is_err() {
+        if self.claimed.begin(ranks).is_err() {
             return Err(BeginFault::OutOfMemory);
         }
-        if self.done.resize(ranks, false).is_err() {
+        if self.done.begin(ranks).is_err() {
             self.claimed.clear();
             return Err(BeginFault::OutOfMemory);
         }
@@ -43,8 +43,8 @@ impl Book {
     {
         let layer = self.layer();
         for rank in self.next..self.done.len() {
-            if !self.claimed[rank] && !self.done[rank] {
-                self.claimed[rank] = true;
+            if !self.claimed.is_set(rank) && !self.done.is_set(rank) {
+                self.claimed.set(rank);
                 self.next = rank + 1;
                 return Some(Claim {
                     layer,
@@ -83,7 +83,7 @@ impl Book {
             return Err(Refusal::Over);
         }
         // the last number of a worker is that of the one who does what the others left
-        let most = most_waiting(worker, self.workers - 1, self.share);
+        let most = most_waiting(worker, self.workers - 1, self.share, self.shares);
         if self
             .found
             .enter_all(most, self.share, self.shares, parcel)
@@ -91,7 +91,7 @@ impl Book {
         {
             return Err(Refusal::OutOfMemory);
         }
-        self.done[parcel.rank() as usize] = true;
+        self.done.set(parcel.rank() as usize);
         self.tallies[worker as usize] += 1;
         Ok(())
     }
@@ -119,7 +119,7 @@ impl Book {
     pub fn reopen(&mut self)
         ensures { self.new ≡ with_reopened self.old }
     {
-        self.claimed.copy_from_slice(self.done.as_slice());
+        self.claimed.copy_from(&self.done);
         self.next = 0;
     }
 
@@ -130,7 +130,7 @@ impl Book {
         ensures fault { IfErr result (λ fault. CloseRefused self.old fault) }
         ensures err { OnErr result (self.new ≡ self.old) }
     {
-        if !self.begun || !all_marked(self.done.as_slice()) {
+        if !self.begun || !self.done.are_all_set() {
             return Err(CloseFault::NotAll);
         }
         let layer = self.starts.len() as u64;

@@ -18,6 +18,7 @@ mod key;
 pub mod laws;
 mod layer;
 mod limits;
+mod marks;
 mod merging;
 mod origin;
 mod parcel;

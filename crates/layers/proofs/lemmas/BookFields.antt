@@ -78,16 +78,16 @@ module _ (a : Inside) (book : IsLawfulBook (book_view a)) (cuts : AreCuts a.star
 
   -- the book after an accepted parcel is a function of the one before
   pub handed_view : (worker rank tally : ℕ) (waiting : List (Entry Scene Push)) → rank ≡ parcel.rank → tally ≡ get_or a.tallies.items worker 0 + 1 → waiting ≡ fold (entered (is_wanted_in a.found.seen a.shares a.share) parcel.rank) a.found.waiting parcel.successors →
-      record (book_view a) { done = set a.done.items rank true; waiting = waiting; tallies = set a.tallies.items worker tally } ≡ with_parcel now worker parcel
+      record (book_view a) { done = set a.done rank true; waiting = waiting; tallies = set a.tallies.items worker tally } ≡ with_parcel now worker parcel
   handed_view worker rank tally waiting e f g =
       let h = g ∙ ap (λ w. fold (entered w parcel.rank) a.found.waiting parcel.successors) (sym (wanted_same a cuts)) in
       let k : tally ≡ suc (get_or a.tallies.items worker 0) = omega arith in
-      (λ i. record (book_view a) { done = set a.done.items (e i) true; waiting = h i; tallies = set a.tallies.items worker (k i) }) ∙ ap (λ v. with_parcel v worker parcel) view
+      (λ i. record (book_view a) { done = set a.done (e i) true; waiting = h i; tallies = set a.tallies.items worker (k i) }) ∙ ap (λ v. with_parcel v worker parcel) view
 
   -- and is lawful
   pub handed : (worker rank tally : ℕ) (waiting : List (Entry Scene Push)) → rank ≡ parcel.rank → tally ≡ get_or a.tallies.items worker 0 + 1 → waiting ≡ fold (entered (is_wanted_in a.found.seen a.shares a.share) parcel.rank) a.found.waiting parcel.successors →
       worker < a.workers → a.over ≡ false → (false ≡ ltb now.limit (total now.closed + length (all_entered now parcel.rank parcel.successors))) →
-      IsLawfulBook (record (book_view a) { done = set a.done.items rank true; waiting = waiting; tallies = set a.tallies.items worker tally })
+      IsLawfulBook (record (book_view a) { done = set a.done rank true; waiting = waiting; tallies = set a.tallies.items worker tally })
   handed worker rank tally waiting e f g lt over below =
       let may : MayEnter (book_view a) parcel = subst (λ v. MayEnter v parcel) (sym view) (may_enter now parcel found (ap (λ (v : BookView). v.over) (sym view) ∙ over) below) in
       subst IsLawfulBook (sym (handed_view worker rank tally waiting e f g ∙ ap (λ v. with_parcel v worker parcel) (sym view))) (lawful_parcel (book_view a) worker parcel book lt is may)

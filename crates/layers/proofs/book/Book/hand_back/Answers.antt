@@ -1,9 +1,9 @@
-use Rattle.std.proofs.Common.{◌≡◌, ◌+◌, ◌<◌, List, length, fold, get_or, set, slice_get, true, false, Some, refl, ap, sym, subst, ◌∙◌, arith}
+use Rattle.std.proofs.Common.{◌≡◌, ◌+◌, ◌<◌, Bool, List, length, fold, get_or, set, slice_get, true, false, Some, refl, ap, sym, subst, ◌∙◌, arith}
 use Rattle.grid.specs.Lawful.{box_count}
 use Rattle.layers.specs.BookView.{BookView, Closed, IsLawfulBook}
 use Rattle.layers.specs.FoundView.{FoundView, with_entered}
 use Rattle.layers.specs.inside.BookInside.{book_view, cut_at, AreCuts, IsSoundBook}
-use Rattle.layers.specs.Books.{IsAtWork, is_wanted_in, entered}
+use Rattle.layers.specs.Books.{IsAtWork, IsTaken, is_wanted_in, entered}
 use Rattle.layers.proofs.Cuts.{total-cuts}
 use Rattle.layers.proofs.lemmas.Books.{few_ranks, get_or_same}
 use Rattle.layers.proofs.lemmas.BookFields.{handed, handed_view, limit_same, may_enter, over_limit, over_lawful, taken_done, fits_few}
@@ -59,7 +59,7 @@ pub enter_all-requires-clause-rank : goal.enter_all-requires-clause-rank
 enter_all-requires-clause-rank c =
     let a = c.self.inside in
     let found : IsAtWork c.args.self.now c.args.parcel.now × (slice_get c.args.self.now.done c.args.parcel.now.rank ≡ Some false) = c.in_default.ensures.none in
-    let lt : c.args.parcel.now.rank < length a.done.items = subst (λ v. c.args.parcel.now.rank < length v.done) (sym c.self.view_is) found.0.2 in
+    let lt : c.args.parcel.now.rank < length a.done = subst (λ v. c.args.parcel.now.rank < length v.done) (sym c.self.view_is) found.0.2 in
     omega (arith, few_ranks (book_view a) c.self.invariant.lawful c.args.parcel.now.rank lt)
 
 pub enter_all-requires-clause-few : goal.enter_all-requires-clause-few
@@ -83,17 +83,18 @@ invariant_of-self-2 c =
     let waits : c.enter_all.new.self.waiting ≡ fold (entered (is_wanted_in a.found.seen a.shares a.share) p.rank) a.found.waiting p.successors =
     ap (λ (f : FoundView). f.waiting) put in
     let lt : c.args.worker < length a.tallies.items = omega (arith, subst (λ v. c.args.worker < v.workers) (sym c.self.view_is) c.requires, c.self.invariant.lawful.tallies.0) in
-    let told : c.index_mut-2.result.now ≡ get_or a.tallies.items c.args.worker c.index_mut-2.result.now = c.index_mut-2.ensures.value in
-    let tally : c.index_mut-2.result.now + 1 ≡ get_or a.tallies.items c.args.worker 0 + 1 = ap (λ n. n + 1) (told ∙ get_or_same a.tallies.items c.args.worker c.index_mut-2.result.now 0 lt) in
+    let told : c.index_mut.result.now ≡ get_or a.tallies.items c.args.worker c.index_mut.result.now = c.index_mut.ensures.value in
+    let tally : c.index_mut.result.now + 1 ≡ get_or a.tallies.items c.args.worker 0 + 1 = ap (λ n. n + 1) (told ∙ get_or_same a.tallies.items c.args.worker c.index_mut.result.now 0 lt) in
     record {
-      lawful = subst (λ (xs : List Closed). IsLawfulBook (record (book_view a) { closed = cut_at a.starts.items xs; done = set a.done.items c.rank.result true; waiting = c.enter_all.new.self.waiting; tallies = set a.tallies.items c.args.worker (c.index_mut-2.result.now + 1) })) (sym seen)
-          (handed a c.self.invariant.lawful c.self.invariant.cuts p c.tell.ensures now c.self.view_is found c.args.worker c.rank.result (c.index_mut-2.result.now + 1) c.enter_all.new.self.waiting
+      lawful = subst (λ (bs : List Bool). IsLawfulBook (record (book_view a) { closed = cut_at a.starts.items c.enter_all.new.self.seen; done = bs; waiting = c.enter_all.new.self.waiting; tallies = set a.tallies.items c.args.worker (c.index_mut.result.now + 1) })) (sym c.set.ensures)
+          (subst (λ (xs : List Closed). IsLawfulBook (record (book_view a) { closed = cut_at a.starts.items xs; done = set a.done c.rank.result true; waiting = c.enter_all.new.self.waiting; tallies = set a.tallies.items c.args.worker (c.index_mut.result.now + 1) })) (sym seen)
+          (handed a c.self.invariant.lawful c.self.invariant.cuts p c.tell.ensures now c.self.view_is found c.args.worker c.rank.result (c.index_mut.result.now + 1) c.enter_all.new.self.waiting
           c.rank.ensures tally waits (subst (λ v. c.args.worker < v.workers) (sym c.self.view_is) c.requires) c.if-self.false
-          (limit_same a c.self.invariant.cuts now c.self.view_is p.rank c.successors-successors.result.now p.successors c.successors-successors.ensures false (c.if-passes.ensures.passed p.rank)));
+          (limit_same a c.self.invariant.cuts now c.self.view_is p.rank c.successors-successors.result.now p.successors c.successors-successors.ensures false (c.if-passes.ensures.passed p.rank))));
       few = c.self.invariant.few;
       boxes = ap (λ (f : FoundView). f.boxes) put ∙ c.self.invariant.boxes;
       cuts = subst (λ (xs : List Closed). AreCuts a.starts.items (length xs)) (sym seen) c.self.invariant.cuts;
-      taken = λ r lt. taken_done (book_view a) c.rank.result r (c.self.invariant.taken r lt);
+      taken = λ r lt. subst (λ (bs : List Bool). IsTaken (record (book_view a) { done = bs }) r) (sym c.set.ensures) (taken_done (book_view a) c.rank.result r (c.self.invariant.taken r lt));
     }
 
 pub returns-then-is_err-clause-err : goal.returns-then-is_err-clause-err
@@ -110,8 +111,9 @@ returns-clause-ok c =
     let waits : c.enter_all.new.self.waiting ≡ fold (entered (is_wanted_in a.found.seen a.shares a.share) p.rank) a.found.waiting p.successors =
     ap (λ (f : FoundView). f.waiting) put in
     let lt : c.args.worker < length a.tallies.items = omega (arith, subst (λ v. c.args.worker < v.workers) (sym c.self.view_is) c.requires, c.self.invariant.lawful.tallies.0) in
-    let told : c.index_mut-2.result.now ≡ get_or a.tallies.items c.args.worker c.index_mut-2.result.now = c.index_mut-2.ensures.value in
-    let tally : c.index_mut-2.result.now + 1 ≡ get_or a.tallies.items c.args.worker 0 + 1 = ap (λ n. n + 1) (told ∙ get_or_same a.tallies.items c.args.worker c.index_mut-2.result.now 0 lt) in
-    ap (λ (xs : List Closed). record (book_view a) { closed = cut_at a.starts.items xs; done = set a.done.items c.rank.result true; waiting = c.enter_all.new.self.waiting; tallies = set a.tallies.items c.args.worker (c.index_mut-2.result.now + 1) }) seen
-    ∙ handed_view a c.self.invariant.lawful c.self.invariant.cuts p c.tell.ensures now c.self.view_is found c.args.worker c.rank.result (c.index_mut-2.result.now + 1) c.enter_all.new.self.waiting
+    let told : c.index_mut.result.now ≡ get_or a.tallies.items c.args.worker c.index_mut.result.now = c.index_mut.ensures.value in
+    let tally : c.index_mut.result.now + 1 ≡ get_or a.tallies.items c.args.worker 0 + 1 = ap (λ n. n + 1) (told ∙ get_or_same a.tallies.items c.args.worker c.index_mut.result.now 0 lt) in
+    ap (λ (bs : List Bool). record (book_view a) { closed = cut_at a.starts.items c.enter_all.new.self.seen; done = bs; waiting = c.enter_all.new.self.waiting; tallies = set a.tallies.items c.args.worker (c.index_mut.result.now + 1) }) c.set.ensures
+    ∙ ap (λ (xs : List Closed). record (book_view a) { closed = cut_at a.starts.items xs; done = set a.done c.rank.result true; waiting = c.enter_all.new.self.waiting; tallies = set a.tallies.items c.args.worker (c.index_mut.result.now + 1) }) seen
+    ∙ handed_view a c.self.invariant.lawful c.self.invariant.cuts p c.tell.ensures now c.self.view_is found c.args.worker c.rank.result (c.index_mut.result.now + 1) c.enter_all.new.self.waiting
     c.rank.ensures tally waits
