@@ -4,7 +4,7 @@ use Rattle.std.specs.Prelude.{slice_get}
 use Rattle.std.proofs.lemmas.List.{append_assoc, append-nil, length-map, map-append}
 use Rattle.std.proofs.lemmas.Option.{none-some, same_Some}
 use Rattle.layers.specs.LayerView.{LayerView}
-use Rattle.layers.specs.ParcelView.{ParcelView}
+use Rattle.successors.specs.ParcelView.{ParcelView}
 use Rattle.claims.specs.declared.views.Hand.{Hand}
 use Rattle.crew.specs.Work.{IsOfLayer}
 use Rattle.crew.specs.declared.end.End.{End}

@@ -5,7 +5,7 @@ use Rattle.std.proofs.lemmas.Bool.{cases_lt}
 use Rattle.std.proofs.lemmas.Nat.{mul-le}
 use Rattle.claims.specs.declared.views.Hand.{Hand}
 use Rattle.layers.specs.LayerView.{LayerView}
-use Rattle.layers.specs.ParcelView.{ParcelView}
+use Rattle.successors.specs.ParcelView.{ParcelView}
 use Rattle.layers.specs.BookView.{BookView}
 use Rattle.layers.specs.Books.{MayEnter}
 use Rattle.crew.specs.Work.{IsOwn, HandEnds, HandOverEnds, told, LetsGoOn, MayAnswerEach, WereAccepted, AsksTheGate}

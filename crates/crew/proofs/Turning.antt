@@ -2,8 +2,8 @@
 use Rattle.std.proofs.Common.{◌≡◌, ℕ, ◌+◌, List, [], ◌∷◌, ◌++◌, length, Some, inl, inr, refl, sym, subst}
 use Rattle.std.specs.Prelude.{slice_get}
 use Rattle.grid.specs.declared.square.Push.{Push}
-use Rattle.layers.specs.Tasks.{Task}
-use Rattle.layers.specs.Openings.{Origin}
+use Rattle.successors.specs.Tasks.{Task}
+use Rattle.store.specs.Entries.{Origin}
 use Rattle.layers.specs.LayerView.{LayerView}
 use Rattle.layers.specs.BookView.{BookView}
 use Rattle.layers.specs.Books.{AreAllShares, IsJoinOf, MayBegin}

@@ -1,6 +1,7 @@
 -- The limits of a configuration.
 use Rattle.std.specs.Prelude.{◌≤◌}
-use Rattle.layers.specs.declared.limits.TheConstants.{MAX_SHARES, MAX_WORKERS}
+use Rattle.successors.specs.declared.limits.TheConstants.{MAX_SHARES}
+use Rattle.layers.specs.declared.limits.TheConstants.{MAX_WORKERS}
 use Rattle.crew.specs.declared.config.Config.{Config}
 
 -- each number is within its limits

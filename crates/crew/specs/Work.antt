@@ -1,7 +1,7 @@
 -- What one worker does to a book under its lock, and how it ends.
 use Rattle.std.specs.Prelude.{◌≡◌, ℕ, suc, ◌+◌, ◌-◌, ◌*◌, ◌^◌, ◌<◌, ◌≤◌, min, Bool, true, false, Any, length, Some}
 use Rattle.layers.specs.LayerView.{LayerView}
-use Rattle.layers.specs.ParcelView.{ParcelView}
+use Rattle.successors.specs.ParcelView.{ParcelView}
 use Rattle.layers.specs.BookView.{BookView, IsLawfulBook, last_layer}
 use Rattle.layers.specs.Books.{MayEnter, HandBackRefused, after_refusal}
 use Rattle.claims.specs.declared.views.Hand.{Hand}

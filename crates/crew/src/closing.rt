@@ -2,7 +2,7 @@
 ghost use Rattle.std.specs.Prelude.{◌≡◌, ◌<◌, ◌≤◌, ℕ, IfOk, Some, length, slice_get};
 ghost use Rattle.layers.specs.BookView.{BookView};
 ghost use Rattle.solo.specs.inside.Rests.{MayBeClosed, MayBeClosedEach};
-ghost use Rattle.layers.specs.declared.limits.TheConstants.{MAX_SHARES};
+ghost use Rattle.successors.specs.declared.limits.TheConstants.{MAX_SHARES};
 ghost use Rattle.solo.specs.inside.Together.{AreFinished};
 ghost use Rattle.solo.specs.inside.Turns.{AreWorkingOn};
 

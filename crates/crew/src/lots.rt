@@ -5,7 +5,7 @@ ghost use Rattle.crew.specs.declared.end.End.TheVariants.{Drained};
 ghost use Rattle.crew.specs.inside.Events.{Works, WorksUntil};
 ghost use Rattle.crew.specs.inside.Lots.{IsGrown, IsOfRank, IsPut};
 ghost use Rattle.crew.specs.inside.Shifts.{answers_to};
-ghost use Rattle.layers.specs.ParcelView.{ParcelView};
+ghost use Rattle.successors.specs.ParcelView.{ParcelView};
 
 use crate::end::End;
 use crate::gate::Gate;
@@ -67,7 +67,7 @@ pub(crate) struct Lot<'a> {
 
 impl<'a> Model for Lot<'a> {
     ghost use Rattle.std.specs.Prelude.{◌<◌, ◌≤◌, List, length, take, vec_capacity};
-    ghost use Rattle.layers.specs.ParcelView.{ParcelView};
+    ghost use Rattle.successors.specs.ParcelView.{ParcelView};
 
     ghost Value = { List ParcelView };
 

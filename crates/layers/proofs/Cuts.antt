@@ -7,8 +7,8 @@ use Rattle.std.specs.List.{list_any}
 use Rattle.std.specs.Option.{option_map}
 use Rattle.std.specs.Map.{lookup}
 use Rattle.layers.specs.inside.BookInside.{cut_at, AreCuts, IsPiece}
-use Rattle.layers.specs.Reaching.{total}
-use Rattle.layers.proofs.lemmas.Lists.{sum_by_first, at-push, at_before}
+use Rattle.successors.specs.Reaching.{total}
+use Rattle.successors.proofs.lemmas.Lists.{sum_by_first, at-push, at_before}
 
 pub length-cut_at : {A : Type 0} (starts : List ℕ) (xs : List A) → length (cut_at starts xs) ≡ length starts
 length-cut_at [] xs = refl

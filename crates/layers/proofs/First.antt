@@ -13,19 +13,19 @@ use Rattle.grid.specs.Plays.Play.{stay}
 use Rattle.grid.proofs.lemmas.Plays.{play_first, walk_keeps_boxes}
 use Rattle.area.specs.Area.{IsNorm}
 use Rattle.doom.specs.Deadlocks.{Doomed, Undoomed}
-use Rattle.layers.specs.Layered.{IsLead}
-use Rattle.layers.specs.Openings.{Origin, Entry}
-use Rattle.layers.specs.Tasks.{Task}
-use Rattle.layers.specs.Capping.{Admits}
-use Rattle.layers.specs.Reaching.{Reaches}
-use Rattle.layers.specs.Origins.{share_of}
-use Rattle.layers.specs.BookView.{BookView, Closed, IsShareOfLayer, AreBounds, IsLawfulBook}
-use Rattle.layers.specs.FoundView.{first_entries}
+use Rattle.successors.specs.Layered.{IsLead}
+use Rattle.store.specs.Entries.{Origin, Entry, Closed}
+use Rattle.successors.specs.Tasks.{Task}
+use Rattle.successors.specs.Capping.{Admits}
+use Rattle.successors.specs.Reaching.{Reaches}
+use Rattle.successors.specs.Shares.{share_of}
+use Rattle.layers.specs.BookView.{BookView, IsShareOfLayer, AreBounds, IsLawfulBook}
+use Rattle.store.specs.FoundView.{first_entries}
 use Rattle.layers.specs.inside.BookInside.{cut_at, AreCuts, IsFirst}
 use Rattle.layers.specs.Books.{AreNewInOrder, IsNew}
 use Rattle.layers.proofs.lemmas.Admissions.{admitted_alike}
 use Rattle.layers.proofs.lemmas.Books.{level_laws}
-use Rattle.layers.proofs.lemmas.Lists.{at-push, sum_by_first}
+use Rattle.successors.proofs.lemmas.Lists.{at-push, sum_by_first}
 use Rattle.layers.proofs.lemmas.Orders.{shortlex_shorter}
 
 -- with one share each position is of it

@@ -7,7 +7,8 @@ use Rattle.grid.specs.Lawful.{box_count}
 use Rattle.grid.specs.declared.limits.TheConstants.{MAX_BOXES}
 use Rattle.layers.specs.LayerView.{LayerView}
 use Rattle.layers.specs.declared.layer.Layer.TheInside.{Inside}
-use Rattle.layers.specs.inside.Insides.{squares_of, scenes_of, layer_view, IsSoundLayer}
+use Rattle.store.specs.inside.Copies.{squares_of}
+use Rattle.layers.specs.inside.Insides.{scenes_of, layer_view, IsSoundLayer}
 
 -- each position has so many boxes
 abbrev pub HaveBoxes : ℕ → List Scene → Type 0
@@ -20,15 +21,6 @@ length-scenes_of boxes (suc count) xs = ap suc (length-scenes_of boxes count (dr
 pub length-squares_of : (boxes : ℕ) (ms : List Scene) → HaveBoxes boxes ms → length (squares_of ms) ≡ length ms * suc boxes
 length-squares_of boxes [] have = omega arith
 length-squares_of boxes (m ∷ ms) have = omega (arith, length-append m.boxes (m.player ∷ squares_of ms), have zero m refl, length-squares_of boxes ms (λ i n at. have (suc i) n at))
-
--- the squares of one more position
-pub squares-push : (ms : List Scene) (m : Scene) → squares_of (ms ++ m ∷ []) ≡ squares_of ms ++ (m.boxes ++ m.player ∷ [])
-squares-push [] m = refl
-squares-push (n ∷ ms) m = ap (λ xs. n.boxes ++ n.player ∷ xs) (squares-push ms m) ∙ sym (assoc n.boxes)
-  where
-    assoc : (xs : List ℕ) → (xs ++ n.player ∷ squares_of ms) ++ (m.boxes ++ m.player ∷ []) ≡ xs ++ n.player ∷ (squares_of ms ++ (m.boxes ++ m.player ∷ []))
-    assoc [] = refl
-    assoc (x ∷ xs) = ap (λ ys. x ∷ ys) (assoc xs)
 
 -- positions are read from their squares
 pub scenes-squares : (boxes : ℕ) (ms : List Scene) → HaveBoxes boxes ms → scenes_of boxes (length ms) (squares_of ms) ≡ ms

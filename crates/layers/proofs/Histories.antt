@@ -7,25 +7,25 @@ use Rattle.std.specs.declared.cmp.Ordering.TheVariants.{Less}
 use Rattle.std.specs.Cmp.Lexicographic.{slice_cmp}
 use Rattle.grid.specs.declared.square.Push.{Push}
 use Rattle.grid.specs.Board.{Scene, push_cmp}
-use Rattle.layers.specs.Tasks.{Task}
+use Rattle.successors.specs.Tasks.{Task}
 use Rattle.grid.specs.Lawful.{IsLevel}
 use Rattle.layers.specs.declared.fault.Refusal.{Refusal}
 use Rattle.layers.specs.declared.fault.Refusal.TheVariants.{OtherLevel, OtherLayer, NoSuchRank, Double, Over, OutOfMemory}
-use Rattle.layers.specs.Openings.{Origin}
-use Rattle.layers.specs.Reaching.{Reaches, IsLayerOf}
+use Rattle.store.specs.Entries.{Origin, Closed, places_of}
+use Rattle.successors.specs.Reaching.{Reaches, IsLayerOf}
 use Rattle.layers.specs.Origins.{HasOrigin}
-use Rattle.layers.specs.ParcelView.{ParcelView, IsParcel}
-use Rattle.layers.specs.BookView.{BookView, Closed, places_of, HasClosedOrigin, IsShareOfLayer, AreBounds, IsLawfulBook}
+use Rattle.successors.specs.ParcelView.{ParcelView, IsParcel}
+use Rattle.layers.specs.BookView.{BookView, HasClosedOrigin, IsShareOfLayer, AreBounds, IsLawfulBook}
 use Rattle.layers.specs.Books.{IsNew, HandBackRefused, after_refusal, with_closed}
 use Rattle.layers.specs.Events.{Event, Happens, History, AreMadeAlike, KeepsClosed, CloseAlike}
 use Rattle.layers.specs.Events.Event.{begins, begin_refused, claims, hands_back, hand_back_refused, reopens, closes, close_refused}
 use Rattle.layers.specs.Events.History.{nothing, event}
 use Rattle.layers.proofs.lemmas.Books.{level_laws, read_at, same_places}
 use Rattle.layers.proofs.lemmas.BookEvents.{lawful_begin, lawful_claim, lawful_parcel, lawful_over, lawful_reopen, lawful_closed}
-use Rattle.layers.proofs.lemmas.Exchange.{map_at, lead_unique}
+use Rattle.successors.proofs.lemmas.Lists.{map_at, at_before}
+use Rattle.layers.proofs.lemmas.Exchange.{lead_unique}
 use Rattle.layers.proofs.First.{lawful_new}
 use Rattle.layers.proofs.lemmas.Layers.{layer_unique, place_unique}
-use Rattle.layers.proofs.lemmas.Lists.{at_before}
 
 -- ---- one event
 

@@ -7,20 +7,19 @@ use Rattle.grid.specs.Board.{Scene}
 use Rattle.grid.specs.Lawful.{IsLevel, box_count}
 use Rattle.grid.specs.States.{FitsLevel}
 use Rattle.layers.specs.declared.limits.TheConstants.{MOST_POSITIONS}
-use Rattle.layers.specs.Openings.{Origin}
-use Rattle.layers.specs.Reaching.{IsLayerOf, AreLayersOf, total}
+use Rattle.store.specs.Entries.{Origin, Closed, places_of, origins_of}
+use Rattle.successors.specs.Reaching.{IsLayerOf, AreLayersOf, total}
 use Rattle.layers.specs.LayerView.{LayerView, HaveOrigins, IsWhole}
-use Rattle.layers.specs.BookView.{BookView, Closed, last_layer, last_list, places_of, origins_of, HasClosedOrigin, IsLawfulBook, AreLawfulBooks}
+use Rattle.layers.specs.BookView.{BookView, last_layer, last_list, HasClosedOrigin, IsLawfulBook, AreLawfulBooks}
 use Rattle.layers.specs.Books.{AreAllShares}
 use Rattle.layers.specs.inside.Merging.{IsMerged}
 use Rattle.layers.proofs.Flat.{HaveBoxes}
 use Rattle.layers.proofs.Merged.{merged_layer, merged_origin, merged_fits}
 use Rattle.layers.proofs.lemmas.Books.{read_at, total-push}
-use Rattle.layers.proofs.lemmas.Closings.{take_at}
+use Rattle.successors.proofs.lemmas.Lists.{take_at, at_map, at-push, sum_by_first}
 use Rattle.layers.proofs.lemmas.Counting.{sum_by-word, total-map}
-use Rattle.layers.proofs.lemmas.Exchange.{at_map}
-use Rattle.layers.proofs.lemmas.Joins.{no_origins, all_origins, length-take_all}
-use Rattle.layers.proofs.lemmas.Lists.{at-push, sum_by_first}
+use Rattle.layers.proofs.lemmas.Joins.{no_origins, all_origins}
+use Rattle.store.proofs.lemmas.Copies.{length-take_all}
 use Rattle.layers.proofs.lemmas.Shares.{some_shares, first_book, last_shares, books_total}
 
 -- the layers before the last closed one are known whole

@@ -11,7 +11,7 @@ use Rattle.grid.specs.declared.masks.TheConstants.{WORD_BITS}
 use Rattle.layers.specs.inside.Bits.{AreMarks, marks_from, marks_of}
 use Rattle.area.proofs.lemmas.WordSets.{none_set}
 use Rattle.layers.proofs.lemmas.Books.{none_counted}
-use Rattle.layers.proofs.lemmas.Lists.{count-set_true, sum_by_first}
+use Rattle.successors.proofs.lemmas.Lists.{count-set_true, sum_by_first}
 
 -- ---- marks by their ranks
 

@@ -12,19 +12,21 @@ use Rattle.grid.specs.declared.square.Push.{Push}
 use Rattle.grid.specs.Board.{Scene, push_cmp}
 use Rattle.grid.specs.Lawful.{IsLevel}
 use Rattle.grid.specs.States.{FitsLevel}
-use Rattle.layers.specs.Layered.{IsIn}
-use Rattle.layers.specs.Openings.{Origin, origin_cmp, IsLayered}
-use Rattle.layers.specs.Origins.{IsSuccessor, share_of}
-use Rattle.layers.specs.Tasks.{Task}
-use Rattle.layers.specs.Capping.{Admits}
-use Rattle.layers.specs.Reaching.{Reaches, IsLayerOf}
+use Rattle.successors.specs.Layered.{IsIn}
+use Rattle.store.specs.Entries.{Origin, origin_cmp, Closed, places_of}
+use Rattle.layers.specs.Openings.{IsLayered}
+use Rattle.successors.specs.Expansion.{IsSuccessor}
+use Rattle.successors.specs.Shares.{share_of}
+use Rattle.successors.specs.Tasks.{Task}
+use Rattle.successors.specs.Capping.{Admits}
+use Rattle.successors.specs.Reaching.{Reaches, IsLayerOf}
 use Rattle.layers.specs.Leads.{IsLeadOf}
-use Rattle.layers.specs.BookView.{Closed, places_of, HasClosedOrigin, AreSharesOfLayer}
-use Rattle.layers.specs.FoundView.{origin_in}
+use Rattle.layers.specs.BookView.{HasClosedOrigin, AreSharesOfLayer}
+use Rattle.store.specs.FoundView.{origin_in}
 use Rattle.layers.specs.inside.Merging.{IsMerged}
 use Rattle.layers.proofs.lemmas.Books.{level_laws, read_at}
-use Rattle.layers.proofs.lemmas.Exchange.{at_map, map_at, lead_unique}
-use Rattle.layers.proofs.lemmas.Lists.{Rises}
+use Rattle.successors.proofs.lemmas.Lists.{at_map, map_at, Rises}
+use Rattle.layers.proofs.lemmas.Exchange.{lead_unique}
 use Rattle.layers.proofs.lemmas.Orders.{slice_cmp-snoc, less_then, equal_then, nat_cmp_less, nat_cmp_equal}
 use Rattle.layers.proofs.Ordered.{taken_of, merged_all, merged_rise}
 

@@ -1,23 +1,16 @@
 -- What stands open while a layer is made: one offered origin more, and all of them.
 use Rattle.std.proofs.Common.{◌≡◌, ℕ, ◌<◌, ◌≤◌, false, List, Option, Some, None, ◌⊎◌, inl, inr, refl, sym, ap, subst, ◌∙◌, if◌then◌else◌}
-use Rattle.std.proofs.lemmas.Cmp.{upto, nat_cmp_total, on_total, then_total, tied_itself}
+use Rattle.std.proofs.lemmas.Cmp.{upto, tied_itself}
 use Rattle.std.proofs.lemmas.Option.{same_Some, none-some}
 use Rattle.std.specs.Prelude.{slice_get}
 use Rattle.std.specs.declared.cmp.Ordering.{Ordering}
 use Rattle.std.specs.declared.cmp.Ordering.TheVariants.{Less, Equal, Greater}
 use Rattle.std.specs.Ordering.{ordering_reverse, is_gt, is_lt}
 use Rattle.std.specs.Cmp.{IsTotalOrder}
-use Rattle.layers.specs.Layered.{IsIn}
-use Rattle.layers.specs.Openings.{Origin, origin_cmp, lesser, Entry, IsNext, IsOpen}
-
--- origins are totally ordered
-pub origin_total : {P : Type 0} {cmp : P → P → Ordering} → IsTotalOrder cmp → IsTotalOrder (origin_cmp cmp)
-origin_total {P} {cmp} total = then_total (on_total (λ (o : Origin P). o.0) nat_cmp_total) (on_total (λ (o : Origin P). o.1) total)
-
--- the lesser of an origin that is there and another, or the other
-abbrev pub best : {P : Type 0} → (P → P → Ordering) → Option (Origin P) → Origin P → Origin P
-best cmp None o = o
-best cmp (Some a) o = lesser cmp a o
+use Rattle.successors.specs.Layered.{IsIn}
+use Rattle.store.specs.Entries.{Origin, origin_cmp, lesser, Entry}
+use Rattle.layers.specs.Openings.{IsNext, IsOpen}
+use Rattle.store.proofs.lemmas.Origins.{origin_total, best}
 
 module _ {P : Type 0} {cmp : P → P → Ordering} (total : IsTotalOrder cmp) where
   -- the lesser of two is no later than either

@@ -8,15 +8,14 @@ use Rattle.std.specs.Prelude.{slice_get}
 use Rattle.std.specs.Ordering.{is_gt}
 use Rattle.grid.specs.Board.{push_cmp}
 use Rattle.grid.proofs.lemmas.Orders.{push_cmp_total}
-use Rattle.layers.specs.Layered.{IsIn}
-use Rattle.layers.specs.Openings.{origin_cmp}
-use Rattle.layers.specs.Reaching.{total}
-use Rattle.layers.specs.BookView.{Closed}
-use Rattle.layers.specs.FoundView.{origin_in}
+use Rattle.successors.specs.Layered.{IsIn}
+use Rattle.store.specs.Entries.{origin_cmp, Closed}
+use Rattle.successors.specs.Reaching.{total}
+use Rattle.store.specs.FoundView.{origin_in}
 use Rattle.layers.specs.inside.Merging.{IsLeastFirst, Takes, IsMerged}
 use Rattle.layers.specs.inside.Merging.Takes.{nothing, one}
-use Rattle.layers.proofs.lemmas.Lists.{Rises, at-push, at_before, at_seam, sum_by_first}
-use Rattle.layers.proofs.Open.{origin_total}
+use Rattle.successors.proofs.lemmas.Lists.{Rises, at-push, at_before, at_seam, sum_by_first, set-at, set_elsewhere}
+use Rattle.store.proofs.lemmas.Origins.{origin_total}
 
 -- ---- lists
 
@@ -30,19 +29,6 @@ at-set (w ∷ xs) (suc s) (suc t) x y z here at = elim (at-set xs s t x y z here
   | inl same ↦ inl (ap suc same.0, same.1)
   | inr other ↦ inr ((λ e. other.0 (omega (arith, e))), other.1)
 ]
-
--- what stood elsewhere still stands, and the new one in its place
-pub set-at : {A : Type 0} (xs : List A) (s : ℕ) (x y : A) → slice_get xs s ≡ Some x → slice_get (set xs s y) s ≡ Some y
-set-at [] s x y here = absurd (none-some x here)
-set-at (w ∷ xs) zero x y here = refl
-set-at (w ∷ xs) (suc s) x y here = set-at xs s x y here
-
-pub set_elsewhere : {A : Type 0} (xs : List A) (s t : ℕ) (y z : A) → t ≢ s → slice_get xs t ≡ Some z → slice_get (set xs s y) t ≡ Some z
-set_elsewhere [] s t y z ne at = absurd (none-some z at)
-set_elsewhere (w ∷ xs) zero zero y z ne at = absurd (ne refl)
-set_elsewhere (w ∷ xs) zero (suc t) y z ne at = at
-set_elsewhere (w ∷ xs) (suc s) zero y z ne at = at
-set_elsewhere (w ∷ xs) (suc s) (suc t) y z ne at = set_elsewhere xs s t y z (λ e. ne (ap suc e)) at
 
 -- a list ends with another
 abbrev EndsWith : {A : Type 0} → List A → List A → Type 0

@@ -12,10 +12,10 @@ use Rattle.grid.proofs.lemmas.Plays.{play-append, play_last, play_scene, walk_of
 use Rattle.area.proofs.lemmas.Norms.{norm_unique, norm_exists, norm_along_walk, norm_walk, norm_walk_back}
 use Rattle.doom.specs.Deadlocks.{Doomed, Undoomed}
 use Rattle.layers.specs.Openings.{IsLayered}
-use Rattle.layers.specs.Tasks.{Task}
-use Rattle.layers.specs.Capping.{Admits}
-use Rattle.layers.specs.Reaching.{Reaches}
-use Rattle.layers.specs.Origins.{IsSuccessor}
+use Rattle.successors.specs.Tasks.{Task}
+use Rattle.successors.specs.Capping.{Admits}
+use Rattle.successors.specs.Reaching.{Reaches}
+use Rattle.successors.specs.Expansion.{IsSuccessor}
 use Rattle.layers.proofs.lemmas.Admissions.{admitted_before, admitted_earlier}
 
 module _ {board : Board} where

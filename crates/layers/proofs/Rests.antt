@@ -12,21 +12,20 @@ use Rattle.std.specs.Ordering.{ordering_reverse, is_gt, is_lt}
 use Rattle.grid.specs.declared.square.Push.{Push}
 use Rattle.grid.specs.Board.{push_cmp}
 use Rattle.grid.proofs.lemmas.Orders.{push_cmp_total}
-use Rattle.layers.specs.Openings.{Origin, origin_cmp}
-use Rattle.layers.specs.Reaching.{total}
-use Rattle.layers.specs.BookView.{Closed, last_list, places_of, origins_of}
-use Rattle.layers.specs.FoundView.{origin_in}
+use Rattle.store.specs.Entries.{Origin, origin_cmp, Closed, places_of, origins_of}
+use Rattle.successors.specs.Reaching.{total}
+use Rattle.layers.specs.BookView.{last_list}
+use Rattle.store.specs.FoundView.{origin_in}
 use Rattle.layers.specs.declared.book.Book.TheInside.{Inside}
 use Rattle.layers.specs.inside.BookInside.{book_view, cut_at}
-use Rattle.layers.specs.inside.Insides.{IsCopied, squares_of}
+use Rattle.store.specs.inside.Copies.{IsCopied, squares_of}
 use Rattle.layers.specs.inside.Merging.{HasLeastFirst, Takes, first_origin}
 use Rattle.layers.specs.inside.Merging.Takes.{nothing, one}
 use Rattle.layers.proofs.Cuts.{length-cut_at, cut_piece}
-use Rattle.layers.proofs.lemmas.Lists.{sum_by_first}
-use Rattle.layers.proofs.Flat.{squares-push}
-use Rattle.layers.proofs.lemmas.Joins.{places-push, origins-push}
+use Rattle.successors.proofs.lemmas.Lists.{sum_by_first}
+use Rattle.store.proofs.lemmas.Copies.{squares-push, places-push, origins-push}
 use Rattle.layers.proofs.lemmas.Orders.{less_upto, upto-less}
-use Rattle.layers.proofs.Open.{origin_total}
+use Rattle.store.proofs.lemmas.Origins.{origin_total}
 
 -- ---- what is left of a list
 

@@ -5,10 +5,10 @@ use Rattle.std.proofs.lemmas.Option.{same_Some, none-some}
 use Rattle.std.specs.Prelude.{slice_get}
 use Rattle.std.specs.Option.{option_to_list}
 use Rattle.grid.specs.declared.square.Push.{Push}
-use Rattle.layers.specs.Openings.{Origin}
-use Rattle.layers.specs.Reaching.{total}
-use Rattle.layers.specs.BookView.{BookView, Closed, last_layer, last_list, places_of, origins_of, AreLawfulBooks}
-use Rattle.layers.specs.inside.Insides.{squares_of}
+use Rattle.store.specs.Entries.{Origin, Closed, places_of, origins_of}
+use Rattle.successors.specs.Reaching.{total}
+use Rattle.layers.specs.BookView.{BookView, last_layer, last_list, AreLawfulBooks}
+use Rattle.store.specs.inside.Copies.{squares_of}
 use Rattle.layers.specs.inside.Merging.{AreMerged, AreTaken, Takes, left_of}
 use Rattle.layers.specs.inside.Merging.Takes.{nothing, one}
 use Rattle.layers.proofs.Rests.{drop_first, first_left, taken_counted}

@@ -1,23 +1,21 @@
 -- What contracts see of a book, and what is true of each: a book is lawful.
-use Rattle.std.specs.Prelude.{◌≡◌, ℕ, zero, suc, ◌+◌, ◌-◌, ◌^◌, ◌<◌, ◌≤◌, Bool, true, false, List, [], ◌∷◌, ◌++◌, length, map, sum, take, count_by, slice_get, slice_index_or, Option, None, Some}
-use Rattle.std.specs.Map.{lookup}
-use Rattle.std.specs.Option.{option_to_list}
+use Rattle.std.specs.Prelude.{◌≡◌, ℕ, zero, suc, ◌+◌, ◌-◌, ◌^◌, ◌<◌, ◌≤◌, Bool, true, false, List, [], length, map, sum, take, count_by, slice_get, slice_index_or, Option, None, Some}
 use Rattle.grid.specs.declared.square.Push.{Push}
 use Rattle.grid.specs.Board.{Scene, push_cmp}
 use Rattle.grid.specs.States.{FitsLevel}
 use Rattle.grid.specs.Lawful.{IsLevel}
-use Rattle.layers.specs.declared.limits.TheConstants.{MAX_SHARES, MAX_WORKERS, MOST_POSITIONS}
-use Rattle.layers.specs.Layered.{IsIn, IsLayer}
-use Rattle.layers.specs.Openings.{Origin, Entry, IsOpen}
-use Rattle.layers.specs.Tasks.{Task}
-use Rattle.layers.specs.Capping.{Admits}
-use Rattle.layers.specs.Reaching.{Reaches, AreLayersOf, total}
-use Rattle.layers.specs.Origins.{IsSuccessor, HasOrigin, same_scene, share_of}
-use Rattle.layers.specs.Distances.{AreDistinct, IsAtDistance}
-
--- a closed position with its parent's rank and its push; in layer 0 there is neither
-abbrev pub Closed : Type 0
-Closed = Scene × Option (Origin Push)
+use Rattle.successors.specs.declared.limits.TheConstants.{MAX_SHARES}
+use Rattle.layers.specs.declared.limits.TheConstants.{MAX_WORKERS, MOST_POSITIONS}
+use Rattle.successors.specs.Layered.{IsIn, IsLayer}
+use Rattle.store.specs.Entries.{Origin, Entry, Closed, places_of, origin_of}
+use Rattle.successors.specs.Distances.{AreDistinct, IsAtDistance}
+use Rattle.layers.specs.Openings.{IsOpen}
+use Rattle.successors.specs.Tasks.{Task}
+use Rattle.successors.specs.Capping.{Admits}
+use Rattle.successors.specs.Reaching.{Reaches, AreLayersOf, total}
+use Rattle.successors.specs.Expansion.{IsSuccessor}
+use Rattle.layers.specs.Origins.{HasOrigin}
+use Rattle.successors.specs.Shares.{share_of}
 
 -- a book: what it was made with, the level with its cap first; its closed layers, layer 0 first; whether the last one has begun, and then marks
 -- over its ranks; the positions that stand open, each with its least origin; for each worker the number of ranks that
@@ -44,15 +42,6 @@ last_layer v = length v.closed - 1
 abbrev pub last_list : BookView → List Closed
 last_list v = slice_index_or v.closed (last_layer v) []
 
--- the positions of a closed list
-abbrev pub places_of : List Closed → List Scene
-places_of es = map (λ e. e.0) es
-
--- the origins of a closed list, of those positions that have one
-abbrev pub origins_of : List Closed → List (Origin Push)
-origins_of [] = []
-origins_of (e ∷ es) = option_to_list e.1 ++ origins_of es
-
 -- a position of the book's share
 abbrev pub InShare : BookView → Scene → Type 0
 InShare v m = share_of v.shares m ≡ v.share
@@ -60,10 +49,6 @@ InShare v m = share_of v.shares m ≡ v.share
 -- a position of the book's share that is admitted in the layer after the last closed one
 abbrev pub IsKept : BookView → Scene → Type 0
 IsKept v m = InShare v m × Admits v.level (length v.closed) m
-
--- the origin that a position stands open with, if it does
-abbrev pub origin_of : List (Entry Scene Push) → Scene → Option (Origin Push)
-origin_of waiting m = lookup (same_scene m) waiting
 
 -- a closed position of layer k beyond layer 0 has its parent's rank and its push; one of layer 0 has none
 abbrev pub HasClosedOrigin : Task → ℕ → Scene → Option (Origin Push) → Type 0

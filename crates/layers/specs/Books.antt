@@ -1,9 +1,9 @@
 -- The events of a book: each gives the book after it as a function of the book before, and says what it leaves.
-use Rattle.std.specs.Prelude.{◌≡◌, ◌≢◌, ℕ, suc, ◌+◌, ◌<◌, ◌≤◌, Bool, true, false, ◌==◌, ◌&&◌, not, List, [], ◌∷◌, ◌++◌, length, map, fold, replicate, slice_get, slice_index_or, slice_set, Option, None, Some, ◌⊎◌, is_some, if◌then◌else◌}
+use Rattle.std.specs.Prelude.{◌≡◌, ◌≢◌, ℕ, suc, ◌+◌, ◌<◌, ◌≤◌, Bool, true, false, ◌==◌, ◌&&◌, not, List, [], ◌∷◌, ◌++◌, length, fold, replicate, slice_get, slice_index_or, slice_set, Option, None, Some, ◌⊎◌}
 use Rattle.std.specs.Map.{lookup}
 use Rattle.std.specs.List.{list_any}
 use Rattle.grid.specs.declared.square.Push.{Push}
-use Rattle.grid.specs.Board.{Board, Scene, push_cmp}
+use Rattle.grid.specs.Board.{Board, Scene}
 use Rattle.layers.specs.declared.book.Claim.{Claim}
 use Rattle.layers.specs.declared.book.Closed.{Closed as Report}
 use Rattle.grid.specs.declared.limits.TheConstants.{MAX_BOXES}
@@ -18,16 +18,15 @@ use Rattle.layers.specs.declared.fault.CloseFault.{CloseFault}
 use Rattle.layers.specs.declared.fault.CloseFault.TheVariants.{NotAll, OutOfMemory as CloseOutOfMemory}
 use Rattle.layers.specs.declared.fault.JoinFault.{JoinFault}
 use Rattle.layers.specs.declared.fault.JoinFault.TheVariants.{NotWhole, OutOfMemory as JoinOutOfMemory}
-use Rattle.layers.specs.declared.parcel.Successor.{Successor}
-use Rattle.std.specs.Ordering.{is_gt}
-use Rattle.layers.specs.Openings.{Origin, origin_cmp, Entry, lesser}
-use Rattle.layers.specs.Origins.{same_scene, share_of}
-use Rattle.layers.specs.Tasks.{Task}
-use Rattle.layers.specs.Reaching.{total}
+use Rattle.successors.specs.declared.parcel.Successor.{Successor}
+use Rattle.store.specs.Entries.{Origin, Entry, same_scene, Closed, places_of}
+use Rattle.successors.specs.Shares.{share_of}
+use Rattle.successors.specs.Tasks.{Task}
+use Rattle.successors.specs.Reaching.{total}
 use Rattle.layers.specs.LayerView.{LayerView}
-use Rattle.layers.specs.ParcelView.{ParcelView}
-use Rattle.layers.specs.BookView.{BookView, Closed, IsShareOfLayer, IsDone, origin_of, last_layer, places_of}
-use Rattle.layers.specs.Distances.{AreDistinct}
+use Rattle.successors.specs.ParcelView.{ParcelView}
+use Rattle.layers.specs.BookView.{BookView, IsShareOfLayer, IsDone, last_layer}
+use Rattle.store.specs.Entering.{entered}
 
 -- ---- a new book
 
@@ -96,30 +95,13 @@ ClaimAnswer v (Some claim) after =
 
 -- ---- hand back
 
--- a position is offered with an origin: one that stands open keeps the lesser of its origins, and a new one comes last
-abbrev pub offered : List (Entry Scene Push) → Scene → Origin Push → List (Entry Scene Push)
-offered [] m o = (m, o) ∷ []
-offered (e ∷ es) m o = if same_scene m e.0 then (e.0, lesser push_cmp e.1 o) ∷ es else e ∷ offered es m o
-
 -- the position is in a closed list
 abbrev pub is_closed : List (List Closed) → Scene → Bool
 is_closed lists m = list_any (λ es. list_any (λ e. same_scene m e.0) es) lists
 
--- the position is of the share and among no closed positions
-abbrev pub is_wanted_in : List Closed → ℕ → ℕ → Scene → Bool
-is_wanted_in seen shares share m = (share_of shares m == share) && not (is_some (lookup (same_scene m) seen))
-
 -- the position is of the book's share and in no closed list
 abbrev pub is_wanted : BookView → Scene → Bool
 is_wanted v m = (share_of v.shares m == v.share) && not (is_closed v.closed m)
-
--- each position that stands open is wanted
-abbrev pub AreWanted : (Scene → Bool) → List (Entry Scene Push) → Type 0
-AreWanted wanted waiting = (m : Scene) → is_some (origin_of waiting m) ≡ true → wanted m ≡ true
-
--- one successor of a rank enters, if its position is wanted
-abbrev pub entered : (Scene → Bool) → ℕ → List (Entry Scene Push) → Successor → List (Entry Scene Push)
-entered wanted rank waiting s = if wanted s.position then offered waiting s.position (rank, s.push) else waiting
 
 -- what stands open once the successors of a rank have entered
 abbrev pub all_entered : BookView → ℕ → List Successor → List (Entry Scene Push)
@@ -174,22 +156,6 @@ with_reopened v = record v { claimed = v.done }
 -- the layer has begun and each of its ranks is done
 abbrev pub AllDone : BookView → Type 0
 AllDone v = (v.begun ≡ true) × ((r : ℕ) → r < length v.done → IsDone v r)
-
--- an entry as it stands in a closed list
-abbrev pub closed_entry : Entry Scene Push → Closed
-closed_entry y = (y.0, Some y.1)
-
--- no entry has a lesser origin than one before it
-abbrev pub RiseByOrigin : List (Entry Scene Push) → Type 0
-RiseByOrigin es = (i j : ℕ) (x y : Entry Scene Push) → i < j → slice_get es i ≡ Some x → slice_get es j ≡ Some y → is_gt (origin_cmp push_cmp x.1 y.1) ≡ false
-
--- the same entries, perhaps in another order: as many, each position found as before, and none twice
-abbrev pub AreReordered : List (Entry Scene Push) → List (Entry Scene Push) → Type 0
-AreReordered before after = (length after ≡ length before) × ((m : Scene) → origin_of after m ≡ origin_of before m) × AreDistinct (map (λ e. e.0) after)
-
--- what stood open is appended to what was seen, in the order of the origins
-abbrev pub IsSortedAppend : List Closed → List (Entry Scene Push) → List Closed → Type 0
-IsSortedAppend seen waiting after = (es : List (Entry Scene Push)) × AreReordered waiting es × RiseByOrigin es × (after ≡ seen ++ map closed_entry es)
 
 -- the book after a close: what stood open is the next closed list, by rank and push; nothing has begun
 abbrev pub with_closed : BookView → List Closed → BookView

@@ -6,8 +6,9 @@ use Rattle.layers.specs.declared.fault.BeginFault.{BeginFault}
 use Rattle.layers.specs.declared.fault.Refusal.{Refusal}
 use Rattle.layers.specs.declared.fault.CloseFault.{CloseFault}
 use Rattle.layers.specs.LayerView.{LayerView, IsWhole}
-use Rattle.layers.specs.ParcelView.{ParcelView, IsParcel}
-use Rattle.layers.specs.BookView.{BookView, Closed}
+use Rattle.successors.specs.ParcelView.{ParcelView, IsParcel}
+use Rattle.layers.specs.BookView.{BookView}
+use Rattle.store.specs.Entries.{Closed}
 use Rattle.layers.specs.Books.{MayBegin, with_begun, BeginRefused, ClaimAnswer, MayEnter, with_parcel, HandBackRefused, after_refusal, with_reopened, IsClosedBy, CloseRefused}
 
 -- an event with its answer: a layer begins or is refused; a rank is claimed, or none is left; a worker's parcel is

@@ -1,10 +1,10 @@
 -- How many positions books hold.
 use Rattle.std.specs.Prelude.{◌≡◌, ℕ, ◌+◌, List, length, sum_by}
 use Rattle.grid.specs.Board.{Scene}
-use Rattle.layers.specs.Layered.{IsIn}
-use Rattle.layers.specs.Tasks.{Task}
-use Rattle.layers.specs.Reaching.{total}
-use Rattle.layers.specs.Distances.{AreDistinct, IsAtDistance}
+use Rattle.successors.specs.Layered.{IsIn}
+use Rattle.successors.specs.Tasks.{Task}
+use Rattle.successors.specs.Reaching.{total}
+use Rattle.successors.specs.Distances.{AreDistinct, IsAtDistance}
 use Rattle.layers.specs.BookView.{BookView}
 
 -- how many positions a book holds: those that are closed and those that stand open

@@ -5,9 +5,9 @@ use Rattle.grid.specs.Board.{Scene}
 use Rattle.grid.specs.States.{FitsLevel}
 use Rattle.grid.specs.Lawful.{IsLevel}
 use Rattle.layers.specs.declared.limits.TheConstants.{MOST_POSITIONS}
-use Rattle.layers.specs.Openings.{Origin}
-use Rattle.layers.specs.Tasks.{Task}
-use Rattle.layers.specs.Reaching.{IsLayerOf, AreLayersOf, total}
+use Rattle.store.specs.Entries.{Origin}
+use Rattle.successors.specs.Tasks.{Task}
+use Rattle.successors.specs.Reaching.{IsLayerOf, AreLayersOf, total}
 use Rattle.layers.specs.Origins.{HasOrigin}
 
 -- a layer: its level with its cap, its number, its normal positions by rank, and for each the rank of its parent in the layer

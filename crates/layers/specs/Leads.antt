@@ -2,8 +2,8 @@
 use Rattle.std.specs.Prelude.{List}
 use Rattle.grid.specs.declared.square.Push.{Push}
 use Rattle.grid.specs.Board.{Board, Scene, push_cmp}
-use Rattle.layers.specs.Layered.{IsLead}
-use Rattle.layers.specs.Reaching.{Reaches}
+use Rattle.successors.specs.Layered.{IsLead}
+use Rattle.successors.specs.Reaching.{Reaches}
 
 -- ps is the lead of n: the least push list through undoomed positions that leads there
 abbrev pub IsLeadOf : Board → Scene → List Push → Type 0

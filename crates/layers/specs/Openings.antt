@@ -1,27 +1,12 @@
 -- What stands open while a layer is made, and what the next one is. Over any places N and pushes P, so that nothing here
 -- speaks of a board: Edge n p m says that the push p leads from n to m.
-use Rattle.std.specs.Prelude.{◌≡◌, ℕ, suc, ◌<◌, ◌≤◌, false, List, length, slice_get, Option, Some, ◌⊎◌, [], ◌∷◌, ◌++◌, if◌then◌else◌}
+use Rattle.std.specs.Prelude.{◌≡◌, ℕ, suc, ◌<◌, ◌≤◌, false, List, length, slice_get, Option, Some, ◌⊎◌, [], ◌∷◌, ◌++◌}
 use Rattle.std.specs.declared.cmp.Ordering.{Ordering}
 use Rattle.std.specs.declared.cmp.Ordering.TheVariants.{Less, Equal}
-use Rattle.std.specs.Ordering.{nat_cmp, ordering_then, is_gt, is_lt}
+use Rattle.std.specs.Ordering.{is_gt}
 use Rattle.std.specs.Cmp.{IsTotalOrder}
-use Rattle.layers.specs.Layered.{IsIn}
-
--- how a place was come to: the rank in the layer before, and the push
-abbrev pub Origin : Type 0 → Type 0
-Origin P = ℕ × P
-
--- origins are ordered by the rank, then by the push
-abbrev pub origin_cmp : {P : Type 0} → (P → P → Ordering) → Origin P → Origin P → Ordering
-origin_cmp cmp a b = ordering_then (nat_cmp a.0 b.0) (cmp a.1 b.1)
-
--- the lesser of two origins
-abbrev pub lesser : {P : Type 0} → (P → P → Ordering) → Origin P → Origin P → Origin P
-lesser cmp a b = if is_lt (origin_cmp cmp b a) then b else a
-
--- a place with its origin
-abbrev pub Entry : Type 0 → Type 0 → Type 0
-Entry N P = N × Origin P
+use Rattle.successors.specs.Layered.{IsIn}
+use Rattle.store.specs.Entries.{Origin, origin_cmp, Entry}
 
 -- ys is the kept successors of layer k that are in no layer up to k, each once, with its least origin, in the order
 -- of the origins

@@ -1,11 +1,5 @@
 -- What keeps the books of the code: what its loops keep, what fields hold, why it ends. No report rests on it.
 pub mod BookInside
 pub mod Insides
-pub mod Packed
 pub mod Merging
-pub mod Placing
-pub mod ParcelInside
-pub mod Pruned
-pub mod Sums
-pub mod Dealt
 pub mod Bits

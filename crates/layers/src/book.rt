@@ -3,27 +3,24 @@ ghost use Rattle.grid.specs.Board.{start};
 ghost use Rattle.grid.specs.Lawful.{box_count};
 ghost use Rattle.grid.specs.States.{FitsLevel};
 ghost use Rattle.layers.specs.BookView.{AreBounds, IsLawfulBook, IsShareOfLayer, last_layer};
-ghost use Rattle.layers.specs.Capping.{HasBound, capped};
+ghost use Rattle.successors.specs.Capping.{HasBound, capped};
 ghost use Rattle.layers.specs.Books.{AreNewShares, IsNew, BookRefused, closed_place};
 ghost use Rattle.layers.specs.inside.BookInside.{AreCuts, IsFirst, IsPiece};
-ghost use Rattle.layers.specs.FoundView.{first_entries};
+ghost use Rattle.store.specs.FoundView.{first_entries};
 ghost use Rattle.std.specs.Arc.{arc_value};
 
-use crate::entering::share_of;
 use crate::fault::BookFault;
-use crate::found::Found;
 use crate::layer::Layer;
-use crate::limits::{MAX_SHARES, MAX_WORKERS};
+use crate::limits::MAX_WORKERS;
 use crate::marks::Marks;
-use crate::pruner::Pruner;
-use crate::pruning::{bound_for, is_admitted};
-use crate::task::Task;
 use area::{Scratch, normal};
 use doom::{Bound, Dead, doomed};
 use grid::{Level, MAX_BOXES, Position};
 use std::alloc::{AllocError, Global};
 use std::marker::Model;
 use std::sync::Arc;
+use store::Found;
+use successors::{MAX_SHARES, Pruner, Task, bound_for, is_admitted, share_of};
 
 // So many words are two lines of memory, which processors fetch together. What two workers write that far apart does not take
 // the one's lines away from the other's processor.

@@ -1,12 +1,12 @@
-ghost use Rattle.std.specs.Prelude.{◌≡◌, ◌<◌, Some, false, slice_get, IfNone, IfSome, IfErr, OnOk, OnErr, IfOk, length};
+ghost use Rattle.std.specs.Prelude.{◌≡◌, ◌<◌, [], ◌∷◌, ◌++◌, Some, false, slice_get, vec_len, IfNone, IfSome, IfErr, OnOk, OnErr, IfOk, length};
+ghost use Rattle.std.specs.Vec.{vec_capacity};
 ghost use Rattle.layers.specs.Books.{IsAtWork, MayBegin, with_begun, BeginRefused, ClaimAnswer, MayEnter, with_parcel, HandBackRefused, after_refusal, with_reopened, IsClosedBy, CloseRefused};
 
 use crate::book::{Book, Claim, Closed};
-use crate::closing::push_within;
 use crate::fault::{BeginFault, CloseFault, Refusal};
-use crate::inbox::most_waiting;
 use crate::layer::Layer;
-use crate::parcel::Parcel;
+use store::most_waiting;
+use successors::Parcel;
 
 impl Book {
     /// Opens the ranks of the last closed layer. An error leaves the book as it was.
@@ -152,4 +152,12 @@ impl Book {
             count: count as u64,
         })
     }
+}
+
+// Appends a place to a list that has room for it.
+fn push_within(places: &mut Vec<usize>, place: usize)
+    requires { vec_len places.old < vec_capacity places.old }
+    ensures { places.new.items ≡ places.old.items ++ place ∷ [] }
+{
+    let _ = places.push(place);
 }

@@ -1,7 +1,7 @@
 ghost use Rattle.std.specs.Prelude.{◌≡◌, ◌↔◌, ℕ, IsTrue, IfOk, IfSome, MatchOption, MatchResult, ◌≤◌, Some, ◌∷◌, [], map, slice_get};
 ghost use Rattle.grid.specs.Lawful.{box_count};
 ghost use Rattle.layers.specs.declared.limits.TheConstants.{MOST_POSITIONS};
-ghost use Rattle.layers.specs.Reaching.{total};
+ghost use Rattle.successors.specs.Reaching.{total};
 ghost use Rattle.std.specs.Bool.{MatchBool};
 ghost use Rattle.layers.specs.BookView.{AreLawfulBooks, last_layer, last_list};
 ghost use Rattle.layers.specs.Books.{AreAllShares, IsJoinOf, IsShareBeside, JoinRefused};
@@ -11,10 +11,10 @@ use crate::book::{Book, last_start};
 use crate::fault::JoinFault;
 use crate::layer::Layer;
 use crate::merging::merge;
-use crate::origin::Origin;
 use crate::stretch::{Stretch, put_together};
 use grid::{MAX_BOXES, Square};
 use std::alloc::{AllocError, Global};
+use store::Origin;
 
 impl Layer {
     /// The last closed layer of the books, which are all the shares in order. The only errors are that they are not,

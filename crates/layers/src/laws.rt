@@ -1,10 +1,11 @@
 //! Laws of books that callers may rely on. Each is the contract of a function that does nothing.
 ghost use Rattle.std.specs.Prelude.{◌≡◌, ℕ, ◌+◌, ◌<◌, ◌≤◌, List, length, map, sum_by};
 ghost use Rattle.grid.specs.Board.{Scene};
-ghost use Rattle.layers.specs.Tasks.{Task};
+ghost use Rattle.successors.specs.Tasks.{Task};
 ghost use Rattle.grid.specs.Lawful.{IsLevel};
-ghost use Rattle.layers.specs.Reaching.{AreLayersOf, IsLayerOf, total};
-ghost use Rattle.layers.specs.BookView.{BookView, Closed, AreBounds, AreSharesOfLayer, AreLawfulBooks, IsLawfulBook, IsShareOfLayer, last_layer, last_list};
+ghost use Rattle.successors.specs.Reaching.{AreLayersOf, IsLayerOf, total};
+ghost use Rattle.layers.specs.BookView.{BookView, AreBounds, AreSharesOfLayer, AreLawfulBooks, IsLawfulBook, IsShareOfLayer, last_layer, last_list};
+ghost use Rattle.store.specs.Entries.{Closed};
 ghost use Rattle.layers.specs.LayerView.{LayerView, IsWhole};
 ghost use Rattle.layers.specs.Books.{AreAllShares, HasBegun, IsNew};
 ghost use Rattle.layers.specs.Holding.{AreManyIn, all_held};

@@ -5,10 +5,10 @@ ghost use Rattle.grid.specs.States.{FitsLevel};
 ghost use Rattle.doom.specs.Deadlocks.{Undoomed};
 ghost use Rattle.layers.specs.LayerView.{IsWhole};
 
-use crate::origin::Origin;
-use crate::task::Task;
 use grid::{Level, MAX_BOXES, Position, Push, Square};
 use std::marker::Model;
+use store::Origin;
+use successors::Task;
 
 /// A whole layer of its level: the normal positions whose least push lists through undoomed positions have the
 /// layer's number of pushes, in the order of those lists. Where a cap of pushes is set it has only those positions from

@@ -1,41 +1,27 @@
 //! Layers of normal positions in the order of the least push lists that lead there, and the books in which the
-//! successors of a layer are entered until the next one closes.
+//! successors of a layer are entered until the next one closes. What successors are given by stands in `successors`; what its
+//! callers name of it is here too.
 #![tactic(auto)]
 
 mod book;
-mod closing;
-mod copying;
-mod dealing;
-mod entering;
 mod events;
-mod expansion;
+mod expanding;
 mod fault;
-mod found;
 mod holding;
-mod inbox;
 mod join;
-mod key;
 pub mod laws;
 mod layer;
 mod limits;
 mod marks;
 mod merging;
-mod origin;
-mod parcel;
 mod parents;
-mod pruner;
-mod pruning;
-mod pushing;
 mod stretch;
-mod table;
-mod task;
 
 pub use book::{Book, Claim, Closed};
-pub use expansion::{expand, expand_over, expand_over_into};
+pub use expanding::{expand, expand_over, expand_over_into};
 pub use fault::{BeginFault, BookFault, CloseFault, JoinFault, Refusal};
 pub use layer::Layer;
-pub use limits::{MAX_SHARES, MAX_SUCCESSORS, MAX_WORKERS, MOST_POSITIONS};
-pub use parcel::{Parcel, Successor};
+pub use limits::{MAX_WORKERS, MOST_POSITIONS};
 pub use parents::Parents;
-pub use pruner::Pruner;
 pub use stretch::Stretch;
+pub use successors::{MAX_SHARES, MAX_SUCCESSORS, Parcel, Pruner, Successor};

@@ -1,14 +1,8 @@
 //! The limits of books and layers, which everything else names.
-use area::MAX_PUSHES;
+use successors::MAX_SHARES;
 
 /// The greatest number of workers. A book may be made for one more, whose number is the caller's own.
 pub const MAX_WORKERS: u8 = 64;
-
-/// The greatest number of shares that the positions are dealt to.
-pub const MAX_SHARES: u8 = 16;
-
-/// The greatest number of successors of a position: no more than it allows pushes.
-pub const MAX_SUCCESSORS: usize = MAX_PUSHES;
 
 /// The greatest number of positions of a layer and those before it together: what the greatest number of books holds
 /// at the greatest limit.

@@ -1,17 +1,17 @@
 //! The last closed lists of the books of several shares, merged into one by their origins.
 ghost use Rattle.std.specs.Prelude.{◌≡◌, ◌<◌, ◌≤◌, ◌∷◌, List, IfOk, IfSome, MatchOption, OnOk, drop, length, map, slice_index_or, true};
 ghost use Rattle.layers.specs.declared.limits.TheConstants.{MOST_POSITIONS};
-ghost use Rattle.layers.specs.Reaching.{total};
-ghost use Rattle.layers.specs.BookView.{Closed, last_list};
-ghost use Rattle.layers.specs.inside.Insides.{IsCopied};
+ghost use Rattle.successors.specs.Reaching.{total};
+ghost use Rattle.store.specs.Entries.{Closed};
+ghost use Rattle.layers.specs.BookView.{last_list};
+ghost use Rattle.store.specs.inside.Copies.{IsCopied};
 ghost use Rattle.layers.specs.inside.Merging.{AreMerged, HasLeastFirst, first_origin, left_of};
 
 use crate::book::{Book, last_start};
-use crate::found::Found;
-use crate::origin::Origin;
 use grid::{MAX_BOXES, Square};
 use std::alloc::{AllocError, Global};
 use std::marker::Model;
+use store::{Found, Origin};
 
 /// What is left of a book's last closed list while it is merged.
 #[derive(Drop)]
@@ -25,8 +25,8 @@ pub(crate) struct Rest<'a> {
 
 impl<'a> Model for Rest<'a> {
     ghost use Rattle.std.specs.Prelude.{◌≡◌, ◌≤◌, List, drop, length};
-    ghost use Rattle.layers.specs.BookView.{Closed};
-    ghost use Rattle.layers.specs.inside.Insides.{IsCopied};
+    ghost use Rattle.store.specs.Entries.{Closed};
+    ghost use Rattle.store.specs.inside.Copies.{IsCopied};
     ghost use Rattle.layers.specs.inside.Merging.{first_origin};
 
     ghost Value = { List Closed };

@@ -2,9 +2,9 @@
 ghost use Rattle.std.specs.Prelude.{◌≡◌, slice_get};
 
 use crate::layer::Layer;
-use crate::origin::Origin;
 use grid::Push;
 use std::marker::Model;
+use store::Origin;
 
 /// The parents of a layer's positions, by rank: all that is needed of an earlier layer to read a solution back.
 #[derive(Debug, Drop)]
@@ -15,7 +15,7 @@ pub struct Parents {
 impl Model for Parents {
     ghost use Rattle.std.specs.Prelude.{List};
     ghost use Rattle.grid.specs.declared.square.Push.{Push};
-    ghost use Rattle.layers.specs.Openings.{Origin as Parted};
+    ghost use Rattle.store.specs.Entries.{Origin as Parted};
 
     ghost Value = { List (Parted Push) };
 

@@ -2,16 +2,16 @@
 //! side.
 ghost use Rattle.std.specs.Prelude.{◌≡◌, ℕ, ◌<◌, ◌≤◌, [], true, IfOk, IfSome, Some, length, map, slice_get};
 ghost use Rattle.layers.specs.declared.limits.TheConstants.{MOST_POSITIONS};
-ghost use Rattle.layers.specs.Reaching.{total};
+ghost use Rattle.successors.specs.Reaching.{total};
 ghost use Rattle.layers.specs.BookView.{last_list};
 ghost use Rattle.layers.specs.inside.Merging.{AreMerged, AreTaken, IsStretchOf};
 
 use crate::book::{Book, last_start};
 use crate::join::tell_all;
 use crate::merging::{count_all, is_none_left, next_of, rests_of};
-use crate::origin::Origin;
 use grid::Square;
 use std::alloc::{AllocError, Global};
+use store::Origin;
 
 /// How often a list is halved at most until one place is left.
 const HALVINGS: u32 = 64;

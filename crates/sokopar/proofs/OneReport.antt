@@ -11,8 +11,8 @@ use Rattle.lurd.specs.ExactlyOne.{ExactlyOne}
 use Rattle.lurd.specs.Parsing.{Reads}
 use Rattle.lurd.specs.Verdict.{IsVerdict}
 use Rattle.lurd.specs.declared.fault.LurdFault.{LurdFault}
-use Rattle.layers.specs.Tasks.{Task}
-use Rattle.layers.specs.Capping.{capped}
+use Rattle.successors.specs.Tasks.{Task}
+use Rattle.successors.specs.Capping.{capped}
 use Rattle.solo.specs.Answers.{IsAnswer}
 use Rattle.solo.specs.declared.answer.Answer.{Answer}
 use Rattle.xsb.specs.Collection.{Found, IsCollection, IsJudged}

@@ -8,7 +8,7 @@ use Rattle.lurd.specs.declared.limits.TheConstants.{MAX_MOVES}
 use Rattle.lurd.specs.declared.verdict.Verdict.TheVariants as verdict
 use Rattle.solo.specs.declared.answer.Answer.{Answer}
 use Rattle.solo.specs.declared.answer.Answer.TheVariants as answer
-use Rattle.layers.specs.Capping.{capped}
+use Rattle.successors.specs.Capping.{capped}
 use Rattle.solo.specs.Answers.{IsAnswer}
 use Rattle.sokopar.specs.Listing.{Listed, IsListing, level_at}
 use Rattle.sokopar.specs.Report.{Report, IsReplayReport, ReplaysOn, line, verdict_report}

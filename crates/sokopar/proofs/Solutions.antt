@@ -11,7 +11,7 @@ use Rattle.lurd.specs.Verdict.{IsVerdict}
 use Rattle.lurd.specs.inside.Item.{upper_count}
 use Rattle.lurd.proofs.lemmas.Solutions.{pushes_of_play}
 use Rattle.solo.specs.declared.answer.Answer.TheVariants as answer
-use Rattle.layers.specs.Capping.{capped}
+use Rattle.successors.specs.Capping.{capped}
 use Rattle.solo.specs.Answers.{IsAnswer}
 use Rattle.sokopar.specs.Report.{line}
 

@@ -3,7 +3,7 @@ use Rattle.std.proofs.Common.{◌≡◌, ℕ, ◌≤◌, Option, Result, Ok, Err
 use Rattle.grid.specs.declared.limits.TheConstants.{MAX_BOXES}
 use Rattle.grid.specs.Board.{Board}
 use Rattle.grid.specs.Lawful.{box_count}
-use Rattle.layers.specs.Capping.{capped}
+use Rattle.successors.specs.Capping.{capped}
 use Rattle.solo.specs.Answers.{IsAnswer}
 use Rattle.solo.specs.declared.answer.Answer.{Answer}
 use Rattle.sokopar.specs.Report.{Report}

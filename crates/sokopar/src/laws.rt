@@ -3,7 +3,7 @@ ghost use Rattle.std.specs.Prelude.{◌≡◌, ℕ, List, Option, length};
 ghost use Rattle.grid.specs.Board.{Board};
 ghost use Rattle.grid.specs.declared.moves.Letter.{Letter};
 ghost use Rattle.lurd.specs.Verdict.{IsVerdict};
-ghost use Rattle.layers.specs.Capping.{capped};
+ghost use Rattle.successors.specs.Capping.{capped};
 ghost use Rattle.solo.specs.Answers.{IsAnswer};
 ghost use Rattle.sokopar.specs.DeadMap.{IsDeadReport};
 ghost use Rattle.sokopar.specs.OneAtMost.{IsOneAtMost};

@@ -9,7 +9,7 @@ use Rattle.layers.specs.LayerView.{LayerView}
 use Rattle.layers.specs.BookView.{BookView, IsLawfulBook}
 use Rattle.layers.specs.Books.{HasBegun}
 use Rattle.layers.specs.Holding.{all_held, held}
-use Rattle.layers.proofs.lemmas.Closings.{take_push}
+use Rattle.successors.proofs.lemmas.Lists.{take_push}
 use Rattle.solo.specs.inside.Together.{AreStill, IsStill}
 use Rattle.solo.proofs.Each.{set_here, set_there}
 use Rattle.solo.proofs.lemmas.Together.{back_to}

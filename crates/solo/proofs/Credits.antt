@@ -2,9 +2,10 @@
 use Rattle.std.proofs.Common.{◌≡◌, ℕ, zero, suc, ◌+◌, ◌<◌, Bool, true, false, not, cond, List, [], ◌∷◌, length, count_by, get_or, set, Some, refl, sym, ap, subst, ◌∙◌, arith}
 use Rattle.std.specs.Prelude.{slice_get}
 use Rattle.std.proofs.lemmas.Option.{same_Some}
-use Rattle.layers.proofs.lemmas.Lists.{sum_by_first}
-use Rattle.layers.specs.ParcelView.{ParcelView}
-use Rattle.layers.specs.BookView.{BookView, Closed}
+use Rattle.successors.proofs.lemmas.Lists.{sum_by_first}
+use Rattle.successors.specs.ParcelView.{ParcelView}
+use Rattle.layers.specs.BookView.{BookView}
+use Rattle.store.specs.Entries.{Closed}
 use Rattle.layers.specs.Books.{AllDone, with_closed, with_parcel}
 use Rattle.solo.specs.inside.Turns.{AreDoneBy, IsDoneBy}
 use Rattle.solo.proofs.Each.{HaveChangedUpTo, one_changed, some_changed}

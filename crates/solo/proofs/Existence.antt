@@ -1,20 +1,19 @@
 -- That there is an answer: it cannot fail to be, for each level, cap and limit.
-use Rattle.std.proofs.Common.{◌≡◌, ℕ, zero, suc, ◌+◌, ◌<◌, ◌≤◌, List, [], ◌∷◌, ◌++◌, length, Some, None, ◌⊎◌, inl, inr, refl, sym, ap, subst, arith}
+use Rattle.std.proofs.Common.{◌≡◌, ℕ, zero, suc, ◌+◌, ◌<◌, ◌≤◌, List, [], ◌∷◌, ◌++◌, length, Some, None, ◌⊎◌, inl, inr, refl, sym, ap, subst, arith, false}
 use Rattle.std.proofs.lemmas.Bool.{cases_lt}
 use Rattle.std.proofs.lemmas.Option.{none-some, same_Some}
 use Rattle.std.specs.Prelude.{slice_get}
 use Rattle.grid.specs.declared.square.Push.{Push}
 use Rattle.grid.specs.Board.{Board, Scene, IsSolved, push_cmp}
 use Rattle.grid.specs.Lawful.{IsLevel}
-use Rattle.layers.specs.Layered.{IsLead}
-use Rattle.layers.specs.Reaching.{AreLayersOf, IsLayerOf, Reaches, total}
-use Rattle.layers.specs.Capping.{Admits}
-use Rattle.layers.specs.Tasks.{Task}
+use Rattle.successors.specs.Layered.{IsLead}
+use Rattle.successors.specs.Reaching.{AreLayersOf, IsLayerOf, Reaches, total}
+use Rattle.successors.specs.Capping.{Admits}
+use Rattle.successors.specs.Tasks.{Task}
 use Rattle.layers.proofs.lemmas.Books.{level_laws}
 use Rattle.layers.proofs.lemmas.Orders.{shortlex_shorter}
 use Rattle.grid.specs.Plays.{shortlex}
 use Rattle.std.specs.Ordering.{is_gt}
-use Rattle.std.proofs.Common.{false}
 use Rattle.solo.specs.Answers.{HasNone, IsAnswer}
 use Rattle.solo.specs.Leads.{AreUnsolved, IsFirstSolved}
 use Rattle.solo.specs.inside.Searched.{AreSearched}

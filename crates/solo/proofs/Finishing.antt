@@ -6,12 +6,13 @@ use Rattle.std.proofs.lemmas.List.Sums.{count_by-le-length}
 use Rattle.std.proofs.lemmas.Option.{slice_get_within}
 use Rattle.layers.specs.declared.book.Claim.{Claim}
 use Rattle.layers.specs.LayerView.{LayerView, IsWhole}
-use Rattle.layers.specs.ParcelView.{ParcelView}
-use Rattle.layers.specs.BookView.{BookView, Closed, IsDone, IsLawfulBook}
+use Rattle.successors.specs.ParcelView.{ParcelView}
+use Rattle.layers.specs.BookView.{BookView, IsDone, IsLawfulBook}
+use Rattle.store.specs.Entries.{Closed}
 use Rattle.layers.specs.Books.{AllDone, ClaimAnswer, HasBegun, IsAtWork, with_closed, with_parcel, with_reopened}
 use Rattle.layers.specs.Events.{AreMadeAlike}
 use Rattle.layers.proofs.lemmas.Books.{begun_ranks}
-use Rattle.layers.proofs.lemmas.Lists.{count-set_true}
+use Rattle.successors.proofs.lemmas.Lists.{count-set_true}
 use Rattle.solo.specs.inside.Turns.{IsDue, IsOfRank, IsStillAt, WorkAnswer, with_over}
 use Rattle.solo.specs.declared.turn.Worked.TheVariants.{Through, Over}
 

@@ -19,9 +19,9 @@ use Rattle.grid.proofs.lemmas.Plays.{play_scene, play_push_on, walk_keeps_boxes,
 use Rattle.area.specs.Area.{at, Area}
 use Rattle.area.specs.LeastWalks.{IsLeastWalk, WalkAnswer, walk_letters}
 use Rattle.layers.specs.Leads.{IsLeadOf}
-use Rattle.layers.specs.Expansion.{after_push}
+use Rattle.successors.specs.Expansion.{after_push}
 use Rattle.area.specs.Pushes.{CanPush}
-use Rattle.layers.proofs.lemmas.Successors.{pushes_on, after_scene}
+use Rattle.successors.proofs.lemmas.Successors.{pushes_on, after_scene}
 use Rattle.solo.specs.Leads.{WritesLead}
 use Rattle.solo.specs.inside.LeastPlays.{ArePlayed, AllComeTo, WritesLeastPlay, WritesPush}
 

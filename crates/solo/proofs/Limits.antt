@@ -5,13 +5,13 @@ use Rattle.std.proofs.lemmas.Option.{slice_get_within}
 use Rattle.grid.specs.declared.dir.Dir.{Dir}
 use Rattle.grid.specs.declared.square.Push.{Push}
 use Rattle.grid.specs.Board.{Scene}
-use Rattle.layers.specs.Tasks.{Task}
+use Rattle.successors.specs.Tasks.{Task}
 use Rattle.grid.specs.Lawful.{IsLevel}
-use Rattle.layers.specs.Reaching.{IsLayerOf, AreLayersOf, total}
-use Rattle.layers.specs.Distances.{IsAtDistance}
+use Rattle.successors.specs.Reaching.{IsLayerOf, AreLayersOf, total}
+use Rattle.successors.specs.Distances.{IsAtDistance}
 use Rattle.layers.proofs.lemmas.Layers.{place_unique}
-use Rattle.layers.proofs.lemmas.Closings.{take_at}
-use Rattle.layers.proofs.lemmas.Books.{level_laws, read_at, take_short, total-take_more}
+use Rattle.successors.proofs.lemmas.Lists.{take_at, take_short}
+use Rattle.layers.proofs.lemmas.Books.{level_laws, read_at, total-take_more}
 use Rattle.solo.specs.Answers.{HaveTotal, HasInAll, IsSolutionOf, PassesLimit}
 use Rattle.solo.specs.Fewest.{IsFewest, IsUnsolvable}
 use Rattle.solo.proofs.Solving.{layer_distance}

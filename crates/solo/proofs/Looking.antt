@@ -5,12 +5,12 @@ use Rattle.std.proofs.lemmas.List.{nil_from_length, length-map, map-append}
 use Rattle.std.proofs.lemmas.List.Sums.{sum_by_push}
 use Rattle.grid.specs.declared.moves.Letter.{Letter}
 use Rattle.grid.specs.Board.{Scene}
-use Rattle.layers.specs.Tasks.{Task}
+use Rattle.successors.specs.Tasks.{Task}
 use Rattle.grid.specs.declared.square.Push.{Push}
-use Rattle.layers.specs.Openings.{Origin}
-use Rattle.layers.specs.Reaching.{IsLayerOf, total}
+use Rattle.store.specs.Entries.{Origin}
+use Rattle.successors.specs.Reaching.{IsLayerOf, total}
 use Rattle.layers.specs.LayerView.{LayerView, IsWhole}
-use Rattle.layers.proofs.lemmas.Lists.{at-push}
+use Rattle.successors.proofs.lemmas.Lists.{at-push}
 use Rattle.solo.specs.Answers.{HasNone, IsAnswer}
 use Rattle.solo.specs.Leads.{AreUnsolved, IsFirstSolved, WritesLead}
 use Rattle.solo.specs.inside.Searched.{AreSearched, AreTrailed, HaveBefore, IsLookedAt, IsNextOf, places_of}

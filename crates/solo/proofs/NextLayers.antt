@@ -19,15 +19,16 @@ use Rattle.grid.proofs.lemmas.Orders.{nat_cmp-less, nat_cmp-same, push_cmp_total
 use Rattle.grid.proofs.lemmas.Plays.{cut_first_push, play_scene}
 use Rattle.grid.proofs.lemmas.Steps.{inside_grid}
 use Rattle.area.proofs.lemmas.Norms.{norm_scene}
-use Rattle.layers.specs.Layered.{IsIn}
-use Rattle.layers.specs.Openings.{Entry, IsNext, Origin, origin_cmp}
-use Rattle.layers.specs.Origins.{IsSuccessor}
-use Rattle.layers.specs.Reaching.{AreLayersOf, IsLayerOf}
-use Rattle.layers.specs.Capping.{Admits}
-use Rattle.layers.specs.Tasks.{Task}
+use Rattle.successors.specs.Layered.{IsIn}
+use Rattle.store.specs.Entries.{Entry, Origin, origin_cmp}
+use Rattle.layers.specs.Openings.{IsNext}
+use Rattle.successors.specs.Expansion.{IsSuccessor}
+use Rattle.successors.specs.Reaching.{AreLayersOf, IsLayerOf}
+use Rattle.successors.specs.Capping.{Admits}
+use Rattle.successors.specs.Tasks.{Task}
 use Rattle.layers.proofs.lemmas.Books.{level_laws, one_successor, read_at}
 use Rattle.layers.proofs.lemmas.Exchange.{next_layer}
-use Rattle.layers.proofs.lemmas.Lists.{at-push, at_before, at_seam}
+use Rattle.successors.proofs.lemmas.Lists.{at-push, at_before, at_seam}
 use Rattle.layers.proofs.lemmas.Orders.{equal_then, less_then}
 
 -- ---- what cannot fail

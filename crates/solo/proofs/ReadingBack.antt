@@ -7,10 +7,10 @@ use Rattle.grid.specs.declared.square.Push.{Push}
 use Rattle.grid.specs.declared.moves.Letter.{Letter}
 use Rattle.grid.specs.Board.{Board, Scene}
 use Rattle.grid.proofs.lemmas.Plays.{play_any}
-use Rattle.layers.specs.Tasks.{Task}
+use Rattle.successors.specs.Tasks.{Task}
 use Rattle.layers.specs.LayerView.{LayerView, IsWhole}
-use Rattle.layers.specs.Openings.{Origin}
-use Rattle.layers.specs.Reaching.{IsLayerOf}
+use Rattle.store.specs.Entries.{Origin}
+use Rattle.successors.specs.Reaching.{IsLayerOf}
 use Rattle.layers.specs.Leads.{IsLeadOf}
 use Rattle.layers.specs.Origins.{HasOrigin}
 use Rattle.solo.specs.Leads.{AreFirstLayers, WritesLead, places_or_none, last_places, level_of}

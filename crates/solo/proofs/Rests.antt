@@ -5,7 +5,8 @@ use Rattle.std.specs.Prelude.{slice_get}
 use Rattle.std.proofs.lemmas.List.{length-append}
 use Rattle.std.proofs.lemmas.Option.{slice_get_within}
 use Rattle.layers.specs.LayerView.{LayerView}
-use Rattle.layers.specs.BookView.{BookView, Closed, IsLawfulBook}
+use Rattle.layers.specs.BookView.{BookView, IsLawfulBook}
+use Rattle.store.specs.Entries.{Closed}
 use Rattle.layers.specs.Books.{IsClosedBy, with_closed}
 use Rattle.layers.specs.declared.book.Closed.{Closed as Report}
 use Rattle.solo.specs.inside.Turns.{IsStillAt, MayBeWorked, WorkAnswer}

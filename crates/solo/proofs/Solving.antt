@@ -21,15 +21,15 @@ use Rattle.grid.proofs.lemmas.Plays.{play_scene, play_boxes}
 use Rattle.area.proofs.lemmas.Norms.{norm_exists}
 use Rattle.doom.proofs.lemmas.Bounds.{solved_need_none}
 use Rattle.doom.proofs.lemmas.Soundness.{solution_safe}
-use Rattle.layers.specs.Layered.{IsIn}
-use Rattle.layers.specs.Tasks.{Task, IsAdmitted}
-use Rattle.layers.specs.Capping.{Admits}
-use Rattle.layers.specs.Reaching.{Reaches, IsLayerOf, AreLayersOf, total}
+use Rattle.successors.specs.Layered.{IsIn}
+use Rattle.successors.specs.Tasks.{Task, IsAdmitted}
+use Rattle.successors.specs.Capping.{Admits}
+use Rattle.successors.specs.Reaching.{Reaches, IsLayerOf, AreLayersOf, total}
 use Rattle.layers.specs.Leads.{IsLeadOf}
-use Rattle.layers.specs.Distances.{IsAtDistance}
+use Rattle.successors.specs.Distances.{IsAtDistance}
 use Rattle.layers.proofs.lemmas.Exchange.{lead-length, lead_unique, found}
 use Rattle.layers.proofs.lemmas.Layers.{place_unique}
-use Rattle.layers.proofs.lemmas.Lists.{at-push, at_seam, sum_by_first}
+use Rattle.successors.proofs.lemmas.Lists.{at-push, at_seam, sum_by_first}
 use Rattle.layers.proofs.lemmas.Orders.{shortlex_shorter, shortlex_same, less_upto, upto-less}
 use Rattle.layers.proofs.lemmas.Books.{level_laws, read_at}
 use Rattle.solo.specs.declared.answer.Answer.TheVariants.{Solved, Limit}

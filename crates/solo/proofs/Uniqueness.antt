@@ -11,14 +11,14 @@ use Rattle.grid.specs.Lawful.{IsLevel}
 use Rattle.grid.specs.Plays.{Play, stay, walk, push, dirs_of, letters_of}
 use Rattle.grid.proofs.lemmas.Orders.{least_solution_same}
 use Rattle.grid.proofs.lemmas.Steps.{walk_same, push_same, not_both}
-use Rattle.layers.specs.Layered.{IsIn}
-use Rattle.layers.specs.Tasks.{Task}
-use Rattle.layers.specs.Capping.{Admits}
-use Rattle.layers.specs.Reaching.{IsLayerOf, AreLayersOf, total}
-use Rattle.layers.specs.Distances.{AreDistinct, IsAtDistance}
+use Rattle.successors.specs.Layered.{IsIn}
+use Rattle.successors.specs.Tasks.{Task}
+use Rattle.successors.specs.Capping.{Admits}
+use Rattle.successors.specs.Reaching.{IsLayerOf, AreLayersOf, total}
+use Rattle.successors.specs.Distances.{AreDistinct, IsAtDistance}
 use Rattle.layers.proofs.lemmas.Exchange.{lead-length}
 use Rattle.layers.proofs.lemmas.Layers.{layer_unique}
-use Rattle.layers.proofs.lemmas.Closings.{take_at}
+use Rattle.successors.proofs.lemmas.Lists.{take_at}
 use Rattle.layers.proofs.lemmas.Books.{level_laws, read_at, layers_same, total-take_more}
 use Rattle.solo.specs.declared.answer.Answer.{Answer}
 use Rattle.solo.specs.declared.answer.Answer.TheVariants.{Solved, Unsolvable, NoneWithin, Limit}

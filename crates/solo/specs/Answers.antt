@@ -5,10 +5,10 @@ use Rattle.grid.specs.declared.square.Push.{Push}
 use Rattle.grid.specs.declared.moves.Letter.{Letter}
 use Rattle.grid.specs.Board.{Board, Scene, IsSolved, start}
 use Rattle.grid.specs.Plays.{Play, Any, IsSolution, IsLeastSolution, dirs_of, letters_of}
-use Rattle.layers.specs.Layered.{IsIn}
-use Rattle.layers.specs.Tasks.{Task}
-use Rattle.layers.specs.Reaching.{AreLayersOf, total}
-use Rattle.layers.specs.Distances.{AreDistinct, IsAtDistance}
+use Rattle.successors.specs.Layered.{IsIn}
+use Rattle.successors.specs.Tasks.{Task}
+use Rattle.successors.specs.Reaching.{AreLayersOf, total}
+use Rattle.successors.specs.Distances.{AreDistinct, IsAtDistance}
 use Rattle.solo.specs.declared.answer.Answer.{Answer}
 use Rattle.solo.specs.declared.answer.Answer.TheVariants.{Solved, Unsolvable, NoneWithin, Limit}
 

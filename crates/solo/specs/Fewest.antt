@@ -2,7 +2,7 @@
 use Rattle.std.specs.Prelude.{◌≡◌, ℕ, ◌≤◌, List, length}
 use Rattle.grid.specs.declared.dir.Dir.{Dir}
 use Rattle.grid.specs.declared.square.Push.{Push}
-use Rattle.layers.specs.Tasks.{Task}
+use Rattle.successors.specs.Tasks.{Task}
 use Rattle.solo.specs.Answers.{IsSolutionOf}
 
 -- no play solves the level within the cap

@@ -7,8 +7,8 @@ use Rattle.grid.specs.declared.moves.Letter.{Letter}
 use Rattle.grid.specs.Board.{Board, Scene, IsSolved, start, dir_cmp}
 use Rattle.grid.specs.Plays.{Play, Any, shortlex, dirs_of, letters_of}
 use Rattle.layers.specs.LayerView.{LayerView}
-use Rattle.layers.specs.Tasks.{Task}
-use Rattle.layers.specs.Capping.{uncapped}
+use Rattle.successors.specs.Tasks.{Task}
+use Rattle.successors.specs.Capping.{uncapped}
 use Rattle.layers.specs.Leads.{IsLeadOf}
 
 -- none of the positions has all its boxes on goals

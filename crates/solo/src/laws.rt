@@ -1,14 +1,14 @@
 //! Laws of answers that callers may rely on. Each is the contract of a function that does nothing.
 ghost use Rattle.std.specs.Prelude.{◌≡◌, ℕ, suc, ◌<◌, ◌≤◌, ◌↔◌, true, List, [], length};
 ghost use Rattle.grid.specs.Board.{Scene};
-ghost use Rattle.layers.specs.Tasks.{Task};
+ghost use Rattle.successors.specs.Tasks.{Task};
 ghost use Rattle.grid.specs.Lawful.{IsLevel};
 ghost use Rattle.layers.specs.BookView.{AreLawfulBooks, BookView, IsLawfulBook};
 ghost use Rattle.layers.specs.Books.{AreAllShares};
 ghost use Rattle.layers.specs.Holding.{all_held};
 ghost use Rattle.grid.specs.declared.square.Push.{Push};
-ghost use Rattle.layers.specs.Openings.{Origin};
-ghost use Rattle.layers.specs.Reaching.{IsLayerOf};
+ghost use Rattle.store.specs.Entries.{Origin};
+ghost use Rattle.successors.specs.Reaching.{IsLayerOf};
 ghost use Rattle.solo.specs.Answers.{HasInAll, HaveTotal, IsAnswer};
 ghost use Rattle.solo.specs.Fewest.{IsFewest, IsUnsolvable};
 ghost use Rattle.solo.specs.inside.Searched.{IsLookedAt};

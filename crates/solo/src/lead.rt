@@ -2,9 +2,9 @@
 ghost use Rattle.std.specs.Prelude.{◌≡◌, ℕ, ◌≤◌, ◌<◌, IfOk, List, Some, length, map, slice_get};
 ghost use Rattle.grid.specs.declared.square.Push.{Push as Made};
 ghost use Rattle.grid.specs.Board.{Scene};
-ghost use Rattle.layers.specs.Tasks.{Task};
+ghost use Rattle.successors.specs.Tasks.{Task};
 ghost use Rattle.layers.specs.LayerView.{LayerView, IsWhole};
-ghost use Rattle.layers.specs.Openings.{Origin};
+ghost use Rattle.store.specs.Entries.{Origin};
 ghost use Rattle.solo.specs.Leads.{AreFirstLayers, WritesLead, level_of, last_places};
 ghost use Rattle.solo.specs.inside.LeastPlays.{IsLeadAt};
 ghost use Rattle.solo.specs.inside.Searched.{AreTrailed, IsNextOf};

@@ -1,7 +1,7 @@
 ghost use Rattle.std.specs.Prelude.{◌≡◌, IfOk, OnOk, length};
 ghost use Rattle.grid.specs.Board.{Scene};
 ghost use Rattle.grid.specs.States.{IsScene};
-ghost use Rattle.layers.specs.Expansion.{after_push};
+ghost use Rattle.successors.specs.Expansion.{after_push};
 ghost use Rattle.area.specs.Pushes.{CanPush};
 ghost use Rattle.solo.specs.inside.LeastPlays.{ArePlayed, WritesLeastPlay, WritesPush};
 

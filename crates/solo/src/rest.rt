@@ -1,6 +1,6 @@
 //! What is left of a layer in books that several workers shared, within what the limit leaves over all of them.
 ghost use Rattle.std.specs.Prelude.{◌≡◌, ◌<◌, ◌≤◌, ℕ, Some, true, IfNone, IfOk, OnOk, length, slice_get};
-ghost use Rattle.layers.specs.declared.limits.TheConstants.{MAX_SHARES};
+ghost use Rattle.successors.specs.declared.limits.TheConstants.{MAX_SHARES};
 ghost use Rattle.layers.specs.BookView.{BookView, AreLawfulBooks};
 ghost use Rattle.layers.specs.Books.{HasBegun};
 ghost use Rattle.layers.specs.Holding.{all_held};

@@ -4,8 +4,10 @@ ghost use Rattle.std.specs.Prelude.{◌≡◌, ◌≢◌, ◌+◌, ◌-◌, ◌<
 ghost use Rattle.std.specs.Arc.{arc_value};
 ghost use Rattle.grid.specs.Lawful.{box_count};
 ghost use Rattle.grid.specs.declared.limits.TheConstants.{MAX_BOXES};
-ghost use Rattle.layers.specs.declared.limits.TheConstants.{MAX_SHARES, MAX_WORKERS};
-ghost use Rattle.layers.specs.BookView.{BookView, Closed};
+ghost use Rattle.successors.specs.declared.limits.TheConstants.{MAX_SHARES};
+ghost use Rattle.layers.specs.declared.limits.TheConstants.{MAX_WORKERS};
+ghost use Rattle.layers.specs.BookView.{BookView};
+ghost use Rattle.store.specs.Entries.{Closed};
 ghost use Rattle.layers.specs.Books.{AllDone, AreAllShares, AreNewShares, HasBegun, IsAtWork, IsJoinOf, MayBegin, with_begun, with_closed, with_parcel};
 ghost use Rattle.solo.specs.Answers.{HasNone, IsAnswer};
 ghost use Rattle.solo.specs.Leads.{IsFirstSolved};

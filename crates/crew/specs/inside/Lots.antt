@@ -1,7 +1,7 @@
 -- What a worker draws and hands back at a time.
 use Rattle.std.specs.Prelude.{◌≡◌, ℕ, ◌+◌, ◌≤◌, List, [], ◌∷◌, ◌++◌, length, map, slice_get, take, Some}
 use Rattle.layers.specs.LayerView.{LayerView}
-use Rattle.layers.specs.ParcelView.{ParcelView}
+use Rattle.successors.specs.ParcelView.{ParcelView}
 use Rattle.claims.specs.declared.views.Hand.{Hand}
 use Rattle.crew.specs.Work.{IsOfLayer}
 use Rattle.crew.specs.declared.end.End.{End}

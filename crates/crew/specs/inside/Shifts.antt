@@ -2,7 +2,7 @@
 use Rattle.std.specs.Prelude.{◌≡◌, ℕ, ◌≤◌, Bool, length}
 use Rattle.grid.specs.Board.{Board}
 use Rattle.layers.specs.LayerView.{LayerView}
-use Rattle.layers.specs.Tasks.{Task}
+use Rattle.successors.specs.Tasks.{Task}
 use Rattle.claims.specs.Hands.{LedgerView}
 
 -- the layer that they work on, the ledger that they draw its ranks from, how many books there are, and the gate

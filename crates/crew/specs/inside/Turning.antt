@@ -1,10 +1,10 @@
 -- The books of a search with workers, and how a turn of it ends.
 use Rattle.std.specs.Prelude.{ℕ, ◌+◌, ◌<◌, List}
 use Rattle.grid.specs.declared.square.Push.{Push}
-use Rattle.layers.specs.Tasks.{Task}
+use Rattle.successors.specs.Tasks.{Task}
 use Rattle.layers.specs.BookView.{BookView}
 use Rattle.layers.specs.LayerView.{LayerView}
-use Rattle.layers.specs.Openings.{Origin}
+use Rattle.store.specs.Entries.{Origin}
 use Rattle.solo.specs.Answers.{IsAnswer}
 use Rattle.solo.specs.inside.Together.{AreFinished}
 use Rattle.solo.specs.inside.Turns.{AreBetweenTurns, AreDealt, AreWorkingOn}

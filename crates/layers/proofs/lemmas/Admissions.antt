@@ -11,10 +11,10 @@ use Rattle.grid.proofs.lemmas.Steps.{walk_boxes, scene_after_walk, scene_after_p
 use Rattle.area.proofs.lemmas.Norms.{norm_walk}
 use Rattle.doom.specs.Bounds.{IsLower}
 use Rattle.doom.proofs.lemmas.Bounds.{push_lessens}
-use Rattle.layers.specs.Tasks.{Task, IsAdmitted}
-use Rattle.layers.specs.Capping.{Admits}
-use Rattle.layers.specs.Reaching.{Reaches}
-use Rattle.layers.specs.Origins.{IsSuccessor}
+use Rattle.successors.specs.Tasks.{Task, IsAdmitted}
+use Rattle.successors.specs.Capping.{Admits}
+use Rattle.successors.specs.Reaching.{Reaches}
+use Rattle.successors.specs.Expansion.{IsSuccessor}
 
 -- along a play the least sum falls by no more than the number of its pushes
 pub play_lessens : (board : Board) (s t : Scene) (ds : List Dir) (ps : List Push) (low : ℕ) → IsScene board s → Play board Any s ds ps t → IsLower board t.boxes low → (n : ℕ) × IsLower board s.boxes n × (n ≤ length ps + low)

@@ -10,22 +10,25 @@ use Rattle.std.specs.Ordering.{is_gt}
 use Rattle.grid.specs.declared.square.Push.{Push}
 use Rattle.grid.specs.Board.{Scene, push_cmp}
 use Rattle.grid.specs.States.{FitsLevel}
-use Rattle.layers.specs.Layered.{IsLayer}
-use Rattle.layers.specs.Openings.{Origin, origin_cmp, Entry, IsNext, IsOpen, IsLayered}
-use Rattle.layers.specs.Capping.{Admits}
-use Rattle.layers.specs.Reaching.{Reaches, IsLayerOf, total}
-use Rattle.layers.specs.Origins.{IsSuccessor, HasOrigin}
+use Rattle.successors.specs.Layered.{IsLayer}
+use Rattle.store.specs.Entries.{Origin, origin_cmp, Entry, Closed, places_of, origin_of}
+use Rattle.layers.specs.Openings.{IsNext, IsOpen, IsLayered}
+use Rattle.successors.specs.Capping.{Admits}
+use Rattle.successors.specs.Reaching.{Reaches, IsLayerOf, total}
+use Rattle.successors.specs.Expansion.{IsSuccessor}
+use Rattle.layers.specs.Origins.{HasOrigin}
 use Rattle.layers.specs.LayerView.{LayerView, IsWhole}
-use Rattle.layers.specs.ParcelView.{ParcelView, AreSuccessors, IsParcel}
-use Rattle.layers.specs.BookView.{BookView, Closed, last_layer, places_of, InShare, IsKept, origin_of, HasClosedOrigin, IsShareOfLayer, IsLawfulBook}
-use Rattle.layers.specs.Books.{MayBegin, with_begun, all_entered, with_parcel, IsAtWork, PassesLimit, MayEnter, with_reopened, AllDone, with_closed, closed_entry, IsSortedOpen}
-use Rattle.layers.proofs.lemmas.Exchange.{at_map, map_at, lead_unique, entry_lead, next_layer}
-use Rattle.layers.proofs.Offers.{open_places, listed-origin, origin-listed}
+use Rattle.successors.specs.ParcelView.{ParcelView, AreSuccessors, IsParcel}
+use Rattle.layers.specs.BookView.{BookView, last_layer, InShare, IsKept, HasClosedOrigin, IsShareOfLayer, IsLawfulBook}
+use Rattle.layers.specs.Books.{MayBegin, with_begun, all_entered, with_parcel, IsAtWork, PassesLimit, MayEnter, with_reopened, AllDone, with_closed, IsSortedOpen}
+use Rattle.store.specs.Entering.{closed_entry}
+use Rattle.successors.proofs.lemmas.Lists.{at_map, map_at, Distinct, at-push, sum-set_more, count-set_true, count-all, take_short}
+use Rattle.layers.proofs.lemmas.Exchange.{lead_unique, entry_lead, next_layer}
+use Rattle.store.proofs.lemmas.Offers.{open_places, listed-origin, origin-listed}
 use Rattle.layers.proofs.lemmas.Layers.{layer_unique, recut}
-use Rattle.layers.proofs.lemmas.Lists.{Distinct, at-push, sum-set_more, count-set_true, count-all}
 use Rattle.layers.proofs.Open.{reoffered, closed_next}
 use Rattle.layers.proofs.lemmas.Orders.{nat_cmp_equal}
-use Rattle.layers.proofs.lemmas.Books.{level_laws, one_successor, whole_layer, whole_layers, all_open, all_distinct, all_each, begun-since, open-distance, true_kept, true_cases, none_marked, none_counted, take_whole, take_short, total-push, total-take_more, read_push, layers_same, get_or_same}
+use Rattle.layers.proofs.lemmas.Books.{level_laws, one_successor, whole_layer, whole_layers, all_open, all_distinct, all_each, begun-since, open-distance, true_kept, true_cases, none_marked, none_counted, take_whole, total-push, total-take_more, read_push, layers_same, get_or_same}
 
 -- ---- begin
 

@@ -7,15 +7,16 @@ use Rattle.std.specs.Prelude.{slice_get}
 use Rattle.grid.specs.declared.square.Push.{Push}
 use Rattle.grid.specs.Board.{Scene}
 use Rattle.grid.specs.Lawful.{box_count}
-use Rattle.layers.specs.declared.parcel.Successor.{Successor}
-use Rattle.layers.specs.Openings.{Entry}
-use Rattle.layers.specs.Tasks.{Task}
-use Rattle.layers.specs.Reaching.{total}
-use Rattle.layers.specs.Origins.{same_scene, share_of}
-use Rattle.layers.specs.FoundView.{HaveFew}
-use Rattle.layers.specs.ParcelView.{ParcelView, IsParcel}
-use Rattle.layers.specs.BookView.{BookView, Closed, IsLawfulBook}
-use Rattle.layers.specs.Books.{is_wanted, is_wanted_in, entered, all_entered, with_parcel, IsAtWork, PassesLimit, MayEnter, IsTaken, AllDone, with_closed, closed_entry, RiseByOrigin, AreReordered, IsSortedOpen, IsClosedBy}
+use Rattle.successors.specs.declared.parcel.Successor.{Successor}
+use Rattle.store.specs.Entries.{Entry, same_scene, Closed}
+use Rattle.successors.specs.Tasks.{Task}
+use Rattle.successors.specs.Reaching.{total}
+use Rattle.successors.specs.Shares.{share_of}
+use Rattle.store.specs.FoundView.{HaveFew}
+use Rattle.successors.specs.ParcelView.{ParcelView, IsParcel}
+use Rattle.layers.specs.BookView.{BookView, IsLawfulBook}
+use Rattle.layers.specs.Books.{is_wanted, all_entered, with_parcel, IsAtWork, PassesLimit, MayEnter, IsTaken, AllDone, with_closed, IsSortedOpen, IsClosedBy}
+use Rattle.store.specs.Entering.{is_wanted_in, entered, closed_entry, RiseByOrigin, AreReordered}
 use Rattle.layers.proofs.lemmas.Exchange.{found}
 use Rattle.layers.specs.declared.book.Book.TheInside.{Inside}
 use Rattle.layers.specs.inside.BookInside.{book_view, cut_at, AreCuts}

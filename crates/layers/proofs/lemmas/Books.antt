@@ -12,21 +12,24 @@ use Rattle.grid.specs.declared.square.Push.{Push}
 use Rattle.grid.specs.Board.{Scene, push_cmp}
 use Rattle.grid.specs.Lawful.{IsLevel}
 use Rattle.grid.proofs.lemmas.Levels.{start_is_scene}
-use Rattle.layers.specs.declared.parcel.Successor.{Successor}
-use Rattle.layers.specs.Layered.{IsIn}
-use Rattle.layers.specs.Openings.{Entry, IsOpen, IsLayered}
-use Rattle.layers.specs.Tasks.{Task}
-use Rattle.layers.specs.Capping.{Admits}
-use Rattle.layers.specs.Reaching.{Reaches, IsLayerOf, AreLayersOf, total}
-use Rattle.layers.specs.Origins.{IsSuccessor, IsSuccessorIn, same_scene, share_of}
+use Rattle.successors.specs.declared.parcel.Successor.{Successor}
+use Rattle.successors.specs.Layered.{IsIn}
+use Rattle.store.specs.Entries.{Entry, same_scene, places_of, origin_of}
+use Rattle.layers.specs.Openings.{IsOpen, IsLayered}
+use Rattle.successors.specs.Tasks.{Task}
+use Rattle.successors.specs.Capping.{Admits}
+use Rattle.successors.specs.Reaching.{Reaches, IsLayerOf, AreLayersOf, total}
+use Rattle.successors.specs.Expansion.{IsSuccessor, IsSuccessorIn}
+use Rattle.successors.specs.Shares.{share_of}
 use Rattle.layers.specs.LayerView.{LayerView, IsWhole}
-use Rattle.layers.specs.BookView.{BookView, last_layer, places_of, InShare, IsKept, origin_of, IsLawfulBook}
-use Rattle.layers.specs.Distances.{IsAtDistance}
-use Rattle.layers.specs.Books.{HasBegun, offered, is_closed, is_wanted, entered}
-use Rattle.layers.proofs.lemmas.Exchange.{at_map, map_at, found}
-use Rattle.layers.proofs.Offers.{same_true, same_since, origin_of-offered, origin_of-other, open_places, offered-distinct, offered-each, listed-origin}
+use Rattle.layers.specs.BookView.{BookView, last_layer, InShare, IsKept, IsLawfulBook}
+use Rattle.successors.specs.Distances.{IsAtDistance}
+use Rattle.layers.specs.Books.{HasBegun, is_closed, is_wanted}
+use Rattle.store.specs.Entering.{offered, entered}
+use Rattle.successors.proofs.lemmas.Lists.{at_map, map_at, Distinct, any-find, any-here, sum_by_first, take_short}
+use Rattle.layers.proofs.lemmas.Exchange.{found}
+use Rattle.store.proofs.lemmas.Offers.{same_true, same_since, origin_of-offered, origin_of-other, open_places, offered-distinct, offered-each, listed-origin}
 use Rattle.layers.proofs.lemmas.Layers.{member, layer_unique}
-use Rattle.layers.proofs.lemmas.Lists.{Distinct, any-find, any-here, sum_by_first}
 use Rattle.layers.proofs.Open.{reoffered, offer_nothing, offer_one}
 use Rattle.layers.proofs.Reaching.{reaching_laws}
 
@@ -240,12 +243,6 @@ none_counted (suc n) = omega (arith, sum_by_first (λ c. cond c 1 0) false (repl
 pub take_whole : {A : Type 0} (xs ys : List A) → take (length xs) (xs ++ ys) ≡ xs
 take_whole [] ys = refl
 take_whole (x ∷ xs) ys = ap (λ zs. x ∷ zs) (take_whole xs ys)
-
-pub take_short : {A : Type 0} (xs : List A) (n : ℕ) → length xs ≤ n → take n xs ≡ xs
-take_short [] zero le = refl
-take_short [] (suc n) le = refl
-take_short (x ∷ xs) zero le = absurd (omega arith)
-take_short (x ∷ xs) (suc n) le = ap (λ zs. x ∷ zs) (take_short xs n (omega arith))
 
 pub total-push : {A : Type 0} (xss : List (List A)) (xs : List A) → total (xss ++ xs ∷ []) ≡ total xss + length xs
 total-push [] xs = omega arith

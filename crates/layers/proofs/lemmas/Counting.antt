@@ -3,9 +3,9 @@ use Rattle.std.proofs.Common.{◌≡◌, ℕ, zero, suc, ◌+◌, ◌*◌, ◌^�
 use Rattle.std.proofs.lemmas.List.{length-append}
 use Rattle.std.proofs.lemmas.Option.{same_Some, none-some}
 use Rattle.std.specs.Prelude.{slice_get}
-use Rattle.layers.specs.Layered.{IsIn}
-use Rattle.layers.specs.Reaching.{total}
-use Rattle.layers.proofs.lemmas.Lists.{Distinct, at_before, sum_by_first}
+use Rattle.successors.specs.Layered.{IsIn}
+use Rattle.successors.specs.Reaching.{total}
+use Rattle.successors.proofs.lemmas.Lists.{Distinct, at_before, sum_by_first}
 
 -- ---- lists without repetition
 

@@ -11,20 +11,11 @@ use Rattle.std.specs.declared.cmp.Ordering.TheVariants.{Less, Equal, Greater}
 use Rattle.std.specs.Ordering.{ordering_then, ordering_reverse, is_gt}
 use Rattle.std.specs.Cmp.Lexicographic.{slice_cmp, lists_total}
 use Rattle.grid.specs.Plays.{shortlex}
-use Rattle.layers.specs.Layered.{IsIn, IsLead, IsLayer}
-use Rattle.layers.specs.Openings.{origin_cmp, Entry, IsNext, IsLayered}
+use Rattle.successors.specs.Layered.{IsIn, IsLead, IsLayer}
+use Rattle.store.specs.Entries.{origin_cmp, Entry}
+use Rattle.layers.specs.Openings.{IsNext, IsLayered}
 use Rattle.layers.proofs.lemmas.Orders.{slice_cmp-snoc, slice_cmp_exact, shortlex-length, shortlex_shorter, shortlex_same, less_upto, then_upto, less_then, equal_then, upto-less, nat_cmp_upto, nat_cmp_less}
-
--- what stands at a place of a mapped list comes from what stands there
-pub at_map : {A B : Type 0} (f : A → B) (xs : List A) (r : ℕ) (b : B) → slice_get (map f xs) r ≡ Some b → (x : A) × (slice_get xs r ≡ Some x) × (f x ≡ b)
-at_map f [] r b e = cc
-at_map f (x ∷ xs) zero b e = (x, refl, cc)
-at_map f (x ∷ xs) (suc r) b e = at_map f xs r b e
-
-pub map_at : {A B : Type 0} (f : A → B) (xs : List A) (r : ℕ) (x : A) → slice_get xs r ≡ Some x → slice_get (map f xs) r ≡ Some (f x)
-map_at f [] r x e = cc
-map_at f (y ∷ xs) zero x e = cc
-map_at f (y ∷ xs) (suc r) x e = map_at f xs r x e
+use Rattle.successors.proofs.lemmas.Lists.{at_map, map_at}
 
 both_ways : (o : Ordering) → is_gt o ≡ false → is_gt (ordering_reverse o) ≡ false → o ≡ Equal
 both_ways Less a b = cc

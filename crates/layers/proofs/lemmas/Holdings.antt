@@ -4,17 +4,16 @@ use Rattle.std.proofs.lemmas.List.{length-map}
 use Rattle.std.proofs.lemmas.Option.{none-some}
 use Rattle.std.specs.Prelude.{slice_get}
 use Rattle.grid.specs.Board.{Scene}
-use Rattle.layers.specs.Layered.{IsIn}
-use Rattle.layers.specs.Origins.{share_of}
-use Rattle.layers.specs.Reaching.{AreLayersOf, total}
-use Rattle.layers.specs.Distances.{IsAtDistance}
+use Rattle.successors.specs.Layered.{IsIn}
+use Rattle.successors.specs.Shares.{share_of}
+use Rattle.successors.specs.Reaching.{AreLayersOf, total}
+use Rattle.successors.specs.Distances.{IsAtDistance}
 use Rattle.layers.specs.BookView.{BookView, InShare, IsLawfulBook, AreLawfulBooks}
 use Rattle.layers.specs.Books.{AreAllShares}
 use Rattle.layers.specs.Holding.{AreManyIn, all_held, held}
 use Rattle.layers.proofs.lemmas.Books.{open-distance}
 use Rattle.layers.proofs.lemmas.Counting.{flat, length-flat, of_flat, flat_distinct, total-map, sum_by-same}
-use Rattle.layers.proofs.lemmas.Exchange.{at_map}
-use Rattle.layers.proofs.lemmas.Lists.{sum_by_first}
+use Rattle.successors.proofs.lemmas.Lists.{at_map, sum_by_first}
 use Rattle.layers.proofs.lemmas.Shares.{books_total}
 
 -- the positions that stand open in a book

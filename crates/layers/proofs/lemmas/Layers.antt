@@ -6,9 +6,9 @@ use Rattle.std.specs.Prelude.{slice_get}
 use Rattle.std.specs.declared.cmp.Ordering.{Ordering}
 use Rattle.std.specs.declared.cmp.Ordering.TheVariants.{Less}
 use Rattle.std.specs.Cmp.Lexicographic.{slice_cmp, lists_total}
-use Rattle.layers.specs.Layered.{IsIn, IsLead, IsLayer}
+use Rattle.successors.specs.Layered.{IsIn, IsLead, IsLayer}
 use Rattle.layers.specs.Openings.{IsLayered}
-use Rattle.layers.proofs.lemmas.Lists.{Rises, same_lists}
+use Rattle.successors.proofs.lemmas.Lists.{Rises, same_lists}
 use Rattle.layers.proofs.lemmas.Exchange.{lead-length, lead_unique}
 
 -- a layer is one too where its part is told in other words

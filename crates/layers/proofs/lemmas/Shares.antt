@@ -7,20 +7,20 @@ use Rattle.std.specs.Prelude.{slice_get}
 use Rattle.grid.specs.declared.square.Push.{Push}
 use Rattle.grid.specs.Board.{Scene}
 use Rattle.grid.specs.Lawful.{IsLevel}
-use Rattle.layers.specs.Layered.{IsIn}
-use Rattle.layers.specs.Origins.{share_of}
-use Rattle.layers.specs.Tasks.{Task}
-use Rattle.layers.specs.Capping.{Admits}
-use Rattle.layers.specs.Reaching.{IsLayerOf, AreLayersOf, total}
+use Rattle.successors.specs.Layered.{IsIn}
+use Rattle.successors.specs.Shares.{share_of}
+use Rattle.successors.specs.Tasks.{Task}
+use Rattle.successors.specs.Capping.{Admits}
+use Rattle.successors.specs.Reaching.{IsLayerOf, AreLayersOf, total}
 use Rattle.layers.specs.Leads.{IsLeadOf}
-use Rattle.layers.specs.BookView.{BookView, Closed, places_of, last_layer, last_list, IsShareOfLayer, AreSharesOfLayer, IsLawfulBook, AreLawfulBooks}
+use Rattle.layers.specs.BookView.{BookView, last_layer, last_list, IsShareOfLayer, AreSharesOfLayer, IsLawfulBook, AreLawfulBooks}
+use Rattle.store.specs.Entries.{Closed, places_of}
 use Rattle.layers.specs.Books.{AreAllShares}
 use Rattle.layers.proofs.lemmas.Layers.{member, place_unique, layers_apart}
 use Rattle.layers.proofs.lemmas.Books.{level_laws, read_at}
 use Rattle.layers.proofs.lemmas.Counting.{length-distinct, totals_upto, flat, length-flat, in_flat, of_flat, flat_distinct, total-map, sum_by-same}
-use Rattle.layers.proofs.lemmas.Exchange.{at_map, map_at}
+use Rattle.successors.proofs.lemmas.Lists.{at_map, map_at, Distinct}
 use Rattle.layers.proofs.lemmas.Joins.{total-places}
-use Rattle.layers.proofs.lemmas.Lists.{Distinct}
 
 -- a share of a layer has no more positions than the layer
 pub share_upto : (task : Task) → IsLevel task.board → (shares share k : ℕ) (es : List Closed) (xs : List Scene) → IsShareOfLayer task shares share k es → IsLayerOf task k xs → length es ≤ length xs

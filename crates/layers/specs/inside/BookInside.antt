@@ -7,8 +7,8 @@ use Rattle.grid.specs.declared.limits.TheConstants.{MAX_BOXES}
 use Rattle.area.specs.Area.{IsNorm}
 use Rattle.doom.specs.Deadlocks.{Doomed, Undoomed}
 use Rattle.layers.specs.declared.book.Book.TheInside.{Inside}
-use Rattle.layers.specs.Tasks.{Task}
-use Rattle.layers.specs.Capping.{Admits}
+use Rattle.successors.specs.Tasks.{Task}
+use Rattle.successors.specs.Capping.{Admits}
 use Rattle.layers.specs.BookView.{BookView, IsLawfulBook}
 use Rattle.layers.specs.Books.{IsTaken}
 

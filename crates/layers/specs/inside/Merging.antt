@@ -3,12 +3,12 @@ use Rattle.std.specs.Prelude.{◌≡◌, ℕ, false, List, [], ◌∷◌, ◌++�
 use Rattle.std.specs.Ordering.{is_gt}
 use Rattle.grid.specs.declared.square.Push.{Push}
 use Rattle.grid.specs.Board.{push_cmp}
-use Rattle.layers.specs.Openings.{Origin, origin_cmp}
+use Rattle.store.specs.Entries.{Origin, origin_cmp, Closed, places_of, origins_of}
 use Rattle.layers.specs.declared.stretch.Stretch.{Stretch}
-use Rattle.layers.specs.Reaching.{total}
-use Rattle.layers.specs.BookView.{BookView, Closed, last_list, places_of, origins_of}
-use Rattle.layers.specs.FoundView.{origin_in}
-use Rattle.layers.specs.inside.Insides.{squares_of}
+use Rattle.successors.specs.Reaching.{total}
+use Rattle.layers.specs.BookView.{BookView, last_list}
+use Rattle.store.specs.FoundView.{origin_in}
+use Rattle.store.specs.inside.Copies.{squares_of}
 
 -- the origin of the first entry, if there is one
 abbrev pub first_origin : List Closed → Option (Origin Push)

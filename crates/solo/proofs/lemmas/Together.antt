@@ -5,11 +5,11 @@ use Rattle.std.proofs.lemmas.List.{length-append, length-map}
 use Rattle.std.proofs.lemmas.Option.{same_Some, slice_get-get_or, slice_get_within}
 use Rattle.grid.specs.Lawful.{IsLevel}
 use Rattle.grid.specs.declared.square.Push.{Push}
-use Rattle.layers.specs.Tasks.{Task}
-use Rattle.layers.specs.Openings.{Origin}
-use Rattle.layers.specs.Reaching.{AreLayersOf, IsLayerOf}
+use Rattle.successors.specs.Tasks.{Task}
+use Rattle.store.specs.Entries.{Origin}
+use Rattle.successors.specs.Reaching.{AreLayersOf, IsLayerOf}
 use Rattle.layers.specs.LayerView.{LayerView}
-use Rattle.layers.specs.Distances.{IsAtDistance}
+use Rattle.successors.specs.Distances.{IsAtDistance}
 use Rattle.layers.specs.BookView.{BookView, AreLawfulBooks}
 use Rattle.layers.specs.Books.{AreAllShares}
 use Rattle.layers.specs.Holding.{all_held}

@@ -3,14 +3,14 @@ use Rattle.std.proofs.Common.{◌≡◌, ℕ, suc, ◌≤◌, true, false, List,
 use Rattle.std.specs.Prelude.{slice_get}
 use Rattle.std.proofs.lemmas.List.{length-append, length-map}
 use Rattle.std.proofs.lemmas.Option.{none-some, same_Some, slice_get-get_or, slice_get_within}
-use Rattle.layers.specs.Tasks.{Task}
+use Rattle.successors.specs.Tasks.{Task}
 use Rattle.grid.specs.Lawful.{IsLevel}
 use Rattle.grid.specs.declared.square.Push.{Push}
-use Rattle.layers.specs.Openings.{Origin}
-use Rattle.layers.specs.Reaching.{IsLayerOf}
+use Rattle.store.specs.Entries.{Origin}
+use Rattle.successors.specs.Reaching.{IsLayerOf}
 use Rattle.layers.specs.LayerView.{LayerView}
 use Rattle.layers.specs.BookView.{BookView, IsLawfulBook}
-use Rattle.layers.specs.Distances.{IsAtDistance}
+use Rattle.successors.specs.Distances.{IsAtDistance}
 use Rattle.layers.specs.Books.{AreAllShares, IsJoinOf, IsNew, MayBegin, with_begun}
 use Rattle.layers.proofs.lemmas.Shares.{closed_upto}
 use Rattle.solo.specs.Answers.{IsAnswer}

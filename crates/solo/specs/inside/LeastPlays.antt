@@ -8,8 +8,8 @@ use Rattle.grid.specs.Board.{Board, Scene, start, dir_cmp, next, opposite}
 use Rattle.grid.specs.Plays.{Play, Any, shortlex, letters_of}
 use Rattle.area.specs.LeastWalks.{IsLeastWalk, walk_letters}
 use Rattle.layers.specs.LayerView.{LayerView}
-use Rattle.layers.specs.Openings.{Origin}
-use Rattle.layers.specs.Tasks.{Task}
+use Rattle.store.specs.Entries.{Origin}
+use Rattle.successors.specs.Tasks.{Task}
 use Rattle.layers.specs.Leads.{IsLeadOf}
 use Rattle.solo.specs.Leads.{last_places}
 

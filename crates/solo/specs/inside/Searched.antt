@@ -3,10 +3,10 @@
 use Rattle.std.specs.Prelude.{◌≡◌, ℕ, ◌+◌, ◌≤◌, List, length, map, slice_get, Some}
 use Rattle.grid.specs.declared.square.Push.{Push}
 use Rattle.grid.specs.Board.{Scene}
-use Rattle.layers.specs.Tasks.{Task}
+use Rattle.successors.specs.Tasks.{Task}
 use Rattle.layers.specs.LayerView.{LayerView, IsWhole}
-use Rattle.layers.specs.Openings.{Origin}
-use Rattle.layers.specs.Reaching.{AreLayersOf, total}
+use Rattle.store.specs.Entries.{Origin}
+use Rattle.successors.specs.Reaching.{AreLayersOf, total}
 use Rattle.solo.specs.Leads.{AreUnsolved}
 
 -- layers that were searched: the first layers of the level, none of them empty, none with a solved position

@@ -2,10 +2,10 @@
 -- meanwhile: one for each share of the positions.
 use Rattle.std.specs.Prelude.{◌≡◌, ℕ, suc, ◌+◌, ◌<◌, ◌⊎◌, true, false, not, List, length, count_by, slice_get, slice_index_or, slice_set, Some}
 use Rattle.grid.specs.declared.square.Push.{Push}
-use Rattle.layers.specs.Tasks.{Task}
+use Rattle.successors.specs.Tasks.{Task}
 use Rattle.layers.specs.LayerView.{LayerView}
-use Rattle.layers.specs.Openings.{Origin}
-use Rattle.layers.specs.ParcelView.{ParcelView}
+use Rattle.store.specs.Entries.{Origin}
+use Rattle.successors.specs.ParcelView.{ParcelView}
 use Rattle.layers.specs.BookView.{BookView, IsDone, IsLawfulBook}
 use Rattle.layers.specs.Books.{HasBegun, with_begun}
 use Rattle.layers.specs.Events.{AreMadeAlike}

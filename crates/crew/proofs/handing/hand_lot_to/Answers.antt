@@ -1,6 +1,6 @@
 use Rattle.std.proofs.Common.{◌+◌, length, refl, Some, sym, ap, ◌∙◌, rules, arith}
 use Rattle.std.proofs.lemmas.Option.{slice_get-get_or}
-use Rattle.layers.specs.ParcelView.{ParcelView}
+use Rattle.successors.specs.ParcelView.{ParcelView}
 use Rattle.crew.proofs.Drawing.{grown_twice}
 use Rattle.crew.proofs.Events.{ends_at_once, works_accepted, works_cut_off, works_twice, works_until}
 use Rattle.crew.proofs.handing.hand_lot_to.Goals as goal

@@ -2,7 +2,7 @@ use Rattle.std.proofs.Common.{Some, sym, subst, arith, rules}
 use Rattle.std.proofs.lemmas.Bool.Decides.{nat_tests}
 use Rattle.grid.specs.Board.{Scene}
 use Rattle.layers.specs.BookView.{IsShareOfLayer}
-use Rattle.layers.specs.FoundView.{first_entries}
+use Rattle.store.specs.FoundView.{first_entries}
 use Rattle.layers.proofs.First.{share_without, share_with, share_beside}
 use Rattle.layers.proofs.book.first_of_share.Goals as goal
 

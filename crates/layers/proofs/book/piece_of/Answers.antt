@@ -1,5 +1,5 @@
 use Rattle.std.proofs.Common.{◌+◌, inr, refl, add-one, arith}
-use Rattle.layers.proofs.lemmas.Lists.{get_some, get_none}
+use Rattle.successors.proofs.lemmas.Lists.{get_some, get_none}
 use Rattle.layers.proofs.book.piece_of.Goals as goal
 
 pub returns-in-Some-clause-order : goal.returns-in-Some-clause-order

@@ -2,10 +2,11 @@ use Rattle.std.proofs.Common.{◌≡◌, ◌≤◌, ◌*◌, suc, List, length, 
 use Rattle.std.proofs.lemmas.List.{length-map}
 use Rattle.std.proofs.lemmas.Option.{same_Some}
 use Rattle.grid.specs.Board.{Scene}
-use Rattle.layers.specs.Tasks.{Task}
+use Rattle.successors.specs.Tasks.{Task}
 use Rattle.grid.specs.Lawful.{box_count}
 use Rattle.grid.specs.declared.limits.TheConstants.{MAX_BOXES}
-use Rattle.layers.specs.BookView.{BookView, Closed, last_layer, places_of}
+use Rattle.layers.specs.BookView.{BookView, last_layer}
+use Rattle.store.specs.Entries.{Closed, places_of}
 use Rattle.layers.specs.inside.Insides.{scenes_of, layer_view}
 use Rattle.layers.proofs.Flat.{HaveBoxes, length-squares_of, scenes-squares}
 use Rattle.layers.proofs.Joined.{joined_boxes, joined_whole}

@@ -1,5 +1,5 @@
 use Rattle.std.proofs.Common.{◌≡◌, take}
-use Rattle.layers.specs.Reaching.{total}
+use Rattle.successors.specs.Reaching.{total}
 use Rattle.layers.proofs.merging.count_all.Given as goal
 
 abbrev pub invariant-loop-place : goal.invariant-loop-place

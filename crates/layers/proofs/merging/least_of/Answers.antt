@@ -1,7 +1,7 @@
 use Rattle.std.proofs.Common.{◌≡◌, ◌+◌, Some, List, inl, inr, not, sym, ap, subst, ◌∙◌, arith}
 use Rattle.std.proofs.lemmas.Option.{slice_get-get_or}
 use Rattle.std.specs.Prelude.{slice_get}
-use Rattle.layers.specs.BookView.{Closed}
+use Rattle.store.specs.Entries.{Closed}
 use Rattle.layers.specs.inside.Merging.{first_origin}
 use Rattle.layers.proofs.Rests.{IsLeastSoFar, least_kept, least_passed, least_chosen, least_found}
 use Rattle.layers.proofs.merging.least_of.Goals.{in-Some+then-is_none, then-is_none-via-then-is_none, then-is_none-via-else-is_none+then-is_before, in-Some+else-is_none+else-is_before, in_default}

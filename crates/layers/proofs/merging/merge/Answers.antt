@@ -1,7 +1,7 @@
 use Rattle.std.proofs.Common.{◌≡◌, ◌≤◌, [], ◌∷◌, map, length, sym, ap, subst, ◌∙◌, arith}
 use Rattle.std.proofs.lemmas.Option.{slice_get_within}
 use Rattle.layers.specs.declared.limits.TheConstants.{MOST_POSITIONS}
-use Rattle.layers.specs.Reaching.{total}
+use Rattle.successors.specs.Reaching.{total}
 use Rattle.layers.specs.BookView.{last_list}
 use Rattle.layers.specs.inside.Merging.{HasLeastFirst, Takes}
 use Rattle.layers.specs.inside.Merging.Takes.{nothing}

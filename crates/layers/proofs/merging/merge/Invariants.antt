@@ -1,7 +1,8 @@
 use Rattle.std.proofs.Common.{◌≡◌, map, List}
-use Rattle.layers.specs.Reaching.{total}
-use Rattle.layers.specs.BookView.{Closed, last_list, places_of, origins_of}
-use Rattle.layers.specs.inside.Insides.{squares_of}
+use Rattle.successors.specs.Reaching.{total}
+use Rattle.store.specs.Entries.{Closed, places_of, origins_of}
+use Rattle.layers.specs.BookView.{last_list}
+use Rattle.store.specs.inside.Copies.{squares_of}
 use Rattle.layers.specs.inside.Merging.{Takes}
 use Rattle.layers.proofs.merging.merge.Given as goal
 

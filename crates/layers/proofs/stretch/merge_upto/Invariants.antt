@@ -1,7 +1,7 @@
 use Rattle.std.proofs.Common.{◌≡◌, length, List}
-use Rattle.layers.specs.Reaching.{total}
-use Rattle.layers.specs.BookView.{Closed, places_of, origins_of}
-use Rattle.layers.specs.inside.Insides.{squares_of}
+use Rattle.successors.specs.Reaching.{total}
+use Rattle.store.specs.Entries.{Closed, places_of, origins_of}
+use Rattle.store.specs.inside.Copies.{squares_of}
 use Rattle.layers.specs.inside.Merging.{Takes, left_of}
 use Rattle.layers.proofs.stretch.merge_upto.Given as goal
 

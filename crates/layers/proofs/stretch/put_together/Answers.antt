@@ -2,7 +2,7 @@ use Rattle.std.proofs.Common.{◌≡◌, ◌≤◌, ◌∙◌, [], map, refl, sy
 use Rattle.std.specs.Prelude.{IfSome}
 use Rattle.layers.specs.declared.limits.TheConstants.{MOST_POSITIONS}
 use Rattle.layers.specs.declared.stretch.Merged.{Merged}
-use Rattle.layers.specs.Reaching.{total}
+use Rattle.successors.specs.Reaching.{total}
 use Rattle.layers.specs.BookView.{last_list}
 use Rattle.layers.specs.inside.Merging.{AreMerged, AreTaken, left_of}
 use Rattle.layers.proofs.Stretches.{all_taken, left_all}

@@ -1,5 +1,5 @@
 use Rattle.std.proofs.Common.{◌-◌, ◌<◌, ◌≤◌, List, length, map, reverse}
-use Rattle.layers.specs.Tasks.{Task}
+use Rattle.successors.specs.Tasks.{Task}
 use Rattle.layers.specs.LayerView.{LayerView}
 use Rattle.solo.specs.Leads.{last_places}
 use Rattle.solo.specs.inside.LeastPlays.{IsReadBack}

@@ -2,7 +2,7 @@ use Rattle.std.proofs.Common.{◌≡◌, Some, ap, ◌∙◌}
 use Rattle.std.proofs.lemmas.Result.{IfOk-weaker}
 use Rattle.std.specs.Prelude.{slice_get}
 use Rattle.grid.specs.Board.{Scene}
-use Rattle.layers.specs.Tasks.{Task}
+use Rattle.successors.specs.Tasks.{Task}
 use Rattle.solo.specs.Leads.{WritesLead, level_of, last_places}
 use Rattle.solo.specs.inside.LeastPlays.{WritesLeastPlay}
 use Rattle.solo.proofs.ReadingBack.{first_level, own_trail, lead_played, lead_moves}

@@ -3,7 +3,7 @@ use Rattle.std.proofs.lemmas.Result.{on_ok_weaker}
 use Rattle.grid.specs.declared.dir.Dir.{Dir}
 use Rattle.grid.specs.Board.{IsFree, next}
 use Rattle.area.specs.Area.{at}
-use Rattle.layers.specs.Expansion.{after_push}
+use Rattle.successors.specs.Expansion.{after_push}
 use Rattle.solo.proofs.LeastPlays.{behind, box_inside, behind_free, pushed_on}
 use Rattle.solo.proofs.plays.make_push.Goals as goal
 

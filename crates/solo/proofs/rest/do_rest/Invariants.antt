@@ -1,5 +1,5 @@
 use Rattle.std.proofs.Common.{◌≡◌, ◌≤◌, length}
-use Rattle.layers.specs.declared.limits.TheConstants.{MAX_SHARES}
+use Rattle.successors.specs.declared.limits.TheConstants.{MAX_SHARES}
 use Rattle.solo.specs.inside.Together.{AreStill}
 use Rattle.solo.proofs.rest.do_rest.Given as goal
 

@@ -1,6 +1,6 @@
 use Rattle.std.proofs.Common.{[], IfOk, ap, sym, subst, ◌∙◌}
 use Rattle.grid.specs.Board.{Board}
-use Rattle.layers.specs.Capping.{capped}
+use Rattle.successors.specs.Capping.{capped}
 use Rattle.solo.specs.Answers.{IsAnswer}
 use Rattle.solo.specs.inside.Turns.{AreBetweenTurns}
 use Rattle.solo.proofs.lemmas.Turns.{first_turn}

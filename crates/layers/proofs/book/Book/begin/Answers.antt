@@ -3,7 +3,7 @@ use Rattle.layers.specs.inside.BookInside.{book_view}
 use Rattle.layers.specs.BookView.{IsLawfulBook}
 use Rattle.layers.specs.Books.{MayBegin}
 use Rattle.layers.proofs.lemmas.BookEvents.{lawful_begin}
-use Rattle.layers.proofs.lemmas.Closings.{ok_is, err_is}
+use Rattle.layers.proofs.Answered.{ok_is}
 use Rattle.layers.proofs.book.Book.begin.Goals as goal
 
 pub invariant_of-self-2 : goal.invariant_of-self-2

@@ -1,13 +1,14 @@
 use Rattle.std.proofs.Common.{◌≡◌, ◌++◌, ◌∷◌, [], ℕ, ◌-◌, ◌<◌, List, get_or, length, map, true, false, Some, inl, inr, sym, ap, subst, ◌∙◌, arith}
 use Rattle.std.proofs.lemmas.List.{length-append, length-map}
 use Rattle.std.specs.Prelude.{slice_get}
-use Rattle.layers.specs.FoundView.{FoundView}
+use Rattle.store.specs.FoundView.{FoundView}
 use Rattle.layers.specs.inside.BookInside.{book_view, cut_at, AreCuts, IsSoundBook}
 use Rattle.layers.specs.BookView.{IsLawfulBook}
-use Rattle.layers.specs.Books.{AllDone, AreReordered, RiseByOrigin, closed_entry, CloseRefused}
+use Rattle.layers.specs.Books.{AllDone, CloseRefused}
+use Rattle.store.specs.Entering.{AreReordered, RiseByOrigin, closed_entry}
 use Rattle.layers.specs.declared.fault.CloseFault.TheVariants.{NotAll}
 use Rattle.layers.proofs.lemmas.BookFields.{closed_lawful, closed_cuts, closed_by}
-use Rattle.layers.proofs.lemmas.Closings.{ok_is, err_is}
+use Rattle.layers.proofs.Answered.{ok_is, err_is}
 use Rattle.layers.proofs.book.Book.close.Goals.{then-not-self-via-then-not-self, then-not-self-via-else-not-self+then-not-are_all_set}
 use Rattle.layers.proofs.book.Book.close.Goals as goal
 

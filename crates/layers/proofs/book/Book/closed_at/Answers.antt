@@ -1,6 +1,6 @@
 use Rattle.std.proofs.Common.{◌≡◌, None, length, ap, sym, subst, ◌∙◌, arith}
 use Rattle.layers.specs.inside.BookInside.{IsPiece}
-use Rattle.layers.specs.BookView.{Closed}
+use Rattle.store.specs.Entries.{Closed}
 use Rattle.layers.specs.Books.{closed_place}
 use Rattle.layers.proofs.Cuts.{place_in_piece, place_past_piece, place_past}
 use Rattle.layers.proofs.book.Book.closed_at.Goals as goal

@@ -1,13 +1,15 @@
 use Rattle.std.proofs.Common.{◌≡◌, ◌+◌, ◌<◌, Bool, List, length, fold, get_or, set, slice_get, true, false, Some, refl, ap, sym, subst, ◌∙◌, arith}
 use Rattle.grid.specs.Lawful.{box_count}
-use Rattle.layers.specs.BookView.{BookView, Closed, IsLawfulBook}
-use Rattle.layers.specs.FoundView.{FoundView, with_entered}
+use Rattle.layers.specs.BookView.{BookView, IsLawfulBook}
+use Rattle.store.specs.Entries.{Closed}
+use Rattle.store.specs.FoundView.{FoundView, with_entered}
 use Rattle.layers.specs.inside.BookInside.{book_view, cut_at, AreCuts, IsSoundBook}
-use Rattle.layers.specs.Books.{IsAtWork, IsTaken, is_wanted_in, entered}
+use Rattle.layers.specs.Books.{IsAtWork, IsTaken}
+use Rattle.store.specs.Entering.{is_wanted_in, entered}
 use Rattle.layers.proofs.Cuts.{total-cuts}
 use Rattle.layers.proofs.lemmas.Books.{few_ranks, get_or_same}
 use Rattle.layers.proofs.lemmas.BookFields.{handed, handed_view, limit_same, may_enter, over_limit, over_lawful, taken_done, fits_few}
-use Rattle.layers.proofs.lemmas.Closings.{ok_is, err_is}
+use Rattle.layers.proofs.Answered.{ok_is, err_is}
 use Rattle.layers.proofs.book.Book.hand_back.Goals as goal
 
 pub passes-requires-clause-few : goal.passes-requires-clause-few

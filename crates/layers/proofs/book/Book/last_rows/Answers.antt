@@ -1,8 +1,9 @@
 use Rattle.std.proofs.Common.{◌≡◌, ◌-◌, List, Some, length, drop, sym, ap, subst, ◌∙◌, arith}
 use Rattle.std.proofs.lemmas.List.{length-drop}
 use Rattle.std.specs.Prelude.{slice_get}
-use Rattle.layers.specs.BookView.{Closed, last_list, places_of, origins_of}
-use Rattle.layers.specs.inside.Insides.{squares_of}
+use Rattle.store.specs.Entries.{Closed, places_of, origins_of}
+use Rattle.layers.specs.BookView.{last_list}
+use Rattle.store.specs.inside.Copies.{squares_of}
 use Rattle.layers.proofs.Cuts.{length-cut_at}
 use Rattle.layers.proofs.Ordered.{one_merged}
 use Rattle.layers.proofs.Rests.{last_seen}

@@ -1,7 +1,7 @@
 use Rattle.std.proofs.Common.{◌≡◌, sym, subst, ◌∙◌}
 use Rattle.std.specs.Arc.{arc_value}
-use Rattle.layers.specs.Tasks.{Task}
-use Rattle.layers.specs.Capping.{capped}
+use Rattle.successors.specs.Tasks.{Task}
+use Rattle.successors.specs.Capping.{capped}
 use Rattle.layers.specs.Books.{AreNewShares}
 use Rattle.layers.proofs.book.Book.of_all_shares.Goals as goal
 

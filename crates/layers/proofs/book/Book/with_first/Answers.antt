@@ -1,8 +1,9 @@
 use Rattle.std.proofs.Common.{◌≡◌, ◌≤◌, List, is_err, vec_len, length, replicate, sym, ap, subst, ◌∙◌, arith}
 use Rattle.grid.specs.Lawful.{IsLevel}
-use Rattle.layers.specs.BookView.{Closed, IsShareOfLayer}
+use Rattle.store.specs.Entries.{Closed}
+use Rattle.layers.specs.BookView.{IsShareOfLayer}
 use Rattle.layers.proofs.First.{first_few, fresh_lawful, fresh_cuts, fresh_new}
-use Rattle.layers.proofs.lemmas.Lists.{resized}
+use Rattle.successors.proofs.lemmas.Lists.{resized}
 use Rattle.layers.proofs.book.Book.with_first.Goals as goal
 
 pub invariant_of-result : goal.invariant_of-result

@@ -3,7 +3,7 @@ use Rattle.std.specs.Prelude.{slice_get}
 use Rattle.grid.specs.Board.{Scene}
 use Rattle.layers.specs.LayerView.{LayerView, IsWhole}
 use Rattle.layers.proofs.Flat.{row_scene, layer_row}
-use Rattle.layers.proofs.lemmas.Successors.{layer_safe}
+use Rattle.successors.proofs.lemmas.Successors.{layer_safe}
 use Rattle.layers.proofs.layer.Layer.place.Goals as goal
 
 pub read_position-requires-clause-inside : goal.read_position-requires-clause-inside

@@ -1,6 +1,6 @@
 use Rattle.std.proofs.Common.{◌≡◌, ◌-◌, List, ℕ, vec_len, length, replicate, is_err, sym, ap, ◌∙◌, arith}
 use Rattle.layers.proofs.Marking.{no_words, fresh_marks, are_fresh, word_count_is}
-use Rattle.layers.proofs.lemmas.Lists.{resized}
+use Rattle.successors.proofs.lemmas.Lists.{resized}
 use Rattle.layers.proofs.marks.Marks.begin.Goals as goal
 
 pub invariant_of-self : goal.invariant_of-self

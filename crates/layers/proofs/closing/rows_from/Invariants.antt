@@ -1,7 +1,0 @@
-use Rattle.std.proofs.Common.{◌≡◌, take}
-use Rattle.layers.specs.FoundView.{open_of}
-use Rattle.layers.specs.inside.Placing.{rows_of}
-use Rattle.layers.proofs.closing.rows_from.Given as goal
-
-abbrev pub invariant-loop-place : goal.invariant-loop-place
-invariant-loop-place g l = l.rows.items ≡ rows_of 0 (open_of l.start (take l.place l.table.entries))

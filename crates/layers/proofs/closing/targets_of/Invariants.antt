@@ -1,5 +1,0 @@
-use Rattle.layers.proofs.Exchanging.{AreTargetsSoFar}
-use Rattle.layers.proofs.closing.targets_of.Given as goal
-
-abbrev pub invariant-loop-target : goal.invariant-loop-target
-invariant-loop-target l = AreTargetsSoFar l.rows l.target l.targets.items

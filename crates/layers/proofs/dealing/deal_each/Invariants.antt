@@ -1,5 +1,0 @@
-use Rattle.layers.proofs.Dealt.{AreListed}
-use Rattle.layers.proofs.dealing.deal_each.Given as goal
-
-abbrev pub invariant-loop-place : goal.invariant-loop-place
-invariant-loop-place l = AreListed l.shares l.place l.rows l.lens l.sums

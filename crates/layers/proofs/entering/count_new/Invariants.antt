@@ -1,9 +1,0 @@
-use Rattle.std.proofs.Common.{◌≡◌, ℕ, ◌+◌, ◌≤◌, length, fold, take}
-use Rattle.layers.specs.Books.{is_wanted_in, entered}
-use Rattle.layers.specs.FoundView.{seen_of, open_of}
-use Rattle.layers.proofs.entering.count_new.Given as goal
-
-abbrev pub invariant-loop-place : goal.invariant-loop-place
-invariant-loop-place g l =
-    ((rank : ℕ) → length (fold (entered (is_wanted_in (seen_of l.start l.table.entries) l.shares l.share) rank) (open_of l.start l.table.entries) (take l.place l.successors)) ≡ length (open_of l.start l.table.entries) + l.count)
-    × (l.count ≤ l.place)

@@ -1,6 +1,0 @@
-use Rattle.layers.proofs.Picking.{IsPicking}
-use Rattle.layers.proofs.Bringing.{AreBrought}
-use Rattle.layers.proofs.pruning.pick.Given as goal
-
-abbrev pub invariant-loop-place : goal.invariant-loop-place
-invariant-loop-place l = IsPicking l.bound l.most l.initial.slots l.slots l.kept l.place × AreBrought l.slots l.initial.sums l.sums l.kept l.place

@@ -1,9 +1,0 @@
--- What contracts see of a parcel's fields.
-use Rattle.std.specs.Prelude.{ℕ, List, take}
-use Rattle.layers.specs.Tasks.{Task}
-use Rattle.layers.specs.declared.parcel.Successor.{Successor}
-use Rattle.layers.specs.ParcelView.{ParcelView}
-
--- a parcel whose successors are the first so many of these
-abbrev pub parcel_of : Task → ℕ → ℕ → List Successor → ℕ → ParcelView
-parcel_of level layer rank slots count = record { level = level; layer = layer; rank = rank; successors = take count slots }

@@ -1,0 +1,6 @@
+pub mod lemmas
+pub mod Packing
+pub mod Tails
+pub mod Inboxes
+pub mod Exchanging
+pub mod DealtOffers

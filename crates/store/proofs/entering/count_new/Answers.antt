@@ -1,0 +1,24 @@
+use Rattle.std.proofs.Common.{◌≡◌, ◌+◌, ◌∷◌, [], ◌++◌, cond, length, fold, take, ℕ, ap, sym, ◌∙◌, arith}
+use Rattle.std.proofs.lemmas.List.{take_more}
+use Rattle.successors.specs.declared.parcel.Successor.{Successor}
+use Rattle.store.specs.Entering.{is_wanted_in, entered}
+use Rattle.store.specs.FoundView.{seen_of, open_of}
+use Rattle.store.proofs.lemmas.Offers.{length-entered}
+use Rattle.store.proofs.entering.count_new.Goals.{then-is_new, else-is_new}
+use Rattle.store.proofs.entering.count_new.Goals as goal
+
+pub loop-place-preserved : goal.loop-place-preserved
+loop-place-preserved g c =
+    let ss = c.args.successors.now in let place = c.loop-place.place in
+    let ws = open_of c.args.start c.args.table.now.entries in
+    let wanted = is_wanted_in (seen_of c.args.start c.args.table.now.entries) c.args.shares c.args.share in
+    let s : Successor = c.index-successors-place.result in
+    let e : take (place + 1) ss ≡ take place ss ++ s ∷ [] = take_more ss place s c.loop-place-test.true ∙ ap (λ (x : Successor). take place ss ++ x ∷ []) (sym c.index-successors-place.is) in
+    let step : (rank : ℕ) → length (fold (entered wanted rank) ws (take (place + 1) ss)) ≡ length ws + c.loop-place.count + cond c.is_new.result 1 0 =
+    λ rank. ap (λ ts. length (fold (entered wanted rank) ws ts)) e ∙ length-entered wanted rank (take place ss) ws s
+    ∙ ap {B = ℕ} (λ b. length (fold (entered wanted rank) ws (take place ss)) + cond b 1 0) (sym c.is_new.ensures)
+    ∙ ap (λ n. n + cond c.is_new.result 1 0) (c.loop-place.invariant.0 rank) in
+    elim c.if-is_new.branch [
+      | then-is_new w ↦ (λ rank. omega (arith, step rank, ap {B = ℕ} (λ b. cond b 1 0) w.if-is_new.true), omega arith)
+      | else-is_new w ↦ (λ rank. omega (arith, step rank, ap {B = ℕ} (λ b. cond b 1 0) w.if-is_new.false), omega arith)
+    ]

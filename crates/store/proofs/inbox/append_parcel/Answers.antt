@@ -1,0 +1,31 @@
+use Rattle.std.proofs.Common.{◌≡◌, List, Some, subst, rules, arith}
+use Rattle.std.specs.Prelude.{slice_get}
+use Rattle.successors.specs.declared.parcel.Successor.{Successor}
+use Rattle.successors.proofs.lemmas.Dealt.{dealt_within, dealt_few}
+use Rattle.store.proofs.DealtOffers.{dealt_offers}
+use Rattle.store.proofs.inbox.append_parcel.Goals as goal
+
+pub append_dealt-requires : goal.append_dealt-requires
+append_dealt-requires g c =
+    let p = c.args.parcel.now in let found = c.successors-successors.result.now in (
+      search rules,
+      (
+        c.requires.width,
+        (
+          omega (arith, c.rank-rank.ensures, c.requires.rank),
+          (
+            λ i s at. c.requires.few i s (subst (λ (xs : List Successor). slice_get xs i ≡ Some s) c.successors-successors.ensures at),
+            (
+              dealt_within c.args.shares c.args.share found p.successors c.in-Some.places.now c.successors-successors.ensures c.in-Some.ensures,
+              omega (arith, dealt_few c.args.shares c.args.share p.successors c.in-Some.places.now c.in-Some.ensures, c.requires.room),
+            ),
+          ),
+        ),
+      ),
+    )
+
+pub returns-in-Some : goal.returns-in-Some
+returns-in-Some g c =
+    let p = c.args.parcel.now in let found = c.successors-successors.result.now in
+    dealt_offers c.args.shares c.args.share p.rank c.rank-rank.result found p.successors c.in-Some.places.now c.args.inbox.now.items
+    c.append_dealt.new.inbox.items c.append_dealt.ensures c.rank-rank.ensures c.successors-successors.ensures c.in-Some.ensures

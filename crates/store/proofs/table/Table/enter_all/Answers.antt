@@ -1,0 +1,33 @@
+use Rattle.std.proofs.Common.{ap, ◌∙◌, length, arith}
+use Rattle.std.proofs.lemmas.List.{length-append}
+use Rattle.store.specs.FoundView.{found_view, offers_of}
+use Rattle.store.proofs.Inboxes.{length-offers, offers_appended, on_err}
+use Rattle.store.proofs.table.Table.enter_all.Goals as goal
+
+pub returns-in_err-make_room-clause-err : goal.returns-in_err-make_room-clause-err
+returns-in_err-make_room-clause-err g c = on_err c.from_residual.result (c.make_room.ensures.same c.self.inside.boxes ∙ c.self.view_is)
+
+pub invariant_of-self-2 : goal.invariant_of-self-2
+invariant_of-self-2 g c =
+    let p = c.args.parcel.now in
+    let offers = offers_of c.args.shares c.args.share p.rank p.successors in (
+      c.self.invariant.0,
+      c.self.invariant.1,
+      c.make_room.ensures.found,
+      omega (
+        arith,
+        ap length c.append_parcel.ensures,
+        length-append c.make_room.new.inbox.items offers,
+        length-offers c.args.shares c.args.share p.rank p.successors,
+        ap length c.successors-successors.ensures,
+        c.in_ok-make_room.ensures.ok.0,
+      ),
+    )
+
+pub returns-clause-ok : goal.returns-clause-ok
+returns-clause-ok g c =
+    let p = c.args.parcel.now in let a = c.self.inside in
+    let es = c.make_room.new.table.entries in let waits = c.make_room.new.inbox.items in
+    ap (found_view a.boxes a.start es) c.append_parcel.ensures
+    ∙ offers_appended a.boxes a.start c.args.shares c.args.share p.rank es waits p.successors c.args.self.now
+    (c.make_room.ensures.same a.boxes ∙ c.self.view_is)

@@ -1,0 +1,81 @@
+-- What contracts see of the positions that a book has found.
+use Rattle.std.specs.Prelude.{◌≡◌, ℕ, ◌≤◌, Bool, false, ◌==◌, ◌||◌, not, is_some, List, [], ◌∷◌, ◌++◌, fold, map, take, drop, length, slice_get, Option, Some, None, if◌then◌else◌}
+use Rattle.std.specs.Map.{lookup}
+use Rattle.std.specs.Ordering.{is_lt}
+use Rattle.grid.specs.declared.dir.Dir.TheVariants.{D}
+use Rattle.grid.specs.declared.square.Push.{Push}
+use Rattle.grid.specs.Board.{Scene, push_cmp}
+use Rattle.successors.specs.declared.parcel.Successor.{Successor}
+use Rattle.store.specs.Entries.{Origin, Entry, origin_cmp, same_scene, Closed, origin_of}
+use Rattle.successors.specs.Shares.{share_of}
+use Rattle.store.specs.Entering.{closed_entry, is_wanted_in, entered, offered}
+
+-- how many boxes each has at most, the closed positions in their order, and those that stand open
+pub record FoundView : Type 0 where
+  pub boxes : ℕ
+  pub seen : List Closed
+  pub waiting : List (Entry Scene Push)
+
+-- the origin of an entry that stands open; each of those has one
+abbrev pub origin_in : Option (Origin Push) → Origin Push
+origin_in None = (0, record { square = 0; dir = D })
+origin_in (Some o) = o
+
+-- an entry as it stands open
+abbrev pub open_entry : Closed → Entry Scene Push
+open_entry e = (e.0, origin_in e.1)
+
+-- the entries before a place are closed, and those from it on stand open
+abbrev pub seen_of : ℕ → List Closed → List Closed
+seen_of start es = take start es
+
+abbrev pub open_of : ℕ → List Closed → List (Entry Scene Push)
+open_of start es = map open_entry (drop start es)
+
+-- an offer enters: its position is offered with its origin, unless it is closed
+abbrev pub let_in : List Closed → List (Entry Scene Push) → Entry Scene Push → List (Entry Scene Push)
+let_in seen waiting e = if is_some (lookup (same_scene e.0) seen) then waiting else offered waiting e.0 e.1
+
+-- what stands open once the offers have entered, one after the other
+abbrev pub all_let_in : List Closed → List (Entry Scene Push) → List (Entry Scene Push) → List (Entry Scene Push)
+all_let_in seen waiting offers = fold (let_in seen) waiting offers
+
+-- what is found: of the entries those before a place are closed, and with those from it on stands open what the inbox has
+abbrev pub found_view : ℕ → ℕ → List Closed → List (Entry Scene Push) → FoundView
+found_view boxes start es inbox = record { boxes = boxes; seen = seen_of start es; waiting = all_let_in (seen_of start es) (open_of start es) inbox }
+
+-- what is found once the wanted successors of a rank have entered
+abbrev pub with_entered : FoundView → ℕ → ℕ → ℕ → List Successor → FoundView
+with_entered v shares share rank ss = record { boxes = v.boxes; seen = v.seen; waiting = fold (entered (is_wanted_in v.seen shares share) rank) v.waiting ss }
+
+-- the offer of a rank's successor, if its position is of the share
+abbrev pub offer_of : ℕ → ℕ → ℕ → Successor → List (Entry Scene Push)
+offer_of shares share rank s = if share_of shares s.position == share then (s.position, (rank, s.push)) ∷ [] else []
+
+-- the offers of a rank's successors
+abbrev pub offers_of : ℕ → ℕ → ℕ → List Successor → List (Entry Scene Push)
+offers_of shares share rank [] = []
+offers_of shares share rank (s ∷ ss) = offer_of shares share rank s ++ offers_of shares share rank ss
+
+-- the place lies within the entries, and each from it on has an origin
+pub record IsFound (start : ℕ) (es : List Closed) : Type 0 where
+  pub within : start ≤ length es
+  pub opened : map closed_entry (open_of start es) ≡ drop start es
+
+-- the origin is no greater than one that is offered
+abbrev pub is_least : Option (Origin Push) → Origin Push → Bool
+is_least None o = false
+is_least (Some p) o = not (is_lt (origin_cmp push_cmp o p))
+
+-- an offer of a position changes nothing: it is closed, or stands open with an origin that is no greater
+abbrev pub keeps : List Closed → List (Entry Scene Push) → Scene → Origin Push → Bool
+keeps seen waiting m o = is_some (lookup (same_scene m) seen) || is_least (origin_of waiting m) o
+
+-- each successor's position has at most so many boxes
+abbrev pub HaveFew : ℕ → List Successor → Type 0
+HaveFew boxes ss = (i : ℕ) (s : Successor) → slice_get ss i ≡ Some s → length s.position.boxes ≤ boxes
+
+-- what is closed at first: a position with no origin, or nothing
+abbrev pub first_entries : Option Scene → List Closed
+first_entries None = []
+first_entries (Some m) = (m, None) ∷ []

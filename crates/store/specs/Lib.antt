@@ -1,0 +1,5 @@
+pub mod Entries
+pub mod Entering
+pub mod FoundView
+pub mod Widths
+pub mod inside

@@ -1,0 +1,5 @@
+-- What keeps the books of the code: what its loops keep, what fields hold, why it ends. No report rests on it.
+pub mod Packed
+pub mod Placing
+pub mod Offers
+pub mod Copies

@@ -1,0 +1,131 @@
+//! What stands open becomes a closed layer, in the map that holds it behind what is closed.
+ghost use Rattle.std.specs.Prelude.{◌≡◌, ◌+◌, ◌<◌, ◌≤◌, length, map, true, slice_get, Some, OnOk, OnErr, IfOk, IsPermutation};
+ghost use Rattle.std.specs.List.{IsDistinct};
+ghost use Rattle.grid.specs.Board.{push_cmp};
+ghost use Rattle.store.specs.Entries.{origin_cmp, same_scene, Closed};
+ghost use Rattle.store.specs.Entering.{RiseByOrigin, IsSortedAppend};
+ghost use Rattle.store.specs.FoundView.{IsFound, open_of, origin_in, seen_of};
+ghost use Rattle.store.specs.inside.Placing.{AreApart, AreBrought, AreTargets, HaveAllPlaces, RowsRise, rows_of};
+
+use crate::key::Key;
+use crate::origin::{ClosedOrigin, Origin};
+use grid::MAX_BOXES;
+use indexmap::IndexMap;
+use std::alloc::{AllocError, Global};
+use std::cmp::Ordering;
+
+/// Puts what stands open, from the start on, into the order of the origins. An error leaves all as it was.
+pub(crate) fn arrange<const N: usize>(
+    table: &mut IndexMap<Key<N>, ClosedOrigin>,
+    start: usize,
+) -> Result<(), AllocError>
+    requires width { N ≤ MAX_BOXES }
+    requires found { IsFound start table.old.entries }
+    ensures ok { OnOk result (IsSortedAppend (seen_of start table.old.entries) (open_of start table.old.entries) table.new.entries) }
+    ensures err { OnErr result (table.new.entries ≡ table.old.entries) }
+{
+    if do_rise(table, start) {
+        return Ok(());
+    }
+    let mut rows = rows_from(table, start)?;
+    sort_rows(&mut rows);
+    let targets = targets_of(*table.allocator(), rows.as_slice())?;
+    exchange(table, start, targets);
+    Ok(())
+}
+
+// Whether the origins of what stands open rise already, as they do where the ranks were handed back in their order.
+fn do_rise<const N: usize>(table: &IndexMap<Key<N>, ClosedOrigin>, start: usize) -> bool
+    requires width { N ≤ MAX_BOXES }
+    requires within { start ≤ length table.now.entries }
+    ensures rise { result ≡ true → RiseByOrigin (open_of start table.now.entries) }
+    ensures distinct { IsDistinct same_scene (map (λ e. e.0) table.now.entries) }
+{
+    let mut last = ClosedOrigin::of(None).opened();
+    for place in start..table.len() {
+        let origin = origin_at(table, place);
+        if origin.is_before(last) {
+            return false;
+        }
+        last = origin;
+    }
+    true
+}
+
+// The origin at a place, which is one of what stands open.
+fn origin_at<const N: usize>(table: &IndexMap<Key<N>, ClosedOrigin>, place: usize) -> Origin
+    requires width { N ≤ MAX_BOXES }
+    requires within { place < length table.now.entries }
+    ensures { (e : Closed) → slice_get table.now.entries place ≡ Some e → result ≡ origin_in e.1 }
+{
+    let Some((_, closed)) = table.get_index(place) else {
+        unreachable!()
+    };
+    closed.opened()
+}
+
+// The rows of what stands open.
+fn rows_from<const N: usize>(
+    table: &IndexMap<Key<N>, ClosedOrigin>,
+    start: usize,
+) -> Result<Vec<(Origin, usize)>, AllocError>
+    requires width { N ≤ MAX_BOXES }
+    requires within { start ≤ length table.now.entries }
+    ensures { IfOk result (λ rows. rows.items ≡ rows_of 0 (open_of start table.now.entries)) }
+{
+    let mut rows = Vec::with_capacity(*table.allocator(), table.len() - start)?;
+    for place in start..table.len() {
+        rows.push((origin_at(table, place), place - start))?;
+    }
+    Ok(rows)
+}
+
+// Puts rows into the order of the origins.
+fn sort_rows(rows: &mut Vec<(Origin, usize)>)
+    ensures sorted { RowsRise rows.new.items }
+    ensures same { IsPermutation rows.old.items rows.new.items }
+{
+    rows.sort_unstable_by(
+        |row: &(Origin, usize), other: &(Origin, usize)| -> Ordering
+            ensures { result ≡ origin_cmp push_cmp row.now.0 other.now.0 }
+        { row.0.compare(other.0) },
+    );
+}
+
+// The target of each place, which is where its row stands.
+fn targets_of(alloc: Global, rows: &[(Origin, usize)]) -> Result<Vec<usize>, AllocError>
+    requires { HaveAllPlaces rows.now }
+    ensures { IfOk result (λ targets. AreTargets rows.now targets.items) }
+{
+    let mut targets = vec![in alloc; 0; rows.len()]?;
+    for target in 0..rows.len() {
+        let (_, place) = rows[target];
+        targets[place] = target;
+    }
+    Ok(targets)
+}
+
+// Brings each entry from the start on to its target, by exchanges of two.
+fn exchange<const N: usize>(
+    table: &mut IndexMap<Key<N>, ClosedOrigin>,
+    start: usize,
+    targets: Vec<usize>,
+)
+    requires width { N ≤ MAX_BOXES }
+    requires all { length table.old.entries ≡ start + length targets.items }
+    requires apart { AreApart targets.items }
+    ensures { AreBrought start table.old.entries targets.items table.new.entries }
+{
+    let open = table.len() - start;
+    let mut targets = targets;
+    let mut place = 0;
+    while place < open {
+        let target = targets[place];
+        if target == place {
+            place += 1;
+        } else {
+            table.swap_indices(start + place, start + target);
+            targets.swap(place, target);
+        }
+    }
+}

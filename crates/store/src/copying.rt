@@ -1,0 +1,55 @@
+//! Entries of a map that are copied into lists of squares and of origins.
+ghost use Rattle.std.specs.Prelude.{◌≡◌, ◌≤◌, IfOk, OnOk, drop, length, map, take};
+ghost use Rattle.store.specs.Entries.{origins_of};
+ghost use Rattle.store.specs.inside.Copies.{IsCopied, squares_of};
+
+use crate::key::Key;
+use crate::origin::{ClosedOrigin, Origin};
+use grid::{MAX_BOXES, Square};
+use indexmap::IndexMap;
+use std::alloc::{AllocError, Global};
+
+/// Appends the squares of a position, and its origin if it has one.
+pub(crate) fn copy_entry<const N: usize>(
+    key: &Key<N>,
+    origin: ClosedOrigin,
+    squares: &mut Vec<Square>,
+    origins: &mut Vec<Origin>,
+) -> Result<(), AllocError>
+    requires { N ≤ MAX_BOXES }
+    ensures { OnOk result (IsCopied (key.now, origin) squares.old.items squares.new.items origins.old.items origins.new.items) }
+{
+    squares.extend_from_slice(key.boxes())?;
+    squares.push(key.player())?;
+    if let Some(origin) = origin.get() {
+        origins.push(origin)?;
+    }
+    Ok(())
+}
+
+/// What stands in a map from a place up to another: the squares of the positions, which have at most so many boxes, and
+/// the origins of those that have one.
+pub(crate) fn copy_from<const N: usize>(
+    alloc: Global,
+    table: &IndexMap<Key<N>, ClosedOrigin>,
+    boxes: usize,
+    from: usize,
+    to: usize,
+) -> Result<(Vec<Square>, Vec<Origin>), AllocError>
+    requires width { N ≤ MAX_BOXES }
+    requires order { from ≤ to }
+    requires within { to ≤ length table.now.entries }
+    requires boxes { boxes ≤ MAX_BOXES }
+    ensures squares { IfOk result (λ r. r.0.items ≡ squares_of (map (λ e. e.0) (drop from (take to table.now.entries)))) }
+    ensures origins { IfOk result (λ r. r.1.items ≡ origins_of (drop from (take to table.now.entries))) }
+{
+    let count = to - from;
+    let mut squares = Vec::with_capacity(alloc, count.saturating_mul(boxes + 1))?;
+    let mut origins = Vec::with_capacity(alloc, count)?;
+    for place in from..to {
+        if let Some((key, origin)) = table.get_index(place) {
+            copy_entry(key, *origin, &mut squares, &mut origins)?;
+        }
+    }
+    Ok((squares, origins))
+}

@@ -1,0 +1,212 @@
+//! Offers that wait in an inbox until they enter, many at a time.
+ghost use Rattle.std.specs.Prelude.{◌≡◌, ℕ, ◌+◌, ◌<◌, ◌≤◌, ◌++◌, Some, length, slice_get, vec_len, OnOk};
+ghost use Rattle.std.specs.Vec.{vec_capacity};
+ghost use Rattle.indexmap.specs.IndexMap.{spare};
+ghost use Rattle.store.specs.inside.Offers.{offer_in, offers_at};
+ghost use Rattle.successors.specs.inside.Sums.{AreSums, scene_sum};
+ghost use Rattle.store.specs.FoundView.{HaveFew, IsFound, found_view, offer_of, offers_of};
+
+use crate::entering::enter_all;
+use crate::key::Key;
+use crate::origin::{ClosedOrigin, MOST_RANKS, Origin};
+use grid::MAX_BOXES;
+use indexmap::IndexMap;
+use std::alloc::AllocError;
+use successors::{Parcel, Successor, share_by};
+
+/// So many offers wait before they enter where a book's own worker hands back.
+const FEW: usize = 32;
+
+/// So many offers wait in all the books together before they enter where another worker hands back: more than come between two
+/// turns of a book's own worker, and few beside the maps.
+const MANY: u32 = 4096;
+
+/// How many offers may wait in the inbox of the book of a share, one of so many, before they enter, where one of so many workers
+/// hands back to it. The books are dealt to the workers, and mostly it is a book's own worker that enters what all of them have brought,
+/// since what it entered before is in its processor's cache; the others append to the inbox, and soon let go of the lock.
+/// Where there are more workers than books, some own none.
+pub fn most_waiting(worker: u8, workers: u8, share: u8, shares: u8) -> usize
+    requires { 0 < shares }
+{
+    if workers == 0 || worker == share % workers {
+        FEW
+    } else {
+        (MANY / u32::from(shares)) as usize
+    }
+}
+
+/// Makes room for the offers of a rank's successors, in the inbox and in the map that they are to enter; where
+/// as many wait already as may, these enter first. What is found stays as it was. The only error is that memory was refused.
+pub(crate) fn make_room<const N: usize>(
+    table: &mut IndexMap<Key<N>, ClosedOrigin>,
+    start: usize,
+    inbox: &mut Vec<(Key<N>, Origin)>,
+    most: usize,
+    successors: &[Successor],
+) -> Result<(), AllocError>
+    requires width { N ≤ MAX_BOXES }
+    requires room { length inbox.old.items ≤ spare table.old }
+    requires found { IsFound start table.old.entries }
+    ensures found { IsFound start table.new.entries }
+    ensures same { (boxes : ℕ) → found_view boxes start table.new.entries inbox.new.items ≡ found_view boxes start table.old.entries inbox.old.items }
+    ensures room { length inbox.new.items ≤ spare table.new }
+    ensures ok { OnOk result ((length inbox.new.items + length successors.now ≤ spare table.new) × (vec_len inbox.new + length successors.now ≤ vec_capacity inbox.new)) }
+{
+    enter_if_full(table, start, inbox, most);
+    let more = successors.len();
+    table.reserve(inbox.len() + more)?;
+    inbox.reserve(more)
+}
+
+// The offers of an inbox enter, if as many wait as may. What is found stays as it was.
+fn enter_if_full<const N: usize>(
+    table: &mut IndexMap<Key<N>, ClosedOrigin>,
+    start: usize,
+    inbox: &mut Vec<(Key<N>, Origin)>,
+    most: usize,
+)
+    requires width { N ≤ MAX_BOXES }
+    requires room { length inbox.old.items ≤ spare table.old }
+    requires found { IsFound start table.old.entries }
+    ensures found { IsFound start table.new.entries }
+    ensures same { (boxes : ℕ) → found_view boxes start table.new.entries inbox.new.items ≡ found_view boxes start table.old.entries inbox.old.items }
+    ensures room { length inbox.new.items ≤ spare table.new }
+{
+    if inbox.len() >= most {
+        enter_all(table, start, inbox);
+    }
+}
+
+/// Appends the offers of a parcel's successors that are of the share. Where they are dealt to as many shares, those of
+/// other shares are not looked at.
+pub(crate) fn append_parcel<const N: usize>(
+    inbox: &mut Vec<(Key<N>, Origin)>,
+    share: u8,
+    shares: u8,
+    parcel: &Parcel<'_>,
+)
+    requires width { N ≤ MAX_BOXES }
+    requires share { share < shares }
+    requires rank { parcel.now.rank < MOST_RANKS }
+    requires few { HaveFew N parcel.now.successors }
+    requires room { vec_len inbox.old + length parcel.now.successors ≤ vec_capacity inbox.old }
+    ensures { inbox.new.items ≡ inbox.old.items ++ offers_of shares share parcel.now.rank parcel.now.successors }
+{
+    let rank = parcel.rank();
+    let successors = parcel.successors();
+    match parcel.places(share, shares) {
+        Some(places) => append_dealt(inbox, rank, successors, places),
+        None => append_all(inbox, share, shares, rank, successors, parcel.sums()),
+    }
+}
+
+// Appends the offers of those of a rank's successors that stand at these places.
+fn append_dealt<const N: usize>(
+    inbox: &mut Vec<(Key<N>, Origin)>,
+    rank: u64,
+    successors: &[Successor],
+    places: &[u8],
+)
+    requires width { N ≤ MAX_BOXES }
+    requires rank { rank < MOST_RANKS }
+    requires few { HaveFew N successors.now }
+    requires places { (i p : ℕ) → slice_get places.now i ≡ Some p → p < length successors.now }
+    requires room { vec_len inbox.old + length places.now ≤ vec_capacity inbox.old }
+    ensures { inbox.new.items ≡ inbox.old.items ++ offers_at rank successors.now places.now }
+{
+    for place in places {
+        append_offer(inbox, rank, &successors[*place as usize]);
+    }
+}
+
+// Appends the offers of a rank's successors that are of the share, which the sum of each tells. The number of shares is
+// looked at once, so that no successor waits for a division where it is a power of two.
+fn append_all<const N: usize>(
+    inbox: &mut Vec<(Key<N>, Origin)>,
+    share: u8,
+    shares: u8,
+    rank: u64,
+    successors: &[Successor],
+    sums: &[u32],
+)
+    requires width { N ≤ MAX_BOXES }
+    requires shares { 0 < shares }
+    requires rank { rank < MOST_RANKS }
+    requires few { HaveFew N successors.now }
+    requires sums { AreSums successors.now sums.now }
+    requires room { vec_len inbox.old + length successors.now ≤ vec_capacity inbox.old }
+    ensures { inbox.new.items ≡ inbox.old.items ++ offers_of shares share rank successors.now }
+{
+    match shares {
+        1 => append_each(inbox, share, 1, rank, successors, sums),
+        2 => append_each(inbox, share, 2, rank, successors, sums),
+        4 => append_each(inbox, share, 4, rank, successors, sums),
+        8 => append_each(inbox, share, 8, rank, successors, sums),
+        16 => append_each(inbox, share, 16, rank, successors, sums),
+        _ => append_each(inbox, share, shares, rank, successors, sums),
+    }
+}
+
+// Appends the offers of a rank's successors that are of the share, one after the other.
+#[inline(always)]
+fn append_each<const N: usize>(
+    inbox: &mut Vec<(Key<N>, Origin)>,
+    share: u8,
+    shares: u8,
+    rank: u64,
+    successors: &[Successor],
+    sums: &[u32],
+)
+    requires width { N ≤ MAX_BOXES }
+    requires shares { 0 < shares }
+    requires rank { rank < MOST_RANKS }
+    requires few { HaveFew N successors.now }
+    requires sums { AreSums successors.now sums.now }
+    requires room { vec_len inbox.old + length successors.now ≤ vec_capacity inbox.old }
+    ensures { inbox.new.items ≡ inbox.old.items ++ offers_of shares share rank successors.now }
+{
+    for (place, successor) in successors.iter().enumerate() {
+        append(inbox, share, shares, rank, successor, sums[place]);
+    }
+}
+
+// Appends the offer of a rank's successor, if it is of the share, which its sum tells.
+#[inline(always)]
+fn append<const N: usize>(
+    inbox: &mut Vec<(Key<N>, Origin)>,
+    share: u8,
+    shares: u8,
+    rank: u64,
+    successor: &Successor,
+    sum: u32,
+)
+    requires width { N ≤ MAX_BOXES }
+    requires shares { 0 < shares }
+    requires rank { rank < MOST_RANKS }
+    requires few { length successor.now.position.boxes ≤ N }
+    requires sum { sum ≡ scene_sum successor.now.position }
+    requires room { vec_len inbox.old < vec_capacity inbox.old }
+    ensures items { inbox.new.items ≡ inbox.old.items ++ offer_of shares share rank successor.now }
+    ensures len { vec_len inbox.new ≤ vec_len inbox.old + 1 }
+    ensures capacity { vec_capacity inbox.new ≡ vec_capacity inbox.old }
+{
+    if share_by(sum, shares) != share {
+        return;
+    }
+    append_offer(inbox, rank, successor);
+}
+
+// Appends the offer of a rank's successor.
+#[inline(always)]
+fn append_offer<const N: usize>(inbox: &mut Vec<(Key<N>, Origin)>, rank: u64, successor: &Successor)
+    requires width { N ≤ MAX_BOXES }
+    requires rank { rank < MOST_RANKS }
+    requires few { length successor.now.position.boxes ≤ N }
+    requires room { vec_len inbox.old < vec_capacity inbox.old }
+    ensures items { inbox.new.items ≡ inbox.old.items ++ offer_in rank (Some successor.now) }
+    ensures len { vec_len inbox.new ≡ vec_len inbox.old + 1 }
+    ensures capacity { vec_capacity inbox.new ≡ vec_capacity inbox.old }
+{
+    let origin = Origin::new(rank, successor.push);
+    inbox.push_reserved((Key::of(&successor.position), origin));
+}

@@ -1,0 +1,225 @@
+//! What a book has found, with keys of one width: in a map the closed positions, and after them those that stand open, and
+//! in an inbox those that were offered since.
+ghost use Rattle.std.specs.Prelude.{◌≡◌, ℕ, ◌+◌, ◌<◌, ◌≤◌, [], length, map, drop, nat_lt, option_map, slice_get, IfOk, IfSome, OnOk, OnErr, Some};
+ghost use Rattle.store.specs.Entries.{Closed, origins_of};
+ghost use Rattle.store.specs.Entering.{IsSortedAppend};
+ghost use Rattle.store.specs.FoundView.{HaveFew, first_entries, origin_in, with_entered};
+ghost use Rattle.store.specs.inside.Copies.{IsCopied, squares_of};
+
+use crate::closing::arrange;
+use crate::copying::{copy_entry, copy_from};
+use crate::entering::{count_new, enter_all};
+use crate::inbox::{append_parcel, make_room};
+use crate::key::Key;
+use crate::origin::{ClosedOrigin, MOST_RANKS, Origin};
+use grid::{MAX_BOXES, Position, Square};
+use indexmap::IndexMap;
+use std::alloc::{AllocError, Global};
+use std::marker::Model;
+use successors::{Parcel, Successor};
+
+/// The positions that a book has found, of at most `N` boxes.
+#[derive(Debug, Drop)]
+pub(crate) struct Table<const N: usize> {
+    boxes: usize,
+    table: IndexMap<Key<N>, ClosedOrigin>,
+    // what stands open begins here
+    start: usize,
+    // what was offered since and is to enter, for which the map has room
+    inbox: Vec<(Key<N>, Origin)>,
+}
+
+impl<const N: usize> Model for Table<N> {
+    ghost use Rattle.std.specs.Prelude.{◌≤◌, length};
+    ghost use Rattle.indexmap.specs.IndexMap.{spare};
+    ghost use Rattle.store.specs.FoundView.{FoundView, IsFound, found_view};
+
+    ghost Value = { FoundView };
+
+    ghost view = { λ a. found_view a.boxes a.start a.table.entries a.inbox.items };
+
+    ghost use Rattle.grid.specs.declared.limits.TheConstants.{MAX_BOXES};
+
+    ghost invariant = { λ a. (N ≤ MAX_BOXES) × (a.boxes ≤ N) × IsFound a.start a.table.entries × (length a.inbox.items ≤ spare a.table) };
+}
+
+impl<const N: usize> Table<N> {
+    /// What is found at first: a closed position, or nothing. The only error is that memory was refused.
+    pub(crate) fn of(
+        alloc: Global,
+        boxes: usize,
+        first: &Option<Position>,
+    ) -> Result<Table<N>, AllocError>
+        requires width { N ≤ MAX_BOXES }
+        requires bound { boxes ≤ N }
+        requires few { IfSome first.now (λ m. length m.boxes ≤ boxes) }
+        ensures boxes { IfOk result (λ table. table.boxes ≡ boxes) }
+        ensures seen { IfOk result (λ table. table.seen ≡ first_entries first.now) }
+        ensures waiting { IfOk result (λ table. table.waiting ≡ []) }
+    {
+        let mut table = IndexMap::new(alloc);
+        if let Some(position) = first {
+            if table
+                .insert(Key::of(position), ClosedOrigin::of(None))
+                .is_err()
+            {
+                return Err(AllocError);
+            }
+        }
+        let start = table.len();
+        Ok(Table {
+            boxes,
+            table,
+            start,
+            inbox: Vec::new(alloc),
+        })
+    }
+
+    /// The number of closed positions.
+    pub(crate) fn closed_len(&self) -> usize
+        ensures { result ≡ length self.now.seen }
+    {
+        self.start
+    }
+
+    /// The closed position at a place; `None` exactly beyond them.
+    pub(crate) fn closed_at(&self, place: usize) -> Option<Position>
+        ensures { result ≡ option_map (λ e. e.0) (slice_get self.now.seen place) }
+    {
+        if place >= self.start {
+            return None;
+        }
+        let (key, _) = self.table.get_index(place)?;
+        Some(key.position())
+    }
+
+    /// The origin of the closed position at a place; `None` exactly beyond them.
+    pub(crate) fn origin_at(&self, place: usize) -> Option<Origin>
+        ensures { result ≡ option_map (λ e. origin_in e.1) (slice_get self.now.seen place) }
+    {
+        if place >= self.start {
+            return None;
+        }
+        let (_, origin) = self.table.get_index(place)?;
+        Some(origin.opened())
+    }
+
+    /// Appends the squares of the closed position at a place, and its origin if it has one. The only error is that
+    /// memory was refused.
+    pub(crate) fn copy_at(
+        &self,
+        place: usize,
+        squares: &mut Vec<Square>,
+        origins: &mut Vec<Origin>,
+    ) -> Result<(), AllocError>
+        requires { place < length self.now.seen }
+        ensures { OnOk result ((e : Closed) → slice_get self.now.seen place ≡ Some e → IsCopied e squares.old.items squares.new.items origins.old.items origins.new.items) }
+    {
+        let Some((key, origin)) = self.table.get_index(place) else {
+            unreachable!()
+        };
+        copy_entry(key, *origin, squares, origins)
+    }
+
+    /// What is closed from a place on: the squares of the positions, one after the other, and the origins of those that
+    /// have one. The only error is that memory was refused.
+    pub(crate) fn closed_from(
+        &self,
+        alloc: Global,
+        from: usize,
+    ) -> Result<(Vec<Square>, Vec<Origin>), AllocError>
+        requires { from ≤ length self.now.seen }
+        ensures squares { IfOk result (λ r. r.0.items ≡ squares_of (map (λ e. e.0) (drop from self.now.seen))) }
+        ensures origins { IfOk result (λ r. r.1.items ≡ origins_of (drop from self.now.seen)) }
+    {
+        copy_from(alloc, &self.table, self.boxes, from, self.start)
+    }
+
+    /// Whether there would be more positions than a limit once the wanted successors of a rank have entered.
+    pub(crate) fn passes(
+        &mut self,
+        limit: usize,
+        share: u8,
+        shares: u8,
+        successors: &[Successor],
+    ) -> bool
+        requires shares { 0 < shares }
+        requires few { HaveFew self.old.boxes successors.now }
+        requires within { length self.old.seen + length self.old.waiting ≤ limit }
+        ensures passed { (rank : ℕ) → result ≡ nat_lt limit (length self.old.seen + length (with_entered self.old shares share rank successors.now).waiting) }
+        ensures same { self.new ≡ self.old }
+    {
+        let room = limit - self.table.len();
+        if self.inbox.len() + successors.len() <= room {
+            return false;
+        }
+        enter_all(&mut self.table, self.start, &mut self.inbox);
+        let room = limit - self.table.len();
+        count_new(&self.table, self.start, share, shares, successors) > room
+    }
+
+    /// Enters the wanted successors of a parcel's rank, one after the other; so many offers may wait in the inbox. An
+    /// error leaves all as it was.
+    pub(crate) fn enter_all(
+        &mut self,
+        most: usize,
+        share: u8,
+        shares: u8,
+        parcel: &Parcel<'_>,
+    ) -> Result<(), AllocError>
+        requires share { share < shares }
+        requires rank { parcel.now.rank < MOST_RANKS }
+        requires few { HaveFew self.old.boxes parcel.now.successors }
+        ensures ok { OnOk result (self.new ≡ with_entered self.old shares share parcel.now.rank parcel.now.successors) }
+        ensures err { OnErr result (self.new ≡ self.old) }
+    {
+        let successors = parcel.successors();
+        make_room(
+            &mut self.table,
+            self.start,
+            &mut self.inbox,
+            most,
+            successors,
+        )?;
+        append_parcel(&mut self.inbox, share, shares, parcel);
+        Ok(())
+    }
+
+    /// How many positions are found. What waits in the inbox enters first.
+    pub(crate) fn count(&mut self) -> usize
+        ensures count { result ≡ length self.old.seen + length self.old.waiting }
+        ensures same { self.new ≡ self.old }
+    {
+        let inbox = &mut self.inbox;
+        enter_all(&mut self.table, self.start, inbox);
+        self.table.len()
+    }
+
+    /// How many positions are found, but for those that wait in the inbox.
+    pub(crate) fn count_entered(&self) -> usize
+        ensures { result ≤ length self.now.seen + length self.now.waiting }
+    {
+        self.table.len()
+    }
+
+    /// Closes what stands open, in the order of the origins. An error leaves all as it was.
+    pub(crate) fn close(&mut self) -> Result<(), AllocError>
+        ensures boxes { self.new.boxes ≡ self.old.boxes }
+        ensures seen { OnOk result (IsSortedAppend self.old.seen self.old.waiting self.new.seen) }
+        ensures waiting { OnOk result (self.new.waiting ≡ []) }
+        ensures err { OnErr result (self.new ≡ self.old) }
+    {
+        let start = self.start;
+        enter_all(&mut self.table, start, &mut self.inbox);
+        arrange(&mut self.table, start)?;
+        self.start = self.table.len();
+        Ok(())
+    }
+
+    /// Makes room for so many positions more, where memory can be had for it.
+    pub(crate) fn have_room(&mut self, more: usize)
+        ensures { self.new ≡ self.old }
+    {
+        let _ = self.table.reserve(more);
+    }
+}

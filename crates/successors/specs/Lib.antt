@@ -1,0 +1,9 @@
+pub mod Layered
+pub mod Tasks
+pub mod Capping
+pub mod Reaching
+pub mod Distances
+pub mod Expansion
+pub mod Shares
+pub mod ParcelView
+pub mod inside

@@ -1,0 +1,94 @@
+//! The successors of a parcel, dealt to the shares before any book is locked, so that a book that is one of several need
+//! not look at those of the others.
+ghost use Rattle.std.specs.Prelude.{◌≡◌, ℕ, ◌+◌, ◌*◌, ◌<◌, ◌≤◌, length, slice_set, slice_index_or};
+ghost use Rattle.successors.specs.inside.Dealt.{IsDealt};
+
+use crate::limits::MAX_SHARES;
+use crate::sums::share_by;
+
+/// Where there are more successors than this, they are not dealt. Each share has a row of so many places.
+pub(crate) const MOST_DEALT: usize = 64;
+
+/// The rows of all shares have so many places.
+pub(crate) const ROWS: usize = MOST_DEALT * MAX_SHARES as usize;
+
+/// The places of successors, those of each share in a row of its own.
+#[derive(Debug, Drop)]
+pub(crate) struct Deal {
+    // they are dealt to so many shares; 0 where they are not dealt
+    pub(crate) shares: u8,
+    // for each share a row that begins with the places of its successors, in their order
+    pub(crate) rows: [u8; ROWS],
+    // how many successors each share has
+    pub(crate) lens: [u8; MAX_SHARES as usize],
+}
+
+impl Deal {
+    /// Nothing is dealt.
+    pub(crate) fn none() -> Deal
+        ensures { result.shares ≡ 0 }
+    {
+        Deal {
+            shares: 0,
+            rows: [0; ROWS],
+            lens: [0; MAX_SHARES as usize],
+        }
+    }
+
+    /// Deals successors with these sums to so many shares, unless they are too many.
+    pub(crate) fn deal(&mut self, shares: u8, sums: &[u32])
+        ensures { IsDealt self.new.shares self.new.rows self.new.lens sums.now }
+    {
+        self.shares = 0;
+        if shares < 2 || shares > MAX_SHARES || sums.len() > MOST_DEALT {
+            return;
+        }
+        deal_all(shares, sums, &mut self.rows, &mut self.lens);
+        self.shares = shares;
+    }
+}
+
+// Puts the place of each successor into the row of its share. The number of shares is looked at once, so that no sum waits for
+// a division where it is a power of two.
+fn deal_all(shares: u8, sums: &[u32], rows: &mut [u8; ROWS], lens: &mut [u8; MAX_SHARES as usize])
+    requires some { 0 < shares }
+    requires shares { shares ≤ MAX_SHARES }
+    requires few { length sums.now ≤ MOST_DEALT }
+    ensures { IsDealt shares rows.new lens.new sums.now }
+{
+    match shares {
+        2 => deal_each(2, sums, rows, lens),
+        4 => deal_each(4, sums, rows, lens),
+        8 => deal_each(8, sums, rows, lens),
+        16 => deal_each(16, sums, rows, lens),
+        _ => deal_each(shares, sums, rows, lens),
+    }
+}
+
+// Puts the place of each successor into the row of its share, one after the other. No branch hangs on a sum, since none could
+// be foreseen.
+#[inline(always)]
+fn deal_each(shares: u8, sums: &[u32], rows: &mut [u8; ROWS], lens: &mut [u8; MAX_SHARES as usize])
+    requires some { 0 < shares }
+    requires shares { shares ≤ MAX_SHARES }
+    requires few { length sums.now ≤ MOST_DEALT }
+    ensures { IsDealt shares rows.new lens.new sums.now }
+{
+    *lens = [0; MAX_SHARES as usize];
+    for (place, sum) in sums.iter().enumerate() {
+        put(share_by(*sum, shares), place as u8, rows, lens);
+    }
+}
+
+// Puts a place behind the others in the row of a share.
+#[inline(always)]
+fn put(share: u8, place: u8, rows: &mut [u8; ROWS], lens: &mut [u8; MAX_SHARES as usize])
+    requires share { share < MAX_SHARES }
+    requires room { slice_index_or lens.old share 0 < MOST_DEALT }
+    ensures rows { rows.new ≡ slice_set rows.old (share * MOST_DEALT + slice_index_or lens.old share 0) place }
+    ensures lens { lens.new ≡ slice_set lens.old share (slice_index_or lens.old share 0 + 1) }
+{
+    let len = lens[share as usize];
+    rows[share as usize * MOST_DEALT + len as usize] = place;
+    lens[share as usize] = len + 1;
+}

@@ -1,0 +1,140 @@
+ghost use Rattle.std.specs.Prelude.{◌≡◌, ◌≤◌, MatchOption, None, length, take};
+ghost use Rattle.successors.specs.ParcelView.{AreSuccessors, IsParcel, IsSource};
+ghost use Rattle.successors.specs.Capping.{capped};
+ghost use Rattle.successors.specs.inside.ParcelInside.{parcel_of};
+ghost use Rattle.successors.specs.inside.Sums.{AreSums};
+
+use crate::dealing::Deal;
+use crate::limits::MAX_SUCCESSORS;
+use crate::parcel::{Parcel, Slots};
+use crate::pruner::Pruner;
+use crate::pruning::keep_admitted;
+use crate::pushing::successors_by;
+use area::Scratch;
+use arrayvec::ArrayVec;
+use doom::{Bound, Dead};
+use grid::{Level, Position, Push};
+
+/// A position that is expanded, and where it stands: its rank in a layer of its level under a cap, or under none.
+#[derive(Debug, Drop)]
+pub struct Source {
+    pub cap: Option<u32>,
+    pub layer: u64,
+    pub rank: u64,
+    pub position: Position,
+}
+
+impl<'a> Parcel<'a> {
+    /// The undoomed successors of a position, in the order of their pushes; where a cap is set, those alone from which the
+    /// level may be solved within it, by the bound, which is there then. Takes no memory.
+    pub fn of(
+        level: &'a Level,
+        source: &Source,
+        dead: &Dead,
+        bound: Option<&Bound>,
+        scratch: &mut Scratch,
+    ) -> Parcel<'a>
+        requires source { IsSource level.now source.now }
+        requires dead_of_level { dead.now ≡ level.now }
+        requires bound_of_level { MatchOption bound (source.now.cap ≡ None) (λ b. b.now ≡ level.now) }
+        requires room { scratch.old.size ≡ length level.now.cells }
+        ensures of { (result.level ≡ capped level.now source.now.cap) × (result.layer ≡ source.now.layer) × (result.rank ≡ source.now.rank) }
+        ensures successors { AreSuccessors (capped level.now source.now.cap) source.now.layer source.now.position result.successors }
+        ensures size { scratch.new.size ≡ scratch.old.size }
+    {
+        let mut pushes = ArrayVec::new();
+        let mut parcel = Parcel {
+            level,
+            cap: source.cap,
+            layer: source.layer,
+            rank: source.rank,
+            slots: Slots::new(),
+            count: 0,
+            deal: Deal::none(),
+            pushes: ArrayVec::new(),
+        };
+        parcel.count = successors_of(
+            level,
+            source,
+            dead,
+            bound,
+            scratch,
+            &mut pushes,
+            &mut parcel.slots,
+        );
+        parcel
+    }
+
+    /// Makes the parcel, of whichever position, the one that [`Parcel::of`] gives by a pruner. Takes no memory.
+    pub fn fill(
+        &mut self,
+        level: &'a Level,
+        source: &Source,
+        pruner: &Pruner,
+        scratch: &mut Scratch,
+    )
+        requires source { IsSource level.now source.now }
+        requires pruner_of_level { pruner.now ≡ capped level.now source.now.cap }
+        requires room { scratch.old.size ≡ length level.now.cells }
+        ensures of { (self.new.level ≡ capped level.now source.now.cap) × (self.new.layer ≡ source.now.layer) × (self.new.rank ≡ source.now.rank) }
+        ensures successors { AreSuccessors (capped level.now source.now.cap) source.now.layer source.now.position self.new.successors }
+        ensures size { scratch.new.size ≡ scratch.old.size }
+    {
+        self.level = level;
+        self.cap = source.cap;
+        self.layer = source.layer;
+        self.rank = source.rank;
+        // what it held was dealt, and what it will hold is not
+        self.deal.shares = 0;
+        self.count = successors_of(
+            level,
+            source,
+            pruner.dead(),
+            pruner.bound().as_ref(),
+            scratch,
+            &mut self.pushes,
+            &mut self.slots,
+        );
+    }
+}
+
+// Writes the undoomed successors of a position that are admitted over the first slots, in the order of their pushes, and tells
+// how many there are. What the slots and the pushes held is not cleared, so what is done goes by the successors, and not by
+// how many there may be.
+fn successors_of(
+    level: &Level,
+    source: &Source,
+    dead: &Dead,
+    bound: Option<&Bound>,
+    scratch: &mut Scratch,
+    pushes: &mut ArrayVec<Push, MAX_SUCCESSORS>,
+    slots: &mut Slots,
+) -> usize
+    requires source { IsSource level.now source.now }
+    requires dead_of_level { dead.now ≡ level.now }
+    requires bound_of_level { MatchOption bound (source.now.cap ≡ None) (λ b. b.now ≡ level.now) }
+    requires room { scratch.old.size ≡ length level.now.cells }
+    ensures filled { result ≤ length slots.new.successors.items }
+    ensures sums { AreSums (take result slots.new.successors.items) (take result slots.new.sums.items) }
+    ensures parcel { IsParcel (parcel_of (capped level.now source.now.cap) source.now.layer source.now.rank slots.new.successors.items result) }
+    ensures successors { AreSuccessors (capped level.now source.now.cap) source.now.layer source.now.position (take result slots.new.successors.items) }
+    ensures size { scratch.new.size ≡ scratch.old.size }
+{
+    let position = &source.position;
+    area::possible_pushes(level, position, scratch, pushes);
+    let count = successors_by(level, dead, position, pushes.as_slice(), scratch, slots);
+    let Some(most) = source.cap else {
+        return count;
+    };
+    let Some(bound) = bound else {
+        return count;
+    };
+    keep_admitted(
+        bound,
+        most,
+        source.layer,
+        slots.successors.as_mut_slice(),
+        slots.sums.as_mut_slice(),
+        count,
+    )
+}

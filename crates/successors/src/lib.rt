@@ -1,0 +1,21 @@
+//! The successors of a position: what its pushes lead to, but for what is doomed or not admitted under a cap, as parcels that
+//! are dealt to the shares of the positions.
+#![tactic(auto)]
+
+mod dealing;
+mod expansion;
+mod limits;
+mod parcel;
+mod pruner;
+mod pruning;
+mod pushing;
+mod sums;
+mod task;
+
+pub use expansion::Source;
+pub use limits::{MAX_SHARES, MAX_SUCCESSORS};
+pub use parcel::{Parcel, Successor};
+pub use pruner::Pruner;
+pub use pruning::{bound_for, is_admitted};
+pub use sums::{share_by, share_of};
+pub use task::Task;

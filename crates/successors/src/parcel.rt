@@ -1,0 +1,155 @@
+ghost use Rattle.std.specs.Prelude.{◌≡◌, ◌↔◌, ◌<◌, [], IfSome, IsTrue};
+ghost use Rattle.successors.specs.ParcelView.{IsParcel};
+ghost use Rattle.successors.specs.inside.Dealt.{successor_places};
+ghost use Rattle.successors.specs.inside.Sums.{AreSums};
+
+use crate::dealing::{Deal, MOST_DEALT};
+use crate::limits::MAX_SUCCESSORS;
+use crate::task::Task;
+use arrayvec::ArrayVec;
+use grid::{Level, Position, Push};
+use std::marker::Model;
+
+/// A successor of a position: the push that leads there, and the normal position after it.
+#[derive(Debug, Default, Drop)]
+pub struct Successor {
+    pub push: Push,
+    pub position: Position,
+}
+
+/// Successors, and beside each the sum of its squares, in lists of which the first so many count; the others are there to
+/// be written over.
+#[derive(Debug, Drop)]
+pub(crate) struct Slots {
+    pub(crate) successors: ArrayVec<Successor, MAX_SUCCESSORS>,
+    pub(crate) sums: ArrayVec<u32, MAX_SUCCESSORS>,
+}
+
+impl Slots {
+    /// Lists that hold nothing.
+    pub(crate) fn new() -> Slots
+        ensures successors { result.successors.items ≡ [] }
+        ensures sums { result.sums.items ≡ [] }
+    {
+        Slots {
+            successors: ArrayVec::new(),
+            sums: ArrayVec::new(),
+        }
+    }
+}
+
+/// The undoomed successors of the position with a rank of a layer that are admitted in the next one, in the order of their
+/// pushes.
+#[derive(Debug, Drop)]
+pub struct Parcel<'a> {
+    pub(crate) level: &'a Level,
+    pub(crate) cap: Option<u32>,
+    pub(crate) layer: u64,
+    pub(crate) rank: u64,
+    // the first so many of these are the successors and their sums
+    pub(crate) slots: Slots,
+    pub(crate) count: usize,
+    // how the successors are dealt to shares, if they are
+    pub(crate) deal: Deal,
+    // the pushes that are tried for a rank
+    pub(crate) pushes: ArrayVec<Push, MAX_SUCCESSORS>,
+}
+
+impl<'a> Model for Parcel<'a> {
+    ghost use Rattle.std.specs.Prelude.{◌≤◌, length, take};
+    ghost use Rattle.successors.specs.ParcelView.{ParcelView, IsParcel};
+    ghost use Rattle.successors.specs.Capping.{capped};
+    ghost use Rattle.successors.specs.inside.Dealt.{IsDealt};
+    ghost use Rattle.successors.specs.inside.ParcelInside.{parcel_of};
+    ghost use Rattle.successors.specs.inside.Sums.{AreSums};
+
+    ghost Value = { ParcelView };
+
+    ghost view = { λ a. parcel_of (capped a.level.now a.cap) a.layer a.rank a.slots.successors.items a.count };
+
+    ghost invariant = { λ a. (a.count ≤ length a.slots.successors.items)
+        × AreSums (take a.count a.slots.successors.items) (take a.count a.slots.sums.items)
+        × IsDealt a.deal.shares a.deal.rows a.deal.lens (take a.count a.slots.sums.items)
+        × IsParcel (parcel_of (capped a.level.now a.cap) a.layer a.rank a.slots.successors.items a.count) };
+}
+
+impl<'a> Parcel<'a> {
+    /// Tells what is true of every parcel.
+    pub fn tell(&self)
+        ensures { IsParcel self.now }
+    {
+        let _ = &self.slots;
+    }
+
+    /// The level.
+    pub fn level(&self) -> &Level
+        ensures { result.now ≡ self.now.level.board }
+    {
+        self.level
+    }
+
+    /// The greatest number of pushes of a solution; `None` where no cap is set.
+    pub fn cap(&self) -> Option<u32>
+        ensures { result ≡ self.now.level.cap }
+    {
+        self.cap
+    }
+
+    /// Whether it is of this level with this cap. It is public for books, which take parcels of their own task alone.
+    pub fn is_of(&self, task: &Task) -> bool
+        ensures { IsTrue result ↔ (task.now ≡ self.now.level) }
+    {
+        task.is_that(self.level, self.cap)
+    }
+
+    /// The layer's number.
+    pub fn layer(&self) -> u64
+        ensures { result ≡ self.now.layer }
+    {
+        self.layer
+    }
+
+    /// The rank whose position the successors are of.
+    pub fn rank(&self) -> u64
+        ensures { result ≡ self.now.rank }
+    {
+        self.rank
+    }
+
+    /// The undoomed successors of the position with that rank that are admitted in the next layer, in the order of their pushes.
+    pub fn successors(&self) -> &[Successor]
+        ensures { result.now ≡ self.now.successors }
+    {
+        &self.slots.successors.as_slice()[..self.count]
+    }
+
+    /// The sum of the squares of each successor's position. It is public for those that store successors by their shares.
+    pub fn sums(&self) -> &[u32]
+        ensures { AreSums self.now.successors result.now }
+    {
+        &self.slots.sums.as_slice()[..self.count]
+    }
+
+    /// Deals the successors to so many shares, so that a book that is one of so many need not look at those of the others.
+    /// What the parcel is stays as it was.
+    pub fn deal(&mut self, shares: u8)
+        ensures { self.new ≡ self.old }
+    {
+        let sums = &self.slots.sums.as_slice()[..self.count];
+        self.deal.deal(shares, sums);
+    }
+
+    /// The places of those successors that are of the share, where they are dealt to so many shares. It is public for those that
+    /// store successors by their shares.
+    pub fn places(&self, share: u8, shares: u8) -> Option<&[u8]>
+        requires { share < shares }
+        ensures { IfSome result (λ places. places.now ≡ successor_places shares share self.now.successors) }
+    {
+        if self.deal.shares != shares {
+            return None;
+        }
+        let from = share as usize * MOST_DEALT;
+        let end = from + self.deal.lens[share as usize] as usize;
+        Some(&self.deal.rows[from..end])
+    }
+}

@@ -1,0 +1,111 @@
+//! Positions from which a cap of pushes is not kept, by what lone boxes need.
+ghost use Rattle.std.specs.Prelude.{◌≡◌, ◌<◌, ◌≤◌, ◌↔◌, Some, IsTrue, IfOk, length, take};
+ghost use Rattle.std.specs.List.{swap};
+ghost use Rattle.grid.specs.Board.{Scene};
+ghost use Rattle.grid.specs.States.{FitsLevel};
+ghost use Rattle.successors.specs.Capping.{Admits, HasBound, capped, uncapped};
+ghost use Rattle.successors.specs.ParcelView.{AreSuccessors, FitLevel};
+ghost use Rattle.successors.specs.inside.Pruned.{ArePicked, IsWithin};
+ghost use Rattle.successors.specs.inside.Sums.{AreSums};
+
+use crate::parcel::Successor;
+use crate::task::Task;
+use doom::Bound;
+use grid::{Level, Position};
+use std::alloc::{AllocError, Global};
+
+/// The bound of a level, where a cap is set. The only error is that memory was refused. It is public for those that ask
+/// [`is_admitted`] where there is no [`Pruner`](crate::Pruner).
+pub fn bound_for(
+    alloc: Global,
+    level: &Level,
+    cap: Option<u32>,
+) -> Result<Option<Bound>, AllocError>
+    ensures { IfOk result (λ bound. HasBound (capped level.now cap) bound) }
+{
+    if cap.is_none() {
+        return Ok(None);
+    }
+    let bound = Bound::of(alloc, level)?;
+    Ok(Some(bound))
+}
+
+/// Whether a position is admitted before the first push. It is public for those that make layer 0.
+pub fn is_admitted(task: &Task, bound: &Option<Bound>, position: &Position) -> bool
+    requires bound_of_level { HasBound task.now bound.now }
+    requires fits { FitsLevel task.now.board position.now }
+    ensures { IsTrue result ↔ Admits task.now 0 position.now }
+{
+    match (task.cap(), bound) {
+        (Some(most), Some(bound)) => is_within(bound, most, position),
+        _ => true,
+    }
+}
+
+/// Whether the boxes of a position need no more pushes than so many.
+pub(crate) fn is_within(bound: &Bound, most: u32, position: &Position) -> bool
+    requires { FitsLevel bound.now position.now }
+    ensures { IsTrue result ↔ IsWithin bound.now position.now.boxes most }
+{
+    match bound.lower(position) {
+        Some(low) => low <= most,
+        None => false,
+    }
+}
+
+/// Brings those of the first so many successors of a position of a layer to the front that are admitted in the next one,
+/// in their order and with their sums, and tells how many they are.
+pub(crate) fn keep_admitted(
+    bound: &Bound,
+    most: u32,
+    layer: u64,
+    slots: &mut [Successor],
+    sums: &mut [u32],
+    count: usize,
+) -> usize
+    requires filled { count ≤ length slots.old }
+    requires fits { FitLevel bound.now (take count slots.old) }
+    requires sums { AreSums (take count slots.old) (take count sums.old) }
+    ensures filled { result ≤ length slots.new }
+    ensures fits { FitLevel bound.now (take result slots.new) }
+    ensures sums { AreSums (take result slots.new) (take result sums.new) }
+    ensures successors { (n : Scene) → AreSuccessors (uncapped bound.now) layer n (take count slots.old) → AreSuccessors (capped bound.now (Some most)) layer n (take result slots.new) }
+{
+    let most = u64::from(most);
+    if layer >= most {
+        return 0;
+    }
+    pick(bound, (most - layer - 1) as u32, slots, sums, count)
+}
+
+// Brings those of the first so many successors to the front whose boxes need no more pushes than so many, in their order
+// and with their sums, and tells how many they are.
+fn pick(bound: &Bound, most: u32, slots: &mut [Successor], sums: &mut [u32], count: usize) -> usize
+    requires filled { count ≤ length slots.old }
+    requires fits { FitLevel bound.now (take count slots.old) }
+    requires sums { AreSums (take count slots.old) (take count sums.old) }
+    ensures filled { result ≤ length slots.new }
+    ensures picked { ArePicked bound.now most (take count slots.old) (take result slots.new) }
+    ensures sums { AreSums (take result slots.new) (take result sums.new) }
+{
+    let mut kept = 0;
+    for place in 0..count {
+        if is_within(bound, most, &slots[place].position) {
+            bring(slots, sums, kept, place);
+            kept += 1;
+        }
+    }
+    kept
+}
+
+// Brings a successor and its sum to a place that is not behind it; what stood there comes where they were.
+fn bring(slots: &mut [Successor], sums: &mut [u32], front: usize, place: usize)
+    requires order { front ≤ place }
+    requires slots { place < length slots.old }
+    requires sums { place < length sums.old }
+    ensures slots { slots.new ≡ swap slots.old front place }
+    ensures sums { sums.new ≡ swap sums.old front place }
+{
+    slots.swap(front, place);
+    sums.swap(front, place);
+}

@@ -1,0 +1,89 @@
+ghost use Rattle.std.specs.Prelude.{◌≡◌, ◌↔◌, IsTrue, IfOk};
+ghost use Rattle.std.specs.Arc.{arc_value};
+ghost use Rattle.grid.specs.Lawful.{IsLevel, box_count};
+ghost use Rattle.successors.specs.Capping.{capped};
+
+use grid::Level;
+use std::alloc::AllocError;
+use std::marker::Model;
+use std::sync::Arc;
+
+/// What is searched: a level, and the greatest number of pushes of a solution, if one is set. It is public for those that keep
+/// one beside the positions of its level.
+#[derive(Debug, Drop)]
+pub struct Task {
+    level: Arc<Level>,
+    cap: Option<u32>,
+}
+
+impl Model for Task {
+    ghost use Rattle.std.specs.Arc.{arc_value};
+    ghost use Rattle.successors.specs.Tasks.{Task as LevelWithCap};
+    ghost use Rattle.successors.specs.Capping.{capped};
+
+    ghost Value = { LevelWithCap };
+
+    ghost view = { λ a. capped (arc_value a.level) a.cap };
+}
+
+impl Task {
+    /// A level with a cap or with none.
+    pub fn of(level: Arc<Level>, cap: Option<u32>) -> Task
+        ensures { result ≡ capped (arc_value level) cap }
+    {
+        Task { level, cap }
+    }
+
+    /// The same level with the same cap. The only error is that memory was refused.
+    pub fn try_clone(&self) -> Result<Task, AllocError>
+        ensures { IfOk result (λ task. task ≡ self.now) }
+    {
+        let level = Arc::try_clone(&self.level)?;
+        Ok(Task {
+            level,
+            cap: self.cap,
+        })
+    }
+
+    /// The level.
+    pub fn level(&self) -> &Level
+        ensures { result.now ≡ self.now.board }
+    {
+        &*self.level
+    }
+
+    /// Tells that the level is lawful.
+    pub fn tell(&self)
+        ensures { IsLevel self.now.board }
+    {
+        self.level.tell();
+    }
+
+    /// The number of boxes.
+    pub fn boxes(&self) -> usize
+        ensures { result ≡ box_count self.now.board }
+    {
+        self.level.boxes()
+    }
+
+    /// The cap.
+    pub fn cap(&self) -> Option<u32>
+        ensures { result ≡ self.now.cap }
+    {
+        self.cap
+    }
+
+    /// Whether the other one is the same level with the same cap.
+    pub fn is(&self, other: &Task) -> bool
+        ensures { IsTrue result ↔ (self.now ≡ other.now) }
+    {
+        self.cap == other.cap && *self.level == *other.level
+    }
+
+    /// Whether it is this level with this cap.
+    pub(crate) fn is_that(&self, level: &Level, cap: Option<u32>) -> bool
+        ensures { IsTrue result ↔ (self.now ≡ capped level.now cap) }
+    {
+        self.cap == cap && *self.level == *level
+    }
+}
