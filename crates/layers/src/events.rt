@@ -1,10 +1,13 @@
-ghost use Rattle.std.specs.Prelude.{◌≡◌, ◌<◌, [], ◌∷◌, ◌++◌, Some, false, slice_get, vec_len, IfNone, IfSome, IfErr, OnOk, OnErr, IfOk, length};
+ghost use Rattle.std.specs.Prelude.{◌≡◌, ◌+◌, ◌<◌, ◌≤◌, [], ◌∷◌, ◌++◌, Some, false, true, slice_get, slice_index_or, slice_set, vec_len, IfNone, IfSome, IfErr, OnOk, OnErr, IfOk, length};
 ghost use Rattle.std.specs.Vec.{vec_capacity};
+ghost use Rattle.successors.specs.inside.Dealt.{successor_places};
+ghost use Rattle.layers.specs.declared.limits.TheConstants.{MOST_POSITIONS};
 ghost use Rattle.layers.specs.Books.{IsAtWork, MayBegin, with_begun, BeginRefused, ClaimAnswer, MayEnter, with_parcel, HandBackRefused, after_refusal, with_reopened, IsClosedBy, CloseRefused};
 
 use crate::book::{Book, Claim, Closed};
 use crate::fault::{BeginFault, CloseFault, Refusal};
 use crate::layer::Layer;
+use crate::marks::Marks;
 use store::most_waiting;
 use successors::Parcel;
 
@@ -74,6 +77,11 @@ impl Book {
         if self.over {
             return Err(Refusal::Over);
         }
+        let rank = parcel.rank() as usize;
+        if brings_nothing(parcel, self.share, self.shares) {
+            mark(&mut self.done, &mut self.tallies, worker, rank);
+            return Ok(());
+        }
         let limit = self.limit as usize;
         if self
             .found
@@ -91,8 +99,7 @@ impl Book {
         {
             return Err(Refusal::OutOfMemory);
         }
-        self.done.set(parcel.rank() as usize);
-        self.tallies[worker as usize] += 1;
+        mark(&mut self.done, &mut self.tallies, worker, rank);
         Ok(())
     }
 
@@ -160,4 +167,28 @@ fn push_within(places: &mut Vec<usize>, place: usize)
     ensures { places.new.items ≡ places.old.items ++ place ∷ [] }
 {
     let _ = places.push(place);
+}
+
+// Whether none of a parcel's successors is of the share, as far as they are dealt to so many shares.
+fn brings_nothing(parcel: &Parcel<'_>, share: u8, shares: u8) -> bool
+    requires { share < shares }
+    ensures { result ≡ true → successor_places shares share parcel.now.successors ≡ [] }
+{
+    match parcel.places(share, shares) {
+        Some(places) => places.is_empty(),
+        None => false,
+    }
+}
+
+// Marks a rank done, with which the worker's tally is one more.
+#[inline(always)]
+fn mark(done: &mut Marks, tallies: &mut Vec<u64>, worker: u8, rank: usize)
+    requires rank { slice_get done.old rank ≡ Some false }
+    requires worker { worker < length tallies.old.items }
+    requires few { slice_index_or tallies.old.items worker 0 ≤ MOST_POSITIONS }
+    ensures done { done.new ≡ slice_set done.old rank true }
+    ensures tally { tallies.new.items ≡ slice_set tallies.old.items worker (slice_index_or tallies.old.items worker 0 + 1) }
+{
+    done.set(rank);
+    tallies[worker as usize] += 1;
 }

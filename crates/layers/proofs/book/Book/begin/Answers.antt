@@ -1,4 +1,4 @@
-use Rattle.std.proofs.Common.{◌≡◌, vec_len, false, true, length, replicate, ap, sym, subst, ◌∙◌, arith, rules}
+use Rattle.std.proofs.Common.{◌≡◌, false, true, length, replicate, ap, sym, subst, ◌∙◌, arith, rules}
 use Rattle.layers.specs.inside.BookInside.{book_view}
 use Rattle.layers.specs.BookView.{IsLawfulBook}
 use Rattle.layers.specs.Books.{MayBegin}

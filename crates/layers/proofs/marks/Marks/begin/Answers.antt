@@ -1,4 +1,4 @@
-use Rattle.std.proofs.Common.{◌≡◌, ◌-◌, List, ℕ, vec_len, length, replicate, is_err, sym, ap, ◌∙◌, arith}
+use Rattle.std.proofs.Common.{◌≡◌, vec_len, length, replicate, is_err, sym, ap, ◌∙◌, arith}
 use Rattle.layers.proofs.Marking.{no_words, fresh_marks, are_fresh, word_count_is}
 use Rattle.successors.proofs.lemmas.Lists.{resized}
 use Rattle.layers.proofs.marks.Marks.begin.Goals as goal

@@ -1,4 +1,4 @@
-use Rattle.std.proofs.Common.{◌≡◌, List, ℕ, length, sym, ap, subst, ◌∙◌, arith}
+use Rattle.std.proofs.Common.{◌≡◌, List, ℕ, length, sym, ap, subst, ◌∙◌}
 use Rattle.grid.specs.Masks.{word_count}
 use Rattle.layers.specs.inside.Bits.{AreMarks, marks_of}
 use Rattle.layers.proofs.Marking.{marks_long}
