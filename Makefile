@@ -37,12 +37,8 @@ test: needs
 	@tests/cited
 	@rm -f target/sokopar target/refusals-unproved
 	@RT=$(RT) tests/gate
-	@tests/cli/run target/sokopar
-	@tests/before/run target/sokopar
-	@tests/workers/run target/sokopar
-	@tests/hostile/run target/sokopar
-	@tests/refusals/run target/refusals-unproved
-	@tests/fuzz/run target/sokopar
+	@for it in cli before workers hostile fuzz; do tests/timed tests/$$it tests/$$it/run target/sokopar || exit 1; done
+	@tests/timed tests/refusals tests/refusals/run target/refusals-unproved
 
 check: needs
 	@RT=$(RT) tests/check $(BASE)

@@ -1,0 +1,126 @@
+-- That what the check looks at makes the distances lower bounds.
+use Rattle.std.proofs.Common.{◌≡◌, ◌+◌, ◌<◌, ◌&&◌, ◌||◌, ℕ, zero, suc, Bool, true, false, cond, eqb, Some, List, [], ◌∷◌, length, get_or, slice_get, take, drop, inl, inr, refl, sym, ap, subst, ◌∙◌, arith}
+use Rattle.std.proofs.lemmas.Bool.{and_parts, cases_lt, eqb-true, false≢true}
+use Rattle.grid.specs.declared.dir.Dir.{Dir}
+use Rattle.grid.specs.declared.dir.Dir.TheVariants.{D, L, R, U}
+use Rattle.grid.specs.Board.{Board, next, opposite}
+use Rattle.grid.specs.Squares.{contains}
+use Rattle.grid.proofs.lemmas.Steps.{inside_grid, next_back}
+use Rattle.prices.specs.declared.table.Side.{Side}
+use Rattle.prices.specs.declared.table.Table.{Table}
+use Rattle.prices.specs.Prices.{AreFar, CanStand, goals_of}
+use Rattle.prices.specs.inside.Tables.{AreClosed, AreNoneAtHome, KeepRows, LessenByOne, far_in, has_number, number_of, place_in, row_by, row_in, sides_of, spot_of}
+use Rattle.prices.proofs.Goals.{contains-goals}
+
+-- what holds below a number, and of it, holds below the next one
+pub below_next : (P : ℕ → Type 0) (k : ℕ) → ((p : ℕ) → p < k → P p) → P k → (p : ℕ) → p < k + 1 → P p
+below_next P k all here p lt = elim (cases_lt p k) [
+  | inl less ↦ all p less
+  | inr le ↦ let e : k ≡ p = omega (arith, lt, le) in subst P e here
+]
+
+-- what holds of the four directions holds of each
+pub all_four : (P : Dir → Type 0) → P D → P L → P R → P U → (d : Dir) → P d
+all_four P down left right up D = down
+all_four P down left right up L = left
+all_four P down left right up R = right
+all_four P down left right up U = up
+
+-- four answers that are all true tell what each tells
+pub told_by_four : (P : Dir → Type 0) (a b c e : Bool) → (a ≡ true → P D) → (b ≡ true → P L) → (c ≡ true → P R) → (e ≡ true → P U) → (((a && b) && c) && e) ≡ true → (d : Dir) → P d
+told_by_four P a b c e down left right up all =
+    let last = and_parts ((a && b) && c) e all in
+    let third = and_parts (a && b) c last.0 in
+    let first = and_parts a b third.0 in
+    all_four P (down first.0) (left first.1) (right third.1) (up last.1)
+
+-- ---- sides
+
+-- numbers that are of the same sides have the same row
+same_row : (sides : List Side) (j k other : ℕ) → ((i : ℕ) (s : Side) → slice_get sides i ≡ Some s → has_number s j ≡ has_number s k) → row_by sides j other ≡ row_by sides k other
+same_row [] j k other same = refl
+same_row (s ∷ ss) j k other same =
+    let here = same 0 s refl in
+    let rest = same_row ss j k other (λ i x at. same (suc i) x at) in
+    ap (λ (b : Bool). cond b s.row (row_by ss j other)) here ∙ ap (λ (n : ℕ). cond (has_number s k) s.row n) rest
+
+both : (x y : Bool) → (x ≡ true → y ≡ true) → (y ≡ true → x ≡ true) → x ≡ y
+both true y on back = sym (on refl)
+both false true on back = absurd (false≢true (back refl))
+both false false on back = refl
+
+-- where no step leads out of a side, steps that push nothing leave the distances as they are
+pub rows_kept : (board : Board) (t : Table) → ((b : ℕ) → b < length board.cells → AreClosed board t b) → KeepRows board t
+rows_kept board t closed b p d here there =
+    let q = next board p d in
+    let sides = sides_of t.spots.items t.sides.items b in
+    let back : next board q (opposite d) ≡ p = next_back board p d here.player there.player in
+    ap (λ (n : ℕ). take (length t.goals.items) (drop n t.far.items)) (same_row sides (spot_of t.spots.items p).number (spot_of t.spots.items q).number (spot_of t.spots.items b).row (λ i s at. (
+    let is = closed b (inside_grid board b here.floor) i s at in
+    both (has_number s (spot_of t.spots.items p).number) (has_number s (spot_of t.spots.items q).number)
+    (is p d here there)
+    (λ h. subst (λ (x : ℕ). has_number s (spot_of t.spots.items x).number ≡ true) back
+    (is q (opposite d) there (subst (CanStand board b) (sym back) here) h))
+    )))
+
+-- ---- the place of a goal
+
+pub place_inside : (xs : List ℕ) (q : ℕ) → contains xs q ≡ true → place_in xs q < length xs
+place_inside [] q here = absurd (false≢true here)
+place_inside (x ∷ xs) q here = at_head (eqb x q) (λ h. place_inside xs q h) here
+  where
+    at_head : (e : Bool) → (contains xs q ≡ true → place_in xs q < length xs) → (e || contains xs q) ≡ true → cond e 0 (suc (place_in xs q)) < suc (length xs)
+    at_head true tail h = omega arith
+    at_head false tail h = let lt = tail h in omega (arith, lt)
+
+pub at_place : (xs : List ℕ) (q d : ℕ) → contains xs q ≡ true → get_or xs (place_in xs q) d ≡ q
+at_place [] q d here = absurd (false≢true here)
+at_place (x ∷ xs) q d here = at_head (eqb x q) (eqb-true x q) (λ h. at_place xs q d h) here
+  where
+    at_head : (e : Bool) → (e ≡ true → x ≡ q) → (contains xs q ≡ true → get_or xs (place_in xs q) d ≡ q) → (e || contains xs q) ≡ true → get_or (x ∷ xs) (cond e 0 (suc (place_in xs q))) d ≡ q
+    at_head true same tail h = same refl
+    at_head false same tail h = tail h
+
+-- where the rows of each goal have a 0 at its place, no goal is far from a box on it
+pub none_at_home : (board : Board) (t : Table) → ((i p : ℕ) → i < length t.goals.items → p < length board.cells → get_or (row_in t (get_or t.goals.items i 0) p) i 0 ≡ 0) → AreNoneAtHome board t
+none_at_home board t none g p there inside =
+    let i = place_in t.goals.items g in
+    subst (λ (x : ℕ). get_or (row_in t x p) i 0 ≡ 0) (at_place t.goals.items g 0 there) (none i p (place_inside t.goals.items g there) inside)
+
+-- ---- all together
+
+pub are_all : (x y z : Bool) → ((x && y) && z) ≡ true → (x ≡ true) × (y ≡ true) × (z ≡ true)
+are_all x y z all =
+    let last = and_parts (x && y) z all in
+    let first = and_parts x y last.0 in
+    (first.0, first.1, last.1)
+
+pub are_far : (board : Board) (t : Table) → t.goals.items ≡ goals_of board → KeepRows board t → AreNoneAtHome board t → LessenByOne board t → AreFar board (far_in t)
+are_far board t goals kept none less = record {
+  home = λ g p goal stands. none g p (ap (λ (xs : List ℕ). contains xs g) goals ∙ (contains-goals board g ∙ goal)) (inside_grid board p stands.player);
+  walk = λ g b p d here there. (
+      let e : far_in t g b p ≡ far_in t g b (next board p d) = ap (λ (row : List ℕ). number_of t.goals.items row g) (kept b p d here there) in
+      omega (arith, e)
+      );
+  push = λ g p d here ahead. less p d (inside_grid board p here.player) here.player here.floor ahead.floor (place_in t.goals.items g);
+}
+
+nothing : (n k i : ℕ) → let none : List ℕ = [] in get_or (take n (drop k none)) i 0 ≡ 0
+nothing zero zero i = refl
+nothing zero (suc k) i = refl
+nothing (suc n) zero i = refl
+nothing (suc n) (suc k) i = refl
+
+-- no distances at all say that no box needs a push
+pub none_far : (board : Board) (t : Table) → t.far.items ≡ [] → AreFar board (far_in t)
+none_far board t none =
+    let zero_far : (g b p : ℕ) → far_in t g b p ≡ 0 = λ g b p. (
+    let start = row_by (sides_of t.spots.items t.sides.items b) (spot_of t.spots.items p).number (spot_of t.spots.items b).row in
+    let i = place_in t.goals.items g in
+    ap (λ (xs : List ℕ). get_or (take (length t.goals.items) (drop start xs)) i 0) none ∙ nothing (length t.goals.items) start i
+    ) in
+    record {
+      home = λ g p goal stands. zero_far g g p;
+      walk = λ g b p d here there. (let e = zero_far g b p in omega (arith, e));
+      push = λ g p d here ahead. (let e = zero_far g (next board p d) p in omega (arith, e));
+    }

@@ -1,0 +1,4 @@
+pub mod lemmas
+pub mod Goals
+pub mod Checking
+pub mod Sums

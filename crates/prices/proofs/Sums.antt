@@ -1,0 +1,68 @@
+-- What boxes need by a table and a list of tolls is a need, and so the code's sums are bounds.
+use Rattle.std.proofs.Common.{◌≡◌, ◌+◌, ◌-◌, ◌<◌, ◌≤◌, ℕ, suc, Bool, true, false, cond, eqb, eq-eqb, List, [], ◌∷◌, length, get_or, refl, ap, subst, ◌∙◌, arith}
+use Rattle.std.proofs.lemmas.Bool.{false≢true, ne_eqb, true≢false}
+use Rattle.grid.specs.Board.{Board, Scene}
+use Rattle.grid.specs.States.{IsScene}
+use Rattle.grid.specs.Squares.{contains}
+use Rattle.grid.specs.Rising.{rises_from, is_rising}
+use Rattle.grid.proofs.lemmas.Squares.{contains_head, contains-from, rises_from-parts}
+use Rattle.prices.specs.declared.table.Table.{Table}
+use Rattle.prices.specs.Solving.{NoneWithin}
+use Rattle.prices.specs.Prices.{AreFar, goals_of, least_of, need_of, sum_over, total_need}
+use Rattle.prices.specs.inside.Tables.{far_in, number_of, place_in, row_in}
+use Rattle.prices.specs.inside.Sums.{greatest, need_by, total}
+use Rattle.prices.proofs.Goals.{is_rising-goals}
+use Rattle.prices.proofs.Checking.{place_inside}
+use Rattle.prices.proofs.lemmas.Prices.{in_tail, needs_refuse, sum_le, tolls_are_free}
+
+-- what is at most each cost and the cap is at most the least
+at_least : (cost : ℕ → ℕ) (cap n : ℕ) (gs : List ℕ) → ((g : ℕ) → contains gs g ≡ true → n ≤ cost g) → n ≤ cap → n ≤ least_of cost cap gs
+at_least cost cap n [] each le = le
+at_least cost cap n (g ∷ gs) each le =
+    let here = each g (contains_head g gs) in
+    let rest = at_least cost cap n gs (λ x there. each x (in_tail g gs x there)) le in
+    omega (arith, here, rest)
+
+-- what is at most each sum of a distance and its toll is at most what the box needs
+pub need_least : (t : Table) (tolls row : List ℕ) (b p n : ℕ) → row ≡ row_in t b p → length row ≡ length tolls → length tolls ≡ length t.goals.items → ((i : ℕ) → i < length row → n ≤ get_or row i 0 + get_or tolls i 0) → n ≤ greatest → n ≤ need_by t tolls b p
+need_least t tolls row b p n is same size each le =
+    at_least (λ g. far_in t g b p + number_of t.goals.items tolls g) greatest n t.goals.items (λ g there. (
+    let i = place_in t.goals.items g in
+    let inside = place_inside t.goals.items g there in
+    subst (λ (xs : List ℕ). n ≤ get_or xs i 0 + get_or tolls i 0) is (each i (omega (arith, inside, same, size)))
+    )) le
+
+-- the tolls of goals that rise are no more than all numbers
+tolls_le : (k : ℕ) (gs xs : List ℕ) → rises_from k gs ≡ true → length xs ≡ length gs → sum_over (number_of gs xs) gs ≤ total xs
+tolls_le k [] xs rises same = omega arith
+tolls_le k (g ∷ gs) [] rises same = absurd (omega (arith, same))
+tolls_le k (g ∷ gs) (x ∷ xs) rises same =
+    let parts = rises_from-parts k g gs rises in
+    let rest = tolls_le (suc g) gs xs parts.1 (omega (arith, same)) in
+    let here : number_of (g ∷ gs) (x ∷ xs) g ≡ x = own (eqb g g) (eq-eqb g g refl) in
+    let others = sum_le (number_of (g ∷ gs) (x ∷ xs)) (number_of gs xs) gs (λ y there. (
+    let from = contains-from (suc g) gs y parts.1 there in
+    let e : number_of (g ∷ gs) (x ∷ xs) y ≡ number_of gs xs y = other y (eqb g y) (ne_eqb g y (λ e. omega (arith, e, from))) in
+    omega (arith, e)
+    )) in
+    omega (arith, here, rest, others)
+  where
+    own : (e : Bool) → e ≡ true → get_or (x ∷ xs) (cond e 0 (suc (place_in gs g))) 0 ≡ x
+    own true is = refl
+    own false is = absurd (false≢true is)
+
+    other : (y : ℕ) (e : Bool) → e ≡ false → get_or (x ∷ xs) (cond e 0 (suc (place_in gs y))) 0 ≡ get_or xs (place_in gs y) 0
+    other y true is = absurd (true≢false is)
+    other y false is = refl
+
+-- where the boxes need so much more than the tolls, no play with fewer pushes ends solved
+pub needs_above : (board : Board) (t : Table) (tolls : List ℕ) (s : Scene) (needs sum m : ℕ) → AreFar board (far_in t) → t.goals.items ≡ goals_of board → length tolls ≡ length t.goals.items → IsScene board s → needs ≤ sum_over (λ b. need_by t tolls b s.player) s.boxes → sum ≡ total tolls → m < needs - sum → NoneWithin board m s
+needs_above board t tolls s needs sum m far goals size scene le paid lt =
+    let toll = number_of t.goals.items tolls in
+    let rises : is_rising t.goals.items ≡ true = ap (λ (gs : List ℕ). is_rising gs) goals ∙ is_rising-goals board in
+    let pay = tolls_le 0 t.goals.items tolls rises size in
+    let same : sum_over toll t.goals.items ≡ sum_over toll (goals_of board) = ap (λ (gs : List ℕ). sum_over toll gs) goals in
+    let need : sum_over (λ b. need_by t tolls b s.player) s.boxes ≡ total_need (need_of board (far_in t) toll greatest) s =
+    ap (λ (gs : List ℕ). sum_over (λ b. least_of (λ g. far_in t g b s.player + toll g) greatest gs) s.boxes) goals in
+    needs_refuse board toll (need_of board (far_in t) toll greatest) m s (tolls_are_free board (far_in t) toll greatest far) scene
+    (omega (arith, pay, same, need, le, paid, lt))

@@ -1,0 +1,7 @@
+use Rattle.std.proofs.Common.{ℕ, ◌<◌}
+use Rattle.grid.specs.declared.dir.Dir.{Dir}
+use Rattle.prices.specs.inside.Tables.{StaysIn}
+use Rattle.prices.proofs.check.is_closed.Given as goal
+
+abbrev pub invariant-loop-index : goal.invariant-loop-index
+invariant-loop-index l = (p : ℕ) → p < l.index → (d : Dir) → StaysIn l.level l.table l.square l.side p d

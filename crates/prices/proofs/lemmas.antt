@@ -1,0 +1,3 @@
+-- The lemmas that the proofs of upper crates cite.
+pub mod Solving
+pub mod Prices

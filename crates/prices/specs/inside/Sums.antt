@@ -1,0 +1,18 @@
+-- What boxes need by the distances of a table and a list of tolls, one for each goal.
+use Rattle.std.specs.Prelude.{◌+◌, ℕ, List, [], ◌∷◌}
+use Rattle.prices.specs.declared.table.Table.{Table}
+use Rattle.prices.specs.Prices.{least_of}
+use Rattle.prices.specs.inside.Tables.{far_in, number_of}
+
+-- the sum of numbers
+abbrev pub total : List ℕ → ℕ
+total [] = 0
+total (x ∷ xs) = x + total xs
+
+-- the greatest number of 32 bits, which caps what a box needs
+abbrev pub greatest : ℕ
+greatest = 4294967295
+
+-- what a box needs, the player being on the second square
+abbrev pub need_by : Table → List ℕ → ℕ → ℕ → ℕ
+need_by t tolls b p = least_of (λ g. far_in t g b p + number_of t.goals.items tolls g) greatest t.goals.items

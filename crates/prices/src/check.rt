@@ -1,0 +1,185 @@
+//! Whether distances pass the look that makes them lower bounds: one step of the player, or one push, at a time.
+ghost use Rattle.std.specs.Prelude.{◌≡◌, ℕ, ◌+◌, ◌<◌, ◌≤◌, IsTrue, suc, true, false, length, slice_index_or};
+ghost use Rattle.grid.specs.Board.{is_wall, next};
+ghost use Rattle.grid.specs.Squares.{contains};
+ghost use Rattle.prices.specs.Prices.{AreFar, CanStand, goals_of};
+ghost use Rattle.prices.specs.inside.Tables.{far_in, row_in, AreClosed, AreNoneAtHome, AreWithinOne, IsClosed, KeepRows, LessenByOne, LessensByOne, StaysIn, has_number, spot_of};
+
+use crate::table::{Side, Table};
+use grid::{Dir, Level, Square};
+
+/// Makes sure that the distances of a table are lower bounds: where they don't pass the look it has none any more, which
+/// says that no box needs a push.
+pub(crate) fn make_sure(level: &Level, table: &mut Table)
+    requires { table.old.goals.items ≡ goals_of level.now }
+    ensures far { AreFar level.now (far_in table.new) }
+    ensures goals { table.new.goals ≡ table.old.goals }
+{
+    if !are_far(level, table) {
+        table.far.clear();
+    }
+}
+
+// Whether the distances are lower bounds.
+fn are_far(level: &Level, table: &Table) -> bool
+    requires { table.now.goals.items ≡ goals_of level.now }
+    ensures { IsTrue result → AreFar level.now (far_in table.now) }
+{
+    let kept = keep_rows(level, table);
+    let none = are_none_at_home(level, table);
+    let less = lessen_by_one(level, table);
+    kept & none & less
+}
+
+// Whether steps of the player that push nothing keep to one side of each lone box.
+fn keep_rows(level: &Level, table: &Table) -> bool
+    ensures { IsTrue result → KeepRows level.now table.now }
+{
+    level.tell();
+    for index in 0..level.squares() {
+        if !are_closed(level, table, Square(index as u16)) {
+            return false;
+        }
+    }
+    true
+}
+
+// Whether the player leaves none of the sides of a lone box on the square without pushing it.
+fn are_closed(level: &Level, table: &Table, square: Square) -> bool
+    ensures { IsTrue result → AreClosed level.now table.now square }
+{
+    for side in table.sides(square) {
+        if !is_closed(level, table, square, *side) {
+            return false;
+        }
+    }
+    true
+}
+
+// Whether the player leaves the side of a lone box on the square at no step that doesn't push it.
+fn is_closed(level: &Level, table: &Table, square: Square, side: Side) -> bool
+    ensures { IsTrue result → IsClosed level.now table.now square side }
+{
+    level.tell();
+    for index in 0..level.squares() {
+        if !stays_in(level, table, square, side, Square(index as u16)) {
+            return false;
+        }
+    }
+    true
+}
+
+// Whether from the player's square no step leads out of the side of a lone box.
+fn stays_in(level: &Level, table: &Table, square: Square, side: Side, player: Square) -> bool
+    requires inside { player < length level.now.cells }
+    ensures { IsTrue result → (d : Dir) → StaysIn level.now table.now square side player d }
+{
+    if level.is_wall(player) || player == square || !side.has(table.spot(player).number) {
+        return true;
+    }
+    let down = is_in(level, table, square, side, level.next(player, Dir::D));
+    let left = is_in(level, table, square, side, level.next(player, Dir::L));
+    let right = is_in(level, table, square, side, level.next(player, Dir::R));
+    let up = is_in(level, table, square, side, level.next(player, Dir::U));
+    down & left & right & up
+}
+
+// Whether the player cannot stand on a square, or is on the side of the lone box there.
+fn is_in(level: &Level, table: &Table, square: Square, side: Side, player: Square) -> bool
+    ensures { IsTrue result → CanStand level.now square player → has_number side (spot_of table.now.spots.items player).number ≡ true }
+{
+    level.is_wall(player) || player == square || side.has(table.spot(player).number)
+}
+
+// Whether a box on a goal is nowhere far from it.
+fn are_none_at_home(level: &Level, table: &Table) -> bool
+    ensures { IsTrue result → AreNoneAtHome level.now table.now }
+{
+    for (place, goal) in table.goals.as_slice().iter().enumerate() {
+        if !is_none_at_home(level, table, place, *goal) {
+            return false;
+        }
+    }
+    true
+}
+
+// Whether a box on a goal, which is the one at this place, is nowhere far from it.
+fn is_none_at_home(level: &Level, table: &Table, place: usize, goal: Square) -> bool
+    ensures { IsTrue result → (p : ℕ) → p < length level.now.cells → slice_index_or (row_in table.now goal p) place 0 ≡ 0 }
+{
+    level.tell();
+    for index in 0..level.squares() {
+        if number_at(table.row(goal, Square(index as u16)), place) != 0 {
+            return false;
+        }
+    }
+    true
+}
+
+// The number at a place; 0 where there is none.
+fn number_at(numbers: &[u32], place: usize) -> u32
+    ensures { result ≡ slice_index_or numbers.now place 0 }
+{
+    match numbers.get(place) {
+        Some(number) => *number,
+        None => 0,
+    }
+}
+
+// Whether each push lessens each distance of the box by one at most.
+fn lessen_by_one(level: &Level, table: &Table) -> bool
+    ensures { IsTrue result → LessenByOne level.now table.now }
+{
+    level.tell();
+    for index in 0..level.squares() {
+        if !lessen_from(level, table, Square(index as u16)) {
+            return false;
+        }
+    }
+    true
+}
+
+// Whether each push of the player from a square lessens each distance of the box by one at most.
+fn lessen_from(level: &Level, table: &Table, player: Square) -> bool
+    requires { player < length level.now.cells }
+    ensures { IsTrue result → (d : Dir) → LessensByOne level.now table.now player d }
+{
+    let down = lessens_by_one(level, table, player, Dir::D);
+    let left = lessens_by_one(level, table, player, Dir::L);
+    let right = lessens_by_one(level, table, player, Dir::R);
+    let up = lessens_by_one(level, table, player, Dir::U);
+    down & left & right & up
+}
+
+// Whether a push of the player from a square lessens each distance of the box by one at most.
+fn lessens_by_one(level: &Level, table: &Table, player: Square, dir: Dir) -> bool
+    requires { player < length level.now.cells }
+    ensures { IsTrue result → LessensByOne level.now table.now player dir }
+{
+    if level.is_wall(player) {
+        return true;
+    }
+    let from = level.next(player, dir);
+    if level.is_wall(from) {
+        return true;
+    }
+    let to = level.next(from, dir);
+    if level.is_wall(to) {
+        return true;
+    }
+    are_within_one(table.row(from, player), table.row(to, from))
+}
+
+// Whether no number is greater than the other at its place by more than one.
+fn are_within_one(numbers: &[u32], others: &[u32]) -> bool
+    ensures { IsTrue result → AreWithinOne numbers.now others.now }
+{
+    if numbers.len() > others.len() {
+        return false;
+    }
+    let mut within = true;
+    for (place, number) in numbers.iter().enumerate() {
+        within &= *number <= others[place].saturating_add(1);
+    }
+    within
+}

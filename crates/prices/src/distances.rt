@@ -1,0 +1,119 @@
+ghost use Rattle.std.specs.Prelude.{◌≡◌, ℕ, ◌<◌, ◌≤◌, IfOk, IsTrue, length};
+ghost use Rattle.grid.specs.Lawful.{box_count};
+ghost use Rattle.grid.specs.States.{IsScene};
+ghost use Rattle.prices.specs.Solving.{NoneWithin};
+ghost use Rattle.prices.specs.Prices.{goals_of};
+
+use crate::check::make_sure;
+use crate::matching::Matching;
+use crate::needs::sum;
+use crate::pulls::distances;
+use crate::sides::sides_of;
+use crate::table::Table;
+use grid::{Level, MAX_BOXES, Position, Square};
+use std::alloc::{AllocError, Global};
+use std::marker::Model;
+
+/// How many pushes a lone box needs to each goal of a level, by its square and the side of it on which the player stands.
+/// Contracts see the level that it was made of.
+///
+/// It takes four bytes for each goal and each side of each square, 17 MB in the greatest rooms with 64 goals. There the
+/// sides are told apart at the first thousand squares that cut the room, and in rooms of up to 8,192 squares at all.
+#[derive(Debug, Drop)]
+pub struct Distances {
+    level: Level,
+    table: Table,
+}
+
+impl Model for Distances {
+    ghost use Rattle.std.specs.Prelude.{◌≡◌};
+    ghost use Rattle.grid.specs.Board.{Board};
+    ghost use Rattle.prices.specs.Prices.{AreFar, goals_of};
+    ghost use Rattle.prices.specs.inside.Tables.{far_in};
+
+    ghost Value = { Board };
+
+    ghost view = { λ a. a.level };
+
+    ghost invariant = { λ a. AreFar a.level (far_in a.table) × (a.table.goals.items ≡ goals_of a.level) };
+}
+
+impl Distances {
+    /// The distances of a level with at most [`MAX_BOXES`] boxes. The only error is that memory was refused.
+    pub fn of(alloc: Global, level: &Level) -> Result<Distances, AllocError>
+        requires { box_count level.now ≤ MAX_BOXES }
+        ensures { IfOk result (λ distances. distances ≡ level.now) }
+    {
+        let mut table = empty_table(alloc, level)?;
+        table.far = distances(alloc, level, &table)?;
+        make_sure(level, &mut table);
+        Ok(Distances {
+            level: level.copy()?,
+            table,
+        })
+    }
+
+    /// Whether the boxes need more than `most` pushes: then no play from the position with at most so many ends solved.
+    /// Takes no memory. The matching may be one that was used for any other position; for one that differs by a push or
+    /// two it takes least time.
+    pub fn needs_more(&self, position: &Position, most: u32, matching: &mut Matching) -> bool
+        requires { IsScene self.now position.now }
+        ensures { IsTrue result → NoneWithin self.now most position.now }
+    {
+        u64::from(most) < self.lower(position, matching)
+    }
+
+    /// How many pushes the boxes need at least: no play from the position with fewer ends solved. It is
+    /// [`NEVER`](crate::NEVER) or more where the distances say that the boxes can't all be brought to goals, no two to one.
+    /// Takes no memory.
+    pub fn lower(&self, position: &Position, matching: &mut Matching) -> u64
+        requires { IsScene self.now position.now }
+        ensures { (m : ℕ) → m < result → NoneWithin self.now m position.now }
+    {
+        matching.meet(&self.table, position);
+        self.needs_above(position, matching.tolls(self.table.goals.len()))
+    }
+
+    // How much more the boxes need than the sum of these tolls; 0 where there is not one for each goal.
+    fn needs_above(&self, position: &Position, tolls: &[u32]) -> u64
+        requires scene { IsScene self.now position.now }
+        requires few { length tolls.now ≤ MAX_BOXES }
+        ensures { (m : ℕ) → m < result → NoneWithin self.now m position.now }
+    {
+        if tolls.len() != self.table.goals.len() {
+            return 0;
+        }
+        let needs = self.table.needs(position.boxes(), position.player(), tolls);
+        needs.saturating_sub(sum(tolls))
+    }
+}
+
+// A table of the level's goals and sides, without distances.
+fn empty_table(alloc: Global, level: &Level) -> Result<Table, AllocError>
+    ensures { IfOk result (λ table. table.goals.items ≡ goals_of level.now) }
+{
+    let goals = goal_squares(alloc, level)?;
+    let count = u32::try_from(goals.len()).unwrap_or(u32::MAX);
+    let sides = sides_of(alloc, level, count)?;
+    Ok(Table {
+        goals,
+        spots: sides.spots,
+        sides: sides.sides,
+        far: Vec::new(alloc),
+    })
+}
+
+// The squares with goals, in rising order.
+fn goal_squares(alloc: Global, level: &Level) -> Result<Vec<Square>, AllocError>
+    ensures { IfOk result (λ goals. goals.items ≡ goals_of level.now) }
+{
+    level.tell();
+    let mut goals = Vec::new(alloc);
+    for index in 0..level.squares() {
+        let square = Square(index as u16);
+        if level.is_goal(square) {
+            goals.push(square)?;
+        }
+    }
+    Ok(goals)
+}

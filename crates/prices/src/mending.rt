@@ -1,0 +1,105 @@
+//! One more box matched, by a cheapest way through boxes that change their goals.
+
+ghost use Rattle.std.specs.Prelude.{◌<◌, ◌≤◌};
+
+use crate::matching::{Matching, NONE};
+use crate::table::Table;
+use grid::MAX_BOXES;
+
+impl Matching {
+    /// Gives the box at a place a goal, and other boxes other goals where that costs less.
+    pub(crate) fn find_goal(&mut self, table: &Table, place: u8) {
+        let goals = table.goals.len().min(MAX_BOXES);
+        self.begin(table, place);
+        for _ in 0..goals {
+            let goal = self.cheapest(goals);
+            let owner = self.boxes[goal];
+            if owner == NONE {
+                self.raise_tolls(self.costs[goal], goals);
+                self.change_goals(goal, place);
+                return;
+            }
+            self.left[goal] = true;
+            self.go_on(table, goal, owner);
+        }
+    }
+
+    // Each goal costs the box at a place its distance and toll.
+    fn begin(&mut self, table: &Table, place: u8) {
+        self.costs = [u32::MAX; MAX_BOXES];
+        self.from = [place; MAX_BOXES];
+        self.left = [false; MAX_BOXES];
+        let row = table.row_at(self.rows[place as usize % MAX_BOXES]);
+        for (goal, far) in row.iter().enumerate() {
+            if goal < MAX_BOXES {
+                self.costs[goal] = far.wrapping_add(self.tolls[goal]);
+            }
+        }
+    }
+
+    // The goal that costs least of those that were not left.
+    fn cheapest(&self, goals: usize) -> usize
+        requires { goals ≤ MAX_BOXES }
+        ensures { result < MAX_BOXES }
+    {
+        let mut least = u32::MAX;
+        let mut found = 0;
+        for goal in 0..goals {
+            if !self.left[goal] && self.costs[goal] < least {
+                least = self.costs[goal];
+                found = goal;
+            }
+        }
+        found
+    }
+
+    // Goes on from a goal to those that its owner could have in its place.
+    fn go_on(&mut self, table: &Table, goal: usize, owner: u8)
+        requires { goal < MAX_BOXES }
+    {
+        let row = table.row_at(self.rows[owner as usize % MAX_BOXES]);
+        let Some(far) = row.get(goal) else {
+            return;
+        };
+        let base = self.costs[goal].wrapping_sub(far.wrapping_add(self.tolls[goal]));
+        for (other, far) in row.iter().enumerate() {
+            if other < MAX_BOXES {
+                let cost = base.wrapping_add(far.wrapping_add(self.tolls[other]));
+                if cost < self.costs[other] {
+                    self.costs[other] = cost;
+                    self.from[other] = owner;
+                }
+            }
+        }
+    }
+
+    // Raises the tolls of the goals that were left by as much as they cost less than `most`.
+    fn raise_tolls(&mut self, most: u32, goals: usize)
+        requires { goals ≤ MAX_BOXES }
+    {
+        for goal in 0..goals {
+            if self.left[goal] {
+                let less = most.wrapping_sub(self.costs[goal]);
+                self.tolls[goal] = self.tolls[goal].wrapping_add(less);
+            }
+        }
+    }
+
+    // Gives a goal to the box from which it was reached, that box's goal to the box from which this was reached, and so on
+    // to the box at a place.
+    fn change_goals(&mut self, free: usize, place: u8)
+        requires { free < MAX_BOXES }
+    {
+        let mut goal = free;
+        for _ in 0..MAX_BOXES {
+            let owner = self.from[goal];
+            let before = self.goals[owner as usize % MAX_BOXES];
+            self.goals[owner as usize % MAX_BOXES] = goal as u8;
+            self.boxes[goal] = owner;
+            if owner == place || before == NONE {
+                return;
+            }
+            goal = before as usize % MAX_BOXES;
+        }
+    }
+}

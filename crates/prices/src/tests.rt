@@ -1,0 +1,283 @@
+ghost use Rattle.std.specs.Prelude.{◌≡◌};
+ghost use Rattle.grid.specs.States.{FitsLevel};
+
+use crate::laws::{a_first_push_leads_on, needs_are_bounds};
+use crate::{Distances, Matching, NEVER};
+use doom::Bound;
+use grid::{Cell, Dir, Level, Position, Square};
+use std::alloc::Global;
+use std::process::Abort;
+
+/// No play ends solved.
+const LOST: u64 = u64::MAX;
+
+// the player cannot come to the other side of the box
+const WRONG_SIDE: (usize, &[u8]) = (6, b"#######.@$ #######");
+
+// the same with a way round
+const WAY_ROUND: (usize, &[u8]) = (6, b"#######    ##.@$ ##    #######");
+
+// both boxes are nearest to one goal
+const ONE_NEAR: (usize, &[u8]) = (8, b"#########      ##.$$  .##  @   ##      #########");
+
+// each box reaches the goal on the left alone
+const ONE_GOAL_FOR_TWO: (usize, &[u8]) = (9, b"##########.$ $@ .##########");
+
+const TWO_ROOMS: (usize, &[u8]) = (8, b"#########. @ $.####  $##########");
+
+const TWO_BOXES: (usize, &[u8]) = (6, b"#######    ##@$$ ## .. #######");
+
+const THREE_BOXES: (usize, &[u8]) = (5, b"######@  ##$$$##...######");
+
+const LONG_HALL: (usize, &[u8]) = (10, b"###########. $ @$ .##### ########  ###############");
+
+// rooms that the box cuts at many squares
+const DOORS: (usize, &[u8]) = (
+    10,
+    b"###########    #   ## @$   . ##    #   ##### ##  ##        ###########",
+);
+
+fn cell_of(byte: u8) -> Cell {
+    match byte {
+        b'#' => Cell::Wall,
+        b'.' => Cell::Goal,
+        b'$' => Cell::Box,
+        b'*' => Cell::BoxOnGoal,
+        b'@' => Cell::Player,
+        b'+' => Cell::PlayerOnGoal,
+        _ => Cell::Floor,
+    }
+}
+
+fn level_of(rt: &impl Abort, alloc: Global, board: (usize, &[u8])) -> Level {
+    let (cols, bytes) = board;
+    let mut cells = Vec::new(alloc);
+    for byte in bytes {
+        cells.push(cell_of(*byte)).expect(rt, "memory");
+    }
+    assert!(rt; cols >= 1);
+    assert!(rt; cells.len() % cols == 0);
+    Level::from_cells(alloc, cols, cells).expect(rt, "a level")
+}
+
+// What the bound says of the start of a level.
+fn lower_of(rt: &impl Abort, alloc: Global, board: (usize, &[u8])) -> u64 {
+    let level = level_of(rt, alloc, board);
+    let distances = distances_of(rt, alloc, &level);
+    let position = Position::start(&level).expect(rt, "few boxes");
+    assert!(rt; position.fits(&level));
+    distances.lower(&position, &mut Matching::new())
+}
+
+fn distances_of(rt: &impl Abort, alloc: Global, level: &Level) -> Distances
+    ensures { result ≡ level.now }
+{
+    assert!(rt; level.boxes() <= 64);
+    Distances::of(alloc, level).expect(rt, "memory")
+}
+
+#[test]
+fn starts_need_pushes(rt: HostRuntime) {
+    let rows = [
+        (WAY_ROUND, 2),
+        (ONE_NEAR, 4),
+        (TWO_BOXES, 2),
+        (THREE_BOXES, 3),
+    ];
+    for (row, (board, pushes)) in rows.into_iter().enumerate() {
+        let low = lower_of(&rt, rt.alloc(), board);
+        assert_eq!(&rt; low, pushes, "row {row}");
+    }
+}
+
+#[test]
+fn what_no_matching_brings_home_is_never_solved(rt: HostRuntime) {
+    for board in [WRONG_SIDE, ONE_GOAL_FOR_TWO] {
+        let low = lower_of(&rt, rt.alloc(), board);
+        assert!(&rt; low >= u64::from(NEVER), "at least {low}");
+    }
+}
+
+#[test]
+fn more_than_the_bound_is_not_refused(rt: HostRuntime) {
+    let level = level_of(&rt, rt.alloc(), ONE_NEAR);
+    let distances = distances_of(&rt, rt.alloc(), &level);
+    let position = Position::start(&level).expect(&rt, "few boxes");
+    assert!(&rt; position.fits(&level));
+    let mut matching = Matching::default();
+    assert!(&rt; distances.needs_more(&position, 3, &mut matching));
+    assert!(&rt; !distances.needs_more(&position, 4, &mut matching));
+}
+
+// All positions of a level with at most three boxes, in the order of their squares.
+fn all_positions(rt: &impl Abort, alloc: Global, level: &Level) -> Vec<Position> {
+    let mut found = Vec::new(alloc);
+    let last = level.squares() as u16;
+    for first in 0..last {
+        if level.boxes() == 1 {
+            add_players(rt, level, &[Square(first)], &mut found);
+            continue;
+        }
+        for second in first..last {
+            if level.boxes() == 2 {
+                add_players(rt, level, &[Square(first), Square(second)], &mut found);
+                continue;
+            }
+            for third in second..last {
+                let boxes = [Square(first), Square(second), Square(third)];
+                add_players(rt, level, &boxes, &mut found);
+            }
+        }
+    }
+    found
+}
+
+// Adds the positions with these boxes.
+fn add_players(rt: &impl Abort, level: &Level, boxes: &[Square], found: &mut Vec<Position>) {
+    if boxes.iter().any(|square| level.is_wall(*square)) {
+        return;
+    }
+    for index in 0..level.squares() {
+        if let Some(position) = Position::of(boxes, Square(index as u16)) {
+            if position.fits(level) {
+                found.push(position).expect(rt, "memory");
+            }
+        }
+    }
+}
+
+// Where a step in a direction leads by the rules, and whether it pushes; none where it is not possible.
+fn stepped(level: &Level, position: &Position, dir: Dir) -> Option<(Position, bool)> {
+    let ahead = level.next(position.player(), dir);
+    if level.is_wall(ahead) {
+        return None;
+    }
+    let mut after = position.copy();
+    if !position.contains(ahead) {
+        after.set_player(ahead);
+        return Some((after, false));
+    }
+    let beyond = level.next(ahead, dir);
+    if level.is_wall(beyond) || position.contains(beyond) {
+        return None;
+    }
+    after.push(ahead, beyond);
+    Some((after, true))
+}
+
+// The steps that each position allows: the place of the position that each leads to, and its pushes.
+fn steps_of(
+    rt: &impl Abort,
+    alloc: Global,
+    level: &Level,
+    positions: &[Position],
+) -> Vec<(usize, usize, u64)> {
+    let mut steps = Vec::new(alloc);
+    for (place, position) in positions.iter().enumerate() {
+        for dir in Dir::ALL {
+            if let Some((after, pushed)) = stepped(level, position, dir) {
+                let to = positions.iter().position(|other| *other == after);
+                let step = (place, to.expect(rt, "a position"), u64::from(pushed));
+                steps.push(step).expect(rt, "memory");
+            }
+        }
+    }
+    steps
+}
+
+fn is_solved(level: &Level, position: &Position) -> bool {
+    position.boxes().iter().all(|square| level.is_goal(*square))
+}
+
+// The least pushes with which a play from each position ends solved, by the rules alone.
+fn least_pushes(rt: &impl Abort, alloc: Global, level: &Level, positions: &[Position]) -> Vec<u64> {
+    let steps = steps_of(rt, alloc, level, positions);
+    let mut least = Vec::new(alloc);
+    for position in positions {
+        let pushes = if is_solved(level, position) { 0 } else { LOST };
+        least.push(pushes).expect(rt, "memory");
+    }
+    let mut changed = true;
+    while changed {
+        changed = false;
+        for (from, to, pushes) in steps.as_slice() {
+            let through = least[*to].saturating_add(*pushes);
+            if through < least[*from] {
+                least[*from] = through;
+                changed = true;
+            }
+        }
+    }
+    least
+}
+
+#[test]
+fn the_bound_is_between_that_of_lone_squares_and_the_fewest_pushes(rt: HostRuntime) {
+    let boards = [
+        WRONG_SIDE,
+        WAY_ROUND,
+        TWO_ROOMS,
+        TWO_BOXES,
+        THREE_BOXES,
+        LONG_HALL,
+        ONE_GOAL_FOR_TWO,
+    ];
+    for (row, board) in boards.into_iter().enumerate() {
+        let level = level_of(&rt, rt.alloc(), board);
+        compare_all(&rt, rt.alloc(), &level, row);
+    }
+}
+
+// Holds the bound of each position of a level to the slow search and to the bound of `doom`. One matching serves them all.
+fn compare_all(rt: &impl Abort, alloc: Global, level: &Level, row: usize) {
+    let positions = all_positions(rt, alloc, level);
+    let least = least_pushes(rt, alloc, level, positions.as_slice());
+    let distances = distances_of(rt, alloc, level);
+    let bound = Bound::of(alloc, level).expect(rt, "memory");
+    let mut matching = Matching::new();
+    for (place, position) in positions.as_slice().iter().enumerate() {
+        let low = distances.lower(position, &mut matching);
+        let alone = match bound.lower(position) {
+            Some(pushes) => u64::from(pushes),
+            None => u64::from(NEVER),
+        };
+        assert!(rt;
+            low <= least[place],
+            "row {row}, place {place}: {low} is too great"
+        );
+        assert!(rt;
+            alone <= low,
+            "row {row}, place {place}: {low} is too small"
+        );
+        let fresh = distances.lower(position, &mut Matching::new());
+        assert_eq!(rt; low, fresh, "row {row}, place {place}");
+    }
+}
+
+#[test]
+fn of_one_box_the_bound_is_the_fewest_pushes(rt: HostRuntime) {
+    for (row, board) in [WRONG_SIDE, WAY_ROUND, DOORS].into_iter().enumerate() {
+        let level = level_of(&rt, rt.alloc(), board);
+        compare_one(&rt, rt.alloc(), &level, row);
+    }
+}
+
+// Holds the bound of each position of a level with one box to the slow search.
+fn compare_one(rt: &impl Abort, alloc: Global, level: &Level, row: usize) {
+    let positions = all_positions(rt, alloc, level);
+    let least = least_pushes(rt, alloc, level, positions.as_slice());
+    let distances = distances_of(rt, alloc, level);
+    let mut matching = Matching::new();
+    for (place, position) in positions.as_slice().iter().enumerate() {
+        let low = distances.lower(position, &mut matching);
+        let pushes = least[place].min(u64::from(NEVER));
+        assert_eq!(rt; low, pushes, "row {row}, place {place}");
+    }
+}
+
+#[test]
+fn laws_can_be_called(rt: HostRuntime) {
+    let level = level_of(&rt, rt.alloc(), WAY_ROUND);
+    a_first_push_leads_on(&level);
+    needs_are_bounds(&level);
+}
