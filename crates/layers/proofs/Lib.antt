@@ -12,3 +12,4 @@ pub mod Merged
 pub mod Joined
 pub mod Stretches
 pub mod Expanded
+pub mod Marking

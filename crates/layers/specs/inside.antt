@@ -2,3 +2,4 @@
 pub mod BookInside
 pub mod Insides
 pub mod Merging
+pub mod Bits

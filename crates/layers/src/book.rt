@@ -12,6 +12,7 @@ ghost use Rattle.std.specs.Arc.{arc_value};
 use crate::fault::BookFault;
 use crate::layer::Layer;
 use crate::limits::MAX_WORKERS;
+use crate::marks::Marks;
 use area::{Scratch, normal};
 use doom::{Bound, Dead, doomed};
 use grid::{Level, MAX_BOXES, Position};
@@ -52,8 +53,8 @@ pub struct Book {
     pub(crate) found: Found,
     pub(crate) starts: Vec<usize>,
     pub(crate) begun: bool,
-    pub(crate) claimed: Vec<bool>,
-    pub(crate) done: Vec<bool>,
+    pub(crate) claimed: Marks,
+    pub(crate) done: Marks,
     // each rank below it is claimed or done
     pub(crate) next: usize,
     pub(crate) tallies: Vec<u64>,
@@ -178,8 +179,8 @@ impl Book {
             found,
             starts,
             begun: false,
-            claimed: Vec::new(alloc),
-            done: Vec::new(alloc),
+            claimed: Marks::none(alloc),
+            done: Marks::none(alloc),
             next: 0,
             tallies,
             over: false,

@@ -1,10 +1,13 @@
-ghost use Rattle.std.specs.Prelude.{◌≡◌, ◌<◌, Some, false, slice_get, IfNone, IfSome, IfErr, OnOk, OnErr, IfOk, length};
+ghost use Rattle.std.specs.Prelude.{◌≡◌, ◌+◌, ◌<◌, ◌≤◌, [], ◌∷◌, ◌++◌, Some, false, true, slice_get, slice_index_or, slice_set, vec_len, IfNone, IfSome, IfErr, OnOk, OnErr, IfOk, length};
+ghost use Rattle.std.specs.Vec.{vec_capacity};
+ghost use Rattle.successors.specs.inside.Dealt.{successor_places};
+ghost use Rattle.layers.specs.declared.limits.TheConstants.{MOST_POSITIONS};
 ghost use Rattle.layers.specs.Books.{IsAtWork, MayBegin, with_begun, BeginRefused, ClaimAnswer, MayEnter, with_parcel, HandBackRefused, after_refusal, with_reopened, IsClosedBy, CloseRefused};
 
 use crate::book::{Book, Claim, Closed};
 use crate::fault::{BeginFault, CloseFault, Refusal};
 use crate::layer::Layer;
-use crate::marking::{all_marked, push_within};
+use crate::marks::Marks;
 use store::most_waiting;
 use successors::Parcel;
 
@@ -23,10 +26,10 @@ impl Book {
             return Err(BeginFault::OtherLayer);
         }
         let ranks = layer.len() as usize;
-        if self.claimed.resize(ranks, false).is_err() {
+        if self.claimed.begin(ranks).is_err() {
             return Err(BeginFault::OutOfMemory);
         }
-        if self.done.resize(ranks, false).is_err() {
+        if self.done.begin(ranks).is_err() {
             self.claimed.clear();
             return Err(BeginFault::OutOfMemory);
         }
@@ -43,8 +46,8 @@ impl Book {
     {
         let layer = self.layer();
         for rank in self.next..self.done.len() {
-            if !self.claimed[rank] && !self.done[rank] {
-                self.claimed[rank] = true;
+            if !self.claimed.is_set(rank) && !self.done.is_set(rank) {
+                self.claimed.set(rank);
                 self.next = rank + 1;
                 return Some(Claim {
                     layer,
@@ -74,6 +77,11 @@ impl Book {
         if self.over {
             return Err(Refusal::Over);
         }
+        let rank = parcel.rank() as usize;
+        if brings_nothing(parcel, self.share, self.shares) {
+            mark(&mut self.done, &mut self.tallies, worker, rank);
+            return Ok(());
+        }
         let limit = self.limit as usize;
         if self
             .found
@@ -83,7 +91,7 @@ impl Book {
             return Err(Refusal::Over);
         }
         // the last number of a worker is that of the one who does what the others left
-        let most = most_waiting(worker, self.workers - 1, self.share);
+        let most = most_waiting(worker, self.workers - 1, self.share, self.shares);
         if self
             .found
             .enter_all(most, self.share, self.shares, parcel)
@@ -91,8 +99,7 @@ impl Book {
         {
             return Err(Refusal::OutOfMemory);
         }
-        self.done[parcel.rank() as usize] = true;
-        self.tallies[worker as usize] += 1;
+        mark(&mut self.done, &mut self.tallies, worker, rank);
         Ok(())
     }
 
@@ -119,7 +126,7 @@ impl Book {
     pub fn reopen(&mut self)
         ensures { self.new ≡ with_reopened self.old }
     {
-        self.claimed.copy_from_slice(self.done.as_slice());
+        self.claimed.copy_from(&self.done);
         self.next = 0;
     }
 
@@ -130,7 +137,7 @@ impl Book {
         ensures fault { IfErr result (λ fault. CloseRefused self.old fault) }
         ensures err { OnErr result (self.new ≡ self.old) }
     {
-        if !self.begun || !all_marked(self.done.as_slice()) {
+        if !self.begun || !self.done.are_all_set() {
             return Err(CloseFault::NotAll);
         }
         let layer = self.starts.len() as u64;
@@ -152,4 +159,36 @@ impl Book {
             count: count as u64,
         })
     }
+}
+
+// Appends a place to a list that has room for it.
+fn push_within(places: &mut Vec<usize>, place: usize)
+    requires { vec_len places.old < vec_capacity places.old }
+    ensures { places.new.items ≡ places.old.items ++ place ∷ [] }
+{
+    let _ = places.push(place);
+}
+
+// Whether none of a parcel's successors is of the share, as far as they are dealt to so many shares.
+fn brings_nothing(parcel: &Parcel<'_>, share: u8, shares: u8) -> bool
+    requires { share < shares }
+    ensures { result ≡ true → successor_places shares share parcel.now.successors ≡ [] }
+{
+    match parcel.places(share, shares) {
+        Some(places) => places.is_empty(),
+        None => false,
+    }
+}
+
+// Marks a rank done, with which the worker's tally is one more.
+#[inline(always)]
+fn mark(done: &mut Marks, tallies: &mut Vec<u64>, worker: u8, rank: usize)
+    requires rank { slice_get done.old rank ≡ Some false }
+    requires worker { worker < length tallies.old.items }
+    requires few { slice_index_or tallies.old.items worker 0 ≤ MOST_POSITIONS }
+    ensures done { done.new ≡ slice_set done.old rank true }
+    ensures tally { tallies.new.items ≡ slice_set tallies.old.items worker (slice_index_or tallies.old.items worker 0 + 1) }
+{
+    done.set(rank);
+    tallies[worker as usize] += 1;
 }

@@ -32,13 +32,13 @@ impl Layer {
     }
 
     /// What [`Layer::join`] gives, made of stretches of that layer where all of it was merged in them, and otherwise of the
-    /// books. The errors are those of [`Layer::join`].
+    /// books. The stretches hold nothing any more where it was made of them. The errors are those of [`Layer::join`].
     pub fn join_stretches(
         alloc: Global,
         books: &[Book],
-        stretches: &[Stretch],
+        stretches: &mut [Stretch],
     ) -> Result<Layer, JoinFault>
-        requires { (i : ℕ) (s : Stretch) → slice_get stretches.now i ≡ Some s → IsStretchOf books.now s }
+        requires { (i : ℕ) (s : Stretch) → slice_get stretches.old i ≡ Some s → IsStretchOf books.now s }
         ensures { MatchResult result (λ layer. IsJoinOf books.now layer) (λ fault. JoinRefused books.now fault) }
     {
         let Some(first) = first_of_all(books) else {
@@ -96,15 +96,15 @@ fn join_merged(
     alloc: Global,
     books: &[Book],
     first: &Book,
-    stretches: &[Stretch],
+    stretches: &mut [Stretch],
 ) -> Result<Option<Layer>, AllocError>
     requires first { slice_get books.now 0 ≡ Some first.now }
     requires all { AreAllShares books.now }
-    requires stretches { (i : ℕ) (s : Stretch) → slice_get stretches.now i ≡ Some s → IsStretchOf books.now s }
+    requires stretches { (i : ℕ) (s : Stretch) → slice_get stretches.old i ≡ Some s → IsStretchOf books.now s }
     ensures { IfOk result (λ found. IfSome found (λ layer. IsJoinOf books.now layer)) }
 {
     tell_few(books);
-    match put_together(alloc, books, first.boxes(), stretches)? {
+    match put_together(alloc, books, stretches)? {
         Some(rows) => Ok(Some(layer_of(books, first, rows)?)),
         None => Ok(None),
     }

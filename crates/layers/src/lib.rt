@@ -12,7 +12,7 @@ mod join;
 pub mod laws;
 mod layer;
 mod limits;
-mod marking;
+mod marks;
 mod merging;
 mod parents;
 mod stretch;

@@ -1,6 +1,6 @@
 //! Stretches of the layer that books closed last, each merged apart from the others, so that they can be merged side by
 //! side.
-ghost use Rattle.std.specs.Prelude.{◌≡◌, ℕ, ◌<◌, ◌≤◌, [], true, IfOk, IfSome, Some, length, map, slice_get};
+ghost use Rattle.std.specs.Prelude.{◌≡◌, ℕ, ◌<◌, ◌≤◌, [], ◌++◌, true, IfOk, IfSome, OnOk, Some, length, map, slice_get};
 ghost use Rattle.layers.specs.declared.limits.TheConstants.{MOST_POSITIONS};
 ghost use Rattle.successors.specs.Reaching.{total};
 ghost use Rattle.layers.specs.BookView.{last_list};
@@ -11,6 +11,7 @@ use crate::join::tell_all;
 use crate::merging::{count_all, is_none_left, next_of, rests_of};
 use grid::Square;
 use std::alloc::{AllocError, Global};
+use std::mem::swap;
 use store::Origin;
 
 /// How often a list is halved at most until one place is left.
@@ -80,9 +81,13 @@ impl Stretch {
         } else {
             None
         };
-        // room for each position of it and no more, since the stretches stand beside the layer that they become
+        // the others are to be appended to the first one; these have room for each position of theirs and no more
         let ends = places_at(alloc, books, &bound)?;
-        let room = sum_of(ends.as_slice()).saturating_sub(sum_of(starts.as_slice()));
+        let room = if part == 0 {
+            count_of(books)
+        } else {
+            sum_of(ends.as_slice()).saturating_sub(sum_of(starts.as_slice()))
+        };
         Ok(Stretch {
             starts,
             bound,
@@ -153,16 +158,15 @@ fn merge_upto(
 pub(crate) fn put_together(
     alloc: Global,
     books: &[Book],
-    boxes: usize,
-    stretches: &[Stretch],
+    stretches: &mut [Stretch],
 ) -> Result<Option<(usize, Vec<Square>, Vec<Origin>)>, AllocError>
     requires few { total (map last_list books.now) ≤ MOST_POSITIONS }
-    requires stretches { (i : ℕ) (s : Stretch) → slice_get stretches.now i ≡ Some s → IsStretchOf books.now s }
+    requires stretches { (i : ℕ) (s : Stretch) → slice_get stretches.old i ≡ Some s → IsStretchOf books.now s }
     ensures { IfOk result (λ found. IfSome found (λ r. AreMerged (map last_list books.now) r.0 r.1.items r.2.items)) }
 {
     let whole = rests_of(alloc, books, &[])?;
     let count = count_all(whole.as_slice());
-    let Some(merged) = append_each(alloc, count, boxes, books, stretches)? else {
+    let Some(merged) = append_each(alloc, books, stretches)? else {
         return Ok(None);
     };
     let rests = rests_of(alloc, books, merged.ends.as_slice())?;
@@ -177,49 +181,63 @@ pub(crate) fn put_together(
     Ok(Some((count, squares, origins)))
 }
 
-// What stretches hold that follow each other from the first position on, with room for so many positions of so many boxes; `None`
-// where they do not, or one of them is not merged. The only error is that memory was refused.
+// What stretches hold that follow each other from the first position on; `None` where they do not, or one of them is not merged.
+// What was appended a stretch holds no more, so that no position is held twice for long. The only error is that memory was refused.
 fn append_each(
     alloc: Global,
-    count: usize,
-    boxes: usize,
     books: &[Book],
-    stretches: &[Stretch],
+    stretches: &mut [Stretch],
 ) -> Result<Option<Merged>, AllocError>
-    requires stretches { (i : ℕ) (s : Stretch) → slice_get stretches.now i ≡ Some s → IsStretchOf books.now s }
+    requires stretches { (i : ℕ) (s : Stretch) → slice_get stretches.old i ≡ Some s → IsStretchOf books.now s }
     ensures { IfOk result (λ found. IfSome found (λ merged. AreTaken books.now [] merged.ends.items merged.squares.items merged.origins.items)) }
 {
     let mut whole = Merged {
         ends: vec![in alloc; 0; books.len()]?,
-        squares: Vec::with_capacity(alloc, count.saturating_mul(boxes.saturating_add(1)))?,
-        origins: Vec::with_capacity(alloc, count)?,
+        squares: Vec::new(alloc),
+        origins: Vec::new(alloc),
     };
     for place in 0..stretches.len() {
-        if !append_stretch(&mut whole, books, &stretches[place])? {
+        if !append_stretch(&mut whole, books, &mut stretches[place])? {
             return Ok(None);
         }
     }
     Ok(Some(whole))
 }
 
-// Appends what a stretch holds, if it begins where the others end and is merged, and tells whether it does. The only error is
-// that memory was refused.
-fn append_stretch(whole: &mut Merged, books: &[Book], stretch: &Stretch) -> Result<bool, AllocError>
-    requires stretch { IsStretchOf books.now stretch.now }
+// Appends what a stretch holds, if it begins where the others end and is merged, and tells whether it does. Then it holds nothing
+// any more. The only error is that memory was refused.
+fn append_stretch(
+    whole: &mut Merged,
+    books: &[Book],
+    stretch: &mut Stretch,
+) -> Result<bool, AllocError>
+    requires stretch { IsStretchOf books.now stretch.old }
     requires whole { AreTaken books.now [] whole.old.ends.items whole.old.squares.items whole.old.origins.items }
-    ensures { IfOk result (λ follows. follows ≡ true → AreTaken books.now [] whole.new.ends.items whole.new.squares.items whole.new.origins.items) }
+    ensures follows { IfOk result (λ follows. follows ≡ true → AreTaken books.now [] whole.new.ends.items whole.new.squares.items whole.new.origins.items) }
+    ensures stretch { IsStretchOf books.now stretch.new }
 {
-    let Some(more) = &stretch.merged else {
-        return Ok(false);
-    };
     if !are_same(whole.ends.as_slice(), stretch.starts.as_slice()) {
         return Ok(false);
     }
-    whole.ends.clear();
-    whole.ends.extend_from_slice(more.ends.as_slice())?;
-    whole.squares.extend_from_slice(more.squares.as_slice())?;
-    whole.origins.extend_from_slice(more.origins.as_slice())?;
+    let Some(mut more) = stretch.merged.take() else {
+        return Ok(false);
+    };
+    append(&mut whole.squares, &mut more.squares)?;
+    append(&mut whole.origins, &mut more.origins)?;
+    swap(&mut whole.ends, &mut more.ends);
     Ok(true)
+}
+
+// Moves what one list holds behind what another one holds, of which it takes the place where that holds nothing. The only error is
+// that memory was refused.
+fn append<T>(list: &mut Vec<T>, more: &mut Vec<T>) -> Result<(), AllocError>
+    ensures { OnOk result (list.new.items ≡ list.old.items ++ more.old.items) }
+{
+    if list.is_empty() {
+        swap(list, more);
+        return Ok(());
+    }
+    list.append(more)
 }
 
 // Whether the places are the same.

@@ -175,7 +175,7 @@ fn join_stretched(alloc: Global, books: &[Book]) -> Result<Layer, JoinFault> {
         return Err(JoinFault::OutOfMemory);
     };
     merge_each(alloc, books, stretches.as_mut_slice());
-    Layer::join_stretches(alloc, books, stretches.as_slice())
+    Layer::join_stretches(alloc, books, stretches.as_mut_slice())
 }
 
 // Merges each of the stretches.

@@ -18,19 +18,21 @@ use successors::{Parcel, Successor, share_by};
 /// So many offers wait before they enter where a book's own worker hands back.
 const FEW: usize = 32;
 
-/// So many offers wait before they enter where another worker hands back: more than come between two of its own worker's
-/// turns, and few beside the map.
-const MANY: usize = 1024;
+/// So many offers wait in all the books together before they enter where another worker hands back: more than come between two
+/// turns of a book's own worker, and few beside the maps.
+const MANY: u32 = 4096;
 
-/// How many offers may wait in the inbox of the book of a share before they enter, where one of so many workers hands back to
-/// it. The books are dealt to the workers, and mostly it is a book's own worker that enters what all of them have brought,
+/// How many offers may wait in the inbox of the book of a share, one of so many, before they enter, where one of so many workers
+/// hands back to it. The books are dealt to the workers, and mostly it is a book's own worker that enters what all of them have brought,
 /// since what it entered before is in its processor's cache; the others append to the inbox, and soon let go of the lock.
 /// Where there are more workers than books, some own none.
-pub fn most_waiting(worker: u8, workers: u8, share: u8) -> usize {
+pub fn most_waiting(worker: u8, workers: u8, share: u8, shares: u8) -> usize
+    requires { 0 < shares }
+{
     if workers == 0 || worker == share % workers {
         FEW
     } else {
-        MANY
+        (MANY / u32::from(shares)) as usize
     }
 }
 

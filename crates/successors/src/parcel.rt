@@ -3,7 +3,7 @@ ghost use Rattle.successors.specs.ParcelView.{IsParcel};
 ghost use Rattle.successors.specs.inside.Dealt.{successor_places};
 ghost use Rattle.successors.specs.inside.Sums.{AreSums};
 
-use crate::dealing::Deal;
+use crate::dealing::{Deal, MOST_DEALT};
 use crate::limits::MAX_SUCCESSORS;
 use crate::task::Task;
 use arrayvec::ArrayVec;
@@ -69,7 +69,7 @@ impl<'a> Model for Parcel<'a> {
 
     ghost invariant = { λ a. (a.count ≤ length a.slots.successors.items)
         × AreSums (take a.count a.slots.successors.items) (take a.count a.slots.sums.items)
-        × IsDealt a.deal.shares a.deal.order a.deal.ends (take a.count a.slots.sums.items)
+        × IsDealt a.deal.shares a.deal.rows a.deal.lens (take a.count a.slots.sums.items)
         × IsParcel (parcel_of (capped a.level.now a.cap) a.layer a.rank a.slots.successors.items a.count) };
 }
 
@@ -148,8 +148,8 @@ impl<'a> Parcel<'a> {
         if self.deal.shares != shares {
             return None;
         }
-        let from = self.deal.ends[share as usize] as usize;
-        let end = self.deal.ends[share as usize + 1] as usize;
-        Some(&self.deal.order[from..end])
+        let from = share as usize * MOST_DEALT;
+        let end = from + self.deal.lens[share as usize] as usize;
+        Some(&self.deal.rows[from..end])
     }
 }

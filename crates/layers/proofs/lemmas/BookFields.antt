@@ -1,9 +1,10 @@
 -- The events of a book on its fields: what is taken, the limit, a hand back and a close.
 use Rattle.std.proofs.Common.{◌≡◌, ℕ, suc, ◌+◌, ◌<◌, ◌≤◌, Bool, true, false, ◌&&◌, ◌||◌, ◌==◌, not, List, [], ◌∷◌, ◌++◌, length, map, fold, get_or, set, ltb, Option, Some, None, inl, inr, refl, sym, ap, subst, ◌∙◌, arith}
-use Rattle.std.proofs.lemmas.Bool.{cases_lt}
+use Rattle.std.proofs.lemmas.Bool.{cases_lt, le-ltb}
 use Rattle.std.proofs.lemmas.Bool.Decides.{nat_tests}
 use Rattle.std.proofs.lemmas.List.{length-append, get_or-set_same, length-map}
-use Rattle.std.specs.Prelude.{slice_get, IfSome}
+use Rattle.std.specs.Prelude.{is_some, slice_get, IfSome, if◌then◌else◌}
+use Rattle.std.specs.Map.{lookup}
 use Rattle.grid.specs.declared.square.Push.{Push}
 use Rattle.grid.specs.Board.{Board, Scene, is_wall}
 use Rattle.grid.specs.Squares.{contains}
@@ -16,11 +17,13 @@ use Rattle.store.specs.Entries.{Entry, same_scene, Closed}
 use Rattle.successors.specs.Tasks.{Task}
 use Rattle.successors.specs.Reaching.{total}
 use Rattle.successors.specs.Shares.{share_of}
+use Rattle.successors.specs.inside.Dealt.{share_places}
+use Rattle.successors.specs.inside.Sums.{scene_sum}
 use Rattle.store.specs.FoundView.{AllFit, AreBelow, FitsGrid, FoundView}
 use Rattle.successors.specs.ParcelView.{ParcelView, IsParcel}
 use Rattle.layers.specs.BookView.{BookView, IsLawfulBook}
 use Rattle.layers.specs.Books.{is_wanted, all_entered, with_parcel, IsAtWork, PassesLimit, MayEnter, IsTaken, AllDone, with_closed, IsSortedOpen, IsClosedBy}
-use Rattle.store.specs.Entering.{is_wanted_in, entered, closed_entry, RiseByOrigin, AreReordered}
+use Rattle.store.specs.Entering.{is_wanted_in, entered, offered, closed_entry, RiseByOrigin, AreReordered}
 use Rattle.layers.proofs.lemmas.Exchange.{found}
 use Rattle.layers.specs.declared.book.Book.TheInside.{Inside}
 use Rattle.layers.specs.inside.BookInside.{book_view, cut_at, AreCuts}
@@ -83,16 +86,16 @@ module _ (a : Inside) (book : IsLawfulBook (book_view a)) (cuts : AreCuts a.star
 
   -- the book after an accepted parcel is a function of the one before
   pub handed_view : (worker rank tally : ℕ) (waiting : List (Entry Scene Push)) → rank ≡ parcel.rank → tally ≡ get_or a.tallies.items worker 0 + 1 → waiting ≡ fold (entered (is_wanted_in a.found.seen a.shares a.share) parcel.rank) a.found.waiting parcel.successors →
-      record (book_view a) { done = set a.done.items rank true; waiting = waiting; tallies = set a.tallies.items worker tally } ≡ with_parcel now worker parcel
+      record (book_view a) { done = set a.done rank true; waiting = waiting; tallies = set a.tallies.items worker tally } ≡ with_parcel now worker parcel
   handed_view worker rank tally waiting e f g =
       let h = g ∙ ap (λ w. fold (entered w parcel.rank) a.found.waiting parcel.successors) (sym (wanted_same a cuts)) in
       let k : tally ≡ suc (get_or a.tallies.items worker 0) = omega arith in
-      (λ i. record (book_view a) { done = set a.done.items (e i) true; waiting = h i; tallies = set a.tallies.items worker (k i) }) ∙ ap (λ v. with_parcel v worker parcel) view
+      (λ i. record (book_view a) { done = set a.done (e i) true; waiting = h i; tallies = set a.tallies.items worker (k i) }) ∙ ap (λ v. with_parcel v worker parcel) view
 
   -- and is lawful
   pub handed : (worker rank tally : ℕ) (waiting : List (Entry Scene Push)) → rank ≡ parcel.rank → tally ≡ get_or a.tallies.items worker 0 + 1 → waiting ≡ fold (entered (is_wanted_in a.found.seen a.shares a.share) parcel.rank) a.found.waiting parcel.successors →
       worker < a.workers → a.over ≡ false → (false ≡ ltb now.limit (total now.closed + length (all_entered now parcel.rank parcel.successors))) →
-      IsLawfulBook (record (book_view a) { done = set a.done.items rank true; waiting = waiting; tallies = set a.tallies.items worker tally })
+      IsLawfulBook (record (book_view a) { done = set a.done rank true; waiting = waiting; tallies = set a.tallies.items worker tally })
   handed worker rank tally waiting e f g lt over below =
       let may : MayEnter (book_view a) parcel = subst (λ v. MayEnter v parcel) (sym view) (may_enter now parcel found (ap (λ (v : BookView). v.over) (sym view) ∙ over) below) in
       subst IsLawfulBook (sym (handed_view worker rank tally waiting e f g ∙ ap (λ v. with_parcel v worker parcel) (sym view))) (lawful_parcel (book_view a) worker parcel book lt is may)
@@ -100,6 +103,42 @@ module _ (a : Inside) (book : IsLawfulBook (book_view a)) (cuts : AreCuts a.star
   -- where the limit is passed the book is over
   pub over_lawful : (true ≡ ltb now.limit (total now.closed + length (all_entered now parcel.rank parcel.successors))) → IsLawfulBook (record (book_view a) { over = true })
   over_lawful more = lawful_over (book_view a) parcel book is at_work.0 at_work.1 (subst (λ v. PassesLimit v parcel) (sym view) (over_limit now parcel more))
+
+  -- both, on lists that have names
+  pub handed_all : (worker rank : ℕ) (seen : List Closed) (waiting : List (Entry Scene Push)) (done : List Bool) (tallies : List ℕ) →
+      seen ≡ a.found.seen → waiting ≡ fold (entered (is_wanted_in a.found.seen a.shares a.share) parcel.rank) a.found.waiting parcel.successors →
+      done ≡ set a.done rank true → rank ≡ parcel.rank → tallies ≡ set a.tallies.items worker (get_or a.tallies.items worker 0 + 1) →
+      worker < a.workers → a.over ≡ false → (false ≡ ltb now.limit (total now.closed + length (all_entered now parcel.rank parcel.successors))) →
+      IsLawfulBook (record (book_view a) { closed = cut_at a.starts.items seen; done = done; waiting = waiting; tallies = tallies })
+      × (record (book_view a) { closed = cut_at a.starts.items seen; done = done; waiting = waiting; tallies = tallies } ≡ with_parcel now worker parcel)
+  handed_all worker rank seen waiting done tallies s w d r t lt over below =
+      let e : record (book_view a) { closed = cut_at a.starts.items seen; done = done; waiting = waiting; tallies = tallies } ≡ record (book_view a) { done = set a.done rank true; waiting = waiting; tallies = set a.tallies.items worker (get_or a.tallies.items worker 0 + 1) } =
+      λ i. record (book_view a) { closed = cut_at a.starts.items (s i); done = d i; waiting = waiting; tallies = t i } in (
+        subst IsLawfulBook (sym e) (handed worker rank (get_or a.tallies.items worker 0 + 1) waiting r refl w lt over below),
+        e ∙ handed_view worker rank (get_or a.tallies.items worker 0 + 1) waiting r refl w,
+      )
+
+-- where none of the successors is of the share, nothing enters
+pub none_entered : (seen : List Closed) (shares share rank k : ℕ) (ss : List Successor) (waiting : List (Entry Scene Push)) →
+    share_places shares share k (map (λ s. scene_sum s.position) ss) ≡ [] → fold (entered (is_wanted_in seen shares share) rank) waiting ss ≡ waiting
+none_entered seen shares share rank k [] waiting none = refl
+none_entered seen shares share rank k (s ∷ ss) waiting none =
+    go (none_entered seen shares share rank (suc k) ss waiting) (share_of shares s.position == share) none
+  where
+    later : List ℕ
+    later = share_places shares share (suc k) (map (λ s. scene_sum s.position) ss)
+
+    go : (later ≡ [] → fold (entered (is_wanted_in seen shares share) rank) waiting ss ≡ waiting) → (b : Bool) → (if b then k ∷ later else later) ≡ [] →
+        fold (entered (is_wanted_in seen shares share) rank) (if b && not (is_some (lookup (same_scene s.position) seen)) then offered waiting s.position (rank, s.push) else waiting) ss ≡ waiting
+    go rest true none = cc
+    go rest false none = rest none
+
+-- where nothing enters, the limit is not passed
+pub nothing_passes : (a : Inside) → IsLawfulBook (book_view a) → AreCuts a.starts.items (length a.found.seen) → (now : BookView) → book_view a ≡ now → (rank : ℕ) (ss : List Successor) →
+    fold (entered (is_wanted_in a.found.seen a.shares a.share) rank) a.found.waiting ss ≡ a.found.waiting → false ≡ ltb now.limit (total now.closed + length (all_entered now rank ss))
+nothing_passes a book cuts now view rank ss same =
+    limit_same a cuts now view rank ss ss refl false
+    (sym (le-ltb a.limit (length a.found.seen + length (fold (entered (is_wanted_in a.found.seen a.shares a.share) rank) a.found.waiting ss)) (omega (arith, book.within, total-cuts a.starts.items a.found.seen cuts, ap length same))))
 
 contains_tail : (x : ℕ) (xs : List ℕ) (q : ℕ) → contains xs q ≡ true → contains (x ∷ xs) q ≡ true
 contains_tail x xs q here = or_true (x == q) (contains xs q) here

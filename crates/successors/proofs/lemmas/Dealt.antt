@@ -1,14 +1,15 @@
 -- Successors that are dealt to the shares.
-use Rattle.std.proofs.Common.{◌≡◌, ℕ, zero, suc, ◌+◌, ◌%◌, ◌<◌, ◌≤◌, ◌==◌, Bool, true, false, List, [], ◌∷◌, ◌++◌, length, take, drop, map, get_or, set, Some, inl, inr, refl, sym, ap, subst, ◌∙◌, if◌then◌else◌, arith}
-use mir.Val.{bool_byte}
-use Rattle.std.proofs.lemmas.Bool.{cases_lt}
-use Rattle.std.proofs.lemmas.List.{append-nil, length-map, length-set, length-take-le, take-take, take-set, take-set-le, take_more, take_more_set, drop-append-le, get_or-set_same, get_or-set_other}
+use Rattle.std.proofs.Common.{◌≡◌, ◌≢◌, ℕ, zero, suc, ◌+◌, ◌*◌, ◌%◌, ◌<◌, ◌≤◌, ◌==◌, Bool, true, false, List, [], ◌∷◌, ◌++◌, length, take, drop, map, get_or, set, replicate, Some, inl, inr, refl, sym, ap, subst, ◌∙◌, if◌then◌else◌, arith}
+use Rattle.std.proofs.lemmas.Bool.{cases_lt, cases_eq, eq-eqb, ne_eqb}
+use Rattle.std.proofs.lemmas.List.{append-nil, length-map, length-replicate, length-set, length-take-le, take_all, take-set-le, take_more, take_more_set, drop-append-le, drop-set-lt, get_or-replicate, get_or-set_same, get_or-set_other}
+use Rattle.std.proofs.Math.Seq.{take-set-lt}
 use Rattle.std.proofs.lemmas.Slice.{between_is}
 use Rattle.std.proofs.lemmas.Option.{none-some, same_Some}
 use Rattle.std.specs.Prelude.{slice_get}
 use Rattle.std.specs.List.{between}
 use Rattle.successors.specs.declared.parcel.Successor.{Successor}
-use Rattle.successors.specs.declared.dealing.TheConstants.{MOST_DEALT, ENDS}
+use Rattle.successors.specs.declared.limits.TheConstants.{MAX_SHARES}
+use Rattle.successors.specs.declared.dealing.TheConstants.{MOST_DEALT}
 use Rattle.successors.specs.inside.Sums.{AreSums, scene_sum}
 use Rattle.successors.specs.inside.Dealt.{share_places, successor_places, IsListed, AllListed, IsDealt}
 
@@ -59,157 +60,124 @@ places_few shares share k (x ∷ xs) = go (x % shares == share) (share_places sh
 
 -- ---- they are listed
 
--- the places of those of the first sums that are of the share stand in the order from a place on, up to where they end
-pub record IsListing (shares share from len place : ℕ) (before order sums : List ℕ) : Type 0 where
-  pub size : length order ≡ MOST_DEALT
-  pub rise : from ≤ len
-  pub few : len ≤ from + place
-  pub kept : take from order ≡ take from before
-  pub places : len ≤ MOST_DEALT → drop from (take len order) ≡ share_places shares share 0 (take place sums)
+-- the places of the first so many sums are in the rows of their shares
+pub record AreListed (shares place : ℕ) (rows lens sums : List ℕ) : Type 0 where
+  pub size : length rows ≡ MAX_SHARES * MOST_DEALT
+  pub long : length lens ≡ MAX_SHARES
+  pub few : (share : ℕ) → share < shares → get_or lens share 0 ≤ place
+  pub listed : (share : ℕ) → share < shares → drop (share * MOST_DEALT) (take (share * MOST_DEALT + get_or lens share 0) rows) ≡ share_places shares share 0 (take place sums)
+
+none_from : (n m : ℕ) (xs : List ℕ) → m ≡ n → drop n (take m xs) ≡ []
+none_from zero zero xs e = refl
+none_from zero (suc m) xs e = absurd (omega (arith, e))
+none_from (suc n) zero xs e = absurd (omega (arith, e))
+none_from (suc n) (suc m) [] e = refl
+none_from (suc n) (suc m) (x ∷ xs) e = none_from n m xs (omega (arith, e))
 
 -- at first there are none
-pub none_listed : (shares share from : ℕ) (order sums : List ℕ) → length order ≡ MOST_DEALT → IsListing shares share from from 0 order order sums
-none_listed shares share from order sums size = record { size = size; rise = omega arith; few = omega arith; kept = refl; places = λ le. nothing from order }
-  where
-    nothing : (n : ℕ) (xs : List ℕ) → drop n (take n xs) ≡ []
-    nothing zero xs = refl
-    nothing (suc n) [] = refl
-    nothing (suc n) (x ∷ xs) = nothing n xs
-
-module _ (shares share from len place : ℕ) (before order sums : List ℕ)
-    (held : IsListing shares share from len place before order sums) (lt : place < length sums) where
-  -- the places of the share with one more sum
-  more : share_places shares share 0 (take (place + 1) sums)
-      ≡ share_places shares share 0 (take place sums) ++ put_if (get_or sums place 0 % shares == share) place []
-  more =
-      ap (share_places shares share 0) (take_more sums place 0 lt)
-      ∙ places_more shares share 0 place (get_or sums place 0) (take place sums) (omega (arith, length-take-le place sums (omega (arith, lt))))
-
-  -- told by a test
-  more_by : (b : Bool) → b ≡ (get_or sums place 0 % shares == share) →
-      share_places shares share 0 (take place sums) ++ put_if b place [] ≡ share_places shares share 0 (take (place + 1) sums)
-  more_by b e = ap (λ t. share_places shares share 0 (take place sums) ++ put_if t place []) e ∙ sym more
-
-  size_more : length (set order len place) ≡ MOST_DEALT
-  size_more = length-set order len place ∙ held.size
-
-  kept_more : take from (set order len place) ≡ take from before
-  kept_more = take-set-le from order len place held.rise ∙ held.kept
-
-  -- one more is of the share
-  pub one_listed : true ≡ (get_or sums place 0 % shares == share) → IsListing shares share from (len + 1) (place + 1) before (set order len place) sums
-  one_listed e = record {
-    size = size_more;
-    rise = omega (arith, held.rise);
-    few = omega (arith, held.few);
-    kept = kept_more;
-    places = λ le.
-        ap (drop from) (take_more_set order len place (omega (arith, le, held.size)))
-        ∙ (drop-append-le from (take len order) (place ∷ []) (omega (arith, held.rise, length-take-le len order (omega (arith, le, held.size)))))
-        ∙ ap (λ ps. ps ++ place ∷ []) (held.places (omega (arith, le)))
-        ∙ more_by true e;
-  }
-
-  -- one more is not of the share
-  pub one_left_out : false ≡ (get_or sums place 0 % shares == share) → IsListing shares share from len (place + 1) before (set order len place) sums
-  one_left_out e = record {
-    size = size_more;
-    rise = held.rise;
-    few = omega (arith, held.few);
-    kept = kept_more;
-    places = λ le.
-        ap (drop from) (take-set order len place) ∙ held.places le
-        ∙ sym (append-nil (share_places shares share 0 (take place sums))) ∙ more_by false e;
-  }
-
-  -- so one more sum is looked at
-  pub one_step : (b : Bool) → b ≡ (get_or sums place 0 % shares == share) →
-      IsListing shares share from (len + bool_byte b) (place + 1) before (set order len place) sums
-  one_step true e = one_listed e
-  one_step false e = subst (λ n. IsListing shares share from n (place + 1) before (set order len place) sums) same (one_left_out e)
-    where
-      same : len ≡ len + 0
-      same = omega arith
-
--- ---- all shares
-
--- the places of the first shares are listed, and end where the next one begins
-pub record AreListed (count shares len : ℕ) (order ends sums : List ℕ) : Type 0 where
-  pub long : length ends ≡ ENDS
-  pub within : len ≤ MOST_DEALT
-  pub here : get_or ends count 0 ≡ len
-  pub below : (share : ℕ) → share < count → get_or ends (share + 1) 0 ≤ len
-  pub listed : AllListed count shares order ends sums
-
--- at first there are none
-pub no_share : (shares : ℕ) (order ends sums : List ℕ) → length ends ≡ ENDS → AreListed 0 shares 0 order (set ends 0 0) sums
-no_share shares order ends sums long = record {
-  long = length-set ends 0 0 ∙ long;
-  within = omega arith;
-  here = get_or-set_same ends 0 0 0 (omega (arith, long));
-  below = λ share lt. absurd (omega (arith, lt));
-  listed = λ share lt. absurd (omega (arith, lt));
+pub none_listed : (shares : ℕ) (rows lens sums : List ℕ) → length rows ≡ MAX_SHARES * MOST_DEALT → lens ≡ replicate MAX_SHARES 0 → shares ≤ MAX_SHARES → AreListed shares 0 rows lens sums
+none_listed shares rows lens sums size e most = record {
+  size = size;
+  long = ap length e ∙ length-replicate {A = ℕ} MAX_SHARES 0;
+  few = λ share lt. omega (arith, zeros share lt);
+  listed = λ share lt. none_from (share * MOST_DEALT) (share * MOST_DEALT + get_or lens share 0) rows (omega (arith, zeros share lt));
 }
+  where
+    zeros : (share : ℕ) → share < shares → get_or lens share 0 ≡ 0
+    zeros share lt = ap (λ (xs : List ℕ). get_or xs share 0) e ∙ get_or-replicate MAX_SHARES share 0 0 (omega (arith, lt, most))
 
-module _ (count shares len end : ℕ) (order after ends sums : List ℕ) (held : AreListed count shares len order ends sums) (room : count + 1 < ENDS)
-    (kept : take len after ≡ take len order) (rise : len ≤ end) (within : end ≤ MOST_DEALT)
-    (places : drop len (take end after) ≡ share_places shares count 0 sums) where
-  -- the ends of the first shares stay
-  end_same : (share : ℕ) → share < count + 1 → get_or (set ends (count + 1) end) share 0 ≡ get_or ends share 0
-  end_same share lt = get_or-set_other ends (count + 1) share end 0 (λ (e : share ≡ count + 1). omega (arith, e, lt))
+module _ (shares place share : ℕ) (rows lens sums : List ℕ) (held : AreListed shares place rows lens sums) (most : shares ≤ MAX_SHARES) (lt : place < length sums)
+    (few : length sums ≤ MOST_DEALT) (is : share ≡ get_or sums place 0 % shares) (own : share < shares) where
+  -- the places of a share with one more sum
+  more : (other : ℕ) → share_places shares other 0 (take (place + 1) sums)
+      ≡ share_places shares other 0 (take place sums) ++ put_if (share == other) place []
+  more other =
+      ap (share_places shares other 0) (take_more sums place 0 lt)
+      ∙ places_more shares other 0 place (get_or sums place 0) (take place sums) (omega (arith, length-take-le place sums (omega (arith, lt))))
+      ∙ ap (λ (n : ℕ). share_places shares other 0 (take place sums) ++ put_if (n == other) place []) (sym is)
 
-  end_last : get_or (set ends (count + 1) end) (count + 1) 0 ≡ end
-  end_last = get_or-set_same ends (count + 1) end 0 (omega (arith, held.long, room))
+  abbrev len : ℕ
+  len = get_or lens share 0
 
-  -- so do the first shares
-  share_same : (share : ℕ) → share < count → IsListed shares share after (set ends (count + 1) end) sums
-  share_same share lt =
-      let was = held.listed share lt in
-      let from = end_same share (omega (arith, lt)) in
-      let to = end_same (share + 1) (omega (arith, lt)) in
-      let le = held.below share lt in
-      let n = get_or ends (share + 1) 0 in
-      record {
-        rise = omega (arith, was.rise, from, to);
-        within = omega (arith, was.within, to);
-        places = (λ i. drop (from i) (take (to i) after))
-            ∙ ap (drop (get_or ends share 0)) (sym (take-take n len after le) ∙ ap (take n) kept ∙ take-take n len order le) ∙ was.places;
-      }
+  abbrev lens_after : List ℕ
+  lens_after = set lens share (len + 1)
 
-  -- and the next one is listed
-  share_last : IsListed shares count after (set ends (count + 1) end) sums
-  share_last =
-      let from = end_same count (omega arith) ∙ held.here in
-      record {
-        rise = omega (arith, rise, from, end_last);
-        within = omega (arith, within, end_last);
-        places = (λ i. drop (from i) (take (end_last i) after)) ∙ places;
-      }
+  abbrev rows_after : List ℕ
+  rows_after = set rows (share * MOST_DEALT + len) place
 
-  pub one_share : AreListed (count + 1) shares end after (set ends (count + 1) end) sums
-  one_share = record {
-    long = length-set ends (count + 1) end ∙ held.long;
-    within = within;
-    here = end_last;
-    below = λ share lt. elim (cases_lt share count) [
-      | inl less ↦ omega (arith, end_same (share + 1) (omega (arith, less)), held.below share less, rise)
-      | inr more ↦ (let e : share ≡ count = omega (arith, lt, more) in
-          subst (λ s. get_or (set ends (count + 1) end) (s + 1) 0 ≤ end) (sym e) (omega (arith, end_last)))
+  len_own : get_or lens_after share 0 ≡ len + 1
+  len_own = get_or-set_same lens share (len + 1) 0 (omega (arith, held.long, own, most))
+
+  len_other : (other : ℕ) → other ≢ share → get_or lens_after other 0 ≡ get_or lens other 0
+  len_other other ne = get_or-set_other lens share other (len + 1) 0 ne
+
+  len_small : len ≤ place
+  len_small = held.few share own
+
+  inside : share * MOST_DEALT + len < length rows
+  inside = omega (arith, held.size, own, most, len_small, lt, few)
+
+  -- the row of the share has one more
+  row_own : drop (share * MOST_DEALT) (take (share * MOST_DEALT + get_or lens_after share 0) rows_after) ≡ share_places shares share 0 (take (place + 1) sums)
+  row_own =
+      let end : share * MOST_DEALT + get_or lens_after share 0 ≡ share * MOST_DEALT + len + 1 = omega (arith, len_own) in
+      ap (λ (n : ℕ). drop (share * MOST_DEALT) (take n rows_after)) end
+      ∙ ap (drop (share * MOST_DEALT)) (take_more_set rows (share * MOST_DEALT + len) place inside)
+      ∙ drop-append-le (share * MOST_DEALT) (take (share * MOST_DEALT + len) rows) (place ∷ []) (omega (arith, length-take-le (share * MOST_DEALT + len) rows (omega (arith, inside))))
+      ∙ ap (λ (ps : List ℕ). ps ++ place ∷ []) (held.listed share own)
+      ∙ sym (more share ∙ ap (λ (b : Bool). share_places shares share 0 (take place sums) ++ put_if b place []) (eq-eqb share share refl))
+
+  -- and that of another one stays
+  row_kept : (other : ℕ) → other < shares → other ≢ share → drop (other * MOST_DEALT) (take (other * MOST_DEALT + get_or lens other 0) rows_after) ≡ drop (other * MOST_DEALT) (take (other * MOST_DEALT + get_or lens other 0) rows)
+  row_kept other less ne =
+      let n = other * MOST_DEALT + get_or lens other 0 in
+      let small = held.few other less in
+      elim (cases_lt other share) [
+        | inl below ↦ ap (drop (other * MOST_DEALT)) (take-set-le n rows (share * MOST_DEALT + len) place (omega (arith, below, small, lt, few)))
+        | inr above ↦ (let apart : share < other = omega (arith, above, ne) in
+            ap (drop (other * MOST_DEALT)) (take-set-lt n rows (share * MOST_DEALT + len) place (omega (arith, apart, len_small, lt, few)))
+            ∙ drop-set-lt (other * MOST_DEALT) (take n rows) (share * MOST_DEALT + len) place (omega (arith, apart, len_small, lt, few)))
+      ]
+
+  row_other : (other : ℕ) → other < shares → other ≢ share → drop (other * MOST_DEALT) (take (other * MOST_DEALT + get_or lens_after other 0) rows_after) ≡ share_places shares other 0 (take (place + 1) sums)
+  row_other other less ne =
+      ap (λ (n : ℕ). drop (other * MOST_DEALT) (take (other * MOST_DEALT + n) rows_after)) (len_other other ne)
+      ∙ row_kept other less ne
+      ∙ held.listed other less
+      ∙ sym (append-nil (share_places shares other 0 (take place sums)))
+      ∙ sym (more other ∙ ap (λ (b : Bool). share_places shares other 0 (take place sums) ++ put_if b place []) (ne_eqb share other (λ e. ne (sym e))))
+
+  pub one_listed : AreListed shares (place + 1) rows_after lens_after sums
+  one_listed = record {
+    size = length-set rows (share * MOST_DEALT + len) place ∙ held.size;
+    long = length-set lens share (len + 1) ∙ held.long;
+    few = λ other less. elim (cases_eq other share) [
+      | inl e ↦ omega (arith, ap (λ (s : ℕ). get_or lens_after s 0) e, len_own, len_small)
+      | inr ne ↦ omega (arith, len_other other ne, held.few other less)
     ];
-    listed = λ share lt. elim (cases_lt share count) [
-      | inl less ↦ share_same share less
-      | inr more ↦ (let e : share ≡ count = omega (arith, lt, more) in
-          subst (λ s. IsListed shares s after (set ends (count + 1) end) sums) (sym e) share_last)
+    listed = λ other less. elim (cases_eq other share) [
+      | inl e ↦ subst (λ (s : ℕ). drop (s * MOST_DEALT) (take (s * MOST_DEALT + get_or lens_after s 0) rows_after) ≡ share_places shares s 0 (take (place + 1) sums)) (sym e) row_own
+      | inr ne ↦ row_other other less ne
     ];
   }
 
--- what stands in the order from the end of a share up to the next one
-pub places_there : (dealt shares share : ℕ) (order ends sums : List ℕ) (before ss : List Successor) →
-    share < shares → dealt ≡ shares → IsDealt dealt order ends sums → AreSums before sums → before ≡ ss →
-    between (get_or ends share 0) (get_or ends (share + 1) 0) order ≡ successor_places shares share ss
-places_there dealt shares share order ends sums before ss lt all held are same =
-    let here : IsListed shares share order ends sums = (subst (λ n. IsDealt n order ends sums) all held).1 share lt in
-    between_is order (get_or ends share 0) (get_or ends (share + 1) 0) ∙ here.places
+-- once all sums are looked at, they are dealt
+pub all_listed : (shares place : ℕ) (rows lens sums : List ℕ) → AreListed shares place rows lens sums → shares ≤ MAX_SHARES → length sums ≡ place → length sums ≤ MOST_DEALT → IsDealt shares rows lens sums
+all_listed shares place rows lens sums held most all few = (
+  most,
+  λ share lt. record {
+    within = omega (arith, held.few share lt, all, few);
+    places = held.listed share lt ∙ ap (share_places shares share 0) (take_all place sums (omega (arith, all)));
+  },
+)
+
+-- what stands in the row of a share
+pub places_there : (dealt shares share from end : ℕ) (rows lens sums : List ℕ) (before ss : List Successor) →
+    share < shares → dealt ≡ shares → IsDealt dealt rows lens sums → AreSums before sums → before ≡ ss → from ≡ share * MOST_DEALT → end ≡ from + get_or lens share 0 →
+    between from end rows ≡ successor_places shares share ss
+places_there dealt shares share from end rows lens sums before ss lt all held are same from_is end_is =
+    let here : IsListed shares share rows lens sums = (subst (λ n. IsDealt n rows lens sums) all held).1 share lt in
+    between_is rows from end ∙ (λ i. drop (from_is i) (take ((end_is ∙ ap (λ (n : ℕ). n + get_or lens share 0) from_is) i) rows)) ∙ here.places
     ∙ ap (share_places shares share 0) (are ∙ ap sums_of same)
 
 length-sums : (ss : List Successor) → length (sums_of ss) ≡ length ss

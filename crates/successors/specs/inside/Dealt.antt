@@ -1,5 +1,5 @@
 -- The places of a parcel's successors, dealt to the shares.
-use Rattle.std.specs.Prelude.{◌≡◌, ℕ, suc, ◌+◌, ◌%◌, ◌<◌, ◌≤◌, ◌==◌, List, [], ◌∷◌, map, get_or, take, drop, if◌then◌else◌}
+use Rattle.std.specs.Prelude.{◌≡◌, ℕ, suc, ◌+◌, ◌*◌, ◌%◌, ◌<◌, ◌≤◌, ◌==◌, List, [], ◌∷◌, map, get_or, take, drop, if◌then◌else◌}
 use Rattle.successors.specs.declared.parcel.Successor.{Successor}
 use Rattle.successors.specs.declared.limits.TheConstants.{MAX_SHARES}
 use Rattle.successors.specs.declared.dealing.TheConstants.{MOST_DEALT}
@@ -14,16 +14,15 @@ share_places shares share k (x ∷ xs) = if x % shares == share then k ∷ share
 abbrev pub successor_places : ℕ → ℕ → List Successor → List ℕ
 successor_places shares share ss = share_places shares share 0 (map (λ s. scene_sum s.position) ss)
 
--- the places of one share stand in the order from the end with its number up to the next one
-pub record IsListed (shares share : ℕ) (order ends sums : List ℕ) : Type 0 where
-  pub rise : get_or ends share 0 ≤ get_or ends (share + 1) 0
-  pub within : get_or ends (share + 1) 0 ≤ MOST_DEALT
-  pub places : drop (get_or ends share 0) (take (get_or ends (share + 1) 0) order) ≡ share_places shares share 0 sums
+-- the row of a share begins with the places of its successors
+pub record IsListed (shares share : ℕ) (rows lens sums : List ℕ) : Type 0 where
+  pub within : get_or lens share 0 ≤ MOST_DEALT
+  pub places : drop (share * MOST_DEALT) (take (share * MOST_DEALT + get_or lens share 0) rows) ≡ share_places shares share 0 sums
 
 -- so do those of each share
-abbrev pub AllListed : ℕ → ℕ → List ℕ → List ℕ → List ℕ → Type 0
-AllListed count shares order ends sums = (share : ℕ) → share < count → IsListed shares share order ends sums
+abbrev pub AllListed : ℕ → List ℕ → List ℕ → List ℕ → Type 0
+AllListed shares rows lens sums = (share : ℕ) → share < shares → IsListed shares share rows lens sums
 
 -- successors with these sums are dealt to so many shares, no more than there may be; to 0 shares anything is dealt
 abbrev pub IsDealt : ℕ → List ℕ → List ℕ → List ℕ → Type 0
-IsDealt shares order ends sums = (shares ≤ MAX_SHARES) × AllListed shares shares order ends sums
+IsDealt shares rows lens sums = (shares ≤ MAX_SHARES) × AllListed shares rows lens sums

@@ -1,6 +1,10 @@
-use Rattle.std.proofs.Common.{[]}
-use Rattle.layers.specs.inside.Merging.{AreTaken}
+use Rattle.std.proofs.Common.{◌≡◌, ℕ, [], Some}
+use Rattle.std.specs.Prelude.{slice_get}
+use Rattle.layers.specs.declared.stretch.Stretch.{Stretch}
+use Rattle.layers.specs.inside.Merging.{AreTaken, IsStretchOf}
 use Rattle.layers.proofs.stretch.append_each.Given as goal
 
 abbrev pub invariant-loop-place : goal.invariant-loop-place
-invariant-loop-place l = AreTaken l.books [] l.whole.ends.items l.whole.squares.items l.whole.origins.items
+invariant-loop-place l =
+    AreTaken l.books [] l.whole.ends.items l.whole.squares.items l.whole.origins.items
+    × ((i : ℕ) (s : Stretch) → slice_get l.stretches i ≡ Some s → IsStretchOf l.books s)

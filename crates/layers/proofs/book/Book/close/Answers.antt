@@ -1,6 +1,5 @@
-use Rattle.std.proofs.Common.{◌≡◌, ◌++◌, ◌∷◌, [], ℕ, ◌-◌, ◌<◌, List, get_or, length, map, true, false, Some, inl, inr, sym, ap, subst, ◌∙◌, arith}
+use Rattle.std.proofs.Common.{◌≡◌, ◌++◌, ◌∷◌, [], ℕ, ◌-◌, List, length, map, inl, inr, sym, ap, subst, ◌∙◌, arith}
 use Rattle.std.proofs.lemmas.List.{length-append, length-map}
-use Rattle.std.specs.Prelude.{slice_get}
 use Rattle.store.specs.FoundView.{FoundView}
 use Rattle.layers.specs.inside.BookInside.{book_view, cut_at, AreCuts, IsSoundBook}
 use Rattle.layers.specs.BookView.{IsLawfulBook}
@@ -9,7 +8,7 @@ use Rattle.store.specs.Entering.{AreReordered, RiseByOrigin, closed_entry}
 use Rattle.layers.specs.declared.fault.CloseFault.TheVariants.{NotAll}
 use Rattle.layers.proofs.lemmas.BookFields.{closed_lawful, closed_cuts, closed_by}
 use Rattle.layers.proofs.Answered.{ok_is, err_is}
-use Rattle.layers.proofs.book.Book.close.Goals.{then-not-self-via-then-not-self, then-not-self-via-else-not-self+then-not-all_marked}
+use Rattle.layers.proofs.book.Book.close.Goals.{then-not-self-via-then-not-self, then-not-self-via-else-not-self+then-not-are_all_set}
 use Rattle.layers.proofs.book.Book.close.Goals as goal
 
 pub returns-then-not-self-clause-fault : goal.returns-then-not-self-clause-fault
@@ -17,7 +16,7 @@ returns-then-not-self-clause-fault c =
     subst (λ v. CloseRefused v NotAll) c.self.view_is
     (elim c.then-not-self.branch [
       | then-not-self-via-then-not-self w ↦ inl w.if-not-self.true
-      | then-not-self-via-else-not-self+then-not-all_marked w ↦ inr (subst (λ bs. (r : ℕ) × (slice_get bs r ≡ Some false)) w.as_slice.ensures.value w.if-not-all_marked.ensures)
+      | then-not-self-via-else-not-self+then-not-are_all_set w ↦ inr w.if-not-are_all_set.ensures
     ])
 
 pub invariant_of-self-then-is_err-2 : goal.invariant_of-self-then-is_err-2
@@ -46,17 +45,17 @@ invariant_of-self-2 c =
     let done = ok_is c.close.result c.if-is_err-2.ensures.value c.close.ensures.seen in
     let waits = ok_is c.close.result c.if-is_err-2.ensures.value c.close.ensures.waiting in
     let ys = done.0 in
-    let all : AllDone (book_view a) = (c.if-not-self.false, subst (λ bs. (r : ℕ) → r < length bs → get_or bs r false ≡ true) c.as_slice.ensures.value c.if-not-all_marked.ensures) in
+    let all : AllDone (book_view a) = (c.if-not-self.false, c.if-not-are_all_set.ensures) in
     let same : AreReordered a.found.waiting ys = done.1 in
     let rise : RiseByOrigin ys = done.2 in
     let starts_are : c.push_within.new.places.items ≡ a.starts.items ++ c.closed_len-start.result ∷ [] = c.push_within.ensures ∙ ap (λ (xs : List ℕ). xs ++ c.closed_len-start.result ∷ []) c.reserve.ensures.items in
     let n_is : c.closed_len-start.result ≡ length a.found.seen = c.closed_len-start.ensures in
     let seen_are : c.close.new.self.seen ≡ a.found.seen ++ map closed_entry ys = done.3 in
     record {
-      lawful = closed_lawful a c.self.invariant.lawful c.self.invariant.cuts all ys same rise c.push_within.new.places.items c.close.new.self.seen c.clear.new.self.items c.clear-2.new.self.items c.close.new.self.waiting c.closed_len-start.result starts_are n_is seen_are c.clear.ensures.items c.clear-2.ensures.items waits;
+      lawful = closed_lawful a c.self.invariant.lawful c.self.invariant.cuts all ys same rise c.push_within.new.places.items c.close.new.self.seen c.clear.new.self c.clear-2.new.self c.close.new.self.waiting c.closed_len-start.result starts_are n_is seen_are c.clear.ensures c.clear-2.ensures waits;
       few = c.self.invariant.few;
       boxes = (c.close.ensures.boxes ∙ c.self.invariant.boxes.0, c.close.ensures.squares ∙ c.self.invariant.boxes.1);
-      cuts = closed_cuts a c.self.invariant.lawful c.self.invariant.cuts all ys same rise c.push_within.new.places.items c.close.new.self.seen c.clear.new.self.items c.clear-2.new.self.items c.close.new.self.waiting c.closed_len-start.result starts_are n_is seen_are c.clear.ensures.items c.clear-2.ensures.items waits;
+      cuts = closed_cuts a c.self.invariant.lawful c.self.invariant.cuts all ys same rise c.push_within.new.places.items c.close.new.self.seen c.clear.new.self c.clear-2.new.self c.close.new.self.waiting c.closed_len-start.result starts_are n_is seen_are c.clear.ensures c.clear-2.ensures waits;
       taken = λ r lt. absurd (omega arith);
     }
 
@@ -66,13 +65,13 @@ returns-clause-ok c =
     let done = ok_is c.close.result c.if-is_err-2.ensures.value c.close.ensures.seen in
     let waits = ok_is c.close.result c.if-is_err-2.ensures.value c.close.ensures.waiting in
     let ys = done.0 in
-    let all : AllDone (book_view a) = (c.if-not-self.false, subst (λ bs. (r : ℕ) → r < length bs → get_or bs r false ≡ true) c.as_slice.ensures.value c.if-not-all_marked.ensures) in
+    let all : AllDone (book_view a) = (c.if-not-self.false, c.if-not-are_all_set.ensures) in
     let same : AreReordered a.found.waiting ys = done.1 in
     let rise : RiseByOrigin ys = done.2 in
     let starts_are : c.push_within.new.places.items ≡ a.starts.items ++ c.closed_len-start.result ∷ [] = c.push_within.ensures ∙ ap (λ (xs : List ℕ). xs ++ c.closed_len-start.result ∷ []) c.reserve.ensures.items in
     let n_is : c.closed_len-start.result ≡ length a.found.seen = c.closed_len-start.ensures in
     let seen_are : c.close.new.self.seen ≡ a.found.seen ++ map closed_entry ys = done.3 in
     let long : c.len-layer.result ≡ length a.starts.items = omega (arith, c.len-layer.ensures) in
-    closed_by a c.self.invariant.lawful c.self.invariant.cuts all ys same rise c.push_within.new.places.items c.close.new.self.seen c.clear.new.self.items c.clear-2.new.self.items c.close.new.self.waiting c.closed_len-start.result starts_are n_is seen_are c.clear.ensures.items c.clear-2.ensures.items waits
+    closed_by a c.self.invariant.lawful c.self.invariant.cuts all ys same rise c.push_within.new.places.items c.close.new.self.seen c.clear.new.self c.clear-2.new.self c.close.new.self.waiting c.closed_len-start.result starts_are n_is seen_are c.clear.ensures c.clear-2.ensures waits
     c.args.self.now c.self.view_is c.len-layer.result (c.closed_len.result - c.closed_len-start.result) long
     (omega (arith, c.closed_len.ensures, n_is, ap length seen_are, length-append a.found.seen (map closed_entry ys), length-map ys closed_entry, same.0))

@@ -1,14 +1,14 @@
-use Rattle.std.proofs.Common.{◌≡◌, ◌+◌, ◌<◌, List, length, fold, get_or, set, slice_get, true, false, Some, refl, ap, sym, subst, ◌∙◌, arith}
+use Rattle.std.proofs.Common.{◌≡◌, ◌<◌, Bool, List, length, fold, slice_get, true, false, Some, refl, ap, sym, subst, ◌∙◌, arith}
 use Rattle.grid.specs.Lawful.{box_count}
-use Rattle.layers.specs.BookView.{BookView, IsLawfulBook}
+use Rattle.layers.specs.BookView.{BookView}
 use Rattle.store.specs.Entries.{Closed}
 use Rattle.store.specs.FoundView.{FoundView, with_entered}
-use Rattle.layers.specs.inside.BookInside.{book_view, cut_at, AreCuts, IsSoundBook}
-use Rattle.layers.specs.Books.{IsAtWork}
+use Rattle.layers.specs.inside.BookInside.{book_view, AreCuts, IsSoundBook}
+use Rattle.layers.specs.Books.{IsAtWork, IsTaken}
 use Rattle.store.specs.Entering.{is_wanted_in, entered}
 use Rattle.layers.proofs.Cuts.{total-cuts}
-use Rattle.layers.proofs.lemmas.Books.{few_ranks, get_or_same}
-use Rattle.layers.proofs.lemmas.BookFields.{handed, handed_view, limit_same, may_enter, over_limit, over_lawful, taken_done, fits_few}
+use Rattle.layers.proofs.lemmas.Books.{few_ranks}
+use Rattle.layers.proofs.lemmas.BookFields.{handed_all, limit_same, none_entered, nothing_passes, may_enter, over_limit, over_lawful, taken_done, fits_few}
 use Rattle.layers.proofs.Answered.{ok_is, err_is}
 use Rattle.layers.proofs.book.Book.hand_back.Goals as goal
 
@@ -44,8 +44,8 @@ returns-clause-may c =
     let within = limit_same a c.self.invariant.cuts now c.self.view_is p.rank c.successors-successors.result.now p.successors c.successors-successors.ensures false (c.if-passes.ensures.passed p.rank) in
     may_enter now p c.in_default.ensures.none (ap (λ (v : BookView). v.over) (sym c.self.view_is) ∙ c.if-self.false) within
 
-pub invariant_of-self : goal.invariant_of-self
-invariant_of-self c =
+pub invariant_of-self-then-passes : goal.invariant_of-self-then-passes
+invariant_of-self-then-passes c =
     let a = c.self.inside in let p = c.args.parcel.now in let now = c.args.self.now in
     let found : IsAtWork now p × (slice_get now.done p.rank ≡ Some false) = c.in_default.ensures.none in
     let passed = limit_same a c.self.invariant.cuts now c.self.view_is p.rank c.successors-successors.result.now p.successors c.successors-successors.ensures true (c.if-passes.ensures.passed p.rank) in
@@ -61,7 +61,7 @@ pub enter_all-requires-clause-rank : goal.enter_all-requires-clause-rank
 enter_all-requires-clause-rank c =
     let a = c.self.inside in
     let found : IsAtWork c.args.self.now c.args.parcel.now × (slice_get c.args.self.now.done c.args.parcel.now.rank ≡ Some false) = c.in_default.ensures.none in
-    let lt : c.args.parcel.now.rank < length a.done.items = subst (λ v. c.args.parcel.now.rank < length v.done) (sym c.self.view_is) found.0.2 in
+    let lt : c.args.parcel.now.rank < length a.done = subst (λ v. c.args.parcel.now.rank < length v.done) (sym c.self.view_is) found.0.2 in
     omega (arith, few_ranks (book_view a) c.self.invariant.lawful c.args.parcel.now.rank lt)
 
 pub enter_all-requires-clause-few : goal.enter_all-requires-clause-few
@@ -76,6 +76,38 @@ invariant_of-self-then-is_err c =
     let kept : c.enter_all.new.self ≡ c.self.inside.found = err_is c.enter_all.result c.if-is_err.ensures.value c.enter_all.ensures.err ∙ c.passes.ensures.same in
     subst (λ (f : FoundView). IsSoundBook (record c.self.inside { found = f })) (sym kept) c.self.invariant
 
+pub invariant_of-self : goal.invariant_of-self
+invariant_of-self c =
+    let a = c.self.inside in let p = c.args.parcel.now in let now = c.args.self.now in
+    let found : IsAtWork now p × (slice_get now.done p.rank ≡ Some false) = c.in_default.ensures.none in
+    let same = none_entered a.found.seen a.shares a.share p.rank 0 p.successors a.found.waiting (c.if-brings_nothing.ensures refl) in
+    let all = handed_all a c.self.invariant.lawful c.self.invariant.cuts p c.tell.ensures now c.self.view_is found c.args.worker c.rank-rank.result a.found.seen a.found.waiting c.mark.new.done c.mark.new.tallies.items
+    refl (sym same) c.mark.ensures.done c.rank-rank.ensures c.mark.ensures.tally (subst (λ v. c.args.worker < v.workers) (sym c.self.view_is) c.requires) c.if-self.false
+    (nothing_passes a c.self.invariant.lawful c.self.invariant.cuts now c.self.view_is p.rank p.successors same) in
+    record {
+      lawful = all.0;
+      few = c.self.invariant.few;
+      boxes = c.self.invariant.boxes;
+      cuts = c.self.invariant.cuts;
+      taken = λ r lt. subst (λ (bs : List Bool). IsTaken (record (book_view a) { done = bs }) r) (sym c.mark.ensures.done) (taken_done (book_view a) c.rank-rank.result r (c.self.invariant.taken r lt));
+    }
+
+pub returns-then-brings_nothing-clause-may : goal.returns-then-brings_nothing-clause-may
+returns-then-brings_nothing-clause-may c =
+    let a = c.self.inside in let p = c.args.parcel.now in let now = c.args.self.now in
+    let same = none_entered a.found.seen a.shares a.share p.rank 0 p.successors a.found.waiting (c.if-brings_nothing.ensures refl) in
+    may_enter now p c.in_default.ensures.none (ap (λ (v : BookView). v.over) (sym c.self.view_is) ∙ c.if-self.false) (nothing_passes a c.self.invariant.lawful c.self.invariant.cuts now c.self.view_is p.rank p.successors same)
+
+pub returns-then-brings_nothing-clause-ok : goal.returns-then-brings_nothing-clause-ok
+returns-then-brings_nothing-clause-ok c =
+    let a = c.self.inside in let p = c.args.parcel.now in let now = c.args.self.now in
+    let found : IsAtWork now p × (slice_get now.done p.rank ≡ Some false) = c.in_default.ensures.none in
+    let same = none_entered a.found.seen a.shares a.share p.rank 0 p.successors a.found.waiting (c.if-brings_nothing.ensures refl) in
+    let all = handed_all a c.self.invariant.lawful c.self.invariant.cuts p c.tell.ensures now c.self.view_is found c.args.worker c.rank-rank.result a.found.seen a.found.waiting c.mark.new.done c.mark.new.tallies.items
+    refl (sym same) c.mark.ensures.done c.rank-rank.ensures c.mark.ensures.tally (subst (λ v. c.args.worker < v.workers) (sym c.self.view_is) c.requires) c.if-self.false
+    (nothing_passes a c.self.invariant.lawful c.self.invariant.cuts now c.self.view_is p.rank p.successors same) in
+    all.1
+
 pub invariant_of-self-2 : goal.invariant_of-self-2
 invariant_of-self-2 c =
     let a = c.self.inside in let p = c.args.parcel.now in let now = c.args.self.now in
@@ -84,18 +116,15 @@ invariant_of-self-2 c =
     let seen : c.enter_all.new.self.seen ≡ a.found.seen = ap (λ (f : FoundView). f.seen) put in
     let waits : c.enter_all.new.self.waiting ≡ fold (entered (is_wanted_in a.found.seen a.shares a.share) p.rank) a.found.waiting p.successors =
     ap (λ (f : FoundView). f.waiting) put in
-    let lt : c.args.worker < length a.tallies.items = omega (arith, subst (λ v. c.args.worker < v.workers) (sym c.self.view_is) c.requires, c.self.invariant.lawful.tallies.0) in
-    let told : c.index_mut-2.result.now ≡ get_or a.tallies.items c.args.worker c.index_mut-2.result.now = c.index_mut-2.ensures.value in
-    let tally : c.index_mut-2.result.now + 1 ≡ get_or a.tallies.items c.args.worker 0 + 1 = ap (λ n. n + 1) (told ∙ get_or_same a.tallies.items c.args.worker c.index_mut-2.result.now 0 lt) in
+    let all = handed_all a c.self.invariant.lawful c.self.invariant.cuts p c.tell.ensures now c.self.view_is found c.args.worker c.rank-rank.result c.enter_all.new.self.seen c.enter_all.new.self.waiting c.mark-2.new.done c.mark-2.new.tallies.items
+    seen waits c.mark-2.ensures.done c.rank-rank.ensures c.mark-2.ensures.tally (subst (λ v. c.args.worker < v.workers) (sym c.self.view_is) c.requires) c.if-self.false
+    (limit_same a c.self.invariant.cuts now c.self.view_is p.rank c.successors-successors.result.now p.successors c.successors-successors.ensures false (c.if-passes.ensures.passed p.rank)) in
     record {
-      lawful = subst (λ (xs : List Closed). IsLawfulBook (record (book_view a) { closed = cut_at a.starts.items xs; done = set a.done.items c.rank.result true; waiting = c.enter_all.new.self.waiting; tallies = set a.tallies.items c.args.worker (c.index_mut-2.result.now + 1) })) (sym seen)
-          (handed a c.self.invariant.lawful c.self.invariant.cuts p c.tell.ensures now c.self.view_is found c.args.worker c.rank.result (c.index_mut-2.result.now + 1) c.enter_all.new.self.waiting
-          c.rank.ensures tally waits (subst (λ v. c.args.worker < v.workers) (sym c.self.view_is) c.requires) c.if-self.false
-          (limit_same a c.self.invariant.cuts now c.self.view_is p.rank c.successors-successors.result.now p.successors c.successors-successors.ensures false (c.if-passes.ensures.passed p.rank)));
+      lawful = all.0;
       few = c.self.invariant.few;
       boxes = (ap (λ (f : FoundView). f.boxes) put ∙ c.self.invariant.boxes.0, ap (λ (f : FoundView). f.squares) put ∙ c.self.invariant.boxes.1);
       cuts = subst (λ (xs : List Closed). AreCuts a.starts.items (length xs)) (sym seen) c.self.invariant.cuts;
-      taken = λ r lt. taken_done (book_view a) c.rank.result r (c.self.invariant.taken r lt);
+      taken = λ r lt. subst (λ (bs : List Bool). IsTaken (record (book_view a) { done = bs }) r) (sym c.mark-2.ensures.done) (taken_done (book_view a) c.rank-rank.result r (c.self.invariant.taken r lt));
     }
 
 pub returns-then-is_err-clause-err : goal.returns-then-is_err-clause-err
@@ -111,9 +140,7 @@ returns-clause-ok c =
     let seen : c.enter_all.new.self.seen ≡ a.found.seen = ap (λ (f : FoundView). f.seen) put in
     let waits : c.enter_all.new.self.waiting ≡ fold (entered (is_wanted_in a.found.seen a.shares a.share) p.rank) a.found.waiting p.successors =
     ap (λ (f : FoundView). f.waiting) put in
-    let lt : c.args.worker < length a.tallies.items = omega (arith, subst (λ v. c.args.worker < v.workers) (sym c.self.view_is) c.requires, c.self.invariant.lawful.tallies.0) in
-    let told : c.index_mut-2.result.now ≡ get_or a.tallies.items c.args.worker c.index_mut-2.result.now = c.index_mut-2.ensures.value in
-    let tally : c.index_mut-2.result.now + 1 ≡ get_or a.tallies.items c.args.worker 0 + 1 = ap (λ n. n + 1) (told ∙ get_or_same a.tallies.items c.args.worker c.index_mut-2.result.now 0 lt) in
-    ap (λ (xs : List Closed). record (book_view a) { closed = cut_at a.starts.items xs; done = set a.done.items c.rank.result true; waiting = c.enter_all.new.self.waiting; tallies = set a.tallies.items c.args.worker (c.index_mut-2.result.now + 1) }) seen
-    ∙ handed_view a c.self.invariant.lawful c.self.invariant.cuts p c.tell.ensures now c.self.view_is found c.args.worker c.rank.result (c.index_mut-2.result.now + 1) c.enter_all.new.self.waiting
-    c.rank.ensures tally waits
+    let all = handed_all a c.self.invariant.lawful c.self.invariant.cuts p c.tell.ensures now c.self.view_is found c.args.worker c.rank-rank.result c.enter_all.new.self.seen c.enter_all.new.self.waiting c.mark-2.new.done c.mark-2.new.tallies.items
+    seen waits c.mark-2.ensures.done c.rank-rank.ensures c.mark-2.ensures.tally (subst (λ v. c.args.worker < v.workers) (sym c.self.view_is) c.requires) c.if-self.false
+    (limit_same a c.self.invariant.cuts now c.self.view_is p.rank c.successors-successors.result.now p.successors c.successors-successors.ensures false (c.if-passes.ensures.passed p.rank)) in
+    all.1
