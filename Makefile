@@ -35,6 +35,7 @@ test: needs
 	@tests/believed
 	@tests/edits_named
 	@tests/cited
+	@tests/sizes
 	@rm -f target/sokopar target/refusals-unproved
 	@RT=$(RT) tests/gate
 	@for it in cli before workers hostile fuzz; do tests/timed tests/$$it tests/$$it/run target/sokopar || exit 1; done

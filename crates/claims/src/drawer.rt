@@ -2,6 +2,8 @@ ghost use Rattle.std.specs.Prelude.{◌≡◌, ◌↔◌, IsTrue, IsSome};
 
 use crate::views::View;
 use atomic_table::Seat;
+use std::fmt;
+use std::fmt::{Debug, Formatter};
 use std::marker::Model;
 
 /// One who draws from a ledger. To a contract it is the ledger that it came from, its place, the numbers that it
@@ -31,5 +33,15 @@ impl Drawer {
         ensures { IsTrue result ↔ IsSome self.now.hand.place }
     {
         self.place.is_some()
+    }
+}
+
+// shows its place and whether it is spent out
+impl Debug for Drawer {
+    fn fmt<W: fmt::Write>(&self, f: &mut Formatter<W>) -> fmt::Result {
+        f.debug_struct("Drawer")
+            .field("place", &self.place)
+            .field("spent", &self.spent)
+            .finish()
     }
 }

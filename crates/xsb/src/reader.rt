@@ -11,6 +11,8 @@ use crate::limits::MAX_FILE;
 use crate::lines::Lines;
 use crate::names::Gap;
 use std::alloc::{AllocError, Global};
+use std::fmt;
+use std::fmt::{Debug, Formatter};
 
 /// A collection that is read board by board: no more than one board is in memory, unless the caller keeps more.
 #[derive(Drop)]
@@ -59,6 +61,15 @@ impl<'a> Collection<'a> {
             first_line: board.first_line,
             board: judged,
         }))
+    }
+}
+
+// shows on which line it goes on, and not the bytes that are left
+impl<'a> Debug for Collection<'a> {
+    fn fmt<W: fmt::Write>(&self, f: &mut Formatter<W>) -> fmt::Result {
+        f.debug_struct("Collection")
+            .field("line", &self.lines.number)
+            .finish()
     }
 }
 
