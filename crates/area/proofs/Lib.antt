@@ -7,6 +7,7 @@ pub mod Nearness
 pub mod Reached
 pub mod Rings
 pub mod Seams
+pub mod Gathered
 pub mod Spreading
 pub mod UnderWay
 pub mod Visiting

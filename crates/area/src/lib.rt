@@ -14,6 +14,7 @@ mod route;
 mod scratch;
 mod seeking;
 mod set;
+mod small;
 mod spread;
 #[cfg(test)]
 mod tests;
@@ -26,3 +27,4 @@ pub use possible::{MAX_PUSHES, possible_pushes};
 pub use route::walk;
 pub use scratch::Scratch;
 pub use set::SquareSet;
+pub use small::locked_after_push;

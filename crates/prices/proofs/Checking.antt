@@ -1,9 +1,9 @@
 -- That what the check looks at makes the distances lower bounds.
-use Rattle.std.proofs.Common.{◌≡◌, ◌+◌, ◌<◌, ◌≤◌, ◌==◌, ◌&&◌, ◌||◌, ℕ, zero, suc, Bool, true, false, cond, eqb, Some, List, [], ◌∷◌, length, get_or, slice_get, take, drop, inl, inr, refl, sym, ap, subst, ◌∙◌, arith}
-use Rattle.std.proofs.lemmas.Bool.{and_parts, cases_lt, eqb-true, false≢true, true≢false}
+use Rattle.std.proofs.Common.{◌≡◌, ◌+◌, ◌<◌, ◌&&◌, ◌||◌, ℕ, zero, suc, Bool, true, false, cond, eqb, Some, List, [], ◌∷◌, length, get_or, slice_get, take, drop, inl, inr, refl, sym, ap, subst, ◌∙◌, arith}
+use Rattle.std.proofs.lemmas.Bool.{and_parts, cases_lt, eqb-true, false≢true}
 use Rattle.grid.specs.declared.dir.Dir.{Dir}
 use Rattle.grid.specs.declared.dir.Dir.TheVariants.{D, L, R, U}
-use Rattle.grid.specs.Board.{Board, is_wall, next, opposite}
+use Rattle.grid.specs.Board.{Board, next, opposite}
 use Rattle.grid.specs.Squares.{contains}
 use Rattle.grid.proofs.lemmas.Steps.{inside_grid, next_back}
 use Rattle.prices.specs.declared.table.Side.{Side}

@@ -31,6 +31,12 @@ const THREE_BOXES: (usize, &[u8]) = (5, b"######@  ##$$$##...######");
 
 const LONG_HALL: (usize, &[u8]) = (10, b"###########. $ @$ .##### ########  ###############");
 
+// rooms that the box cuts at many squares
+const DOORS: (usize, &[u8]) = (
+    10,
+    b"###########    #   ## @$   . ##    #   ##### ##  ##        ###########",
+);
+
 fn cell_of(byte: u8) -> Cell {
     match byte {
         b'#' => Cell::Wall,
@@ -245,6 +251,27 @@ fn compare_all(rt: &impl Abort, alloc: Global, level: &Level, row: usize) {
         );
         let fresh = distances.lower(position, &mut Matching::new());
         assert_eq!(rt; low, fresh, "row {row}, place {place}");
+    }
+}
+
+#[test]
+fn of_one_box_the_bound_is_the_fewest_pushes(rt: HostRuntime) {
+    for (row, board) in [WRONG_SIDE, WAY_ROUND, DOORS].into_iter().enumerate() {
+        let level = level_of(&rt, rt.alloc(), board);
+        compare_one(&rt, rt.alloc(), &level, row);
+    }
+}
+
+// Holds the bound of each position of a level with one box to the slow search.
+fn compare_one(rt: &impl Abort, alloc: Global, level: &Level, row: usize) {
+    let positions = all_positions(rt, alloc, level);
+    let least = least_pushes(rt, alloc, level, positions.as_slice());
+    let distances = distances_of(rt, alloc, level);
+    let mut matching = Matching::new();
+    for (place, position) in positions.as_slice().iter().enumerate() {
+        let low = distances.lower(position, &mut matching);
+        let pushes = least[place].min(u64::from(NEVER));
+        assert_eq!(rt; low, pushes, "row {row}, place {place}");
     }
 }
 

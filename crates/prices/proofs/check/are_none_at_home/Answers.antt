@@ -1,5 +1,4 @@
-use Rattle.std.proofs.Common.{◌≡◌, ℕ, get_or, sym, ap, subst, ◌∙◌, arith}
-use Rattle.prices.specs.inside.Tables.{row_in}
+use Rattle.std.proofs.Common.{arith}
 use Rattle.prices.proofs.Checking.{none_at_home}
 use Rattle.prices.proofs.check.are_none_at_home.Goals as goal
 

@@ -1,4 +1,4 @@
-use Rattle.std.proofs.Common.{rules, ℕ, arith}
+use Rattle.std.proofs.Common.{arith}
 use Rattle.grid.specs.declared.dir.Dir.{Dir}
 use Rattle.grid.proofs.lemmas.Steps.{inside_grid}
 use Rattle.prices.specs.inside.Tables.{StaysIn}

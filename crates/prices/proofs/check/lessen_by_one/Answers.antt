@@ -1,4 +1,4 @@
-use Rattle.std.proofs.Common.{ℕ, arith}
+use Rattle.std.proofs.Common.{arith}
 use Rattle.grid.specs.declared.dir.Dir.{Dir}
 use Rattle.prices.specs.inside.Tables.{LessensByOne}
 use Rattle.prices.proofs.Checking.{below_next}

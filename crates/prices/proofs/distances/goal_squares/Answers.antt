@@ -1,4 +1,4 @@
-use Rattle.std.proofs.Common.{◌≡◌, ◌+◌, ◌++◌, List, length, sym, ap, subst, ◌∙◌, arith}
+use Rattle.std.proofs.Common.{◌≡◌, ◌+◌, length, sym, subst, ◌∙◌, arith}
 use Rattle.prices.proofs.Goals.{AreGoalsBelow, all_gathered, goal_gathered, other_passed}
 use Rattle.prices.proofs.distances.goal_squares.Goals as goal
 use Rattle.prices.proofs.distances.goal_squares.Goals.{then-is_goal+in_ok-push, else-is_goal}

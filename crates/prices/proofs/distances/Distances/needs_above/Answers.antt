@@ -1,4 +1,4 @@
-use Rattle.std.proofs.Common.{◌≡◌, ◌≤◌, length, sym, ap, subst, ◌∙◌, arith}
+use Rattle.std.proofs.Common.{◌≡◌, ◌≤◌, length, ap, subst, ◌∙◌, arith}
 use Rattle.prices.specs.Prices.{AreFar, goals_of, sum_over}
 use Rattle.prices.specs.inside.Tables.{far_in}
 use Rattle.prices.specs.inside.Sums.{need_by}

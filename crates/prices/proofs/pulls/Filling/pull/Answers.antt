@@ -1,4 +1,4 @@
-use Rattle.std.proofs.Common.{sym, ◌∙◌, arith}
+use Rattle.std.proofs.Common.{sym, ◌∙◌}
 use Rattle.grid.proofs.lemmas.Steps.{inside_grid}
 use Rattle.prices.proofs.pulls.Filling.pull.Goals as goal
 

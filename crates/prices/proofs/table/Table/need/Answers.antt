@@ -1,4 +1,4 @@
-use Rattle.std.proofs.Common.{sym, ◌∙◌, arith}
+use Rattle.std.proofs.Common.{arith}
 use Rattle.prices.proofs.Sums.{need_least}
 use Rattle.prices.proofs.table.Table.need.Goals as goal
 
