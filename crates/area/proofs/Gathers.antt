@@ -38,7 +38,7 @@ enter_back board d q h =
     subst (λ (e : Dir). next board (next board q (opposite d)) e ≡ q) (opposite_twice d) (next_back_inside board q (opposite d) (inside_grid board q p.0) p.1)
 
 -- by how much the square differs from the one that a step onto it comes from
-from_left : (board : Board) (q : ℕ) → next board q L < length board.cells → next board q L + 1 ≡ q
+pub from_left : (board : Board) (q : ℕ) → next board q L < length board.cells → next board q L + 1 ≡ q
 unfolding next
 from_left board q = cond_both (eqb (q % board.cols) 0) (length board.cells) (q - 1) (λ (x : ℕ). x < length board.cells → x + 1 ≡ q) (λ e lt. absurd (omega arith)) (λ e lt. pred q e)
   where
@@ -46,15 +46,15 @@ from_left board q = cond_both (eqb (q % board.cols) 0) (length board.cells) (q -
     pred zero e = absurd (eqb-false (zero % board.cols) 0 e (zero-mod board.cols))
     pred (suc n) e = omega arith
 
-from_right : (board : Board) (q : ℕ) → next board q R < length board.cells → next board q R ≡ q + 1
+pub from_right : (board : Board) (q : ℕ) → next board q R < length board.cells → next board q R ≡ q + 1
 unfolding next
 from_right board q = cond_both (eqb (suc q % board.cols) 0) (length board.cells) (suc q) (λ (x : ℕ). x < length board.cells → x ≡ q + 1) (λ e lt. absurd (omega arith)) (λ e lt. omega arith)
 
-from_above : (board : Board) (q : ℕ) → next board q U < length board.cells → next board q U + board.cols ≡ q
+pub from_above : (board : Board) (q : ℕ) → next board q U < length board.cells → next board q U + board.cols ≡ q
 unfolding next
 from_above board q = cond_both (ltb q board.cols) (length board.cells) (q - board.cols) (λ (x : ℕ). x < length board.cells → x + board.cols ≡ q) (λ e lt. absurd (omega arith)) (λ e lt. (let le = ltb-false q board.cols e in omega arith))
 
-from_below : (board : Board) (q : ℕ) → next board q D < length board.cells → next board q D ≡ q + board.cols
+pub from_below : (board : Board) (q : ℕ) → next board q D < length board.cells → next board q D ≡ q + board.cols
 unfolding next
 from_below board q = cond_both (ltb (q + board.cols) (length board.cells)) (q + board.cols) (length board.cells) (λ (x : ℕ). x < length board.cells → x ≡ q + board.cols) (λ e lt. refl) (λ e lt. absurd (omega arith))
 

@@ -7,9 +7,14 @@ pub mod Nearness
 pub mod Reached
 pub mod Rings
 pub mod Seams
+pub mod Gathered
 pub mod Spreading
 pub mod UnderWay
 pub mod Visiting
+pub mod Carries
+pub mod Arrays
+pub mod Widening
+pub mod EarlyEnds
 pub mod Chains
 pub mod Passes
 pub mod PushLists

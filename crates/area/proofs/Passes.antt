@@ -22,7 +22,7 @@ use Rattle.area.proofs.lemmas.Growing.{and_bit, bit_and_from}
 -- ---- what holds a square
 
 -- what holds a square among some holds it among more
-held_by_more : (fast : List ℕ) (by : ℕ) (few more : Squares) (q : ℕ) → AreWithin few more → IsHeldBy fast by few q → IsHeldBy fast by more q
+pub held_by_more : (fast : List ℕ) (by : ℕ) (few more : Squares) (q : ℕ) → AreWithin few more → IsHeldBy fast by few q → IsHeldBy fast by more q
 held_by_more fast by few more q within (inl anyway) = inl anyway
 held_by_more fast by few more q within (inr (inl after)) = inr (inl (within (q + by) after))
 held_by_more fast by few more q within (inr (inr (p, e, before))) = inr (inr (p, e, within p before))

@@ -19,7 +19,7 @@ use Rattle.area.proofs.Gathers.{mask_bit, source_R, source_L, source_D, source_U
 use Rattle.area.proofs.lemmas.Growing.{or_bit, and_bit, bit_or_left, bit_or_right, bit_and_from}
 
 -- a square that a step enters comes by one of the four directions
-came_one_way : (board : Board) (words : List ℕ) (q : ℕ) → is_entered board words q ≡ true → (d : Dir) × (comes_by board words d q ≡ true)
+pub came_one_way : (board : Board) (words : List ℕ) (q : ℕ) → is_entered board words q ≡ true → (d : Dir) × (comes_by board words d q ≡ true)
 came_one_way board words q h = elim (or_cases (comes_by board words D q || comes_by board words L q) (comes_by board words R q || comes_by board words U q) h) [
   | inl early ↦ elim (or_cases (comes_by board words D q) (comes_by board words L q) early) [
     | inl x ↦ (D, x)

@@ -4,5 +4,6 @@ pub mod WordBits
 pub mod Norms
 pub mod Pushing
 pub mod Growing
+pub mod Hanging
 pub mod Flooding
 pub mod PushOrder

@@ -4,6 +4,8 @@ pub mod ScratchView
 pub mod Spread
 pub mod Detours
 pub mod Flooding
+pub mod RoomFloods
+pub mod Gathering
 pub mod PushWords
 pub mod Pushable
 pub mod PushLists

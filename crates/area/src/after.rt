@@ -6,11 +6,12 @@ ghost use Rattle.grid.specs.Board.{next, opposite};
 ghost use Rattle.area.specs.Area.{Area, IsNorm, at};
 ghost use Rattle.area.specs.Words.{squares_of};
 ghost use Rattle.area.specs.After.{IsAreaOf, IsPushed};
-ghost use Rattle.area.specs.inside.Detours.{across, Skirts, IsKnown, GainsNothing, StaysJoined, GoesPast, GoesRound};
+ghost use Rattle.area.specs.inside.Detours.{across, FollowsSides, Skirts, IsKnown, GainsNothing, StaysJoined, GoesPast, GoesRound};
 
 use crate::bits::least_of;
 use crate::floods::{flood_on, flood_round};
 use crate::scratch::Scratch;
+use crate::seeking::{can_seek, seek_least};
 use crate::set::SquareSet;
 use grid::{Dir, Level, Position, Push, Square, WORD_BITS};
 
@@ -75,13 +76,14 @@ fn least_aside(
         level,
         position,
         &None,
-        &scratch.spare_boxes,
+        &mut scratch.spare_boxes,
         &mut scratch.spare,
     );
     least_of(scratch.spare.as_words())
 }
 
-// The same where it is known that the player reaches no square less than a given one: the flood may end there.
+// The same where it is known that the player reaches no square less than a given one, and reaches that one if it reaches
+// what the last flood reached beside the square ahead: the flood may end there.
 fn least_left(
     level: &Level,
     position: &Position,
@@ -92,19 +94,32 @@ fn least_left(
 ) -> Square
     requires fits { FitsLevel level.now position.now }
     requires room { scratch.old.size ≡ length level.now.cells }
+    requires player { position.now.player ≡ square }
     requires inside { square < length level.now.cells }
     requires ahead { ahead < length level.now.cells }
     requires moved { position.now.boxes ≡ insert (remove scratch.old.boxes square) ahead }
+    requires reached { (q : ℕ) → contains scratch.old.reached q ≡ true → q < length level.now.cells }
     requires least { (q : ℕ) → Area level.now position.now q → least ≤ q }
+    requires met { FollowsSides level.now position.now (contains scratch.old.reached) ahead least }
     ensures norm { IsNorm level.now position.now (at position.now result) }
     ensures kept { scratch.new ≡ scratch.old }
 {
+    if can_seek(level, position) {
+        return seek_least(
+            level,
+            position,
+            &scratch.boxes,
+            &scratch.reached,
+            ahead,
+            least,
+        );
+    }
     move_box(&scratch.boxes, square, ahead, &mut scratch.spare_boxes);
     flood_round(
         level,
         position,
         &Some(least),
-        &scratch.spare_boxes,
+        &mut scratch.spare_boxes,
         &mut scratch.spare,
     );
     least_of(scratch.spare.as_words())
@@ -133,7 +148,7 @@ fn least_grown(
         position,
         &scratch.reached,
         ahead,
-        &scratch.spare_boxes,
+        &mut scratch.spare_boxes,
         &mut scratch.spare,
     );
     least_of(scratch.spare.as_words())

@@ -107,6 +107,18 @@ fn without(place: usize, word: u64, square: Square) -> u64
     }
 }
 
+// The square as a bit of the word at a place, none where it is not of that word.
+#[inline(always)]
+pub(crate) fn bit_at(square: Square, place: usize) -> u64
+    ensures { (j : ℕ) → j < WORD_BITS → word_bit result j ≡ (WORD_BITS * place + j == square) }
+{
+    if place == square.0 as usize / WORD_BITS {
+        1 << (square.0 as usize % WORD_BITS)
+    } else {
+        0
+    }
+}
+
 // For each square of a word, whether the set has the square so many numbers before it; none does where there is no such
 // number.
 #[inline(always)]
@@ -133,6 +145,29 @@ pub(crate) fn after(words: &[u64], place: usize, by: usize) -> u64
     let here = word_at(words, place + far);
     let high = word_at(words, place + far + 1);
     slid_down(here, high, near)
+}
+
+// The same where so many numbers are fewer than a word's.
+#[inline(always)]
+pub(crate) fn just_before(words: &[u64], place: usize, by: usize) -> u64
+    requires inside { place < length words.now }
+    requires near { by < WORD_BITS }
+    ensures there { (i j : ℕ) → j < WORD_BITS → i + by ≡ WORD_BITS * place + j → word_bit result j ≡ has_bit words.now i }
+    ensures none { (j : ℕ) → j < WORD_BITS → WORD_BITS * place + j < by → word_bit result j ≡ false }
+{
+    let low = word_before(words, place, 1);
+    slid_up(words[place], low, by)
+}
+
+// For each square of a word, whether the set has the square so many numbers after it, fewer than a word's.
+#[inline(always)]
+pub(crate) fn just_after(words: &[u64], place: usize, by: usize) -> u64
+    requires inside { place < length words.now }
+    requires near { by < WORD_BITS }
+    ensures { (i j : ℕ) → j < WORD_BITS → i ≡ WORD_BITS * place + j + by → word_bit result j ≡ has_bit words.now i }
+{
+    let high = word_at(words, place + 1);
+    slid_down(words[place], high, by)
 }
 
 // The word so many places before another, 0 before the first.

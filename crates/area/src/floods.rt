@@ -8,6 +8,7 @@ ghost use Rattle.area.specs.Words.{word_bit};
 ghost use Rattle.area.specs.inside.Flooding.{is_entered, HasAim, IsGrowing, IsFlooded, IsSettling, IsGrown, PassesUp, PassesDown, PassesOn};
 
 use crate::bits::{after, before, has};
+use crate::rooms::grow_in_room;
 use crate::scratch::Scratch;
 use crate::set::SquareSet;
 use grid::{Level, Position, Square, StepMasks, WORD_BITS};
@@ -20,7 +21,13 @@ pub fn flood(level: &Level, position: &Position, scratch: &mut Scratch)
     ensures boxes { scratch.new.boxes ≡ position.now.boxes }
     ensures size { scratch.new.size ≡ scratch.old.size }
 {
-    flood_sets(level, position, &mut scratch.reached, &mut scratch.boxes);
+    flood_sets(
+        level,
+        position,
+        &mut scratch.reached,
+        &mut scratch.boxes,
+        &mut scratch.spare_boxes,
+    );
 }
 
 /// The normal position: the same boxes, and the player on the least square that it reaches without a push.
@@ -37,42 +44,48 @@ pub fn normal(level: &Level, position: &Position, scratch: &mut Scratch) -> Posi
     normal
 }
 
-// Makes a set of the squares that the player reaches round the boxes, and another of the boxes' squares.
+// Makes a set of the squares that the player reaches round the boxes, and another of the boxes' squares. What the third
+// holds is lost.
 pub(crate) fn flood_sets(
     level: &Level,
     position: &Position,
     reached: &mut SquareSet,
     boxes: &mut SquareSet,
+    others: &mut SquareSet,
 )
     requires fits { FitsLevel level.now position.now }
     requires room { length reached.old ≡ word_count (length level.now.cells) }
     requires places { length boxes.old ≡ word_count (length level.now.cells) }
+    requires others { length others.old ≡ word_count (length level.now.cells) }
     ensures reached { (q : ℕ) → (has_bit reached.new q ≡ true) ↔ Area level.now position.now q }
     ensures boxes { (q : ℕ) → has_bit boxes.new q ≡ contains position.now.boxes q }
     ensures room { length reached.new ≡ length reached.old }
     ensures places { length boxes.new ≡ length boxes.old }
+    ensures others { length others.new ≡ length others.old }
 {
     boxes.put_all(position.boxes());
-    flood_round(level, position, &None, boxes, reached);
+    others.copy_from(boxes);
+    flood_round(level, position, &None, others, reached);
 }
 
-// Makes a set of the squares that the player reaches round a set of the boxes. Where an aim is given, it may end as soon as
-// the player reaches that: then the set need not have all squares.
+// Makes a set of the squares that the player reaches round a set of the boxes, which is lost. Where an aim is given, it may
+// end as soon as the player reaches that: then the set need not have all squares.
 pub(crate) fn flood_round(
     level: &Level,
     position: &Position,
     aim: &Option<Square>,
-    boxes: &SquareSet,
+    boxes: &mut SquareSet,
     reached: &mut SquareSet,
 )
     requires fits { FitsLevel level.now position.now }
     requires room { length reached.old ≡ word_count (length level.now.cells) }
-    requires places { length boxes.now ≡ word_count (length level.now.cells) }
-    requires boxes { (q : ℕ) → has_bit boxes.now q ≡ contains position.now.boxes q }
+    requires places { length boxes.old ≡ word_count (length level.now.cells) }
+    requires boxes { (q : ℕ) → has_bit boxes.old q ≡ contains position.now.boxes q }
     ensures begun { has_bit reached.new position.now.player ≡ true }
     ensures within { (q : ℕ) → has_bit reached.new q ≡ true → Area level.now position.now q }
     ensures whole { HasAim aim.now reached.new ⊎ ((q : ℕ) → Area level.now position.now q → has_bit reached.new q ≡ true) }
     ensures room { length reached.new ≡ length reached.old }
+    ensures places { length boxes.new ≡ length boxes.old }
 {
     reached.clear();
     reached.put(position.player());
@@ -86,18 +99,19 @@ pub(crate) fn flood_on(
     position: &Position,
     known: &SquareSet,
     but: Square,
-    boxes: &SquareSet,
+    boxes: &mut SquareSet,
     reached: &mut SquareSet,
 )
     requires fits { FitsLevel level.now position.now }
     requires words { length known.now ≡ word_count (length level.now.cells) }
     requires room { length reached.old ≡ word_count (length level.now.cells) }
-    requires places { length boxes.now ≡ word_count (length level.now.cells) }
-    requires boxes { (q : ℕ) → has_bit boxes.now q ≡ contains position.now.boxes q }
+    requires places { length boxes.old ≡ word_count (length level.now.cells) }
+    requires boxes { (q : ℕ) → has_bit boxes.old q ≡ contains position.now.boxes q }
     requires inside { but < length level.now.cells }
     requires known { (q : ℕ) → has_bit known.now q ≡ true → q ≢ but → Area level.now position.now q }
     ensures reached { (q : ℕ) → (has_bit reached.new q ≡ true) ↔ Area level.now position.now q }
     ensures room { length reached.new ≡ length reached.old }
+    ensures places { length boxes.new ≡ length boxes.old }
 {
     reached.copy_from(known);
     reached.take_out(but);
@@ -111,21 +125,26 @@ fn flood_from(
     level: &Level,
     position: &Position,
     aim: &Option<Square>,
-    boxes: &SquareSet,
+    boxes: &mut SquareSet,
     reached: &mut SquareSet,
 )
     requires fits { FitsLevel level.now position.now }
     requires room { length reached.old ≡ word_count (length level.now.cells) }
-    requires places { length boxes.now ≡ word_count (length level.now.cells) }
-    requires boxes { (q : ℕ) → has_bit boxes.now q ≡ contains position.now.boxes q }
+    requires places { length boxes.old ≡ word_count (length level.now.cells) }
+    requires boxes { (q : ℕ) → has_bit boxes.old q ≡ contains position.now.boxes q }
     requires begun { has_bit reached.old position.now.player ≡ true }
     requires within { (q : ℕ) → has_bit reached.old q ≡ true → Area level.now position.now q }
     ensures begun { has_bit reached.new position.now.player ≡ true }
     ensures within { (q : ℕ) → has_bit reached.new q ≡ true → Area level.now position.now q }
     ensures whole { HasAim aim.now reached.new ⊎ ((q : ℕ) → Area level.now position.now q → has_bit reached.new q ≡ true) }
     ensures room { length reached.new ≡ length reached.old }
+    ensures places { length boxes.new ≡ length boxes.old }
 {
-    grow(level, aim, boxes, reached);
+    if level.in_room(position.player()) {
+        grow_in_room(level, aim, boxes, reached);
+    } else {
+        grow(level, aim, boxes, reached);
+    }
 }
 
 // Adds to the set all squares that steps round the boxes lead to. Where an aim is given, it may end as soon as the set has
@@ -166,7 +185,7 @@ fn grow_words(level: &Level, aim: &Option<Square>, boxes: &[u64], reached: &mut 
 
 // Whether an aim is given, and the set has it.
 #[inline(always)]
-fn has_aim(aim: &Option<Square>, reached: &[u64]) -> bool
+pub(crate) fn has_aim(aim: &Option<Square>, reached: &[u64]) -> bool
     ensures { IsTrue result → HasAim aim.now reached.now }
 {
     match aim {
@@ -220,7 +239,7 @@ fn entered(masks: &[StepMasks], cols: usize, reached: &[u64], place: usize) -> u
 // Adds to a word what steps lead to within it, onto the squares that the masks have for each direction. Runs along the
 // rows spare rounds where rooms are wide.
 #[inline(always)]
-fn fill(word: u64, down: u64, left: u64, right: u64, up: u64, cols: usize) -> u64
+pub(crate) fn fill(word: u64, down: u64, left: u64, right: u64, up: u64, cols: usize) -> u64
     ensures { IsGrown word result (λ test. PassesOn test cols down left right up) }
 {
     let mut word = word;
@@ -238,13 +257,13 @@ fn fill(word: u64, down: u64, left: u64, right: u64, up: u64, cols: usize) -> u6
     }
 }
 
-// Adds to a word up to three steps to the right.
+// Adds to a word the runs to the right of its squares over those of the mask: a sum carries along them. Where two meet,
+// the one above is a square of the word itself.
 #[inline(always)]
-fn run_up(word: u64, mask: u64) -> u64
+pub(crate) fn run_up(word: u64, mask: u64) -> u64
     ensures { IsGrown word result (λ test. PassesUp test 1 mask) }
 {
-    let one = step_up(word, mask, 1);
-    step_up(one, mask & (mask << 1), 2)
+    word | (mask & !mask.wrapping_add(word))
 }
 
 // Adds to a word up to three steps to the left.
@@ -270,7 +289,7 @@ fn step_up(word: u64, mask: u64, by: usize) -> u64
 
 // Adds to a word the bits of the mask that are so many places below its own.
 #[inline(always)]
-fn step_down(word: u64, mask: u64, by: usize) -> u64
+pub(crate) fn step_down(word: u64, mask: u64, by: usize) -> u64
     ensures { IsGrown word result (λ test. PassesDown test by mask) }
 {
     if by < WORD_BITS {

@@ -9,9 +9,12 @@ pub mod laws;
 mod locked;
 mod possible;
 mod pushes;
+mod rooms;
 mod route;
 mod scratch;
+mod seeking;
 mod set;
+mod small;
 mod spread;
 #[cfg(test)]
 mod tests;
@@ -24,3 +27,4 @@ pub use possible::{MAX_PUSHES, possible_pushes};
 pub use route::walk;
 pub use scratch::Scratch;
 pub use set::SquareSet;
+pub use small::locked_after_push;

@@ -129,7 +129,7 @@ fn peel_boxes(holds: &Holds, cols: usize, boxes: &[Square], members: &mut [u64])
 }
 
 // Looks at each word once, and takes out the squares that are not held; says whether one went.
-fn peel_words(holds: &Holds, cols: usize, members: &mut [u64]) -> bool
+pub(crate) fn peel_words(holds: &Holds, cols: usize, members: &mut [u64]) -> bool
     requires holds { HaveRoom holds.now (length members.old) }
     ensures { IsPass holds.now cols members.old members.new result }
 {
@@ -161,7 +161,7 @@ fn peel_word(holds: &Holds, cols: usize, members: &mut [u64], place: usize) -> b
 // For each square of a word, whether a box there is held on an axis: anyway, or by a member so many numbers before or
 // after it.
 #[inline(always)]
-fn held(fast: &[u64], members: &[u64], place: usize, by: usize) -> u64
+pub(crate) fn held(fast: &[u64], members: &[u64], place: usize, by: usize) -> u64
     requires place { place < length members.now }
     requires room { length fast.now ≡ length members.now }
     ensures { (j : ℕ) → j < WORD_BITS → (word_bit result j ≡ true) ↔ IsHeldBy fast.now by (squares_of members.now) (WORD_BITS * place + j) }
@@ -192,7 +192,7 @@ fn is_other_box(boxes: &[Square], members: &[u64], others: &[u64]) -> bool
 }
 
 // The same by a look at each word.
-fn is_other_word(members: &[u64], others: &[u64]) -> bool
+pub(crate) fn is_other_word(members: &[u64], others: &[u64]) -> bool
     requires { length members.now ≡ length others.now }
     ensures { IsTrue result ↔ ((q : ℕ) × (has_bit members.now q ≡ true) × (has_bit others.now q ≡ false)) }
 {

@@ -70,7 +70,7 @@ room_of board holds are = record { across = are.across.size; along = are.along.s
 
 -- so boxes that are locked are frozen, and back
 module _ (board : Board) (holds : Holds) (are : AreHolds board holds) (boxes : Squares) (stand : StandInside board boxes) where
-  frozen_as_locked : (part : Squares) → AreLocked holds board.cols boxes part → IsFrozen board boxes part
+  pub frozen_as_locked : (part : Squares) → AreLocked holds board.cols boxes part → IsFrozen board boxes part
   frozen_as_locked part locked =
       let (x, here, off) = locked.off in
       record {
@@ -84,7 +84,7 @@ module _ (board : Board) (holds : Holds) (are : AreHolds board holds) (boxes : S
             ((held_told board holds.along part q board.cols D are.along (apart_along board board.cols refl) inside).0 along));
       }
 
-  locked_as_frozen : (part : Squares) → IsFrozen board boxes part → AreLocked holds board.cols boxes part
+  pub locked_as_frozen : (part : Squares) → IsFrozen board boxes part → AreLocked holds board.cols boxes part
   locked_as_frozen part frozen =
       let (x, here, off) = frozen.off_goal in
       record {

@@ -1,7 +1,7 @@
 ghost use Rattle.std.specs.Prelude.{◌≡◌, ℕ, ◌<◌, ◌↔◌, ◌⊎◌, IsTrue, false, true, length};
 ghost use Rattle.grid.specs.Board.{is_wall, next};
 ghost use Rattle.grid.specs.States.{FitsLevel};
-ghost use Rattle.grid.specs.Squares.{Squares, contains};
+ghost use Rattle.grid.specs.Squares.{Squares, contains, insert, remove};
 ghost use Rattle.doom.specs.Lost.{AreLost};
 ghost use Rattle.doom.specs.Deadlocks.{Doomed, IsFrozen};
 ghost use Rattle.doom.specs.Pushed.{AreOthersFrozen, ComeUndoomed, DoomedFrom, IsGroupFrozen};
@@ -38,6 +38,37 @@ pub fn doomed_after(
         level.next(square, dir),
         scratch,
     )
+}
+
+/// What [`doomed_after`] says of the push of one of the boxes round which the last flood went, where these are not doomed:
+/// for a search that keeps its boxes as a set. It looks at the same boxes, and in small rooms finds the pushed box's group
+/// in words, and ends as soon as nothing holds that box. Takes no memory.
+pub fn push_dooms(
+    level: &Level,
+    dead: &Dead,
+    position: &Position,
+    push: Push,
+    scratch: &mut Scratch,
+) -> bool
+    requires fits { FitsLevel level.now position.now }
+    requires dead_of_level { dead.now ≡ level.now }
+    requires room { scratch.old.size ≡ length level.now.cells }
+    requires inside { push.square < length level.now.cells }
+    requires pushed { position.now.boxes ≡ insert (remove scratch.old.boxes push.square) (next level.now push.square push.dir) }
+    requires undoomed { ¬ (Doomed level.now scratch.old.boxes) }
+    ensures from { IsTrue result ↔ DoomedFrom level.now position.now.boxes (next level.now push.square push.dir) }
+    ensures same { IsTrue result ↔ Doomed level.now position.now.boxes }
+    ensures kept { scratch.new ≡ scratch.old }
+{
+    let Push { square, dir } = push;
+    let ahead = level.next(square, dir);
+    if dead.is_dead(ahead) {
+        return true;
+    }
+    match area::locked_after_push(level, dead.holds(), square, ahead, scratch) {
+        Some(locked) => locked,
+        None => doomed_after(level, dead, position, Push { square, dir }, scratch),
+    }
 }
 
 /// Whether the square is dead, or some of the boxes that hang together with the one on it, at least one of them off

@@ -12,7 +12,7 @@ mod pulls;
 #[cfg(test)]
 mod tests;
 
-pub use after::doomed_after;
+pub use after::{doomed_after, push_dooms};
 pub use bound::Bound;
 pub use dead::Dead;
 pub use freeze::doomed;

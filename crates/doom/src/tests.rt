@@ -1,9 +1,10 @@
 ghost use Rattle.std.specs.Prelude.{◌≡◌, length};
+ghost use Rattle.grid.specs.States.{FitsLevel};
 
 use crate::laws::{
     a_loose_box_dooms_nothing, a_push_lessens_the_bound_by_one, doomed_are_lost, solution_is_safe,
 };
-use crate::{Bound, Dead, doomed, doomed_after, is_loose};
+use crate::{Bound, Dead, doomed, doomed_after, is_loose, push_dooms};
 use area::Scratch;
 use grid::{Cell, Dir, Level, Position, Push, Square};
 use std::alloc::Global;
@@ -58,6 +59,8 @@ const THREE_FROZEN: (usize, &[u8]) = (7, b"########@    ###$   ## $$. ## .#. ## 
 const THREE_FREE: (usize, &[u8]) = (7, b"########@    ###  $ ## $$. ## .#. ##     ########");
 
 const DEAD_ELSEWHERE: (usize, &[u8]) = (7, b"########@   $###  $ ##  $. ## .#. ##     ########");
+
+const THREE_BEFORE: (usize, &[u8]) = (7, b"########     ### $@ ## $$. ## .#. ##     ########");
 
 fn cell_of(byte: u8) -> Cell {
     match byte {
@@ -247,6 +250,47 @@ fn three_boxes_are_free(rt: HostRuntime) {
 fn a_box_on_a_dead_square_elsewhere_is_not_looked_at(rt: HostRuntime) {
     let level = level_of(&rt, rt.alloc(), DEAD_ELSEWHERE);
     assert_eq!(&rt; told(&rt, rt.alloc(), &level, Dir::R), (false, true));
+}
+
+// What is said of a push from the start of a level, which is not doomed, by the boxes of a flood as a set.
+fn dooms(rt: &impl Abort, alloc: Global, level: &Level, square: Square, dir: Dir) -> bool {
+    let dead = Dead::of(alloc, level).expect(rt, "memory");
+    let mut scratch = Scratch::new(alloc, level).expect(rt, "memory");
+    let start = Position::start(level).expect(rt, "few boxes");
+    assert!(rt; start.fits(level));
+    asked_by_set(rt, level, &dead, &start, Push { square, dir }, &mut scratch)
+}
+
+fn asked_by_set(
+    rt: &impl Abort,
+    level: &Level,
+    dead: &Dead,
+    start: &Position,
+    push: Push,
+    scratch: &mut Scratch,
+) -> bool
+    requires fits { FitsLevel level.now start.now }
+    requires dead_of_level { dead.now ≡ level.now }
+    requires room { scratch.old.size ≡ length level.now.cells }
+{
+    let Push { square, dir } = push;
+    assert!(rt; usize::from(square.0) < level.squares());
+    let ahead = level.next(square, dir);
+    assert!(rt; start.contains(square));
+    assert!(rt; !start.contains(ahead));
+    let mut after = start.copy();
+    after.push(square, ahead);
+    assert!(rt; after.fits(level));
+    assert!(rt; !doomed(level, dead, start, scratch));
+    area::flood(level, start, scratch);
+    push_dooms(level, dead, &after, Push { square, dir }, scratch)
+}
+
+#[test]
+fn a_push_freezes_three_boxes_or_none(rt: HostRuntime) {
+    let level = level_of(&rt, rt.alloc(), THREE_BEFORE);
+    assert!(&rt; dooms(&rt, rt.alloc(), &level, Square(17), Dir::L));
+    assert!(&rt; !dooms(&rt, rt.alloc(), &level, Square(17), Dir::R));
 }
 
 #[test]

@@ -6,6 +6,7 @@ pub mod Runs
 pub mod Equality
 pub mod Settle
 pub mod Bits
+pub mod RoomBits
 pub mod Words
 pub mod Kept
 pub mod Edges

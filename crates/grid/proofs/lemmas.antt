@@ -4,4 +4,5 @@ pub mod Squares
 pub mod Orders
 pub mod Plays
 pub mod Levels
+pub mod Rooms
 pub mod Places

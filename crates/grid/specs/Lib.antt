@@ -6,6 +6,7 @@ pub mod States
 pub mod Lawful
 pub mod Plays
 pub mod Masks
+pub mod RoomMask
 pub mod Equality
 pub mod Hashing
 pub mod Laws

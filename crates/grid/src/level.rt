@@ -4,6 +4,7 @@ ghost use Rattle.grid.specs.Lawful.{row_count, box_count, HasFault, InRoom, IsLe
 ghost use Rattle.grid.specs.States.{FitsLevel, has_box};
 ghost use Rattle.grid.specs.inside.AroundView.{around_of, ways_of};
 ghost use Rattle.grid.specs.Masks.{AreMasks};
+ghost use Rattle.grid.specs.RoomMask.{IsRoomMask};
 
 use crate::around::{Around, neighbours};
 use crate::board::Board;
@@ -11,19 +12,20 @@ use crate::cell::Cell;
 use crate::dir::Dir;
 use crate::fault::LevelFault;
 use crate::limits::MAX_SQUARES;
-use crate::masks::{StepMasks, masks_of};
+use crate::masks::{StepMasks, masks_of, room_mask_of};
 use crate::square::Square;
 use std::alloc::{AllocError, Global};
 use std::marker::Model;
 
 /// A lawful level: one player, at least one box, as many boxes as goals, and no way from the player to the edge of
 /// the grid. It is a [`Board`] with the tables that a search wants: the neighbours of each square, so that a step needs
-/// no division, and the step masks, so that a flood goes by words.
+/// no division, and the step masks and the room mask, so that a flood goes by words.
 #[derive(Debug, Drop)]
 pub struct Level {
     board: Board,
     around: Vec<Around>,
     masks: Vec<StepMasks>,
+    room: Vec<u64>,
 }
 
 impl Model for Level {
@@ -57,10 +59,12 @@ impl Level {
     {
         let around = neighbours(alloc, board.cols(), board.cells())?;
         let masks = masks_of(alloc, board.cols(), board.cells(), around.as_slice())?;
+        let room = room_mask_of(alloc, &board)?;
         Ok(Level {
             board,
             around,
             masks,
+            room,
         })
     }
 
@@ -189,6 +193,13 @@ impl Level {
         self.masks.as_slice()
     }
 
+    /// The squares of the player's room as bits of words: bit i of word k is the square `WORD_BITS * k + i`.
+    pub fn room_mask(&self) -> &[u64]
+        ensures { IsRoomMask self.now result.now }
+    {
+        self.room.as_slice()
+    }
+
     /// Whether the square is of the player's room: what four-way steps over squares that are no wall reach from the
     /// player, boxes ignored.
     pub fn in_room(&self, square: Square) -> bool
@@ -205,6 +216,7 @@ impl Level {
             board: self.board.copy()?,
             around: self.around.clone()?,
             masks: self.masks.clone()?,
+            room: self.room.clone()?,
         })
     }
 }

@@ -153,6 +153,17 @@ impl Position {
         self.player = player;
     }
 
+    /// Moves the box on `from` to `to`, and the player to where the box was. The box is looked for at a place among the
+    /// boxes first: whoever goes through boxes in their order knows it, and what is wrong of it is put right.
+    pub fn push_at(&mut self, place: usize, from: Square, to: Square)
+        requires box_there { contains self.old.boxes from ≡ true }
+        requires free { contains self.old.boxes to ≡ false }
+        ensures { self.new ≡ record { boxes = insert (remove self.old.boxes from) to; player = from } }
+    {
+        move_square_at(self.boxes.as_mut_slice(), place, from, to);
+        self.player = from;
+    }
+
     /// Moves the box on `from` to `to`, and the player to where the box was.
     pub fn push(&mut self, from: Square, to: Square)
         requires box_there { contains self.old.boxes from ≡ true }
@@ -246,6 +257,31 @@ pub(crate) fn move_square(squares: &mut [Square], from: Square, to: Square)
 {
     let left = place_of(squares, from);
     settle(squares, left, to);
+}
+
+// The same where the one is looked for at a place first.
+fn move_square_at(squares: &mut [Square], place: usize, from: Square, to: Square)
+    requires rising { is_rising squares.old ≡ true }
+    requires bound { length squares.old ≤ MAX_SQUARES }
+    requires there { contains squares.old from ≡ true }
+    requires free { contains squares.old to ≡ false }
+    ensures { squares.new ≡ insert (remove squares.old from) to }
+{
+    let left = place_by(squares, place, from);
+    settle(squares, left, to);
+}
+
+// How many of the rising squares are less than this one, which is one of them, and is looked for at a place first.
+fn place_by(squares: &[Square], place: usize, square: Square) -> usize
+    requires rising { is_rising squares.now ≡ true }
+    requires bound { length squares.now ≤ MAX_SQUARES }
+    ensures { result ≡ prefix_len (λ x. nat_lt x square) squares.now }
+{
+    if place < squares.len() && squares[place] == square {
+        place
+    } else {
+        place_of(squares, square)
+    }
 }
 
 // How many of the rising squares are less than this one. All are looked at, so that no end of a loop has to be foreseen.

@@ -164,7 +164,8 @@ impl Book {
     {
         task.tell();
         let own = first_of_share(&task, first, share, shares);
-        let found = Found::of(alloc, task.boxes(), &own)?;
+        let squares = task.level().squares();
+        let found = Found::of(alloc, task.boxes(), squares, &own)?;
         let mut starts = Vec::new(alloc);
         starts.resize(1, 0)?;
         let tallies = first_tallies(alloc, workers)?;
@@ -350,7 +351,7 @@ fn first_of_share(task: &Task, first: &Option<Position>, share: u8, shares: u8) 
     requires first { IsFirst task.now first.now }
     requires shares { 0 < shares }
     ensures layer { IsShareOfLayer task.now shares share 0 (first_entries result) }
-    ensures boxes { IfSome result (λ m. length m.boxes ≡ box_count task.now.board) }
+    ensures fits { IfSome result (FitsLevel task.now.board) }
 {
     task.tell();
     let Some(position) = first else {

@@ -1,16 +1,18 @@
 -- Offers that wait in an inbox: which they are, and what stands open once they have entered.
-use Rattle.std.proofs.Common.{◌≡◌, ℕ, ◌+◌, ◌-◌, ◌≤◌, Bool, true, false, cond, ◌&&◌, ◌==◌, not, is_some, ltb, List, [], ◌∷◌, ◌++◌, length, map, fold, Option, Some, None, Result, Ok, Err, refl, sym, ap, subst, ◌∙◌, if◌then◌else◌, arith}
+use Rattle.std.proofs.Common.{◌≡◌, ℕ, zero, suc, get_or, ◌+◌, ◌-◌, ◌≤◌, Bool, true, false, cond, ◌&&◌, ◌==◌, not, is_some, ltb, List, [], ◌∷◌, ◌++◌, length, map, fold, Option, Some, None, Result, Ok, Err, refl, sym, ap, subst, ◌∙◌, if◌then◌else◌, arith}
 use Rattle.std.proofs.lemmas.Bool.Decides.{nat_tests}
 use Rattle.std.proofs.lemmas.List.{append-nil, append_assoc, length-append, length-map}
 use Rattle.std.proofs.lemmas.List.Sums.{fold-append, fold_push}
 use Rattle.std.proofs.Math.Seq.{take-length}
-use Rattle.std.specs.Prelude.{OnErr}
+use Rattle.std.proofs.lemmas.Option.{same_Some}
+use Rattle.std.specs.Prelude.{OnErr, slice_get}
 use Rattle.std.specs.Map.{lookup}
 use Rattle.grid.specs.declared.square.Push.{Push}
 use Rattle.grid.specs.Board.{Scene}
 use Rattle.store.specs.Entries.{Origin, Entry, same_scene, Closed, origin_of}
 use Rattle.successors.specs.Shares.{share_of}
 use Rattle.successors.specs.declared.parcel.Successor.{Successor}
+use Rattle.successors.specs.inside.Sums.{AreSums, scene_sum}
 use Rattle.store.specs.Entering.{closed_entry, is_wanted_in, offered, entered, IsSortedAppend}
 use Rattle.store.specs.FoundView.{FoundView, found_view, seen_of, open_of, IsFound, let_in, all_let_in, offer_of, offers_of, with_entered}
 use Rattle.store.proofs.lemmas.Offers.{length-offered}
@@ -23,6 +25,15 @@ pub offers_more : (shares share rank : ℕ) (ss : List Successor) (s : Successor
 offers_more shares share rank [] s = append-nil (offer_of shares share rank s)
 offers_more shares share rank (t ∷ ss) s =
     ap (λ xs. offer_of shares share rank t ++ xs) (offers_more shares share rank ss s) ∙ sym (append_assoc (offer_of shares share rank t) (offers_of shares share rank ss) (offer_of shares share rank s))
+
+-- the sum beside a successor is that of its position
+pub sum_beside : (ss : List Successor) (sums : List ℕ) (place : ℕ) (s : Successor) → AreSums ss sums → slice_get ss place ≡ Some s → get_or sums place 0 ≡ scene_sum s.position
+sum_beside ss sums place s are at = ap (λ xs. get_or xs place 0) are ∙ go ss place at
+  where
+    go : (ts : List Successor) (i : ℕ) → slice_get ts i ≡ Some s → get_or (map (λ (t : Successor). scene_sum t.position) ts) i 0 ≡ scene_sum s.position
+    go [] i e = cc
+    go (t ∷ ts) zero e = ap (λ (u : Successor). scene_sum u.position) (same_Some t s e)
+    go (t ∷ ts) (suc i) e = go ts i e
 
 -- there are no more offers than successors
 pub length-offers : (shares share rank : ℕ) (ss : List Successor) → length (offers_of shares share rank ss) ≤ length ss
@@ -52,13 +63,13 @@ let_in_offers seen shares share rank (s ∷ ss) ws =
     go true false e = ap (λ b. if b then ws else offered ws s.position (rank, s.push)) e
 
 -- so with the offers of a rank's successors appended, what is found is what it was with them entered
-pub offers_appended : (boxes start shares share rank : ℕ) (es : List Closed) (inbox : List (Entry Scene Push)) (ss : List Successor) (v : FoundView) → found_view boxes start es inbox ≡ v →
-    found_view boxes start es (inbox ++ offers_of shares share rank ss) ≡ with_entered v shares share rank ss
-offers_appended boxes start shares share rank es inbox ss v view =
+pub offers_appended : (boxes squares start shares share rank : ℕ) (es : List Closed) (inbox : List (Entry Scene Push)) (ss : List Successor) (v : FoundView) → found_view boxes squares start es inbox ≡ v →
+    found_view boxes squares start es (inbox ++ offers_of shares share rank ss) ≡ with_entered v shares share rank ss
+offers_appended boxes squares start shares share rank es inbox ss v view =
     let seen = seen_of start es in
     let waits : all_let_in seen (open_of start es) (inbox ++ offers_of shares share rank ss) ≡ fold (entered (is_wanted_in seen shares share) rank) (all_let_in seen (open_of start es) inbox) ss =
     fold-append (let_in seen) (open_of start es) inbox (offers_of shares share rank ss) ∙ let_in_offers seen shares share rank ss (all_let_in seen (open_of start es) inbox) in
-    (λ i. record { boxes = boxes; seen = seen; waiting = waits i }) ∙ ap (λ (u : FoundView). with_entered u shares share rank ss) view
+    (λ i. record { boxes = boxes; squares = squares; seen = seen; waiting = waits i }) ∙ ap (λ (u : FoundView). with_entered u shares share rank ss) view
 
 -- ---- how many they are
 
@@ -86,8 +97,8 @@ pub length-split : (start : ℕ) (es : List Closed) → IsFound start es → len
 length-split start es found = omega (arith, ap length (split start es found), length-append (seen_of start es) (map closed_entry (open_of start es)), length-map (open_of start es) closed_entry)
 
 -- the map holds no more than is found, and with the inbox no less
-pub length-found : (boxes start : ℕ) (es : List Closed) (inbox : List (Entry Scene Push)) (v : FoundView) → IsFound start es → found_view boxes start es inbox ≡ v → (length es ≤ length v.seen + length v.waiting) × (length v.seen + length v.waiting ≤ length es + length inbox)
-length-found boxes start es inbox v found view =
+pub length-found : (boxes squares start : ℕ) (es : List Closed) (inbox : List (Entry Scene Push)) (v : FoundView) → IsFound start es → found_view boxes squares start es inbox ≡ v → (length es ≤ length v.seen + length v.waiting) × (length v.seen + length v.waiting ≤ length es + length inbox)
+length-found boxes squares start es inbox v found view =
     let n = length-split start es found in
     let m = length-all_let_in (seen_of start es) inbox (open_of start es) in
     let seen = ap (λ (u : FoundView). length u.seen) view in
@@ -119,10 +130,10 @@ within_limit limit shares share rank held waits ss v few le room =
     not_less x y le = grind (arith, nat_tests)
 
 -- and otherwise the new positions are counted, once nothing waits
-pub counted_limit : (boxes start limit shares share rank held n : ℕ) (es : List Closed) (ss : List Successor) (v : FoundView) → IsFound start es → found_view boxes start es [] ≡ v → held ≡ length es → held ≤ limit →
+pub counted_limit : (boxes squares start limit shares share rank held n : ℕ) (es : List Closed) (ss : List Successor) (v : FoundView) → IsFound start es → found_view boxes squares start es [] ≡ v → held ≡ length es → held ≤ limit →
     length (fold (entered (is_wanted_in (seen_of start es) shares share) rank) (open_of start es) ss) ≡ length (open_of start es) + n →
     ltb (limit - held) n ≡ ltb limit (length v.seen + length (with_entered v shares share rank ss).waiting)
-counted_limit boxes start limit shares share rank held n es ss v found view is le count =
+counted_limit boxes squares start limit shares share rank held n es ss v found view is le count =
     shifted limit held n (length (seen_of start es) + length (fold (entered (is_wanted_in (seen_of start es) shares share) rank) (open_of start es) ss)) le (omega (arith, length-split start es found, is, count))
     ∙ ap (λ (u : FoundView). ltb limit (length u.seen + length (with_entered u shares share rank ss).waiting)) view
   where
@@ -132,8 +143,8 @@ counted_limit boxes start limit shares share rank held n es ss v found view is l
 -- ---- a close
 
 -- once nothing waits, what stands open is closed behind what was seen
-pub all_closed : (boxes start n : ℕ) (es new : List Closed) (v : FoundView) → found_view boxes start es [] ≡ v → n ≡ length new → IsSortedAppend (seen_of start es) (open_of start es) new → IsSortedAppend v.seen v.waiting (seen_of n new)
-all_closed boxes start n es new v view long sorted =
+pub all_closed : (boxes squares start n : ℕ) (es new : List Closed) (v : FoundView) → found_view boxes squares start es [] ≡ v → n ≡ length new → IsSortedAppend (seen_of start es) (open_of start es) new → IsSortedAppend v.seen v.waiting (seen_of n new)
+all_closed boxes squares start n es new v view long sorted =
     subst (IsSortedAppend v.seen v.waiting) (sym (ap (λ k. seen_of k new) long ∙ take-length new)) (subst (λ (u : FoundView). IsSortedAppend u.seen u.waiting new) view sorted)
 
 pub on_err : {T E : Type 0} {P : Type 0} (r : Result T E) → P → OnErr r P

@@ -4,3 +4,5 @@ pub mod Tails
 pub mod Inboxes
 pub mod Exchanging
 pub mod DealtOffers
+pub mod Bytes
+pub mod Lasts

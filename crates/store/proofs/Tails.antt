@@ -18,7 +18,7 @@ use Rattle.grid.specs.Board.{Scene, push_cmp}
 use Rattle.store.specs.Entries.{Origin, origin_cmp, Entry, same_scene, Closed, origin_of}
 use Rattle.successors.specs.Shares.{share_of}
 use Rattle.store.specs.Entering.{closed_entry, is_wanted_in, offered, RiseByOrigin, IsSortedAppend}
-use Rattle.store.specs.FoundView.{FoundView, found_view, open_entry, seen_of, open_of, IsFound, is_least, keeps, let_in}
+use Rattle.store.specs.FoundView.{FoundView, found_view, open_entry, seen_of, open_of, IsFound, NoneExceed, is_least, keeps, let_in}
 use Rattle.store.proofs.lemmas.Offers.{offered-kept, offered-less, offered_first}
 use Rattle.grid.proofs.lemmas.Orders.{push_cmp_total}
 use Rattle.store.proofs.lemmas.Origins.{origin_total}
@@ -49,8 +49,8 @@ length_seen (suc start) [] le = absurd (omega arith)
 length_seen (suc start) (e ∷ es) le = ap suc (length_seen start es (omega arith))
 
 -- there are as many closed entries as the place says
-pub seen_long : (boxes start : ℕ) (es : List Closed) (inbox : List (Entry Scene Push)) (v : FoundView) → IsFound start es → found_view boxes start es inbox ≡ v → length v.seen ≡ start
-seen_long boxes start es inbox v found e = ap (λ (u : FoundView). length u.seen) (sym e) ∙ length_seen start es found.within
+pub seen_long : (boxes squares start : ℕ) (es : List Closed) (inbox : List (Entry Scene Push)) (v : FoundView) → IsFound start es → found_view boxes squares start es inbox ≡ v → length v.seen ≡ start
+seen_long boxes squares start es inbox v found e = ap (λ (u : FoundView). length u.seen) (sym e) ∙ length_seen start es found.within
 
 -- an entry stands at each place
 pub entry_at : {A : Type 0} (xs : List A) (i : ℕ) → i < length xs → (x : A) × (slice_get xs i ≡ Some x)
@@ -120,10 +120,10 @@ look_open m (w ∷ ws) = go (same_scene m w.0) (look_open m ws)
     go true t = refl
     go false t = t
 
-not_below : (i n : ℕ) → n ≤ i → ltb i n ≡ false
+pub not_below : (i n : ℕ) → n ≤ i → ltb i n ≡ false
 not_below i n le = grind (arith, nat_tests)
 
-below : (i n : ℕ) → i < n → ltb i n ≡ true
+pub below : (i n : ℕ) → i < n → ltb i n ≡ true
 below i n lt = grind (arith, nat_tests)
 
 at_least : (test : Scene → Bool) (k i : ℕ) (xs : List Scene) → position_from test k xs ≡ Some i → k ≤ i
@@ -144,17 +144,17 @@ placed_from m k i (x ∷ es) (suc start) e = go (same_scene m x.0) e (placed_fro
     go true f t = sym (below i (k + suc start) (omega (arith, same_Some k i f)))
     go false f t = let e : k + 1 + start ≡ k + suc start = omega arith in t f ∙ ap (ltb i) e
 
-placed : (m : Scene) (i start : ℕ) (es : List Closed) → position (same_scene m) (keys_of es) ≡ Some i → is_some (lookup (same_scene m) (seen_of start es)) ≡ ltb i start
+pub placed : (m : Scene) (i start : ℕ) (es : List Closed) → position (same_scene m) (keys_of es) ≡ Some i → is_some (lookup (same_scene m) (seen_of start es)) ≡ ltb i start
 placed m i start es e =
     let z : 0 + start ≡ start = omega arith in
     placed_from m 0 i es start (sym (position_from-zero (same_scene m) (keys_of es)) ∙ e) ∙ ap (ltb i) z
 
-no_some : {X : Type 0} (o : Option X) → is_some o ≡ false → o ≡ None
+pub no_some : {X : Type 0} (o : Option X) → is_some o ≡ false → o ≡ None
 no_some None e = refl
 no_some (Some x) e = cc
 
 -- what is looked up among all and is not closed is looked up among those that stand open
-look_rest : (m : Scene) (start : ℕ) (es : List Closed) → IsFound start es → lookup (same_scene m) (seen_of start es) ≡ None → lookup (same_scene m) es ≡ as_closed (origin_of (open_of start es) m)
+pub look_rest : (m : Scene) (start : ℕ) (es : List Closed) → IsFound start es → lookup (same_scene m) (seen_of start es) ≡ None → lookup (same_scene m) es ≡ as_closed (origin_of (open_of start es) m)
 look_rest m start es found none =
     ap (lookup (same_scene m)) (split start es found) ∙ look_append m (seen_of start es) (map closed_entry (open_of start es)) none ∙ look_open m (open_of start es)
 
@@ -287,7 +287,7 @@ open_more start place es e le at = ap (map open_entry) (copied_more es start pla
 
 -- ---- origins that rise
 
-least_first : {A : Type 0} {R : A → A → Ordering} → IsTotalOrder R → (a b c : A) → is_gt (R a b) ≡ false → is_gt (R b c) ≡ false → is_gt (R a c) ≡ false
+pub least_first : {A : Type 0} {R : A → A → Ordering} → IsTotalOrder R → (a b c : A) → is_gt (R a b) ≡ false → is_gt (R b c) ≡ false → is_gt (R a c) ≡ false
 least_first {A} {R} total a b c e f = go (R a b) refl (R b c) refl e f
   where
     back : R b c ≡ Equal → R a c ≡ R a b
@@ -302,11 +302,7 @@ least_first {A} {R} total a b c e f = go (R a b) refl (R b c) refl e f
     go Equal p y q g h = ap is_gt (total.congr a b c p ∙ q) ∙ h
     go Greater p y q g h = cc
 
--- no entry has a greater origin than this one
-abbrev pub NoneExceed : List (Entry Scene Push) → Origin Push → Type 0
-NoneExceed ws o = (i : ℕ) (x : Entry Scene Push) → slice_get ws i ≡ Some x → is_gt (origin_cmp push_cmp x.1 o) ≡ false
-
-not_greater : (a b : Origin Push) → is_lt (origin_cmp push_cmp b a) ≡ false → is_gt (origin_cmp push_cmp a b) ≡ false
+pub not_greater : (a b : Origin Push) → is_lt (origin_cmp push_cmp b a) ≡ false → is_gt (origin_cmp push_cmp a b) ≡ false
 not_greater a b e = ap is_gt ((origin_total push_cmp_total).antisymm a b) ∙ turned (origin_cmp push_cmp b a) e
   where
     turned : (o : Ordering) → is_lt o ≡ false → is_gt (ordering_reverse o) ≡ false

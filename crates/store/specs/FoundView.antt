@@ -1,7 +1,7 @@
 -- What contracts see of the positions that a book has found.
-use Rattle.std.specs.Prelude.{◌≡◌, ℕ, ◌≤◌, Bool, false, ◌==◌, ◌||◌, not, is_some, List, [], ◌∷◌, ◌++◌, fold, map, take, drop, length, slice_get, Option, Some, None, if◌then◌else◌}
+use Rattle.std.specs.Prelude.{⊤, ◌≡◌, ℕ, ◌<◌, ◌≤◌, Bool, false, ◌==◌, ◌||◌, not, is_some, List, [], ◌∷◌, ◌++◌, fold, map, take, drop, length, slice_get, Option, Some, None, if◌then◌else◌}
 use Rattle.std.specs.Map.{lookup}
-use Rattle.std.specs.Ordering.{is_lt}
+use Rattle.std.specs.Ordering.{is_gt, is_lt}
 use Rattle.grid.specs.declared.dir.Dir.TheVariants.{D}
 use Rattle.grid.specs.declared.square.Push.{Push}
 use Rattle.grid.specs.Board.{Scene, push_cmp}
@@ -10,9 +10,11 @@ use Rattle.store.specs.Entries.{Origin, Entry, origin_cmp, same_scene, Closed, o
 use Rattle.successors.specs.Shares.{share_of}
 use Rattle.store.specs.Entering.{closed_entry, is_wanted_in, entered, offered}
 
--- how many boxes each has at most, the closed positions in their order, and those that stand open
+-- how many boxes each has at most, how many squares the grid has, the closed positions in their order, and those that
+-- stand open
 pub record FoundView : Type 0 where
   pub boxes : ℕ
+  pub squares : ℕ
   pub seen : List Closed
   pub waiting : List (Entry Scene Push)
 
@@ -41,12 +43,16 @@ abbrev pub all_let_in : List Closed → List (Entry Scene Push) → List (Entry 
 all_let_in seen waiting offers = fold (let_in seen) waiting offers
 
 -- what is found: of the entries those before a place are closed, and with those from it on stands open what the inbox has
-abbrev pub found_view : ℕ → ℕ → List Closed → List (Entry Scene Push) → FoundView
-found_view boxes start es inbox = record { boxes = boxes; seen = seen_of start es; waiting = all_let_in (seen_of start es) (open_of start es) inbox }
+abbrev pub found_view : ℕ → ℕ → ℕ → List Closed → List (Entry Scene Push) → FoundView
+found_view boxes squares start es inbox = record { boxes = boxes; squares = squares; seen = seen_of start es; waiting = all_let_in (seen_of start es) (open_of start es) inbox }
+
+-- it is the same with these entries and that inbox, and with others and another one
+abbrev pub StaysFound : ℕ → List Closed → List (Entry Scene Push) → List Closed → List (Entry Scene Push) → Type 0
+StaysFound start es inbox others other = (boxes squares : ℕ) → found_view boxes squares start others other ≡ found_view boxes squares start es inbox
 
 -- what is found once the wanted successors of a rank have entered
 abbrev pub with_entered : FoundView → ℕ → ℕ → ℕ → List Successor → FoundView
-with_entered v shares share rank ss = record { boxes = v.boxes; seen = v.seen; waiting = fold (entered (is_wanted_in v.seen shares share) rank) v.waiting ss }
+with_entered v shares share rank ss = record { boxes = v.boxes; squares = v.squares; seen = v.seen; waiting = fold (entered (is_wanted_in v.seen shares share) rank) v.waiting ss }
 
 -- the offer of a rank's successor, if its position is of the share
 abbrev pub offer_of : ℕ → ℕ → ℕ → Successor → List (Entry Scene Push)
@@ -71,9 +77,23 @@ is_least (Some p) o = not (is_lt (origin_cmp push_cmp o p))
 abbrev pub keeps : List Closed → List (Entry Scene Push) → Scene → Origin Push → Bool
 keeps seen waiting m o = is_some (lookup (same_scene m) seen) || is_least (origin_of waiting m) o
 
--- each successor's position has at most so many boxes
-abbrev pub HaveFew : ℕ → List Successor → Type 0
-HaveFew boxes ss = (i : ℕ) (s : Successor) → slice_get ss i ≡ Some s → length s.position.boxes ≤ boxes
+-- each of the squares is less than so many
+abbrev pub AreBelow : ℕ → List ℕ → Type 0
+AreBelow n [] = ⊤
+AreBelow n (x ∷ xs) = (x < n) × AreBelow n xs
+
+-- a position of at most so many boxes on a grid of so many squares
+pub record FitsGrid (boxes squares : ℕ) (m : Scene) : Type 0 where
+  pub few : length m.boxes ≤ boxes
+  pub below : AreBelow squares (m.player ∷ m.boxes)
+
+-- each successor's position is such a one, for the boxes and the squares of what is found
+pub record AllFit (v : FoundView) (ss : List Successor) : Type 0 where
+  pub each : (i : ℕ) (s : Successor) → slice_get ss i ≡ Some s → FitsGrid v.boxes v.squares s.position
+
+-- no origin of those that stand open comes after this one
+abbrev pub NoneExceed : List (Entry Scene Push) → Origin Push → Type 0
+NoneExceed ws o = (i : ℕ) (x : Entry Scene Push) → slice_get ws i ≡ Some x → is_gt (origin_cmp push_cmp x.1 o) ≡ false
 
 -- what is closed at first: a position with no origin, or nothing
 abbrev pub first_entries : Option Scene → List Closed

@@ -3,3 +3,4 @@ pub mod Packed
 pub mod Placing
 pub mod Offers
 pub mod Copies
+pub mod KeyRows

@@ -15,11 +15,11 @@ use std::alloc::{AllocError, Global};
 use std::cmp::Ordering;
 
 /// Puts what stands open, from the start on, into the order of the origins. An error leaves all as it was.
-pub(crate) fn arrange<const N: usize>(
-    table: &mut IndexMap<Key<N>, ClosedOrigin>,
+pub(crate) fn arrange<const N: usize, const M: usize>(
+    table: &mut IndexMap<Key<N, M>, ClosedOrigin>,
     start: usize,
 ) -> Result<(), AllocError>
-    requires width { N ≤ MAX_BOXES }
+    requires width { (N ≤ MAX_BOXES + 1) × (M ≤ MAX_BOXES + 1) }
     requires found { IsFound start table.old.entries }
     ensures ok { OnOk result (IsSortedAppend (seen_of start table.old.entries) (open_of start table.old.entries) table.new.entries) }
     ensures err { OnErr result (table.new.entries ≡ table.old.entries) }
@@ -35,8 +35,11 @@ pub(crate) fn arrange<const N: usize>(
 }
 
 // Whether the origins of what stands open rise already, as they do where the ranks were handed back in their order.
-fn do_rise<const N: usize>(table: &IndexMap<Key<N>, ClosedOrigin>, start: usize) -> bool
-    requires width { N ≤ MAX_BOXES }
+fn do_rise<const N: usize, const M: usize>(
+    table: &IndexMap<Key<N, M>, ClosedOrigin>,
+    start: usize,
+) -> bool
+    requires width { (N ≤ MAX_BOXES + 1) × (M ≤ MAX_BOXES + 1) }
     requires within { start ≤ length table.now.entries }
     ensures rise { result ≡ true → RiseByOrigin (open_of start table.now.entries) }
     ensures distinct { IsDistinct same_scene (map (λ e. e.0) table.now.entries) }
@@ -53,8 +56,11 @@ fn do_rise<const N: usize>(table: &IndexMap<Key<N>, ClosedOrigin>, start: usize)
 }
 
 // The origin at a place, which is one of what stands open.
-fn origin_at<const N: usize>(table: &IndexMap<Key<N>, ClosedOrigin>, place: usize) -> Origin
-    requires width { N ≤ MAX_BOXES }
+fn origin_at<const N: usize, const M: usize>(
+    table: &IndexMap<Key<N, M>, ClosedOrigin>,
+    place: usize,
+) -> Origin
+    requires width { (N ≤ MAX_BOXES + 1) × (M ≤ MAX_BOXES + 1) }
     requires within { place < length table.now.entries }
     ensures { (e : Closed) → slice_get table.now.entries place ≡ Some e → result ≡ origin_in e.1 }
 {
@@ -65,11 +71,11 @@ fn origin_at<const N: usize>(table: &IndexMap<Key<N>, ClosedOrigin>, place: usiz
 }
 
 // The rows of what stands open.
-fn rows_from<const N: usize>(
-    table: &IndexMap<Key<N>, ClosedOrigin>,
+fn rows_from<const N: usize, const M: usize>(
+    table: &IndexMap<Key<N, M>, ClosedOrigin>,
     start: usize,
 ) -> Result<Vec<(Origin, usize)>, AllocError>
-    requires width { N ≤ MAX_BOXES }
+    requires width { (N ≤ MAX_BOXES + 1) × (M ≤ MAX_BOXES + 1) }
     requires within { start ≤ length table.now.entries }
     ensures { IfOk result (λ rows. rows.items ≡ rows_of 0 (open_of start table.now.entries)) }
 {
@@ -106,12 +112,12 @@ fn targets_of(alloc: Global, rows: &[(Origin, usize)]) -> Result<Vec<usize>, All
 }
 
 // Brings each entry from the start on to its target, by exchanges of two.
-fn exchange<const N: usize>(
-    table: &mut IndexMap<Key<N>, ClosedOrigin>,
+fn exchange<const N: usize, const M: usize>(
+    table: &mut IndexMap<Key<N, M>, ClosedOrigin>,
     start: usize,
     targets: Vec<usize>,
 )
-    requires width { N ≤ MAX_BOXES }
+    requires width { (N ≤ MAX_BOXES + 1) × (M ≤ MAX_BOXES + 1) }
     requires all { length table.old.entries ≡ start + length targets.items }
     requires apart { AreApart targets.items }
     ensures { AreBrought start table.old.entries targets.items table.new.entries }

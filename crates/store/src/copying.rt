@@ -1,7 +1,8 @@
 //! Entries of a map that are copied into lists of squares and of origins.
-ghost use Rattle.std.specs.Prelude.{◌≡◌, ◌≤◌, IfOk, OnOk, drop, length, map, take};
+ghost use Rattle.std.specs.Prelude.{◌≡◌, ◌+◌, ◌++◌, ◌≤◌, IfOk, OnOk, drop, length, map, take};
 ghost use Rattle.store.specs.Entries.{origins_of};
 ghost use Rattle.store.specs.inside.Copies.{IsCopied, squares_of};
+ghost use Rattle.std.specs.Prelude.{◌≡◌, ◌≤◌, IfOk, OnOk, drop, length, map, take};
 
 use crate::key::Key;
 use crate::origin::{ClosedOrigin, Origin};
@@ -10,16 +11,16 @@ use indexmap::IndexMap;
 use std::alloc::{AllocError, Global};
 
 /// Appends the squares of a position, and its origin if it has one.
-pub(crate) fn copy_entry<const N: usize>(
-    key: &Key<N>,
+pub(crate) fn copy_entry<const N: usize, const M: usize>(
+    key: &Key<N, M>,
     origin: ClosedOrigin,
     squares: &mut Vec<Square>,
     origins: &mut Vec<Origin>,
 ) -> Result<(), AllocError>
-    requires { N ≤ MAX_BOXES }
+    requires { (N ≤ MAX_BOXES + 1) × (M ≤ MAX_BOXES + 1) }
     ensures { OnOk result (IsCopied (key.now, origin) squares.old.items squares.new.items origins.old.items origins.new.items) }
 {
-    squares.extend_from_slice(key.boxes())?;
+    copy_boxes(key, squares)?;
     squares.push(key.player())?;
     if let Some(origin) = origin.get() {
         origins.push(origin)?;
@@ -27,16 +28,30 @@ pub(crate) fn copy_entry<const N: usize>(
     Ok(())
 }
 
+// Appends the boxes' squares of a position.
+fn copy_boxes<const N: usize, const M: usize>(
+    key: &Key<N, M>,
+    squares: &mut Vec<Square>,
+) -> Result<(), AllocError>
+    requires { (N ≤ MAX_BOXES + 1) × (M ≤ MAX_BOXES + 1) }
+    ensures { OnOk result (squares.new.items ≡ squares.old.items ++ key.now.boxes) }
+{
+    for place in 0..key.len() {
+        squares.push(key.box_at(place))?;
+    }
+    Ok(())
+}
+
 /// What stands in a map from a place up to another: the squares of the positions, which have at most so many boxes, and
 /// the origins of those that have one.
-pub(crate) fn copy_from<const N: usize>(
+pub(crate) fn copy_from<const N: usize, const M: usize>(
     alloc: Global,
-    table: &IndexMap<Key<N>, ClosedOrigin>,
+    table: &IndexMap<Key<N, M>, ClosedOrigin>,
     boxes: usize,
     from: usize,
     to: usize,
 ) -> Result<(Vec<Square>, Vec<Origin>), AllocError>
-    requires width { N ≤ MAX_BOXES }
+    requires width { (N ≤ MAX_BOXES + 1) × (M ≤ MAX_BOXES + 1) }
     requires order { from ≤ to }
     requires within { to ≤ length table.now.entries }
     requires boxes { boxes ≤ MAX_BOXES }

@@ -2,9 +2,11 @@
 ghost use Rattle.std.specs.Prelude.{◌≡◌, ℕ, ◌+◌, ◌<◌, ◌≤◌, [], length, map, drop, nat_lt, option_map, slice_get, IfOk, IfSome, OnOk, OnErr, Some};
 ghost use Rattle.store.specs.Entries.{Closed, origins_of};
 ghost use Rattle.store.specs.Entering.{IsSortedAppend};
-ghost use Rattle.store.specs.FoundView.{HaveFew, first_entries, origin_in, with_entered};
+ghost use Rattle.store.specs.FoundView.{AllFit, FitsGrid, first_entries, origin_in, with_entered};
+ghost use Rattle.store.specs.Widths.{tables_view};
 ghost use Rattle.store.specs.inside.Copies.{IsCopied, squares_of};
 
+use crate::key::BYTE_SQUARES;
 use crate::origin::{MOST_RANKS, Origin};
 use crate::table::Table;
 use grid::{MAX_BOXES, Position, Square};
@@ -17,26 +19,42 @@ const NARROW: usize = 3;
 
 const MIDDLE: usize = 11;
 
+const HALF: usize = 19;
+
 const WIDE: usize = 27;
 
 const BROAD: usize = 35;
 
-// What is found, with keys of one of the widths.
+// What is found, with keys of one of the widths, whose squares have a low byte alone or two.
 #[derive(Debug, Drop)]
 pub(crate) enum Tables {
-    Narrow(Table<NARROW>),
-    Middle(Table<MIDDLE>),
-    Wide(Table<WIDE>),
-    Broad(Table<BROAD>),
-    Widest(Table<MAX_BOXES>),
+    NarrowLow(Table<4, 0>),
+    MiddleLow(Table<12, 0>),
+    HalfLow(Table<20, 0>),
+    WideLow(Table<28, 0>),
+    BroadLow(Table<36, 0>),
+    WidestLow(Table<65, 0>),
+    Narrow(Table<4, 4>),
+    Middle(Table<12, 12>),
+    Half(Table<20, 20>),
+    Wide(Table<28, 28>),
+    Broad(Table<36, 36>),
+    Widest(Table<65, 65>),
 }
 
 // The same call on what is found, whatever the width of its keys.
 macro_rules! in_each {
     ($tables:expr, $table:ident => $call:expr) => {
         match $tables {
+            Tables::NarrowLow($table) => $call,
+            Tables::MiddleLow($table) => $call,
+            Tables::HalfLow($table) => $call,
+            Tables::WideLow($table) => $call,
+            Tables::BroadLow($table) => $call,
+            Tables::WidestLow($table) => $call,
             Tables::Narrow($table) => $call,
             Tables::Middle($table) => $call,
+            Tables::Half($table) => $call,
             Tables::Wide($table) => $call,
             Tables::Broad($table) => $call,
             Tables::Widest($table) => $call,
@@ -61,23 +79,23 @@ impl Model for Found {
 
 impl Found {
     /// What is found at first: a closed position, or nothing. The only error is that memory was refused.
-    pub fn of(alloc: Global, boxes: usize, first: &Option<Position>) -> Result<Found, AllocError>
+    pub fn of(
+        alloc: Global,
+        boxes: usize,
+        squares: usize,
+        first: &Option<Position>,
+    ) -> Result<Found, AllocError>
         requires bound { boxes ≤ MAX_BOXES }
-        requires few { IfSome first.now (λ m. length m.boxes ≤ boxes) }
+        requires few { IfSome first.now (FitsGrid boxes squares) }
         ensures boxes { IfOk result (λ found. found.boxes ≡ boxes) }
+        ensures squares { IfOk result (λ found. found.squares ≡ squares) }
         ensures seen { IfOk result (λ found. found.seen ≡ first_entries first.now) }
         ensures waiting { IfOk result (λ found. found.waiting ≡ []) }
     {
-        let tables = if boxes <= NARROW {
-            Tables::Narrow(Table::of(alloc, boxes, first)?)
-        } else if boxes <= MIDDLE {
-            Tables::Middle(Table::of(alloc, boxes, first)?)
-        } else if boxes <= WIDE {
-            Tables::Wide(Table::of(alloc, boxes, first)?)
-        } else if boxes <= BROAD {
-            Tables::Broad(Table::of(alloc, boxes, first)?)
+        let tables = if squares <= BYTE_SQUARES {
+            low_tables(alloc, boxes, squares, first)?
         } else {
-            Tables::Widest(Table::of(alloc, boxes, first)?)
+            word_tables(alloc, boxes, squares, first)?
         };
         Ok(Found { tables })
     }
@@ -132,9 +150,10 @@ impl Found {
     }
 
     /// Whether there would be more positions than a limit once the wanted successors of a rank have entered.
+    #[tactic(auto, using(crate::proofs::Bytes::carried))]
     pub fn passes(&mut self, limit: usize, share: u8, shares: u8, successors: &[Successor]) -> bool
         requires shares { 0 < shares }
-        requires few { HaveFew self.old.boxes successors.now }
+        requires few { AllFit self.old successors.now }
         requires within { length self.old.seen + length self.old.waiting ≤ limit }
         ensures passed { (rank : ℕ) → result ≡ nat_lt limit (length self.old.seen + length (with_entered self.old shares share rank successors.now).waiting) }
         ensures same { self.new ≡ self.old }
@@ -144,6 +163,7 @@ impl Found {
 
     /// Enters the wanted successors of a parcel's rank, one after the other; so many offers may wait before they do. An
     /// error leaves all as it was.
+    #[tactic(auto, using(crate::proofs::Bytes::carried))]
     pub fn enter_all(
         &mut self,
         most: usize,
@@ -153,7 +173,7 @@ impl Found {
     ) -> Result<(), AllocError>
         requires share { share < shares }
         requires rank { parcel.now.rank < MOST_RANKS }
-        requires few { HaveFew self.old.boxes parcel.now.successors }
+        requires few { AllFit self.old parcel.now.successors }
         ensures ok { OnOk result (self.new ≡ with_entered self.old shares share parcel.now.rank parcel.now.successors) }
         ensures err { OnErr result (self.new ≡ self.old) }
     {
@@ -185,10 +205,72 @@ impl Found {
     /// Closes what stands open, in the order of the origins. An error leaves all as it was.
     pub fn close(&mut self) -> Result<(), AllocError>
         ensures boxes { self.new.boxes ≡ self.old.boxes }
+        ensures squares { self.new.squares ≡ self.old.squares }
         ensures seen { OnOk result (IsSortedAppend self.old.seen self.old.waiting self.new.seen) }
         ensures waiting { OnOk result (self.new.waiting ≡ []) }
         ensures err { OnErr result (self.new ≡ self.old) }
     {
         in_each!(&mut self.tables, table => table.close())
     }
+}
+
+// What is found at first on a grid whose squares have numbers of one byte: a closed position, or nothing.
+fn low_tables(
+    alloc: Global,
+    boxes: usize,
+    squares: usize,
+    first: &Option<Position>,
+) -> Result<Tables, AllocError>
+    requires bound { boxes ≤ MAX_BOXES }
+    requires bytes { squares ≤ BYTE_SQUARES }
+    requires few { IfSome first.now (FitsGrid boxes squares) }
+    ensures boxes { IfOk result (λ tables. (tables_view tables).boxes ≡ boxes) }
+    ensures squares { IfOk result (λ tables. (tables_view tables).squares ≡ squares) }
+    ensures seen { IfOk result (λ tables. (tables_view tables).seen ≡ first_entries first.now) }
+    ensures waiting { IfOk result (λ tables. (tables_view tables).waiting ≡ []) }
+{
+    let tables = if boxes <= NARROW {
+        Tables::NarrowLow(Table::of(alloc, boxes, squares, first)?)
+    } else if boxes <= MIDDLE {
+        Tables::MiddleLow(Table::of(alloc, boxes, squares, first)?)
+    } else if boxes <= HALF {
+        Tables::HalfLow(Table::of(alloc, boxes, squares, first)?)
+    } else if boxes <= WIDE {
+        Tables::WideLow(Table::of(alloc, boxes, squares, first)?)
+    } else if boxes <= BROAD {
+        Tables::BroadLow(Table::of(alloc, boxes, squares, first)?)
+    } else {
+        Tables::WidestLow(Table::of(alloc, boxes, squares, first)?)
+    };
+    Ok(tables)
+}
+
+// What is found at first: a closed position, or nothing.
+fn word_tables(
+    alloc: Global,
+    boxes: usize,
+    squares: usize,
+    first: &Option<Position>,
+) -> Result<Tables, AllocError>
+    requires bound { boxes ≤ MAX_BOXES }
+    requires few { IfSome first.now (FitsGrid boxes squares) }
+    ensures boxes { IfOk result (λ tables. (tables_view tables).boxes ≡ boxes) }
+    ensures squares { IfOk result (λ tables. (tables_view tables).squares ≡ squares) }
+    ensures seen { IfOk result (λ tables. (tables_view tables).seen ≡ first_entries first.now) }
+    ensures waiting { IfOk result (λ tables. (tables_view tables).waiting ≡ []) }
+{
+    let tables = if boxes <= NARROW {
+        Tables::Narrow(Table::of(alloc, boxes, squares, first)?)
+    } else if boxes <= MIDDLE {
+        Tables::Middle(Table::of(alloc, boxes, squares, first)?)
+    } else if boxes <= HALF {
+        Tables::Half(Table::of(alloc, boxes, squares, first)?)
+    } else if boxes <= WIDE {
+        Tables::Wide(Table::of(alloc, boxes, squares, first)?)
+    } else if boxes <= BROAD {
+        Tables::Broad(Table::of(alloc, boxes, squares, first)?)
+    } else {
+        Tables::Widest(Table::of(alloc, boxes, squares, first)?)
+    };
+    Ok(tables)
 }

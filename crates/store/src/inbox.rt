@@ -4,7 +4,8 @@ ghost use Rattle.std.specs.Vec.{vec_capacity};
 ghost use Rattle.indexmap.specs.IndexMap.{spare};
 ghost use Rattle.store.specs.inside.Offers.{offer_in, offers_at};
 ghost use Rattle.successors.specs.inside.Sums.{AreSums, scene_sum};
-ghost use Rattle.store.specs.FoundView.{HaveFew, IsFound, found_view, offer_of, offers_of};
+ghost use Rattle.store.specs.inside.KeyRows.{AllSuit, Suits};
+ghost use Rattle.store.specs.FoundView.{IsFound, NoneExceed, StaysFound, offer_of, offers_of, open_of};
 
 use crate::entering::enter_all;
 use crate::key::Key;
@@ -35,58 +36,64 @@ pub fn most_waiting(worker: u8, workers: u8, share: u8) -> usize {
 
 /// Makes room for the offers of a rank's successors, in the inbox and in the map that they are to enter; where
 /// as many wait already as may, these enter first. What is found stays as it was. The only error is that memory was refused.
-pub(crate) fn make_room<const N: usize>(
-    table: &mut IndexMap<Key<N>, ClosedOrigin>,
+pub(crate) fn make_room<const N: usize, const M: usize>(
+    table: &mut IndexMap<Key<N, M>, ClosedOrigin>,
     start: usize,
-    inbox: &mut Vec<(Key<N>, Origin)>,
+    last: &mut Origin,
+    inbox: &mut Vec<(Key<N, M>, Origin)>,
     most: usize,
     successors: &[Successor],
 ) -> Result<(), AllocError>
-    requires width { N ≤ MAX_BOXES }
+    requires width { (N ≤ MAX_BOXES + 1) × (M ≤ MAX_BOXES + 1) }
     requires room { length inbox.old.items ≤ spare table.old }
     requires found { IsFound start table.old.entries }
+    requires last { NoneExceed (open_of start table.old.entries) last.old }
     ensures found { IsFound start table.new.entries }
-    ensures same { (boxes : ℕ) → found_view boxes start table.new.entries inbox.new.items ≡ found_view boxes start table.old.entries inbox.old.items }
+    ensures last { NoneExceed (open_of start table.new.entries) last.new }
+    ensures same { StaysFound start table.old.entries inbox.old.items table.new.entries inbox.new.items }
     ensures room { length inbox.new.items ≤ spare table.new }
     ensures ok { OnOk result ((length inbox.new.items + length successors.now ≤ spare table.new) × (vec_len inbox.new + length successors.now ≤ vec_capacity inbox.new)) }
 {
-    enter_if_full(table, start, inbox, most);
+    enter_if_full(table, start, last, inbox, most);
     let more = successors.len();
     table.reserve(inbox.len() + more)?;
     inbox.reserve(more)
 }
 
 // The offers of an inbox enter, if as many wait as may. What is found stays as it was.
-fn enter_if_full<const N: usize>(
-    table: &mut IndexMap<Key<N>, ClosedOrigin>,
+fn enter_if_full<const N: usize, const M: usize>(
+    table: &mut IndexMap<Key<N, M>, ClosedOrigin>,
     start: usize,
-    inbox: &mut Vec<(Key<N>, Origin)>,
+    last: &mut Origin,
+    inbox: &mut Vec<(Key<N, M>, Origin)>,
     most: usize,
 )
-    requires width { N ≤ MAX_BOXES }
+    requires width { (N ≤ MAX_BOXES + 1) × (M ≤ MAX_BOXES + 1) }
     requires room { length inbox.old.items ≤ spare table.old }
     requires found { IsFound start table.old.entries }
+    requires last { NoneExceed (open_of start table.old.entries) last.old }
     ensures found { IsFound start table.new.entries }
-    ensures same { (boxes : ℕ) → found_view boxes start table.new.entries inbox.new.items ≡ found_view boxes start table.old.entries inbox.old.items }
+    ensures last { NoneExceed (open_of start table.new.entries) last.new }
+    ensures same { StaysFound start table.old.entries inbox.old.items table.new.entries inbox.new.items }
     ensures room { length inbox.new.items ≤ spare table.new }
 {
     if inbox.len() >= most {
-        enter_all(table, start, inbox);
+        enter_all(table, start, last, inbox);
     }
 }
 
 /// Appends the offers of a parcel's successors that are of the share. Where they are dealt to as many shares, those of
 /// other shares are not looked at.
-pub(crate) fn append_parcel<const N: usize>(
-    inbox: &mut Vec<(Key<N>, Origin)>,
+pub(crate) fn append_parcel<const N: usize, const M: usize>(
+    inbox: &mut Vec<(Key<N, M>, Origin)>,
     share: u8,
     shares: u8,
     parcel: &Parcel<'_>,
 )
-    requires width { N ≤ MAX_BOXES }
+    requires width { (N ≤ MAX_BOXES + 1) × (M ≤ MAX_BOXES + 1) }
     requires share { share < shares }
     requires rank { parcel.now.rank < MOST_RANKS }
-    requires few { HaveFew N parcel.now.successors }
+    requires few { AllSuit N M parcel.now.successors }
     requires room { vec_len inbox.old + length parcel.now.successors ≤ vec_capacity inbox.old }
     ensures { inbox.new.items ≡ inbox.old.items ++ offers_of shares share parcel.now.rank parcel.now.successors }
 {
@@ -99,15 +106,15 @@ pub(crate) fn append_parcel<const N: usize>(
 }
 
 // Appends the offers of those of a rank's successors that stand at these places.
-fn append_dealt<const N: usize>(
-    inbox: &mut Vec<(Key<N>, Origin)>,
+fn append_dealt<const N: usize, const M: usize>(
+    inbox: &mut Vec<(Key<N, M>, Origin)>,
     rank: u64,
     successors: &[Successor],
     places: &[u8],
 )
-    requires width { N ≤ MAX_BOXES }
+    requires width { (N ≤ MAX_BOXES + 1) × (M ≤ MAX_BOXES + 1) }
     requires rank { rank < MOST_RANKS }
-    requires few { HaveFew N successors.now }
+    requires few { AllSuit N M successors.now }
     requires places { (i p : ℕ) → slice_get places.now i ≡ Some p → p < length successors.now }
     requires room { vec_len inbox.old + length places.now ≤ vec_capacity inbox.old }
     ensures { inbox.new.items ≡ inbox.old.items ++ offers_at rank successors.now places.now }
@@ -119,18 +126,18 @@ fn append_dealt<const N: usize>(
 
 // Appends the offers of a rank's successors that are of the share, which the sum of each tells. The number of shares is
 // looked at once, so that no successor waits for a division where it is a power of two.
-fn append_all<const N: usize>(
-    inbox: &mut Vec<(Key<N>, Origin)>,
+fn append_all<const N: usize, const M: usize>(
+    inbox: &mut Vec<(Key<N, M>, Origin)>,
     share: u8,
     shares: u8,
     rank: u64,
     successors: &[Successor],
     sums: &[u32],
 )
-    requires width { N ≤ MAX_BOXES }
+    requires width { (N ≤ MAX_BOXES + 1) × (M ≤ MAX_BOXES + 1) }
     requires shares { 0 < shares }
     requires rank { rank < MOST_RANKS }
-    requires few { HaveFew N successors.now }
+    requires few { AllSuit N M successors.now }
     requires sums { AreSums successors.now sums.now }
     requires room { vec_len inbox.old + length successors.now ≤ vec_capacity inbox.old }
     ensures { inbox.new.items ≡ inbox.old.items ++ offers_of shares share rank successors.now }
@@ -147,18 +154,18 @@ fn append_all<const N: usize>(
 
 // Appends the offers of a rank's successors that are of the share, one after the other.
 #[inline(always)]
-fn append_each<const N: usize>(
-    inbox: &mut Vec<(Key<N>, Origin)>,
+fn append_each<const N: usize, const M: usize>(
+    inbox: &mut Vec<(Key<N, M>, Origin)>,
     share: u8,
     shares: u8,
     rank: u64,
     successors: &[Successor],
     sums: &[u32],
 )
-    requires width { N ≤ MAX_BOXES }
+    requires width { (N ≤ MAX_BOXES + 1) × (M ≤ MAX_BOXES + 1) }
     requires shares { 0 < shares }
     requires rank { rank < MOST_RANKS }
-    requires few { HaveFew N successors.now }
+    requires few { AllSuit N M successors.now }
     requires sums { AreSums successors.now sums.now }
     requires room { vec_len inbox.old + length successors.now ≤ vec_capacity inbox.old }
     ensures { inbox.new.items ≡ inbox.old.items ++ offers_of shares share rank successors.now }
@@ -170,18 +177,18 @@ fn append_each<const N: usize>(
 
 // Appends the offer of a rank's successor, if it is of the share, which its sum tells.
 #[inline(always)]
-fn append<const N: usize>(
-    inbox: &mut Vec<(Key<N>, Origin)>,
+fn append<const N: usize, const M: usize>(
+    inbox: &mut Vec<(Key<N, M>, Origin)>,
     share: u8,
     shares: u8,
     rank: u64,
     successor: &Successor,
     sum: u32,
 )
-    requires width { N ≤ MAX_BOXES }
+    requires width { (N ≤ MAX_BOXES + 1) × (M ≤ MAX_BOXES + 1) }
     requires shares { 0 < shares }
     requires rank { rank < MOST_RANKS }
-    requires few { length successor.now.position.boxes ≤ N }
+    requires suits { Suits N M successor.now.position }
     requires sum { sum ≡ scene_sum successor.now.position }
     requires room { vec_len inbox.old < vec_capacity inbox.old }
     ensures items { inbox.new.items ≡ inbox.old.items ++ offer_of shares share rank successor.now }
@@ -196,10 +203,14 @@ fn append<const N: usize>(
 
 // Appends the offer of a rank's successor.
 #[inline(always)]
-fn append_offer<const N: usize>(inbox: &mut Vec<(Key<N>, Origin)>, rank: u64, successor: &Successor)
-    requires width { N ≤ MAX_BOXES }
+fn append_offer<const N: usize, const M: usize>(
+    inbox: &mut Vec<(Key<N, M>, Origin)>,
+    rank: u64,
+    successor: &Successor,
+)
+    requires width { (N ≤ MAX_BOXES + 1) × (M ≤ MAX_BOXES + 1) }
     requires rank { rank < MOST_RANKS }
-    requires few { length successor.now.position.boxes ≤ N }
+    requires suits { Suits N M successor.now.position }
     requires room { vec_len inbox.old < vec_capacity inbox.old }
     ensures items { inbox.new.items ≡ inbox.old.items ++ offer_in rank (Some successor.now) }
     ensures len { vec_len inbox.new ≡ vec_len inbox.old + 1 }

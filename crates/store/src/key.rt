@@ -1,85 +1,185 @@
-//! Positions in as few bytes as their boxes want, which is what a book holds.
-ghost use Rattle.std.specs.Prelude.{◌≡◌, ◌≤◌, true, nat_eq, length};
+//! Positions in as few bytes as their boxes and their grid want, which is what a book holds.
+ghost use Rattle.std.specs.Prelude.{◌≡◌, ◌+◌, ◌*◌, ◌/◌, ◌%◌, ◌<◌, ◌≤◌, ◌∷◌};
+ghost use Rattle.std.specs.Prelude.{Some, length, nat_eq, replicate, slice_get, true};
+ghost use Rattle.grid.specs.Rising.{is_rising};
 ghost use Rattle.std.specs.Cmp.Lexicographic.{pointwise};
 ghost use Rattle.store.specs.Entries.{same_scene};
+ghost use Rattle.store.specs.inside.KeyRows.{Suits, high_bytes, joined_bytes, low_bytes, padded};
 
 use arrayvec::ArrayVec;
-use grid::{MAX_BOXES, Position, Square, hash_squares};
+use grid::{MAX_BOXES, Position, Square};
 use std::hash::{Hash, Hasher};
 use std::marker::Model;
 
-/// A position of at most `N` boxes.
+/// How many values a byte has. Where a grid has no more squares, the number of each is in its low byte.
+pub(crate) const BYTE_SQUARES: usize = 256;
+
+/// A position of fewer than `N` boxes: the low bytes of the player's square and of the boxes', in rising order, and as many high
+/// bytes, or none where they are all 0. Zeros fill the rows.
 #[derive(Debug, Drop)]
-pub(crate) struct Key<const N: usize> {
-    boxes: ArrayVec<Square, N>,
-    player: Square,
+pub(crate) struct Key<const N: usize, const M: usize> {
+    boxes: u8,
+    low: [u8; N],
+    high: [u8; M],
 }
 
-impl<const N: usize> Model for Key<N> {
-    ghost use Rattle.std.specs.Prelude.{◌≡◌, ◌≤◌, true};
+impl<const N: usize, const M: usize> Model for Key<N, M> {
+    ghost use Rattle.std.specs.Prelude.{◌+◌, ◌≤◌};
     ghost use Rattle.grid.specs.Board.{Scene};
-    ghost use Rattle.grid.specs.Rising.{is_rising};
     ghost use Rattle.grid.specs.declared.limits.TheConstants.{MAX_BOXES};
+    ghost use Rattle.store.specs.inside.KeyRows.{IsKey, key_scene};
 
     ghost Value = { Scene };
 
-    ghost view = { λ a. record { boxes = a.boxes.items; player = a.player } };
+    ghost view = { λ a. key_scene a.boxes a.low a.high };
 
-    ghost inverse = { λ s. record { boxes = record { items = s.boxes }; player = s.player } };
-
-    ghost invariant = { λ a. (N ≤ MAX_BOXES) × (is_rising a.boxes.items ≡ true) };
+    ghost invariant = { λ a. ((N ≤ MAX_BOXES + 1) × (M ≤ MAX_BOXES + 1)) × IsKey N M a.boxes a.low a.high };
 }
 
-impl<const N: usize> Key<N> {
+impl<const N: usize, const M: usize> Key<N, M> {
     /// The key of a position.
-    pub(crate) fn of(position: &Position) -> Key<N>
-        requires width { N ≤ MAX_BOXES }
-        requires bound { length position.now.boxes ≤ N }
+    #[inline(always)]
+    pub(crate) fn of(position: &Position) -> Key<N, M>
+        requires width { (N ≤ MAX_BOXES + 1) × (M ≤ MAX_BOXES + 1) }
+        requires suits { Suits N M position.now }
         ensures { result ≡ position.now }
     {
-        let mut boxes = ArrayVec::new();
-        let _ = boxes.try_extend_from_slice(position.boxes());
+        let boxes = position.boxes();
+        let player = position.player();
+        let mut low = [0; N];
+        let mut high = [0; M];
+        write_low(&mut low, boxes, player);
+        write_high(&mut high, boxes, player);
         Key {
-            boxes,
-            player: position.player(),
+            boxes: boxes.len() as u8,
+            low,
+            high,
         }
     }
 
     /// An equal key.
-    pub(crate) fn copy(&self) -> Key<N>
+    #[inline(always)]
+    pub(crate) fn copy(&self) -> Key<N, M>
         ensures { result ≡ self.now }
     {
-        let mut boxes = ArrayVec::new();
-        let _ = boxes.try_extend_from_slice(self.boxes.as_slice());
         Key {
-            boxes,
-            player: self.player,
+            boxes: self.boxes,
+            low: self.low,
+            high: self.high,
         }
     }
 
     /// The position.
+    #[tactic(auto, using(crate::proofs::Bytes::one_more))]
     pub(crate) fn position(&self) -> Position
         ensures { result ≡ self.now }
     {
-        Position::of_rising(self.boxes.as_slice(), self.player)
+        let mut boxes: ArrayVec<Square, MAX_BOXES> = ArrayVec::new();
+        for place in 0..self.len() {
+            boxes.push(self.box_at(place));
+        }
+        Position::of_rising(boxes.as_slice(), self.player())
     }
 
-    /// The boxes' squares, in rising order.
-    pub(crate) fn boxes(&self) -> &[Square]
-        ensures { result.now ≡ self.now.boxes }
+    /// The number of boxes.
+    pub(crate) fn len(&self) -> usize
+        ensures len { result ≡ length self.now.boxes }
+        ensures few { result ≤ MAX_BOXES }
+        ensures rising { is_rising self.now.boxes ≡ true }
     {
-        self.boxes.as_slice()
+        self.boxes as usize
+    }
+
+    /// The square of a box, of which those before it in the rising order are so many.
+    pub(crate) fn box_at(&self, place: usize) -> Square
+        requires { place < length self.now.boxes }
+        ensures { slice_get self.now.boxes place ≡ Some result }
+    {
+        square_at(&self.low, &self.high, place + 1)
     }
 
     /// The player's square.
     pub(crate) fn player(&self) -> Square
         ensures { result ≡ self.now.player }
     {
-        self.player
+        square_at(&self.low, &self.high, 0)
     }
 }
 
-impl<const N: usize> PartialEq for Key<N> {
+// Writes the low bytes of squares to the beginning of a row of zeros.
+#[inline(always)]
+fn write_low(row: &mut [u8], boxes: &[Square], player: Square)
+    requires zeros { row.old ≡ replicate (length row.old) 0 }
+    requires room { length boxes.now < length row.old }
+    ensures { row.new ≡ padded (length row.old) (low_bytes (player ∷ boxes.now)) }
+{
+    let first = low_byte(player);
+    row[0] = first;
+    for (place, square) in boxes.iter().enumerate() {
+        let byte = low_byte(*square);
+        row[place + 1] = byte;
+    }
+}
+
+// Writes the high bytes of squares to the beginning of a row of zeros, if there is one.
+#[inline(always)]
+fn write_high(row: &mut [u8], boxes: &[Square], player: Square)
+    requires zeros { row.old ≡ replicate (length row.old) 0 }
+    requires room { 0 < length row.old → length boxes.now < length row.old }
+    ensures { row.new ≡ padded (length row.old) (high_bytes (player ∷ boxes.now)) }
+{
+    if row.len() <= boxes.len() {
+        return;
+    }
+    let first = high_byte(player);
+    row[0] = first;
+    for (place, square) in boxes.iter().enumerate() {
+        let byte = high_byte(*square);
+        row[place + 1] = byte;
+    }
+}
+
+// The square at a place of the rows.
+#[inline(always)]
+fn square_at(low: &[u8], high: &[u8], place: usize) -> Square
+    requires { place < length low.now }
+    ensures { slice_get (joined_bytes low.now high.now) place ≡ Some result }
+{
+    let least = byte_at(low, place);
+    if place >= high.len() {
+        return square_of(least, 0);
+    }
+    let most = byte_at(high, place);
+    square_of(least, most)
+}
+
+fn byte_at(bytes: &[u8], place: usize) -> u8
+    requires { place < length bytes.now }
+    ensures { slice_get bytes.now place ≡ Some result }
+{
+    bytes[place]
+}
+
+fn low_byte(square: Square) -> u8
+    ensures { result ≡ square % 256 }
+{
+    (square.0 % 256) as u8
+}
+
+fn high_byte(square: Square) -> u8
+    ensures { result ≡ square / 256 }
+{
+    (square.0 / 256) as u8
+}
+
+// The square with these bytes.
+fn square_of(low: u8, high: u8) -> Square
+    ensures { result ≡ low + 256 * high }
+{
+    Square(u16::from(low) + 256 * u16::from(high))
+}
+
+impl<const N: usize, const M: usize> PartialEq for Key<N, M> {
     ghost use Rattle.std.proofs.Common.{rules};
     ghost use Rattle.std.specs.Cmp.Rules.{comparing};
     ghost use Rattle.store.specs.Entries.{same_scene};
@@ -89,44 +189,53 @@ impl<const N: usize> PartialEq for Key<N> {
     ghost laws = { Prim.search (comparing, rules) };
 
     /// Whether the keys are of one position.
-    fn eq(&self, other: &Key<N>) -> bool
+    #[inline(always)]
+    fn eq(&self, other: &Key<N, M>) -> bool
         ensures { result ≡ same_scene self.now other.now }
     {
-        same_squares(self.boxes.as_slice(), other.boxes.as_slice()) && self.player == other.player
+        let same_low = same_bytes(&self.low, &other.low);
+        let same_high = same_bytes(&self.high, &other.high);
+        (self.boxes == other.boxes) & same_low & same_high
     }
 }
 
-impl<const N: usize> Eq for Key<N> {
+impl<const N: usize, const M: usize> Eq for Key<N, M> {
     ghost use Rattle.std.proofs.Common.{rules};
     ghost use Rattle.std.specs.Cmp.Rules.{comparing};
 
     ghost laws = { Prim.search (comparing, rules) };
 }
 
-// Whether the squares are the same. A map asks this of keys with one hash, which are mostly the same, so it goes on to the
-// end, by several squares at once.
-fn same_squares(squares: &[Square], others: &[Square]) -> bool
-    ensures { result ≡ pointwise nat_eq squares.now others.now }
+// Whether the bytes are the same. A map asks this of keys with one hash, which are mostly the same, so it goes on to the
+// end, by several bytes at once.
+#[inline(always)]
+fn same_bytes(bytes: &[u8], others: &[u8]) -> bool
+    ensures { result ≡ pointwise nat_eq bytes.now others.now }
 {
-    if squares.len() != others.len() {
+    if bytes.len() != others.len() {
         return false;
     }
     let mut same = true;
-    for (place, square) in squares.iter().enumerate() {
-        same &= *square == others[place];
+    for (place, byte) in bytes.iter().enumerate() {
+        same &= *byte == others[place];
     }
     same
 }
 
-impl<const N: usize> Hash for Key<N> {
-    ghost use Rattle.grid.specs.Hashing.{writes_of, writes_alike};
+impl<const N: usize, const M: usize> Hash for Key<N, M> {
+    ghost use Rattle.store.specs.inside.KeyRows.{key_writes, keys_alike};
 
-    ghost hash_input = { writes_of };
+    ghost hash_input = { key_writes N M };
 
-    ghost respects_eq = { writes_alike };
+    ghost respects_eq = { keys_alike N M };
 
-    #[inline]
+    // A row is written at once: a hasher's work goes by writes.
+    #[inline(always)]
     fn hash<H: Hasher>(&self, state: &mut H) {
-        hash_squares(self.boxes.as_slice(), self.player, state);
+        state.write(&self.low);
+        if M == 0 {
+            return;
+        }
+        state.write(&self.high);
     }
 }

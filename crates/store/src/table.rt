@@ -3,8 +3,9 @@
 ghost use Rattle.std.specs.Prelude.{◌≡◌, ℕ, ◌+◌, ◌<◌, ◌≤◌, [], length, map, drop, nat_lt, option_map, slice_get, IfOk, IfSome, OnOk, OnErr, Some};
 ghost use Rattle.store.specs.Entries.{Closed, origins_of};
 ghost use Rattle.store.specs.Entering.{IsSortedAppend};
-ghost use Rattle.store.specs.FoundView.{HaveFew, first_entries, origin_in, with_entered};
+ghost use Rattle.store.specs.FoundView.{AllFit, FitsGrid, first_entries, origin_in, with_entered};
 ghost use Rattle.store.specs.inside.Copies.{IsCopied, squares_of};
+ghost use Rattle.store.specs.inside.KeyRows.{SuitsLevel};
 
 use crate::closing::arrange;
 use crate::copying::{copy_entry, copy_from};
@@ -18,42 +19,53 @@ use std::alloc::{AllocError, Global};
 use std::marker::Model;
 use successors::{Parcel, Successor};
 
-/// The positions that a book has found, of at most `N` boxes.
+/// The positions that a book has found, in keys with `N` low bytes and `M` high ones.
 #[derive(Debug, Drop)]
-pub(crate) struct Table<const N: usize> {
+pub(crate) struct Table<const N: usize, const M: usize> {
     boxes: usize,
-    table: IndexMap<Key<N>, ClosedOrigin>,
+    squares: usize,
+    table: IndexMap<Key<N, M>, ClosedOrigin>,
     // what stands open begins here
     start: usize,
+    // no origin of what stands open comes after this one
+    last: Origin,
     // what was offered since and is to enter, for which the map has room
-    inbox: Vec<(Key<N>, Origin)>,
+    inbox: Vec<(Key<N, M>, Origin)>,
 }
 
-impl<const N: usize> Model for Table<N> {
-    ghost use Rattle.std.specs.Prelude.{◌≤◌, length};
+impl<const N: usize, const M: usize> Model for Table<N, M> {
+    ghost use Rattle.std.specs.Prelude.{◌+◌, ◌≤◌, length};
     ghost use Rattle.indexmap.specs.IndexMap.{spare};
-    ghost use Rattle.store.specs.FoundView.{FoundView, IsFound, found_view};
+    ghost use Rattle.store.specs.FoundView.{FoundView, IsFound, NoneExceed, found_view, open_of};
+    ghost use Rattle.store.specs.inside.KeyRows.{SuitsLevel};
 
     ghost Value = { FoundView };
 
-    ghost view = { λ a. found_view a.boxes a.start a.table.entries a.inbox.items };
+    ghost view = { λ a. found_view a.boxes a.squares a.start a.table.entries a.inbox.items };
 
     ghost use Rattle.grid.specs.declared.limits.TheConstants.{MAX_BOXES};
 
-    ghost invariant = { λ a. (N ≤ MAX_BOXES) × (a.boxes ≤ N) × IsFound a.start a.table.entries × (length a.inbox.items ≤ spare a.table) };
+    ghost invariant = { λ a. ((N ≤ MAX_BOXES + 1) × (M ≤ MAX_BOXES + 1))
+        × SuitsLevel N M a.boxes a.squares
+        × IsFound a.start a.table.entries
+        × (length a.inbox.items ≤ spare a.table)
+        × NoneExceed (open_of a.start a.table.entries) a.last };
 }
 
-impl<const N: usize> Table<N> {
+impl<const N: usize, const M: usize> Table<N, M> {
     /// What is found at first: a closed position, or nothing. The only error is that memory was refused.
+    #[tactic(auto, using(crate::proofs::Lasts::none_open, crate::proofs::Bytes::suits))]
     pub(crate) fn of(
         alloc: Global,
         boxes: usize,
+        squares: usize,
         first: &Option<Position>,
-    ) -> Result<Table<N>, AllocError>
-        requires width { N ≤ MAX_BOXES }
-        requires bound { boxes ≤ N }
-        requires few { IfSome first.now (λ m. length m.boxes ≤ boxes) }
+    ) -> Result<Table<N, M>, AllocError>
+        requires width { (N ≤ MAX_BOXES + 1) × (M ≤ MAX_BOXES + 1) }
+        requires suits { SuitsLevel N M boxes squares }
+        requires few { IfSome first.now (FitsGrid boxes squares) }
         ensures boxes { IfOk result (λ table. table.boxes ≡ boxes) }
+        ensures squares { IfOk result (λ table. table.squares ≡ squares) }
         ensures seen { IfOk result (λ table. table.seen ≡ first_entries first.now) }
         ensures waiting { IfOk result (λ table. table.waiting ≡ []) }
     {
@@ -69,8 +81,10 @@ impl<const N: usize> Table<N> {
         let start = table.len();
         Ok(Table {
             boxes,
+            squares,
             table,
             start,
+            last: Origin::lowest(),
             inbox: Vec::new(alloc),
         })
     }
@@ -144,7 +158,7 @@ impl<const N: usize> Table<N> {
         successors: &[Successor],
     ) -> bool
         requires shares { 0 < shares }
-        requires few { HaveFew self.old.boxes successors.now }
+        requires few { AllFit self.old successors.now }
         requires within { length self.old.seen + length self.old.waiting ≤ limit }
         ensures passed { (rank : ℕ) → result ≡ nat_lt limit (length self.old.seen + length (with_entered self.old shares share rank successors.now).waiting) }
         ensures same { self.new ≡ self.old }
@@ -153,7 +167,8 @@ impl<const N: usize> Table<N> {
         if self.inbox.len() + successors.len() <= room {
             return false;
         }
-        enter_all(&mut self.table, self.start, &mut self.inbox);
+        let last = &mut self.last;
+        enter_all(&mut self.table, self.start, last, &mut self.inbox);
         let room = limit - self.table.len();
         count_new(&self.table, self.start, share, shares, successors) > room
     }
@@ -169,7 +184,7 @@ impl<const N: usize> Table<N> {
     ) -> Result<(), AllocError>
         requires share { share < shares }
         requires rank { parcel.now.rank < MOST_RANKS }
-        requires few { HaveFew self.old.boxes parcel.now.successors }
+        requires few { AllFit self.old parcel.now.successors }
         ensures ok { OnOk result (self.new ≡ with_entered self.old shares share parcel.now.rank parcel.now.successors) }
         ensures err { OnErr result (self.new ≡ self.old) }
     {
@@ -177,6 +192,7 @@ impl<const N: usize> Table<N> {
         make_room(
             &mut self.table,
             self.start,
+            &mut self.last,
             &mut self.inbox,
             most,
             successors,
@@ -191,7 +207,7 @@ impl<const N: usize> Table<N> {
         ensures same { self.new ≡ self.old }
     {
         let inbox = &mut self.inbox;
-        enter_all(&mut self.table, self.start, inbox);
+        enter_all(&mut self.table, self.start, &mut self.last, inbox);
         self.table.len()
     }
 
@@ -203,16 +219,19 @@ impl<const N: usize> Table<N> {
     }
 
     /// Closes what stands open, in the order of the origins. An error leaves all as it was.
+    #[tactic(auto, using(crate::proofs::Lasts::none_open))]
     pub(crate) fn close(&mut self) -> Result<(), AllocError>
         ensures boxes { self.new.boxes ≡ self.old.boxes }
+        ensures squares { self.new.squares ≡ self.old.squares }
         ensures seen { OnOk result (IsSortedAppend self.old.seen self.old.waiting self.new.seen) }
         ensures waiting { OnOk result (self.new.waiting ≡ []) }
         ensures err { OnErr result (self.new ≡ self.old) }
     {
         let start = self.start;
-        enter_all(&mut self.table, start, &mut self.inbox);
+        enter_all(&mut self.table, start, &mut self.last, &mut self.inbox);
         arrange(&mut self.table, start)?;
         self.start = self.table.len();
+        self.last = Origin::lowest();
         Ok(())
     }
 

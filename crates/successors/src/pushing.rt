@@ -43,11 +43,26 @@ pub(crate) fn successors_by(
     ensures kept { scratch.new ≡ scratch.old }
 {
     let total = box_sum(position);
+    let boxes = position.boxes();
+    let mut place = 0;
     let mut count = 0;
     for push in pushes {
-        count = append_successor(level, dead, position, total, *push, scratch, slots, count);
+        place = box_from(boxes, place, push.square);
+        count = append_successor(
+            level, dead, position, total, place, *push, scratch, slots, count,
+        );
     }
     count
+}
+
+// The first place from a given one on of a box whose square is not less: that of the box on the square, where the boxes
+// before have lesser ones.
+fn box_from(boxes: &[Square], place: usize, square: Square) -> usize {
+    let mut place = place;
+    while place < boxes.len() && boxes[place] < square {
+        place += 1;
+    }
+    place
 }
 
 // Writes what a push leads to after the first so many slots, where the last flood was that of the position before it,
@@ -58,6 +73,7 @@ fn append_successor(
     dead: &Dead,
     position: &Position,
     total: u32,
+    place: usize,
     push: Push,
     scratch: &mut Scratch,
     slots: &mut Slots,
@@ -91,6 +107,7 @@ fn append_successor(
         level,
         dead,
         position,
+        place,
         Push { square, dir },
         scratch,
         &mut slots.successors.as_mut_slice()[count],
@@ -149,6 +166,7 @@ fn make_successor(
     level: &Level,
     dead: &Dead,
     position: &Position,
+    place: usize,
     push: Push,
     scratch: &mut Scratch,
     slot: &mut Successor,
@@ -170,9 +188,9 @@ fn make_successor(
     slot.push = Push { square, dir };
     let moved = &mut slot.position;
     moved.copy_from(position);
-    moved.push(square, ahead);
+    moved.push_at(place, square, ahead);
     if !doom::is_loose(level, dead, scratch, Push { square, dir })
-        && doom::doomed_after(level, dead, moved, Push { square, dir }, scratch)
+        && doom::push_dooms(level, dead, moved, Push { square, dir }, scratch)
     {
         return false;
     }

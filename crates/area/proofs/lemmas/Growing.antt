@@ -86,23 +86,12 @@ grown_by a b P Q weaker g = record {
 }
 
 -- where two places in a row pass a test on, it passes on over both
-pub up_twice : (test : ℕ → Bool) (by mask : ℕ) (twice : ℕ) → twice ≡ by + by → mask < 2 ^ 64 → PassesUp test by mask → PassesUp test twice (bit_and mask (mask * 2 ^ by % 2 ^ 64))
-up_twice test by mask twice same fits pass = λ i j e h start.
-    (let p = and_bit mask (mask * 2 ^ by % 2 ^ 64) j h in
-    let s = shl_bit mask by j (word_bit_inside mask j fits p.0) p.1 in
-    let f : s.0 + by ≡ j = s.1 in
-    pass s.0 j f p.0 (pass i s.0 (omega arith) s.2 start))
-
 pub down_twice : (test : ℕ → Bool) (by mask : ℕ) (twice : ℕ) → twice ≡ by + by → PassesDown test by mask → PassesDown test twice (bit_and mask (mask / 2 ^ by))
 down_twice test by mask twice same pass = λ i j e h start.
     (let p = and_bit mask (mask / 2 ^ by) j h in
     pass (j + by) j refl p.0 (pass i (j + by) (omega arith) (shr_bit mask by j p.1) start))
 
 -- a run of up to three steps
-pub run_grown_up : (word one end mask : ℕ) → mask < 2 ^ 64 → IsGrown word one (λ test. PassesUp test 1 mask) → IsGrown one end (λ test. PassesUp test 2 (bit_and mask (mask * 2 ^ 1 % 2 ^ 64))) → IsGrown word end (λ test. PassesUp test 1 mask)
-run_grown_up word one end mask fits g h =
-    grown_then word one end (λ test. PassesUp test 1 mask) g (grown_by one end (λ test. PassesUp test 2 (bit_and mask (mask * 2 ^ 1 % 2 ^ 64))) (λ test. PassesUp test 1 mask) (λ test pass. up_twice test 1 mask 2 refl fits pass) h)
-
 pub run_grown_down : (word one end mask : ℕ) → IsGrown word one (λ test. PassesDown test 1 mask) → IsGrown one end (λ test. PassesDown test 2 (bit_and mask (mask / 2 ^ 1))) → IsGrown word end (λ test. PassesDown test 1 mask)
 run_grown_down word one end mask g h =
     grown_then word one end (λ test. PassesDown test 1 mask) g (grown_by one end (λ test. PassesDown test 2 (bit_and mask (mask / 2 ^ 1))) (λ test. PassesDown test 1 mask) (λ test pass. down_twice test 1 mask 2 refl pass) h)

@@ -63,7 +63,7 @@ word_bit_inside a j fits h = elim (cases_lt j WORD_BITS) [
 ]
 
 -- the bits of a remainder
-bit_at-mod : (a k j : ℕ) → j < k → bit_at (a % 2 ^ k) j ≡ bit_at a j
+pub bit_at-mod : (a k j : ℕ) → j < k → bit_at (a % 2 ^ k) j ≡ bit_at a j
 bit_at-mod a k j lt =
     sym (bit_at_cat_low (a / 2 ^ k) k (a % 2 ^ k) j lt) ∙ ap (λ (x : ℕ). bit_at x j) (shr_split a k)
 

@@ -1,9 +1,10 @@
 -- Ways round a square, and what a push opens and cuts off.
-use Rattle.std.specs.Prelude.{◌≡◌, ◌≢◌, ℕ, ◌≤◌, true, ◌⊎◌}
+use Rattle.std.specs.Prelude.{◌≡◌, ◌≢◌, ℕ, ◌≤◌, Bool, true, ◌⊎◌}
 use Rattle.grid.specs.declared.dir.Dir.{Dir}
 use Rattle.grid.specs.declared.dir.Dir.TheVariants.{D, L, R, U}
 use Rattle.grid.specs.Squares.{Squares, contains}
-use Rattle.grid.specs.Board.{Board, is_wall, next, opposite}
+use Rattle.grid.specs.Board.{Board, Scene, is_wall, next, opposite}
+use Rattle.area.specs.Area.{Area}
 
 -- one of the two directions at right angles to a direction
 abbrev pub across : Dir → Dir
@@ -33,6 +34,10 @@ IsJoined board set but from d = contains set (next board but d) ≡ true → Ski
 -- where `but` is of the set, so is each square beside it
 abbrev pub StaysJoined : Board → Squares → ℕ → ℕ → Type 0
 StaysJoined board set but from = contains set but ≡ true → (d : Dir) → IsJoined board set but from d
+
+-- a square is of the area if all squares beside `but` are that a set has
+abbrev pub FollowsSides : Board → Scene → (ℕ → Bool) → ℕ → ℕ → Type 0
+FollowsSides board s has but q = ((d : Dir) → has (next board but d) ≡ true → Area board s (next board but d)) → Area board s q
 
 -- three steps over the set, the first to a side, lead from `from` past `but`, which is next to it in the direction d
 pub record GoesPast (board : Board) (set : Squares) (from but : ℕ) (d side : Dir) : Type 0 where

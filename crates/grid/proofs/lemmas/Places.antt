@@ -1,5 +1,5 @@
 -- Steps of loops that collect places, and edits of rising lists at a place.
-use Rattle.std.proofs.Common.{◌≡◌, ◌≢◌, ℕ, suc, ◌+◌, ◌<◌, ◌≤◌, Bool, true, false, cond, eqb, ltb, ◌||◌, List, [], ◌∷◌, ◌++◌, length, get_or, take, count_by, refl, sym, ap, subst, ◌∙◌, arith}
+use Rattle.std.proofs.Common.{◌≡◌, ◌≢◌, ℕ, zero, suc, ◌+◌, ◌<◌, ◌≤◌, Bool, true, false, cond, eqb, ltb, ◌||◌, List, [], ◌∷◌, ◌++◌, length, get_or, take, count_by, refl, sym, ap, subst, ◌∙◌, arith}
 use Rattle.std.specs.List.{prefix_len, list_any, insert as insert_at, remove as remove_at}
 use Rattle.std.proofs.lemmas.Bool.{eqb-true, eqb-false, eq-eqb, ltb-true, ltb-false, le-ltb, or_right, true≢false, false≢true}
 use Rattle.std.proofs.lemmas.List.{take_more, length-take-le}
@@ -7,7 +7,7 @@ use Rattle.std.proofs.lemmas.List.Sums.{count_by_more_yes, sum_by-cons, sum_by-t
 use Rattle.grid.specs.Squares.{Squares, contains, remove, insert, places_from}
 use Rattle.grid.specs.Rising.{rises_from, is_rising}
 use Rattle.grid.specs.Board.{Board, is_wall}
-use Rattle.grid.proofs.lemmas.Squares.{rises_from-parts, contains-below, remove_out}
+use Rattle.grid.proofs.lemmas.Squares.{rises_from-parts, contains-below, contains-get_or, remove_out}
 use Rattle.grid.proofs.Marked.{places_push_yes, places_push_no, length-places_from}
 
 module _ {A : Type 0} (test : A → Bool) (xs : List A) (i : ℕ) (d : A) (inside : i < length xs) where
@@ -109,3 +109,23 @@ lesser_from k q (x ∷ xs) h =
 -- of rising squares, as many are less than a number as come before the first one that is not
 pub lesser_first : (q : ℕ) (xs : Squares) → is_rising xs ≡ true → count_by (λ (x : ℕ). ltb x q) xs ≡ prefix_len (λ (x : ℕ). ltb x q) xs
 lesser_first q xs h = lesser_from 0 q xs h
+
+-- a member's place is that of the first element that is not less
+place_from : (k : ℕ) (xs : Squares) (place q : ℕ) → rises_from k xs ≡ true → place < length xs → get_or xs place 0 ≡ q → place ≡ prefix_len (λ x. ltb x q) xs
+place_from k [] place q h lt e = absurd (omega (arith, lt))
+place_from k (x ∷ xs) zero q h lt e = at (ltb x q) (ltb-true x q)
+  where
+    at : (b : Bool) → (b ≡ true → x < q) → 0 ≡ cond b (1 + prefix_len (λ y. ltb y q) xs) 0
+    at true less = absurd (let l = less refl in omega (arith, l, e))
+    at false less = refl
+place_from k (x ∷ xs) (suc n) q h lt e =
+    let p = rises_from-parts k x xs h in
+    let there : contains xs q ≡ true = subst (λ (y : ℕ). contains xs y ≡ true) e (contains-get_or xs n 0 (omega (arith, lt))) in
+    at (ltb x q) (ltb-false x q) p.1 there (place_from (suc x) xs n q p.1 (omega (arith, lt)) e)
+  where
+    at : (b : Bool) → (b ≡ false → q ≤ x) → rises_from (suc x) xs ≡ true → contains xs q ≡ true → n ≡ prefix_len (λ y. ltb y q) xs → suc n ≡ cond b (1 + prefix_len (λ y. ltb y q) xs) 0
+    at true le rest there rec = omega (arith, rec)
+    at false le rest there rec = absurd (false≢true (sym (contains-below (suc x) xs q rest (let l = le refl in omega (arith, l))) ∙ there))
+
+pub place_by : (xs : Squares) (place q : ℕ) → is_rising xs ≡ true → place < length xs → get_or xs place 0 ≡ q → place ≡ prefix_len (λ x. ltb x q) xs
+place_by xs place q rising inside at = place_from 0 xs place q rising inside at

@@ -1,18 +1,22 @@
 -- The events of a book on its fields: what is taken, the limit, a hand back and a close.
-use Rattle.std.proofs.Common.{◌≡◌, ℕ, suc, ◌+◌, ◌<◌, ◌≤◌, Bool, true, false, ◌&&◌, ◌==◌, not, List, [], ◌∷◌, ◌++◌, length, map, fold, get_or, set, ltb, Some, inl, inr, refl, sym, ap, subst, ◌∙◌, arith}
+use Rattle.std.proofs.Common.{◌≡◌, ℕ, suc, ◌+◌, ◌<◌, ◌≤◌, Bool, true, false, ◌&&◌, ◌||◌, ◌==◌, not, List, [], ◌∷◌, ◌++◌, length, map, fold, get_or, set, ltb, Option, Some, None, inl, inr, refl, sym, ap, subst, ◌∙◌, arith}
 use Rattle.std.proofs.lemmas.Bool.{cases_lt}
 use Rattle.std.proofs.lemmas.Bool.Decides.{nat_tests}
 use Rattle.std.proofs.lemmas.List.{length-append, get_or-set_same, length-map}
-use Rattle.std.specs.Prelude.{slice_get}
+use Rattle.std.specs.Prelude.{slice_get, IfSome}
 use Rattle.grid.specs.declared.square.Push.{Push}
-use Rattle.grid.specs.Board.{Scene}
+use Rattle.grid.specs.Board.{Board, Scene, is_wall}
+use Rattle.grid.specs.Squares.{contains}
+use Rattle.grid.proofs.lemmas.Steps.{inside_grid}
+use Rattle.grid.proofs.lemmas.Squares.{contains_head}
 use Rattle.grid.specs.Lawful.{box_count}
+use Rattle.grid.specs.States.{FitsLevel}
 use Rattle.successors.specs.declared.parcel.Successor.{Successor}
 use Rattle.store.specs.Entries.{Entry, same_scene, Closed}
 use Rattle.successors.specs.Tasks.{Task}
 use Rattle.successors.specs.Reaching.{total}
 use Rattle.successors.specs.Shares.{share_of}
-use Rattle.store.specs.FoundView.{HaveFew}
+use Rattle.store.specs.FoundView.{AllFit, AreBelow, FitsGrid, FoundView}
 use Rattle.successors.specs.ParcelView.{ParcelView, IsParcel}
 use Rattle.layers.specs.BookView.{BookView, IsLawfulBook}
 use Rattle.layers.specs.Books.{is_wanted, all_entered, with_parcel, IsAtWork, PassesLimit, MayEnter, IsTaken, AllDone, with_closed, IsSortedOpen, IsClosedBy}
@@ -97,11 +101,35 @@ module _ (a : Inside) (book : IsLawfulBook (book_view a)) (cuts : AreCuts a.star
   pub over_lawful : (true ≡ ltb now.limit (total now.closed + length (all_entered now parcel.rank parcel.successors))) → IsLawfulBook (record (book_view a) { over = true })
   over_lawful more = lawful_over (book_view a) parcel book is at_work.0 at_work.1 (subst (λ v. PassesLimit v parcel) (sym view) (over_limit now parcel more))
 
--- the successors of a parcel have as many boxes as its level
-pub fits_few : (parcel : ParcelView) → IsParcel parcel → (task : Task) → parcel.level ≡ task → (ss : List Successor) → ss ≡ parcel.successors → HaveFew (box_count task.board) ss
-fits_few parcel is task same ss e i s at =
-    let fits = is.fits i s (ap (λ xs. slice_get xs i) (sym e) ∙ at) in
-    omega (arith, fits.boxes, ap (λ (t : Task). box_count t.board) same)
+contains_tail : (x : ℕ) (xs : List ℕ) (q : ℕ) → contains xs q ≡ true → contains (x ∷ xs) q ≡ true
+contains_tail x xs q here = or_true (x == q) (contains xs q) here
+  where
+    or_true : (a b : Bool) → b ≡ true → (a || b) ≡ true
+    or_true true b e = refl
+    or_true false b e = e
+
+-- what holds no wall is on the grid
+below_all : (board : Board) (xs : List ℕ) → ((q : ℕ) → contains xs q ≡ true → is_wall board q ≡ false) → AreBelow (length board.cells) xs
+below_all board [] clear = tt
+below_all board (x ∷ xs) clear = (inside_grid board x (clear x (contains_head x xs)), below_all board xs (λ q here. clear q (contains_tail x xs q here)))
+
+pub level_fits : (board : Board) (boxes squares : ℕ) (m : Scene) → boxes ≡ box_count board → squares ≡ length board.cells → FitsLevel board m → FitsGrid boxes squares m
+level_fits board boxes squares m boxes_are squares_are fits = record {
+  few = omega (arith, fits.boxes, boxes_are);
+  below = subst (λ n. AreBelow n (m.player ∷ m.boxes)) (sym squares_are) (inside_grid board m.player fits.scene.player.0, below_all board m.boxes fits.scene.boxes);
+}
+
+pub first_fits : (board : Board) (boxes squares : ℕ) (first : Option Scene) → boxes ≡ box_count board → squares ≡ length board.cells → IfSome first (FitsLevel board) → IfSome first (FitsGrid boxes squares)
+first_fits board boxes squares None boxes_are squares_are fits = tt
+first_fits board boxes squares (Some m) boxes_are squares_are fits = level_fits board boxes squares m boxes_are squares_are fits
+
+-- the successors of a parcel have as many boxes as its level, and stand on its grid
+pub fits_few : (parcel : ParcelView) → IsParcel parcel → (task : Task) → parcel.level ≡ task → (v : FoundView) → v.boxes ≡ box_count task.board → v.squares ≡ length task.board.cells → (ss : List Successor) → ss ≡ parcel.successors → AllFit v ss
+fits_few parcel is task same v boxes_are squares_are ss e = record {
+  each = λ i s at.
+      level_fits task.board v.boxes v.squares s.position boxes_are squares_are
+      (subst (λ (t : Task). FitsLevel t.board s.position) same (is.fits i s (ap (λ xs. slice_get xs i) (sym e) ∙ at)));
+}
 
 -- ranks stay taken when one more is done
 pub taken_done : (v : BookView) (k r : ℕ) → IsTaken v r → IsTaken (record v { done = set v.done k true }) r

@@ -49,11 +49,11 @@ pub record AreCuts (starts : List ℕ) (len : ℕ) : Type 0 where
 abbrev pub IsPiece : List ℕ → ℕ → ℕ → ℕ → ℕ → Type 0
 IsPiece starts len k p q = (slice_get starts k ≡ Some p) × ((slice_get starts (suc k) ≡ Some q) ⊎ ((slice_get starts (suc k) ≡ None) × (q ≡ len)))
 
--- a book's fields show a lawful book, of as many boxes as there may be, as which keys are made; each closed layer is a
+-- a book's fields show a lawful book, of as many boxes as there may be; keys are made for its boxes and its squares; each closed layer is a
 -- piece of what was seen, and all ranks before the next one to look at are taken
 pub record IsSoundBook (a : Inside) : Type 0 where
   pub lawful : IsLawfulBook (book_view a)
   pub few : box_count a.task.board ≤ MAX_BOXES
-  pub boxes : a.found.boxes ≡ box_count a.task.board
+  pub boxes : (a.found.boxes ≡ box_count a.task.board) × (a.found.squares ≡ length a.task.board.cells)
   pub cuts : AreCuts a.starts.items (length a.found.seen)
   pub taken : (r : ℕ) → r < a.next → IsTaken (book_view a) r

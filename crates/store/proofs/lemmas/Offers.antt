@@ -17,7 +17,7 @@ use Rattle.std.specs.List.{list_any}
 use Rattle.store.proofs.lemmas.Origins.{best}
 use Rattle.successors.proofs.lemmas.Lists.{Distinct, distinct_push}
 
-and_both : (a b : Bool) → (a && b) ≡ true → (a ≡ true) × (b ≡ true)
+pub and_both : (a b : Bool) → (a && b) ≡ true → (a ≡ true) × (b ≡ true)
 and_both true true e = (refl, refl)
 and_both true false e = cc
 and_both false b e = cc

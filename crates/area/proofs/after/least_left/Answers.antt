@@ -1,7 +1,11 @@
-use Rattle.std.proofs.Common.{◌≡◌, ℕ, List, length, ap, sym, ◌∙◌}
+use Rattle.std.proofs.Common.{◌≡◌, ℕ, List, length, refl, ap, sym, ◌∙◌}
 use Rattle.grid.specs.Masks.{has_bit, word_count}
 use Rattle.area.proofs.lemmas.Flooding.{words_enough, words_few, norm_of_part}
+use Rattle.grid.specs.Board.{next}
+use Rattle.grid.specs.Squares.{Squares, insert, remove}
+use Rattle.area.specs.Words.{squares_of}
 use Rattle.area.specs.Reach.{Reach}
+use Rattle.area.proofs.lemmas.WordSets.{listed}
 use Rattle.area.proofs.Moving.{moved_boxes}
 use Rattle.area.proofs.after.least_left.Goals as goal
 
@@ -28,3 +32,15 @@ move_box-requires-clause-ahead c = words_enough (length c.args.level.now.cells) 
 
 pub flood_round-requires-clause-boxes : goal.flood_round-requires-clause-boxes
 flood_round-requires-clause-boxes c = moved_boxes c.scratch.inside.boxes c.move_box.new.moved c.args.scratch.now.boxes c.args.position.now.boxes c.args.square c.args.ahead (ap (λ (r : Reach). r.boxes) c.scratch.view_is) c.requires.moved c.move_box.ensures.moved
+
+pub seek_least-requires-clause-moved : goal.seek_least-requires-clause-moved
+seek_least-requires-clause-moved c =
+    c.requires.moved
+    ∙ (ap (λ (bs : Squares). insert (remove bs c.args.square) c.args.ahead) (sym (ap (λ (r : Reach). r.boxes) c.scratch.view_is))
+    ∙ ap (λ (x : ℕ). insert (remove (squares_of c.scratch.inside.boxes) x) c.args.ahead) (sym c.requires.player))
+
+pub seek_least-requires-clause-inside : goal.seek_least-requires-clause-inside
+seek_least-requires-clause-inside c = λ q h. c.requires.reached q (listed c.scratch.inside.reached c.scratch.inside.reached c.args.scratch.now.reached q (ap (λ (r : Reach). r.reached) c.scratch.view_is) refl ∙ h)
+
+pub seek_least-requires-clause-met : goal.seek_least-requires-clause-met
+seek_least-requires-clause-met c = λ sides. c.requires.met (λ d there. sides d (sym (listed c.scratch.inside.reached c.scratch.inside.reached c.args.scratch.now.reached (next c.args.level.now c.args.ahead d) (ap (λ (r : Reach). r.reached) c.scratch.view_is) refl) ∙ there))

@@ -1,7 +1,6 @@
 use Rattle.std.proofs.Common.{take}
 use Rattle.store.specs.Entering.{RiseByOrigin}
-use Rattle.store.specs.FoundView.{open_of}
-use Rattle.store.proofs.Tails.{NoneExceed}
+use Rattle.store.specs.FoundView.{NoneExceed, open_of}
 use Rattle.store.proofs.closing.do_rise.Given as goal
 
 abbrev pub invariant-loop-place : goal.invariant-loop-place

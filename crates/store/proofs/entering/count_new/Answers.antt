@@ -1,9 +1,11 @@
-use Rattle.std.proofs.Common.{◌≡◌, ◌+◌, ◌∷◌, [], ◌++◌, cond, length, fold, take, ℕ, ap, sym, ◌∙◌, arith}
+use Rattle.std.proofs.Common.{Some, rules, ◌≡◌, ◌+◌, ◌∷◌, [], ◌++◌, cond, length, fold, take, ℕ, ap, sym, ◌∙◌, arith}
 use Rattle.std.proofs.lemmas.List.{take_more}
+use Rattle.std.proofs.lemmas.Option.{slice_get-get_or}
 use Rattle.successors.specs.declared.parcel.Successor.{Successor}
 use Rattle.store.specs.Entering.{is_wanted_in, entered}
 use Rattle.store.specs.FoundView.{seen_of, open_of}
 use Rattle.store.proofs.lemmas.Offers.{length-entered}
+use Rattle.successors.proofs.lemmas.Lists.{take_short}
 use Rattle.store.proofs.entering.count_new.Goals.{then-is_new, else-is_new}
 use Rattle.store.proofs.entering.count_new.Goals as goal
 
@@ -22,3 +24,14 @@ loop-place-preserved g c =
       | then-is_new w ↦ (λ rank. omega (arith, step rank, ap {B = ℕ} (λ b. cond b 1 0) w.if-is_new.true), omega arith)
       | else-is_new w ↦ (λ rank. omega (arith, step rank, ap {B = ℕ} (λ b. cond b 1 0) w.if-is_new.false), omega arith)
     ]
+
+pub is_new-requires : goal.is_new-requires
+is_new-requires g c =
+    let ss = c.args.successors.now in let place = c.loop-place.place in let s : Successor = c.index-successors-place.result in
+    (search rules, (c.requires.width, (c.requires.shares, (c.requires.few place s (slice_get-get_or ss place s c.loop-place-test.true ∙ ap (λ (x : Successor). Some x) (sym c.index-successors-place.is)), c.requires.found))))
+
+pub returns : goal.returns
+returns g c = λ rank.
+    let ws = open_of c.args.start c.args.table.now.entries in
+    let wanted = is_wanted_in (seen_of c.args.start c.args.table.now.entries) c.args.shares c.args.share in
+    ap (λ ts. length (fold (entered wanted rank) ws ts)) (sym (take_short c.args.successors.now c.loop-place.place (omega (arith, c.loop-place-test.false, c.loop-place.auto.place-end)))) ∙ c.loop-place.invariant.0 rank

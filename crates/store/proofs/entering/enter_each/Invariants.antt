@@ -1,6 +1,6 @@
 use Rattle.std.proofs.Common.{◌≡◌, ◌+◌, ◌≤◌, length, take}
 use Rattle.indexmap.specs.IndexMap.{spare}
-use Rattle.store.specs.FoundView.{IsFound, seen_of, open_of, all_let_in}
+use Rattle.store.specs.FoundView.{IsFound, NoneExceed, seen_of, open_of, all_let_in}
 use Rattle.store.proofs.entering.enter_each.Given as goal
 
 abbrev pub invariant-loop-offer : goal.invariant-loop-offer
@@ -9,3 +9,4 @@ invariant-loop-offer g l =
     × (length l.offers ≤ spare l.table + l.offer-index)
     × IsFound l.start l.table.entries
     × (seen_of l.start l.table.entries ≡ seen_of l.start l.initial.table.entries)
+    × NoneExceed (open_of l.start l.table.entries) l.last

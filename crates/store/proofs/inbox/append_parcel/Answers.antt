@@ -1,6 +1,7 @@
-use Rattle.std.proofs.Common.{◌≡◌, List, Some, subst, rules, arith}
+use Rattle.std.proofs.Common.{◌≡◌, List, Some, subst, sym, rules, ap, length, arith}
 use Rattle.std.specs.Prelude.{slice_get}
 use Rattle.successors.specs.declared.parcel.Successor.{Successor}
+use Rattle.successors.specs.inside.Sums.{AreSums}
 use Rattle.successors.proofs.lemmas.Dealt.{dealt_within, dealt_few}
 use Rattle.store.proofs.DealtOffers.{dealt_offers}
 use Rattle.store.proofs.inbox.append_parcel.Goals as goal
@@ -29,3 +30,24 @@ returns-in-Some g c =
     let p = c.args.parcel.now in let found = c.successors-successors.result.now in
     dealt_offers c.args.shares c.args.share p.rank c.rank-rank.result found p.successors c.in-Some.places.now c.args.inbox.now.items
     c.append_dealt.new.inbox.items c.append_dealt.ensures c.rank-rank.ensures c.successors-successors.ensures c.in-Some.ensures
+
+pub append_all-requires : goal.append_all-requires
+append_all-requires g c = (
+  search rules,
+  (
+    c.requires.width,
+    (
+      omega (arith, c.requires.share),
+      (
+        omega (arith, c.rank-rank.ensures, c.requires.rank),
+        (
+          λ i s at. c.requires.few i s (subst (λ (xs : List Successor). slice_get xs i ≡ Some s) c.successors-successors.ensures at),
+          (
+            subst (λ (xs : List Successor). AreSums xs c.sums.result.now) (sym c.successors-successors.ensures) c.sums.ensures,
+            omega (arith, ap (length {A = Successor}) c.successors-successors.ensures, c.requires.room),
+          ),
+        ),
+      ),
+    ),
+  ),
+)

@@ -1,7 +1,6 @@
-use Rattle.std.proofs.Common.{◌≡◌, ℕ, true, refl, sym, ap, subst, ◌∙◌}
+use Rattle.std.proofs.Common.{◌≡◌, refl, sym, ap, subst, ◌∙◌}
 use Rattle.std.proofs.lemmas.Bool.{false≢true}
 use Rattle.grid.specs.Squares.{Squares, contains, insert, remove}
-use Rattle.grid.proofs.lemmas.Squares.{contains-insert_here}
 use Rattle.grid.specs.Board.{Scene, next}
 use Rattle.grid.specs.States.{FitsLevel}
 use Rattle.grid.proofs.lemmas.Steps.{inside_grid}
@@ -14,34 +13,36 @@ use Rattle.area.specs.After.{IsAreaOf}
 use Rattle.successors.specs.Expansion.{after_push}
 use Rattle.successors.proofs.lemmas.Successors.{after_fits, successor_is, come_by}
 use Rattle.successors.proofs.pushing.make_successor.Goals as goal
-use Rattle.successors.proofs.pushing.make_successor.Goals.{else-not-is_loose-via-then-not-is_loose+else-doomed_after, else-not-is_loose-via-else-not-is_loose}
+use Rattle.successors.proofs.pushing.make_successor.Goals.{else-not-is_loose-via-then-not-is_loose+else-push_dooms, else-not-is_loose-via-else-not-is_loose}
 
 pub next-ahead-requires : goal.next-ahead-requires
 next-ahead-requires c = inside_grid c.args.level.now c.args.push.square (c.requires.fits.scene.boxes c.args.push.square c.requires.possible.there)
 
-pub push-requires-clause-free : goal.push-requires-clause-free
-push-requires-clause-free c =
+pub push_at-requires-clause-free : goal.push_at-requires-clause-free
+push_at-requires-clause-free c =
     let e : contains c.copy_from.new.self.boxes c.next-ahead.result ≡ contains c.args.position.now.boxes (next c.args.level.now c.args.push.square c.args.push.dir) = cc in
     e ∙ c.requires.possible.ahead.1
 
-pub doomed_after-requires-clause-fits : goal.doomed_after-requires-clause-fits
-doomed_after-requires-clause-fits c =
-    let moved : c.push.new.self ≡ after_push c.args.level.now c.args.position.now c.args.push = cc in
+pub push_dooms-requires-clause-fits : goal.push_dooms-requires-clause-fits
+push_dooms-requires-clause-fits c =
+    let moved : c.push_at.new.self ≡ after_push c.args.level.now c.args.position.now c.args.push = cc in
     subst (FitsLevel c.args.level.now) (sym moved) (after_fits c.args.level.now c.args.position.now c.requires.fits.scene c.args.push c.requires.fits c.requires.possible)
 
-pub doomed_after-requires-clause-inside : goal.doomed_after-requires-clause-inside
-doomed_after-requires-clause-inside c = inside_grid c.args.level.now c.args.push.square (c.requires.fits.scene.boxes c.args.push.square c.requires.possible.there)
+pub push_dooms-requires-clause-inside : goal.push_dooms-requires-clause-inside
+push_dooms-requires-clause-inside c = inside_grid c.args.level.now c.args.push.square (c.requires.fits.scene.boxes c.args.push.square c.requires.possible.there)
 
-pub doomed_after-requires-clause-moved : goal.doomed_after-requires-clause-moved
-doomed_after-requires-clause-moved c =
-    let moved : c.push.new.self ≡ after_push c.args.level.now c.args.position.now c.args.push = cc in
-    let ahead : ℕ = next c.args.level.now c.args.push.square c.args.push.dir in
-    subst (λ (s : Scene). contains s.boxes ahead ≡ true) (sym moved) (contains-insert_here (remove c.args.position.now.boxes c.args.push.square) ahead)
+pub push_dooms-requires-clause-pushed : goal.push_dooms-requires-clause-pushed
+push_dooms-requires-clause-pushed c =
+    let moved : c.push_at.new.self ≡ after_push c.args.level.now c.args.position.now c.args.push = cc in
+    ap (λ (s : Scene). s.boxes) moved ∙ ap (λ (boxes : Squares). insert (remove boxes c.args.push.square) (next c.args.level.now c.args.push.square c.args.push.dir)) (sym c.requires.boxes)
 
-pub returns-then-doomed_after-clause-none : goal.returns-then-doomed_after-clause-none
-returns-then-doomed_after-clause-none c = λ no m come.
-    let moved : c.push.new.self ≡ after_push c.args.level.now c.args.position.now c.args.push = cc in
-    let bad : Doomed c.args.level.now c.push.new.self.boxes = (c.if-doomed_after.ensures.same (c.args.position.now.boxes, ap (λ (s : Scene). s.boxes) moved, c.requires.undoomed)).0 refl in
+pub push_dooms-requires-clause-undoomed : goal.push_dooms-requires-clause-undoomed
+push_dooms-requires-clause-undoomed c = subst (λ (boxes : Squares). ¬ (Doomed c.args.level.now boxes)) (sym c.requires.boxes) c.requires.undoomed
+
+pub returns-then-push_dooms-clause-none : goal.returns-then-push_dooms-clause-none
+returns-then-push_dooms-clause-none c = λ no m come.
+    let moved : c.push_at.new.self ≡ after_push c.args.level.now c.args.position.now c.args.push = cc in
+    let bad : Doomed c.args.level.now c.push_at.new.self.boxes = c.if-push_dooms.ensures.same.0 refl in
     (come_by c.args.level.now c.args.position.now c.requires.fits.scene c.args.push m come).safe (subst (λ (s : Scene). Doomed c.args.level.now s.boxes) moved bad)
 
 pub is_loose-requires-clause-inside : goal.is_loose-requires-clause-inside
@@ -49,19 +50,18 @@ is_loose-requires-clause-inside c = inside_grid c.args.level.now c.args.push.squ
 
 pub normalise_after-requires-clause-fits : goal.normalise_after-requires-clause-fits
 normalise_after-requires-clause-fits c =
-    let moved : c.push.new.self ≡ after_push c.args.level.now c.args.position.now c.args.push = cc in
+    let moved : c.push_at.new.self ≡ after_push c.args.level.now c.args.position.now c.args.push = cc in
     subst (FitsLevel c.args.level.now) (sym moved) (after_fits c.args.level.now c.args.position.now c.requires.fits.scene c.args.push c.requires.fits c.requires.possible)
 
 pub returns-clause-some : goal.returns-clause-some
 returns-clause-some c =
-    let moved : c.push.new.self ≡ after_push c.args.level.now c.args.position.now c.args.push = cc in
+    let moved : c.push_at.new.self ≡ after_push c.args.level.now c.args.position.now c.args.push = cc in
     let board = c.args.level.now in
     let n = c.args.position.now in
     let after = after_push board n c.args.push in
     let safe : Undoomed board after = elim c.else-not-is_loose.branch [
-      | else-not-is_loose-via-then-not-is_loose+else-doomed_after w ↦ λ bad.
-          let same : c.push.new.self.boxes ≡ after.boxes = ap (λ (s : Scene). s.boxes) moved in
-          false≢true ((w.if-doomed_after.ensures.same (n.boxes, same, c.requires.undoomed)).1 (subst (λ (s : Scene). Doomed board s.boxes) (sym moved) bad))
+      | else-not-is_loose-via-then-not-is_loose+else-push_dooms w ↦ λ bad.
+          false≢true (w.if-push_dooms.ensures.same.1 (subst (λ (s : Scene). Doomed board s.boxes) (sym moved) bad))
       | else-not-is_loose-via-else-not-is_loose w ↦
           let loose = c.is_loose.ensures.0 w.if-not-is_loose.false in
           loose_dooms_nothing board n.boxes c.args.push.square (next board c.args.push.square c.args.push.dir) c.requires.undoomed
@@ -71,7 +71,7 @@ returns-clause-some c =
 
 pub normalise_after-requires-clause-pushed : goal.normalise_after-requires-clause-pushed
 normalise_after-requires-clause-pushed c =
-    let moved : c.push.new.self ≡ after_push c.args.level.now c.args.position.now c.args.push = cc in
+    let moved : c.push_at.new.self ≡ after_push c.args.level.now c.args.position.now c.args.push = cc in
     record {
       there = c.requires.possible.there;
       behind = c.requires.possible.behind;
@@ -82,7 +82,7 @@ normalise_after-requires-clause-pushed c =
 pub normalise_after-requires-clause-flooded : goal.normalise_after-requires-clause-flooded
 normalise_after-requires-clause-flooded c =
     let kept : c.else-not-is_loose.scratch ≡ c.args.scratch.now = elim c.else-not-is_loose.branch [
-      | else-not-is_loose-via-then-not-is_loose+else-doomed_after w ↦ w.scratch-is ∙ w.if-doomed_after.ensures.kept
+      | else-not-is_loose-via-then-not-is_loose+else-push_dooms w ↦ w.scratch-is ∙ w.if-push_dooms.ensures.kept
       | else-not-is_loose-via-else-not-is_loose w ↦ w.scratch-is
     ] in
     subst (λ (s : Reach). IsAreaOf c.args.level.now c.args.position.now s.reached) (sym kept) c.requires.flooded

@@ -55,7 +55,7 @@ invariant_of-self-2 c =
     record {
       lawful = closed_lawful a c.self.invariant.lawful c.self.invariant.cuts all ys same rise c.push_within.new.places.items c.close.new.self.seen c.clear.new.self.items c.clear-2.new.self.items c.close.new.self.waiting c.closed_len-start.result starts_are n_is seen_are c.clear.ensures.items c.clear-2.ensures.items waits;
       few = c.self.invariant.few;
-      boxes = c.close.ensures.boxes ∙ c.self.invariant.boxes;
+      boxes = (c.close.ensures.boxes ∙ c.self.invariant.boxes.0, c.close.ensures.squares ∙ c.self.invariant.boxes.1);
       cuts = closed_cuts a c.self.invariant.lawful c.self.invariant.cuts all ys same rise c.push_within.new.places.items c.close.new.self.seen c.clear.new.self.items c.clear-2.new.self.items c.close.new.self.waiting c.closed_len-start.result starts_are n_is seen_are c.clear.ensures.items c.clear-2.ensures.items waits;
       taken = λ r lt. absurd (omega arith);
     }

@@ -13,11 +13,11 @@ use Rattle.layers.proofs.Answered.{ok_is, err_is}
 use Rattle.layers.proofs.book.Book.hand_back.Goals as goal
 
 pub passes-requires-clause-few : goal.passes-requires-clause-few
-passes-requires-clause-few c = λ i s at.
+passes-requires-clause-few c =
     let found : IsAtWork c.args.self.now c.args.parcel.now × (slice_get c.args.self.now.done c.args.parcel.now.rank ≡ Some false) = c.in_default.ensures.none in
-    let boxes : c.self.inside.found.boxes ≡ box_count c.args.self.now.level.board = c.self.invariant.boxes ∙ ap (λ (v : BookView). box_count v.level.board) c.self.view_is in
-    let few = fits_few c.args.parcel.now c.tell.ensures c.args.self.now.level found.0.0 c.successors-successors.result.now c.successors-successors.ensures i s at in
-    omega (arith, few, boxes)
+    let boxes : c.self.inside.found.boxes ≡ box_count c.args.self.now.level.board = c.self.invariant.boxes.0 ∙ ap (λ (v : BookView). box_count v.level.board) c.self.view_is in
+    let squares : c.self.inside.found.squares ≡ length c.args.self.now.level.board.cells = c.self.invariant.boxes.1 ∙ ap (λ (v : BookView). length v.level.board.cells) c.self.view_is in
+    fits_few c.args.parcel.now c.tell.ensures c.args.self.now.level found.0.0 c.self.inside.found boxes squares c.successors-successors.result.now c.successors-successors.ensures
 
 pub passes-requires-clause-within : goal.passes-requires-clause-within
 passes-requires-clause-within c = omega (arith, c.self.invariant.lawful.within, total-cuts c.self.inside.starts.items c.self.inside.found.seen c.self.invariant.cuts)
@@ -65,11 +65,11 @@ enter_all-requires-clause-rank c =
     omega (arith, few_ranks (book_view a) c.self.invariant.lawful c.args.parcel.now.rank lt)
 
 pub enter_all-requires-clause-few : goal.enter_all-requires-clause-few
-enter_all-requires-clause-few c = λ i s at.
+enter_all-requires-clause-few c =
     let found : IsAtWork c.args.self.now c.args.parcel.now × (slice_get c.args.self.now.done c.args.parcel.now.rank ≡ Some false) = c.in_default.ensures.none in
-    let boxes : c.self.inside.found.boxes ≡ box_count c.args.self.now.level.board = c.self.invariant.boxes ∙ ap (λ (v : BookView). box_count v.level.board) c.self.view_is in
-    let few = fits_few c.args.parcel.now c.tell.ensures c.args.self.now.level found.0.0 c.args.parcel.now.successors refl i s at in
-    omega (arith, few, boxes, ap (λ (f : FoundView). f.boxes) c.passes.ensures.same)
+    let boxes : c.passes.new.self.boxes ≡ box_count c.args.self.now.level.board = ap (λ (f : FoundView). f.boxes) c.passes.ensures.same ∙ c.self.invariant.boxes.0 ∙ ap (λ (v : BookView). box_count v.level.board) c.self.view_is in
+    let squares : c.passes.new.self.squares ≡ length c.args.self.now.level.board.cells = ap (λ (f : FoundView). f.squares) c.passes.ensures.same ∙ c.self.invariant.boxes.1 ∙ ap (λ (v : BookView). length v.level.board.cells) c.self.view_is in
+    fits_few c.args.parcel.now c.tell.ensures c.args.self.now.level found.0.0 c.passes.new.self boxes squares c.args.parcel.now.successors refl
 
 pub invariant_of-self-then-is_err : goal.invariant_of-self-then-is_err
 invariant_of-self-then-is_err c =
@@ -93,7 +93,7 @@ invariant_of-self-2 c =
           c.rank.ensures tally waits (subst (λ v. c.args.worker < v.workers) (sym c.self.view_is) c.requires) c.if-self.false
           (limit_same a c.self.invariant.cuts now c.self.view_is p.rank c.successors-successors.result.now p.successors c.successors-successors.ensures false (c.if-passes.ensures.passed p.rank)));
       few = c.self.invariant.few;
-      boxes = ap (λ (f : FoundView). f.boxes) put ∙ c.self.invariant.boxes;
+      boxes = (ap (λ (f : FoundView). f.boxes) put ∙ c.self.invariant.boxes.0, ap (λ (f : FoundView). f.squares) put ∙ c.self.invariant.boxes.1);
       cuts = subst (λ (xs : List Closed). AreCuts a.starts.items (length xs)) (sym seen) c.self.invariant.cuts;
       taken = λ r lt. taken_done (book_view a) c.rank.result r (c.self.invariant.taken r lt);
     }

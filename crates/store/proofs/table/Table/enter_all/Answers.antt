@@ -1,11 +1,31 @@
-use Rattle.std.proofs.Common.{ap, ◌∙◌, length, arith}
+use Rattle.std.proofs.Common.{rules, ap, ◌∙◌, length, arith}
 use Rattle.std.proofs.lemmas.List.{length-append}
 use Rattle.store.specs.FoundView.{found_view, offers_of}
 use Rattle.store.proofs.Inboxes.{length-offers, offers_appended, on_err}
+use Rattle.store.proofs.Bytes.{found_suit}
 use Rattle.store.proofs.table.Table.enter_all.Goals as goal
 
+pub append_parcel-requires : goal.append_parcel-requires
+append_parcel-requires g c =
+    let a = c.self.inside in let p = c.args.parcel.now in (
+      search rules,
+      (
+        c.self.invariant.0,
+        (
+          c.requires.share,
+          (
+            c.requires.rank,
+            (
+              found_suit g.row.N g.row.M a.boxes a.squares a.start a.table.entries a.inbox.items c.args.self.now p.successors c.self.invariant.1 c.self.view_is c.requires.few,
+              omega (arith, c.in_ok-make_room.ensures.ok.1, ap length c.successors-successors.ensures),
+            ),
+          ),
+        ),
+      ),
+    )
+
 pub returns-in_err-make_room-clause-err : goal.returns-in_err-make_room-clause-err
-returns-in_err-make_room-clause-err g c = on_err c.from_residual.result (c.make_room.ensures.same c.self.inside.boxes ∙ c.self.view_is)
+returns-in_err-make_room-clause-err g c = on_err c.from_residual.result (c.make_room.ensures.same c.self.inside.boxes c.self.inside.squares ∙ c.self.view_is)
 
 pub invariant_of-self-2 : goal.invariant_of-self-2
 invariant_of-self-2 g c =
@@ -22,12 +42,13 @@ invariant_of-self-2 g c =
         ap length c.successors-successors.ensures,
         c.in_ok-make_room.ensures.ok.0,
       ),
+      c.make_room.ensures.last,
     )
 
 pub returns-clause-ok : goal.returns-clause-ok
 returns-clause-ok g c =
     let p = c.args.parcel.now in let a = c.self.inside in
     let es = c.make_room.new.table.entries in let waits = c.make_room.new.inbox.items in
-    ap (found_view a.boxes a.start es) c.append_parcel.ensures
-    ∙ offers_appended a.boxes a.start c.args.shares c.args.share p.rank es waits p.successors c.args.self.now
-    (c.make_room.ensures.same a.boxes ∙ c.self.view_is)
+    ap (found_view a.boxes a.squares a.start es) c.append_parcel.ensures
+    ∙ offers_appended a.boxes a.squares a.start c.args.shares c.args.share p.rank es waits p.successors c.args.self.now
+    (c.make_room.ensures.same a.boxes a.squares ∙ c.self.view_is)

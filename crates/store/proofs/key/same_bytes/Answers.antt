@@ -2,11 +2,11 @@ use Rattle.std.proofs.Common.{arith, nat_eq, ap, get_or}
 use Rattle.std.specs.Cmp.Lexicographic.{pointwise, bytes_decides}
 use Rattle.std.proofs.lemmas.Bool.Decides.{same_from_decides}
 use Rattle.std.proofs.lemmas.List.{ext_get_or}
-use Rattle.store.proofs.key.same_squares.Goals as goal
+use Rattle.store.proofs.key.same_bytes.Goals as goal
 
 pub returns : goal.returns
 returns c =
-    let xs = c.args.squares.now in
+    let xs = c.args.bytes.now in
     let ys = c.args.others.now in
     let known = c.loop-place.invariant in
     let reached = c.loop-place-test.false in

@@ -1,0 +1,408 @@
+-- Floods over one set of free squares, by their numbers: visits to words, rounds of them, and what they find on a board.
+use Rattle.std.proofs.Common.{◌≡◌, ◌≢◌, ℕ, ◌+◌, ◌-◌, ◌*◌, ◌/◌, ◌%◌, ◌^◌, ◌<◌, ◌≤◌, Bool, true, false, not, eqb, ◌&&◌, ◌||◌, ◌⊎◌, ◌↔◌, List, length, get_or, set, inl, inr, refl, sym, ap, subst, ◌∙◌, arith}
+use Rattle.std.specs.Int.{bit_not, w64}
+use Rattle.std.specs.Int.RustNames.{bit_and, bit_or}
+use Rattle.std.proofs.lemmas.Bool.{cases_Bool, cases_lt, cases_eq, and_parts, and_from, not-true, not_from_false, eqb-true, eqb-false, or_cases, true≢false, false≢true}
+use Rattle.std.proofs.lemmas.List.{get_or-set_same, get_or-set_other, length-set, ext_get_or}
+use Rattle.std.proofs.lemmas.List.Sums.{sum_by-set}
+use Rattle.std.proofs.lemmas.Nat.{le_or_l}
+use Rattle.grid.specs.declared.dir.Dir.{Dir}
+use Rattle.grid.specs.declared.dir.Dir.TheVariants.{D, L, R, U}
+use Rattle.grid.specs.declared.masks.TheConstants.{WORD_BITS}
+use Rattle.grid.specs.Board.{Board, Scene, is_wall, next, opposite}
+use Rattle.grid.specs.Lawful.{IsLevel, InRoom}
+use Rattle.grid.specs.Lawful.InRoom.{beside}
+use Rattle.grid.specs.Masks.{has_bit, can_enter}
+use Rattle.grid.specs.RoomMask.{IsRoomMask}
+use Rattle.grid.proofs.lemmas.Rooms.{room_floor, room_inner}
+use Rattle.area.specs.Area.{Area}
+use Rattle.area.specs.Words.{word_bit}
+use Rattle.area.specs.inside.Flooding.{AllPass, IsKept, IsGrowing, IsFlooded, IsGrown, PassesUp, PassesDown, PassesOn, room_left}
+use Rattle.area.specs.inside.RoomFloods.{AreFree, IsBeside, PassesOver, PassesAlong, IsWidened, IsFull, IsVisit, IsPassing, IsRound, IsWidening}
+use Rattle.area.proofs.lemmas.WordBits.{word_bit-and, word_bit-not, word_bit_inside, has_bit-at, has_bit-parts, has_bit_inside, square_parts}
+use Rattle.area.proofs.lemmas.Growing.{or_bit, and_bit, bit_or_left, bit_or_right, bit_and_from, grown_by, grown_then}
+use Rattle.area.proofs.Gathers.{enter_parts, enter_from, enter_back, source_D, source_L, source_R, source_U}
+use Rattle.area.proofs.Detours.{along_walks}
+use Rattle.area.proofs.Visiting.{came_one_way}
+
+-- ---- one word
+
+-- the numbers beside those of a set, gathered from the four sides
+pub beside_bits : (words : List ℕ) (cols q j a b d e : ℕ)
+    → ((i : ℕ) → i + 1 ≡ q → word_bit a j ≡ has_bit words i) → (q < 1 → word_bit a j ≡ false)
+    → ((i : ℕ) → i ≡ q + 1 → word_bit b j ≡ has_bit words i)
+    → ((i : ℕ) → i + cols ≡ q → word_bit d j ≡ has_bit words i) → (q < cols → word_bit d j ≡ false)
+    → ((i : ℕ) → i ≡ q + cols → word_bit e j ≡ has_bit words i)
+    → (word_bit (bit_or (bit_or a b) (bit_or d e)) j ≡ true) ↔ ((p : ℕ) × IsBeside cols p q × (has_bit words p ≡ true))
+beside_bits words cols q j a b d e left none_left right up none_up down = (there, back)
+  where
+    there : word_bit (bit_or (bit_or a b) (bit_or d e)) j ≡ true → (p : ℕ) × IsBeside cols p q × (has_bit words p ≡ true)
+    there h = elim (or_bit (bit_or a b) (bit_or d e) j h) [
+      | inl row ↦ elim (or_bit a b j row) [
+        | inl x ↦ elim (cases_lt q 1) [
+          | inl first ↦ absurd (true≢false (sym x ∙ none_left first))
+          | inr more ↦ (let z : q - 1 + 1 ≡ q = omega arith in (q - 1, inl (inl z), sym (left (q - 1) z) ∙ x))
+        ]
+        | inr x ↦ (q + 1, inl (inr refl), sym (right (q + 1) refl) ∙ x)
+      ]
+      | inr column ↦ elim (or_bit d e j column) [
+        | inl x ↦ elim (cases_lt q cols) [
+          | inl first ↦ absurd (true≢false (sym x ∙ none_up first))
+          | inr more ↦ (let z : q - cols + cols ≡ q = omega arith in (q - cols, inr (inl z), sym (up (q - cols) z) ∙ x))
+        ]
+        | inr x ↦ (q + cols, inr (inr refl), sym (down (q + cols) refl) ∙ x)
+      ]
+    ]
+
+    from : (p : ℕ) → IsBeside cols p q → has_bit words p ≡ true → word_bit (bit_or (bit_or a b) (bit_or d e)) j ≡ true
+    from p (inl (inl z)) h = bit_or_left (bit_or a b) (bit_or d e) j (bit_or_left a b j (left p z ∙ h))
+    from p (inl (inr z)) h = bit_or_left (bit_or a b) (bit_or d e) j (bit_or_right a b j (right p z ∙ h))
+    from p (inr (inl z)) h = bit_or_right (bit_or a b) (bit_or d e) j (bit_or_left d e j (up p z ∙ h))
+    from p (inr (inr z)) h = bit_or_right (bit_or a b) (bit_or d e) j (bit_or_right d e j (down p z ∙ h))
+
+    back : (p : ℕ) × IsBeside cols p q × (has_bit words p ≡ true) → word_bit (bit_or (bit_or a b) (bit_or d e)) j ≡ true
+    back w = from w.0 w.1 w.2
+
+-- runs to the right, and then steps to the left
+pub grown_along : (word right left last free : ℕ) → IsGrown word right (λ test. PassesUp test 1 free) → IsGrown right left (λ test. PassesDown test 1 free) → IsGrown left last (λ test. PassesDown test 1 free) → IsGrown word last (λ test. PassesAlong test free)
+grown_along word right left last free r l m = grown_then word right last P (grown_by word right (λ test. PassesUp test 1 free) P (λ test pass. pass.on_right) r) (grown_then right left last P (grown_by right left (λ test. PassesDown test 1 free) P (λ test pass. pass.on_left) l) (grown_by left last (λ test. PassesDown test 1 free) P (λ test pass. pass.on_left) m))
+  where
+    P : (ℕ → Bool) → Type 0
+    P = λ test. PassesAlong test free
+
+-- nothing is added
+pub widened_none : (cols : ℕ) (free words : List ℕ) → IsWidened cols free words words
+widened_none cols free words = record { size = refl; kept = λ q h. h; sound = λ test passes all. all }
+
+pub widened_then : (cols : ℕ) (free a b c : List ℕ) → IsWidened cols free a b → IsWidened cols free b c → IsWidened cols free a c
+widened_then cols free a b c g h = record {
+  size = h.size ∙ g.size;
+  kept = λ q x. h.kept q (g.kept q x);
+  sound = λ test passes all. h.sound test passes (g.sound test passes all);
+}
+
+-- where a word is written over with itself, nothing changes
+pub set_itself : (words : List ℕ) (place word : ℕ) → word ≡ get_or words place 0 → set words place word ≡ words
+set_itself words place word same = ext_get_or 0 (set words place word) words (length-set words place word) (λ k lt. elim (cases_eq k place) [
+  | inl e ↦ ap (λ (x : ℕ). get_or (set words place word) x 0) e ∙ (get_or-set_same words place word 0 (let z = length-set words place word in omega (arith, z, e, lt)) ∙ (same ∙ ap (λ (x : ℕ). get_or words x 0) (sym e)))
+  | inr ne ↦ get_or-set_other words place k word 0 ne
+])
+
+-- a word of free numbers passes a test on within it as the set of free numbers does
+module _ (cols : ℕ) (free : List ℕ) (place : ℕ) (fits : get_or free place 0 < 2 ^ 64) (test : ℕ → Bool) (passes : PassesOver cols free test) where
+  onto : (i j : ℕ) → IsBeside cols (WORD_BITS * place + i) (WORD_BITS * place + j) → word_bit (get_or free place 0) j ≡ true → test (WORD_BITS * place + i) ≡ true → test (WORD_BITS * place + j) ≡ true
+  onto i j near bit old = passes (WORD_BITS * place + i) (WORD_BITS * place + j) near (has_bit-at free place j (word_bit_inside (get_or free place 0) j fits bit) ∙ bit) old
+
+  pub along : PassesAlong (λ j. test (WORD_BITS * place + j)) (get_or free place 0)
+  along = record {
+    on_right = λ i j e bit old. onto i j (inl (inl (omega (arith, e)))) bit old;
+    on_left = λ i j e bit old. onto i j (inl (inr (omega (arith, e)))) bit old;
+  }
+
+  pub all_ways : PassesOn (λ j. test (WORD_BITS * place + j)) cols (get_or free place 0) (get_or free place 0) (get_or free place 0) (get_or free place 0)
+  all_ways = record {
+    on_down = λ i j e bit old. onto i j (inr (inl (omega (arith, e)))) bit old;
+    on_left = λ i j e bit old. onto i j (inl (inr (omega (arith, e)))) bit old;
+    on_right = λ i j e bit old. onto i j (inl (inl (omega (arith, e)))) bit old;
+    on_up = λ i j e bit old. onto i j (inr (inr (omega (arith, e)))) bit old;
+  }
+
+-- ---- a visit
+
+-- where a word has each of its free numbers, it is full
+pub visit_full : (cols : ℕ) (free old : List ℕ) (place : ℕ) → bit_or (get_or old place 0) (get_or free place 0) ≡ get_or old place 0 → IsVisit cols free place old old false
+visit_full cols free old place same = record {
+  widened = widened_none cols free old;
+  others = λ k ne. refl;
+  less = λ h. absurd (false≢true h);
+  same = λ h. refl;
+  full = λ h p j lt near vacant there.
+      has_bit-at old place j lt ∙ (ap (λ (w : ℕ). word_bit w j) (sym same) ∙ bit_or_right (get_or old place 0) (get_or free place 0) j (sym (has_bit-at free place j lt) ∙ vacant));
+}
+
+module _ (cols : ℕ) (free old : List ℕ) (place came : ℕ) (inside : place < length old) (old_fits : get_or old place 0 < 2 ^ 64) (free_fits : get_or free place 0 < 2 ^ 64)
+    (bits : (j : ℕ) → j < WORD_BITS → (word_bit came j ≡ true) ↔ ((p : ℕ) × IsBeside cols p (WORD_BITS * place + j) × (has_bit old p ≡ true))) where
+  abbrev pub first_bits : ℕ
+  first_bits = bit_or (get_or old place 0) (bit_and came (get_or free place 0))
+
+  pub still_full : first_bits ≡ get_or old place 0 → IsFull cols free place old
+  still_full same p j lt near vacant there =
+      has_bit-at old place j lt
+      ∙ (ap (λ (w : ℕ). word_bit w j) (sym same)
+      ∙ bit_or_right (get_or old place 0) (bit_and came (get_or free place 0)) j (bit_and_from came (get_or free place 0) j ((bits j lt).1 (p, near, there)) (sym (has_bit-at free place j lt) ∙ vacant)))
+
+  -- where a visit adds nothing to a word, it is full
+  pub visit_still : first_bits ≡ get_or old place 0 → IsVisit cols free place old old false
+  visit_still same = record {
+    widened = widened_none cols free old;
+    others = λ k ne. refl;
+    less = λ h. absurd (false≢true h);
+    same = λ h. refl;
+    full = λ h. still_full same;
+  }
+
+  -- the numbers beside the set pass a test that all of the set pass
+  first_pass : (test : ℕ → Bool) → PassesOver cols free test → AllPass test old → (j : ℕ) → word_bit first_bits j ≡ true → test (WORD_BITS * place + j) ≡ true
+  first_pass test passes all j h = elim (or_bit (get_or old place 0) (bit_and came (get_or free place 0)) j h) [
+    | inl here ↦ all (WORD_BITS * place + j) (has_bit-at old place j (word_bit_inside (get_or old place 0) j old_fits here) ∙ here)
+    | inr new ↦
+        (let p = and_bit came (get_or free place 0) j new in
+        let lt = word_bit_inside (get_or free place 0) j free_fits p.1 in
+        let w = (bits j lt).0 p.0 in
+        passes w.0 (WORD_BITS * place + j) w.1 (has_bit-at free place j lt ∙ p.1) (all w.0 w.2))
+  ]
+
+  module _ (filled : ℕ) (Passes : (ℕ → Bool) → Type 0) (fits : filled < 2 ^ 64) (weaker : (test : ℕ → Bool) → PassesOver cols free test → Passes (λ j. test (WORD_BITS * place + j))) (grown : IsGrown first_bits filled Passes) where
+    -- a number's bit is of the word that was written, or as before
+    bit_now : (q : ℕ) → (q / WORD_BITS ≡ place) × (has_bit (set old place filled) q ≡ word_bit filled (q % WORD_BITS)) × (has_bit old q ≡ word_bit (get_or old place 0) (q % WORD_BITS)) ⊎ (has_bit (set old place filled) q ≡ has_bit old q)
+    bit_now q = elim (cases_eq (q / WORD_BITS) place) [
+      | inl at ↦ inl (
+        at,
+        has_bit-parts (set old place filled) q ∙ (ap (λ (k : ℕ). word_bit (get_or (set old place filled) k 0) (q % WORD_BITS)) at ∙ ap (λ (w : ℕ). word_bit w (q % WORD_BITS)) (get_or-set_same old place filled 0 inside)),
+        has_bit-parts old q ∙ ap (λ (k : ℕ). word_bit (get_or old k 0) (q % WORD_BITS)) at,
+      )
+      | inr ne ↦ inr (has_bit-parts (set old place filled) q ∙ (ap (λ (w : ℕ). word_bit w (q % WORD_BITS)) (get_or-set_other old place (q / WORD_BITS) filled 0 ne) ∙ sym (has_bit-parts old q)))
+    ]
+
+    widens : IsWidened cols free old (set old place filled)
+    widens = record {
+      size = length-set old place filled;
+      kept = λ q h. elim (bit_now q) [
+        | inl now ↦ now.1 ∙ grown.kept (q % WORD_BITS) (bit_or_left (get_or old place 0) (bit_and came (get_or free place 0)) (q % WORD_BITS) (sym now.2 ∙ h))
+        | inr same ↦ same ∙ h
+      ];
+      sound = λ test passes all q h. elim (bit_now q) [
+        | inl now ↦
+            (let at : WORD_BITS * place + q % WORD_BITS ≡ q = (let p = now.0 in omega arith) in
+            sym (ap test at) ∙ grown.sound (λ j. test (WORD_BITS * place + j)) (weaker test passes) (first_pass test passes all) (q % WORD_BITS) (sym now.1 ∙ h))
+        | inr same ↦ all q (sym same ∙ h)
+      ];
+    }
+
+    -- where the word changes, there is less room left
+    shrinks : filled ≢ get_or old place 0 → room_left (set old place filled) < room_left old
+    shrinks more =
+        let total = sum_by-set (λ (w : ℕ). 2 ^ 64 - w) old place filled 0 inside in
+        let first = le_or_l (get_or old place 0) (bit_and came (get_or free place 0)) in
+        let last = grown.most in
+        omega (arith, total, first, last, more, fits)
+
+    -- a visit that found something
+    pub visit_grown : first_bits ≢ get_or old place 0 → IsVisit cols free place old (set old place filled) true
+    visit_grown more = record {
+      widened = widens;
+      others = λ k ne. get_or-set_other old place k filled 0 ne;
+      less = λ h. shrinks (λ e. more (let first = le_or_l (get_or old place 0) (bit_and came (get_or free place 0)) in let last = grown.most in omega (arith, first, last, e)));
+      same = λ h. absurd (true≢false h);
+      full = λ h. absurd (true≢false h);
+    }
+
+    -- a visit that writes its word in any case
+    pub visit_written : IsVisit cols free place old (set old place filled) (not (eqb filled (get_or old place 0)))
+    visit_written = record {
+      widened = widens;
+      others = λ k ne. get_or-set_other old place k filled 0 ne;
+      less = λ h. shrinks (eqb-false filled (get_or old place 0) (not-true (eqb filled (get_or old place 0)) h));
+      same = λ h. set_itself old place filled (even h);
+      full = λ h. still_full (let first = le_or_l (get_or old place 0) (bit_and came (get_or free place 0)) in let last = grown.most in let e = even h in omega (arith, first, last, e));
+    }
+      where
+        even : not (eqb filled (get_or old place 0)) ≡ false → filled ≡ get_or old place 0
+        even h = eqb-true filled (get_or old place 0) (turned (eqb filled (get_or old place 0)) h)
+          where
+            turned : (b : Bool) → not b ≡ false → b ≡ true
+            turned true h = refl
+            turned false h = absurd (true≢false h)
+
+-- ---- rounds
+
+pub passing_first : (cols : ℕ) (free words : List ℕ) → IsPassing cols free 0 words words false
+passing_first cols free words = record {
+  widened = widened_none cols free words;
+  less = λ h. absurd (false≢true h);
+  same = λ h. refl;
+  full = λ h k lt. absurd (omega (arith, lt));
+}
+
+either_none : (a b : Bool) → (a || b) ≡ false → (a ≡ false) × (b ≡ false)
+either_none true b h = absurd (true≢false h)
+either_none false b h = (refl, h)
+
+pub passing_next : (cols : ℕ) (free : List ℕ) (place : ℕ) (old now new : List ℕ) (grew more : Bool) → IsPassing cols free place old now grew → IsVisit cols free place now new more → IsPassing cols free (place + 1) old new (grew || more)
+passing_next cols free place old now new grew more f v = record {
+  widened = widened_then cols free old now new f.widened v.widened;
+  less = λ h. elim (or_cases grew more h) [
+    | inl x ↦ (let a = f.less x in let b = after more refl in omega (arith, a, b))
+    | inr x ↦ (let a = before grew refl in let b = v.less x in omega (arith, a, b))
+  ];
+  same = λ h. (let n = either_none grew more h in v.same n.1 ∙ f.same n.0);
+  full = λ h k lt.
+      (let n = either_none grew more h in
+      elim (cases_lt k place) [
+        | inl early ↦ f.full n.0 k early
+        | inr late ↦ subst (λ (x : ℕ). IsFull cols free x old) (let e : place ≡ k = omega (arith, late, lt) in e) (subst (λ (ws : List ℕ). IsFull cols free place ws) (f.same n.0) (v.full n.1))
+      ]);
+}
+  where
+    after : (b : Bool) → more ≡ b → room_left new ≤ room_left now
+    after true e = (let l = v.less e in omega (arith, l))
+    after false e = (let l = ap room_left (v.same e) in omega (arith, l))
+
+    before : (b : Bool) → grew ≡ b → room_left now ≤ room_left old
+    before true e = (let l = f.less e in omega (arith, l))
+    before false e = (let l = ap room_left (f.same e) in omega (arith, l))
+
+pub passing_last : (cols : ℕ) (free : List ℕ) (place : ℕ) (old new : List ℕ) (grew : Bool) → length free ≤ place → IsPassing cols free place old new grew → IsRound cols free old new grew
+passing_last cols free place old new grew all f = record {
+  widened = f.widened;
+  less = f.less;
+  whole = λ h. subst (λ (ws : List ℕ). PassesOver cols free (has_bit ws)) (sym (f.same h)) (λ p q near vacant there. whole (f.full h) p q near vacant there);
+}
+  where
+    whole : ((k : ℕ) → k < place → IsFull cols free k old) → PassesOver cols free (has_bit old)
+    whole full p q near vacant there =
+        let at = square_parts q in
+        let lt = has_bit_inside free q vacant in
+        subst (λ (x : ℕ). IsBeside cols p x → has_bit free x ≡ true → has_bit old x ≡ true) at.0
+        (λ close clear. full (q / WORD_BITS) (omega (arith, lt, all)) p (q % WORD_BITS) at.1 close clear there) near vacant
+
+-- ---- visits that go back
+
+pub widening_on : (cols : ℕ) (free old now new : List ℕ) (place : ℕ) (grew : Bool) → IsWidening cols free place old now → IsVisit cols free place now new grew → grew ≡ false → IsWidening cols free (place + 1) old new
+widening_on cols free old now new place grew f v even = record {
+  widened = widened_then cols free old now new f.widened v.widened;
+  full = λ k lt. subst (λ (ws : List ℕ). IsFull cols free k ws) (sym (v.same even)) (elim (cases_lt k place) [
+    | inl early ↦ f.full k early
+    | inr late ↦ subst (λ (x : ℕ). IsFull cols free x now) (let e : place ≡ k = omega (arith, late, lt) in e) (v.full even)
+  ]);
+}
+
+-- a visit that added numbers changed no word that is so far before it, nor what is beside its own there
+pub widening_back : (cols : ℕ) (free old now new : List ℕ) (place back : ℕ) (grew : Bool) → cols / WORD_BITS + 1 ≤ back → IsWidening cols free place old now → IsVisit cols free place now new grew → IsWidening cols free (place - back) old new
+widening_back cols free old now new place back grew far f v = record {
+  widened = widened_then cols free old now new f.widened v.widened;
+  full = λ k lt p j inner near vacant there. v.widened.kept (WORD_BITS * k + j) (f.full k (omega (arith, lt)) p j inner near vacant (sym (before p (low k p j lt inner near)) ∙ there));
+}
+  where
+    low : (k p j : ℕ) → k < place - back → j < WORD_BITS → IsBeside cols p (WORD_BITS * k + j) → p < WORD_BITS * place
+    low k p j lt inner (inl (inl e)) = omega (arith, lt, inner, e)
+    low k p j lt inner (inl (inr e)) = omega (arith, lt, inner, e, far)
+    low k p j lt inner (inr (inl e)) = omega (arith, lt, inner, e)
+    low k p j lt inner (inr (inr e)) = omega (arith, lt, inner, e, far)
+
+    before : (x : ℕ) → x < WORD_BITS * place → has_bit new x ≡ has_bit now x
+    before x lt = has_bit-parts new x ∙ (ap (λ (w : ℕ). word_bit w (x % WORD_BITS)) (v.others (x / WORD_BITS) (λ e. omega (arith, e, lt))) ∙ sym (has_bit-parts now x))
+
+pub widening_last : (cols : ℕ) (free old new : List ℕ) (place : ℕ) → length free ≤ place → IsWidening cols free place old new → PassesOver cols free (has_bit new)
+widening_last cols free old new place all f p q near vacant there =
+    let at = square_parts q in
+    let lt = has_bit_inside free q vacant in
+    subst (λ (x : ℕ). IsBeside cols p x → has_bit free x ≡ true → has_bit new x ≡ true) at.0
+    (λ close clear. f.full (q / WORD_BITS) (omega (arith, lt, all)) p (q % WORD_BITS) at.1 close clear there) near vacant
+
+-- ---- squares that others are not
+
+-- in the midst of leaving squares out word by word: those before a place are left out, and the others are as they were
+abbrev pub AreCleared : List ℕ → List ℕ → ℕ → List ℕ → Type 0
+AreCleared squares words place now =
+    (length now ≡ length words)
+    × ((k j : ℕ) → k < place → j < WORD_BITS → word_bit (get_or now k 0) j ≡ (word_bit (get_or squares k 0) j && not (word_bit (get_or words k 0) j)))
+    × ((k : ℕ) → place ≤ k → get_or now k 0 ≡ get_or words k 0)
+
+pub cleared_on : (squares words now : List ℕ) (place word : ℕ) → AreCleared squares words place now → place < length now → word ≡ get_or now place 0 → word < 2 ^ 64 → AreCleared squares words (place + 1) (set now place (bit_and (get_or squares place 0) (bit_not w64 word)))
+cleared_on squares words now place word (size, before, rest) inside read fits = (
+  length-set now place new ∙ size,
+  λ k j lt below. elim (cases_eq k place) [
+    | inl e ↦
+        ap (λ (w : ℕ). word_bit w j) (ap (λ (x : ℕ). get_or (set now place new) x 0) e ∙ get_or-set_same now place new 0 inside)
+        ∙ (word_bit-and (get_or squares place 0) (bit_not w64 word) j
+        ∙ (ap (λ (b : Bool). word_bit (get_or squares place 0) j && b) (word_bit-not word j fits below ∙ ap (λ (w : ℕ). not (word_bit w j)) (read ∙ rest place (omega arith)))
+        ∙ ap (λ (x : ℕ). word_bit (get_or squares x 0) j && not (word_bit (get_or words x 0) j)) (sym e)))
+    | inr ne ↦ ap (λ (w : ℕ). word_bit w j) (get_or-set_other now place k new 0 ne) ∙ before k j (omega (arith, lt, ne)) below
+  ],
+  λ k le. get_or-set_other now place k new 0 (λ e. omega (arith, le, e)) ∙ rest k (omega arith),
+)
+  where
+    new : ℕ
+    new = bit_and (get_or squares place 0) (bit_not w64 word)
+
+none_past : (words : List ℕ) (q : ℕ) → WORD_BITS * length words ≤ q → has_bit words q ≡ false
+none_past words q past = elim (cases_Bool (has_bit words q)) [
+  | inl h ↦ absurd (let lt = has_bit_inside words q h in omega (arith, lt, past))
+  | inr h ↦ h
+]
+
+pub cleared_bit : (squares words now : List ℕ) (place q : ℕ) → AreCleared squares words place now → length squares ≡ length words → length words ≤ place → has_bit now q ≡ (has_bit squares q && not (has_bit words q))
+cleared_bit squares words now place q (size, before, rest) room whole = elim (cases_lt q (WORD_BITS * length words)) [
+  | inl lt ↦ has_bit-parts now q ∙ (before (q / WORD_BITS) (q % WORD_BITS) (omega (arith, lt, whole)) (omega arith) ∙ cc2 (has_bit-parts squares q) (has_bit-parts words q))
+  | inr past ↦ none_past now q (omega (arith, past, size)) ∙ sym (ap (λ (b : Bool). b && not (has_bit words q)) (none_past squares q (omega (arith, past, room))))
+]
+  where
+    cc2 : {a b c d : Bool} → a ≡ b → c ≡ d → (b && not d) ≡ (a && not c)
+    cc2 e f = cc
+
+-- ---- on a board
+
+-- the free squares are those of the room's mask where no box stands
+pub are_free : (board : Board) (boxes room free : List ℕ) → IsRoomMask board room → ((q : ℕ) → has_bit free q ≡ (has_bit room q && not (has_bit boxes q))) → AreFree board boxes free
+are_free board boxes room free mask bits q = (
+  λ h. (let p = and_parts (has_bit room q) (not (has_bit boxes q)) (sym (bits q) ∙ h) in ((mask.bits q).0 p.0, not-true (has_bit boxes q) p.1)),
+  λ w. bits q ∙ and_from (has_bit room q) (not (has_bit boxes q)) ((mask.bits q).1 w.0) (not_from_false (has_bit boxes q) w.1),
+)
+
+module _ (board : Board) (boxes free : List ℕ) (level : IsLevel board) (are : AreFree board boxes free) where
+  -- a step in each direction leads onto a square of the room
+  enters : (d : Dir) (q : ℕ) → InRoom board q → can_enter board d q ≡ true
+  enters d q r = enter_from board d q (room_floor board level r) (room_inner board level q (opposite d) r)
+
+  over : (test : ℕ → Bool) → IsKept board boxes test → PassesOver board.cols free test
+  over test keeps p q near vacant old = by near
+    where
+      w : InRoom board q × (has_bit boxes q ≡ false)
+      w = (are q).0 vacant
+
+      step : (d : Dir) → p ≡ next board q (opposite d) → test q ≡ true
+      step d e = keeps d q w.1 (enters d q w.0) (ap test (sym e) ∙ old)
+
+      by : IsBeside board.cols p q → test q ≡ true
+      by (inl (inl e)) = step R (let s = source_R board q (enters R q w.0) in omega (arith, s, e))
+      by (inl (inr e)) = step L (let s = source_L board q (enters L q w.0) in omega (arith, s, e))
+      by (inr (inl e)) = step D (let s = source_D board q (enters D q w.0) in omega (arith, s, e))
+      by (inr (inr e)) = step U (let s = source_U board q (enters U q w.0) in omega (arith, s, e))
+
+  -- what is added came by steps
+  pub widened_grows : (old new : List ℕ) → IsWidened board.cols free old new → IsGrowing board boxes old new
+  widened_grows old new f = record {
+    kept = f.kept;
+    sound = λ test keeps all. f.sound test (over test keeps) all;
+  }
+
+  near_source : (d : Dir) (q : ℕ) → can_enter board d q ≡ true → IsBeside board.cols (next board q (opposite d)) q
+  near_source R q can = inl (inl (source_R board q can))
+  near_source L q can = inl (inr (source_L board q can))
+  near_source D q can = inr (inl (source_D board q can))
+  near_source U q can = inr (inr (source_U board q can))
+
+  -- steps do not leave the room
+  room_kept : (room : List ℕ) → IsRoomMask board room → IsKept board boxes (has_bit room)
+  room_kept room mask d q clear can before =
+      let r = (mask.bits (next board q (opposite d))).0 before in
+      let back : next board (next board q (opposite d)) d ≡ q = enter_back board d q can in
+      let floor : is_wall board (next board (next board q (opposite d)) d) ≡ false = ap (is_wall board) back ∙ (enter_parts board d q can).0 in
+      (mask.bits q).1 (subst (InRoom board) back (beside d r floor))
+
+  -- where no free number is beside a set of the room's squares, no step leads out of it
+  pub widened_whole : (room old new : List ℕ) → IsRoomMask board room → ((q : ℕ) → has_bit old q ≡ true → InRoom board q) → IsWidened board.cols free old new → PassesOver board.cols free (has_bit new) → IsFlooded board boxes old new
+  widened_whole room old new mask inside f whole = record {
+    growing = widened_grows old new f;
+    settled = λ q lt clear entered.
+        (let w = came_one_way board new q entered in
+        let c = and_parts (can_enter board w.0 q) (has_bit new (next board q (opposite w.0))) w.1 in
+        let from : has_bit room (next board q (opposite w.0)) ≡ true = (widened_grows old new f).sound (has_bit room) (room_kept room mask) (λ x h. (mask.bits x).1 (inside x h)) (next board q (opposite w.0)) c.1 in
+        let here : InRoom board q = (mask.bits q).0 (room_kept room mask w.0 q clear c.0 from) in
+        whole (next board q (opposite w.0)) q (near_source w.0 q c.0) ((are q).1 (here, clear)) c.1);
+  }
+
+-- the player does not leave the room
+pub area_in_room : (board : Board) (s : Scene) (player : ℕ) → player ≡ s.player → InRoom board player → (q : ℕ) → Area board s q → InRoom board q
+area_in_room board s player same start q w = along_walks board s.boxes (InRoom board) (λ (x : ℕ) d r free. beside d r free.0) refl (subst (InRoom board) same start) w.1

@@ -1,0 +1,211 @@
+-- The rows of bytes of a key: how they are written, and what is read from them.
+use Rattle.std.proofs.Common.{◌≡◌, ℕ, zero, suc, ◌+◌, ◌*◌, ◌/◌, ◌%◌, ◌<◌, ◌≤◌, Bool, true, false, ◌&&◌, ◌||◌, ◌==◌, ◌⊎◌, inl, inr, List, [], ◌∷◌, ◌++◌, length, map, take, drop, set, fold, replicate, get_or, nat_eq, Some, add-one, refl, sym, ap, subst, ◌∙◌, arith}
+use Rattle.std.proofs.lemmas.Bool.Decides.{nat_tests}
+use Rattle.std.proofs.lemmas.List.{append_assoc, length-map, length-take-le}
+use Rattle.std.proofs.lemmas.Option.{same_Some}
+use lib.Pointwise.{pointwise, bytes_decides}
+use Rattle.std.specs.Prelude.{slice_get}
+use Rattle.grid.specs.declared.square.Push.{Push}
+use Rattle.grid.specs.Board.{Scene}
+use Rattle.successors.specs.declared.parcel.Successor.{Successor}
+use Rattle.store.specs.Entries.{Entry, Closed, same_scene}
+use Rattle.grid.specs.Rising.{is_rising}
+use Rattle.store.specs.FoundView.{AllFit, AreBelow, FitsGrid, FoundView, found_view}
+use Rattle.store.specs.inside.KeyRows.{AllSuit, IsKey, Suits, SuitsLevel, high_bytes, joined_bytes, key_scene, key_squares, key_writes, low_bytes, padded, scene_in}
+use Rattle.store.proofs.lemmas.Offers.{and_both, same_true, same_since}
+use Rattle.successors.proofs.lemmas.Lists.{map-push}
+
+-- ---- how they are written
+
+pub zeros : (n : ℕ) → replicate n 0 ≡ padded n []
+zeros zero = refl
+zeros (suc n) = ap (λ xs. 0 ∷ xs) (zeros n)
+
+pub long : (n : ℕ) (xs : List ℕ) → length (padded n xs) ≡ n
+long zero xs = refl
+long (suc n) [] = ap suc (long n [])
+long (suc n) (x ∷ xs) = ap suc (long n xs)
+
+-- in a row of no bytes nothing is written
+pub no_row : (row xs : List ℕ) → length row ≡ 0 → row ≡ padded (length row) xs
+no_row [] xs e = refl
+no_row (x ∷ row) xs e = absurd (omega (arith, e))
+
+pub no_room : (n boxes : ℕ) → (0 < n → boxes < n) → n ≤ boxes → n ≡ 0
+no_room zero boxes f le = refl
+no_room (suc n) boxes f le = absurd (omega (arith, f (omega arith), le))
+
+-- one more byte is written behind the others
+set_padded : (n : ℕ) (xs : List ℕ) (y : ℕ) → length xs < n → set (padded n xs) (length xs) y ≡ padded n (xs ++ y ∷ [])
+set_padded zero xs y lt = absurd (omega arith)
+set_padded (suc n) [] y lt = refl
+set_padded (suc n) (x ∷ xs) y lt = ap (λ zs. x ∷ zs) (set_padded n xs y (omega arith))
+
+pub first_written : (n x : ℕ) → 0 < n → set (padded n []) 0 x ≡ padded n (x ∷ [])
+first_written zero x lt = absurd (omega arith)
+first_written (suc n) x lt = refl
+
+pub more_written : (f : ℕ → ℕ) (n place p x : ℕ) (boxes row : List ℕ) → row ≡ padded n (map f (p ∷ take place boxes)) → take (place + 1) boxes ≡ take place boxes ++ x ∷ [] → place < length boxes → place + 1 < n →
+    set row (place + 1) (f x) ≡ padded n (map f (p ∷ take (place + 1) boxes))
+more_written f n place p x boxes row is more lt room =
+    let before = map f (p ∷ take place boxes) in
+    let count : length before ≡ place + 1 = omega (arith, length-map (p ∷ take place boxes) f, length-take-le place boxes (omega arith)) in
+    (λ i. set (is i) (sym count i) (f x)) ∙ set_padded n before (f x) (omega (arith, count))
+    ∙ ap (padded n) (sym (map-push f (p ∷ take place boxes) x) ∙ ap (λ xs. map f (p ∷ xs)) (sym more))
+
+-- ---- what is read
+
+low_back : (n : ℕ) (xs : List ℕ) → length xs ≤ n → AreBelow 256 xs → take (length xs) (joined_bytes (padded n (low_bytes xs)) []) ≡ xs
+low_back n [] le below = refl
+low_back zero (x ∷ xs) le below = absurd (omega arith)
+low_back (suc n) (x ∷ xs) le below = let e : x % 256 ≡ x = omega (arith, below.0) in λ i. e i ∷ low_back n xs (omega arith) below.1 i
+
+both_back : (n : ℕ) (xs : List ℕ) → length xs ≤ n → take (length xs) (joined_bytes (padded n (low_bytes xs)) (padded n (high_bytes xs))) ≡ xs
+both_back n [] le = refl
+both_back zero (x ∷ xs) le = absurd (omega arith)
+both_back (suc n) (x ∷ xs) le = let e : x % 256 + 256 * (x / 256) ≡ x = omega arith in λ i. e i ∷ both_back n xs (omega arith) i
+
+back : (n k : ℕ) (m : Scene) → Suits n k m → take (length (key_squares m)) (joined_bytes (padded n (low_bytes (key_squares m))) (padded k (high_bytes (key_squares m)))) ≡ key_squares m
+back n k m suits = elim suits.bytes [
+  | inl same ↦ ap (λ j. take (length (key_squares m)) (joined_bytes (padded n (low_bytes (key_squares m))) (padded j (high_bytes (key_squares m))))) same ∙ both_back n (key_squares m) (omega (arith, suits.room))
+  | inr small ↦ ap (λ j. take (length (key_squares m)) (joined_bytes (padded n (low_bytes (key_squares m))) (padded j (high_bytes (key_squares m))))) small.0 ∙ low_back n (key_squares m) (omega (arith, suits.room)) small.1
+]
+
+in_row : (row : List ℕ) (m : Scene) → take (length (key_squares m)) row ≡ key_squares m → scene_in (length m.boxes) row ≡ m
+in_row [] m e = absurd (let n : 0 ≡ suc (length m.boxes) = ap length e in omega (arith, n))
+in_row (x ∷ xs) m e =
+    let player : x ≡ m.player = ap (λ ys. get_or ys 0 0) e in
+    let boxes : take (length m.boxes) xs ≡ m.boxes = ap (drop 1) e in
+    λ i. record { boxes = boxes i; player = player i }
+
+-- the rows of a position show it
+pub shown : (n k : ℕ) (m : Scene) → Suits n k m → key_scene (length m.boxes) (padded n (low_bytes (key_squares m))) (padded k (high_bytes (key_squares m))) ≡ m
+shown n k m suits = in_row (joined_bytes (padded n (low_bytes (key_squares m))) (padded k (high_bytes (key_squares m)))) m (back n k m suits)
+
+pub is_key : (n k count : ℕ) (low high : List ℕ) (m : Scene) → Suits n k m → is_rising m.boxes ≡ true → count ≡ length m.boxes → low ≡ padded n (low_bytes (key_squares m)) → high ≡ padded k (high_bytes (key_squares m)) → IsKey n k count low high × (key_scene count low high ≡ m)
+is_key n k count low high m suits rising count_is low_is high_is =
+    let view : key_scene count low high ≡ m = (λ i. key_scene (count_is i) (low_is i) (high_is i)) ∙ shown n k m suits in (
+      record {
+        room = omega (arith, suits.room, count_is);
+        counted = count_is ∙ ap (λ (s : Scene). length s.boxes) (sym view);
+        rising = ap (λ (s : Scene). is_rising s.boxes) view ∙ rising;
+        low_is = low_is ∙ ap (λ (s : Scene). padded n (low_bytes (key_squares s))) (sym view);
+        high_is = high_is ∙ ap (λ (s : Scene). padded k (high_bytes (key_squares s))) (sym view);
+      },
+      view,
+    )
+
+pub joined_at : (low high : List ℕ) (place l h : ℕ) → slice_get low place ≡ Some l → slice_get high place ≡ Some h → slice_get (joined_bytes low high) place ≡ Some (l + 256 * h)
+joined_at [] high place l h e f = cc
+joined_at (x ∷ low) [] place l h e f = cc
+joined_at (x ∷ low) (y ∷ high) zero l h e f = let s = same_Some x l e in let t = same_Some y h f in λ i. Some (s i + 256 * t i)
+joined_at (x ∷ low) (y ∷ high) (suc place) l h e f = joined_at low high place l h e f
+
+pub joined_past : (low high : List ℕ) (place l : ℕ) → slice_get low place ≡ Some l → length high ≤ place → slice_get (joined_bytes low high) place ≡ Some l
+joined_past [] high place l e le = cc
+joined_past (x ∷ low) [] zero l e le = e
+joined_past (x ∷ low) [] (suc place) l e le = joined_past low [] place l e (omega arith)
+joined_past (x ∷ low) (y ∷ high) zero l e le = absurd (omega arith)
+joined_past (x ∷ low) (y ∷ high) (suc place) l e le = joined_past low high place l e (omega arith)
+
+front_at : {A : Type 0} (n : ℕ) (xs : List A) (i : ℕ) → i < n → slice_get (take n xs) i ≡ slice_get xs i
+front_at zero xs i lt = absurd (omega arith)
+front_at (suc n) [] i lt = refl
+front_at (suc n) (x ∷ xs) zero lt = refl
+front_at (suc n) (x ∷ xs) (suc i) lt = front_at n xs i (omega arith)
+
+pub boxed : (count : ℕ) (row : List ℕ) (place x : ℕ) → slice_get row (suc place) ≡ Some x → place < count → slice_get (scene_in count row).boxes place ≡ Some x
+boxed count [] place x e lt = cc
+boxed count (y ∷ ys) place x e lt = front_at count ys place lt ∙ e
+
+pub played : (count : ℕ) (row : List ℕ) (x : ℕ) → slice_get row 0 ≡ Some x → x ≡ (scene_in count row).player
+played count [] x e = cc
+played count (y ∷ ys) x e = sym (same_Some y x e)
+
+taken : (xs : List ℕ) (i x : ℕ) → slice_get xs i ≡ Some x → take (suc i) xs ≡ take i xs ++ x ∷ []
+taken [] i x at = cc
+taken (y ∷ []) zero x at = ap (λ z. z ∷ []) (same_Some y x at)
+taken (y ∷ z ∷ xs) zero x at = ap (λ z. z ∷ []) (same_Some y x at)
+taken (y ∷ xs) (suc i) x at = ap (λ zs. y ∷ zs) (taken xs i x at)
+
+-- one more square was read
+pub one_more : (xs ys more : List ℕ) (i x : ℕ) → ys ≡ take i xs → slice_get xs i ≡ Some x → more ≡ ys ++ x ∷ [] → more ≡ take (i + 1) xs
+one_more xs ys more i x e at is = is ∙ ap (λ zs. zs ++ x ∷ []) e ∙ sym (taken xs i x at) ∙ ap (λ k. take k xs) (sym (add-one i))
+
+pub one_pushed : (old xs ys more : List ℕ) (i x : ℕ) → ys ≡ old ++ take i xs → slice_get xs i ≡ Some x → more ≡ ys ++ x ∷ [] → more ≡ old ++ take (i + 1) xs
+one_pushed old xs ys more i x e at is =
+    is ∙ ap (λ zs. zs ++ x ∷ []) e ∙ append_assoc old (take i xs) (x ∷ []) ∙ ap (λ zs. old ++ zs) (sym (taken xs i x at) ∙ ap (λ k. take k xs) (sym (add-one i)))
+
+-- a key that was made of a position's squares shows it
+pub made : (n k count player : ℕ) (low high boxes : List ℕ) (m : Scene) → Suits n k m → boxes ≡ m.boxes → player ≡ m.player → is_rising boxes ≡ true → count ≡ length boxes →
+    low ≡ padded (length {A = ℕ} (replicate n 0)) (low_bytes (player ∷ boxes)) → high ≡ padded (length {A = ℕ} (replicate k 0)) (high_bytes (player ∷ boxes)) → IsKey n k count low high × (key_scene count low high ≡ m)
+made n k count player low high boxes m suits boxes_are player_is rising counted low_is high_is =
+    is_key n k count low high m suits (ap is_rising (sym boxes_are) ∙ rising) (counted ∙ ap length boxes_are)
+    (low_is ∙ (λ i. padded (length (zeros n i)) (low_bytes (player_is i ∷ boxes_are i))) ∙ ap (λ j. padded j (low_bytes (key_squares m))) (long n []))
+    (high_is ∙ (λ i. padded (length (zeros k i)) (high_bytes (player_is i ∷ boxes_are i))) ∙ ap (λ j. padded j (high_bytes (key_squares m))) (long k []))
+
+-- ---- comparing
+
+-- the fields are the same exactly where the positions are
+pub same_fields : (n k a b : ℕ) (low others high higher : List ℕ) (s t : Scene) → IsKey n k a low high → IsKey n k b others higher → key_scene a low high ≡ s → key_scene b others higher ≡ t →
+    (((a == b) && pointwise nat_eq low others) && pointwise nat_eq high higher) ≡ same_scene s t
+same_fields n k a b low others high higher s t one other view views = both (((a == b) && pointwise nat_eq low others) && pointwise nat_eq high higher) refl (same_scene s t) refl
+  where
+    forth : (((a == b) && pointwise nat_eq low others) && pointwise nat_eq high higher) ≡ true → same_scene s t ≡ true
+    forth e =
+        let x = and_both ((a == b) && pointwise nat_eq low others) (pointwise nat_eq high higher) e in
+        let y = and_both (a == b) (pointwise nat_eq low others) x.0 in
+        let count : a ≡ b = (let h = y.0 in grind (arith, nat_tests)) in
+        let lows = (bytes_decides low others).0 y.1 in
+        let highs = (bytes_decides high higher).0 x.1 in
+        same_since s t (sym view ∙ (λ i. key_scene (count i) (lows i) (highs i)) ∙ views)
+
+    three : (p q r : Bool) → p ≡ true → q ≡ true → r ≡ true → ((p && q) && r) ≡ true
+    three true true r e f g = g
+    three true false r e f g = cc
+    three false q r e f g = cc
+
+    back_again : same_scene s t ≡ true → (((a == b) && pointwise nat_eq low others) && pointwise nat_eq high higher) ≡ true
+    back_again e =
+        let same : key_scene a low high ≡ key_scene b others higher = view ∙ same_true s t e ∙ sym views in
+        let count : a ≡ b = one.counted ∙ ap (λ (m : Scene). length m.boxes) same ∙ sym other.counted in
+        let lows : low ≡ others = one.low_is ∙ ap (λ (m : Scene). padded n (low_bytes (key_squares m))) same ∙ sym other.low_is in
+        let highs : high ≡ higher = one.high_is ∙ ap (λ (m : Scene). padded k (high_bytes (key_squares m))) same ∙ sym other.high_is in
+        let counts : (a == b) ≡ true = grind (arith, nat_tests) in
+        three (a == b) (pointwise nat_eq low others) (pointwise nat_eq high higher) counts ((bytes_decides low others).1 lows) ((bytes_decides high higher).1 highs)
+
+    both : (p : Bool) → (((a == b) && pointwise nat_eq low others) && pointwise nat_eq high higher) ≡ p → (q : Bool) → same_scene s t ≡ q → (((a == b) && pointwise nat_eq low others) && pointwise nat_eq high higher) ≡ same_scene s t
+    both true e q f = e ∙ sym (forth e)
+    both false e true f = back_again f ∙ sym f
+    both false e false f = e ∙ sym f
+
+-- ---- feeding a hasher
+
+pub fed_both : {S : Type 0} (write : S → List ℕ → S) (n k : ℕ) (before after : S) (low high : List ℕ) (m : Scene) → low ≡ padded n (low_bytes (key_squares m)) → high ≡ padded k (high_bytes (key_squares m)) → 0 < k → after ≡ write (write before low) high → after ≡ fold write before (key_writes n k m)
+fed_both write n zero before after low high m low_is high_is lt e = absurd (omega arith)
+fed_both write n (suc k) before after low high m low_is high_is lt e = e ∙ (λ i. write (write before (low_is i)) (high_is i))
+
+pub fed_low : {S : Type 0} (write : S → List ℕ → S) (n k : ℕ) (before after : S) (low : List ℕ) (m : Scene) → low ≡ padded n (low_bytes (key_squares m)) → ¬ (0 < k) → after ≡ write before low → after ≡ fold write before (key_writes n k m)
+fed_low write n zero before after low m low_is none e = e ∙ ap (write before) low_is
+fed_low write n (suc k) before after low m low_is none e = absurd (none (omega arith))
+
+-- ---- positions of a level
+
+below_more : (n k : ℕ) (xs : List ℕ) → n ≤ k → AreBelow n xs → AreBelow k xs
+below_more n k [] le below = tt
+below_more n k (x ∷ xs) le below = (omega (arith, below.0), below_more n k xs le below.1)
+
+-- keys that suit a level suit its positions
+pub suits : (n k boxes squares : ℕ) (m : Scene) → SuitsLevel n k boxes squares → FitsGrid boxes squares m → Suits n k m
+suits n k boxes squares m level fits = record {
+  room = omega (arith, level.room, fits.few);
+  bytes = elim level.bytes [ inl same ↦ inl same | inr small ↦ inr (small.0, below_more squares 256 (key_squares m) small.1 fits.below) ];
+}
+
+-- so they suit what fits what is found
+pub found_suit : (n k boxes squares start : ℕ) (es : List Closed) (inbox : List (Entry Scene Push)) (v : FoundView) (ss : List Successor) → SuitsLevel n k boxes squares → found_view boxes squares start es inbox ≡ v → AllFit v ss → AllSuit n k ss
+found_suit n k boxes squares start es inbox v ss level view fit = λ i s at.
+    suits n k v.boxes v.squares s.position (subst (λ (u : FoundView). SuitsLevel n k u.boxes u.squares) view level) (fit.each i s at)
+
+pub carried : (v w : FoundView) (ss : List Successor) → v ≡ w → AllFit w ss → AllFit v ss
+carried v w ss e fit = subst (λ u. AllFit u ss) (sym e) fit

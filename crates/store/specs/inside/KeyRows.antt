@@ -1,0 +1,78 @@
+-- The bytes of a key: the low ones of its squares in one row, and the high ones in another where there are any.
+use Rattle.std.specs.Prelude.{◌≡◌, ℕ, zero, suc, ◌+◌, ◌*◌, ◌/◌, ◌%◌, ◌<◌, ◌≤◌, ◌==◌, ◌&&◌, ◌⊎◌, IsTrue, true, List, [], ◌∷◌, map, nat_eq, take, length, slice_get, Some}
+use Rattle.std.specs.Cmp.{first_so, second_so, unsigned_Decides}
+use Rattle.std.specs.Cmp.Lexicographic.{pointwise, bytes_decides}
+use Rattle.std.specs.Hash as fed
+use Rattle.grid.specs.Board.{Scene}
+use Rattle.grid.specs.Rising.{is_rising}
+use Rattle.store.specs.Entries.{same_scene}
+use Rattle.successors.specs.declared.parcel.Successor.{Successor}
+use Rattle.store.specs.FoundView.{AreBelow}
+
+-- so many bytes: these, and zeros after them
+abbrev pub padded : ℕ → List ℕ → List ℕ
+padded zero xs = []
+padded (suc n) [] = 0 ∷ padded n []
+padded (suc n) (x ∷ xs) = x ∷ padded n xs
+
+abbrev pub low_bytes : List ℕ → List ℕ
+low_bytes xs = map (λ x. x % 256) xs
+
+abbrev pub high_bytes : List ℕ → List ℕ
+high_bytes xs = map (λ x. x / 256) xs
+
+-- squares from their low bytes and their high ones, which are 0 beyond the end of their row
+abbrev pub joined_bytes : List ℕ → List ℕ → List ℕ
+joined_bytes [] hs = []
+joined_bytes (l ∷ ls) [] = l ∷ joined_bytes ls []
+joined_bytes (l ∷ ls) (h ∷ hs) = (l + 256 * h) ∷ joined_bytes ls hs
+
+-- a position's squares in the order of a key: the player's, and then those of the boxes
+abbrev pub key_squares : Scene → List ℕ
+key_squares m = m.player ∷ m.boxes
+
+-- the position of so many boxes that squares in this order show
+abbrev pub scene_in : ℕ → List ℕ → Scene
+scene_in count [] = record { boxes = []; player = 0 }
+scene_in count (x ∷ xs) = record { boxes = take count xs; player = x }
+
+-- what the fields of a key show
+abbrev pub key_scene : ℕ → List ℕ → List ℕ → Scene
+key_scene count low high = scene_in count (joined_bytes low high)
+
+-- the fields of a key with rows of so many low and high bytes: they are those of the position that they show
+pub record IsKey (n k count : ℕ) (low high : List ℕ) : Type 0 where
+  pub room : count < n
+  pub counted : count ≡ length (key_scene count low high).boxes
+  pub rising : is_rising (key_scene count low high).boxes ≡ true
+  pub low_is : low ≡ padded n (low_bytes (key_squares (key_scene count low high)))
+  pub high_is : high ≡ padded k (high_bytes (key_squares (key_scene count low high)))
+
+-- a position has a key with rows of so many bytes: it has fewer boxes, and where there are no high bytes its squares need none
+pub record Suits (n k : ℕ) (m : Scene) : Type 0 where
+  pub room : length m.boxes < n
+  pub bytes : (k ≡ n) ⊎ ((k ≡ 0) × AreBelow 256 (key_squares m))
+
+-- the position of each successor has one
+abbrev pub AllSuit : ℕ → ℕ → List Successor → Type 0
+AllSuit n k ss = (i : ℕ) (s : Successor) → slice_get ss i ≡ Some s → Suits n k s.position
+
+-- keys with rows of so many bytes suit all positions of at most so many boxes on a grid of so many squares
+pub record SuitsLevel (n k boxes squares : ℕ) : Type 0 where
+  pub room : boxes < n
+  pub bytes : (k ≡ n) ⊎ ((k ≡ 0) × (squares ≤ 256))
+
+-- what a key feeds a hasher: its rows, but for one that has no bytes
+abbrev pub high_writes : ℕ → Scene → fed.HashWrites
+high_writes zero m = []
+high_writes (suc k) m = padded (suc k) (high_bytes (key_squares m)) ∷ []
+
+abbrev pub key_writes : ℕ → ℕ → Scene → fed.HashWrites
+key_writes n k m = padded n (low_bytes (key_squares m)) ∷ high_writes k m
+
+-- equal positions feed the same
+pub keys_alike : (n k : ℕ) (s t : Scene) → IsTrue (same_scene s t) → key_writes n k s ≡ key_writes n k t
+keys_alike n k s t same =
+    let boxes = (bytes_decides s.boxes t.boxes).0 (first_so (pointwise nat_eq s.boxes t.boxes) (s.player == t.player) same) in
+    let player = (unsigned_Decides s.player t.player).0 (second_so (pointwise nat_eq s.boxes t.boxes) (s.player == t.player) same) in
+    λ i. key_writes n k (record { boxes = boxes i; player = player i })
