@@ -9,7 +9,8 @@ use Rattle.grid.proofs.lemmas.Steps.{inside_grid, next_back}
 use Rattle.prices.specs.declared.table.Side.{Side}
 use Rattle.prices.specs.declared.table.Table.{Table}
 use Rattle.prices.specs.Prices.{AreFar, CanStand, goals_of}
-use Rattle.prices.specs.inside.Tables.{AreClosed, AreNoneAtHome, KeepRows, LessenByOne, far_in, has_number, number_of, place_in, row_by, row_in, sides_of, spot_of}
+use Rattle.prices.specs.inside.Checks.{AreClosed, AreNoneAtHome, KeepRows, LessenByOne}
+use Rattle.prices.specs.inside.Tables.{far_in, has_number, number_of, place_in, row_by, row_in, sides_of, spot_of}
 use Rattle.prices.proofs.Goals.{contains-goals}
 
 -- what holds below a number, and of it, holds below the next one
@@ -27,7 +28,8 @@ all_four P down left right up R = right
 all_four P down left right up U = up
 
 -- four answers that are all true tell what each tells
-pub told_by_four : (P : Dir → Type 0) (a b c e : Bool) → (a ≡ true → P D) → (b ≡ true → P L) → (c ≡ true → P R) → (e ≡ true → P U) → (((a && b) && c) && e) ≡ true → (d : Dir) → P d
+pub told_by_four : (P : Dir → Type 0) (a b c e : Bool) → (a ≡ true → P D) → (b ≡ true → P L) → (c ≡ true → P R) → (e ≡ true → P U)
+    → (((a && b) && c) && e) ≡ true → (d : Dir) → P d
 told_by_four P a b c e down left right up all =
     let last = and_parts ((a && b) && c) e all in
     let third = and_parts (a && b) c last.0 in
@@ -37,7 +39,8 @@ told_by_four P a b c e down left right up all =
 -- ---- sides
 
 -- numbers that are of the same sides have the same row
-same_row : (sides : List Side) (j k other : ℕ) → ((i : ℕ) (s : Side) → slice_get sides i ≡ Some s → has_number s j ≡ has_number s k) → row_by sides j other ≡ row_by sides k other
+same_row : (sides : List Side) (j k other : ℕ) → ((i : ℕ) (s : Side) → slice_get sides i ≡ Some s → has_number s j ≡ has_number s k)
+    → row_by sides j other ≡ row_by sides k other
 same_row [] j k other same = refl
 same_row (s ∷ ss) j k other same =
     let here = same 0 s refl in
@@ -55,7 +58,8 @@ rows_kept board t closed b p d here there =
     let q = next board p d in
     let sides = sides_of t.spots.items t.sides.items b in
     let back : next board q (opposite d) ≡ p = next_back board p d here.player there.player in
-    ap (λ (n : ℕ). take (length t.goals.items) (drop n t.far.items)) (same_row sides (spot_of t.spots.items p).number (spot_of t.spots.items q).number (spot_of t.spots.items b).row (λ i s at. (
+    let number : ℕ → ℕ = λ x. (spot_of t.spots.items x).number in
+    ap (λ (n : ℕ). take (length t.goals.items) (drop n t.far.items)) (same_row sides (number p) (number q) (spot_of t.spots.items b).row (λ i s at. (
     let is = closed b (inside_grid board b here.floor) i s at in
     both (has_number s (spot_of t.spots.items p).number) (has_number s (spot_of t.spots.items q).number)
     (is p d here there)
@@ -77,12 +81,14 @@ pub at_place : (xs : List ℕ) (q d : ℕ) → contains xs q ≡ true → get_or
 at_place [] q d here = absurd (false≢true here)
 at_place (x ∷ xs) q d here = at_head (eqb x q) (eqb-true x q) (λ h. at_place xs q d h) here
   where
-    at_head : (e : Bool) → (e ≡ true → x ≡ q) → (contains xs q ≡ true → get_or xs (place_in xs q) d ≡ q) → (e || contains xs q) ≡ true → get_or (x ∷ xs) (cond e 0 (suc (place_in xs q))) d ≡ q
+    at_head : (e : Bool) → (e ≡ true → x ≡ q) → (contains xs q ≡ true → get_or xs (place_in xs q) d ≡ q) → (e || contains xs q) ≡ true
+        → get_or (x ∷ xs) (cond e 0 (suc (place_in xs q))) d ≡ q
     at_head true same tail h = same refl
     at_head false same tail h = tail h
 
 -- where the rows of each goal have a 0 at its place, no goal is far from a box on it
-pub none_at_home : (board : Board) (t : Table) → ((i p : ℕ) → i < length t.goals.items → p < length board.cells → get_or (row_in t (get_or t.goals.items i 0) p) i 0 ≡ 0) → AreNoneAtHome board t
+pub none_at_home : (board : Board) (t : Table)
+    → ((i p : ℕ) → i < length t.goals.items → p < length board.cells → get_or (row_in t (get_or t.goals.items i 0) p) i 0 ≡ 0) → AreNoneAtHome board t
 none_at_home board t none g p there inside =
     let i = place_in t.goals.items g in
     subst (λ (x : ℕ). get_or (row_in t x p) i 0 ≡ 0) (at_place t.goals.items g 0 there) (none i p (place_inside t.goals.items g there) inside)
@@ -95,7 +101,8 @@ are_all x y z all =
     let first = and_parts x y last.0 in
     (first.0, first.1, last.1)
 
-pub are_far : (board : Board) (t : Table) → t.goals.items ≡ goals_of board → KeepRows board t → AreNoneAtHome board t → LessenByOne board t → AreFar board (far_in t)
+pub are_far : (board : Board) (t : Table) → t.goals.items ≡ goals_of board → KeepRows board t → AreNoneAtHome board t → LessenByOne board t
+    → AreFar board (far_in t)
 are_far board t goals kept none less = record {
   home = λ g p goal stands. none g p (ap (λ (xs : List ℕ). contains xs g) goals ∙ (contains-goals board g ∙ goal)) (inside_grid board p stands.player);
   walk = λ g b p d here there. (

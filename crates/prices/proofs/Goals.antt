@@ -29,10 +29,12 @@ place_later k true ps q lt = rw (ne_eqb k q (λ e. omega arith)) refl
 place_later k false ps q lt = refl
 
 -- a place counted from k is among the places where the element there passes; d, the element past the end, fails
-contains-places_from : {A : Type 0} (test : A → Bool) (k : ℕ) (cs : List A) (i : ℕ) (d : A) → test d ≡ false → contains (places_from test k cs) (k + i) ≡ test (get_or cs i d)
+contains-places_from : {A : Type 0} (test : A → Bool) (k : ℕ) (cs : List A) (i : ℕ) (d : A) → test d ≡ false
+    → contains (places_from test k cs) (k + i) ≡ test (get_or cs i d)
 contains-places_from test k [] i d fails = sym fails
 contains-places_from test k (c ∷ cs) zero d fails =
-    subst (λ (q : ℕ). contains (places_from test k (c ∷ cs)) q ≡ test c) (let e : k ≡ k + zero = omega arith in e) (place_here k (test c) (places_from test (suc k) cs) (rises_from-places_from test (suc k) cs))
+    subst (λ (q : ℕ). contains (places_from test k (c ∷ cs)) q ≡ test c) (let e : k ≡ k + zero = omega arith in e)
+    (place_here k (test c) (places_from test (suc k) cs) (rises_from-places_from test (suc k) cs))
 contains-places_from test k (c ∷ cs) (suc i) d fails =
     place_later k (test c) (places_from test (suc k) cs) (k + suc i) (omega arith)
     ∙ (ap (λ (q : ℕ). contains (places_from test (suc k) cs) q) (let e : k + suc i ≡ suc k + i = omega arith in e)
@@ -42,7 +44,8 @@ contains-places_from test k (c ∷ cs) (suc i) d fails =
 pub contains-goals : (board : Board) (q : ℕ) → contains (goals_of board) q ≡ is_goal board q
 unfolding is_goal
 contains-goals board q =
-    subst (λ (r : ℕ). contains (goals_of board) r ≡ goal_cell (get_or board.cells q Wall)) (let e : 0 + q ≡ q = omega arith in e) (contains-places_from goal_cell 0 board.cells q Wall refl)
+    subst (λ (r : ℕ). contains (goals_of board) r ≡ goal_cell (get_or board.cells q Wall)) (let e : 0 + q ≡ q = omega arith in e)
+    (contains-places_from goal_cell 0 board.cells q Wall refl)
 
 -- the goals rise
 pub is_rising-goals : (board : Board) → is_rising (goals_of board) ≡ true

@@ -24,7 +24,8 @@ at_least cost cap n (g ∷ gs) each le =
     omega (arith, here, rest)
 
 -- what is at most each sum of a distance and its toll is at most what the box needs
-pub need_least : (t : Table) (tolls row : List ℕ) (b p n : ℕ) → row ≡ row_in t b p → length row ≡ length tolls → length tolls ≡ length t.goals.items → ((i : ℕ) → i < length row → n ≤ get_or row i 0 + get_or tolls i 0) → n ≤ greatest → n ≤ need_by t tolls b p
+pub need_least : (t : Table) (tolls row : List ℕ) (b p n : ℕ) → row ≡ row_in t b p → length row ≡ length tolls → length tolls ≡ length t.goals.items
+    → ((i : ℕ) → i < length row → n ≤ get_or row i 0 + get_or tolls i 0) → n ≤ greatest → n ≤ need_by t tolls b p
 need_least t tolls row b p n is same size each le =
     at_least (λ g. far_in t g b p + number_of t.goals.items tolls g) greatest n t.goals.items (λ g there. (
     let i = place_in t.goals.items g in
@@ -56,7 +57,9 @@ tolls_le k (g ∷ gs) (x ∷ xs) rises same =
     other y false is = refl
 
 -- where the boxes need so much more than the tolls, no play with fewer pushes ends solved
-pub needs_above : (board : Board) (t : Table) (tolls : List ℕ) (s : Scene) (needs sum m : ℕ) → AreFar board (far_in t) → t.goals.items ≡ goals_of board → length tolls ≡ length t.goals.items → IsScene board s → needs ≤ sum_over (λ b. need_by t tolls b s.player) s.boxes → sum ≡ total tolls → m < needs - sum → NoneWithin board m s
+pub needs_above : (board : Board) (t : Table) (tolls : List ℕ) (s : Scene) (needs sum m : ℕ) → AreFar board (far_in t)
+    → t.goals.items ≡ goals_of board → length tolls ≡ length t.goals.items → IsScene board s
+    → needs ≤ sum_over (λ b. need_by t tolls b s.player) s.boxes → sum ≡ total tolls → m < needs - sum → NoneWithin board m s
 needs_above board t tolls s needs sum m far goals size scene le paid lt =
     let toll = number_of t.goals.items tolls in
     let rises : is_rising t.goals.items ≡ true = ap (λ (gs : List ℕ). is_rising gs) goals ∙ is_rising-goals board in

@@ -1,9 +1,8 @@
 //! Whether distances pass the look that makes them lower bounds: one step of the player, or one push, at a time.
-ghost use Rattle.std.specs.Prelude.{◌≡◌, ℕ, ◌+◌, ◌<◌, ◌≤◌, IsTrue, suc, true, false, length, slice_index_or};
-ghost use Rattle.grid.specs.Board.{is_wall, next};
-ghost use Rattle.grid.specs.Squares.{contains};
+ghost use Rattle.std.specs.Prelude.{◌≡◌, ℕ, ◌<◌, IsTrue, true, length, slice_index_or};
 ghost use Rattle.prices.specs.Prices.{AreFar, CanStand, goals_of};
-ghost use Rattle.prices.specs.inside.Tables.{far_in, row_in, AreClosed, AreNoneAtHome, AreWithinOne, IsClosed, KeepRows, LessenByOne, LessensByOne, StaysIn, has_number, spot_of};
+ghost use Rattle.prices.specs.inside.Checks.{AreClosed, AreNoneAtHome, AreWithinOne, IsClosed, KeepRows, LessenByOne, LessensByOne, StaysIn};
+ghost use Rattle.prices.specs.inside.Tables.{far_in, row_in, has_number, spot_of};
 
 use crate::table::{Side, Table};
 use grid::{Dir, Level, Square};

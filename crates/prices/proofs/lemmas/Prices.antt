@@ -25,7 +25,8 @@ sum_inserted f (x ∷ xs) r out =
     let parts = or_parts (eqb x r) (contains xs r) out in
     at_head (sum_inserted f xs r parts.1) (nat_lt r x) (eqb x r) parts.0
   where
-    at_head : sum_over f (insert xs r) ≡ f r + sum_over f xs → (lt eq : Bool) → eq ≡ false → sum_over f (cond lt (r ∷ x ∷ xs) (cond eq (x ∷ xs) (x ∷ insert xs r))) ≡ f r + (f x + sum_over f xs)
+    at_head : sum_over f (insert xs r) ≡ f r + sum_over f xs → (lt eq : Bool) → eq ≡ false
+        → sum_over f (cond lt (r ∷ x ∷ xs) (cond eq (x ∷ xs) (x ∷ insert xs r))) ≡ f r + (f x + sum_over f xs)
     at_head tail true eq apart = refl
     at_head tail false true apart = absurd (true≢false apart)
     at_head tail false false apart = omega (arith, tail)
@@ -35,9 +36,11 @@ pub sum_put_back : (f : ℕ → ℕ) (k : ℕ) (xs : Squares) (q : ℕ) → rise
 sum_put_back f k [] q rises here = absurd (false≢true here)
 sum_put_back f k (x ∷ xs) q rises here =
     let parts = rises_from-parts k x xs rises in
-    at_head (λ there. sum_put_back f (suc x) xs q parts.1 there) (λ same. remove_out xs q (contains-below (suc x) xs q parts.1 (omega (arith, same)))) (eqb x q) (eqb-true x q) here
+    at_head (λ there. sum_put_back f (suc x) xs q parts.1 there)
+    (λ same. remove_out xs q (contains-below (suc x) xs q parts.1 (omega (arith, same)))) (eqb x q) (eqb-true x q) here
   where
-    at_head : (contains xs q ≡ true → sum_over f xs ≡ f q + sum_over f (remove xs q)) → (x ≡ q → remove xs q ≡ xs) → (eq : Bool) → (eq ≡ true → x ≡ q) → (eq || contains xs q) ≡ true → f x + sum_over f xs ≡ f q + sum_over f (cond eq (remove xs q) (x ∷ remove xs q))
+    at_head : (contains xs q ≡ true → sum_over f xs ≡ f q + sum_over f (remove xs q)) → (x ≡ q → remove xs q ≡ xs) → (eq : Bool) → (eq ≡ true → x ≡ q)
+        → (eq || contains xs q) ≡ true → f x + sum_over f xs ≡ f q + sum_over f (cond eq (remove xs q) (x ∷ remove xs q))
     at_head tail gone true same there =
         let e = same refl in
         let a : f x ≡ f q = ap f e in
@@ -54,11 +57,13 @@ sum_le f g (x ∷ xs) le =
     omega (arith, here, rest)
 
 -- and so have fewer squares
-sum_within : (f : ℕ → ℕ) (k : ℕ) (xs ys : Squares) → rises_from k xs ≡ true → is_rising ys ≡ true → ((q : ℕ) → contains xs q ≡ true → contains ys q ≡ true) → sum_over f xs ≤ sum_over f ys
+sum_within : (f : ℕ → ℕ) (k : ℕ) (xs ys : Squares) → rises_from k xs ≡ true → is_rising ys ≡ true
+    → ((q : ℕ) → contains xs q ≡ true → contains ys q ≡ true) → sum_over f xs ≤ sum_over f ys
 sum_within f k [] ys rises rising within = omega arith
 sum_within f k (x ∷ xs) ys rises rising within =
     let parts = rises_from-parts k x xs rises in
-    let rest = sum_within f (suc x) xs (remove ys x) parts.1 (is_rising-remove ys x rising) (λ q there. contains-remove_other ys x q (let ge = contains-from (suc x) xs q parts.1 there in λ e. omega (arith, e, ge)) ∙ within q (in_tail x xs q there)) in
+    let rest = sum_within f (suc x) xs (remove ys x) parts.1 (is_rising-remove ys x rising)
+    (λ q there. contains-remove_other ys x q (let ge = contains-from (suc x) xs q parts.1 there in λ e. omega (arith, e, ge)) ∙ within q (in_tail x xs q there)) in
     let put = sum_put_back f 0 ys x rising (within x (contains_head x xs)) in
     omega (arith, rest, put)
 
@@ -78,7 +83,8 @@ module _ (board : Board) (toll : ℕ → ℕ) (need : ℕ → ℕ → ℕ) (is :
       let q = next board s.player d in
       let here : Scene = record { boxes = s.boxes; player = q } in
       let still : IsScene board here = subst (IsScene board) step.1 (scene_after_walk board s d t scene step) in
-      let le = sum_le (λ b. need b s.player) (λ b. need b q) s.boxes (λ b there. is.walk b s.player d (can_stand board s b scene there) (can_stand board here b still there)) in
+      let le = sum_le (λ b. need b s.player) (λ b. need b q) s.boxes
+      (λ b there. is.walk b s.player d (can_stand board s b scene there) (can_stand board here b still there)) in
       subst (λ (x : Scene). total_need need s ≤ total_need need x) (sym step.1) le
 
   need_after_push : (s t : Scene) (d : Dir) → IsScene board s → Pushes board s d t → total_need need s ≤ suc (total_need need t)
@@ -106,7 +112,8 @@ module _ (board : Board) (toll : ℕ → ℕ) (need : ℕ → ℕ → ℕ) (is :
       let within = sum_within toll 0 s.boxes (goals_of board) scene.rising (is_rising-goals board) (λ b there. contains-goals board b ∙ solved b there) in
       omega (arith, pay, within)
 
-  need_played : (s t : Scene) (ds : List Dir) (ps : List Push) → IsScene board s → Play board Any s ds ps t → IsSolved board t → total_need need s ≤ length ps + sum_over toll (goals_of board)
+  need_played : (s t : Scene) (ds : List Dir) (ps : List Push) → IsScene board s → Play board Any s ds ps t → IsSolved board t
+      → total_need need s ≤ length ps + sum_over toll (goals_of board)
   need_played s t ds ps scene (stay ok) solved = let e = need_solved s scene solved in omega (arith, e)
   need_played s t (d ∷ ds) ps scene (walk {m = m} ok step play) solved =
       let rest = need_played m t ds ps (scene_after_walk board s d m scene step) play solved in
@@ -131,7 +138,8 @@ least_le : (cost : ℕ → ℕ) (cap : ℕ) (gs : List ℕ) (g : ℕ) → contai
 least_le cost cap [] g there = absurd (false≢true there)
 least_le cost cap (x ∷ gs) g there = by_eq (eqb x g) (eqb-true x g) (least_le cost cap gs g) there
   where
-    by_eq : (b : Bool) → (b ≡ true → x ≡ g) → (contains gs g ≡ true → least_of cost cap gs ≤ cost g) → (b || contains gs g) ≡ true → min (cost x) (least_of cost cap gs) ≤ cost g
+    by_eq : (b : Bool) → (b ≡ true → x ≡ g) → (contains gs g ≡ true → least_of cost cap gs ≤ cost g) → (b || contains gs g) ≡ true
+        → min (cost x) (least_of cost cap gs) ≤ cost g
     by_eq true same tail h = let e : cost x ≡ cost g = ap cost (same refl) in omega (arith, e)
     by_eq false same tail h = let le = tail h in omega (arith, le)
 
@@ -151,13 +159,15 @@ tolls_are_free board far toll cap are = record {
       );
   walk = λ b p d here there. (
       let q = next board p d in
-      let le = least_less 0 (λ x. far x b p + toll x) (λ x. far x b q + toll x) cap (goals_of board) (λ x. (let e = are.walk x b p d here there in omega (arith, e))) in
+      let le = least_less 0 (λ x. far x b p + toll x) (λ x. far x b q + toll x) cap (goals_of board)
+      (λ x. (let e = are.walk x b p d here there in omega (arith, e))) in
       omega (arith, le)
       );
   push = λ p d here ahead. (
       let q = next board p d in
       let r = next board q d in
-      let le = least_less 1 (λ x. far x q p + toll x) (λ x. far x r q + toll x) cap (goals_of board) (λ x. (let e = are.push x p d here ahead in omega (arith, e))) in
+      let le = least_less 1 (λ x. far x q p + toll x) (λ x. far x r q + toll x) cap (goals_of board)
+      (λ x. (let e = are.push x p d here ahead in omega (arith, e))) in
       omega (arith, le)
       );
 }

@@ -49,7 +49,8 @@ pub solved_before : (board : Board) (s t : Scene) → t.boxes ≡ s.boxes → Is
 solved_before board s t same solved q there = solved q (ap (λ (xs : Squares). contains xs q) same ∙ there)
 
 -- a push after a walk is possible from where the walk began
-pub push_possible : (board : Board) (s b t : Scene) (ds : List Dir) (d : Dir) → IsScene board s → Play board Any s ds [] b → Pushes board b d t → CanPush board s (push_at board b d)
+pub push_possible : (board : Board) (s b t : Scene) (ds : List Dir) (d : Dir) → IsScene board s → Play board Any s ds [] b → Pushes board b d t
+    → CanPush board s (push_at board b d)
 push_possible board s b t ds d scene walked pushed =
     let boxes : b.boxes ≡ s.boxes = walk_keeps_boxes walked in
     let back = push_from board b d t (play_scene scene walked) pushed in
@@ -59,7 +60,8 @@ push_possible board s b t ds d scene walked pushed =
       ahead = subst (λ (xs : Squares). IsFree board xs (next board (next board b.player d) d)) boxes pushed.1;
     }
 
-first_of : (board : Board) (m : ℕ) (s t : Scene) (ds : List Dir) (ps : List Push) → IsScene board s → ¬ (IsSolved board s) → Play board Any s ds ps t → IsSolved board t → length ps ≤ m → HasFirstPush board m s
+first_of : (board : Board) (m : ℕ) (s t : Scene) (ds : List Dir) (ps : List Push) → IsScene board s → ¬ (IsSolved board s) → Play board Any s ds ps t
+    → IsSolved board t → length ps ≤ m → HasFirstPush board m s
 first_of board m s t ds [] scene unsolved play solved few = absurd (unsolved (solved_before board s t (walk_keeps_boxes play) solved))
 first_of board zero s t ds (p ∷ ps) scene unsolved play solved few = absurd (omega (arith, few))
 first_of board (suc m) s t ds (p ∷ ps) scene unsolved play solved few =

@@ -1,6 +1,6 @@
 use Rattle.std.proofs.Common.{ℕ, ◌<◌}
 use Rattle.grid.specs.declared.dir.Dir.{Dir}
-use Rattle.prices.specs.inside.Tables.{StaysIn}
+use Rattle.prices.specs.inside.Checks.{StaysIn}
 use Rattle.prices.proofs.check.is_closed.Given as goal
 
 abbrev pub invariant-loop-index : goal.invariant-loop-index

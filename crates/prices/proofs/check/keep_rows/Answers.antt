@@ -1,5 +1,5 @@
 use Rattle.std.proofs.Common.{arith}
-use Rattle.prices.specs.inside.Tables.{AreClosed}
+use Rattle.prices.specs.inside.Checks.{AreClosed}
 use Rattle.prices.proofs.Checking.{below_next, rows_kept}
 use Rattle.prices.proofs.check.keep_rows.Goals as goal
 

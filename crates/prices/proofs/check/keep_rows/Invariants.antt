@@ -1,5 +1,5 @@
 use Rattle.std.proofs.Common.{◌<◌, ℕ}
-use Rattle.prices.specs.inside.Tables.{AreClosed}
+use Rattle.prices.specs.inside.Checks.{AreClosed}
 use Rattle.prices.proofs.check.keep_rows.Given as goal
 
 abbrev pub invariant-loop-index : goal.invariant-loop-index

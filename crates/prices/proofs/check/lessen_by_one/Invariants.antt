@@ -1,6 +1,6 @@
 use Rattle.std.proofs.Common.{◌<◌, ℕ}
 use Rattle.grid.specs.declared.dir.Dir.{Dir}
-use Rattle.prices.specs.inside.Tables.{LessensByOne}
+use Rattle.prices.specs.inside.Checks.{LessensByOne}
 use Rattle.prices.proofs.check.lessen_by_one.Given as goal
 
 abbrev pub invariant-loop-index : goal.invariant-loop-index

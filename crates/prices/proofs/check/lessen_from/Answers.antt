@@ -1,5 +1,5 @@
 use Rattle.grid.specs.declared.dir.Dir.{Dir}
-use Rattle.prices.specs.inside.Tables.{LessensByOne}
+use Rattle.prices.specs.inside.Checks.{LessensByOne}
 use Rattle.prices.proofs.Checking.{told_by_four}
 use Rattle.prices.proofs.check.lessen_from.Goals as goal
 
