@@ -188,7 +188,7 @@ impl Book {
         })
     }
 
-    /// Tells what is true of every book.
+    /// Tells what is true of every book; it does nothing, and is there for proofs.
     pub fn tell(&self)
         ensures { IsLawfulBook self.now }
     {

@@ -36,7 +36,7 @@ impl Model for Layer {
 }
 
 impl Layer {
-    /// Tells what is true of every layer.
+    /// Tells what is true of every layer; it does nothing, and is there for proofs.
     pub fn tell(&self)
         ensures { IsWhole self.now }
     {

@@ -74,7 +74,7 @@ impl<'a> Model for Parcel<'a> {
 }
 
 impl<'a> Parcel<'a> {
-    /// Tells what is true of every parcel.
+    /// Tells what is true of every parcel; it does nothing, and is there for proofs.
     pub fn tell(&self)
         ensures { IsParcel self.now }
     {

@@ -52,7 +52,7 @@ impl Task {
         &*self.level
     }
 
-    /// Tells that the level is lawful.
+    /// Tells that the level is lawful; it does nothing, and is there for proofs.
     pub fn tell(&self)
         ensures { IsLevel self.now.board }
     {
