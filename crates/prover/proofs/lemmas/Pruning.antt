@@ -1,0 +1,66 @@
+-- What an expansion may leave out.
+use Rattle.std.proofs.Common.{◌≡◌, ℕ, suc, ◌+◌, ◌≤◌, ◌⊎◌, List, [], ◌∷◌, length, refl, sym, ap, subst, ◌∙◌, inl, inr, true, arith}
+use Rattle.grid.specs.declared.dir.Dir.{Dir}
+use Rattle.grid.specs.declared.square.Push.{Push}
+use Rattle.grid.specs.declared.state.Step.TheVariants.{Pushed}
+use Rattle.grid.specs.Squares.{Squares, contains, insert, remove}
+use Rattle.grid.specs.Board.{Board, Scene, IsFree, IsSolved, Pushes, next, opposite}
+use Rattle.grid.specs.States.{IsScene, FitsLevel}
+use Rattle.grid.specs.Plays.{push_at}
+use Rattle.grid.proofs.lemmas.Levels.{fits_after_step}
+use Rattle.grid.proofs.lemmas.Steps.{next_back, opposite_twice, scene_after_push, same_scene}
+use Rattle.grid.proofs.lemmas.Plays.{walk_keeps_boxes}
+use Rattle.area.specs.Area.{IsNorm, at}
+use Rattle.area.specs.Pushes.{CanPush}
+use Rattle.area.proofs.lemmas.Norms.{area_scene}
+use Rattle.prices.specs.Solving.{SolvableWithin, NoneWithin}
+use Rattle.prover.specs.Frame.{Keeps}
+use Rattle.prover.specs.Pruning.{after_push, IsDone, IsAmong, AllDone}
+use Rattle.prices.proofs.lemmas.Solving.{first_push_leads, norms_change_nothing}
+
+-- ---- the state after a push
+
+module _ (board : Board) (s : Scene) (p : Push) (scene : IsScene board s) (can : CanPush board s p) where
+  -- the square from which the push is made
+  abbrev behind : ℕ
+  behind = next board p.square (opposite p.dir)
+
+  there : next board behind p.dir ≡ p.square
+  there = ap (λ (d : Dir). next board behind d) (sym (opposite_twice p.dir)) ∙ next_back board p.square (opposite p.dir) (scene.boxes p.square can.there) (area_scene board s behind scene can.behind).player.0
+
+  pub pushed_from : Pushes board (at s behind) p.dir (after_push board s p)
+  pushed_from = subst (λ (k : ℕ). (contains s.boxes k ≡ true) × IsFree board s.boxes (next board k p.dir) × (after_push board s p ≡ record { boxes = insert (remove s.boxes k) (next board k p.dir); player = k })) (sym there) (can.there, can.ahead, refl)
+
+  pub after_scene : IsScene board (after_push board s p)
+  after_scene = scene_after_push board (at s behind) p.dir (after_push board s p) (area_scene board s behind scene can.behind) pushed_from
+
+  pub after_fits : FitsLevel board s → FitsLevel board (after_push board s p)
+  after_fits fits = fits_after_step board (at s behind) p.dir Pushed (after_push board s p) (record { scene = area_scene board s behind scene can.behind; boxes = fits.boxes }) pushed_from
+
+-- a push after a walk leads to the state after the push
+pub moved : (board : Board) (s b t : Scene) (d : Dir) → b.boxes ≡ s.boxes → Pushes board b d t → t ≡ after_push board s (push_at board b d)
+moved board s b t d same pushed = pushed.2 ∙ same_scene (ap (λ (xs : Squares). insert (remove xs (next board b.player d)) (next board (next board b.player d) d)) same) refl
+
+-- ---- what an expansion keeps
+
+-- what is kept of one push
+pub done_keeps : (board : Board) (Kept : Scene → Type 0) (most k m : ℕ) (s : Scene) (p : Push) → IsScene board s → CanPush board s p → k + suc m ≤ most → SolvableWithin board m (after_push board s p) → IsDone board most Kept k s p → (t : Scene) × Kept t × SolvableWithin board m t
+done_keeps board Kept most k m s p scene can few rest (inl (n, norm, kept)) = (n, kept, (norms_change_nothing board (after_push board s p) n (after_scene board s p scene can) norm m).0 rest)
+done_keeps board Kept most k m s p scene can few (ds, ps, t, play, solved, le) (inr (j, more, none)) = absurd (let lt = none ds ps t play solved in omega (arith, lt, le, few, more))
+
+-- what is kept of all pushes
+pub all_keep : (board : Board) (Kept : Scene → Type 0) (most k : ℕ) (s : Scene) → IsScene board s → ((p : Push) → CanPush board s p → IsDone board most Kept k s p) → Keeps board most Kept k s
+all_keep board Kept most k s scene done m few unsolved solvable =
+    let first = first_push_leads board (suc m) s scene unsolved solvable in
+    let p : Push = push_at board first.before first.dir in
+    let same = moved board s first.before first.after first.dir (walk_keeps_boxes first.walked.1) first.pushed in
+    let left : first.left ≡ m = omega (arith, first.one) in
+    let rest : SolvableWithin board m first.after = subst (λ (j : ℕ). SolvableWithin board j first.after) left first.rest in
+    done_keeps board Kept most k m s p scene first.possible few (subst (SolvableWithin board m) same rest) (done p first.possible)
+
+pub all_done : (board : Board) → AllDone board
+all_done board most k kept s scene done = all_keep board (IsAmong kept) most k s scene done
+
+-- what is kept may be told in other words
+pub keeps_so : (board : Board) (Kept Other : Scene → Type 0) (most k : ℕ) (s : Scene) → ((t : Scene) → Kept t → Other t) → Keeps board most Kept k s → Keeps board most Other k s
+keeps_so board Kept Other most k s so keeps m few unsolved solvable = let (t, kept, rest) = keeps m few unsolved solvable in (t, so t kept, rest)

@@ -1,0 +1,12 @@
+use Rattle.std.proofs.Common.{◌≡◌, ◌≤◌, length}
+use Rattle.prover.specs.inside.Entries.{Grows}
+use Rattle.prover.specs.inside.Progress.{IsUnderWay}
+use Rattle.prover.proofs.searching.run.Given as goal
+
+abbrev pub invariant-loop : goal.invariant-loop
+invariant-loop l = record {
+  under_way : IsUnderWay l.pruner l.asked.most l.store.seen l.from;
+  within : l.from ≤ length l.store.seen;
+  grows : Grows l.fn.store l.store;
+  room : l.desk.scratch.size ≡ l.fn.desk.scratch.size;
+}

@@ -1,0 +1,34 @@
+-- The numbers of pushes of two solutions are both even or both odd.
+use Rattle.std.specs.Prelude.{◌≡◌, ℕ, suc, zero, ◌≤◌, Bool, true, false, not, List, length}
+use Rattle.grid.specs.declared.dir.Dir.{Dir}
+use Rattle.grid.specs.declared.square.Push.{Push}
+use Rattle.grid.specs.Board.{Board, Scene, IsSolved, start}
+use Rattle.grid.specs.States.{FitsLevel}
+use Rattle.grid.specs.Plays.{Play, Any, IsSolution}
+use Rattle.grid.specs.Lawful.{IsLevel}
+use Rattle.prices.specs.Solving.{NoneWithin}
+
+-- the number is odd
+abbrev pub is_odd : ℕ → Bool
+is_odd zero = false
+is_odd (suc n) = not (is_odd n)
+
+-- two plays from one state to solved ones have pushes of one parity
+abbrev pub SolutionsAlike : Board → Type 0
+SolutionsAlike board = IsLevel board → (s t u : Scene) (ds es : List Dir) (ps qs : List Push) → FitsLevel board s → Play board Any s ds ps t → IsSolved board t → Play board Any s es qs u → IsSolved board u → is_odd (length ps) ≡ is_odd (length qs)
+
+-- no solution has fewer pushes
+abbrev pub NoneHasFewer : Board → ℕ → Type 0
+NoneHasFewer board pushes = (ds : List Dir) (ps : List Push) → IsSolution board ds ps → pushes ≤ length ps
+
+-- some solution has so many pushes
+abbrev pub SomeHas : Board → ℕ → Type 0
+SomeHas board pushes = (ds : List Dir) × (ps : List Push) × IsSolution board ds ps × (length ps ≡ pushes)
+
+-- so a solution has the fewest pushes where there is none with two pushes less
+abbrev pub TwoLessDecide : Board → Type 0
+TwoLessDecide board = IsLevel board → (m : ℕ) → SomeHas board (suc (suc m)) → NoneWithin board m (start board) → NoneHasFewer board (suc (suc m))
+
+-- and where it has fewer than two
+abbrev pub FewDecide : Board → Type 0
+FewDecide board = IsLevel board → (pushes : ℕ) → SomeHas board pushes → pushes ≤ 1 → NoneHasFewer board pushes

@@ -1,0 +1,3 @@
+-- What keeps the books of the code: what its loops keep, what fields hold. No outcome rests on it.
+pub mod Entries
+pub mod Progress

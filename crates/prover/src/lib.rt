@@ -1,0 +1,18 @@
+//! Whether a level has a solution with at most so many pushes: a search that may leave out whatever provably loses none.
+#![tactic(auto)]
+
+mod entries;
+mod expansion;
+mod judging;
+pub mod laws;
+mod outcome;
+mod pruner;
+mod pushing;
+mod retracing;
+mod searching;
+mod solved;
+mod store;
+
+pub use judging::judge;
+pub use outcome::{Outcome, SearchFault};
+pub use searching::search;

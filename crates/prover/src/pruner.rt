@@ -1,0 +1,65 @@
+ghost use Rattle.std.specs.Prelude.{◌≡◌, IsTrue, IfOk};
+ghost use Rattle.grid.specs.States.{FitsLevel};
+ghost use Rattle.prices.specs.Solving.{NoneWithin};
+
+use doom::{Bound, Dead};
+use grid::{Level, Position};
+use std::alloc::{AllocError, Global};
+use std::marker::Model;
+
+/// What positions are left out by: a level's dead squares and its bound. Contracts see the level.
+#[derive(Debug, Drop)]
+pub(crate) struct Pruner<'a> {
+    level: &'a Level,
+    dead: Dead,
+    bound: Bound,
+}
+
+impl<'a> Model for Pruner<'a> {
+    ghost use Rattle.std.specs.Prelude.{◌≡◌};
+    ghost use Rattle.grid.specs.Board.{Board};
+
+    ghost Value = { Board };
+
+    ghost view = { λ a. a.level.now };
+
+    ghost invariant = { λ a. (a.dead ≡ a.level.now) × (a.bound ≡ a.level.now) };
+}
+
+impl<'a> Pruner<'a> {
+    /// That of a level. The only error is that memory was refused.
+    pub(crate) fn of(alloc: Global, level: &'a Level) -> Result<Pruner<'a>, AllocError>
+        ensures { IfOk result (λ pruner. pruner ≡ level.now) }
+    {
+        Ok(Pruner {
+            level,
+            dead: Dead::of(alloc, level)?,
+            bound: Bound::of(alloc, level)?,
+        })
+    }
+
+    /// The level.
+    pub(crate) fn level(&self) -> &Level
+        ensures { result.now ≡ self.now }
+    {
+        self.level
+    }
+
+    /// The dead squares.
+    pub(crate) fn dead(&self) -> &Dead
+        ensures { result.now ≡ self.now }
+    {
+        &self.dead
+    }
+
+    /// Whether the boxes of the position need more pushes than so many; `false` says nothing.
+    pub(crate) fn refuses(&self, position: &Position, left: u32) -> bool
+        requires { FitsLevel self.now position.now }
+        ensures { IsTrue result → NoneWithin self.now left position.now }
+    {
+        match self.bound.lower(position) {
+            Some(low) => low > left,
+            None => true,
+        }
+    }
+}

@@ -1,0 +1,88 @@
+//! What one push leads to, and whether it may be left out.
+ghost use Rattle.std.specs.Prelude.{◌≡◌, IsTrue, IsFalse, length};
+ghost use Rattle.grid.specs.States.{FitsLevel};
+ghost use Rattle.area.specs.After.{IsAreaOf};
+ghost use Rattle.area.specs.Area.{IsNorm};
+ghost use Rattle.area.specs.Pushes.{CanPush};
+ghost use Rattle.doom.specs.Lost.{IsLost};
+ghost use Rattle.prices.specs.Solving.{NoneWithin};
+ghost use Rattle.prover.specs.Pruning.{after_push};
+
+use crate::pruner::Pruner;
+use area::Scratch;
+use doom::Dead;
+use grid::{Level, Position, Push};
+
+/// Makes the normal position after a push, where the last flood was that of the position before it, and says `true`; or says
+/// `false`, where no play with so many pushes as are left then ends solved. That flood stays as it is.
+pub(crate) fn try_push(
+    pruner: &Pruner<'_>,
+    position: &Position,
+    push: Push,
+    left: u32,
+    scratch: &mut Scratch,
+    after: &mut Position,
+) -> bool
+    requires fits { FitsLevel pruner.now position.now }
+    requires room { scratch.old.size ≡ length pruner.now.cells }
+    requires flooded { IsAreaOf pruner.now position.now scratch.old.reached }
+    requires boxes { scratch.old.boxes ≡ position.now.boxes }
+    requires possible { CanPush pruner.now position.now push }
+    ensures norm { IsTrue result → IsNorm pruner.now (after_push pruner.now position.now push) after.new }
+    ensures fits { IsTrue result → FitsLevel pruner.now after.new }
+    ensures left_out { IsFalse result → NoneWithin pruner.now left (after_push pruner.now position.now push) }
+    ensures kept { scratch.new ≡ scratch.old }
+{
+    let made = make_after(
+        pruner.level(),
+        pruner.dead(),
+        position,
+        push,
+        scratch,
+        after,
+    );
+    if !made {
+        return false;
+    }
+    let refused = pruner.refuses(after, left);
+    if refused {
+        return false;
+    }
+    true
+}
+
+// Makes the normal position after a push, and says `true`; or says `false`, where no play from there ends solved.
+fn make_after(
+    level: &Level,
+    dead: &Dead,
+    position: &Position,
+    push: Push,
+    scratch: &mut Scratch,
+    after: &mut Position,
+) -> bool
+    requires fits { FitsLevel level.now position.now }
+    requires dead_of_level { dead.now ≡ level.now }
+    requires room { scratch.old.size ≡ length level.now.cells }
+    requires flooded { IsAreaOf level.now position.now scratch.old.reached }
+    requires boxes { scratch.old.boxes ≡ position.now.boxes }
+    requires possible { CanPush level.now position.now push }
+    ensures norm { IsTrue result → IsNorm level.now (after_push level.now position.now push) after.new }
+    ensures fits { IsTrue result → FitsLevel level.now after.new }
+    ensures lost { IsFalse result → IsLost level.now (after_push level.now position.now push) }
+    ensures kept { scratch.new ≡ scratch.old }
+{
+    let Push { square, dir } = push;
+    let ahead = level.next(square, dir);
+    if dead.is_dead(ahead) {
+        return false;
+    }
+    after.copy_from(position);
+    after.push(square, ahead);
+    if !doom::is_loose(level, dead, scratch, Push { square, dir })
+        && doom::doomed_after(level, dead, after, Push { square, dir }, scratch)
+    {
+        return false;
+    }
+    area::normalise_after(level, position, Push { square, dir }, after, scratch);
+    true
+}
