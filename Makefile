@@ -38,7 +38,7 @@ test: needs
 	@tests/sizes
 	@rm -f target/sokopar target/refusals-unproved
 	@RT=$(RT) tests/gate
-	@for it in cli before workers hostile fuzz; do tests/timed tests/$$it tests/$$it/run target/sokopar || exit 1; done
+	@for it in cli before workers prove hostile fuzz; do tests/timed tests/$$it tests/$$it/run target/sokopar || exit 1; done
 	@tests/timed tests/refusals tests/refusals/run target/refusals-unproved
 
 check: needs

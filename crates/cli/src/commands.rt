@@ -5,7 +5,9 @@ use crate::steady::Steady;
 use crate::trouble::Trouble;
 use crew::Config;
 use layers::{MAX_SHARES, MAX_WORKERS};
-use sokopar::{Reader, RunFault, Writer, run_check, run_dead, run_replay, run_show, run_solve};
+use sokopar::{
+    Reader, RunFault, Writer, run_check, run_dead, run_prove, run_replay, run_show, run_solve,
+};
 use std::alloc::Global;
 use std::num::NonZeroU32;
 use std::rt::Files;
@@ -104,4 +106,26 @@ pub(crate) fn solve<'a, R: Files + Print + Threads + Wait + Sync>(
     let mut source = open(rt, file)?;
     let mut sink = Writer::new(Steady::new(io::writer(rt)));
     Ok(run_solve(rt, alloc, &mut source, number.get(), config, &mut sink)?)
+}
+
+/// Proves that a solution has the fewest pushes on a level. Gives the exit status.
+pub(crate) fn prove<'a, R: Files + Print>(
+    rt: &R,
+    alloc: Global,
+    file: &'a str,
+    number: NonZeroU32,
+    solution: &'a str,
+    limit: NonZeroU32,
+) -> Result<u8, Trouble<'a>> {
+    let mut source = open(rt, file)?;
+    let mut letters = open(rt, solution)?;
+    let mut sink = Writer::new(Steady::new(io::writer(rt)));
+    Ok(run_prove(
+        alloc,
+        &mut source,
+        number.get(),
+        &mut letters,
+        limit.get(),
+        &mut sink,
+    )?)
 }

@@ -13,6 +13,7 @@ pub struct Notes {
     pub check: String,
     pub replay: String,
     pub solve: String,
+    pub prove: String,
 }
 
 impl Notes {
@@ -22,11 +23,13 @@ impl Notes {
         let check = check_notes(alloc)?;
         let replay = replay_notes(alloc)?;
         let solve = solve_notes(alloc)?;
+        let prove = prove_notes(alloc)?;
         Ok(Notes {
             program,
             check,
             replay,
             solve,
+            prove,
         })
     }
 }
@@ -42,9 +45,9 @@ l, u, r, d without a push, L, U, R, D with one. Either may be /dev/stdin.";
 const STATUSES: &str = "\
 Exit status:
   0  good: all levels lawful, the level shown, mapped or solved, the solution
-     solves it; help or the version was asked for
+     solves it or is optimal; help or the version was asked for
   1  a fault in a level or a solution, no such level, not solved, unsolvable, no
-     solution with so few pushes, or too many boxes to solve
+     solution with so few pushes, not optimal, or too many boxes to solve
   2  a fault of the command line
   3  a file cannot be opened, read or written, or is too long
   4  the limit of positions was passed
@@ -184,5 +187,34 @@ fn solve_notes(alloc: Global) -> Result<String, AllocError> {
         "{ANSWERS}\n  \
           too many boxes                         The level has more than {MAX_BOXES} boxes.\n\n\
         {SEARCH}"
+    )
+}
+
+/// What is found of a solution, and an example, in the help of `prove`.
+const JUDGEMENTS: &str = "\
+What it tells of a solution, where it solves the level:
+  optimal P pushes                       No solution has fewer pushes.
+  not optimal P pushes, Q pushes found   The second line is a solution with Q
+                                         pushes, which are fewer than P.
+  limit L reached                        More positions are needed to know: give
+                                         a greater --limit.";
+
+/// What a proof takes, in the help of `prove`.
+const PROOF: &str = "\
+Of any other text it tells what 'sokopar replay' tells, with the same exit
+status. The solution that is found need not have the fewest pushes: prove it in
+turn, or solve the level.
+
+This asks less than 'sokopar solve', and mostly takes fewer positions.
+
+Example:
+  sokopar prove levels.xsb 1 solution.lurd";
+
+/// The end of the help of `prove`.
+fn prove_notes(alloc: Global) -> Result<String, AllocError> {
+    format!(in alloc;
+        "{JUDGEMENTS}\n  \
+          too many boxes                         The level has more than {MAX_BOXES} boxes.\n\n\
+        {PROOF}"
     )
 }

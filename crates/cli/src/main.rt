@@ -8,7 +8,7 @@ mod steady;
 mod trouble;
 
 use clap::error::ErrorKind;
-use commands::{check, config_of, dead, replay, show, solve};
+use commands::{check, config_of, dead, prove, replay, show, solve};
 use help::Notes;
 use request::Request;
 use sokopar::RunFault;
@@ -39,6 +39,12 @@ fn perform<'a, R: Files + Print + Threads + Wait + Sync>(
             number,
             solution,
         } => replay(rt, alloc, file, number, solution),
+        Request::Prove {
+            file,
+            number,
+            solution,
+            limit,
+        } => prove(rt, alloc, file, number, solution, limit),
         Request::Solve {
             file,
             number,

@@ -29,6 +29,13 @@ pub enum Request<'a> {
         number: NonZeroU32,
         solution: &'a str,
     },
+    /// Prove that the solution of a file has the fewest pushes on level N of a collection, under a limit of positions.
+    Prove {
+        file: &'a str,
+        number: NonZeroU32,
+        solution: &'a str,
+        limit: NonZeroU32,
+    },
     /// Solve level N of a collection by some workers over some locks, under a limit of positions, and within a cap of
     /// pushes if one is set.
     Solve {
@@ -147,6 +154,18 @@ fn replay_command<'a>(alloc: Global, notes: &'a str) -> Result<Command<'a>, Allo
         .arg(solution_operand(alloc))
 }
 
+/// The subcommand `prove`.
+fn prove_command<'a>(alloc: Global, notes: &'a str) -> Result<Command<'a>, AllocError> {
+    level_command(
+        alloc,
+        "prove",
+        "Proves that a solution has the fewest pushes",
+    )?
+    .after_help(notes)
+    .arg(solution_operand(alloc))?
+    .arg(limit_option(alloc))
+}
+
 /// The subcommand `solve`.
 fn solve_command<'a>(alloc: Global, notes: &'a str) -> Result<Command<'a>, AllocError> {
     level_command(alloc, "solve", "Solves a level with the fewest pushes")?
@@ -175,15 +194,15 @@ fn with_looks<'a>(alloc: Global, line: Command<'a>) -> Result<Command<'a>, Alloc
         .subcommand(dead_command(alloc)?)
 }
 
-/// A command line with the subcommands that replay and solve.
+/// A command line with the subcommands that replay, solve and prove.
 fn with_plays<'a>(
     alloc: Global,
     line: Command<'a>,
-    replay_notes: &'a str,
-    solve_notes: &'a str,
+    notes: &'a Notes,
 ) -> Result<Command<'a>, AllocError> {
-    line.subcommand(replay_command(alloc, replay_notes)?)?
-        .subcommand(solve_command(alloc, solve_notes)?)
+    line.subcommand(replay_command(alloc, notes.replay.as_str())?)?
+        .subcommand(solve_command(alloc, notes.solve.as_str())?)?
+        .subcommand(prove_command(alloc, notes.prove.as_str())?)
 }
 
 /// The command line that the program understands; the notes end its helps.
@@ -191,7 +210,7 @@ fn command<'a>(alloc: Global, notes: &'a Notes) -> Result<Command<'a>, AllocErro
     let bare = bare_command(alloc, notes.program.as_str())?;
     let checks = bare.subcommand(check_command(alloc, notes.check.as_str())?)?;
     let looks = with_looks(alloc, checks)?;
-    with_plays(alloc, looks, notes.replay.as_str(), notes.solve.as_str())
+    with_plays(alloc, looks, notes)
 }
 
 /// A value that its argument does not take.
@@ -278,6 +297,22 @@ fn solve_request<'a>(
     })
 }
 
+/// What the matches of `prove` ask for.
+fn prove_request<'a>(
+    file: &'a str,
+    number: NonZeroU32,
+    solution: &'a str,
+    matches: &ArgMatches<'a>,
+) -> Result<Request<'a>, BadValue<'a>> {
+    let limit = number_of(matches, "limit", "--limit <L>", u32::MAX)?;
+    Ok(Request::Prove {
+        file,
+        number,
+        solution,
+        limit,
+    })
+}
+
 /// What the matches of a subcommand on level N ask for.
 fn level_request<'a>(
     name: &str,
@@ -295,6 +330,9 @@ fn level_request<'a>(
         return solve_request(file, number, matches);
     }
     let solution = matches.get_str("SOLUTION").unwrap_or("");
+    if name == "prove" {
+        return prove_request(file, number, solution, matches);
+    }
     Ok(Request::Replay {
         file,
         number,
@@ -322,6 +360,9 @@ fn own_command<'a>(alloc: Global, name: &str) -> Result<Command<'a>, AllocError>
     }
     if name == "replay" {
         return replay_command(alloc, "");
+    }
+    if name == "prove" {
+        return prove_command(alloc, "");
     }
     solve_command(alloc, "")
 }

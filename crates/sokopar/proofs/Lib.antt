@@ -1,4 +1,5 @@
 mod Acts
+mod Judging
 mod Listings
 mod Maps
 mod OneReport

@@ -27,7 +27,7 @@ pub(crate) fn put_counts(text: &mut Text, pushes: usize, moves: usize) -> Result
 }
 
 /// The report of a verdict.
-fn verdict_report(alloc: Global, verdict: Verdict) -> Result<Report, AllocError>
+pub(crate) fn verdict_report(alloc: Global, verdict: Verdict) -> Result<Report, AllocError>
     ensures { IfOk result (λ report. report ≡ verdict_report verdict) }
 {
     let mut text = Text::new(alloc);
@@ -58,7 +58,7 @@ fn verdict_report(alloc: Global, verdict: Verdict) -> Result<Report, AllocError>
 }
 
 /// The report of a fault in the text of a solution.
-fn text_fault_report(alloc: Global, fault: LurdFault) -> Result<Report, AllocError>
+pub(crate) fn text_fault_report(alloc: Global, fault: LurdFault) -> Result<Report, AllocError>
     ensures report { IfOk result (λ report. report ≡ text_fault_report fault) }
     ensures memory { OnOk result (fault ≢ LurdFault.OutOfMemory) }
 {

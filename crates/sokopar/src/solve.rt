@@ -22,7 +22,7 @@ use std::thread::Threads;
 use xsb::MAX_FILE;
 
 /// The report where the level has more boxes than the solver takes.
-fn too_many_boxes(alloc: Global) -> Result<Report, AllocError>
+pub(crate) fn too_many_boxes(alloc: Global) -> Result<Report, AllocError>
     ensures { IfOk result (λ report. report ≡ too_many_boxes) }
 {
     let mut text = Text::new(alloc);
@@ -65,7 +65,7 @@ fn unsolvable(alloc: Global, positions: u64) -> Result<Report, AllocError>
 }
 
 /// The report where the limit was reached.
-fn limit_reached(alloc: Global, limit: u32) -> Result<Report, AllocError>
+pub(crate) fn limit_reached(alloc: Global, limit: u32) -> Result<Report, AllocError>
     ensures { IfOk result (λ report. report ≡ answer_report None limit Answer.Limit) }
 {
     let mut text = Text::new(alloc);

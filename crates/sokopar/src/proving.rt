@@ -1,0 +1,31 @@
+ghost use Rattle.std.specs.Prelude.{◌≤◌};
+ghost use Rattle.sokopar.specs.ProvingRuns.{Proves};
+
+use crate::fault::RunFault;
+use crate::prove::prove_in;
+use crate::reads::read_whole;
+use crate::sink::Sink;
+use crate::source::Source;
+use std::alloc::Global;
+
+#[tactic(auto, using(crate::proofs::Reading::stops_after))]
+/// Proves that a solution, which is LURD text, has the fewest pushes of all solutions of a level of a collection, counted from
+/// 1, or writes one with fewer; within a limit of positions. Gives the exit status: 0 where none has fewer, 4 where the limit
+/// was reached, which says nothing of the solution, else 1. Of what is no solution it writes what
+/// [`run_replay`](crate::run_replay) does. The collection is read first; the solution is read only where the level is lawful.
+/// The faults are those of [`run_check`](crate::run_check).
+pub fn run_prove<S: Source, T: Source, K: Sink>(
+    alloc: Global,
+    source: &mut S,
+    number: u32,
+    solution: &mut T,
+    limit: u32,
+    sink: &mut K,
+) -> Result<u8, RunFault>
+    requires { 1 ≤ number }
+    ensures { Proves limit number (S.seen source.old) (S.seen source.new) (T.seen solution.old) (T.seen solution.new) (K.seen sink.old) (K.seen sink.new) result }
+{
+    let bytes = read_whole(alloc, source)?;
+    let report = prove_in(alloc, bytes.as_slice(), number, limit, solution)?;
+    report.send(sink)
+}
