@@ -1,6 +1,7 @@
 //! The program: reads its command line, opens its files and runs an engine.
 #![tactic(auto)]
 
+mod arguments;
 mod commands;
 mod help;
 mod request;

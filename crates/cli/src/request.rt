@@ -1,7 +1,11 @@
+use crate::arguments::{
+    file_operand, limit_option, locks_option, max_pushes_option, number_operand, solution_operand,
+    workers_option,
+};
 use crate::help;
 use crate::help::Notes;
 use clap::error::ErrorKind;
-use clap::{Arg, ArgMatches, Command, Error};
+use clap::{ArgMatches, Command, Error};
 use layers::{MAX_SHARES, MAX_WORKERS};
 use std::alloc::{AllocError, Global};
 use std::num::NonZeroU32;
@@ -46,71 +50,6 @@ pub enum Request<'a> {
         limit: NonZeroU32,
         cap: Option<u32>,
     },
-}
-
-/// The limit of positions where none is given.
-const DEFAULT_LIMIT: &str = "1000000";
-
-/// The number of workers where none is given.
-const DEFAULT_WORKERS: &str = "1";
-
-/// The number of locks where none is given.
-const DEFAULT_LOCKS: &str = "1";
-
-/// The operand FILE.
-fn file_operand<'a>(alloc: Global) -> Arg<'a> {
-    Arg::new(alloc, "FILE")
-        .help("A collection of levels")
-        .required(true)
-}
-
-/// The operand N.
-fn number_operand<'a>(alloc: Global) -> Arg<'a> {
-    Arg::new(alloc, "N")
-        .help("The number of a level, counted from 1")
-        .required(true)
-}
-
-/// The operand SOLUTION.
-fn solution_operand<'a>(alloc: Global) -> Arg<'a> {
-    Arg::new(alloc, "SOLUTION")
-        .help("A file with the moves in LURD notation")
-        .required(true)
-}
-
-/// The option `--limit L`.
-fn limit_option<'a>(alloc: Global) -> Arg<'a> {
-    Arg::new(alloc, "limit")
-        .long("limit")
-        .value_name("L")
-        .help("Gives up beyond so many positions")
-        .default_value(DEFAULT_LIMIT)
-}
-
-/// The option `--max-pushes M`.
-fn max_pushes_option<'a>(alloc: Global) -> Arg<'a> {
-    Arg::new(alloc, "max-pushes")
-        .long("max-pushes")
-        .value_name("M")
-        .help("Looks only for solutions with at most M pushes")
-}
-
-/// The option `--workers W`.
-fn workers_option<'a>(alloc: Global) -> Arg<'a> {
-    Arg::new(alloc, "workers")
-        .long("workers")
-        .value_name("W")
-        .help("Number of threads")
-        .default_value(DEFAULT_WORKERS)
-}
-
-/// The option `--locks K`.
-fn locks_option<'a>(alloc: Global) -> Arg<'a> {
-    Arg::new(alloc, "locks")
-        .long("locks")
-        .value_name("K")
-        .help("Number of locks: as many as workers is best")
-        .default_value(DEFAULT_LOCKS)
 }
 
 /// The subcommand `check`.
