@@ -1,9 +1,8 @@
 -- Positions that stand as squares, one after the other, each with its label.
 use Rattle.std.proofs.Common.{◌≡◌, ℕ, zero, suc, ◌+◌, ◌*◌, ◌<◌, ◌≤◌, List, [], ◌∷◌, ◌++◌, length, take, drop, get_or, Some, refl, sym, ap, subst, ◌∙◌, add-one, arith}
-use Rattle.std.proofs.lemmas.List.{length-append, drop-drop, length-drop, take-append-le, drop-append-le, get_or_append_left}
+use Rattle.std.proofs.lemmas.List.{drop-drop, length-drop, take-append-le, drop-append-le, get_or_append_left}
 use Rattle.std.specs.Prelude.{slice_get}
 use Rattle.grid.specs.Board.{Scene}
-use Rattle.prover.specs.Frame.{Seen}
 use Rattle.prover.specs.declared.entries.Label.{Label}
 use Rattle.prover.specs.declared.entries.Entries.TheInside.{Inside}
 use Rattle.prover.specs.inside.Entries.{EntriesView, AreWhole, entries_view, seen_of, row_scene}

@@ -1,5 +1,5 @@
 -- What a search for two pushes less says of a solution.
-use Rattle.std.proofs.Common.{◌≡◌, ℕ, suc, ◌≤◌, Result, Ok, Err, IfOk, sym, subst, arith}
+use Rattle.std.proofs.Common.{◌≡◌, ℕ, suc, Result, Ok, Err, IfOk, sym, subst, arith}
 use Rattle.grid.specs.Board.{Board}
 use Rattle.grid.specs.Lawful.{IsLevel}
 use Rattle.prover.specs.Parity.{NoneHasFewer, SomeHas}

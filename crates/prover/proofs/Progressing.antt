@@ -4,18 +4,18 @@ use Rattle.std.proofs.lemmas.Bool.{cases_lt}
 use Rattle.std.proofs.lemmas.Option.{same_Some, slice_get_within, slice_get_read}
 use Rattle.std.specs.Prelude.{slice_get}
 use Rattle.grid.specs.declared.square.Push.{Push}
-use Rattle.grid.specs.Board.{Board, Scene, IsSolved, start}
+use Rattle.grid.specs.Board.{Board, Scene, start}
 use Rattle.grid.specs.States.{IsScene, FitsLevel}
 use Rattle.grid.specs.Lawful.{IsLevel}
 use Rattle.area.specs.Area.{IsNorm}
-use Rattle.area.specs.Pushes.{CanPush, ArePushes}
+use Rattle.area.specs.Pushes.{ArePushes}
 use Rattle.doom.specs.Lost.{IsLost}
-use Rattle.prices.specs.Solving.{NoneWithin, SolvableWithin}
+use Rattle.prices.specs.Solving.{NoneWithin}
 use Rattle.prices.proofs.lemmas.Solving.{none_is_not_solvable, norms_change_nothing}
-use Rattle.prover.specs.Frame.{Seen, IsSeen, HasFound, Keeps}
-use Rattle.prover.specs.Pruning.{after_push, IsDone}
+use Rattle.prover.specs.Frame.{Seen, IsSeen, Keeps}
+use Rattle.prover.specs.Pruning.{IsDone}
 use Rattle.prover.specs.inside.Entries.{EntriesView, Grows, IsReached}
-use Rattle.prover.specs.inside.Progress.{IsDoneWith, AreDoneWith, AllFit, AreClosed, AreExpanded, AreUnsolved, IsUnderWay}
+use Rattle.prover.specs.inside.Progress.{IsDoneWith, AreDoneWith, AllFit, AreExpanded, AreUnsolved, IsUnderWay}
 use Rattle.prover.proofs.lemmas.Frame.{search_decides}
 use Rattle.prover.proofs.lemmas.Pruning.{all_keep, keeps_so}
 

@@ -1,5 +1,5 @@
 -- What a search for a play with few pushes says.
-use Rattle.std.specs.Prelude.{◌≡◌, ℕ, ◌≤◌, ◌<◌, List, length}
+use Rattle.std.specs.Prelude.{ℕ, ◌≤◌, ◌<◌, length}
 use Rattle.grid.specs.Board.{Board, start}
 use Rattle.lurd.specs.Verdict.{IsVerdict}
 use Rattle.lurd.specs.declared.verdict.Verdict.TheVariants.{Solved}

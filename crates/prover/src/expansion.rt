@@ -1,5 +1,5 @@
 //! Positions that are expanded: what their pushes lead to is gathered, but for what may be left out.
-ghost use Rattle.std.specs.Prelude.{◌≡◌, ◌+◌, ◌<◌, ◌≤◌, ℕ, suc, [], IfOk, OnOk, length};
+ghost use Rattle.std.specs.Prelude.{◌≡◌, ◌+◌, ◌<◌, ◌≤◌, ℕ, suc, [], OnOk, length};
 ghost use Rattle.grid.specs.Board.{Board};
 ghost use Rattle.grid.specs.Lawful.{box_count};
 ghost use Rattle.grid.specs.States.{FitsLevel};
@@ -7,35 +7,13 @@ ghost use Rattle.prover.specs.Frame.{Keeps};
 ghost use Rattle.prover.specs.inside.Entries.{Grows, IsReached};
 ghost use Rattle.prover.specs.inside.Progress.{AllFit, AreExpanded};
 
+use crate::desk::Desk;
 use crate::entries::{Entries, Label};
 use crate::pruner::Pruner;
 use crate::pushing::try_push;
 use crate::store::Store;
-use area::{MAX_PUSHES, Scratch};
-use arrayvec::ArrayVec;
-use grid::{Level, Position, Push};
-use std::alloc::{AllocError, Global};
-
-/// What a worker keeps from one position to the next.
-#[derive(Debug, Drop)]
-pub(crate) struct Desk {
-    pub(crate) scratch: Scratch,
-    pub(crate) pushes: ArrayVec<Push, MAX_PUSHES>,
-    pub(crate) after: Position,
-}
-
-impl Desk {
-    /// A desk for a level. The only error is that memory was refused.
-    pub(crate) fn new(alloc: Global, level: &Level) -> Result<Desk, AllocError>
-        ensures { IfOk result (λ desk. desk.scratch.size ≡ length level.now.cells) }
-    {
-        Ok(Desk {
-            scratch: Scratch::new(alloc, level)?,
-            pushes: ArrayVec::new(),
-            after: Position::default(),
-        })
-    }
-}
+use grid::Position;
+use std::alloc::AllocError;
 
 /// Appends what the pushes of the positions from one place up to another lead to, but for what was seen, and for what no play
 /// with so many pushes at most passes through that ends solved.
@@ -106,14 +84,8 @@ fn expand(
     );
     for index in 0..desk.pushes.len() {
         let push = desk.pushes.as_slice()[index];
-        if try_push(
-            pruner,
-            position,
-            push,
-            left,
-            &mut desk.scratch,
-            &mut desk.after,
-        ) {
+        let kept = try_push(pruner, position, push, left, desk);
+        if kept {
             keep(store, &desk.after, label, more)?;
         }
     }

@@ -1,6 +1,7 @@
 //! Whether a level has a solution with at most so many pushes: a search that may leave out whatever provably loses none.
 #![tactic(auto)]
 
+mod desk;
 mod entries;
 mod expansion;
 mod judging;

@@ -1,18 +1,22 @@
-ghost use Rattle.std.specs.Prelude.{◌≡◌, IsTrue, IfOk};
+ghost use Rattle.std.specs.Prelude.{◌≡◌, ◌≤◌, IsTrue, IfOk};
+ghost use Rattle.grid.specs.Lawful.{box_count};
 ghost use Rattle.grid.specs.States.{FitsLevel};
 ghost use Rattle.prices.specs.Solving.{NoneWithin};
 
 use doom::{Bound, Dead};
-use grid::{Level, Position};
+use grid::{Level, MAX_BOXES, Position};
+use prices::{Distances, Matching};
 use std::alloc::{AllocError, Global};
 use std::marker::Model;
 
-/// What positions are left out by: a level's dead squares and its bound. Contracts see the level.
+/// What positions are left out by: a level's dead squares, its bound, and its distances to each goal. Contracts see the
+/// level.
 #[derive(Debug, Drop)]
 pub(crate) struct Pruner<'a> {
     level: &'a Level,
     dead: Dead,
     bound: Bound,
+    distances: Distances,
 }
 
 impl<'a> Model for Pruner<'a> {
@@ -23,18 +27,20 @@ impl<'a> Model for Pruner<'a> {
 
     ghost view = { λ a. a.level.now };
 
-    ghost invariant = { λ a. (a.dead ≡ a.level.now) × (a.bound ≡ a.level.now) };
+    ghost invariant = { λ a. (a.dead ≡ a.level.now) × (a.bound ≡ a.level.now) × (a.distances ≡ a.level.now) };
 }
 
 impl<'a> Pruner<'a> {
     /// That of a level. The only error is that memory was refused.
     pub(crate) fn of(alloc: Global, level: &'a Level) -> Result<Pruner<'a>, AllocError>
+        requires { box_count level.now ≤ MAX_BOXES }
         ensures { IfOk result (λ pruner. pruner ≡ level.now) }
     {
         Ok(Pruner {
             level,
             dead: Dead::of(alloc, level)?,
             bound: Bound::of(alloc, level)?,
+            distances: Distances::of(alloc, level)?,
         })
     }
 
@@ -52,14 +58,18 @@ impl<'a> Pruner<'a> {
         &self.dead
     }
 
-    /// Whether the boxes of the position need more pushes than so many; `false` says nothing.
-    pub(crate) fn refuses(&self, position: &Position, left: u32) -> bool
+    /// Whether the boxes of the position need more pushes than so many; `false` says nothing. What each box needs to the
+    /// nearest goal is looked at first, and only then what all need, no two at one goal.
+    pub(crate) fn refuses(&self, position: &Position, left: u32, matching: &mut Matching) -> bool
         requires { FitsLevel self.now position.now }
         ensures { IsTrue result → NoneWithin self.now left position.now }
     {
-        match self.bound.lower(position) {
-            Some(low) => low > left,
-            None => true,
+        let Some(low) = self.bound.lower(position) else {
+            return true;
+        };
+        if low > left {
+            return true;
         }
+        self.distances.needs_more(position, left, matching)
     }
 }

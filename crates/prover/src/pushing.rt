@@ -8,43 +8,44 @@ ghost use Rattle.doom.specs.Lost.{IsLost};
 ghost use Rattle.prices.specs.Solving.{NoneWithin};
 ghost use Rattle.prover.specs.Pruning.{after_push};
 
+use crate::desk::Desk;
 use crate::pruner::Pruner;
 use area::Scratch;
 use doom::Dead;
 use grid::{Level, Position, Push};
 
-/// Makes the normal position after a push, where the last flood was that of the position before it, and says `true`; or says
-/// `false`, where no play with so many pushes as are left then ends solved. That flood stays as it is.
+/// Makes at the desk the normal position after a push, where its last flood was that of the position before it, and says
+/// `true`; or says `false`, where no play with so many pushes as are left then ends solved. That flood stays as it is.
 pub(crate) fn try_push(
     pruner: &Pruner<'_>,
     position: &Position,
     push: Push,
     left: u32,
-    scratch: &mut Scratch,
-    after: &mut Position,
+    desk: &mut Desk,
 ) -> bool
     requires fits { FitsLevel pruner.now position.now }
-    requires room { scratch.old.size ≡ length pruner.now.cells }
-    requires flooded { IsAreaOf pruner.now position.now scratch.old.reached }
-    requires boxes { scratch.old.boxes ≡ position.now.boxes }
+    requires room { desk.old.scratch.size ≡ length pruner.now.cells }
+    requires flooded { IsAreaOf pruner.now position.now desk.old.scratch.reached }
+    requires boxes { desk.old.scratch.boxes ≡ position.now.boxes }
     requires possible { CanPush pruner.now position.now push }
-    ensures norm { IsTrue result → IsNorm pruner.now (after_push pruner.now position.now push) after.new }
-    ensures fits { IsTrue result → FitsLevel pruner.now after.new }
+    ensures norm { IsTrue result → IsNorm pruner.now (after_push pruner.now position.now push) desk.new.after }
+    ensures fits { IsTrue result → FitsLevel pruner.now desk.new.after }
     ensures left_out { IsFalse result → NoneWithin pruner.now left (after_push pruner.now position.now push) }
-    ensures kept { scratch.new ≡ scratch.old }
+    ensures kept { desk.new.scratch ≡ desk.old.scratch }
+    ensures pushes { desk.new.pushes ≡ desk.old.pushes }
 {
     let made = make_after(
         pruner.level(),
         pruner.dead(),
         position,
         push,
-        scratch,
-        after,
+        &mut desk.scratch,
+        &mut desk.after,
     );
     if !made {
         return false;
     }
-    let refused = pruner.refuses(after, left);
+    let refused = pruner.refuses(&desk.after, left, &mut desk.matching);
     if refused {
         return false;
     }

@@ -9,8 +9,9 @@ ghost use Rattle.prover.specs.Outcomes.{IsOutcome};
 ghost use Rattle.prover.specs.inside.Entries.{Grows};
 ghost use Rattle.prover.specs.inside.Progress.{AllFit, AreExpanded, AreUnsolved, IsUnderWay};
 
+use crate::desk::Desk;
 use crate::entries::{Entries, Label};
-use crate::expansion::{Desk, expand_all};
+use crate::expansion::expand_all;
 use crate::outcome::{Outcome, SearchFault};
 use crate::pruner::Pruner;
 use crate::retracing::retrace;
@@ -67,9 +68,40 @@ fn search_from(
     ensures { IfOk result (λ outcome. IsOutcome level.now asked.most outcome) }
 {
     let pruner = Pruner::of(alloc, level)?;
-    let mut desk = Desk::new(alloc, level)?;
-    let mut store = begun(alloc, level, first, &mut desk)?;
-    match run(&pruner, asked, &mut store, &mut desk)? {
+    search_pruned(alloc, &pruner, first, asked)
+}
+
+// The search from the start, by what is to leave positions out.
+fn search_pruned(
+    alloc: Global,
+    pruner: &Pruner<'_>,
+    first: &Position,
+    asked: Asked,
+) -> Result<Outcome, AllocError>
+    requires first { first.now ≡ start pruner.now }
+    requires few { box_count pruner.now ≤ MAX_BOXES }
+    ensures { IfOk result (λ outcome. IsOutcome pruner.now asked.most outcome) }
+{
+    let mut desk = Desk::new(alloc, pruner.level())?;
+    search_at(alloc, pruner, first, asked, &mut desk)
+}
+
+// That search, at a desk.
+fn search_at(
+    alloc: Global,
+    pruner: &Pruner<'_>,
+    first: &Position,
+    asked: Asked,
+    desk: &mut Desk,
+) -> Result<Outcome, AllocError>
+    requires first { first.now ≡ start pruner.now }
+    requires few { box_count pruner.now ≤ MAX_BOXES }
+    requires room { desk.old.scratch.size ≡ length pruner.now.cells }
+    ensures { IfOk result (λ outcome. IsOutcome pruner.now asked.most outcome) }
+{
+    let level = pruner.level();
+    let mut store = begun(alloc, level, first, desk)?;
+    match run(pruner, asked, &mut store, desk)? {
         End::Through => Ok(Outcome::None),
         End::Limit => Ok(Outcome::Limit),
         End::Solved(place) => retrace(

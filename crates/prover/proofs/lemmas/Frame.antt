@@ -1,13 +1,13 @@
 -- A search whose expansions keep what is asked of them finds a solution where there is one.
-use Rattle.std.proofs.Common.{◌≡◌, ℕ, zero, suc, ◌+◌, ◌≤◌, ◌<◌, ◌⊎◌, ◌||◌, eqb, inl, inr, Bool, true, false, List, [], ◌∷◌, length, slice_get, Some, refl, sym, ap, subst, ◌∙◌, arith}
+use Rattle.std.proofs.Common.{◌≡◌, ℕ, zero, suc, ◌⊎◌, ◌||◌, eqb, inl, inr, Bool, true, false, List, [], ◌∷◌, length, refl, sym, subst, ◌∙◌, arith}
 use Rattle.std.proofs.lemmas.Bool.{false≢true, true≢false, cases_Bool, cases_lt, or_right, eqb-true}
 use Rattle.grid.specs.Squares.{Squares, contains}
 use Rattle.grid.specs.Board.{Board, Scene, IsSolved, is_goal, start}
 use Rattle.grid.proofs.lemmas.Squares.{contains_head}
 use Rattle.grid.proofs.lemmas.Levels.{start_is_scene}
 use Rattle.grid.proofs.lemmas.Plays.{walk_keeps_boxes}
-use Rattle.prices.specs.Solving.{SolvableWithin, NoneWithin}
-use Rattle.prover.specs.Frame.{Seen, IsSeen, HasFound, Keeps, IsClosed, SearchFinds, SearchDecides}
+use Rattle.prices.specs.Solving.{SolvableWithin}
+use Rattle.prover.specs.Frame.{Seen, IsSeen, HasFound, SearchFinds, SearchDecides}
 use Rattle.prices.proofs.lemmas.Solving.{solved_before, norms_change_nothing}
 
 -- boxes stand on goals, or one of them does not

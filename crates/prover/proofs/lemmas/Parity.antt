@@ -8,7 +8,7 @@ use Rattle.grid.specs.declared.dir.Dir.TheVariants.{D, L, R, U}
 use Rattle.grid.specs.declared.square.Push.{Push}
 use Rattle.grid.specs.Squares.{Squares, contains, insert, remove}
 use Rattle.grid.specs.Rising.{rises_from, is_rising}
-use Rattle.grid.specs.Board.{Board, Scene, IsSolved, Walks, Pushes, is_wall, next, opposite, start}
+use Rattle.grid.specs.Board.{Board, Scene, IsSolved, Pushes, is_wall, next, start}
 use Rattle.grid.specs.States.{IsScene, FitsLevel}
 use Rattle.grid.specs.Plays.{Play, Any, stay, walk, push}
 use Rattle.grid.specs.Lawful.{IsLevel}
@@ -16,13 +16,12 @@ use Rattle.grid.proofs.lemmas.Levels.{level_counts, start_fits}
 use Rattle.grid.proofs.lemmas.Plays.{length-play, play_scene}
 use Rattle.grid.proofs.lemmas.Squares.{contains_head, contains-from, contains-remove_other, contains-remove_out, is_rising-remove, length-remove, rises_from-parts, same_set_both}
 use Rattle.grid.proofs.lemmas.Steps.{next_back, scene_after_walk, scene_after_push, wall_at_end, walk_boxes}
-use Rattle.prover.specs.Parity.{is_odd, SolutionsAlike, SomeHas, NoneHasFewer, TwoLessDecide, FewDecide}
+use Rattle.prover.specs.Parity.{is_odd, SolutionsAlike, TwoLessDecide, FewDecide}
 use Rattle.prices.specs.Prices.{goals_of, sum_over}
 use Rattle.prices.proofs.Goals.{contains-goals, is_rising-goals}
 use Rattle.prices.proofs.lemmas.Prices.{sum_inserted, sum_put_back}
 use Rattle.prover.proofs.Columns.{column_before}
 use Rattle.prover.proofs.Counts.{length-goals}
-use Rattle.prices.specs.Solving.{NoneWithin}
 
 -- ---- odd and even
 

@@ -1,19 +1,19 @@
 -- What an expansion may leave out.
-use Rattle.std.proofs.Common.{◌≡◌, ℕ, suc, ◌+◌, ◌≤◌, ◌⊎◌, List, [], ◌∷◌, length, refl, sym, ap, subst, ◌∙◌, inl, inr, true, arith}
+use Rattle.std.proofs.Common.{◌≡◌, ℕ, suc, ◌+◌, ◌≤◌, refl, sym, ap, subst, ◌∙◌, inl, inr, true, arith}
 use Rattle.grid.specs.declared.dir.Dir.{Dir}
 use Rattle.grid.specs.declared.square.Push.{Push}
 use Rattle.grid.specs.declared.state.Step.TheVariants.{Pushed}
 use Rattle.grid.specs.Squares.{Squares, contains, insert, remove}
-use Rattle.grid.specs.Board.{Board, Scene, IsFree, IsSolved, Pushes, next, opposite}
+use Rattle.grid.specs.Board.{Board, Scene, IsFree, Pushes, next, opposite}
 use Rattle.grid.specs.States.{IsScene, FitsLevel}
 use Rattle.grid.specs.Plays.{push_at}
 use Rattle.grid.proofs.lemmas.Levels.{fits_after_step}
 use Rattle.grid.proofs.lemmas.Steps.{next_back, opposite_twice, scene_after_push, same_scene}
 use Rattle.grid.proofs.lemmas.Plays.{walk_keeps_boxes}
-use Rattle.area.specs.Area.{IsNorm, at}
+use Rattle.area.specs.Area.{at}
 use Rattle.area.specs.Pushes.{CanPush}
 use Rattle.area.proofs.lemmas.Norms.{area_scene}
-use Rattle.prices.specs.Solving.{SolvableWithin, NoneWithin}
+use Rattle.prices.specs.Solving.{SolvableWithin}
 use Rattle.prover.specs.Frame.{Keeps}
 use Rattle.prover.specs.Pruning.{after_push, IsDone, IsAmong, AllDone}
 use Rattle.prices.proofs.lemmas.Solving.{first_push_leads, norms_change_nothing}

@@ -1,4 +1,4 @@
-use Rattle.std.proofs.Common.{◌≡◌, ◌-◌, suc, subst, sym, arith}
+use Rattle.std.proofs.Common.{◌≡◌, ◌-◌, arith}
 use Rattle.std.proofs.lemmas.Result.{OkIff-at_ok}
 use Rattle.prover.proofs.lemmas.Parity.{few_decide}
 use Rattle.prover.proofs.Judgements.{judged_by}

@@ -1,5 +1,5 @@
 use Rattle.std.proofs.Common.{◌≡◌, ℕ, true, refl, sym, ap, subst}
-use Rattle.grid.specs.Squares.{Squares, contains, remove}
+use Rattle.grid.specs.Squares.{contains, remove}
 use Rattle.grid.specs.Board.{Scene, next}
 use Rattle.grid.specs.States.{FitsLevel}
 use Rattle.grid.proofs.lemmas.Squares.{contains-insert_here}

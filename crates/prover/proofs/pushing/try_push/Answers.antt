@@ -1,8 +1,7 @@
-use Rattle.std.proofs.Common.{◌≡◌, true, false, sym, subst}
-use Rattle.grid.specs.Board.{Board, Scene}
+use Rattle.std.proofs.Common.{subst}
+use Rattle.grid.specs.Board.{Board}
 use Rattle.area.specs.Area.{IsNorm}
 use Rattle.doom.specs.Lost.{IsLost}
-use Rattle.prices.specs.Solving.{NoneWithin}
 use Rattle.prover.specs.Pruning.{after_push}
 use Rattle.prover.proofs.lemmas.Pruning.{after_scene}
 use Rattle.prover.proofs.Progressing.{lost_none, norm_none}

@@ -1,4 +1,4 @@
-use Rattle.std.proofs.Common.{◌≡◌, ◌<◌, Some, length, sym, ◌∙◌, arith}
+use Rattle.std.proofs.Common.{sym, ◌∙◌, arith}
 use Rattle.std.proofs.lemmas.Option.{slice_get_within}
 use Rattle.prover.specs.Frame.{Seen}
 use Rattle.prover.proofs.Progressing.{entered_fit, entered_grows, entered_more, entered_seen, grows_on}

@@ -1,4 +1,4 @@
-use Rattle.std.proofs.Common.{◌≡◌, ◌≤◌, ℕ, length, subst, ◌∙◌, arith}
+use Rattle.std.proofs.Common.{◌≡◌, ℕ, subst, ◌∙◌, arith}
 use Rattle.prover.specs.inside.Progress.{IsUnderWay}
 use Rattle.prover.proofs.Progressing.{grows_on, length_on, unsolved_on}
 use Rattle.prover.proofs.searching.expand_layer.Goals as goal

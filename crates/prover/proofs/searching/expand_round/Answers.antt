@@ -1,4 +1,4 @@
-use Rattle.std.proofs.Common.{◌≡◌, sym, ap, ◌∙◌}
+use Rattle.std.proofs.Common.{sym, ap, ◌∙◌}
 use Rattle.prover.specs.inside.Entries.{EntriesView}
 use Rattle.prover.proofs.Progressing.{on_ok_three, under_way_on}
 use Rattle.prover.proofs.searching.expand_round.Goals as goal

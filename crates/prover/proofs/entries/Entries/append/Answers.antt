@@ -1,5 +1,4 @@
 use Rattle.std.proofs.Common.{rules, ◌≡◌, ◌∷◌, [], ◌++◌, length, sym, ap, ◌∙◌}
-use Rattle.prover.specs.Frame.{Seen}
 use Rattle.prover.specs.inside.Entries.{EntriesView, seen_of, with_entry}
 use Rattle.prover.proofs.Flat.{seen_more}
 use Rattle.prover.proofs.entries.Entries.append.Goals as goal

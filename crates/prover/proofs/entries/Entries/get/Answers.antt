@@ -1,4 +1,4 @@
-use Rattle.std.proofs.Common.{rules, ◌≡◌, ◌∙◌, Some, refl, sym, ap}
+use Rattle.std.proofs.Common.{rules, ◌∙◌, Some, refl, sym}
 use Rattle.prover.specs.declared.entries.Label.{Label}
 use Rattle.prover.proofs.Flat.{entry_at}
 use Rattle.prover.proofs.entries.Entries.get.Goals as goal

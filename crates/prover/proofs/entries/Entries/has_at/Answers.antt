@@ -1,4 +1,4 @@
-use Rattle.std.proofs.Common.{rules, ◌≡◌, ◌∙◌, Some, refl, sym, arith}
+use Rattle.std.proofs.Common.{rules, ◌∙◌, Some, refl, sym, arith}
 use Rattle.prover.specs.declared.entries.Label.{Label}
 use Rattle.prover.specs.inside.Entries.{row_scene}
 use Rattle.prover.proofs.Flat.{entry_at}
