@@ -53,10 +53,15 @@ class Game:
         return f"answer layer {number}" + "".join((f" {came[0]}{self.push(came[1])}" if came else "") + self.position(it) for it, came in self.layer(number))
 
 
+def begun(game, last):
+    """A layer is begun, and its ranks are claimed."""
+    claims = [f"answer Claim {{ layer: {last}, rank: {rank} }}" for rank in range(len(game.layer(last)))]
+    return [game.left(game.book(last)), "answer Ok(())", game.left(game.book(last, True)), *claims]
+
+
 def begin():
     game = Game(YARD)
-    claims = [f"answer Claim {{ layer: 2, rank: {rank} }}" for rank in range(len(game.layer(2)))]
-    return [game.left(game.book(2)), "answer Ok(())", game.left(game.book(2, True)), *claims]
+    return [*begun(game, 0), *begun(game, 2)]
 
 
 def hand_back():

@@ -12,8 +12,21 @@ use layers::{BeginFault, Book, CloseFault, JoinFault, Layer, Parcel, Refusal, St
 use std::alloc::Global;
 use std::slice;
 
-/// Begins a layer, and claims its ranks.
+/// Begins the first layer of a book, which takes memory for its marks, and a later one, and claims their ranks.
 pub(crate) fn begin<R: Print>(rt: &R, alloc: Global) -> Option<()> {
+    begin_first(rt, alloc)?;
+    begin_later(rt, alloc)
+}
+
+// Begins the first layer of a book, and claims its ranks.
+fn begin_first<R: Print>(rt: &R, alloc: Global) -> Option<()> {
+    let mut book = first_book(alloc, YARD)?;
+    let layer = joined(alloc, &book)?;
+    begin_and_claim(rt, &mut book, &layer)
+}
+
+// Begins a later layer, and claims its ranks.
+fn begin_later<R: Print>(rt: &R, alloc: Global) -> Option<()> {
     let (mut book, layer) = yard(alloc)?;
     begin_and_claim(rt, &mut book, &layer)
 }
