@@ -11,7 +11,7 @@ use Rattle.prices.specs.declared.table.Table.{Table}
 use Rattle.prices.specs.Prices.{AreFar, CanStand, goals_of}
 use Rattle.prices.specs.inside.Checks.{AreClosed, AreNoneAtHome, KeepRows, LessenByOne}
 use Rattle.prices.specs.inside.Tables.{far_in, has_number, number_of, place_in, row_by, row_in, sides_of, spot_of}
-use Rattle.prices.proofs.Goals.{contains-goals}
+use Rattle.prices.proofs.lemmas.Goals.{contains-goals}
 
 -- what holds below a number, and of it, holds below the next one
 pub below_next : (P : ℕ → Type 0) (k : ℕ) → ((p : ℕ) → p < k → P p) → P k → (p : ℕ) → p < k + 1 → P p

@@ -11,7 +11,7 @@ use Rattle.prices.specs.Solving.{NoneWithin}
 use Rattle.prices.specs.Prices.{AreFar, goals_of, least_of, need_of, sum_over, total_need}
 use Rattle.prices.specs.inside.Tables.{far_in, number_of, place_in, row_in}
 use Rattle.prices.specs.inside.Sums.{greatest, need_by, total}
-use Rattle.prices.proofs.Goals.{is_rising-goals}
+use Rattle.prices.proofs.lemmas.Goals.{is_rising-goals}
 use Rattle.prices.proofs.Checking.{place_inside}
 use Rattle.prices.proofs.lemmas.Prices.{in_tail, needs_refuse, sum_le, tolls_are_free}
 

@@ -1,3 +1,4 @@
 -- The lemmas that the proofs of upper crates cite.
 pub mod Solving
+pub mod Goals
 pub mod Prices

@@ -11,7 +11,7 @@ use Rattle.grid.specs.Plays.{Play, Any, stay, walk, push}
 use Rattle.grid.proofs.lemmas.Squares.{contains_head, contains-remove_out, contains-remove_parts, contains-remove_other, contains-below, contains-from, remove_out, rises_from-parts, is_rising-remove}
 use Rattle.grid.proofs.lemmas.Steps.{scene_after_walk, scene_after_push}
 use Rattle.prices.specs.Prices.{goals_of, sum_over, CanStand, IsNeed, total_need, NeedsHold, NeedsRefuse, least_of, TollsAreFree}
-use Rattle.prices.proofs.Goals.{contains-goals, is_rising-goals}
+use Rattle.prices.proofs.lemmas.Goals.{contains-goals, is_rising-goals}
 
 -- ---- sums over squares
 

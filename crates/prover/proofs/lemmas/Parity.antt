@@ -18,7 +18,7 @@ use Rattle.grid.proofs.lemmas.Squares.{contains_head, contains-from, contains-re
 use Rattle.grid.proofs.lemmas.Steps.{next_back, scene_after_walk, scene_after_push, wall_at_end, walk_boxes}
 use Rattle.prover.specs.Parity.{is_odd, SolutionsAlike, TwoLessDecide, FewDecide}
 use Rattle.prices.specs.Prices.{goals_of, sum_over}
-use Rattle.prices.proofs.Goals.{contains-goals, is_rising-goals}
+use Rattle.prices.proofs.lemmas.Goals.{contains-goals, is_rising-goals}
 use Rattle.prices.proofs.lemmas.Prices.{sum_inserted, sum_put_back}
 use Rattle.prover.proofs.Columns.{column_before}
 use Rattle.prover.proofs.Counts.{length-goals}
