@@ -2,3 +2,4 @@ pub mod lemmas
 pub mod Goals
 pub mod Checking
 pub mod Sums
+pub mod Counts

@@ -2,3 +2,4 @@
 pub mod Solving
 pub mod Goals
 pub mod Prices
+pub mod Solved

@@ -1,6 +1,5 @@
 pub mod lemmas
 pub mod Columns
-pub mod Counts
 pub mod Flat
 pub mod Progressing
 pub mod OnGoals

@@ -18,15 +18,11 @@ use Rattle.grid.proofs.lemmas.Squares.{contains_head, contains-from, contains-re
 use Rattle.grid.proofs.lemmas.Steps.{next_back, scene_after_walk, scene_after_push, wall_at_end, walk_boxes}
 use Rattle.prover.specs.Parity.{is_odd, SolutionsAlike, TwoLessDecide, FewDecide}
 use Rattle.prices.specs.Prices.{goals_of, sum_over}
-use Rattle.prices.proofs.lemmas.Goals.{contains-goals, is_rising-goals}
+use Rattle.prices.proofs.lemmas.Solved.{solved_are_goals}
 use Rattle.prices.proofs.lemmas.Prices.{sum_inserted, sum_put_back}
 use Rattle.prover.proofs.Columns.{column_before}
-use Rattle.prover.proofs.Counts.{length-goals}
 
 -- ---- odd and even
-
-in_tail : (x : ℕ) (xs : Squares) (q : ℕ) → contains xs q ≡ true → contains (x ∷ xs) q ≡ true
-in_tail x xs q there = or_right (eqb x q) (contains xs q) there
 
 not_twice : (b : Bool) → not (not b) ≡ b
 not_twice true = refl
@@ -146,29 +142,6 @@ odd_played board s t (d ∷ ds) ps some scene (walk {m = m} ok step play) =
     odd_played board m t ds ps some (scene_after_walk board s d m scene step) play ∙ ap (λ (xs : Squares). is_odd (length ps + sum_of board xs)) (walk_boxes board s d m step)
 odd_played board s t (d ∷ ds) (p ∷ ps) some scene (push {m = m} ok step play) =
     odd_step (length ps) (sum_of board s.boxes) (sum_of board m.boxes) (sum_of board t.boxes) (pushed_beside board s m d some scene step) (odd_played board m t ds ps some (scene_after_push board s d m scene step) play)
-
--- ---- solved boxes stand on all the goals
-
-all_of_them : (k : ℕ) (xs ys : Squares) → rises_from k xs ≡ true → is_rising ys ≡ true → ((q : ℕ) → contains xs q ≡ true → contains ys q ≡ true) → length ys ≤ length xs → (q : ℕ) → contains ys q ≡ true → contains xs q ≡ true
-all_of_them k [] [] rises rising within few q there = there
-all_of_them k [] (y ∷ ys) rises rising within few q there = absurd (omega (arith, few))
-all_of_them k (x ∷ xs) ys rises rising within few q there =
-    let parts = rises_from-parts k x xs rises in
-    let size = length-remove ys x rising (within x (contains_head x xs)) in
-    let rest = all_of_them (suc x) xs (remove ys x) parts.1 (is_rising-remove ys x rising) (λ z h. contains-remove_other ys x z (let ge = contains-from (suc x) xs z parts.1 h in λ e. omega (arith, e, ge)) ∙ within z (in_tail x xs z h)) (omega (arith, size, few)) q in
-    by_eq rest (eqb x q) refl
-  where
-    by_eq : (contains (remove ys x) q ≡ true → contains xs q ≡ true) → (b : Bool) → eqb x q ≡ b → contains (x ∷ xs) q ≡ true
-    by_eq rest true e = subst (λ (z : ℕ). contains (x ∷ xs) z ≡ true) (eqb-true x q e) (contains_head x xs)
-    by_eq rest false e = in_tail x xs q (rest (contains-remove_other ys x q (eqb-false x q e) ∙ there))
-
-pub solved_are_goals : (board : Board) (s : Scene) → IsLevel board → FitsLevel board s → IsSolved board s → s.boxes ≡ goals_of board
-solved_are_goals board s level fits solved =
-    let rising = is_rising-goals board in
-    let within : (q : ℕ) → contains s.boxes q ≡ true → contains (goals_of board) q ≡ true = λ q there. contains-goals board q ∙ solved q there in
-    let counts = (level_counts board level).boxes in
-    let size = length-goals board in
-    same_set_both s.boxes (goals_of board) fits.scene.rising rising within (all_of_them 0 s.boxes (goals_of board) fits.scene.rising rising within (omega (arith, counts, size, fits.boxes)))
 
 -- ---- two solutions
 

@@ -1,0 +1,4 @@
+pub mod lemmas
+pub mod Moves
+pub mod Exchange
+pub mod Looks

@@ -1,0 +1,53 @@
+-- Corrals: rooms that boxes shut, and those boxes, of which one has to be pushed, and may as well be pushed first.
+use Rattle.std.specs.Prelude.{◌≡◌, ℕ, suc, ◌+◌, ◌≤◌, ◌⊎◌, Bool, true, false, List, length}
+use Rattle.grid.specs.declared.dir.Dir.{Dir}
+use Rattle.grid.specs.declared.square.Push.{Push}
+use Rattle.grid.specs.Squares.{contains}
+use Rattle.grid.specs.Board.{Board, Scene, Pushes, is_goal, is_wall, next, opposite}
+use Rattle.grid.specs.States.{FitsLevel}
+use Rattle.grid.specs.Plays.{Play}
+use Rattle.grid.specs.Lawful.{IsLevel}
+use Rattle.area.specs.Area.{Area}
+use Rattle.prices.specs.Solving.{SolvableWithin}
+use Rattle.corrals.specs.Trying.{Suffice}
+
+-- on each held square stands a box; in the room is neither a box nor the player; beside it are only walls, held boxes and the room itself
+pub record IsCorral (board : Board) (held room : ℕ → Bool) (s : Scene) : Type 0 where
+  pub stands : (q : ℕ) → held q ≡ true → contains s.boxes q ≡ true
+  pub clear : (q : ℕ) → room q ≡ true → contains s.boxes q ≡ false
+  pub outside : room s.player ≡ false
+  pub shut : (q : ℕ) (d : Dir) → room q ≡ true →
+      (is_wall board (next board q d) ≡ true) ⊎ ((held (next board q d) ≡ true) ⊎ (room (next board q d) ≡ true))
+
+-- a held box is off goal, or the room has a goal: so some held box has to be pushed
+abbrev pub HasToChange : Board → (ℕ → Bool) → (ℕ → Bool) → Type 0
+HasToChange board held room = ((q : ℕ) × (held q ≡ true) × (is_goal board q ≡ false)) ⊎ ((q : ℕ) × (room q ≡ true) × (is_goal board q ≡ true))
+
+-- no play of at most m pushes that ends solved pushes the box on the square in the direction, where it has stood there all the time
+abbrev pub NeverHelps : Board → ℕ → Scene → ℕ → Dir → Type 0
+NeverHelps board m s b d = (x y : Scene) (ds : List Dir) (ps : List Push) (n : ℕ) → Play board (λ z. contains z.boxes b ≡ true) s ds ps x
+    → Pushes board x d y → next board x.player d ≡ b → length ps + suc n ≤ m → ¬ (SolvableWithin board n y)
+
+-- what is behind a held box, or ahead of it, bars its push while no held box was pushed: a wall, a held box, or for the player the room
+abbrev pub IsBarred : Board → (ℕ → Bool) → (ℕ → Bool) → ℕ → Dir → Type 0
+IsBarred board held room b d = let behind = next board b (opposite d) in let ahead = next board b d in
+    ((is_wall board behind ≡ true) ⊎ ((held behind ≡ true) ⊎ (room behind ≡ true))) ⊎ ((is_wall board ahead ≡ true) ⊎ (held ahead ≡ true))
+
+-- the push leads into the room, and the player can make it now
+abbrev pub LeadsIn : Board → (ℕ → Bool) → Scene → ℕ → Dir → Type 0
+LeadsIn board room s b d = (room (next board b d) ≡ true) × Area board s (next board b (opposite d))
+
+-- what is asked of a held box and a direction: a push that could be the first of a held box, and could help, can be made now
+abbrev pub IsReady : Board → ℕ → (ℕ → Bool) → (ℕ → Bool) → Scene → ℕ → Dir → Type 0
+IsReady board m held room s b d = IsBarred board held room b d ⊎ (NeverHelps board m s b d ⊎ LeadsIn board room s b d)
+
+-- held boxes and room are a corral in which something has to change, where all pushes that could be first are ready
+pub record IsClosure (board : Board) (m : ℕ) (held room : ℕ → Bool) (s : Scene) : Type 0 where
+  pub corral : IsCorral board held room s
+  pub change : HasToChange board held room
+  pub ready : (b : ℕ) (d : Dir) → held b ≡ true → IsReady board m held room s b d
+
+-- then the pushes of held boxes suffice
+abbrev pub CorralsSuffice : Board → Type 0
+CorralsSuffice board = IsLevel board → (left : ℕ) (held room : ℕ → Bool) (s : Scene) → FitsLevel board s
+    → IsClosure board (suc left) held room s → Suffice board left (λ p. held p.square ≡ true) s

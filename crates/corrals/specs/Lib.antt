@@ -1,0 +1,4 @@
+pub mod Trying
+pub mod Corrals
+pub mod Sets
+pub mod inside

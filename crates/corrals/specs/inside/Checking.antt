@@ -1,0 +1,29 @@
+-- What the check of a corral looks at, square by square.
+use Rattle.std.specs.Prelude.{◌≡◌, ℕ, Bool, true, ◌&&◌, ◌||◌, not, nat_lt, length}
+use Rattle.std.specs.List.{list_all, list_any}
+use Rattle.grid.specs.declared.dir.Dir.{Dir}
+use Rattle.grid.specs.declared.dir.Dir.TheVariants.{D, L, R, U}
+use Rattle.grid.specs.Squares.{Squares, contains}
+use Rattle.grid.specs.Board.{Board, Scene, is_wall, is_goal, next}
+use Rattle.corrals.specs.Corrals.{IsReady}
+
+-- beside the square is a wall, a square of the room or a held box
+abbrev pub shut_beside : Board → (ℕ → Bool) → (ℕ → Bool) → ℕ → Dir → Bool
+shut_beside board held room q d = is_wall board (next board q d) || (room (next board q d) || held (next board q d))
+
+-- the same in each direction, and the square has no box
+abbrev pub shut_round : Board → Squares → (ℕ → Bool) → (ℕ → Bool) → ℕ → Bool
+shut_round board boxes held room q =
+    nat_lt q (length board.cells) && (not (contains boxes q) && (shut_beside board held room q D && (shut_beside board held room q L && (shut_beside board held room q R && shut_beside board held room q U))))
+
+-- each of the squares is one of the level
+abbrev pub are_inside : Board → Squares → Bool
+are_inside board xs = list_all (λ q. nat_lt q (length board.cells)) xs
+
+-- one of the boxes is off goal, or one of the squares has a goal
+abbrev pub has_to_change : Board → Squares → Squares → Bool
+has_to_change board boxes squares = list_any (λ q. not (is_goal board q)) boxes || list_any (λ q. is_goal board q) squares
+
+-- on the square stands a box, all of whose pushes that could be the first of a held box are ready
+abbrev pub IsReadyBox : Board → (ℕ → Bool) → (ℕ → Bool) → Scene → ℕ → Type 0
+IsReadyBox board held room s b = (contains s.boxes b ≡ true) × ((m : ℕ) (d : Dir) → IsReady board m held room s b d)

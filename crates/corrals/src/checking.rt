@@ -1,0 +1,162 @@
+//! Whether what was chosen is a corral.
+ghost use Rattle.std.specs.Prelude.{◌≡◌, ℕ, ◌<◌, ◌&&◌, ◌||◌, not, true, IsTrue, length};
+ghost use Rattle.std.specs.List.{list_all, list_any};
+ghost use Rattle.grid.specs.Board.{is_goal};
+ghost use Rattle.grid.specs.Masks.{has_bit};
+ghost use Rattle.grid.specs.Squares.{contains};
+ghost use Rattle.corrals.specs.Corrals.{IsClosure, IsReady};
+ghost use Rattle.corrals.specs.inside.Checking.{IsReadyBox, are_inside, has_to_change, shut_beside, shut_round};
+ghost use Rattle.corrals.specs.inside.Views.{HasRoom};
+
+use crate::corral::Sets;
+use crate::ground::Ground;
+use grid::{Dir, Square};
+
+/// Whether these boxes and these squares are a corral in which something has to change, and whose pushes are ready. The sets
+/// are made those of the boxes and the squares.
+pub(crate) fn is_closure(
+    ground: &Ground<'_>,
+    boxes: &[Square],
+    squares: &[Square],
+    sets: &mut Sets,
+) -> bool
+    requires room { HasRoom (length ground.now.board.cells) sets.old }
+    ensures closure { IsTrue result → (m : ℕ) → IsClosure ground.now.board m (has_bit sets.new.held) (has_bit sets.new.room) ground.now.scene }
+    ensures room { HasRoom (length ground.now.board.cells) sets.new }
+{
+    if !are_inside(ground, boxes) {
+        return false;
+    }
+    if !are_inside(ground, squares) {
+        return false;
+    }
+    sets.held.put_all(boxes);
+    sets.room.put_all(squares);
+    let found = is_found(ground, boxes, squares, sets);
+    found
+}
+
+// Whether each square is one of the level.
+fn are_inside(ground: &Ground<'_>, squares: &[Square]) -> bool
+    ensures { result ≡ are_inside ground.now.board squares.now }
+{
+    squares.iter().all(|square| ground.has(*square))
+}
+
+// The same, where the sets are those of the boxes and the squares.
+fn is_found(ground: &Ground<'_>, boxes: &[Square], squares: &[Square], sets: &Sets) -> bool
+    requires held { (q : ℕ) → has_bit sets.now.held q ≡ contains boxes.now q }
+    requires room { (q : ℕ) → has_bit sets.now.room q ≡ contains squares.now q }
+    ensures { IsTrue result → (m : ℕ) → IsClosure ground.now.board m (has_bit sets.now.held) (has_bit sets.now.room) ground.now.scene }
+{
+    let outside = !sets.room.has(ground.position().player());
+    let changes = has_to_change(ground, boxes, squares);
+    let shut = are_shut(ground, squares, sets);
+    if !outside {
+        return false;
+    }
+    if !changes {
+        return false;
+    }
+    if !shut {
+        return false;
+    }
+    let ready = are_ready(ground, boxes, sets);
+    ready
+}
+
+// Whether a box is off goal, or a square has a goal.
+fn has_to_change(ground: &Ground<'_>, boxes: &[Square], squares: &[Square]) -> bool
+    ensures { result ≡ has_to_change ground.now.board boxes.now squares.now }
+{
+    is_one_off_goal(ground, boxes) || has_goal(ground, squares)
+}
+
+// Whether one of the boxes is off goal.
+fn is_one_off_goal(ground: &Ground<'_>, boxes: &[Square]) -> bool
+    ensures { result ≡ list_any (λ q. not (is_goal ground.now.board q)) boxes.now }
+{
+    boxes.iter().any(|square| !ground.is_goal(*square))
+}
+
+// Whether one of the squares has a goal.
+fn has_goal(ground: &Ground<'_>, squares: &[Square]) -> bool
+    ensures { result ≡ list_any (λ q. is_goal ground.now.board q) squares.now }
+{
+    squares.iter().any(|square| ground.is_goal(*square))
+}
+
+// Whether none of the squares has a box, and beside them there is only what shuts a room.
+fn are_shut(ground: &Ground<'_>, squares: &[Square], sets: &Sets) -> bool
+    ensures { result ≡ list_all (λ q. shut_round ground.now.board ground.now.scene.boxes (has_bit sets.now.held) (has_bit sets.now.room) q) squares.now }
+{
+    squares
+        .iter()
+        .all(|square| is_shut_round(ground, *square, sets))
+}
+
+fn is_shut_round(ground: &Ground<'_>, square: Square, sets: &Sets) -> bool
+    ensures { result ≡ shut_round ground.now.board ground.now.scene.boxes (has_bit sets.now.held) (has_bit sets.now.room) square }
+{
+    ground.has(square)
+        && (!ground.has_box(square)
+            && (is_shut_beside(ground, square, Dir::D, sets)
+                && (is_shut_beside(ground, square, Dir::L, sets)
+                    && (is_shut_beside(ground, square, Dir::R, sets)
+                        && is_shut_beside(ground, square, Dir::U, sets)))))
+}
+
+fn is_shut_beside(ground: &Ground<'_>, square: Square, dir: Dir, sets: &Sets) -> bool
+    requires { square < length ground.now.board.cells }
+    ensures { result ≡ shut_beside ground.now.board (has_bit sets.now.held) (has_bit sets.now.room) square dir }
+{
+    let beside = ground.next(square, dir);
+    ground.is_wall(beside) || (sets.room.has(beside) || sets.held.has(beside))
+}
+
+// Whether on each of the squares stands a box, and all its pushes that could be the first of a held box are ready.
+fn are_ready(ground: &Ground<'_>, boxes: &[Square], sets: &Sets) -> bool
+    ensures { IsTrue result → (b : ℕ) → contains boxes.now b ≡ true → IsReadyBox ground.now.board (has_bit sets.now.held) (has_bit sets.now.room) ground.now.scene b }
+{
+    for square in boxes {
+        if !is_ready_round(ground, *square, sets) {
+            return false;
+        }
+    }
+    true
+}
+
+// The same of one square.
+fn is_ready_round(ground: &Ground<'_>, square: Square, sets: &Sets) -> bool
+    ensures { IsTrue result → IsReadyBox ground.now.board (has_bit sets.now.held) (has_bit sets.now.room) ground.now.scene square }
+{
+    if !ground.has(square) || !ground.has_box(square) {
+        return false;
+    }
+    let down = is_ready_along(ground, square, Dir::D, sets);
+    let left = is_ready_along(ground, square, Dir::L, sets);
+    let right = is_ready_along(ground, square, Dir::R, sets);
+    let up = is_ready_along(ground, square, Dir::U, sets);
+    down & left & right & up
+}
+
+// Whether the push of a held box in a direction is ready, if it could be the first.
+fn is_ready_along(ground: &Ground<'_>, square: Square, dir: Dir, sets: &Sets) -> bool
+    requires { square < length ground.now.board.cells }
+    ensures { IsTrue result → (m : ℕ) → IsReady ground.now.board m (has_bit sets.now.held) (has_bit sets.now.room) ground.now.scene square dir }
+{
+    let behind = ground.next(square, dir.opposite());
+    let ahead = ground.next(square, dir);
+    let shut = ground.is_wall(behind) || (sets.held.has(behind) || sets.room.has(behind));
+    let barred = ground.is_wall(ahead) || sets.held.has(ahead);
+    if shut || barred {
+        return true;
+    }
+    let dead = ground.is_dead(ahead);
+    if dead {
+        return true;
+    }
+    let inside = sets.room.has(ahead);
+    let reached = ground.reaches(behind);
+    inside && reached
+}

@@ -1,0 +1,113 @@
+//! Where a corral is looked for.
+ghost use Rattle.std.specs.Prelude.{◌≡◌, ℕ, ◌<◌, IsTrue, length, nat_lt};
+ghost use Rattle.grid.specs.declared.dir.Dir.{Dir as Direction};
+ghost use Rattle.grid.specs.Board.{is_wall, is_goal, next};
+ghost use Rattle.grid.specs.Squares.{contains};
+ghost use Rattle.grid.specs.States.{FitsLevel};
+ghost use Rattle.area.specs.After.{IsAreaOf};
+ghost use Rattle.area.specs.Area.{Area};
+ghost use Rattle.corrals.specs.Corrals.{NeverHelps};
+
+use area::Scratch;
+use doom::Dead;
+use grid::{Dir, Level, Position, Square};
+use std::marker::Model;
+
+/// A position of a level, of which the last flood in the scratch was. Contracts see the level and the position.
+#[derive(Debug, Drop)]
+pub(crate) struct Ground<'a> {
+    level: &'a Level,
+    dead: &'a Dead,
+    position: &'a Position,
+    scratch: &'a Scratch,
+}
+
+impl<'a> Model for Ground<'a> {
+    ghost use Rattle.corrals.specs.inside.Grounds.{GroundView, ground_view, IsFlooded};
+
+    ghost Value = { GroundView };
+
+    ghost view = { ground_view };
+
+    ghost invariant = { IsFlooded };
+}
+
+impl<'a> Ground<'a> {
+    /// That of a position.
+    pub(crate) fn of(
+        level: &'a Level,
+        dead: &'a Dead,
+        position: &'a Position,
+        scratch: &'a Scratch,
+    ) -> Ground<'a>
+        requires fits { FitsLevel level.now position.now }
+        requires dead_of_level { dead.now ≡ level.now }
+        requires flooded { IsAreaOf level.now position.now scratch.now.reached }
+        requires boxes { scratch.now.boxes ≡ position.now.boxes }
+        ensures { result ≡ record { board = level.now; scene = position.now } }
+    {
+        Ground {
+            level,
+            dead,
+            position,
+            scratch,
+        }
+    }
+
+    /// The position.
+    pub(crate) fn position(&self) -> &Position
+        ensures { result.now ≡ self.now.scene }
+    {
+        self.position
+    }
+
+    /// Whether the level has the square.
+    pub(crate) fn has(&self, square: Square) -> bool
+        ensures { result ≡ nat_lt square (length self.now.board.cells) }
+    {
+        (square.0 as usize) < self.level.squares()
+    }
+
+    /// The square next to a square.
+    pub(crate) fn next(&self, square: Square, dir: Dir) -> Square
+        requires { square < length self.now.board.cells }
+        ensures { result ≡ next self.now.board square dir }
+    {
+        self.level.next(square, dir)
+    }
+
+    /// Whether the square is a wall.
+    pub(crate) fn is_wall(&self, square: Square) -> bool
+        ensures { result ≡ is_wall self.now.board square }
+    {
+        self.level.is_wall(square)
+    }
+
+    /// Whether the square has a goal.
+    pub(crate) fn is_goal(&self, square: Square) -> bool
+        ensures { result ≡ is_goal self.now.board square }
+    {
+        self.level.is_goal(square)
+    }
+
+    /// Whether a box on the square can't be brought to a goal, so that no push onto it ever helps.
+    pub(crate) fn is_dead(&self, square: Square) -> bool
+        ensures { IsTrue result → (m b : ℕ) (d : Direction) → next self.now.board b d ≡ square → NeverHelps self.now.board m self.now.scene b d }
+    {
+        self.dead.is_dead(square)
+    }
+
+    /// Whether a box stands on the square.
+    pub(crate) fn has_box(&self, square: Square) -> bool
+        ensures { result ≡ contains self.now.scene.boxes square }
+    {
+        self.scratch.has_box(square)
+    }
+
+    /// Whether the player walks to the square.
+    pub(crate) fn reaches(&self, square: Square) -> bool
+        ensures { IsTrue result → Area self.now.board self.now.scene square }
+    {
+        self.scratch.reaches(square)
+    }
+}
