@@ -1,23 +1,27 @@
 -- Steps of a search, over plain lists of what was seen.
-use Rattle.std.proofs.Common.{◌≡◌, ℕ, zero, suc, ◌+◌, ◌≤◌, ◌<◌, ◌⊎◌, List, [], ◌∷◌, ◌++◌, length, Some, Result, Ok, Err, OnOk, get_or, inl, inr, refl, sym, ap, subst, ◌∙◌, append-nil, append_assoc, arith}
-use Rattle.std.proofs.lemmas.Bool.{cases_lt}
+use Rattle.std.proofs.Common.{◌≡◌, ℕ, zero, suc, ◌+◌, ◌≤◌, ◌<◌, ◌⊎◌, Bool, true, false, IsTrue, List, [], ◌∷◌, ◌++◌, length, Some, Result, Ok, Err, OnOk, get_or, inl, inr, refl, sym, ap, subst, ◌∙◌, append-nil, append_assoc, arith}
+use Rattle.std.proofs.lemmas.Bool.{cases_lt, false≢true}
 use Rattle.std.proofs.lemmas.Option.{same_Some, slice_get_within, slice_get_read}
 use Rattle.std.specs.Prelude.{slice_get}
 use Rattle.grid.specs.declared.square.Push.{Push}
 use Rattle.grid.specs.Board.{Board, Scene, start}
 use Rattle.grid.specs.States.{IsScene, FitsLevel}
 use Rattle.grid.specs.Lawful.{IsLevel}
+use Rattle.grid.specs.Masks.{has_bit}
 use Rattle.area.specs.Area.{IsNorm}
-use Rattle.area.specs.Pushes.{ArePushes}
+use Rattle.area.specs.Pushes.{ArePushes, CanPush}
 use Rattle.doom.specs.Lost.{IsLost}
 use Rattle.prices.specs.Solving.{NoneWithin}
 use Rattle.prices.proofs.lemmas.Solving.{none_is_not_solvable, norms_change_nothing}
 use Rattle.prover.specs.Frame.{Seen, IsSeen, Keeps}
 use Rattle.prover.specs.Pruning.{IsDone}
 use Rattle.prover.specs.inside.Entries.{EntriesView, Grows, IsReached}
-use Rattle.prover.specs.inside.Progress.{IsDoneWith, AreDoneWith, AllFit, AreExpanded, AreUnsolved, IsUnderWay}
+use Rattle.prover.specs.inside.Progress.{IsChosen, IsDoneWith, AreDoneWith, AllFit, AreExpanded, AreUnsolved, IsUnderWay}
 use Rattle.prover.proofs.lemmas.Frame.{search_decides}
-use Rattle.prover.proofs.lemmas.Pruning.{all_keep, keeps_so}
+use Rattle.corrals.specs.Trying.{Suffice}
+use Rattle.corrals.specs.Corrals.{IsClosure}
+use Rattle.corrals.proofs.lemmas.Corrals.{corrals_suffice}
+use Rattle.prover.proofs.lemmas.Pruning.{all_suffice, keeps_so, tried_keep}
 
 -- ---- lists that grow
 
@@ -98,27 +102,43 @@ done_on : (board : Board) (left : ℕ) (all : List Seen) (v w : EntriesView) (k 
 done_on board left all v w k s p grows (inl (n, norm, kept)) = inl (n, norm, reached_on all v w k n grows kept)
 done_on board left all v w k s p grows (inr none) = inr none
 
--- one more push is done with
-pub done_more : (board : Board) (left : ℕ) (all : List Seen) (v w : EntriesView) (k : ℕ) (s : Scene) (pushes : List Push) (count : ℕ) (p : Push) → Grows v w → slice_get pushes count ≡ Some p
-    → AreDoneWith board left (IsReached all v.seen k) s pushes count → IsDoneWith board left (IsReached all w.seen k) s p → AreDoneWith board left (IsReached all w.seen k) s pushes (count + 1)
-done_more board left all v w k s pushes count p grows here before done i q lt at = elim (cases_lt i count) [
-  | inl less ↦ done_on board left all v w k s q grows (before i q less at)
+-- one more push is done with, if it is to be tried
+pub done_more : (board : Board) (left : ℕ) (all : List Seen) (Tried : Push → Type 0) (v w : EntriesView) (k : ℕ) (s : Scene) (pushes : List Push) (count : ℕ) (p : Push)
+    → Grows v w → slice_get pushes count ≡ Some p → AreDoneWith board left (IsReached all v.seen k) Tried s pushes count
+    → (Tried p → IsDoneWith board left (IsReached all w.seen k) s p) → AreDoneWith board left (IsReached all w.seen k) Tried s pushes (count + 1)
+done_more board left all Tried v w k s pushes count p grows here before done i q lt at tried = elim (cases_lt i count) [
+  | inl less ↦ done_on board left all v w k s q grows (before i q less at tried)
   | inr ge ↦
       let same : i ≡ count = omega (arith, lt, ge) in
       let e : p ≡ q = same_Some p q (sym here ∙ (ap (λ (j : ℕ). slice_get pushes j) (sym same) ∙ at)) in
-      subst (λ (r : Push). IsDoneWith board left (IsReached all w.seen k) s r) e done
+      subst (λ (r : Push). Tried r → IsDoneWith board left (IsReached all w.seen k) s r) e done tried
 ]
 
--- all pushes are done with
-pub expansion_keeps : (board : Board) (left : ℕ) (Kept : Scene → Type 0) (most k : ℕ) (s : Scene) (pushes : List Push) (count : ℕ) → IsScene board s → ArePushes board s pushes → length pushes ≤ count → most ≤ suc k + left
-    → AreDoneWith board left Kept s pushes count → Keeps board most Kept k s
-expansion_keeps board left Kept most k s pushes count scene are all enough done = all_keep board Kept most k s scene (λ p can.
-    let here = are.whole p can in
-    as_done p (done here.0 p (let lt = slice_get_within pushes here.0 p here.1 in omega (arith, lt, all)) here.1))
+-- all pushes that are to be tried are done with, and it suffices to try these
+pub expansion_keeps : (board : Board) (left : ℕ) (Kept : Scene → Type 0) (Tried : Push → Type 0) (most k : ℕ) (s : Scene) (pushes : List Push) (count : ℕ)
+    → IsScene board s → ArePushes board s pushes → length pushes ≤ count → most ≤ suc k + left → Suffice board left Tried s
+    → AreDoneWith board left Kept Tried s pushes count → Keeps board most Kept k s
+expansion_keeps board left Kept Tried most k s pushes count scene are all enough suffice done = tried_keep board Kept Tried most k left s scene enough suffice each
   where
     as_done : (p : Push) → IsDoneWith board left Kept s p → IsDone board most Kept k s p
     as_done p (inl kept) = inl kept
     as_done p (inr none) = inr (left, enough, none)
+
+    each : (p : Push) → Tried p → CanPush board s p → IsDone board most Kept k s p
+    each p tried can =
+        let here = are.whole p can in
+        as_done p (done here.0 p (let lt = slice_get_within pushes here.0 p here.1 in omega (arith, lt, all)) here.1 tried)
+
+-- all pushes suffice, and with `only` those of the held boxes of a corral
+pub chosen_suffice : (board : Board) (left : ℕ) (s : Scene) (only : Bool) (held : List ℕ) → IsLevel board → FitsLevel board s
+    → (IsTrue only → (room : ℕ → Bool) × IsClosure board (suc left) (has_bit held) room s) → Suffice board left (IsChosen only held) s
+chosen_suffice board left s true held level fits closure m le unsolved solvable =
+    let (room, is) = closure refl in
+    let (p, t, tried, pushed, rest) = corrals_suffice board level left (has_bit held) room s fits is m le unsolved solvable in
+    (p, t, (λ told. tried), pushed, rest)
+chosen_suffice board left s false held level fits closure m le unsolved solvable =
+    let (p, t, tried, pushed, rest) = all_suffice board left s fits.scene m le unsolved solvable in
+    (p, t, (λ told. absurd (false≢true told)), pushed, rest)
 
 -- beyond the most pushes nothing has to be kept
 pub nothing_left : (board : Board) (Kept : Scene → Type 0) (most k : ℕ) (s : Scene) → most ≤ k → Keeps board most Kept k s

@@ -3,17 +3,19 @@ ghost use Rattle.std.specs.Prelude.{◌≡◌, IfOk, length};
 
 use area::{MAX_PUSHES, Scratch};
 use arrayvec::ArrayVec;
+use corrals::Corral;
 use grid::{Level, Position, Push};
 use prices::Matching;
 use std::alloc::{AllocError, Global};
 
-/// Room for a worker: its floods, the pushes of a position, what one of them leads to, and a matching.
+/// Room for a worker: its floods, the pushes of a position, what one of them leads to, a matching, and a corral.
 #[derive(Debug, Drop)]
 pub(crate) struct Desk {
     pub(crate) scratch: Scratch,
     pub(crate) pushes: ArrayVec<Push, MAX_PUSHES>,
     pub(crate) after: Position,
     pub(crate) matching: Matching,
+    pub(crate) corral: Corral,
 }
 
 impl Desk {
@@ -26,6 +28,7 @@ impl Desk {
             pushes: ArrayVec::new(),
             after: Position::default(),
             matching: Matching::new(),
+            corral: Corral::new(alloc, level)?,
         })
     }
 }

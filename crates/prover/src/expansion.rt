@@ -10,7 +10,7 @@ ghost use Rattle.prover.specs.inside.Progress.{AllFit, AreExpanded};
 use crate::desk::Desk;
 use crate::entries::{Entries, Label};
 use crate::pruner::Pruner;
-use crate::pushing::try_push;
+use crate::pushing::try_chosen;
 use crate::store::Store;
 use grid::Position;
 use std::alloc::AllocError;
@@ -82,9 +82,17 @@ fn expand(
         &mut desk.scratch,
         &mut desk.pushes,
     );
+    pruner.level().tell();
+    let only = corrals::find(
+        pruner.level(),
+        pruner.dead(),
+        position,
+        &desk.scratch,
+        &mut desk.corral,
+    );
     for index in 0..desk.pushes.len() {
         let push = desk.pushes.as_slice()[index];
-        let kept = try_push(pruner, position, push, left, desk);
+        let kept = try_chosen(pruner, position, push, left, only, desk);
         if kept {
             keep(store, &desk.after, label, more)?;
         }

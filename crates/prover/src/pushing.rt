@@ -7,12 +7,43 @@ ghost use Rattle.area.specs.Pushes.{CanPush};
 ghost use Rattle.doom.specs.Lost.{IsLost};
 ghost use Rattle.prices.specs.Solving.{NoneWithin};
 ghost use Rattle.prover.specs.Pruning.{after_push};
+ghost use Rattle.prover.specs.inside.Progress.{IsChosen};
 
 use crate::desk::Desk;
 use crate::pruner::Pruner;
 use area::Scratch;
 use doom::Dead;
 use grid::{Level, Position, Push};
+
+/// The same as [`try_push`], where with `only` a push of another box than the corral's is left out too.
+pub(crate) fn try_chosen(
+    pruner: &Pruner<'_>,
+    position: &Position,
+    push: Push,
+    left: u32,
+    only: bool,
+    desk: &mut Desk,
+) -> bool
+    requires fits { FitsLevel pruner.now position.now }
+    requires room { desk.old.scratch.size ≡ length pruner.now.cells }
+    requires flooded { IsAreaOf pruner.now position.now desk.old.scratch.reached }
+    requires boxes { desk.old.scratch.boxes ≡ position.now.boxes }
+    requires possible { CanPush pruner.now position.now push }
+    ensures norm { IsTrue result → IsNorm pruner.now (after_push pruner.now position.now push) desk.new.after }
+    ensures fits { IsTrue result → FitsLevel pruner.now desk.new.after }
+    ensures left_out { IsFalse result → IsChosen only desk.old.corral.held push → NoneWithin pruner.now left (after_push pruner.now position.now push) }
+    ensures kept { desk.new.scratch ≡ desk.old.scratch }
+    ensures pushes { desk.new.pushes ≡ desk.old.pushes }
+    ensures corral { desk.new.corral ≡ desk.old.corral }
+{
+    let Push { square, dir } = push;
+    let held = desk.corral.holds(square);
+    if only && !held {
+        return false;
+    }
+    let kept = try_push(pruner, position, Push { square, dir }, left, desk);
+    kept
+}
 
 /// Makes at the desk the normal position after a push, where its last flood was that of the position before it, and says
 /// `true`; or says `false`, where no play with so many pushes as are left then ends solved. That flood stays as it is.
@@ -33,6 +64,7 @@ pub(crate) fn try_push(
     ensures left_out { IsFalse result → NoneWithin pruner.now left (after_push pruner.now position.now push) }
     ensures kept { desk.new.scratch ≡ desk.old.scratch }
     ensures pushes { desk.new.pushes ≡ desk.old.pushes }
+    ensures corral { desk.new.corral ≡ desk.old.corral }
 {
     let made = make_after(
         pruner.level(),

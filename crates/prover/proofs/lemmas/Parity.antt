@@ -2,22 +2,20 @@
 use Rattle.std.proofs.Common.{◌≡◌, ◌≢◌, ℕ, zero, suc, ◌+◌, ◌*◌, ◌/◌, ◌%◌, ◌≤◌, ◌<◌, ◌⊎◌, Bool, true, false, not, cond, eqb, ltb, List, [], ◌∷◌, length, refl, sym, ap, subst, ◌∙◌, inl, inr, arith}
 use Rattle.std.proofs.Math.Nat.{add-div_right, add-mod_right, mul-add-div_right, mod-lt, div-eq_of_lt}
 use Rattle.std.proofs.lemmas.Nat.{div-add-mod'}
-use Rattle.std.proofs.lemmas.Bool.{false≢true, true≢false, eqb-true, eqb-false, or_right}
+use Rattle.std.proofs.lemmas.Bool.{false≢true, true≢false, eqb-false}
 use Rattle.grid.specs.declared.dir.Dir.{Dir}
 use Rattle.grid.specs.declared.dir.Dir.TheVariants.{D, L, R, U}
 use Rattle.grid.specs.declared.square.Push.{Push}
-use Rattle.grid.specs.Squares.{Squares, contains, insert, remove}
-use Rattle.grid.specs.Rising.{rises_from, is_rising}
-use Rattle.grid.specs.Board.{Board, Scene, IsSolved, Pushes, is_wall, next, start}
+use Rattle.grid.specs.Squares.{Squares, insert, remove}
+use Rattle.grid.specs.Board.{Board, Scene, Pushes, is_wall, next, start}
 use Rattle.grid.specs.States.{IsScene, FitsLevel}
 use Rattle.grid.specs.Plays.{Play, Any, stay, walk, push}
-use Rattle.grid.specs.Lawful.{IsLevel}
-use Rattle.grid.proofs.lemmas.Levels.{level_counts, start_fits}
+use Rattle.grid.proofs.lemmas.Levels.{start_fits}
 use Rattle.grid.proofs.lemmas.Plays.{length-play, play_scene}
-use Rattle.grid.proofs.lemmas.Squares.{contains_head, contains-from, contains-remove_other, contains-remove_out, is_rising-remove, length-remove, rises_from-parts, same_set_both}
+use Rattle.grid.proofs.lemmas.Squares.{contains-remove_out}
 use Rattle.grid.proofs.lemmas.Steps.{next_back, scene_after_walk, scene_after_push, wall_at_end, walk_boxes}
 use Rattle.prover.specs.Parity.{is_odd, SolutionsAlike, TwoLessDecide, FewDecide}
-use Rattle.prices.specs.Prices.{goals_of, sum_over}
+use Rattle.prices.specs.Prices.{sum_over}
 use Rattle.prices.proofs.lemmas.Solved.{solved_are_goals}
 use Rattle.prices.proofs.lemmas.Prices.{sum_inserted, sum_put_back}
 use Rattle.prover.proofs.Columns.{column_before}

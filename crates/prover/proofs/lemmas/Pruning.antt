@@ -14,6 +14,7 @@ use Rattle.area.specs.Area.{at}
 use Rattle.area.specs.Pushes.{CanPush}
 use Rattle.area.proofs.lemmas.Norms.{area_scene}
 use Rattle.prices.specs.Solving.{SolvableWithin}
+use Rattle.corrals.specs.Trying.{Suffice}
 use Rattle.prover.specs.Frame.{Keeps}
 use Rattle.prover.specs.Pruning.{after_push, IsDone, IsAmong, AllDone}
 use Rattle.prices.proofs.lemmas.Solving.{first_push_leads, norms_change_nothing}
@@ -48,15 +49,29 @@ pub done_keeps : (board : Board) (Kept : Scene → Type 0) (most k m : ℕ) (s :
 done_keeps board Kept most k m s p scene can few rest (inl (n, norm, kept)) = (n, kept, (norms_change_nothing board (after_push board s p) n (after_scene board s p scene can) norm m).0 rest)
 done_keeps board Kept most k m s p scene can few (ds, ps, t, play, solved, le) (inr (j, more, none)) = absurd (let lt = none ds ps t play solved in omega (arith, lt, le, few, more))
 
--- what is kept of all pushes
-pub all_keep : (board : Board) (Kept : Scene → Type 0) (most k : ℕ) (s : Scene) → IsScene board s → ((p : Push) → CanPush board s p → IsDone board most Kept k s p) → Keeps board most Kept k s
-all_keep board Kept most k s scene done m few unsolved solvable =
+-- what is kept of pushes that it suffices to try
+pub tried_keep : (board : Board) (Kept : Scene → Type 0) (Tried : Push → Type 0) (most k left : ℕ) (s : Scene) → IsScene board s → most ≤ suc k + left
+    → Suffice board left Tried s → ((p : Push) → Tried p → CanPush board s p → IsDone board most Kept k s p) → Keeps board most Kept k s
+tried_keep board Kept Tried most k left s scene enough suffice done m few unsolved solvable =
+    let (p, t, tried, pushed, rest) = suffice m (omega (arith, few, enough)) unsolved solvable in
+    let can : CanPush board s p = record { there = pushed.there; behind = pushed.behind; ahead = pushed.ahead } in
+    done_keeps board Kept most k m s p scene can few (subst (SolvableWithin board m) pushed.after rest) (done p tried can)
+
+-- all pushes suffice
+pub all_suffice : (board : Board) (left : ℕ) (s : Scene) → IsScene board s → Suffice board left (λ p. Unit {0}) s
+all_suffice board left s scene m le unsolved solvable =
     let first = first_push_leads board (suc m) s scene unsolved solvable in
     let p : Push = push_at board first.before first.dir in
     let same = moved board s first.before first.after first.dir (walk_keeps_boxes first.walked.1) first.pushed in
-    let left : first.left ≡ m = omega (arith, first.one) in
-    let rest : SolvableWithin board m first.after = subst (λ (j : ℕ). SolvableWithin board j first.after) left first.rest in
-    done_keeps board Kept most k m s p scene first.possible few (subst (SolvableWithin board m) same rest) (done p first.possible)
+    let one : first.left ≡ m = omega (arith, first.one) in
+    let rest : SolvableWithin board m first.after = subst (λ (j : ℕ). SolvableWithin board j first.after) one first.rest in
+    let can = first.possible in
+    (p, first.after, tt, record { there = can.there; behind = can.behind; ahead = can.ahead; after = same }, rest)
+
+-- what is kept of all pushes
+pub all_keep : (board : Board) (Kept : Scene → Type 0) (most k : ℕ) (s : Scene) → IsScene board s → ((p : Push) → CanPush board s p → IsDone board most Kept k s p) → Keeps board most Kept k s
+all_keep board Kept most k s scene done =
+    tried_keep board Kept (λ p. Unit {0}) most k most s scene (omega arith) (all_suffice board most s scene) (λ p tried can. done p can)
 
 pub all_done : (board : Board) → AllDone board
 all_done board most k kept s scene done = all_keep board (IsAmong kept) most k s scene done

@@ -1,8 +1,9 @@
 -- How far a search has come.
-use Rattle.std.specs.Prelude.{◌≡◌, ℕ, suc, ◌≤◌, ◌<◌, ◌⊎◌, List, slice_get, Some}
+use Rattle.std.specs.Prelude.{◌≡◌, ℕ, suc, ◌≤◌, ◌<◌, ◌⊎◌, Bool, true, IsTrue, List, slice_get, Some}
 use Rattle.grid.specs.declared.square.Push.{Push}
 use Rattle.grid.specs.Board.{Board, Scene, IsSolved, start}
 use Rattle.grid.specs.States.{FitsLevel}
+use Rattle.grid.specs.Masks.{has_bit}
 use Rattle.area.specs.Area.{IsNorm}
 use Rattle.prices.specs.Solving.{NoneWithin}
 use Rattle.prover.specs.Frame.{Seen, IsSeen, Keeps}
@@ -13,9 +14,13 @@ use Rattle.prover.specs.inside.Entries.{IsReached}
 abbrev pub IsDoneWith : Board → ℕ → (Scene → Type 0) → Scene → Push → Type 0
 IsDoneWith board left Kept s p = ((n : Scene) × IsNorm board (after_push board s p) n × Kept n) ⊎ NoneWithin board left (after_push board s p)
 
--- the first pushes are done with
-abbrev pub AreDoneWith : Board → ℕ → (Scene → Type 0) → Scene → List Push → ℕ → Type 0
-AreDoneWith board left Kept s pushes count = (i : ℕ) (p : Push) → i < count → slice_get pushes i ≡ Some p → IsDoneWith board left Kept s p
+-- the push is to be tried: any is, or with `only` those of the boxes that are held
+abbrev pub IsChosen : Bool → List ℕ → Push → Type 0
+IsChosen only held p = IsTrue only → has_bit held p.square ≡ true
+
+-- of the first pushes those that are to be tried are done with
+abbrev pub AreDoneWith : Board → ℕ → (Scene → Type 0) → (Push → Type 0) → Scene → List Push → ℕ → Type 0
+AreDoneWith board left Kept Tried s pushes count = (i : ℕ) (p : Push) → i < count → slice_get pushes i ≡ Some p → Tried p → IsDoneWith board left Kept s p
 
 -- each position may be played on the level
 abbrev pub AllFit : Board → List Seen → Type 0
