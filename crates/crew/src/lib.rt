@@ -17,6 +17,7 @@ mod lots;
 mod search;
 mod shift;
 mod spreading;
+mod terms;
 mod turns;
 mod worker;
 mod workers;
