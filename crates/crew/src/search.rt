@@ -39,7 +39,8 @@ pub fn solve<R: Threads + Wait + Sync, G: Gate + Sync>(
     gate: &G,
 ) -> Result<Answer, SolveFault>
     ensures answer { IfOk result (λ answer. IsAnswer (capped (arc_value level.now) config.cap) config.limit answer) }
-    ensures boxes { MatchResult result (λ answer. IsWithinLimits config × (box_count (arc_value level.now) ≤ MAX_BOXES)) (λ fault. SolveRefused config (arc_value level.now) fault) }
+    ensures boxes { MatchResult result (λ answer. IsWithinLimits config ×
+        (box_count (arc_value level.now) ≤ MAX_BOXES)) (λ fault. SolveRefused config (arc_value level.now) fault) }
 {
     if !config.is_within_limits() {
         return Err(SolveFault::BadConfig);
