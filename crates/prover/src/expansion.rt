@@ -71,7 +71,8 @@ fn expand(
     requires boxes { more.old.boxes ≡ box_count pruner.now }
     requires room { desk.old.scratch.size ≡ length pruner.now.cells }
     requires more_fit { AllFit pruner.now more.old.seen }
-    ensures keeps { OnOk result ((most k : ℕ) → most ≤ suc k + left → label.pushes ≡ suc k → Keeps pruner.now most (IsReached store.now.seen more.new.seen (suc k)) k position.now) }
+    ensures keeps { OnOk result ((most k : ℕ) → most ≤ suc k + left → label.pushes ≡ suc k →
+        Keeps pruner.now most (IsReached store.now.seen more.new.seen (suc k)) k position.now) }
     ensures fit { OnOk result (AllFit pruner.now more.new.seen) }
     ensures grows { Grows more.old more.new }
     ensures room { desk.new.scratch.size ≡ desk.old.scratch.size }

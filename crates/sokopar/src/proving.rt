@@ -23,7 +23,8 @@ pub fn run_prove<S: Source, T: Source, K: Sink>(
     sink: &mut K,
 ) -> Result<u8, RunFault>
     requires { 1 ≤ number }
-    ensures { Proves limit number (S.seen source.old) (S.seen source.new) (T.seen solution.old) (T.seen solution.new) (K.seen sink.old) (K.seen sink.new) result }
+    ensures { Proves limit number (S.seen source.old) (S.seen source.new) (T.seen solution.old) (T.seen solution.new) (K.seen sink.old)
+        (K.seen sink.new) result }
 {
     let bytes = read_whole(alloc, source)?;
     let report = prove_in(alloc, bytes.as_slice(), number, limit, solution)?;

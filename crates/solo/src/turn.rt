@@ -1,6 +1,7 @@
 //! The turns of a search, for one worker and for several: each looks at the next layer, and where that gives no answer
 //! has its ranks done until the layer after it is closed. The only error is that memory was refused.
-ghost use Rattle.std.specs.Prelude.{◌≡◌, ◌≢◌, ◌+◌, ◌-◌, ◌<◌, ◌≤◌, ◌↔◌, ℕ, List, [], ◌∷◌, ◌++◌, Some, true, false, IfNone, IfOk, IfSome, MatchBool, OnErr, OnOk, length, slice_get};
+ghost use Rattle.std.specs.Prelude.{◌≡◌, ◌≢◌, ◌+◌, ◌-◌, ◌<◌, ◌≤◌, ◌↔◌, ℕ, List, [], ◌∷◌, ◌++◌, Some, true, false, IfNone, IfOk, IfSome, MatchBool, OnErr, OnOk};
+ghost use Rattle.std.specs.Prelude.{length, slice_get};
 ghost use Rattle.std.specs.Arc.{arc_value};
 ghost use Rattle.grid.specs.Lawful.{box_count};
 ghost use Rattle.grid.specs.declared.limits.TheConstants.{MAX_BOXES};

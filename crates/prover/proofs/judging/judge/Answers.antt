@@ -10,4 +10,5 @@ returns-then-known-lt2-clause-judgement c = few_decide c.args.level.now c.tell.e
 pub returns-in-Ok-clause-judgement : goal.returns-in-Ok-clause-judgement
 returns-in-Ok-clause-judgement c =
     let most : c.in-Ok.most ≡ c.args.known - 2 = (OkIff-at_ok c.try_from.result _ (c.args.known - 2) c.in-Ok.most c.try_from.ensures c.in-Ok.is).1 in
-    judged_by c.args.level.now c.tell.ensures c.args.known c.in-Ok.most c.search.result c.requires (omega (arith, most, c.if-known-lt2.false)) c.search.ensures.outcome
+    judged_by c.args.level.now c.tell.ensures c.args.known c.in-Ok.most c.search.result c.requires
+    (omega (arith, most, c.if-known-lt2.false)) c.search.ensures.outcome
