@@ -31,8 +31,7 @@ pub(crate) fn expand_round<R: Threads + Sync>(
 ) -> Result<usize, AllocError>
     requires under_way { IsUnderWay pruner.now most store.old.seen span.from }
     requires unsolved { AreUnsolved pruner.now store.old.seen span.from span.to }
-    requires order { span.from < span.to }
-    requires within { span.to ≤ length store.old.seen }
+    requires span { (span.from < span.to) × (span.to ≤ length store.old.seen) }
     requires boxes { store.old.boxes ≡ box_count pruner.now }
     requires benches { (0 < length benches.old) × AreRoomy pruner.now benches.old }
     ensures under_way { IfOk result (λ to. IsUnderWay pruner.now most store.new.seen to × (span.from < to) × (to ≤ span.to)) }

@@ -16,7 +16,7 @@ returns-clause-under_way g c =
     omega (arith, c.expand_beside.ensures.many, length-take-le many c.args.benches.now c.busy-many.ensures.few, c.busy-many.ensures.some) in
     round_done c.args.pruner.now c.args.most c.args.store.now.seen c.enter_each.new.store.seen cut c.args.span.from c.args.span.to c.expand_beside.new.benches
     c.enter_each.result
-    c.of-cut.ensures.from c.of-cut.ensures.to c.of-cut.ensures.some some c.requires.order c.requires.under_way c.requires.unsolved c.requires.within
+    c.of-cut.ensures.from c.of-cut.ensures.to c.of-cut.ensures.some some c.requires.span.0 c.requires.under_way c.requires.unsolved c.requires.span.1
     c.expand_beside.ensures.worked c.enter_each.ensures.to c.enter_each.ensures.under_way
 
 pub returns-clause-benches : goal.returns-clause-benches
