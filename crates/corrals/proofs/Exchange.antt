@@ -138,7 +138,8 @@ module _ (board : Board) (held room : ℕ → Bool) where
       by_member (held (next board s.player d)) refl
       (λ apart. stays_or_cut m t ds ps (scene_after_push board s d m scene step) (corral_push s m d scene corral step apart) play)
     where
-      by_member : (b : Bool) → held (next board s.player d) ≡ b → (held (next board s.player d) ≡ false → StaysOrCut m ps t) → StaysOrCut s (push_at board s d ∷ ps) t
+      by_member : (b : Bool) → held (next board s.player d) ≡ b → (held (next board s.player d) ≡ false → StaysOrCut m ps t) →
+          StaysOrCut s (push_at board s d ∷ ps) t
       by_member true member onwards = inr (record {
         before = s;
         after = m;

@@ -1,5 +1,6 @@
 -- What the check of a corral tells.
-use Rattle.std.proofs.Common.{◌≡◌, ◌<◌, ◌≤◌, ◌+◌, ℕ, Some, arith, Bool, true, false, not, eqb, ◌&&◌, ◌||◌, [], ◌∷◌, ◌⊎◌, length, inl, inr, refl, sym, ap, subst, ◌∙◌}
+use Rattle.std.proofs.Common.{◌≡◌, ◌<◌, ◌≤◌, ◌+◌, ℕ, Some, arith, Bool, true, false, not, eqb, ◌&&◌, ◌||◌, [], ◌∷◌, ◌⊎◌, length, inl, inr, refl, sym, ap, subst}
+use Rattle.std.proofs.Common.{◌∙◌}
 use Rattle.std.specs.Prelude.{slice_get}
 use Rattle.std.specs.List.{list_all, list_any}
 use Rattle.std.proofs.lemmas.Option.{same_Some, slice_get_read}
@@ -40,7 +41,8 @@ in_each P all L = (and_parts (P L) (P R && P U) (and_parts (P D) (P L && (P R &&
 in_each P all R = (and_parts (P R) (P U) (and_parts (P L) (P R && P U) (and_parts (P D) (P L && (P R && P U)) all).1).1).0
 in_each P all U = (and_parts (P R) (P U) (and_parts (P L) (P R && P U) (and_parts (P D) (P L && (P R && P U)) all).1).1).1
 
-module _ (board : Board) (s : Scene) (held room : ℕ → Bool) (boxes squares : Squares) (held_are : (q : ℕ) → held q ≡ contains boxes q) (room_is : (q : ℕ) → room q ≡ contains squares q) where
+module _ (board : Board) (s : Scene) (held room : ℕ → Bool) (boxes squares : Squares) (held_are : (q : ℕ) → held q ≡ contains boxes q) (room_is : (q : ℕ) →
+    room q ≡ contains squares q) where
   listed_box : (q : ℕ) → held q ≡ true → contains boxes q ≡ true
   listed_box q member = sym (held_are q) ∙ member
 
@@ -88,8 +90,10 @@ module _ (board : Board) (s : Scene) (held room : ℕ → Bool) (boxes squares :
 -- what holds for each direction where the four tests say so
 pub each_way : (P : Dir → Type 0) (down left right up : Bool) → (down ≡ true → P D) → (left ≡ true → P L) → (right ≡ true → P R) → (up ≡ true → P U)
     → (((down && left) && right) && up) ≡ true → (d : Dir) → P d
-each_way P down left right up in_d in_l in_r in_u all D = in_d (and_parts down left (and_parts (down && left) right (and_parts ((down && left) && right) up all).0).0).0
-each_way P down left right up in_d in_l in_r in_u all L = in_l (and_parts down left (and_parts (down && left) right (and_parts ((down && left) && right) up all).0).0).1
+each_way P down left right up in_d in_l in_r in_u all D =
+    in_d (and_parts down left (and_parts (down && left) right (and_parts ((down && left) && right) up all).0).0).0
+each_way P down left right up in_d in_l in_r in_u all L =
+    in_l (and_parts down left (and_parts (down && left) right (and_parts ((down && left) && right) up all).0).0).1
 each_way P down left right up in_d in_l in_r in_u all R = in_r (and_parts (down && left) right (and_parts ((down && left) && right) up all).0).1
 each_way P down left right up in_d in_l in_r in_u all U = in_u (and_parts ((down && left) && right) up all).1
 

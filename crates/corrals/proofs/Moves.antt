@@ -3,7 +3,8 @@ use Rattle.std.proofs.Common.{◌≡◌, ◌≢◌, ℕ, Bool, true, false, not,
 use Rattle.std.proofs.lemmas.Bool.{true≢false, eqb-true}
 use Rattle.grid.specs.Squares.{Squares, contains, insert, remove}
 use Rattle.grid.specs.Rising.{is_rising}
-use Rattle.grid.proofs.lemmas.Squares.{contains-insert, contains-insert_other, contains-remove, contains-remove_other, is_rising-insert, is_rising-remove, same_set}
+use Rattle.grid.proofs.lemmas.Squares.{contains-insert, contains-insert_other, contains-remove, contains-remove_other, is_rising-insert, is_rising-remove}
+use Rattle.grid.proofs.lemmas.Squares.{same_set}
 
 -- whichever of two boxes moves first, the same set comes out
 bits : (c bz qz rz tz : Bool) → (qz ≡ true → tz ≡ true → ⊥) → (rz ≡ true → bz ≡ true → ⊥)
@@ -29,7 +30,8 @@ pub two_moved : (xs : Squares) (b t q r : ℕ) → is_rising xs ≡ true → q �
 two_moved xs b t q r rising apart other =
     let one = insert (remove xs q) r in
     let two = insert (remove xs b) t in
-    same_set (insert (remove one b) t) (insert (remove two q) r) (rising_moved one b t (rising_moved xs q r rising)) (rising_moved two q r (rising_moved xs b t rising)) each
+    same_set (insert (remove one b) t) (insert (remove two q) r) (rising_moved one b t (rising_moved xs q r rising))
+    (rising_moved two q r (rising_moved xs b t rising)) each
   where
     each : (z : ℕ) → contains (insert (remove (insert (remove xs q) r) b) t) z ≡ contains (insert (remove (insert (remove xs b) t) q) r) z
     each z =

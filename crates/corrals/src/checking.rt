@@ -116,7 +116,8 @@ fn is_shut_beside(ground: &Ground<'_>, square: Square, dir: Dir, sets: &Sets) ->
 
 // Whether on each of the squares stands a box, and all its pushes that could be the first of a held box are ready.
 fn are_ready(ground: &Ground<'_>, boxes: &[Square], sets: &Sets) -> bool
-    ensures { IsTrue result → (b : ℕ) → contains boxes.now b ≡ true → IsReadyBox ground.now.board (has_bit sets.now.held) (has_bit sets.now.room) ground.now.scene b }
+    ensures { IsTrue result → (b : ℕ) → contains boxes.now b ≡ true →
+        IsReadyBox ground.now.board (has_bit sets.now.held) (has_bit sets.now.room) ground.now.scene b }
 {
     for square in boxes {
         if !is_ready_round(ground, *square, sets) {

@@ -4,3 +4,4 @@ pub mod Flat
 pub mod Progressing
 pub mod OnGoals
 pub mod Judgements
+pub mod Stretches

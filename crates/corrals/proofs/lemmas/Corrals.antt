@@ -45,11 +45,19 @@ module _ (board : Board) (held room : ℕ → Bool) where
         | inl (inr (inr member)) ↦ absurd (true≢false (sym (good.1.stands _ member) ∙ c.pushed.1.1))
         | inr (inl never) ↦
             (let standing = play-map (λ z good_z. good_z.1.stands _ c.member) c.outer in
-            absurd (never x c.after c.early c.eps (length c.lps) standing c.pushed refl (omega (arith, count, few)) (c.late, c.lps, t, c.rest, solved, omega arith)))
+            absurd (never x c.after c.early c.eps (length c.lps) standing c.pushed refl (omega (arith, count, few)) (
+              c.late,
+              c.lps,
+              t,
+              c.rest,
+              solved,
+              omega arith,
+            )))
         | inr (inr (inside, area)) ↦
             (let here = subst (Area board s) back area in
             let less : length c.eps + length c.lps ≤ m = omega (arith, count, few) in
-            let both = exchanged board held room s x c.after t c.dir scene corral here m c.early c.late c.eps c.lps c.outer c.pushed c.member inside c.rest solved less in
+            let both = exchanged board held room s x c.after t c.dir scene corral here m c.early c.late c.eps c.lps c.outer c.pushed c.member inside c.rest
+            solved less in
             (push_at board x c.dir, _, c.member, both.0, both.1))
       ]
 

@@ -14,7 +14,9 @@ shut_beside board held room q d = is_wall board (next board q d) || (room (next 
 -- the same in each direction, and the square has no box
 abbrev pub shut_round : Board → Squares → (ℕ → Bool) → (ℕ → Bool) → ℕ → Bool
 shut_round board boxes held room q =
-    nat_lt q (length board.cells) && (not (contains boxes q) && (shut_beside board held room q D && (shut_beside board held room q L && (shut_beside board held room q R && shut_beside board held room q U))))
+    nat_lt q (length board.cells) &&
+    (not (contains boxes q) &&
+    (shut_beside board held room q D && (shut_beside board held room q L && (shut_beside board held room q R && shut_beside board held room q U))))
 
 -- each of the squares is one of the level
 abbrev pub are_inside : Board → Squares → Bool

@@ -18,15 +18,18 @@ use Rattle.prover.proofs.expansion.expand.Goals as goal
 pub bounds-as_slice-index : goal.bounds-as_slice-index
 bounds-as_slice-index c =
     let size : c.len-index-end.result ≡ length c.possible_pushes.new.pushes.items = search rules in
-    let same : length c.as_slice.result.now ≡ length c.possible_pushes.new.pushes.items = ap length c.as_slice.ensures.value ∙ ap (λ v. length v.items) c.loop-index.invariant.kept in
+    let same : length c.as_slice.result.now ≡ length c.possible_pushes.new.pushes.items = ap length c.as_slice.ensures.value ∙
+    ap (λ v. length v.items) c.loop-index.invariant.kept in
     omega (arith, size, same, c.loop-index-test.true)
 
 pub try_chosen-kept-requires-clause-possible : goal.try_chosen-kept-requires-clause-possible
 try_chosen-kept-requires-clause-possible c =
     let size : c.len-index-end.result ≡ length c.possible_pushes.new.pushes.items = search rules in
-    let same : length c.as_slice.result.now ≡ length c.possible_pushes.new.pushes.items = ap length c.as_slice.ensures.value ∙ ap (λ v. length v.items) c.loop-index.invariant.kept in
+    let same : length c.as_slice.result.now ≡ length c.possible_pushes.new.pushes.items = ap length c.as_slice.ensures.value ∙
+    ap (λ v. length v.items) c.loop-index.invariant.kept in
     c.loop-index.invariant.pushes.each c.loop-index.index c.index-as_slice-index.result
-    (read_push c.as_slice.result.now c.loop-index.desk.pushes.items c.loop-index.index c.index-as_slice-index.result c.as_slice.ensures.value (omega (arith, size, same, c.loop-index-test.true)) c.index-as_slice-index.is)
+    (read_push c.as_slice.result.now c.loop-index.desk.pushes.items c.loop-index.index c.index-as_slice-index.result c.as_slice.ensures.value
+    (omega (arith, size, same, c.loop-index-test.true)) c.index-as_slice-index.is)
 
 pub loop-index-preserved : goal.loop-index-preserved
 loop-index-preserved c =
@@ -41,22 +44,27 @@ loop-index-preserved c =
     let kept = c.try_chosen-kept.ensures.kept in
     let items : c.try_chosen-kept.new.desk.pushes.items ≡ ps = ap (λ v. v.items) c.try_chosen-kept.ensures.pushes in
     let size : c.len-index-end.result ≡ length c.possible_pushes.new.pushes.items = search rules in
-    let same : length c.as_slice.result.now ≡ length c.possible_pushes.new.pushes.items = ap length c.as_slice.ensures.value ∙ ap (λ v. length v.items) was.kept in
-    let here = read_push c.as_slice.result.now ps c.loop-index.index p c.as_slice.ensures.value (omega (arith, size, same, c.loop-index-test.true)) c.index-as_slice-index.is in
+    let same : length c.as_slice.result.now ≡ length c.possible_pushes.new.pushes.items = ap length c.as_slice.ensures.value ∙
+    ap (λ v. length v.items) was.kept in
+    let here = read_push c.as_slice.result.now ps c.loop-index.index p c.as_slice.ensures.value
+    (omega (arith, size, same, c.loop-index-test.true)) c.index-as_slice-index.is in
     let held = c.loop-index.desk.corral.held in
     let Tried : Push → Type 0 = λ q. IsChosen c.find-only.result held q in
     let corral = c.try_chosen-kept.ensures.corral in
-    let P : EntriesView → Type 0 = λ m. AreDoneWith board left (IsReached all m.seen k) Tried s ps (c.loop-index.index + 1) × AllFit board m.seen × Grows c.args.more.now m in
+    let P : EntriesView → Type 0 = λ m. AreDoneWith board left (IsReached all m.seen k) Tried s ps (c.loop-index.index + 1) × AllFit board m.seen ×
+    Grows c.args.more.now m in
     let stepped : P c.if-kept.more = elim c.if-kept.branch [
       | then-kept+in_ok-keep w ↦
           subst P (sym w.more-is) (
-            done_more board left all Tried c.loop-index.more w.keep.new.more k s ps c.loop-index.index p w.keep.ensures.grows here was.done (λ tried. inl (c.try_chosen-kept.new.desk.after, c.try_chosen-kept.ensures.norm w.if-kept.true, w.in_ok-keep.ensures.reached)),
+            done_more board left all Tried c.loop-index.more w.keep.new.more k s ps c.loop-index.index p w.keep.ensures.grows here was.done
+                (λ tried. inl (c.try_chosen-kept.new.desk.after, c.try_chosen-kept.ensures.norm w.if-kept.true, w.in_ok-keep.ensures.reached)),
             w.in_ok-keep.ensures.fit board (c.try_chosen-kept.ensures.fits w.if-kept.true) was.fit,
             grows_on c.args.more.now c.loop-index.more w.keep.new.more was.grows w.keep.ensures.grows,
           )
       | else-kept w ↦
           subst P (sym w.more-is) (
-            done_more board left all Tried c.loop-index.more c.loop-index.more k s ps c.loop-index.index p (grows_none c.loop-index.more c.loop-index.more refl) here was.done (λ tried. inr (c.try_chosen-kept.ensures.left_out w.if-kept.false tried)),
+            done_more board left all Tried c.loop-index.more c.loop-index.more k s ps c.loop-index.index p
+                (grows_none c.loop-index.more c.loop-index.more refl) here was.done (λ tried. inr (c.try_chosen-kept.ensures.left_out w.if-kept.false tried)),
             was.fit,
             was.grows,
           )
@@ -68,7 +76,8 @@ loop-index-preserved c =
       room = ap (λ (r : Reach). r.size) kept ∙ was.room;
       kept = c.try_chosen-kept.ensures.pushes ∙ was.kept;
       corral = corral ∙ was.corral;
-      done = subst (λ (v : SetsView). AreDoneWith board left (IsReached all c.if-kept.more.seen k) (IsChosen c.find-only.result v.held) s c.try_chosen-kept.new.desk.pushes.items (c.loop-index.index + 1)) (sym corral)
+      done = subst (λ (v : SetsView). AreDoneWith board left (IsReached all c.if-kept.more.seen k)
+          (IsChosen c.find-only.result v.held) s c.try_chosen-kept.new.desk.pushes.items (c.loop-index.index + 1)) (sym corral)
           (subst (λ (xs : List Push). AreDoneWith board left (IsReached all c.if-kept.more.seen k) Tried s xs (c.loop-index.index + 1)) (sym items) stepped.0);
       fit = stepped.1;
       grows = stepped.2;
@@ -88,9 +97,11 @@ returns-clause-keeps c = λ most k enough label.
     let closure : IsTrue only → (room : ℕ → Bool) × IsClosure board (suc c.args.left) (has_bit held) room s = λ told. (
       has_bit c.find-only.new.corral.room,
       subst (λ (v : SetsView). IsClosure board (suc c.args.left) (has_bit v.held) (has_bit c.find-only.new.corral.room) s) (sym was.corral)
-          (subst (λ (b : Board). IsClosure b (suc c.args.left) (has_bit c.find-only.new.corral.held) (has_bit c.find-only.new.corral.room) s) c.level-3.ensures (c.find-only.ensures told (suc c.args.left))),
+          (subst (λ (b : Board). IsClosure b (suc c.args.left) (has_bit c.find-only.new.corral.held) (has_bit c.find-only.new.corral.room) s) c.level-3.ensures
+          (c.find-only.ensures told (suc c.args.left))),
     ) in
     let level : IsLevel board = subst (λ (b : Board). IsLevel b) c.level-2.ensures c.tell.ensures in
     let suffice = chosen_suffice board c.args.left s only held level c.requires.fits closure in
     subst (λ (j : ℕ). Keeps board most (IsReached all c.loop-index.more.seen j) k s) label
-    (expansion_keeps board c.args.left (IsReached all c.loop-index.more.seen c.args.label.pushes) (IsChosen only held) most k s c.loop-index.desk.pushes.items c.loop-index.index c.requires.fits.scene was.pushes over enough suffice was.done)
+    (expansion_keeps board c.args.left (IsReached all c.loop-index.more.seen c.args.label.pushes)
+    (IsChosen only held) most k s c.loop-index.desk.pushes.items c.loop-index.index c.requires.fits.scene was.pushes over enough suffice was.done)

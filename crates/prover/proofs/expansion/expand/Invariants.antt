@@ -13,7 +13,8 @@ invariant-loop-index l = record {
   room : l.desk.scratch.size ≡ length l.pruner.cells;
   kept : l.desk.pushes ≡ l.initial.desk.pushes;
   corral : l.desk.corral ≡ l.initial.desk.corral;
-  done : AreDoneWith l.pruner l.left (IsReached l.store.seen l.more.seen l.label.pushes) (IsChosen l.only l.desk.corral.held) l.position l.desk.pushes.items l.index;
+  done : AreDoneWith l.pruner l.left (IsReached l.store.seen l.more.seen l.label.pushes)
+      (IsChosen l.only l.desk.corral.held) l.position l.desk.pushes.items l.index;
   fit : AllFit l.pruner l.more.seen;
   grows : Grows l.fn.more l.more;
 }
