@@ -45,19 +45,20 @@ pub fn find(
 
 // Chooses of the corrals that seem to be there the one with the fewest pushes that are possible.
 fn choose_best(ground: &Ground<'_>, choice: &mut Choice) -> bool {
-    let mut best: Option<(u32, Square)> = None;
-    let mut last = Square(0);
+    choice.begin(ground.position().boxes().len());
     for square in ground.position().boxes() {
-        for dir in Dir::ALL {
-            if let Some(start) = start_beside(ground, *square, dir) {
-                last = start;
-                best = better(best, choice.choose(ground, start), start);
-            }
-        }
+        try_beside(ground, *square, Dir::D, choice);
+        try_beside(ground, *square, Dir::L, choice);
+        try_beside(ground, *square, Dir::R, choice);
+        try_beside(ground, *square, Dir::U, choice);
     }
-    match best {
-        None => false,
-        Some((_, start)) => start == last || choice.choose(ground, start).is_some(),
+    choice.choose_best(ground)
+}
+
+// Tries the room beside a box, where there is one that the player does not come to.
+fn try_beside(ground: &Ground<'_>, square: Square, dir: Dir, choice: &mut Choice) {
+    if let Some(start) = start_beside(ground, square, dir) {
+        choice.try_from(ground, start);
     }
 }
 
@@ -71,15 +72,4 @@ fn start_beside(ground: &Ground<'_>, square: Square, dir: Dir) -> Option<Square>
         return None;
     }
     Some(beside)
-}
-
-// The better of two starts.
-fn better(best: Option<(u32, Square)>, count: Option<u32>, start: Square) -> Option<(u32, Square)> {
-    let Some(count) = count else {
-        return best;
-    };
-    match best {
-        Some((least, _)) if least <= count => best,
-        _ => Some((count, start)),
-    }
 }
