@@ -3,13 +3,8 @@
 //! The boxes and the squares of a room are chosen by a guess, of which nothing is proved. What is chosen is checked, and what
 //! is found is a corral by definition. Where a corral has no push that is possible, no play ends solved.
 //!
-//! ```text
-//! let mut corral = Corral::new(rt.alloc(), &level)?;
-//! area::flood(&level, &position, &mut scratch);
-//! if corrals::find(&level, &dead, &position, &scratch, &mut corral) {
-//!     // a push of a box on a square that `corral.holds` suffices
-//! }
-//! ```
+//! After a flood of the position, `find` looks for a corral. Where it says `true`, a push of a box on a square that `Corral::holds`
+//! suffices.
 #![tactic(auto)]
 
 mod checking;

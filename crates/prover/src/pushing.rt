@@ -29,12 +29,9 @@ pub(crate) fn try_chosen(
     requires flooded { IsAreaOf pruner.now position.now desk.old.scratch.reached }
     requires boxes { desk.old.scratch.boxes ≡ position.now.boxes }
     requires possible { CanPush pruner.now position.now push }
-    ensures norm { IsTrue result → IsNorm pruner.now (after_push pruner.now position.now push) desk.new.after }
-    ensures fits { IsTrue result → FitsLevel pruner.now desk.new.after }
+    ensures made { IsTrue result → IsNorm pruner.now (after_push pruner.now position.now push) desk.new.after × FitsLevel pruner.now desk.new.after }
     ensures left_out { IsFalse result → IsChosen only desk.old.corral.held push → NoneWithin pruner.now left (after_push pruner.now position.now push) }
-    ensures kept { desk.new.scratch ≡ desk.old.scratch }
-    ensures pushes { desk.new.pushes ≡ desk.old.pushes }
-    ensures corral { desk.new.corral ≡ desk.old.corral }
+    ensures kept { (desk.new.scratch ≡ desk.old.scratch) × (desk.new.pushes ≡ desk.old.pushes) × (desk.new.corral ≡ desk.old.corral) }
 {
     let Push { square, dir } = push;
     let held = desk.corral.holds(square);

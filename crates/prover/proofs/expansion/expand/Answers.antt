@@ -41,8 +41,8 @@ loop-index-preserved c =
     let ps = c.loop-index.desk.pushes.items in
     let p = c.index-as_slice-index.result in
     let was = c.loop-index.invariant in
-    let kept = c.try_chosen-kept.ensures.kept in
-    let items : c.try_chosen-kept.new.desk.pushes.items ≡ ps = ap (λ v. v.items) c.try_chosen-kept.ensures.pushes in
+    let kept = c.try_chosen-kept.ensures.kept.0 in
+    let items : c.try_chosen-kept.new.desk.pushes.items ≡ ps = ap (λ v. v.items) c.try_chosen-kept.ensures.kept.1 in
     let size : c.len-index-end.result ≡ length c.possible_pushes.new.pushes.items = search rules in
     let same : length c.as_slice.result.now ≡ length c.possible_pushes.new.pushes.items = ap length c.as_slice.ensures.value ∙
     ap (λ v. length v.items) was.kept in
@@ -50,15 +50,15 @@ loop-index-preserved c =
     (omega (arith, size, same, c.loop-index-test.true)) c.index-as_slice-index.is in
     let held = c.loop-index.desk.corral.held in
     let Tried : Push → Type 0 = λ q. IsChosen c.find-only.result held q in
-    let corral = c.try_chosen-kept.ensures.corral in
+    let corral = c.try_chosen-kept.ensures.kept.2 in
     let P : EntriesView → Type 0 = λ m. AreDoneWith board left (IsReached all m.seen k) Tried s ps (c.loop-index.index + 1) × AllFit board m.seen ×
     Grows c.args.more.now m in
     let stepped : P c.if-kept.more = elim c.if-kept.branch [
       | then-kept+in_ok-keep w ↦
           subst P (sym w.more-is) (
             done_more board left all Tried c.loop-index.more w.keep.new.more k s ps c.loop-index.index p w.keep.ensures.grows here was.done
-                (λ tried. inl (c.try_chosen-kept.new.desk.after, c.try_chosen-kept.ensures.norm w.if-kept.true, w.in_ok-keep.ensures.reached)),
-            w.in_ok-keep.ensures.fit board (c.try_chosen-kept.ensures.fits w.if-kept.true) was.fit,
+                (λ tried. inl (c.try_chosen-kept.new.desk.after, (c.try_chosen-kept.ensures.made w.if-kept.true).0, w.in_ok-keep.ensures.reached)),
+            w.in_ok-keep.ensures.fit board ((c.try_chosen-kept.ensures.made w.if-kept.true).1) was.fit,
             grows_on c.args.more.now c.loop-index.more w.keep.new.more was.grows w.keep.ensures.grows,
           )
       | else-kept w ↦
@@ -74,7 +74,7 @@ loop-index-preserved c =
       flooded = subst (λ (r : Reach). IsAreaOf board s r.reached) (sym kept) was.flooded;
       boxes = ap (λ (r : Reach). r.boxes) kept ∙ was.boxes;
       room = ap (λ (r : Reach). r.size) kept ∙ was.room;
-      kept = c.try_chosen-kept.ensures.pushes ∙ was.kept;
+      kept = c.try_chosen-kept.ensures.kept.1 ∙ was.kept;
       corral = corral ∙ was.corral;
       done = subst (λ (v : SetsView). AreDoneWith board left (IsReached all c.if-kept.more.seen k)
           (IsChosen c.find-only.result v.held) s c.try_chosen-kept.new.desk.pushes.items (c.loop-index.index + 1)) (sym corral)
