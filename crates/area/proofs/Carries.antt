@@ -13,11 +13,13 @@ use Rattle.area.proofs.lemmas.WordBits.{bit_at-mod, word_bit-not, word_bit_insid
 
 -- where a bit of a word goes away in the sum with another word, a run of the word's bits leads there from a bit of the other
 -- one, or from the carry into the first place
-carry_bit : (free add carry : ℕ) (test : ℕ → Bool) → carry ≤ 1 → ((i : ℕ) → bit_at free (suc i) ≡ 1 → test i ≡ true → test (suc i) ≡ true) → ((i : ℕ) → bit_at add i ≡ 1 → test i ≡ true) → (carry ≡ 1 → bit_at free 0 ≡ 1 → test 0 ≡ true)
+carry_bit : (free add carry : ℕ) (test : ℕ → Bool) → carry ≤ 1 → ((i : ℕ) → bit_at free (suc i) ≡ 1 → test i ≡ true → test (suc i) ≡ true) →
+    ((i : ℕ) → bit_at add i ≡ 1 → test i ≡ true) → (carry ≡ 1 → bit_at free 0 ≡ 1 → test 0 ≡ true)
     → (j : ℕ) → bit_at free j ≡ 1 → bit_at (free + add + carry) j ≡ 0 → test j ≡ true
 carry_bit free add carry test small passes starts begins zero here gone = elim (cases_eq carry 1) [
   | inl one ↦ begins one here
-  | inr none ↦ starts 0 (let f = bit_at_lowest free in let a = bit_at_lowest add in let s = bit_at_lowest (free + add + carry) in omega (arith, f, a, s, here, gone, none, small))
+  | inr none ↦ starts 0 (let f = bit_at_lowest free in let a = bit_at_lowest add in let s = bit_at_lowest (free + add + carry) in
+      omega (arith, f, a, s, here, gone, none, small))
 ]
 carry_bit free add carry test small passes starts begins (suc j) here gone =
     carry_bit (free / 2) (add / 2) ((free % 2 + add % 2 + carry) / 2) (λ i. test (suc i)) (omega (arith, small))
@@ -36,7 +38,8 @@ carry_bit free add carry test small passes starts begins (suc j) here gone =
     ]
 
 -- so the runs that a sum carries along are filled
-pub grown_carry : (word mask : ℕ) → mask < 2 ^ 64 → IsGrown word (bit_or word (bit_and mask (bit_not w64 ((mask + word) % 2 ^ 64)))) (λ test. PassesUp test 1 mask)
+pub grown_carry : (word mask : ℕ) → mask < 2 ^ 64 →
+    IsGrown word (bit_or word (bit_and mask (bit_not w64 ((mask + word) % 2 ^ 64)))) (λ test. PassesUp test 1 mask)
 unfolding word_bit
 grown_carry word mask fits = record {
   kept = λ j h. bit_or_left word (bit_and mask (bit_not w64 ((mask + word) % 2 ^ 64))) j h;
@@ -49,7 +52,8 @@ grown_carry word mask fits = record {
         let lt : j < WORD_BITS = word_bit_inside mask j fits p.0 in
         let gone : eqb (bit_at sum j) 1 ≡ false = not-true (eqb (bit_at sum j) 1) (sym (word_bit-not sum j (omega arith) lt) ∙ p.1) in
         let none : bit_at sum j ≡ 0 = (let b = bit_at-lt sum j in let ne = eqb-false (bit_at sum j) 1 gone in omega (arith, b, ne)) in
-        let whole : bit_at (mask + word + 0) j ≡ 0 = ap (λ n. bit_at n j) (let e : mask + word + 0 ≡ mask + word = omega arith in e) ∙ (sym (bit_at-mod (mask + word) WORD_BITS j lt) ∙ none) in
+        let whole : bit_at (mask + word + 0) j ≡ 0 = ap (λ n. bit_at n j) (let e : mask + word + 0 ≡ mask + word = omega arith in e) ∙
+        (sym (bit_at-mod (mask + word) WORD_BITS j lt) ∙ none) in
         carry_bit mask word 0 test (omega arith)
         (λ i bit was. pass i (suc i) (omega arith) (eq-eqb (bit_at mask (suc i)) 1 bit) was)
         (λ i bit. old i (eq-eqb (bit_at word i) 1 bit))

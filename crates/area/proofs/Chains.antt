@@ -1,5 +1,6 @@
 -- The boxes that hang together with one, as the area of a player where all other squares bar the way.
-use Rattle.std.proofs.Common.{◌≡◌, ℕ, ◌+◌, ◌*◌, ◌/◌, ◌%◌, ◌^◌, ◌<◌, ◌≤◌, true, false, not, eqb, ◌&&◌, ◌⊎◌, ◌↔◌, List, None, get_or, set, length, inl, inr, refl, sym, ap, ◌∙◌, arith}
+use Rattle.std.proofs.Common.{◌≡◌, ℕ, ◌+◌, ◌*◌, ◌/◌, ◌%◌, ◌^◌, ◌<◌, ◌≤◌, true, false, not, eqb, ◌&&◌, ◌⊎◌, ◌↔◌, List, None, get_or, set, length, inl, inr, refl}
+use Rattle.std.proofs.Common.{sym, ap, ◌∙◌, arith}
 use Rattle.std.specs.Int.{bit_not, w64}
 use Rattle.std.proofs.lemmas.Bool.{and_parts, not-true, cases_Bool, cases_eq, cases_lt, true≢false, eq-eqb}
 use Rattle.std.proofs.lemmas.List.{get_or-set_same, get_or-set_other, length-set}
@@ -37,12 +38,15 @@ module _ (board : Board) (boxes : Squares) (clear : (q : ℕ) → contains boxes
 
   pub in_others : (q : ℕ) → is_wall board q ≡ false → contains others q ≡ not (contains boxes q)
   unfolding others
-  in_others q open_here = (let lt = inside_grid board q open_here in passing_within (λ x. not (is_wall board x) && not (contains boxes x)) 0 (length board.cells) q (omega arith) (omega (arith, lt))) ∙ rw open_here refl
+  in_others q open_here = (let lt = inside_grid board q open_here in
+      passing_within (λ x. not (is_wall board x) && not (contains boxes x)) 0 (length board.cells) q (omega arith) (omega (arith, lt))) ∙ rw open_here refl
 
   others_clear : (q : ℕ) → contains others q ≡ true → is_wall board q ≡ false
   unfolding others
   others_clear q h = elim (cases_lt q (length board.cells)) [
-    | inl lt ↦ not-true (is_wall board q) (and_parts (not (is_wall board q)) (not (contains boxes q)) (sym (passing_within (λ x. not (is_wall board x) && not (contains boxes x)) 0 (length board.cells) q (omega arith) (omega (arith, lt))) ∙ h)).0
+    | inl lt ↦ not-true (is_wall board q)
+        (and_parts (not (is_wall board q)) (not (contains boxes q))
+        (sym (passing_within (λ x. not (is_wall board x) && not (contains boxes x)) 0 (length board.cells) q (omega arith) (omega (arith, lt))) ∙ h)).0
     | inr le ↦ absurd (true≢false (sym h ∙ passing_past (λ x. not (is_wall board x) && not (contains boxes x)) 0 (length board.cells) q (omega (arith, le))))
   ]
 
@@ -80,30 +84,38 @@ AreTurned words place now =
     × ((k j : ℕ) → k < place → j < WORD_BITS → word_bit (get_or now k 0) j ≡ not (word_bit (get_or words k 0) j))
     × ((k : ℕ) → place ≤ k → get_or now k 0 ≡ get_or words k 0)
 
-pub turned_on : (words now : List ℕ) (place word : ℕ) → AreTurned words place now → place < length now → word ≡ get_or now place 0 → get_or words place 0 < 2 ^ 64 → AreTurned words (place + 1) (set now place (bit_not w64 word))
+pub turned_on : (words now : List ℕ) (place word : ℕ) → AreTurned words place now → place < length now → word ≡ get_or now place 0 →
+    get_or words place 0 < 2 ^ 64 → AreTurned words (place + 1) (set now place (bit_not w64 word))
 turned_on words now place word (size, before, rest) inside read fits = (
   length-set now place (bit_not w64 word) ∙ size,
   λ k j lt below. elim (cases_eq k place) [
     | inl e ↦
         ap (λ (w : ℕ). word_bit w j) (ap (λ (x : ℕ). get_or (set now place (bit_not w64 word)) x 0) e ∙ get_or-set_same now place (bit_not w64 word) 0 inside)
-        ∙ (word_bit-not word j (let same = rest place (omega arith) in omega (arith, same, read, fits)) below ∙ ap (λ (w : ℕ). not (word_bit w j)) (read ∙ (rest place (omega arith) ∙ ap (λ (x : ℕ). get_or words x 0) (sym e))))
+        ∙ (word_bit-not word j (let same = rest place (omega arith) in omega (arith, same, read, fits)) below ∙
+        ap (λ (w : ℕ). not (word_bit w j)) (read ∙ (rest place (omega arith) ∙ ap (λ (x : ℕ). get_or words x 0) (sym e))))
     | inr ne ↦ ap (λ (w : ℕ). word_bit w j) (get_or-set_other now place k (bit_not w64 word) 0 ne) ∙ before k j (omega (arith, lt, ne)) below
   ],
   λ k le. get_or-set_other now place k (bit_not w64 word) 0 (λ e. omega (arith, le, e)) ∙ rest k (omega arith),
 )
 
-pub turned_bit : (words now : List ℕ) (place q : ℕ) → AreTurned words place now → length words ≤ place → q < WORD_BITS * length words → has_bit now q ≡ not (has_bit words q)
+pub turned_bit : (words now : List ℕ) (place q : ℕ) → AreTurned words place now → length words ≤ place → q < WORD_BITS * length words →
+    has_bit now q ≡ not (has_bit words q)
 turned_bit words now place q (size, before, rest) whole lt =
     has_bit-parts now q ∙ (before (q / WORD_BITS) (q % WORD_BITS) (omega arith) (omega arith) ∙ ap not (sym (has_bit-parts words q)))
 
 -- ---- the group
 
-pub group_found : (board : Board) (boxes : Squares) (square : ℕ) (barred old new : List ℕ) → ((q : ℕ) → contains boxes q ≡ true → is_wall board q ≡ false) → contains boxes square ≡ true → length new ≡ word_count (length board.cells) → ((q : ℕ) → q < length board.cells → has_bit barred q ≡ not (contains boxes q)) → ((q : ℕ) → has_bit old q ≡ eqb square q) → IsGrowing board barred old new → HasAim None new ⊎ IsFlooded board barred old new → (q : ℕ) → (has_bit new q ≡ true) ↔ HangsWith board boxes square q
+pub group_found : (board : Board) (boxes : Squares) (square : ℕ) (barred old new : List ℕ) → ((q : ℕ) → contains boxes q ≡ true → is_wall board q ≡ false) →
+    contains boxes square ≡ true → length new ≡ word_count (length board.cells) →
+    ((q : ℕ) → q < length board.cells → has_bit barred q ≡ not (contains boxes q)) → ((q : ℕ) → has_bit old q ≡ eqb square q) → IsGrowing board barred old new →
+    HasAim None new ⊎ IsFlooded board barred old new → (q : ℕ) → (has_bit new q ≡ true) ↔ HangsWith board boxes square q
 unfolding ring others
 group_found board boxes square barred old new clear there size stand alone growing (inl none) q = absurd none
 group_found board boxes square barred old new clear there size stand alone growing (inr found) q = (
-  λ h. walk_hangs board boxes clear square q there (flood_inside board (ring board boxes clear square) barred old new (ring_scene board boxes clear square there) bars begun within growing q h),
-  λ w. flood_whole board (ring board boxes clear square) barred old new (ring_scene board boxes clear square there) bars begun within growing size found q (hangs_walk board boxes clear w),
+  λ h. walk_hangs board boxes clear square q there
+      (flood_inside board (ring board boxes clear square) barred old new (ring_scene board boxes clear square there) bars begun within growing q h),
+  λ w. flood_whole board (ring board boxes clear square) barred old new (ring_scene board boxes clear square there) bars begun within growing size found q
+      (hangs_walk board boxes clear w),
 )
   where
     bars : (x : ℕ) → is_wall board x ≡ false → has_bit barred x ≡ contains (ring board boxes clear square).boxes x

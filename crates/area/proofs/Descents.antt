@@ -1,5 +1,6 @@
 -- Walks that are read off the marks of a search, and that none comes before them.
-use Rattle.std.proofs.Common.{◌≡◌, ◌≢◌, ℕ, suc, ◌+◌, ◌<◌, ◌≤◌, true, false, inl, inr, List, [], ◌∷◌, ◌++◌, length, get_or, append_assoc, append-nil, Result, Ok, Err, OnOk, is_ok, refl, sym, ap, subst, ◌∙◌, arith}
+use Rattle.std.proofs.Common.{◌≡◌, ◌≢◌, ℕ, suc, ◌+◌, ◌<◌, ◌≤◌, true, false, inl, inr, List, [], ◌∷◌, ◌++◌, length, get_or, append_assoc, append-nil, Result, Ok}
+use Rattle.std.proofs.Common.{Err, OnOk, is_ok, refl, sym, ap, subst, ◌∙◌, arith}
 use Rattle.std.specs.declared.cmp.Ordering.{Ordering}
 use Rattle.std.specs.declared.cmp.Ordering.TheVariants.{Less}
 use Rattle.std.specs.Ordering.{ordering_then, is_gt}
@@ -12,7 +13,8 @@ use Rattle.grid.specs.States.{IsScene}
 use Rattle.grid.specs.Squares.{Squares, contains}
 use Rattle.grid.specs.Plays.{Play, Any, stay, walk, shortlex}
 use Rattle.grid.proofs.lemmas.Steps.{inside_grid, next_back_to, walk_player, walk_boxes, walk_to, scene_after_walk}
-use Rattle.grid.proofs.lemmas.Orders.{nat_cmp-less, shortlex-shorter, shortlex-even, not_gt_since_less, not_gt_itself, dir_cmp_total, shortlex_total, shortlex-append_not_gt}
+use Rattle.grid.proofs.lemmas.Orders.{nat_cmp-less, shortlex-shorter, shortlex-even, not_gt_since_less, not_gt_itself, dir_cmp_total, shortlex_total}
+use Rattle.grid.proofs.lemmas.Orders.{shortlex-append_not_gt}
 use Rattle.area.specs.LeastWalks.{IsLeastWalk, walk_letters, IsWalk}
 use Rattle.area.specs.inside.Descent.{IsDown, IsFirstDown, IsDescent, IsDescending, arrived, onward}
 use Rattle.area.specs.inside.Spread.{IsSpread, IsSearched}
@@ -51,7 +53,8 @@ module _ (board : Board) (base to : ℕ) (mark : ℕ → ℕ) (sp : IsSpread boa
   down_reached q d lt down = omega (arith, down)
 
 -- before the first step
-pub descending_first : (board : Board) (base to : ℕ) (mark : ℕ → ℕ) (first : ℕ) (before : List Letter) → IsDescending board base to mark first first before before
+pub descending_first : (board : Board) (base to : ℕ) (mark : ℕ → ℕ) (first : ℕ) (before : List Letter) →
+    IsDescending board base to mark first first before before
 descending_first board base to mark first before = record {
   ds = [];
   letters = sym (append-nil before);
@@ -59,17 +62,22 @@ descending_first board base to mark first before = record {
 }
 
 -- one step more
-pub descending_more : (board : Board) (base to : ℕ) (mark : ℕ → ℕ) (first q : ℕ) (before now : List Letter) (d : Dir) → IsDescending board base to mark first q before now → base < mark (next board q d) → IsFirstDown board mark q d → IsDescending board base to mark first (next board q d) before (now ++ record { dir = d; push = false } ∷ [])
+pub descending_more : (board : Board) (base to : ℕ) (mark : ℕ → ℕ) (first q : ℕ) (before now : List Letter) (d : Dir) →
+    IsDescending board base to mark first q before now → base < mark (next board q d) → IsFirstDown board mark q d →
+    IsDescending board base to mark first (next board q d) before (now ++ record { dir = d; push = false } ∷ [])
 descending_more board base to mark first q before now d s lt down =
     let l : Letter = record { dir = d; push = false } in
     record {
       ds = s.ds ++ d ∷ [];
-      letters = ap (λ (xs : List Letter). xs ++ l ∷ []) s.letters ∙ (append_assoc before (walk_letters s.ds) (l ∷ []) ∙ ap (λ (xs : List Letter). before ++ xs) (sym (walk_letters-more s.ds d)));
-      rest = λ es h. subst (λ (xs : List Dir). IsDescent board base to mark first xs) (sym (append_assoc s.ds (d ∷ []) es)) (s.rest (d ∷ es) (onward lt down h));
+      letters = ap (λ (xs : List Letter). xs ++ l ∷ []) s.letters ∙
+          (append_assoc before (walk_letters s.ds) (l ∷ []) ∙ ap (λ (xs : List Letter). before ++ xs) (sym (walk_letters-more s.ds d)));
+      rest = λ es h. subst (λ (xs : List Dir). IsDescent board base to mark first xs) (sym (append_assoc s.ds (d ∷ []) es))
+          (s.rest (d ∷ es) (onward lt down h));
     }
 
 -- after the last step
-pub descending_last : (board : Board) (base to : ℕ) (mark : ℕ → ℕ) (first : ℕ) (before now : List Letter) → IsDescending board base to mark first to before now → (ds : List Dir) × IsDescent board base to mark first ds × (now ≡ before ++ walk_letters ds)
+pub descending_last : (board : Board) (base to : ℕ) (mark : ℕ → ℕ) (first : ℕ) (before now : List Letter) →
+    IsDescending board base to mark first to before now → (ds : List Dir) × IsDescent board base to mark first ds × (now ≡ before ++ walk_letters ds)
 descending_last board base to mark first before now s =
     (s.ds, subst (λ (xs : List Dir). IsDescent board base to mark first xs) (append-nil s.ds) (s.rest [] arrived), s.letters)
 
@@ -81,7 +89,8 @@ none_first (e ∷ es) = not_gt_since_less _ (shortlex-shorter dir_cmp [] (e ∷ 
 then_less : (a b : Ordering) → a ≡ Less → ordering_then a b ≡ Less
 then_less a b e = ap (λ (x : Ordering). ordering_then x b) e
 
-module _ (board : Board) (boxes : Squares) (base to : ℕ) (mark : ℕ → ℕ) (sp : IsSpread board base to mark) (bl : (q : ℕ) → (contains boxes q ≡ true → mark q ≡ base) × (contains boxes q ≡ false → mark q ≢ base)) where
+module _ (board : Board) (boxes : Squares) (base to : ℕ) (mark : ℕ → ℕ) (sp : IsSpread board base to mark) (bl : (q : ℕ) →
+    (contains boxes q ≡ true → mark q ≡ base) × (contains boxes q ≡ false → mark q ≢ base)) where
   -- a descent is a walk
   pub descent_walk : {q : ℕ} {ds : List Dir} → IsDescent board base to mark q ds → Play board Any (scene_at boxes q) ds [] (scene_at boxes to)
   descent_walk arrived = stay tt
@@ -97,7 +106,8 @@ module _ (board : Board) (boxes : Squares) (base to : ℕ) (mark : ℕ → ℕ) 
       omega (arith, r, e)
 
   -- no walk comes before a descent
-  pub descent_least : {s t : Scene} {q : ℕ} {ds es : List Dir} → IsDescent board base to mark q ds → s.boxes ≡ boxes → s.player ≡ q → t.player ≡ to → IsScene board s → Play board Any s es [] t → is_gt (shortlex dir_cmp ds es) ≡ false
+  pub descent_least : {s t : Scene} {q : ℕ} {ds es : List Dir} → IsDescent board base to mark q ds → s.boxes ≡ boxes → s.player ≡ q → t.player ≡ to →
+      IsScene board s → Play board Any s es [] t → is_gt (shortlex dir_cmp ds es) ≡ false
   descent_least {es = es} arrived same at end scene p = none_first es
   descent_least {s = s} (onward {q = q} {d = d} {ds = ds} lt down rest) same at end scene (stay o) =
       let l = descent_length rest in
@@ -127,17 +137,20 @@ module _ (board : Board) (boxes : Squares) (base to : ℕ) (mark : ℕ → ℕ) 
             let also : IsDown board mark q e = let f : suc (mark (next board q e)) ≡ mark q = omega arith in f in
             let first : dir_number d ≤ dir_number e = down.1 e also in
             elim (cases_lt (dir_number d) (dir_number e)) [
-              | inl less ↦ not_gt_since_less _ (shortlex-even dir_cmp (d ∷ ds) (e ∷ es) (ap suc even) ∙ then_less (dir_cmp d e) (slice_cmp dir_cmp ds es) (nat_cmp-less (dir_number d) (dir_number e) less))
+              | inl less ↦ not_gt_since_less _ (shortlex-even dir_cmp (d ∷ ds) (e ∷ es) (ap suc even) ∙
+                  then_less (dir_cmp d e) (slice_cmp dir_cmp ds es) (nat_cmp-less (dir_number d) (dir_number e) less))
               | inr more ↦
                   (let equal : d ≡ e = dir_same d e (omega arith) in
                   let on : m.player ≡ next board q d = sym aside ∙ ap (λ x. next board q x) (sym equal) in
                   let r = descent_least {s = m} rest same' on end scene' p in
-                  shortlex-append_not_gt dir_cmp (d ∷ []) (e ∷ []) ds es (subst (λ (x : Dir). is_gt (shortlex dir_cmp (d ∷ []) (x ∷ [])) ≡ false) equal (not_gt_itself (shortlex_total dir_cmp_total) (d ∷ []))) r)
+                  shortlex-append_not_gt dir_cmp (d ∷ []) (e ∷ []) ds es
+                  (subst (λ (x : Dir). is_gt (shortlex dir_cmp (d ∷ []) (x ∷ [])) ≡ false) equal (not_gt_itself (shortlex_total dir_cmp_total) (d ∷ []))) r)
             ])
       ]
 
 -- where the search from q did not reach the player, no walk leads to q
-pub no_way : (board : Board) (s : Scene) (q base player : ℕ) (marks left : List ℕ) → IsSearched board s.boxes base q marks → left ≡ marks → player ≡ s.player → IsScene board s → get_or left player 0 ≤ base → (ds : List Dir) → IsWalk board s ds q → ⊥
+pub no_way : (board : Board) (s : Scene) (q base player : ℕ) (marks left : List ℕ) → IsSearched board s.boxes base q marks → left ≡ marks → player ≡ s.player →
+    IsScene board s → get_or left player 0 ≤ base → (ds : List Dir) → IsWalk board s ds q → ⊥
 no_way board s q base player marks left found same at scene low ds p =
     let w = walk_home board s.boxes base q (λ x. get_or marks x 0) found.spread found.blocked refl refl scene p in
     let e : get_or left player 0 ≡ get_or marks s.player 0 = ap (λ (xs : List ℕ). get_or xs player 0) same ∙ ap (λ (x : ℕ). get_or marks x 0) at in
@@ -149,7 +162,8 @@ ok_gives (Ok x) e h = h
 ok_gives (Err y) e h = absurd (false≢true e)
 
 -- the descent from the player is the walk to q that comes first
-pub least_way : (board : Board) (s : Scene) (q base player : ℕ) (marks left : List ℕ) (ds : List Dir) → IsSearched board s.boxes base q marks → left ≡ marks → player ≡ s.player → IsScene board s → IsDescent board base q (λ x. get_or left x 0) player ds → IsLeastWalk board s ds q
+pub least_way : (board : Board) (s : Scene) (q base player : ℕ) (marks left : List ℕ) (ds : List Dir) → IsSearched board s.boxes base q marks → left ≡ marks →
+    player ≡ s.player → IsScene board s → IsDescent board base q (λ x. get_or left x 0) player ds → IsLeastWalk board s ds q
 least_way board s q base player marks left ds found same at scene h =
     let k1 = subst (λ (xs : List ℕ). IsDescent board base q (λ x. get_or xs x 0) player ds) same h in
     let k = subst (λ (p : ℕ). IsDescent board base q (λ x. get_or marks x 0) p ds) at k1 in

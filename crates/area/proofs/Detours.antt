@@ -24,7 +24,8 @@ pub area_step : (board : Board) (s : Scene) (q : ℕ) (d : Dir) → Area board s
 area_step board s q d w free = (_, play_walk_on d w.1 (walk_to board (at s q) d free) tt)
 
 -- where each step from a square with the property to a free square leads to one with it, walks do too
-pub along_walks : (board : Board) (boxes : Squares) (P : ℕ → Type 0) → ((q : ℕ) (d : Dir) → P q → IsFree board boxes (next board q d) → P (next board q d)) → {s t : Scene} {ds : List Dir} → s.boxes ≡ boxes → P s.player → Play board Any s ds [] t → P t.player
+pub along_walks : (board : Board) (boxes : Squares) (P : ℕ → Type 0) → ((q : ℕ) (d : Dir) → P q → IsFree board boxes (next board q d) → P (next board q d)) →
+    {s t : Scene} {ds : List Dir} → s.boxes ≡ boxes → P s.player → Play board Any s ds [] t → P t.player
 along_walks board boxes P step same start (stay o) = start
 along_walks board boxes P step {s = s} same start (walk {m = m} {d = d} o h p) =
     let free : IsFree board boxes (next board s.player d) = subst (λ (b : Squares). IsFree board b (next board s.player d)) same h.0 in
@@ -47,18 +48,25 @@ module _ (board : Board) (s : Scene) (p : Push) (t : Scene) (scene : IsScene boa
   -- a square that is free before the push is free after it, unless the box goes there
   free_after : (x : ℕ) → x ≢ c → IsFree board s.boxes x → IsFree board t.boxes x
   free_after x ne free =
-      let other : b ≢ x = λ e. true≢false (sym pushed.there ∙ (ap (λ (y : ℕ). contains s.boxes y) e ∙ free.1)) in
-      (free.0, ap (λ (xs : Squares). contains xs x) boxes_after ∙ (contains-insert_other (remove s.boxes b) c x (λ e. ne (sym e)) ∙ (contains-remove_other s.boxes b x other ∙ free.1)))
+      let other : b ≢ x = λ e. true≢false (sym pushed.there ∙ (ap (λ (y : ℕ). contains s.boxes y) e ∙ free.1)) in (
+        free.0,
+        ap (λ (xs : Squares). contains xs x) boxes_after ∙
+            (contains-insert_other (remove s.boxes b) c x (λ e. ne (sym e)) ∙ (contains-remove_other s.boxes b x other ∙ free.1)),
+      )
 
   -- after the push the box stands where it went
   not_ahead : (x : ℕ) → IsFree board t.boxes x → x ≢ c
-  not_ahead x free e = true≢false (sym (contains-insert_here (remove s.boxes b) c) ∙ (ap (λ (xs : Squares). contains xs c) (sym boxes_after) ∙ (ap (λ (y : ℕ). contains t.boxes y) (sym e) ∙ free.1)))
+  not_ahead x free e = true≢false (sym (contains-insert_here (remove s.boxes b) c) ∙
+      (ap (λ (xs : Squares). contains xs c) (sym boxes_after) ∙ (ap (λ (y : ℕ). contains t.boxes y) (sym e) ∙ free.1)))
 
   -- a square that is free after the push was free before it, unless the box came from there
   free_before : (x : ℕ) → x ≢ b → IsFree board t.boxes x → IsFree board s.boxes x
   free_before x ne free =
-      let other : c ≢ x = λ e. not_ahead x free (sym e) in
-      (free.0, sym (contains-insert_other (remove s.boxes b) c x other ∙ contains-remove_other s.boxes b x (λ e. ne (sym e))) ∙ (ap (λ (xs : Squares). contains xs x) (sym boxes_after) ∙ free.1))
+      let other : c ≢ x = λ e. not_ahead x free (sym e) in (
+        free.0,
+        sym (contains-insert_other (remove s.boxes b) c x other ∙ contains-remove_other s.boxes b x (λ e. ne (sym e))) ∙
+            (ap (λ (xs : Squares). contains xs x) (sym boxes_after) ∙ free.1),
+      )
 
   -- the player stands where the box was
   area_box : Area board t b
@@ -75,7 +83,8 @@ module _ (board : Board) (s : Scene) (p : Push) (t : Scene) (scene : IsScene boa
     gained : GainsNothing board s.boxes reached c b → (x : ℕ) → Area board t x → (x ≡ b) ⊎ Area board s x
     gained known x w = along_walks board t.boxes (λ (y : ℕ). (y ≡ b) ⊎ Area board s y) step refl (inl player_after) w.1
       where
-        from_box : (d : Dir) → IsFree board t.boxes (next board b d) → IsKnown board s.boxes reached c b d → (next board b d ≡ b) ⊎ Area board s (next board b d)
+        from_box : (d : Dir) → IsFree board t.boxes (next board b d) → IsKnown board s.boxes reached c b d → (next board b d ≡ b) ⊎
+            Area board s (next board b d)
         from_box d free (inl (inl e)) = absurd (not_ahead (next board b d) free e)
         from_box d free (inl (inr wall)) = absurd (true≢false (sym wall ∙ free.0))
         from_box d free (inr (inl box)) = elim (cases_eq (next board b d) b) [
@@ -85,14 +94,16 @@ module _ (board : Board) (s : Scene) (p : Push) (t : Scene) (scene : IsScene boa
         from_box d free (inr (inr there)) = inr ((area (next board b d)).0 there)
 
         step : (y : ℕ) (d : Dir) → (y ≡ b) ⊎ Area board s y → IsFree board t.boxes (next board y d) → (next board y d ≡ b) ⊎ Area board s (next board y d)
-        step y d (inl e) free = subst (λ (z : ℕ). (next board z d ≡ b) ⊎ Area board s (next board z d)) (sym e) (from_box d (subst (λ (z : ℕ). IsFree board t.boxes (next board z d)) e free) (known d))
+        step y d (inl e) free = subst (λ (z : ℕ). (next board z d ≡ b) ⊎
+            Area board s (next board z d)) (sym e) (from_box d (subst (λ (z : ℕ). IsFree board t.boxes (next board z d)) e free) (known d))
         step y d (inr w) free = elim (cases_eq (next board y d) b) [
           | inl e ↦ inl e
           | inr ne ↦ inr (area_step board s y d w (free_before (next board y d) ne free))
         ]
 
     -- nothing is lost but the square that the box went to, where the squares beside that are reached after the push
-    kept : (contains reached c ≡ true → (d : Dir) → contains reached (next board c d) ≡ true → Area board t (next board c d)) → (x : ℕ) → Area board s x → Area board t x ⊎ (x ≡ c)
+    kept : (contains reached c ≡ true → (d : Dir) → contains reached (next board c d) ≡ true → Area board t (next board c d)) → (x : ℕ) → Area board s x →
+        Area board t x ⊎ (x ≡ c)
     kept sides x w =
         let home = (area_same board s behind x scene pushed.behind).0 w in
         (along_walks board s.boxes (λ (y : ℕ). Area board s y × (Area board t y ⊎ (y ≡ c))) step refl (pushed.behind, start) home.1).1
@@ -106,14 +117,17 @@ module _ (board : Board) (s : Scene) (p : Push) (t : Scene) (scene : IsScene boa
           | inr ne ↦ inl (area_step board t b (opposite p.dir) area_box (free_after behind ne (walk_free board s _ _ scene pushed.behind.1)))
         ]
 
-        onto : (y : ℕ) (d : Dir) → Area board s y → Area board t y ⊎ (y ≡ c) → IsFree board s.boxes (next board y d) → Area board s (next board y d) → next board y d ≢ c → Area board t (next board y d)
+        onto : (y : ℕ) (d : Dir) → Area board s y → Area board t y ⊎ (y ≡ c) → IsFree board s.boxes (next board y d) → Area board s (next board y d) →
+            next board y d ≢ c → Area board t (next board y d)
         onto y d w (inl v) free there ne = area_step board t y d v (free_after (next board y d) ne free)
         onto y d w (inr e) free there ne =
             let in_set : contains reached c ≡ true = subst (λ (z : ℕ). contains reached z ≡ true) e ((area y).1 w) in
-            let beside : contains reached (next board c d) ≡ true = subst (λ (z : ℕ). contains reached (next board z d) ≡ true) e ((area (next board y d)).1 there) in
+            let beside : contains reached (next board c d) ≡ true =
+            subst (λ (z : ℕ). contains reached (next board z d) ≡ true) e ((area (next board y d)).1 there) in
             subst (λ (z : ℕ). Area board t (next board z d)) (sym e) (sides in_set d beside)
 
-        step : (y : ℕ) (d : Dir) → Area board s y × (Area board t y ⊎ (y ≡ c)) → IsFree board s.boxes (next board y d) → Area board s (next board y d) × (Area board t (next board y d) ⊎ (next board y d ≡ c))
+        step : (y : ℕ) (d : Dir) → Area board s y × (Area board t y ⊎ (y ≡ c)) → IsFree board s.boxes (next board y d) → Area board s (next board y d) ×
+            (Area board t (next board y d) ⊎ (next board y d ≡ c))
         step y d (w, v) free =
             let there = area_step board s y d w free in (
               there,
@@ -131,7 +145,8 @@ module _ (board : Board) (s : Scene) (p : Push) (t : Scene) (scene : IsScene boa
     ]
 
     -- what was reached is reached after the push
-    kept_reached : (contains reached c ≡ true → (d : Dir) → contains reached (next board c d) ≡ true → Area board t (next board c d)) → (x : ℕ) → contains reached x ≡ true → x ≢ c → Area board t x
+    kept_reached : (contains reached c ≡ true → (d : Dir) → contains reached (next board c d) ≡ true → Area board t (next board c d)) → (x : ℕ) →
+        contains reached x ≡ true → x ≢ c → Area board t x
     kept_reached sides x there ne = elim (kept sides x ((area x).0 there)) [
       | inl w ↦ w
       | inr f ↦ absurd (ne f)
@@ -141,14 +156,16 @@ module _ (board : Board) (s : Scene) (p : Push) (t : Scene) (scene : IsScene boa
     still_reached joined = kept_reached (λ here d beside. skirted (next board c d) (joined here d beside))
 
     -- so is the least of what may be left, once the squares beside the one ahead are
-    pub least_reached : ((d : Dir) → contains reached (next board c d) ≡ true → Area board t (next board c d)) → (q : ℕ) → IsLeastWith reached c b q → Area board t q
+    pub least_reached : ((d : Dir) → contains reached (next board c d) ≡ true → Area board t (next board c d)) → (q : ℕ) → IsLeastWith reached c b q →
+        Area board t q
     least_reached sides q least = elim least.one [
       | inl f ↦ subst (λ (x : ℕ). Area board t x) (sym f) area_box
       | inr there ↦ kept_reached (λ here. sides) q there.0 there.1
     ]
 
     -- so the least square of the area after the push is the least of those
-    pub norm_after : IsScene board t → GainsNothing board s.boxes reached c b → StaysJoined board reached c b → (n : Scene) (q : ℕ) → n ≡ at t q → IsLeastWith reached c b q → IsNorm board t n
+    pub norm_after : IsScene board t → GainsNothing board s.boxes reached c b → StaysJoined board reached c b → (n : Scene) (q : ℕ) → n ≡ at t q →
+        IsLeastWith reached c b q → IsNorm board t n
     norm_after scene_after known joined n q e least = norm_found board t n q e inside (none_below scene_after known q least)
       where
         of_one : (q ≡ b) ⊎ ((contains reached q ≡ true) × (q ≢ c)) → Area board t q
@@ -178,6 +195,7 @@ all_round P U ahead back side other R = side
 all_round P U ahead back side other U = ahead
 
 -- one step more round a square
-pub skirt_on : (board : Board) (set : Squares) (but from q r : ℕ) (d : Dir) → Skirts board set but from q → r ≡ next board q d → contains set r ≡ true → r ≢ but → Skirts board set but from r
+pub skirt_on : (board : Board) (set : Squares) (but from q r : ℕ) (d : Dir) → Skirts board set but from q → r ≡ next board q d → contains set r ≡ true →
+    r ≢ but → Skirts board set but from r
 skirt_on board set but from q r d before e there ne =
     subst (λ (x : ℕ). Skirts board set but from x) (sym e) (onward d before (subst (λ (x : ℕ). contains set x ≡ true) e there) (λ f. ne (e ∙ f)))

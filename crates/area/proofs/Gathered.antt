@@ -1,5 +1,6 @@
 -- Boxes that hang together with a pushed one, gathered in passes over few words, and what is locked among them.
-use Rattle.std.proofs.Common.{◌≡◌, ◌≢◌, ℕ, ◌+◌, ◌-◌, ◌*◌, ◌/◌, ◌%◌, ◌^◌, ◌<◌, ◌≤◌, Bool, true, false, not, eqb, ◌&&◌, ◌||◌, ◌⊎◌, ◌↔◌, List, length, get_or, set, replicate, inl, inr, refl, sym, ap, subst, ◌∙◌, arith}
+use Rattle.std.proofs.Common.{◌≡◌, ◌≢◌, ℕ, ◌+◌, ◌-◌, ◌*◌, ◌/◌, ◌%◌, ◌^◌, ◌<◌, ◌≤◌, Bool, true, false, not, eqb, ◌&&◌, ◌||◌, ◌⊎◌, ◌↔◌, List, length, get_or, set}
+use Rattle.std.proofs.Common.{replicate, inl, inr, refl, sym, ap, subst, ◌∙◌, arith}
 use Rattle.std.specs.Int.RustNames.{bit_and, bit_or}
 use Rattle.std.proofs.lemmas.Bool.{and_from, and_parts, cases_Bool, cases_eq, cases_lt, eq-eqb, eqb-true, eqb-false, not-true, true≢false, false≢true}
 use Rattle.std.proofs.lemmas.List.{get_or-set_same, get_or-set_other, set-get_or}
@@ -21,7 +22,8 @@ use Rattle.area.proofs.lemmas.WordSets.{bit_member, member_bit, none_set, passin
 
 -- ---- a look at one word
 
-module _ (holds : Holds) (cols place : ℕ) (boxes old : List ℕ) (beside above across along : ℕ) (inside : place < length old) (fits : get_or old place 0 < 2 ^ 64)
+module _ (holds : Holds) (cols place : ℕ) (boxes old : List ℕ) (beside above across along : ℕ) (inside : place < length old)
+    (fits : get_or old place 0 < 2 ^ 64)
     (on_beside : (j : ℕ) → j < WORD_BITS → (word_bit beside j ≡ true) ↔ IsHeldBy old 1 (squares_of old) (WORD_BITS * place + j))
     (on_above : (j : ℕ) → j < WORD_BITS → (word_bit above j ≡ true) ↔ IsHeldBy old cols (squares_of old) (WORD_BITS * place + j))
     (on_across : (j : ℕ) → j < WORD_BITS → (word_bit across j ≡ true) ↔ IsHeldBy holds.across 1 (squares_of boxes) (WORD_BITS * place + j))
@@ -34,15 +36,20 @@ module _ (holds : Holds) (cols place : ℕ) (boxes old : List ℕ) (beside above
 
   -- a bit of the set afterwards is of the word that was written, or as before
   bit_now : (q : ℕ)
-      → ((q / WORD_BITS ≡ place) × (has_bit (set old place more) q ≡ word_bit more (q % WORD_BITS)) × (has_bit old q ≡ word_bit (get_or old place 0) (q % WORD_BITS)) × (has_bit boxes q ≡ word_bit (get_or boxes place 0) (q % WORD_BITS))) ⊎ (has_bit (set old place more) q ≡ has_bit old q)
+      → ((q / WORD_BITS ≡ place) × (has_bit (set old place more) q ≡ word_bit more (q % WORD_BITS)) ×
+      (has_bit old q ≡ word_bit (get_or old place 0) (q % WORD_BITS)) × (has_bit boxes q ≡ word_bit (get_or boxes place 0) (q % WORD_BITS))) ⊎
+      (has_bit (set old place more) q ≡ has_bit old q)
   bit_now q = elim (cases_eq (q / WORD_BITS) place) [
     | inl at ↦ inl (
       at,
-      has_bit-parts (set old place more) q ∙ (ap (λ (k : ℕ). word_bit (get_or (set old place more) k 0) (q % WORD_BITS)) at ∙ ap (λ (w : ℕ). word_bit w (q % WORD_BITS)) (get_or-set_same old place more 0 inside)),
+      has_bit-parts (set old place more) q ∙
+          (ap (λ (k : ℕ). word_bit (get_or (set old place more) k 0) (q % WORD_BITS)) at ∙
+          ap (λ (w : ℕ). word_bit w (q % WORD_BITS)) (get_or-set_same old place more 0 inside)),
       has_bit-parts old q ∙ ap (λ (k : ℕ). word_bit (get_or old k 0) (q % WORD_BITS)) at,
       has_bit-parts boxes q ∙ ap (λ (k : ℕ). word_bit (get_or boxes k 0) (q % WORD_BITS)) at,
     )
-    | inr ne ↦ inr (has_bit-parts (set old place more) q ∙ (ap (λ (w : ℕ). word_bit w (q % WORD_BITS)) (get_or-set_other old place (q / WORD_BITS) more 0 ne) ∙ sym (has_bit-parts old q)))
+    | inr ne ↦ inr (has_bit-parts (set old place more) q ∙ (ap (λ (w : ℕ). word_bit w (q % WORD_BITS)) (get_or-set_other old place (q / WORD_BITS) more 0 ne) ∙
+        sym (has_bit-parts old q)))
   ]
 
   kept_bits : (q : ℕ) → has_bit old q ≡ true → has_bit (set old place more) q ≡ true
@@ -69,11 +76,14 @@ module _ (holds : Holds) (cols place : ℕ) (boxes old : List ℕ) (beside above
 
   closed_bits : more ≡ get_or old place 0 → (j : ℕ) → j < WORD_BITS → IsClosedAt holds cols boxes old (WORD_BITS * place + j)
   closed_bits same j lt there twice near =
-      let two : word_bit (bit_and (bit_or beside above) (get_or boxes place 0)) j ≡ true = bit_and_from (bit_or beside above) (get_or boxes place 0) j (near_bit j lt near) (sym (has_bit-at boxes place j lt) ∙ there) in
-      let three : word_bit (bit_and (bit_and (bit_or beside above) (get_or boxes place 0)) across) j ≡ true = bit_and_from (bit_and (bit_or beside above) (get_or boxes place 0)) across j two ((on_across j lt).1 twice.0) in
+      let two : word_bit (bit_and (bit_or beside above) (get_or boxes place 0)) j ≡ true =
+      bit_and_from (bit_or beside above) (get_or boxes place 0) j (near_bit j lt near) (sym (has_bit-at boxes place j lt) ∙ there) in
+      let three : word_bit (bit_and (bit_and (bit_or beside above) (get_or boxes place 0)) across) j ≡ true =
+      bit_and_from (bit_and (bit_or beside above) (get_or boxes place 0)) across j two ((on_across j lt).1 twice.0) in
       has_bit-at old place j lt
       ∙ (ap (λ (w : ℕ). word_bit w j) (sym same)
-      ∙ bit_or_right (get_or old place 0) came j (bit_and_from (bit_and (bit_and (bit_or beside above) (get_or boxes place 0)) across) along j three ((on_along j lt).1 twice.1)))
+      ∙ bit_or_right (get_or old place 0) came j (bit_and_from (bit_and (bit_and (bit_or beside above) (get_or boxes place 0)) across) along j three
+      ((on_along j lt).1 twice.1)))
 
   fuller : more ≢ get_or old place 0 → room_left (set old place more) < room_left old
   fuller ne =
@@ -118,7 +128,8 @@ gathered_more holds cols n boxes old now new went gone both e g s = subst (IsGat
   closed = λ none k j lt inner.
       (let (a, b) = neither went gone none in
       elim (cases_eq k n) [
-        | inl at ↦ subst (λ (m : ℕ). IsClosedAt holds cols boxes old (WORD_BITS * m + j)) (sym at) (subst (λ (ws : List ℕ). IsClosedAt holds cols boxes ws (WORD_BITS * n + j)) (g.same a) (s.closed b j inner))
+        | inl at ↦ subst (λ (m : ℕ). IsClosedAt holds cols boxes old (WORD_BITS * m + j)) (sym at)
+            (subst (λ (ws : List ℕ). IsClosedAt holds cols boxes ws (WORD_BITS * n + j)) (g.same a) (s.closed b j inner))
         | inr ne ↦ g.closed a k j (omega (arith, lt, ne)) inner
       ]);
 })
@@ -163,7 +174,9 @@ gathering_done holds cols n boxes old now new went none all g s =
       within = all_in.within;
       closed = λ q there.
           (let lt = has_bit_inside boxes q there in
-          let at : IsClosedAt holds cols boxes now q = subst (IsClosedAt holds cols boxes now) (square_parts q).0 (s.closed none (q / WORD_BITS) (q % WORD_BITS) (omega (arith, lt, all)) (square_parts q).1) in
+          let at : IsClosedAt holds cols boxes now q =
+          subst (IsClosedAt holds cols boxes now) (square_parts q).0
+          (s.closed none (q / WORD_BITS) (q % WORD_BITS) (omega (arith, lt, all)) (square_parts q).1) in
           subst (λ (ws : List ℕ). IsClosedAt holds cols boxes ws q) (sym (s.same none)) at there);
     }
 
@@ -202,7 +215,8 @@ pub put_alone : (none put : List ℕ) (n square : ℕ) → none ≡ replicate n 
     → has_bit put q ≡ eqb square q
 put_alone none put n square zeros puts q = puts q ∙ ap (λ (b : Bool). b || eqb square q) (none_set none n q zeros)
 
-module _ (holds : Holds) (cols : ℕ) (before after : Squares) (from to : ℕ) (loose : (part : Squares) → ¬ (AreLocked holds cols before part)) (pushed : after ≡ insert (remove before from) to) where
+module _ (holds : Holds) (cols : ℕ) (before after : Squares) (from to : ℕ) (loose : (part : Squares) →
+    ¬ (AreLocked holds cols before part)) (pushed : after ≡ insert (remove before from) to) where
   -- what is locked after the push has the pushed box
   pub pushed_among : (group part : Squares) → AreWithin group after → AreLocked holds cols group part → contains part to ≡ true
   pushed_among group part within locked = elim (cases_Bool (contains part to)) [
@@ -211,12 +225,14 @@ module _ (holds : Holds) (cols : ℕ) (before after : Squares) (from to : ℕ) (
   ]
     where
       stood : contains part to ≡ false → AreWithin part before
-      stood none q h = elim (contains-insert_cases (remove before from) to q (subst (λ (xs : Squares). contains xs q ≡ true) pushed (within q (locked.some q h)))) [
-        | inl same ↦ absurd (true≢false (sym h ∙ (ap (contains part) (sym same) ∙ none)))
-        | inr left ↦ (contains-remove_parts before from q left).1
-      ]
+      stood none q h = elim (contains-insert_cases (remove before from) to q
+          (subst (λ (xs : Squares). contains xs q ≡ true) pushed (within q (locked.some q h)))) [
+            | inl same ↦ absurd (true≢false (sym h ∙ (ap (contains part) (sym same) ∙ none)))
+            | inr left ↦ (contains-remove_parts before from q left).1
+          ]
 
-  module _ (moved alone members : List ℕ) (stand : (q : ℕ) → has_bit moved q ≡ contains after q) (one : (q : ℕ) → has_bit alone q ≡ eqb to q) (there : contains after to ≡ true) (joined : AreJoined holds cols moved alone members) where
+  module _ (moved alone members : List ℕ) (stand : (q : ℕ) → has_bit moved q ≡ contains after q) (one : (q : ℕ) →
+      has_bit alone q ≡ eqb to q) (there : contains after to ≡ true) (joined : AreJoined holds cols moved alone members) where
     pub members_within : AreWithin (squares_of members) after
     members_within q h = elim (joined.within q (member_bit members q h)) [
       | inl first ↦ subst (λ (x : ℕ). contains after x ≡ true) (eqb-true to q (sym (one q) ∙ first)) there
@@ -236,13 +252,15 @@ module _ (holds : Holds) (cols : ℕ) (before after : Squares) (from to : ℕ) (
     cut_in : (test : ℕ → Bool) (part : Squares) (q : ℕ) → AreWithin part after → contains part q ≡ true → test q ≡ true → contains (cut test part) q ≡ true
     unfolding cut
     cut_in test part q within h passes =
-        (let lt = has_bit_inside moved q (stand q ∙ within q h) in passing_within (λ x. contains part x && test x) 0 (WORD_BITS * length moved) q (omega arith) (omega (arith, lt)))
+        (let lt = has_bit_inside moved q (stand q ∙ within q h) in
+        passing_within (λ x. contains part x && test x) 0 (WORD_BITS * length moved) q (omega arith) (omega (arith, lt)))
         ∙ and_from (contains part q) (test q) h passes
 
     cut_parts : (test : ℕ → Bool) (part : Squares) (q : ℕ) → contains (cut test part) q ≡ true → (contains part q ≡ true) × (test q ≡ true)
     unfolding cut
     cut_parts test part q h = elim (cases_lt q (WORD_BITS * length moved)) [
-      | inl lt ↦ and_parts (contains part q) (test q) (sym (passing_within (λ x. contains part x && test x) 0 (WORD_BITS * length moved) q (omega arith) (omega (arith, lt))) ∙ h)
+      | inl lt ↦ and_parts (contains part q) (test q)
+          (sym (passing_within (λ x. contains part x && test x) 0 (WORD_BITS * length moved) q (omega arith) (omega (arith, lt))) ∙ h)
       | inr le ↦ absurd (true≢false (sym h ∙ passing_past (λ x. contains part x && test x) 0 (WORD_BITS * length moved) q (omega (arith, le))))
     ]
 
@@ -256,7 +274,10 @@ module _ (holds : Holds) (cols : ℕ) (before after : Squares) (from to : ℕ) (
 
     -- what is beside a member and of a set that holds itself is one
     near_in : (part : Squares) → AreLocked holds cols after part → (p : ℕ) → contains part p ≡ true → IsNear cols members p → has_bit members p ≡ true
-    near_in part locked p h near = joined.closed p (stand p ∙ locked.some p h) (wider holds.across 1 (locked.held p h).0, wider holds.along cols (locked.held p h).1) near
+    near_in part locked p h near = joined.closed p (stand p ∙ locked.some p h) (
+      wider holds.across 1 (locked.held p h).0,
+      wider holds.along cols (locked.held p h).1,
+    ) near
       where
         wider : (fast : List ℕ) (by : ℕ) → IsHeldBy fast by part p → IsHeldBy fast by (squares_of moved) p
         wider fast by held = held_by_more fast by part (squares_of moved) p (λ q m. bit_member moved q (stand q ∙ locked.some q m)) held
@@ -271,14 +292,21 @@ module _ (holds : Holds) (cols : ℕ) (before after : Squares) (from to : ℕ) (
             record {
               some = λ q h. bit_member members q (cut_parts (has_bit members) part q h).1;
               off = (x, cut_in (has_bit members) part x locked.some here yes_in, off);
-              held = λ q h. (let (member, is_in) = cut_parts (has_bit members) part q h in (side holds.across 1 (λ n. λ a. inl a) q member is_in (locked.held q member).0, side holds.along cols (λ n. λ a. inr a) q member is_in (locked.held q member).1));
+              held = λ q h. (let (member, is_in) = cut_parts (has_bit members) part q h in (
+                side holds.across 1 (λ n. λ a. inl a) q member is_in (locked.held q member).0,
+                side holds.along cols (λ n. λ a. inr a) q member is_in (locked.held q member).1,
+              ));
             },
           )
-          | inr not_in ↦ absurd (true≢false (sym pushed_there ∙ not-true (has_bit members to) (cut_parts others part to (pushed_among after (cut others part) (λ q h. h) (record {
-            some = λ q h. locked.some q (cut_parts others part q h).0;
-            off = (x, cut_in others part x locked.some here (ap not not_in), off);
-            held = λ q h. (let (member, is_out) = cut_parts others part q h in (aside holds.across 1 (λ n. λ a. inl a) q member is_out (locked.held q member).0, aside holds.along cols (λ n. λ a. inr a) q member is_out (locked.held q member).1));
-          }))).1))
+          | inr not_in ↦ absurd (true≢false (sym pushed_there ∙
+              not-true (has_bit members to) (cut_parts others part to (pushed_among after (cut others part) (λ q h. h) (record {
+                some = λ q h. locked.some q (cut_parts others part q h).0;
+                off = (x, cut_in others part x locked.some here (ap not not_in), off);
+                held = λ q h. (let (member, is_out) = cut_parts others part q h in (
+                  aside holds.across 1 (λ n. λ a. inl a) q member is_out (locked.held q member).0,
+                  aside holds.along cols (λ n. λ a. inr a) q member is_out (locked.held q member).1,
+                ));
+              }))).1))
         ]
       where
         others : ℕ → Bool
@@ -322,4 +350,5 @@ loose_by holds cols given boxes listed e same loose part =
 pub told_by : (holds : Holds) (cols given : ℕ) (boxes listed : Squares) (from to : ℕ) (told : Bool) → given ≡ cols → listed ≡ boxes
     → TellsLocked holds given (insert (remove listed from) to) told → TellsLocked holds cols (insert (remove boxes from) to) told
 told_by holds cols given boxes listed from to told e same tells =
-    subst (λ (n : ℕ). TellsLocked holds n (insert (remove boxes from) to) told) e (subst (λ (xs : Squares). TellsLocked holds given (insert (remove xs from) to) told) same tells)
+    subst (λ (n : ℕ). TellsLocked holds n (insert (remove boxes from) to) told) e
+    (subst (λ (xs : Squares). TellsLocked holds given (insert (remove xs from) to) told) same tells)

@@ -17,9 +17,11 @@ swapped false false true = refl
 swapped false false false = refl
 
 -- a copy of the set, with one square taken out and another one put in
-pub moved_bit : (boxes copy out moved : List ℕ) (square ahead : ℕ) → copy ≡ boxes → ((q : ℕ) → has_bit out q ≡ (has_bit copy q && not (eqb square q))) → ((q : ℕ) → has_bit moved q ≡ (has_bit out q || eqb ahead q)) → (q : ℕ) → has_bit moved q ≡ contains (insert (remove (squares_of boxes) square) ahead) q
+pub moved_bit : (boxes copy out moved : List ℕ) (square ahead : ℕ) → copy ≡ boxes → ((q : ℕ) → has_bit out q ≡ (has_bit copy q && not (eqb square q))) →
+    ((q : ℕ) → has_bit moved q ≡ (has_bit out q || eqb ahead q)) → (q : ℕ) → has_bit moved q ≡ contains (insert (remove (squares_of boxes) square) ahead) q
 moved_bit boxes copy out moved square ahead same taken put q =
-    put q ∙ (ap (λ (b : Bool). b || eqb ahead q) (taken q ∙ ap (λ (b : Bool). b && not (eqb square q)) old) ∙ (swapped (contains (squares_of boxes) q) (eqb square q) (eqb ahead q) ∙ sym listed))
+    put q ∙ (ap (λ (b : Bool). b || eqb ahead q) (taken q ∙ ap (λ (b : Bool). b && not (eqb square q)) old) ∙
+    (swapped (contains (squares_of boxes) q) (eqb square q) (eqb ahead q) ∙ sym listed))
   where
     old : has_bit copy q ≡ contains (squares_of boxes) q
     old = ap (λ (ws : List ℕ). has_bit ws q) same ∙ sym (contains-squares_of boxes q)
@@ -28,6 +30,7 @@ moved_bit boxes copy out moved square ahead same taken put q =
     listed = contains-insert (remove (squares_of boxes) square) ahead q ∙ ap (λ (b : Bool). eqb ahead q || b) (contains-remove (squares_of boxes) square q)
 
 -- the same of the boxes after the push
-pub moved_boxes : (boxes moved : List ℕ) (before after : Squares) (square ahead : ℕ) → squares_of boxes ≡ before → after ≡ insert (remove before square) ahead → ((q : ℕ) → has_bit moved q ≡ contains (insert (remove (squares_of boxes) square) ahead) q) → (q : ℕ) → has_bit moved q ≡ contains after q
+pub moved_boxes : (boxes moved : List ℕ) (before after : Squares) (square ahead : ℕ) → squares_of boxes ≡ before → after ≡ insert (remove before square) ahead →
+    ((q : ℕ) → has_bit moved q ≡ contains (insert (remove (squares_of boxes) square) ahead) q) → (q : ℕ) → has_bit moved q ≡ contains after q
 moved_boxes boxes moved before after square ahead same pushed bits q =
     bits q ∙ (ap (λ (bs : Squares). contains (insert (remove bs square) ahead) q) same ∙ ap (λ (bs : Squares). contains bs q) (sym pushed))

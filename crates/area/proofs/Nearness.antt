@@ -1,5 +1,6 @@
 -- Whether a square is in the area is decided by looking ever farther from the player, until nothing new comes.
-use Rattle.std.proofs.Common.{◌≡◌, ℕ, zero, suc, ◌+◌, ◌<◌, ◌≤◌, Bool, true, false, not, cond, eqb, ◌&&◌, ◌||◌, ◌⊎◌, ◌↔◌, inl, inr, List, [], ◌∷◌, ◌++◌, length, refl, sym, ap, subst, ◌∙◌, arith}
+use Rattle.std.proofs.Common.{◌≡◌, ℕ, zero, suc, ◌+◌, ◌<◌, ◌≤◌, Bool, true, false, not, cond, eqb, ◌&&◌, ◌||◌, ◌⊎◌, ◌↔◌, inl, inr, List, [], ◌∷◌, ◌++◌, length}
+use Rattle.std.proofs.Common.{refl, sym, ap, subst, ◌∙◌, arith}
 use Rattle.std.proofs.lemmas.Bool.{cases_lt, cases_Bool, eqb-true, eq-eqb, and_parts, and_from, or_cases, or_left, or_right, not-true, true≢false, false≢true}
 use Rattle.grid.specs.declared.dir.Dir.{Dir}
 use Rattle.grid.specs.declared.dir.Dir.TheVariants.{D, L, R, U}
@@ -155,9 +156,11 @@ abbrev pub set_down : Squares → ℕ → Scene
 set_down boxes q = record { boxes = boxes; player = q }
 
 -- a walk leads to a square that is near
-near_walk : (board : Board) (boxes : Squares) (from k q : ℕ) → IsFree board boxes from → near board boxes from k q ≡ true → (ds : List Dir) × Play board Any (set_down boxes from) ds [] (set_down boxes q)
+near_walk : (board : Board) (boxes : Squares) (from k q : ℕ) → IsFree board boxes from → near board boxes from k q ≡ true → (ds : List Dir) ×
+    Play board Any (set_down boxes from) ds [] (set_down boxes q)
 unfolding near
-near_walk board boxes from zero q free h = ([], subst (λ (x : ℕ). Play board Any (set_down boxes from) [] [] (set_down boxes x)) (sym (eqb-true q from h)) (stay tt))
+near_walk board boxes from zero q free h =
+    ([], subst (λ (x : ℕ). Play board Any (set_down boxes from) [] [] (set_down boxes x)) (sym (eqb-true q from h)) (stay tt))
 near_walk board boxes from (suc k) q free h = elim (or_cases (near board boxes from k q) _ h) [
   | inl old ↦ near_walk board boxes from k q free old
   | inr new ↦
@@ -172,32 +175,41 @@ near_walk board boxes from (suc k) q free h = elim (or_cases (near board boxes f
       (w.0 ++ opposite b.0 ∷ [], play_walk_on (opposite b.0) w.1 step tt))
 ]
 
-near_step : (board : Board) (boxes : Squares) (from k q : ℕ) (d : Dir) → IsFree board boxes q → near board boxes from k (next board q d) ≡ true → near board boxes from (suc k) q ≡ true
+near_step : (board : Board) (boxes : Squares) (from k q : ℕ) (d : Dir) → IsFree board boxes q → near board boxes from k (next board q d) ≡ true →
+    near board boxes from (suc k) q ≡ true
 unfolding near
 near_step board boxes from k q d free h =
     or_right (near board boxes from k q) _ (and_from (is_free board boxes q) _ (free_is board boxes q free) (beside_at board (near board boxes from k) q d h))
 
 -- where a walk leads from a near square is near, with its steps more
-near_along : (board : Board) (boxes : Squares) (from k : ℕ) {s t : Scene} {ds : List Dir} → s.boxes ≡ boxes → IsScene board s → near board boxes from k s.player ≡ true → Play board Any s ds [] t → (j : ℕ) × (near board boxes from j t.player ≡ true)
+near_along : (board : Board) (boxes : Squares) (from k : ℕ) {s t : Scene} {ds : List Dir} → s.boxes ≡ boxes → IsScene board s →
+    near board boxes from k s.player ≡ true → Play board Any s ds [] t → (j : ℕ) × (near board boxes from j t.player ≡ true)
 near_along board boxes from k same scene h (stay o) = (k, h)
 near_along board boxes from k {s = s} same scene h (walk {m = m} {d = d} o w p) =
     let scene' : IsScene board m = scene_after_walk board s d m scene w in
     let same' : m.boxes ≡ boxes = walk_boxes board s d m w ∙ same in
-    let back : next board m.player (opposite d) ≡ s.player = next_back_to board s.player m.player d (sym (walk_player board s d m w)) scene.player.0 scene'.player.0 in
+    let back : next board m.player (opposite d) ≡ s.player =
+    next_back_to board s.player m.player d (sym (walk_player board s d m w)) scene.player.0 scene'.player.0 in
     let free : IsFree board boxes m.player = (scene'.player.0, subst (λ (b : Squares). contains b m.player ≡ false) same' scene'.player.1) in
-    near_along board boxes from (suc k) {s = m} same' scene' (near_step board boxes from k m.player (opposite d) free (subst (λ (x : ℕ). near board boxes from k x ≡ true) (sym back) h)) p
+    near_along board boxes from (suc k) {s = m} same' scene'
+    (near_step board boxes from k m.player (opposite d) free (subst (λ (x : ℕ). near board boxes from k x ≡ true) (sym back) h)) p
 
 -- once one step more brings nothing new, no number of steps does
-near_stable : (board : Board) (boxes : Squares) (from k : ℕ) → ((q : ℕ) → near board boxes from k q ≡ near board boxes from (suc k) q) → (j q : ℕ) → near board boxes from (j + k) q ≡ near board boxes from k q
+near_stable : (board : Board) (boxes : Squares) (from k : ℕ) → ((q : ℕ) → near board boxes from k q ≡ near board boxes from (suc k) q) → (j q : ℕ) →
+    near board boxes from (j + k) q ≡ near board boxes from k q
 unfolding near
 near_stable board boxes from k stable zero q = ap (λ n. near board boxes from n q) (let e : 0 + k ≡ k = omega arith in e)
 near_stable board boxes from k stable (suc j) q =
     ap (λ n. near board boxes from n q) (let e : suc j + k ≡ suc (j + k) = omega arith in e)
-    ∙ (rw (near_stable board boxes from k stable j q, beside_same board (near board boxes from (j + k)) (near board boxes from k) q (near_stable board boxes from k stable j)) refl ∙ sym (stable q))
+    ∙ (rw (
+      near_stable board boxes from k stable j q,
+      beside_same board (near board boxes from (j + k)) (near board boxes from k) q (near_stable board boxes from k stable j),
+    ) refl ∙ sym (stable q))
 
 near_up : (board : Board) (boxes : Squares) (from j k q : ℕ) → near board boxes from k q ≡ true → near board boxes from (j + k) q ≡ true
 near_up board boxes from zero k q h = subst (λ (n : ℕ). near board boxes from n q ≡ true) (let e : k ≡ 0 + k = omega arith in e) h
-near_up board boxes from (suc j) k q h = subst (λ (n : ℕ). near board boxes from n q ≡ true) (let e : suc (j + k) ≡ suc j + k = omega arith in e) (near_more board boxes from (j + k) q (near_up board boxes from j k q h))
+near_up board boxes from (suc j) k q h = subst (λ (n : ℕ). near board boxes from n q ≡ true) (let e : suc (j + k) ≡ suc j + k = omega arith in
+    e) (near_more board boxes from (j + k) q (near_up board boxes from j k q h))
 
 near_inside : (board : Board) (boxes : Squares) (from k q : ℕ) → IsFree board boxes from → length board.cells ≤ q → near board boxes from k q ≡ false
 near_inside board boxes from k q free out = elim (cases_Bool (near board boxes from k q)) [
@@ -205,7 +217,9 @@ near_inside board boxes from k q free out = elim (cases_Bool (near board boxes f
   | inr fails ↦ fails
 ]
 
-stable_from : (board : Board) (boxes : Squares) (from : ℕ) → IsFree board boxes from → (fuel k : ℕ) → length board.cells < tally (near board boxes from k) (length board.cells) + fuel → (j : ℕ) × ((q : ℕ) → near board boxes from j q ≡ near board boxes from (suc j) q)
+stable_from : (board : Board) (boxes : Squares) (from : ℕ) → IsFree board boxes from → (fuel k : ℕ) →
+    length board.cells < tally (near board boxes from k) (length board.cells) + fuel → (j : ℕ) ×
+    ((q : ℕ) → near board boxes from j q ≡ near board boxes from (suc j) q)
 stable_from board boxes from free zero k more = absurd (let b = tally_bound (near board boxes from k) (length board.cells) in omega arith)
 stable_from board boxes from free (suc fuel) k more =
     elim (same_or_more (near board boxes from k) (near board boxes from (suc k)) (length board.cells) (λ q h. near_more board boxes from k q h)) [
@@ -232,6 +246,8 @@ area_test board s scene =
       λ q. (
         λ h. near_walk board s.boxes s.player k.0 q scene.player h,
         λ w. (let a = near_along board s.boxes s.player 0 {s = s} refl scene (near_here board s.boxes s.player) w.1 in
-            sym (near_stable board s.boxes s.player k.0 k.1 a.0 q) ∙ subst (λ (j : ℕ). near board s.boxes s.player j q ≡ true) (let e : k.0 + a.0 ≡ a.0 + k.0 = omega arith in e) (near_up board s.boxes s.player k.0 a.0 q a.1)),
+            sym (near_stable board s.boxes s.player k.0 k.1 a.0 q) ∙
+            subst (λ (j : ℕ). near board s.boxes s.player j q ≡ true) (let e : k.0 + a.0 ≡ a.0 + k.0 = omega arith in
+            e) (near_up board s.boxes s.player k.0 a.0 q a.1)),
       ),
     )

@@ -1,8 +1,10 @@
 -- Boxes that nothing holds are taken out word by word; what is left holds itself, and is the largest set that does.
-use Rattle.std.proofs.Common.{◌≡◌, ◌≢◌, ◌↔◌, ◌<◌, ◌≤◌, ◌+◌, ◌-◌, ◌*◌, ◌/◌, ◌%◌, ◌^◌, ℕ, Bool, true, false, not, eqb, ◌&&◌, ◌||◌, ◌⊎◌, List, [], ◌∷◌, IsTrue, length, get_or, set, refl, sym, ap, subst, ◌∙◌, inl, inr, arith}
+use Rattle.std.proofs.Common.{◌≡◌, ◌≢◌, ◌↔◌, ◌<◌, ◌≤◌, ◌+◌, ◌-◌, ◌*◌, ◌/◌, ◌%◌, ◌^◌, ℕ, Bool, true, false, not, eqb, ◌&&◌, ◌||◌, ◌⊎◌, List, [], ◌∷◌, IsTrue}
+use Rattle.std.proofs.Common.{length, get_or, set, refl, sym, ap, subst, ◌∙◌, inl, inr, arith}
 use Rattle.std.specs.Int.{bit_not, trailing_zeros, w64}
 use Rattle.std.specs.Int.RustNames.{bit_and, bit_or}
-use Rattle.std.proofs.lemmas.Bool.{false≢true, true≢false, cases_eq, cases_lt, or_cases, or_left, or_right, eqb-true, eqb-false, not-true, not_from_false, and_parts, and_from}
+use Rattle.std.proofs.lemmas.Bool.{false≢true, true≢false, cases_eq, cases_lt, or_cases, or_left, or_right, eqb-true, eqb-false, not-true, not_from_false}
+use Rattle.std.proofs.lemmas.Bool.{and_parts, and_from}
 use Rattle.std.proofs.lemmas.List.{get_or-set_same, get_or-set_other, set-get_or}
 use Rattle.std.proofs.lemmas.List.Folds.{list_any_at}
 use Rattle.std.specs.List.{list_any}
@@ -28,7 +30,8 @@ held_by_more fast by few more q within (inr (inl after)) = inr (inl (within (q +
 held_by_more fast by few more q within (inr (inr (p, e, before))) = inr (inr (p, e, within p before))
 
 -- the bits tell it
-held_bits : (fast words : List ℕ) (q by : ℕ) (here before after : Bool) → here ≡ has_bit fast q → ((i : ℕ) → i + by ≡ q → before ≡ has_bit words i) → (q < by → before ≡ false) → after ≡ has_bit words (q + by)
+held_bits : (fast words : List ℕ) (q by : ℕ) (here before after : Bool) → here ≡ has_bit fast q → ((i : ℕ) → i + by ≡ q → before ≡ has_bit words i) →
+    (q < by → before ≡ false) → after ≡ has_bit words (q + by)
     → (((here || before) || after) ≡ true) ↔ IsHeldBy fast by (squares_of words) q
 held_bits fast words q by here before after anyway on_before none on_after = (
   λ h. elim (or_cases (here || before) after h) [
@@ -54,8 +57,10 @@ pub held_word : (fast words : List ℕ) (place by before after j : ℕ) → j < 
     → word_bit after j ≡ has_bit words (WORD_BITS * place + j + by)
     → (word_bit (bit_or (bit_or (get_or fast place 0) before) after) j ≡ true) ↔ IsHeldBy fast by (squares_of words) (WORD_BITS * place + j)
 held_word fast words place by before after j lt on_before none on_after =
-    let three = word_bit-or (bit_or (get_or fast place 0) before) after j ∙ ap (λ (b : Bool). b || word_bit after j) (word_bit-or (get_or fast place 0) before j) in
-    let bits = held_bits fast words (WORD_BITS * place + j) by (word_bit (get_or fast place 0) j) (word_bit before j) (word_bit after j) (sym (has_bit-at fast place j lt)) on_before none on_after in
+    let three = word_bit-or (bit_or (get_or fast place 0) before) after j ∙
+    ap (λ (b : Bool). b || word_bit after j) (word_bit-or (get_or fast place 0) before j) in
+    let bits = held_bits fast words (WORD_BITS * place + j) by (word_bit (get_or fast place 0) j) (word_bit before j) (word_bit after j)
+    (sym (has_bit-at fast place j lt)) on_before none on_after in
     (λ h. bits.0 (sym three ∙ h), λ h. three ∙ bits.1 h)
 
 -- ---- a look at one word
@@ -87,15 +92,20 @@ module _ (holds : Holds) (cols : ℕ) (words : List ℕ) (place across along : �
         (let (two, by_along) = and_bit (bit_and (get_or words place 0) across) along (q % WORD_BITS) (sym (left_there q e) ∙ h) in
         let (old, by_across) = and_bit (get_or words place 0) across (q % WORD_BITS) two in (
           bit_there words q e ∙ old,
-          (subst (IsHeldBy holds.across 1 (squares_of words)) (number q e) ((on_across (q % WORD_BITS) (square_parts q).1).0 by_across), subst (IsHeldBy holds.along cols (squares_of words)) (number q e) ((on_along (q % WORD_BITS) (square_parts q).1).0 by_along)),
+          (
+            subst (IsHeldBy holds.across 1 (squares_of words)) (number q e) ((on_across (q % WORD_BITS) (square_parts q).1).0 by_across),
+            subst (IsHeldBy holds.along cols (squares_of words)) (number q e) ((on_along (q % WORD_BITS) (square_parts q).1).0 by_along),
+          ),
         )),
     λ (was, held).
         (let by_across = (on_across (q % WORD_BITS) (square_parts q).1).1 (subst (IsHeldBy holds.across 1 (squares_of words)) (sym (number q e)) held.0) in
         let by_along = (on_along (q % WORD_BITS) (square_parts q).1).1 (subst (IsHeldBy holds.along cols (squares_of words)) (sym (number q e)) held.1) in
-        left_there q e ∙ bit_and_from (bit_and (get_or words place 0) across) along (q % WORD_BITS) (bit_and_from (get_or words place 0) across (q % WORD_BITS) (sym (bit_there words q e) ∙ was) by_across) by_along),
+        left_there q e ∙ bit_and_from (bit_and (get_or words place 0) across) along (q % WORD_BITS)
+        (bit_and_from (get_or words place 0) across (q % WORD_BITS) (sym (bit_there words q e) ∙ was) by_across) by_along),
   )
 
-  kept_bits : (q : ℕ) → (has_bit (set words place left) q ≡ true) ↔ ((has_bit words q ≡ true) × (q / WORD_BITS ≡ place → IsHeldTwice holds cols (squares_of words) q))
+  kept_bits : (q : ℕ) → (has_bit (set words place left) q ≡ true) ↔
+      ((has_bit words q ≡ true) × (q / WORD_BITS ≡ place → IsHeldTwice holds cols (squares_of words) q))
   kept_bits q = elim (cases_eq (q / WORD_BITS) place) [
     | inl e ↦ (λ h. (let (was, blocked) = (stays q e).0 h in (was, λ _. blocked)), λ (was, blocked). (stays q e).1 (was, blocked e))
     | inr ne ↦ (λ h. (sym (left_other q ne) ∙ h, λ e. absurd (ne e)), λ (was, _). left_other q ne ∙ was)
@@ -155,17 +165,27 @@ looked_empty holds cols words place none = record {
 }
   where
     empty : (q : ℕ) → q / WORD_BITS ≡ place → has_bit words q ≡ false
-    empty q e = has_bit-parts words q ∙ (ap (λ (k : ℕ). word_bit (get_or words k 0) (q % WORD_BITS)) e ∙ (ap (λ (w : ℕ). word_bit w (q % WORD_BITS)) none ∙ word_bit-zero (q % WORD_BITS)))
+    empty q e = has_bit-parts words q ∙
+        (ap (λ (k : ℕ). word_bit (get_or words k 0) (q % WORD_BITS)) e ∙ (ap (λ (w : ℕ). word_bit w (q % WORD_BITS)) none ∙ word_bit-zero (q % WORD_BITS)))
 
 -- a look takes no member out that a set within the members blocks
-look_within : (holds : Holds) (cols : ℕ) (place : ℕ) (old new : List ℕ) (went : Bool) → IsLook holds cols place old new went → AreWithin (squares_of new) (squares_of old)
+look_within : (holds : Holds) (cols : ℕ) (place : ℕ) (old new : List ℕ) (went : Bool) → IsLook holds cols place old new went →
+    AreWithin (squares_of new) (squares_of old)
 look_within holds cols place old new went look q h = bit_member old q ((look.kept q).0 (member_bit new q h)).0
 
-look_keeps : (holds : Holds) (cols : ℕ) (place : ℕ) (old new : List ℕ) (went : Bool) → IsLook holds cols place old new went → (others : Squares) → AreHeld holds cols others → AreWithin others (squares_of old) → AreWithin others (squares_of new)
+look_keeps : (holds : Holds) (cols : ℕ) (place : ℕ) (old new : List ℕ) (went : Bool) → IsLook holds cols place old new went → (others : Squares) →
+    AreHeld holds cols others → AreWithin others (squares_of old) → AreWithin others (squares_of new)
 look_keeps holds cols place old new went look others blocked within q h =
-    bit_member new q ((look.kept q).1 (member_bit old q (within q h), λ _. (held_by_more holds.across 1 others (squares_of old) q within (blocked q h).0, held_by_more holds.along cols others (squares_of old) q within (blocked q h).1)))
+    bit_member new q ((look.kept q).1 (
+      member_bit old q (within q h),
+      λ _. (
+        held_by_more holds.across 1 others (squares_of old) q within (blocked q h).0,
+        held_by_more holds.along cols others (squares_of old) q within (blocked q h).1,
+      ),
+    ))
 
-pass_one_more : (holds : Holds) (cols : ℕ) (place : ℕ) (seen more : ℕ → Type 0) (old now new : List ℕ) (went gone both : Bool) → ((k : ℕ) → more k → (k ≡ place) ⊎ seen k) → both ≡ (went || gone)
+pass_one_more : (holds : Holds) (cols : ℕ) (place : ℕ) (seen more : ℕ → Type 0) (old now new : List ℕ) (went gone both : Bool) →
+    ((k : ℕ) → more k → (k ≡ place) ⊎ seen k) → both ≡ (went || gone)
     → IsLook holds cols place now new gone → IsPassOver holds cols seen old now went → IsPassOver holds cols more old new both
 pass_one_more holds cols place seen more old now new went gone both last e look pass = subst (IsPassOver holds cols more old new) (sym e) (record {
   within = λ q h. pass.within q (look_within holds cols place now new gone look q h);
@@ -177,7 +197,8 @@ pass_one_more holds cols place seen more old now new went gone both last e look 
       let start : now ≡ old = pass.same a in
       let end : new ≡ now = look.same b in
       elim (last (q / WORD_BITS) there) [
-        | inl at ↦ subst (λ (ws : List ℕ). IsHeldTwice holds cols (squares_of ws) q) start (((look.kept q).0 (ap (λ (ws : List ℕ). has_bit ws q) (end ∙ start) ∙ h)).1 at)
+        | inl at ↦ subst (λ (ws : List ℕ). IsHeldTwice holds cols (squares_of ws) q) start
+            (((look.kept q).0 (ap (λ (ws : List ℕ). has_bit ws q) (end ∙ start) ∙ h)).1 at)
         | inr before ↦ pass.held a q before h
       ]);
 })
@@ -186,13 +207,15 @@ pass_one_more holds cols place seen more old now new went gone both last e look 
     neither true b h = absurd (true≢false h)
     neither false b h = (refl, h)
 
-    less : (a b : Bool) → (a ≡ true → weight now < weight old) → (a ≡ false → now ≡ old) → (b ≡ true → weight new < weight now) → (b ≡ false → new ≡ now) → (a || b) ≡ true → weight new < weight old
+    less : (a b : Bool) → (a ≡ true → weight now < weight old) → (a ≡ false → now ≡ old) → (b ≡ true → weight new < weight now) → (b ≡ false → new ≡ now) →
+        (a || b) ≡ true → weight new < weight old
     less true true f g h i _ = (let x = f refl in let y = h refl in omega (arith, x, y))
     less true false f g h i _ = subst (λ (ws : List ℕ). weight ws < weight old) (sym (i refl)) (f refl)
     less false true f g h i _ = subst (λ (ws : List ℕ). weight new < weight ws) (g refl) (h refl)
     less false false f g h i none = absurd (false≢true none)
 
-pass_over_all : (holds : Holds) (cols : ℕ) (seen : ℕ → Type 0) (old now : List ℕ) (went : Bool) → ((q : ℕ) → has_bit old q ≡ true → seen (q / WORD_BITS)) → IsPassOver holds cols seen old now went → IsPass holds cols old now went
+pass_over_all : (holds : Holds) (cols : ℕ) (seen : ℕ → Type 0) (old now : List ℕ) (went : Bool) → ((q : ℕ) → has_bit old q ≡ true → seen (q / WORD_BITS)) →
+    IsPassOver holds cols seen old now went → IsPass holds cols old now went
 pass_over_all holds cols seen old now went all pass = record {
   within = pass.within;
   keeps = pass.keeps;
@@ -202,9 +225,11 @@ pass_over_all holds cols seen old now went all pass = record {
 }
 
 -- word by word
-pub pass_more : (holds : Holds) (cols : ℕ) (place : ℕ) (old now new : List ℕ) (went gone both : Bool) → both ≡ (went || gone) → IsLook holds cols place now new gone → IsPassOver holds cols (IsBefore place) old now went
+pub pass_more : (holds : Holds) (cols : ℕ) (place : ℕ) (old now new : List ℕ) (went gone both : Bool) → both ≡ (went || gone) →
+    IsLook holds cols place now new gone → IsPassOver holds cols (IsBefore place) old now went
     → IsPassOver holds cols (IsBefore (place + 1)) old new both
-pass_more holds cols place old now new went gone both e look pass = pass_one_more holds cols place (IsBefore place) (IsBefore (place + 1)) old now new went gone both last e look pass
+pass_more holds cols place old now new went gone both e look pass =
+    pass_one_more holds cols place (IsBefore place) (IsBefore (place + 1)) old now new went gone both last e look pass
   where
     last : (k : ℕ) → k < place + 1 → (k ≡ place) ⊎ (k < place)
     last k lt = elim (cases_eq k place) [
@@ -212,13 +237,17 @@ pass_more holds cols place old now new went gone both e look pass = pass_one_mor
       | inr ne ↦ inr (omega (arith, lt, ne))
     ]
 
-pub pass_done : (holds : Holds) (cols : ℕ) (place : ℕ) (old now : List ℕ) (went : Bool) → length old ≤ place → IsPassOver holds cols (IsBefore place) old now went → IsPass holds cols old now went
-pass_done holds cols place old now went all pass = pass_over_all holds cols (IsBefore place) old now went (λ q h. (let lt = has_bit_inside old q h in omega (arith, lt, all))) pass
+pub pass_done : (holds : Holds) (cols : ℕ) (place : ℕ) (old now : List ℕ) (went : Bool) → length old ≤ place →
+    IsPassOver holds cols (IsBefore place) old now went → IsPass holds cols old now went
+pass_done holds cols place old now went all pass =
+    pass_over_all holds cols (IsBefore place) old now went (λ q h. (let lt = has_bit_inside old q h in omega (arith, lt, all))) pass
 
 -- box by box
-pub pass_box : (holds : Holds) (cols : ℕ) (boxes : Squares) (n square : ℕ) (old now new : List ℕ) (went gone both : Bool) → square ≡ get_or boxes n 0 → both ≡ (went || gone) → IsLook holds cols (square / WORD_BITS) now new gone
+pub pass_box : (holds : Holds) (cols : ℕ) (boxes : Squares) (n square : ℕ) (old now new : List ℕ) (went gone both : Bool) → square ≡ get_or boxes n 0 →
+    both ≡ (went || gone) → IsLook holds cols (square / WORD_BITS) now new gone
     → IsPassOver holds cols (IsPlaceOf boxes n) old now went → IsPassOver holds cols (IsPlaceOf boxes (n + 1)) old new both
-pass_box holds cols boxes n square old now new went gone both at e look pass = pass_one_more holds cols (square / WORD_BITS) (IsPlaceOf boxes n) (IsPlaceOf boxes (n + 1)) old now new went gone both last e look pass
+pass_box holds cols boxes n square old now new went gone both at e look pass =
+    pass_one_more holds cols (square / WORD_BITS) (IsPlaceOf boxes n) (IsPlaceOf boxes (n + 1)) old now new went gone both last e look pass
   where
     last : (k : ℕ) → IsPlaceOf boxes (n + 1) k → (k ≡ square / WORD_BITS) ⊎ IsPlaceOf boxes n k
     last k (i, lt, f) = elim (cases_eq i n) [
@@ -226,7 +255,8 @@ pass_box holds cols boxes n square old now new went gone both at e look pass = p
       | inr ne ↦ inr (i, omega (arith, lt, ne), f)
     ]
 
-pub pass_boxes : (holds : Holds) (cols : ℕ) (boxes : Squares) (n : ℕ) (old now : List ℕ) (went : Bool) → length boxes ≤ n → AreWithin (squares_of old) boxes → IsPassOver holds cols (IsPlaceOf boxes n) old now went → IsPass holds cols old now went
+pub pass_boxes : (holds : Holds) (cols : ℕ) (boxes : Squares) (n : ℕ) (old now : List ℕ) (went : Bool) → length boxes ≤ n → AreWithin (squares_of old) boxes →
+    IsPassOver holds cols (IsPlaceOf boxes n) old now went → IsPass holds cols old now went
 pass_boxes holds cols boxes n old now went all among pass = pass_over_all holds cols (IsPlaceOf boxes n) old now went there pass
   where
     there : (q : ℕ) → has_bit old q ≡ true → IsPlaceOf boxes n (q / WORD_BITS)
@@ -242,41 +272,51 @@ pub record IsPeeling (holds : Holds) (cols : ℕ) (boxes members : Squares) : Ty
 pub peeling_none : (holds : Holds) (cols : ℕ) (boxes : Squares) → IsPeeling holds cols boxes boxes
 peeling_none holds cols boxes = record { some = λ q h. h; largest = λ others within held. within }
 
-pub peeling_pass : (holds : Holds) (cols : ℕ) (boxes : Squares) (old new : List ℕ) (went : Bool) → IsPass holds cols old new went → IsPeeling holds cols boxes (squares_of old) → IsPeeling holds cols boxes (squares_of new)
+pub peeling_pass : (holds : Holds) (cols : ℕ) (boxes : Squares) (old new : List ℕ) (went : Bool) → IsPass holds cols old new went →
+    IsPeeling holds cols boxes (squares_of old) → IsPeeling holds cols boxes (squares_of new)
 peeling_pass holds cols boxes old new went pass p = record {
   some = λ q h. p.some q (pass.within q h);
   largest = λ others within held. pass.keeps others held (p.largest others within held);
 }
 
-pub peeling_done : (holds : Holds) (cols : ℕ) (boxes : Squares) (old new : List ℕ) (went : Bool) → went ≡ false → IsPass holds cols old new went → IsPeeling holds cols boxes (squares_of old) → IsLargest holds cols boxes (squares_of new)
+pub peeling_done : (holds : Holds) (cols : ℕ) (boxes : Squares) (old new : List ℕ) (went : Bool) → went ≡ false → IsPass holds cols old new went →
+    IsPeeling holds cols boxes (squares_of old) → IsLargest holds cols boxes (squares_of new)
 peeling_done holds cols boxes old new went none pass p =
     let q = peeling_pass holds cols boxes old new went pass p in
     record { some = q.some; held = pass.held none; largest = q.largest }
 
 -- ---- members that are not in another set
 
-pub other_there : (members others : List ℕ) (place : ℕ) → get_or members place 0 < 2 ^ 64 → get_or others place 0 < 2 ^ 64 → bit_and (get_or members place 0) (bit_not w64 (get_or others place 0)) ≢ 0 → (q : ℕ) × (has_bit members q ≡ true) × (has_bit others q ≡ false)
+pub other_there : (members others : List ℕ) (place : ℕ) → get_or members place 0 < 2 ^ 64 → get_or others place 0 < 2 ^ 64 →
+    bit_and (get_or members place 0) (bit_not w64 (get_or others place 0)) ≢ 0 → (q : ℕ) × (has_bit members q ≡ true) × (has_bit others q ≡ false)
 other_there members others place fits others_fit some =
     let rest : ℕ = bit_and (get_or members place 0) (bit_not w64 (get_or others place 0)) in
     let few = and_le_l (get_or members place 0) (bit_not w64 (get_or others place 0)) in
     let low = lowest_bit rest (omega (arith, some)) (omega (arith, few, fits)) in
     let j : ℕ = trailing_zeros w64 rest in
-    let (here, off) = and_bit (get_or members place 0) (bit_not w64 (get_or others place 0)) j low.1 in
-    (WORD_BITS * place + j, has_bit-at members place j low.0 ∙ here, has_bit-at others place j low.0 ∙ not-true (word_bit (get_or others place 0) j) (sym (word_bit-not (get_or others place 0) j others_fit low.0) ∙ off))
+    let (here, off) = and_bit (get_or members place 0) (bit_not w64 (get_or others place 0)) j low.1 in (
+      WORD_BITS * place + j,
+      has_bit-at members place j low.0 ∙ here,
+      has_bit-at others place j low.0 ∙
+          not-true (word_bit (get_or others place 0) j) (sym (word_bit-not (get_or others place 0) j others_fit low.0) ∙ off),
+    )
 
 -- where no word tells of one, there is none
-pub other_nowhere : (members others : List ℕ) (n q : ℕ) → length members ≤ n → ((k : ℕ) → get_or others k 0 < 2 ^ 64) → ((k : ℕ) → k < n → bit_and (get_or members k 0) (bit_not w64 (get_or others k 0)) ≡ 0) → has_bit members q ≡ true → has_bit others q ≡ false → ⊥
+pub other_nowhere : (members others : List ℕ) (n q : ℕ) → length members ≤ n → ((k : ℕ) → get_or others k 0 < 2 ^ 64) →
+    ((k : ℕ) → k < n → bit_and (get_or members k 0) (bit_not w64 (get_or others k 0)) ≡ 0) → has_bit members q ≡ true → has_bit others q ≡ false → ⊥
 other_nowhere members others n q all fit none here off =
     let k : ℕ = q / WORD_BITS in
     let j : ℕ = q % WORD_BITS in
     let small : j < WORD_BITS = (square_parts q).1 in
     let lt = has_bit_inside members q here in
     let rest = none k (omega (arith, lt, all)) in
-    let there = bit_and_from (get_or members k 0) (bit_not w64 (get_or others k 0)) j (sym (has_bit-parts members q) ∙ here) (word_bit-not (get_or others k 0) j (fit k) small ∙ not_from_false (word_bit (get_or others k 0) j) (sym (has_bit-parts others q) ∙ off)) in
+    let there = bit_and_from (get_or members k 0) (bit_not w64 (get_or others k 0)) j (sym (has_bit-parts members q) ∙
+    here) (word_bit-not (get_or others k 0) j (fit k) small ∙ not_from_false (word_bit (get_or others k 0) j) (sym (has_bit-parts others q) ∙ off)) in
     true≢false (sym there ∙ (ap (λ (w : ℕ). word_bit w j) rest ∙ word_bit-zero j))
 
 -- where all members are boxes, a look at the boxes tells of one
-pub other_box : (boxes : Squares) (members others : List ℕ) (told : Bool) → AreWithin (squares_of members) boxes → told ≡ list_any (λ q. has_bit members q && not (has_bit others q)) boxes
+pub other_box : (boxes : Squares) (members others : List ℕ) (told : Bool) → AreWithin (squares_of members) boxes →
+    told ≡ list_any (λ q. has_bit members q && not (has_bit others q)) boxes
     → IsTrue told ↔ ((q : ℕ) × (has_bit members q ≡ true) × (has_bit others q ≡ false))
 other_box boxes members others told among e = (
   λ h.
@@ -300,7 +340,8 @@ other_box boxes members others told among e = (
 
 -- some of the boxes are locked exactly where a member of the largest set that holds itself is none of the goals
 pub locked_by_bits : (holds : Holds) (cols : ℕ) (boxes : Squares) (members : List ℕ) (told : Bool) → IsLargest holds cols boxes (squares_of members)
-    → IsTrue told ↔ ((q : ℕ) × (has_bit members q ≡ true) × (has_bit holds.goals q ≡ false)) → IsTrue told ↔ ((part : Squares) × AreLocked holds cols boxes part)
+    → IsTrue told ↔ ((q : ℕ) × (has_bit members q ≡ true) × (has_bit holds.goals q ≡ false)) → IsTrue told ↔
+    ((part : Squares) × AreLocked holds cols boxes part)
 locked_by_bits holds cols boxes members told largest tells = (
   λ h. (let (q, here, off) = tells.0 h in (squares_of members, record { some = largest.some; off = (q, bit_member members q here, off); held = largest.held })),
   λ (part, locked). (let (q, here, off) = locked.off in tells.1 (q, member_bit members q (largest.largest part locked.some locked.held q here), off)),
@@ -311,7 +352,8 @@ pub locked_among : (holds : Holds) (cols : ℕ) (few more part : Squares) → Ar
 locked_among holds cols few more part within locked = record { some = λ q h. within q (locked.some q h); off = locked.off; held = locked.held }
 
 -- where a set has just these boxes, what is locked of the one is locked of the others
-pub locked_of_words : (holds : Holds) (cols : ℕ) (boxes : Squares) (words : List ℕ) (told : Bool) → ((q : ℕ) → has_bit words q ≡ contains boxes q) → IsTrue told ↔ ((part : Squares) × AreLocked holds cols (squares_of words) part) → IsTrue told ↔ ((part : Squares) × AreLocked holds cols boxes part)
+pub locked_of_words : (holds : Holds) (cols : ℕ) (boxes : Squares) (words : List ℕ) (told : Bool) → ((q : ℕ) → has_bit words q ≡ contains boxes q) →
+    IsTrue told ↔ ((part : Squares) × AreLocked holds cols (squares_of words) part) → IsTrue told ↔ ((part : Squares) × AreLocked holds cols boxes part)
 locked_of_words holds cols boxes words told are tells = (
   λ h. (let (part, locked) = tells.0 h in (part, locked_among holds cols (squares_of words) boxes part (λ q m. sym (are q) ∙ member_bit words q m) locked)),
   λ (part, locked). tells.1 (part, locked_among holds cols boxes (squares_of words) part (λ q m. bit_member words q (are q ∙ m)) locked),

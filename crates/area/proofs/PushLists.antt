@@ -1,5 +1,6 @@
 -- How the list of the pushes that a flood allows grows, square by square and direction by direction.
-use Rattle.std.proofs.Common.{◌≡◌, ℕ, ◌+◌, ◌-◌, ◌*◌, ◌%◌, ◌^◌, ◌<◌, ◌≤◌, ◌↔◌, Bool, true, false, not, eqb, ltb, cond, ◌&&◌, ◌||◌, List, [], ◌∷◌, ◌++◌, length, inl, inr, refl, sym, ap, subst, ◌∙◌, arith}
+use Rattle.std.proofs.Common.{◌≡◌, ℕ, ◌+◌, ◌-◌, ◌*◌, ◌%◌, ◌^◌, ◌<◌, ◌≤◌, ◌↔◌, Bool, true, false, not, eqb, ltb, cond, ◌&&◌, ◌||◌, List, [], ◌∷◌, ◌++◌, length}
+use Rattle.std.proofs.Common.{inl, inr, refl, sym, ap, subst, ◌∙◌, arith}
 use Rattle.std.specs.Int.{bit_not, w64}
 use Rattle.std.specs.Int.RustNames.{bit_and, bit_or}
 use Rattle.std.proofs.lemmas.Nat.{and_le_l}
@@ -58,23 +59,41 @@ dir_number-lt U = omega arith
 -- a push of a lesser square, or of the same one and in an earlier direction, comes first
 less_since_before : (p q : Push) → IsBefore q.square (dir_number q.dir) p → push_cmp p q ≡ Less
 less_since_before p q (inl lt) = ap (λ (o : Ordering). ordering_then o (dir_cmp p.dir q.dir)) (nat_cmp-less p.square q.square lt)
-less_since_before p q (inr (same, lt)) = ap (λ (o : Ordering). ordering_then o (dir_cmp p.dir q.dir)) (nat_cmp-same p.square q.square same) ∙ nat_cmp-less (dir_number p.dir) (dir_number q.dir) lt
+less_since_before p q (inr (same, lt)) = ap (λ (o : Ordering). ordering_then o (dir_cmp p.dir q.dir)) (nat_cmp-same p.square q.square same) ∙
+    nat_cmp-less (dir_number p.dir) (dir_number q.dir) lt
 
 module _ (board : Board) (reach : Reach) (square : ℕ) where
   -- past the last direction
   pub past_last : (ps : List Push) → AreAllowedBefore board reach square 4 ps → AreAllowedBefore board reach (square + 1) 0 ps
   past_last ps all = all_same _ _ ps all
       (λ p h. (h.0, elim h.1 [ inl lt ↦ inl (omega (arith, lt)) | inr e ↦ inl (omega (arith, e.0)) ]))
-      (λ p h. (h.0, elim h.1 [ inl less ↦ elim (cases_lt p.square square) [ inl lt ↦ inl lt | inr le ↦ inr (omega (arith, less, le), dir_number-lt p.dir) ] | inr e ↦ absurd (omega (arith, e.1)) ]))
+      (λ p h. (
+        h.0,
+        elim h.1 [
+          | inl less ↦
+              elim (cases_lt p.square square) [ inl lt ↦ inl lt | inr le ↦ inr (omega (arith, less, le), dir_number-lt p.dir) ]
+          | inr e ↦
+              absurd (omega (arith, e.1))
+        ],
+      ))
 
   -- past squares of which nothing is allowed
-  pub past_none : (ps : List Push) (to : ℕ) → square ≤ to → ((p : Push) → Allows board reach p → square ≤ p.square → p.square < to → ⊥) → AreAllowedBefore board reach square 0 ps → AreAllowedBefore board reach to 0 ps
+  pub past_none : (ps : List Push) (to : ℕ) → square ≤ to → ((p : Push) → Allows board reach p → square ≤ p.square → p.square < to → ⊥) →
+      AreAllowedBefore board reach square 0 ps → AreAllowedBefore board reach to 0 ps
   past_none ps to le none all = all_same _ _ ps all
       (λ p h. (h.0, elim h.1 [ inl lt ↦ inl (omega (arith, lt, le)) | inr e ↦ absurd (omega (arith, e.1)) ]))
-      (λ p h. (h.0, elim h.1 [ inl less ↦ elim (cases_lt p.square square) [ inl lt ↦ inl lt | inr ge ↦ absurd (none p h.0 ge less) ] | inr e ↦ absurd (omega (arith, e.1)) ]))
+      (λ p h. (
+        h.0,
+        elim h.1 [
+          | inl less ↦ elim (cases_lt p.square square) [ inl lt ↦ inl lt | inr ge ↦ absurd (none p h.0 ge less) ]
+          | inr e ↦
+              absurd (omega (arith, e.1))
+        ],
+      ))
 
   -- the push in the next direction can be made
-  pub before_more : (ps : List Push) (seen : ℕ) (d : Dir) → dir_number d ≡ seen → AreAllowedBefore board reach square seen ps → Allows board reach (record { square = square; dir = d }) → AreAllowedBefore board reach square (seen + 1) (ps ++ record { square = square; dir = d } ∷ [])
+  pub before_more : (ps : List Push) (seen : ℕ) (d : Dir) → dir_number d ≡ seen → AreAllowedBefore board reach square seen ps →
+      Allows board reach (record { square = square; dir = d }) → AreAllowedBefore board reach square (seen + 1) (ps ++ record { square = square; dir = d } ∷ [])
   before_more ps seen d at all can =
       let new : Push = record { square = square; dir = d } in
       all_push (λ p. Allows board reach p × IsBefore square seen p) (λ p. Allows board reach p × IsBefore square (seen + 1) p) ps new all
@@ -90,7 +109,8 @@ module _ (board : Board) (reach : Reach) (square : ℕ) where
       (λ p h. less_since_before p new (subst (λ (k : ℕ). IsBefore square k p) (sym at) h.1))
 
   -- and where it cannot, nothing is to be added
-  pub before_same : (ps : List Push) (seen : ℕ) (d : Dir) → dir_number d ≡ seen → AreAllowedBefore board reach square seen ps → ¬ (Allows board reach (record { square = square; dir = d })) → AreAllowedBefore board reach square (seen + 1) ps
+  pub before_same : (ps : List Push) (seen : ℕ) (d : Dir) → dir_number d ≡ seen → AreAllowedBefore board reach square seen ps →
+      ¬ (Allows board reach (record { square = square; dir = d })) → AreAllowedBefore board reach square (seen + 1) ps
   before_same ps seen d at all cannot = all_same _ _ ps all
       (λ p h. (h.0, elim h.1 [ inl lt ↦ inl lt | inr e ↦ inr (e.0, omega (arith, e.1)) ]))
       (λ p h. (
@@ -99,7 +119,8 @@ module _ (board : Board) (reach : Reach) (square : ℕ) where
           | inl lt ↦ inl lt
           | inr e ↦ elim (cases_lt (dir_number p.dir) seen) [
             | inl lt ↦ inr (e.0, lt)
-            | inr le ↦ absurd (let f = dir_same p.dir d (omega (arith, e.1, le, at)) in cannot (subst (Allows board reach) (λ i. record { square = e.0 i; dir = f i }) h.0))
+            | inr le ↦ absurd (let f = dir_same p.dir d (omega (arith, e.1, le, at)) in
+                cannot (subst (Allows board reach) (λ i. record { square = e.0 i; dir = f i }) h.0))
           ]
         ],
       ))
@@ -111,7 +132,8 @@ pub none_before : (board : Board) (reach : Reach) → AreAllowedBefore board rea
 none_before board reach = all_none _ (λ p h. elim h.1 [ inl lt ↦ omega (arith, lt) | inr e ↦ omega (arith, e.1) ])
 
 -- a flood of a position allows the pushes that the position does
-pub all_allowed : (board : Board) (n : Scene) (reach : Reach) (end : ℕ) (ps : List Push) → IsScene board n → reach.boxes ≡ n.boxes → IsAreaOf board n reach.reached → length board.cells ≤ end → AreAllowedBefore board reach end 0 ps → ArePushes board n ps
+pub all_allowed : (board : Board) (n : Scene) (reach : Reach) (end : ℕ) (ps : List Push) → IsScene board n → reach.boxes ≡ n.boxes →
+    IsAreaOf board n reach.reached → length board.cells ≤ end → AreAllowedBefore board reach end 0 ps → ArePushes board n ps
 all_allowed board n reach end ps scene same area long all = all_same _ _ ps all
     (λ p h. record {
       there = sym (ap (λ (b : Squares). contains b p.square) same) ∙ h.0.there;
@@ -151,8 +173,10 @@ below_more (x ∷ xs) a b le = let r = below_more xs a b le in let h = below_one
 pub below_step : (xs : Squares) (q : ℕ) → contains xs q ≡ true → count_below xs q + 1 ≤ count_below xs (q + 1)
 below_step [] q h = absurd (true≢false (sym h))
 below_step (x ∷ xs) q h = elim (cases_eq x q) [
-  | inl e ↦ (let r = below_more xs q (q + 1) (omega arith) in let out = le-ltb x q (omega (arith, e)) in let here = lt-ltb x (q + 1) (omega (arith, e)) in rw (out, here) omega (arith, r))
-  | inr ne ↦ (let r = below_step xs q (sym (ap (λ (b : Bool). b || contains xs q) (ne_eqb x q ne)) ∙ h) in let o = below_one x q (q + 1) (omega arith) in omega (arith, r, o))
+  | inl e ↦ (let r = below_more xs q (q + 1) (omega arith) in let out = le-ltb x q (omega (arith, e)) in let here = lt-ltb x (q + 1) (omega (arith, e)) in
+      rw (out, here) omega (arith, r))
+  | inr ne ↦ (let r = below_step xs q (sym (ap (λ (b : Bool). b || contains xs q) (ne_eqb x q ne)) ∙ h) in let o = below_one x q (q + 1) (omega arith) in
+      omega (arith, r, o))
 ]
 
 pub below_all : (xs : Squares) (q : ℕ) → count_below xs q ≤ length xs
@@ -200,16 +224,19 @@ pub record IsInWord (board : Board) (reach : Reach) (masks : PushMasks) (place l
   pub bound : length ps ≤ 4 * count_below reach.boxes (WORD_BITS * place + seen)
   pub rest : (j : ℕ) → j < WORD_BITS → (word_bit left j ≡ true) ↔ ((seen ≤ j) × (word_bit (union masks) j ≡ true))
 
-module _ (board : Board) (reach : Reach) (masks : PushMasks) (place : ℕ) (tells : (d : Dir) (j : ℕ) → j < WORD_BITS → (word_bit (push_word d masks) j ≡ true) ↔ IsPushable board reach.boxes reach.reached d (WORD_BITS * place + j)) where
+module _ (board : Board) (reach : Reach) (masks : PushMasks) (place : ℕ) (tells : (d : Dir) (j : ℕ) → j < WORD_BITS → (word_bit (push_word d masks) j ≡ true) ↔
+    IsPushable board reach.boxes reach.reached d (WORD_BITS * place + j)) where
   -- a bit for each push that is allowed in the word
-  has_push : (p : Push) → Allows board reach p → WORD_BITS * place ≤ p.square → p.square < WORD_BITS * (place + 1) → word_bit (union masks) (p.square - WORD_BITS * place) ≡ true
+  has_push : (p : Push) → Allows board reach p → WORD_BITS * place ≤ p.square → p.square < WORD_BITS * (place + 1) →
+      word_bit (union masks) (p.square - WORD_BITS * place) ≡ true
   has_push p can ge lt =
       let j : ℕ = p.square - WORD_BITS * place in
       let e : p.square ≡ WORD_BITS * place + j = omega arith in
       union_bit masks p.dir j ((tells p.dir j (omega arith)).1 (subst (λ (q : ℕ). IsPushable board reach.boxes reach.reached p.dir q) e can))
 
   -- at the first square
-  pub word_first : (left : ℕ) (ps : List Push) → left ≡ union masks → AreAllowedBefore board reach (WORD_BITS * place) 0 ps → length ps ≤ 4 * count_below reach.boxes (WORD_BITS * place) → IsInWord board reach masks place left ps
+  pub word_first : (left : ℕ) (ps : List Push) → left ≡ union masks → AreAllowedBefore board reach (WORD_BITS * place) 0 ps →
+      length ps ≤ 4 * count_below reach.boxes (WORD_BITS * place) → IsInWord board reach masks place left ps
   word_first left ps same before bound =
       let start : WORD_BITS * place ≡ WORD_BITS * place + 0 = omega arith in
       record {
@@ -252,7 +279,8 @@ module _ (board : Board) (reach : Reach) (masks : PushMasks) (place : ℕ) (tell
           omega (arith, more, step, all, bound, few)
 
       -- with the pushes of that box
-      pub word_more : (rest : ℕ) (qs : List Push) → AreAllowedBefore board reach (WORD_BITS * place + t + 1) 0 qs → length qs ≤ length ps + 4 → ((j : ℕ) → j < WORD_BITS → word_bit rest j ≡ (word_bit left j && not (eqb t j))) → IsInWord board reach masks place rest qs
+      pub word_more : (rest : ℕ) (qs : List Push) → AreAllowedBefore board reach (WORD_BITS * place + t + 1) 0 qs → length qs ≤ length ps + 4 →
+          ((j : ℕ) → j < WORD_BITS → word_bit rest j ≡ (word_bit left j && not (eqb t j))) → IsInWord board reach masks place rest qs
       word_more rest qs before longer bits =
           let le = not_seen in
           let more = below_more reach.boxes (WORD_BITS * place + now.seen) (WORD_BITS * place + t) (omega (arith, le)) in
@@ -274,7 +302,9 @@ module _ (board : Board) (reach : Reach) (masks : PushMasks) (place : ℕ) (tell
                     ],
                     ((now.rest j lt).0 p.0).1,
                   )),
-              λ h. (let far = h.0 in bits j lt ∙ and_from (word_bit left j) (not (eqb t j)) ((now.rest j lt).1 (omega (arith, far, le), h.1)) (ap not (ne_eqb t j (λ e. omega (arith, e, far))))),
+              λ h. (let far = h.0 in bits j lt ∙
+                  and_from (word_bit left j) (not (eqb t j)) ((now.rest j lt).1 (omega (arith, far, le), h.1))
+                  (ap not (ne_eqb t j (λ e. omega (arith, e, far))))),
             );
           }
 

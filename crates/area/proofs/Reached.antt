@@ -14,13 +14,16 @@ use Rattle.area.specs.inside.Spread.{IsSpread}
 abbrev pub scene_at : Squares → ℕ → Scene
 scene_at boxes q = record { boxes = boxes; player = q }
 
-module _ (board : Board) (boxes : Squares) (base from : ℕ) (mark : ℕ → ℕ) (sp : IsSpread board base from mark) (bl : (q : ℕ) → (contains boxes q ≡ true → mark q ≡ base) × (contains boxes q ≡ false → mark q ≢ base)) where
+module _ (board : Board) (boxes : Squares) (base from : ℕ) (mark : ℕ → ℕ) (sp : IsSpread board base from mark) (bl : (q : ℕ) →
+    (contains boxes q ≡ true → mark q ≡ base) × (contains boxes q ≡ false → mark q ≢ base)) where
   -- a step from a reached square is to a reached square, with one step more at most
-  pub reached_step : (q : ℕ) (d : Dir) → base < mark q → IsFree board boxes (next board q d) → (base < mark (next board q d)) × (mark (next board q d) ≤ suc (mark q))
+  pub reached_step : (q : ℕ) (d : Dir) → base < mark q → IsFree board boxes (next board q d) → (base < mark (next board q d)) ×
+      (mark (next board q d) ≤ suc (mark q))
   reached_step q d lt free = sp.closed q lt d free.0 ((bl (next board q d)).1 free.1)
 
   -- a walk from a reached square ends on a reached square, with no more steps than the walk has
-  pub reached_along : {s t : Scene} {ds : List Dir} → s.boxes ≡ boxes → base < mark s.player → Play board Any s ds [] t → (base < mark t.player) × (mark t.player ≤ mark s.player + length ds)
+  pub reached_along : {s t : Scene} {ds : List Dir} → s.boxes ≡ boxes → base < mark s.player → Play board Any s ds [] t → (base < mark t.player) ×
+      (mark t.player ≤ mark s.player + length ds)
   reached_along same lt (stay o) = (lt, omega arith)
   reached_along {s = s} {t = t} same lt (walk {m = m} {d = d} {ds = ds} o h p) =
       let n : ℕ = next board s.player d in
@@ -44,7 +47,8 @@ module _ (board : Board) (boxes : Squares) (base from : ℕ) (mark : ℕ → ℕ
   )
 
   -- whence a walk leads to the start of the search is reached, with no more steps than the walk has
-  pub walk_home : {s t : Scene} {ds : List Dir} → s.boxes ≡ boxes → t.player ≡ from → IsScene board s → Play board Any s ds [] t → (base < mark s.player) × (mark s.player ≤ suc base + length ds)
+  pub walk_home : {s t : Scene} {ds : List Dir} → s.boxes ≡ boxes → t.player ≡ from → IsScene board s → Play board Any s ds [] t → (base < mark s.player) ×
+      (mark s.player ≤ suc base + length ds)
   walk_home {s = s} {t = t} {ds = ds} same at scene p =
       let r = walk_backwards scene p in
       let e : mark t.player ≡ suc base = ap mark at ∙ sp.start in

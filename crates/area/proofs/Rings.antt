@@ -1,5 +1,6 @@
 -- The squares round one: which of them are the same, and how one comes round by them.
-use Rattle.std.proofs.Common.{◌≡◌, ◌≢◌, ℕ, zero, suc, ◌+◌, ◌-◌, ◌%◌, ◌<◌, ◌≤◌, Bool, true, false, ◌⊎◌, eqb, ltb, cond, length, inl, inr, refl, sym, ap, subst, ◌∙◌, arith}
+use Rattle.std.proofs.Common.{◌≡◌, ◌≢◌, ℕ, zero, suc, ◌+◌, ◌-◌, ◌%◌, ◌<◌, ◌≤◌, Bool, true, false, ◌⊎◌, eqb, ltb, cond, length, inl, inr, refl, sym, ap, subst}
+use Rattle.std.proofs.Common.{◌∙◌, arith}
 use Rattle.std.proofs.Math.Nat.{zero-mod, add-mod_right}
 use Rattle.std.proofs.lemmas.Bool.{eqb-false, ltb-false, lt-ltb, le-ltb, true≢false}
 use Rattle.grid.specs.declared.dir.Dir.{Dir}
@@ -120,7 +121,8 @@ turned : (board : Board) (d e : Dir) → IsApart board d e → IsApart board e d
 turned board d e apart q f g same = apart q g f (sym same)
 
 pub next_apart : (board : Board) → 1 ≤ board.cols → (d e : Dir) → IsAcross d e → IsApart board d e
-next_apart board columns = crossed (IsApart board) down_left down_right (turned board D L down_left) (turned board U L up_left) (turned board D R down_right) (turned board U R up_right) up_left up_right
+next_apart board columns = crossed (IsApart board) down_left down_right (turned board D L down_left) (turned board U L up_left) (turned board D R down_right)
+    (turned board U R up_right) up_left up_right
   where
     down_left : IsApart board D L
     down_left q f g e = let a = down_is board q f in let b = (left_is board q g).1 in omega (arith, columns, e, a, b)
@@ -144,7 +146,8 @@ next_apart board columns = crossed (IsApart board) down_left down_right (turned 
 
 -- one comes to the same square by a step in one direction and one across, in either order
 abbrev pub IsCorner : Board → Dir → Dir → Type 0
-IsCorner board d e = (q : ℕ) → next board q d < length board.cells → next board q e < length board.cells → next board (next board q d) e < length board.cells → next board (next board q e) d ≡ next board (next board q d) e
+IsCorner board d e = (q : ℕ) → next board q d < length board.cells → next board q e < length board.cells → next board (next board q d) e < length board.cells →
+    next board (next board q e) d ≡ next board (next board q d) e
 
 pub next_corner : (board : Board) → (d e : Dir) → IsAcross d e → IsCorner board d e
 next_corner board = crossed (IsCorner board) down_left down_right left_down left_up right_down right_up up_left up_right
@@ -212,11 +215,14 @@ next_corner board = crossed (IsCorner board) down_left down_right left_down left
 -- ---- the way round the square ahead
 
 -- from the square `q` one looks at `c`, the next in the direction `d`, and goes round it on the side `e`
-module _ (board : Board) (set : Squares) (columns : 1 ≤ board.cols) (within : (x : ℕ) → contains set x ≡ true → x < length board.cells) (q c : ℕ) (d e : Dir) (inside : q < length board.cells) (ahead : c ≡ next board q d) (ahead_inside : c < length board.cells) (side : IsAcross d e) where
+module _ (board : Board) (set : Squares) (columns : 1 ≤ board.cols) (within : (x : ℕ) → contains set x ≡ true →
+    x < length board.cells) (q c : ℕ) (d e : Dir) (inside : q < length board.cells) (ahead : c ≡ next board q d) (ahead_inside : c < length board.cells) (side :
+    IsAcross d e) where
   -- back from the square ahead
   pub back_joined : IsJoined board set c q (opposite d)
   back_joined there =
-      let e : next board c (opposite d) ≡ q = ap (λ (x : ℕ). next board x (opposite d)) ahead ∙ next_back_inside board q d inside (subst (λ (x : ℕ). x < length board.cells) ahead ahead_inside) in
+      let e : next board c (opposite d) ≡ q = ap (λ (x : ℕ). next board x (opposite d)) ahead ∙
+      next_back_inside board q d inside (subst (λ (x : ℕ). x < length board.cells) ahead ahead_inside) in
       subst (λ (x : ℕ). Skirts board set c q x) (sym e) here
 
   -- to the square on that side of it
@@ -224,33 +230,44 @@ module _ (board : Board) (set : Squares) (columns : 1 ≤ board.cols) (within : 
   side_joined first there =
       let a : next board q d < length board.cells = subst (λ (x : ℕ). x < length board.cells) ahead ahead_inside in
       let corner : next board (next board q e) d ≡ next board c e =
-      next_corner board d e side q a (within _ first) (subst (λ (x : ℕ). next board x e < length board.cells) ahead (within _ there)) ∙ sym (ap (λ (x : ℕ). next board x e) ahead) in
+      next_corner board d e side q a (within _ first) (subst (λ (x : ℕ). next board x e < length board.cells) ahead (within _ there)) ∙
+      sym (ap (λ (x : ℕ). next board x e) ahead) in
       let one = skirt_on board set c q q (next board q e) e here refl first (λ f. next_apart board columns d e side q a (within _ first) (sym ahead ∙ sym f)) in
       skirt_on board set c q (next board q e) (next board c e) d one (sym corner) there (next_other board c e columns (within _ there))
 
   -- to the square beyond it
-  pub beyond_joined : contains set (next board q e) ≡ true → contains set (next board c e) ≡ true → contains set (next board (next board c e) d) ≡ true → IsJoined board set c q d
+  pub beyond_joined : contains set (next board q e) ≡ true → contains set (next board c e) ≡ true → contains set (next board (next board c e) d) ≡ true →
+      IsJoined board set c q d
   beyond_joined first second third there =
       let two = side_joined first second in
       let home : next board (next board c e) (opposite e) ≡ c = next_back_inside board c e ahead_inside (within _ second) in
       let three = skirt_on board set c q (next board c e) (next board (next board c e) d) d two refl third (λ f.
-      next_apart board columns d (opposite e) (across_back d e side) (next board c e) (within _ third) (subst (λ (x : ℕ). x < length board.cells) (sym home) ahead_inside) (f ∙ sym home)) in
-      let corner : next board (next board c d) e ≡ next board (next board c e) d = next_corner board e d (across_each d e side) c (within _ second) (within _ there) (within _ third) in
+      next_apart board columns d (opposite e) (across_back d e side) (next board c e) (within _ third)
+      (subst (λ (x : ℕ). x < length board.cells) (sym home) ahead_inside) (f ∙ sym home)) in
+      let corner : next board (next board c d) e ≡ next board (next board c e) d =
+      next_corner board e d (across_each d e side) c (within _ second) (within _ there) (within _ third) in
       let back : next board (next board (next board c e) d) (opposite e) ≡ next board c d =
-      sym (ap (λ (x : ℕ). next board x (opposite e)) corner) ∙ next_back_inside board (next board c d) e (within _ there) (subst (λ (x : ℕ). x < length board.cells) (sym corner) (within _ third)) in
-      skirt_on board set c q (next board (next board c e) d) (next board c d) (opposite e) three (sym back) there (next_other board c d columns (within _ there))
+      sym (ap (λ (x : ℕ). next board x (opposite e)) corner) ∙
+      next_back_inside board (next board c d) e (within _ there) (subst (λ (x : ℕ). x < length board.cells) (sym corner) (within _ third)) in
+      skirt_on board set c q (next board (next board c e) d) (next board c d) (opposite e) three (sym back) there
+      (next_other board c d columns (within _ there))
 
   -- to the square on its other side
-  pub round_joined : Skirts board set c q (next board c d) → contains set (next board c d) ≡ true → contains set (next board (next board c d) (opposite e)) ≡ true → IsJoined board set c q (opposite e)
+  pub round_joined : Skirts board set c q (next board c d) → contains set (next board c d) ≡ true → contains set (next board (next board c d) (opposite e)) ≡
+      true → IsJoined board set c q (opposite e)
   round_joined far fourth fifth there =
       let home : next board (next board c d) (opposite d) ≡ c = next_back_inside board c d ahead_inside (within _ fourth) in
       let around = across_each (opposite e) (opposite d) (across_back (opposite e) d (across_each d (opposite e) (across_back d e side))) in
       let five = skirt_on board set c q (next board c d) (next board (next board c d) (opposite e)) (opposite e) far refl fifth (λ f.
-      next_apart board columns (opposite d) (opposite e) around (next board c d) (subst (λ (x : ℕ). x < length board.cells) (sym home) ahead_inside) (within _ fifth) (home ∙ sym f)) in
-      let corner : next board (next board c (opposite e)) d ≡ next board (next board c d) (opposite e) = next_corner board d (opposite e) (across_back d e side) c (within _ fourth) (within _ there) (within _ fifth) in
+      next_apart board columns (opposite d) (opposite e) around (next board c d) (subst (λ (x : ℕ). x < length board.cells) (sym home) ahead_inside)
+      (within _ fifth) (home ∙ sym f)) in
+      let corner : next board (next board c (opposite e)) d ≡ next board (next board c d) (opposite e) =
+      next_corner board d (opposite e) (across_back d e side) c (within _ fourth) (within _ there) (within _ fifth) in
       let back : next board (next board (next board c d) (opposite e)) (opposite d) ≡ next board c (opposite e) =
-      sym (ap (λ (x : ℕ). next board x (opposite d)) corner) ∙ next_back_inside board (next board c (opposite e)) d (within _ there) (subst (λ (x : ℕ). x < length board.cells) (sym corner) (within _ fifth)) in
-      skirt_on board set c q (next board (next board c d) (opposite e)) (next board c (opposite e)) (opposite d) five (sym back) there (next_other board c (opposite e) columns (within _ there))
+      sym (ap (λ (x : ℕ). next board x (opposite d)) corner) ∙
+      next_back_inside board (next board c (opposite e)) d (within _ there) (subst (λ (x : ℕ). x < length board.cells) (sym corner) (within _ fifth)) in
+      skirt_on board set c q (next board (next board c d) (opposite e)) (next board c (opposite e)) (opposite d) five (sym back) there
+      (next_other board c (opposite e) columns (within _ there))
 
   -- past it on that side
   pub past_joined : GoesPast board set q c d e → IsJoined board set c q d
@@ -260,7 +277,8 @@ module _ (board : Board) (set : Squares) (columns : 1 ≤ board.cols) (within : 
   pub round_all_joined : GoesRound board set q c d e → (x : Dir) → IsJoined board set c q x
   round_all_joined round =
       let far = past_joined round.past in
-      all_across (λ x. IsJoined board set c q x) d e side far back_joined (side_joined round.past.first) (round_joined (far round.beyond) round.beyond round.fifth)
+      all_across (λ x. IsJoined board set c q x) d e side far back_joined (side_joined round.past.first)
+      (round_joined (far round.beyond) round.beyond round.fifth)
 
   -- the square on that side, where it is of the set
   pub either_joined : (contains set (next board q e) ≡ true) ⊎ (contains set (next board c e) ≡ false) → IsJoined board set c q e
@@ -268,7 +286,9 @@ module _ (board : Board) (set : Squares) (columns : 1 ≤ board.cols) (within : 
   either_joined (inr not_there) there = absurd (true≢false (sym there ∙ not_there))
 
 -- where the squares on both sides are joined, and one goes past on one of them to the square beyond, all are
-pub sides_all_joined : (board : Board) (set : Squares) (columns : 1 ≤ board.cols) (within : (x : ℕ) → contains set x ≡ true → x < length board.cells) (q c : ℕ) (d e : Dir) (inside : q < length board.cells) (ahead : c ≡ next board q d) (ahead_inside : c < length board.cells) (side : IsAcross d e)
+pub sides_all_joined : (board : Board) (set : Squares) (columns : 1 ≤ board.cols) (within : (x : ℕ) → contains set x ≡ true →
+    x < length board.cells) (q c : ℕ) (d e : Dir) (inside : q < length board.cells) (ahead : c ≡ next board q d) (ahead_inside : c < length board.cells) (side :
+    IsAcross d e)
     → (contains set (next board q e) ≡ true) ⊎ (contains set (next board c e) ≡ false)
     → (contains set (next board q (opposite e)) ≡ true) ⊎ (contains set (next board c (opposite e)) ≡ false)
     → (contains set (next board c d) ≡ false) ⊎ (GoesPast board set q c d e ⊎ GoesPast board set q c d (opposite e))

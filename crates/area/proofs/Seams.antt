@@ -9,7 +9,8 @@ pub written : (new rest : List ℕ) (len : ℕ) → len ≡ length new → take 
 written new rest len e = ap (λ (n : ℕ). take n (new ++ rest)) e ∙ take-append_seam new rest
 
 -- so is the item read at a place
-pub read_written : (new rest : List ℕ) (len place at item : ℕ) → len ≡ length new → place < len → item ≡ get_or (take len (new ++ rest)) place item → place ≡ at → item ≡ get_or new at 0
+pub read_written : (new rest : List ℕ) (len place at item : ℕ) → len ≡ length new → place < len → item ≡ get_or (take len (new ++ rest)) place item →
+    place ≡ at → item ≡ get_or new at 0
 read_written new rest len place at item e lt is same =
     let w = written new rest len e in
     let few = ap length w in

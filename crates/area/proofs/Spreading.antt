@@ -38,7 +38,8 @@ more_dirs seen d e at lt = elim (cases_lt (dir_number e) seen) [
   | inr more ↦ inr (dir_same d e (omega arith))
 ]
 
-module _ (board : Board) (base from : ℕ) (mark place : ℕ → ℕ) (head seen tail : ℕ) (d : Dir) (n : ℕ) (s : IsSpreading board base from mark place head seen tail) (here : head < tail) (at : dir_number d ≡ seen) (is : next board (place head) d ≡ n) where
+module _ (board : Board) (base from : ℕ) (mark place : ℕ → ℕ) (head seen tail : ℕ) (d : Dir) (n : ℕ) (s : IsSpreading board base from mark place head seen tail)
+    (here : head < tail) (at : dir_number d ≡ seen) (is : next board (place head) d ≡ n) where
   -- a wall, a box or a square that was reached before: nothing changes
   pub skipped : (is_wall board n ≡ false → base ≤ mark n) → IsSpreading board base from mark place head (suc seen) tail
   skipped old = record {
@@ -69,7 +70,8 @@ module _ (board : Board) (base from : ℕ) (mark place : ℕ → ℕ) (head seen
       closed : IsClosed board base mark (place head) d
       closed = subst (λ (x : ℕ). is_wall board x ≡ false → mark x ≢ base → (base < mark x) × (mark x ≤ suc (mark (place head)))) (sym is) closed_at
 
-  module _ (mark' place' : ℕ → ℕ) (clear : is_wall board n ≡ false) (new : mark n < base) (set : mark' n ≡ suc (mark (place head))) (kept : (q : ℕ) → q ≢ n → mark' q ≡ mark q) (put : place' tail ≡ n) (stays : (i : ℕ) → i < tail → place' i ≡ place i) where
+  module _ (mark' place' : ℕ → ℕ) (clear : is_wall board n ≡ false) (new : mark n < base) (set : mark' n ≡ suc (mark (place head))) (kept : (q : ℕ) → q ≢ n →
+      mark' q ≡ mark q) (put : place' tail ≡ n) (stays : (i : ℕ) → i < tail → place' i ≡ place i) where
     apart : (q : ℕ) → base < mark q → q ≢ n
     apart q lt e = let f : mark q ≡ mark n = ap mark e in absurd (omega arith)
 
@@ -150,33 +152,41 @@ module _ (board : Board) (base from : ℕ) (mark place : ℕ → ℕ) (head seen
       ];
       queued = λ i lt. elim (more i lt) [
         | inl less ↦ (let e : mark' (place' i) ≡ mark (place i) = old_place i less in let h : base < mark (place i) = s.queued i less in omega arith)
-        | inr at_end ↦ (let e : mark' (place' i) ≡ suc (mark (place head)) = ap (λ x. mark' (place' x)) at_end ∙ new_place in let h : base < mark (place head) = above in omega arith)
+        | inr at_end ↦ (let e : mark' (place' i) ≡ suc (mark (place head)) = ap (λ x. mark' (place' x)) at_end ∙ new_place in
+            let h : base < mark (place head) = above in omega arith)
       ];
       bound = λ i lt. elim (more i lt) [
         | inl less ↦ (let e : mark' (place' i) ≡ mark (place i) = old_place i less in let h : mark (place i) ≤ suc base + i = s.bound i less in omega arith)
-        | inr at_end ↦ (let e : mark' (place' i) ≡ suc (mark (place head)) = ap (λ x. mark' (place' x)) at_end ∙ new_place in let h : mark (place head) ≤ suc base + head = s.bound head here in omega arith)
+        | inr at_end ↦ (let e : mark' (place' i) ≡ suc (mark (place head)) = ap (λ x. mark' (place' x)) at_end ∙ new_place in
+            let h : mark (place head) ≤ suc base + head = s.bound head here in omega arith)
       ];
       sorted = λ i j le lt. elim (more j lt) [
-        | inl less ↦ (let e : mark' (place' i) ≡ mark (place i) = old_place i (omega arith) in let f : mark' (place' j) ≡ mark (place j) = old_place j less in let h : mark (place i) ≤ mark (place j) = s.sorted i j le less in omega arith)
+        | inl less ↦ (let e : mark' (place' i) ≡ mark (place i) = old_place i (omega arith) in let f : mark' (place' j) ≡ mark (place j) = old_place j less in
+            let h : mark (place i) ≤ mark (place j) = s.sorted i j le less in omega arith)
         | inr at_end ↦ (let f : mark' (place' j) ≡ suc (mark (place head)) = ap (λ x. mark' (place' x)) at_end ∙ new_place in
             elim (more i (omega arith)) [
-              | inl less ↦ (let e : mark' (place' i) ≡ mark (place i) = old_place i less in let h : mark (place i) ≤ suc (mark (place head)) = s.close head i (omega arith) here less in omega arith)
+              | inl less ↦ (let e : mark' (place' i) ≡ mark (place i) = old_place i less in
+                  let h : mark (place i) ≤ suc (mark (place head)) = s.close head i (omega arith) here less in omega arith)
               | inr too ↦ (let e : mark' (place' i) ≡ suc (mark (place head)) = ap (λ x. mark' (place' x)) too ∙ new_place in omega arith)
             ])
       ];
       close = λ i j low lt lt'. elim (more i lt) [
         | inl less ↦ (let e : mark' (place' i) ≡ mark (place i) = old_place i less in
             elim (more j lt') [
-              | inl less' ↦ (let f : mark' (place' j) ≡ mark (place j) = old_place j less' in let h : mark (place j) ≤ suc (mark (place i)) = s.close i j low less less' in omega arith)
-              | inr at_end ↦ (let f : mark' (place' j) ≡ suc (mark (place head)) = ap (λ x. mark' (place' x)) at_end ∙ new_place in let h : mark (place head) ≤ mark (place i) = s.sorted head i low less in omega arith)
+              | inl less' ↦ (let f : mark' (place' j) ≡ mark (place j) = old_place j less' in
+                  let h : mark (place j) ≤ suc (mark (place i)) = s.close i j low less less' in omega arith)
+              | inr at_end ↦ (let f : mark' (place' j) ≡ suc (mark (place head)) = ap (λ x. mark' (place' x)) at_end ∙ new_place in
+                  let h : mark (place head) ≤ mark (place i) = s.sorted head i low less in omega arith)
             ])
         | inr too ↦ (let e : mark' (place' i) ≡ suc (mark (place head)) = ap (λ x. mark' (place' x)) too ∙ new_place in
             elim (more j lt') [
-              | inl less' ↦ (let f : mark' (place' j) ≡ mark (place j) = old_place j less' in let h : mark (place j) ≤ suc (mark (place head)) = s.close head j (omega arith) here less' in omega arith)
+              | inl less' ↦ (let f : mark' (place' j) ≡ mark (place j) = old_place j less' in
+                  let h : mark (place j) ≤ suc (mark (place head)) = s.close head j (omega arith) here less' in omega arith)
               | inr at_end ↦ (let f : mark' (place' j) ≡ suc (mark (place head)) = ap (λ x. mark' (place' x)) at_end ∙ new_place in omega arith)
             ])
       ];
-      done = λ i before lt e. subst (λ (x : ℕ). IsClosed board base mark' x e) (sym (stays i (omega arith))) (keeps (place i) e (s.queued i (omega arith)) (s.done i before (omega arith) e));
+      done = λ i before lt e. subst (λ (x : ℕ). IsClosed board base mark' x e) (sym (stays i (omega arith)))
+          (keeps (place i) e (s.queued i (omega arith)) (s.done i before (omega arith) e));
       now = λ e lt. elim (more_dirs seen d e at lt) [
         | inl less ↦ subst (λ (x : ℕ). IsClosed board base mark' x e) (sym (stays head here)) (keeps (place head) e above (s.now e less))
         | inr same ↦ subst (λ (x : Dir). IsClosed board base mark' (place' head) x) same closed
@@ -192,13 +202,16 @@ module _ (board : Board) (base from : ℕ) (mark place : ℕ → ℕ) (head seen
             (omega arith, omega arith)
 
         closed_here : IsClosed board base mark' (place head) d
-        closed_here = subst (λ (x : ℕ). is_wall board x ≡ false → mark' x ≢ base → (base < mark' x) × (mark' x ≤ suc (mark' (place head)))) (sym is) (subst (λ (x : ℕ). is_wall board n ≡ false → mark' n ≢ base → (base < mark' n) × (mark' n ≤ suc (mark' x))) (stays head here) closed_at)
+        closed_here = subst (λ (x : ℕ). is_wall board x ≡ false → mark' x ≢ base → (base < mark' x) ×
+            (mark' x ≤ suc (mark' (place head)))) (sym is) (subst (λ (x : ℕ). is_wall board n ≡ false → mark' n ≢ base → (base < mark' n) ×
+            (mark' n ≤ suc (mark' x))) (stays head here) closed_at)
 
         closed : IsClosed board base mark' (place' head) d
         closed = subst (λ (x : ℕ). IsClosed board base mark' x d) (sym (stays head here)) closed_here
 
 -- what stands past the queue's end is of no account
-pub past_end : (board : Board) (base from : ℕ) (mark place place' : ℕ → ℕ) (head seen tail : ℕ) → IsSpreading board base from mark place head seen tail → head < tail → ((i : ℕ) → i < tail → place' i ≡ place i) → IsSpreading board base from mark place' head seen tail
+pub past_end : (board : Board) (base from : ℕ) (mark place place' : ℕ → ℕ) (head seen tail : ℕ) → IsSpreading board base from mark place head seen tail →
+    head < tail → ((i : ℕ) → i < tail → place' i ≡ place i) → IsSpreading board base from mark place' head seen tail
 past_end board base from mark place place' head seen tail s here stays = record {
   start = s.start;
   free = s.free;
@@ -220,7 +233,8 @@ past_end board base from mark place place' head seen tail s here stays = record 
 }
 
 -- the square at the head was looked round from: the next is at the head
-pub turned : (board : Board) (base from : ℕ) (mark place : ℕ → ℕ) (head tail : ℕ) → IsSpreading board base from mark place head 4 tail → head < tail → IsSpreading board base from mark place (suc head) 0 tail
+pub turned : (board : Board) (base from : ℕ) (mark place : ℕ → ℕ) (head tail : ℕ) → IsSpreading board base from mark place head 4 tail → head < tail →
+    IsSpreading board base from mark place (suc head) 0 tail
 turned board base from mark place head tail s here = record {
   start = s.start;
   free = s.free;
@@ -239,7 +253,8 @@ turned board base from mark place head tail s here = record {
 }
 
 -- once every square of the queue was looked round from, the search is done
-pub finished : (board : Board) (base from : ℕ) (mark place : ℕ → ℕ) (head tail : ℕ) → IsSpreading board base from mark place head 0 tail → tail ≤ head → IsSpread board base from mark
+pub finished : (board : Board) (base from : ℕ) (mark place : ℕ → ℕ) (head tail : ℕ) → IsSpreading board base from mark place head 0 tail → tail ≤ head →
+    IsSpread board base from mark
 finished board base from mark place head tail s all = record {
   start = s.start;
   free = s.free;

@@ -1,5 +1,6 @@
 -- What one look at a square does to the marks and the queue.
-use Rattle.std.proofs.Common.{◌≡◌, ◌≢◌, ℕ, suc, ◌+◌, ◌<◌, ◌≤◌, Bool, true, false, cond, ltb, inl, inr, List, [], ◌∷◌, length, get_or, set, refl, sym, ap, subst, ◌∙◌, arith}
+use Rattle.std.proofs.Common.{◌≡◌, ◌≢◌, ℕ, suc, ◌+◌, ◌<◌, ◌≤◌, Bool, true, false, cond, ltb, inl, inr, List, [], ◌∷◌, length, get_or, set, refl, sym, ap, subst}
+use Rattle.std.proofs.Common.{◌∙◌, arith}
 use Rattle.std.specs.List.{sum_by}
 use Rattle.std.proofs.lemmas.Bool.{cases_eq, cases_lt, ltb-true, ltb-false, lt-ltb, le-ltb, false≢true, true≢false}
 use Rattle.std.proofs.lemmas.List.{get_or_past, get_or-set_same, get_or-set_other, set-get_or, length-set}
@@ -33,7 +34,8 @@ pub is_new-false : (board : Board) (base : ℕ) (marks : List ℕ) (n : ℕ) →
 is_new-false board base marks n h e = ltb-false (get_or marks n 0) base (old_parts (is_wall board n) (ltb (get_or marks n 0) base) h e)
 
 -- a mark that reaches `base` makes one square less that was not come upon
-pub untouched-set : (base : ℕ) (marks : List ℕ) (n v : ℕ) → n < length marks → get_or marks n 0 < base → base ≤ v → suc (untouched base (set marks n v)) ≡ untouched base marks
+pub untouched-set : (base : ℕ) (marks : List ℕ) (n v : ℕ) → n < length marks → get_or marks n 0 < base → base ≤ v →
+    suc (untouched base (set marks n v)) ≡ untouched base marks
 untouched-set base marks n v lt low high =
     let f : ℕ → ℕ = λ m. cond (ltb m base) 1 0 in
     let e : f (get_or marks n 0) ≡ 1 = rw (lt-ltb (get_or marks n 0) base low) refl in
@@ -89,12 +91,15 @@ pub record IsLooked (board : Board) (base from : ℕ) (old marks queue : List �
   pub at : get_or queue head 0 ≡ square
   pub marked : suc (get_or marks square 0) ≡ mark
 
-looked_at : (new : Bool) (board : Board) (base from : ℕ) (old marks queue : List ℕ) (head seen tail square mark : ℕ) (d : Dir) (n : ℕ) → IsLooked board base from old marks queue head seen tail square mark → dir_number d ≡ seen → next board square d ≡ n → is_new board base marks n ≡ new → IsLooked board base from old (cond new (set marks n mark) marks) (cond new (set queue tail n) queue) head (suc seen) (cond new (tail + 1) tail) square mark
+looked_at : (new : Bool) (board : Board) (base from : ℕ) (old marks queue : List ℕ) (head seen tail square mark : ℕ) (d : Dir) (n : ℕ) →
+    IsLooked board base from old marks queue head seen tail square mark → dir_number d ≡ seen → next board square d ≡ n → is_new board base marks n ≡ new →
+    IsLooked board base from old (cond new (set marks n mark) marks) (cond new (set queue tail n) queue) head (suc seen) (cond new (tail + 1) tail) square mark
 looked_at false board base from old marks queue head seen tail square mark d n k at is new = record {
   under = record {
     room = k.under.room;
     places = k.under.places;
-    spreading = skipped board base from (λ q. get_or marks q 0) (λ i. get_or queue i 0) head seen tail d n k.under.spreading k.here at (ap (λ x. next board x d) k.at ∙ is) (is_new-false board base marks n new);
+    spreading = skipped board base from (λ q. get_or marks q 0) (λ i. get_or queue i 0) head seen tail d n k.under.spreading k.here at
+        (ap (λ x. next board x d) k.at ∙ is) (is_new-false board base marks n new);
     count = k.under.count;
     blocked = k.under.blocked;
   };
@@ -120,7 +125,8 @@ looked_at true board base from old marks queue head seen tail square mark d n k 
       under = record {
         room = length-set marks n mark ∙ u.room;
         places = length-set queue tail n ∙ u.places;
-        spreading = subst (λ (t : ℕ). IsSpreading board base from (λ q. get_or (set marks n mark) q 0) (λ i. get_or (set queue tail n) i 0) head (suc seen) t) (sym one_more)
+        spreading = subst (λ (t : ℕ). IsSpreading board base from (λ q. get_or (set marks n mark) q 0) (λ i. get_or (set queue tail n) i 0) head (suc seen) t)
+            (sym one_more)
             (visited board base from (λ q. get_or marks q 0) (λ i. get_or queue i 0) head seen tail d n u.spreading here at (ap (λ x. next board x d) k.at ∙ is)
             (λ q. get_or (set marks n mark) q 0) (λ i. get_or (set queue tail n) i 0) p.0 low
             (let f : get_or (set marks n mark) n 0 ≡ suc (get_or marks (get_or queue head 0) 0) = omega arith in f)
@@ -143,11 +149,16 @@ looked_at true board base from old marks queue head seen tail square mark d n k 
     }
 
 -- one look, whatever it finds
-pub looked : (board : Board) (base from : ℕ) (old marks queue : List ℕ) (head seen tail square mark : ℕ) (d : Dir) (n tail' : ℕ) (marks' queue' : List ℕ) → IsLooked board base from old marks queue head seen tail square mark → dir_number d ≡ seen → n ≡ next board square d → tail' ≡ cond (is_new board base marks n) (tail + 1) tail → marks' ≡ cond (is_new board base marks n) (set marks n mark) marks → queue' ≡ cond (is_new board base marks n) (set queue tail n) queue → IsLooked board base from old marks' queue' head (suc seen) tail' square mark
+pub looked : (board : Board) (base from : ℕ) (old marks queue : List ℕ) (head seen tail square mark : ℕ) (d : Dir) (n tail' : ℕ) (marks' queue' : List ℕ) →
+    IsLooked board base from old marks queue head seen tail square mark → dir_number d ≡ seen → n ≡ next board square d →
+    tail' ≡ cond (is_new board base marks n) (tail + 1) tail → marks' ≡ cond (is_new board base marks n) (set marks n mark) marks →
+    queue' ≡ cond (is_new board base marks n) (set queue tail n) queue → IsLooked board base from old marks' queue' head (suc seen) tail' square mark
 looked board base from old marks queue head seen tail square mark d n tail' marks' queue' k at is te me qe =
     let r = looked_at (is_new board base marks n) board base from old marks queue head seen tail square mark d n k at (sym is) refl in
-    let r1 = subst (λ (x : ℕ). IsLooked board base from old (cond (is_new board base marks n) (set marks n mark) marks) (cond (is_new board base marks n) (set queue tail n) queue) head (suc seen) x square mark) (sym te) r in
-    let r2 = subst (λ (x : List ℕ). IsLooked board base from old x (cond (is_new board base marks n) (set queue tail n) queue) head (suc seen) tail' square mark) (sym me) r1 in
+    let r1 = subst (λ (x : ℕ). IsLooked board base from old (cond (is_new board base marks n) (set marks n mark) marks)
+    (cond (is_new board base marks n) (set queue tail n) queue) head (suc seen) x square mark) (sym te) r in
+    let r2 = subst (λ (x : List ℕ). IsLooked board base from old x (cond (is_new board base marks n) (set queue tail n) queue) head
+    (suc seen) tail' square mark) (sym me) r1 in
     subst (λ (x : List ℕ). IsLooked board base from old marks' x head (suc seen) tail' square mark) (sym qe) r2
 
 -- a way leads to the next square where that is no wall, and else nowhere
@@ -166,22 +177,31 @@ way_inside board q d lt = go (is_wall board (next board q d)) refl
     go false e = let f : way board q d ≡ next board q d = way_open board q d e in let g = inside_grid board (next board q d) e in omega (arith, f, g)
 
 -- the square that is looked round from has a mark
-marked_square : (board : Board) (base from : ℕ) (old marks queue : List ℕ) (head seen tail square mark : ℕ) → IsLooked board base from old marks queue head seen tail square mark → base < get_or marks square 0
+marked_square : (board : Board) (base from : ℕ) (old marks queue : List ℕ) (head seen tail square mark : ℕ) →
+    IsLooked board base from old marks queue head seen tail square mark → base < get_or marks square 0
 marked_square board base from old marks queue head seen tail square mark k =
     subst (λ (x : ℕ). base < get_or marks x 0) k.at (k.under.spreading.queued head k.here)
 
 -- one look along a way does what a look at the next square does: a way that a wall bars leads to a square with a mark
-looked_along : (wall : Bool) (board : Board) (base from : ℕ) (old marks queue : List ℕ) (head seen tail square mark : ℕ) (d : Dir) (n tail' : ℕ) (marks' queue' : List ℕ) → is_wall board (next board square d) ≡ wall → IsLooked board base from old marks queue head seen tail square mark → dir_number d ≡ seen → n ≡ way board square d → tail' ≡ cond (ltb (get_or marks n 0) base) (tail + 1) tail → marks' ≡ cond (ltb (get_or marks n 0) base) (set marks n mark) marks → queue' ≡ cond (ltb (get_or marks n 0) base) (set queue tail n) queue → IsLooked board base from old marks' queue' head (suc seen) tail' square mark
+looked_along : (wall : Bool) (board : Board) (base from : ℕ) (old marks queue : List ℕ) (head seen tail square mark : ℕ) (d : Dir) (n tail' : ℕ)
+    (marks' queue' : List ℕ) → is_wall board (next board square d) ≡ wall → IsLooked board base from old marks queue head seen tail square mark →
+    dir_number d ≡ seen → n ≡ way board square d → tail' ≡ cond (ltb (get_or marks n 0) base) (tail + 1) tail →
+    marks' ≡ cond (ltb (get_or marks n 0) base) (set marks n mark) marks → queue' ≡ cond (ltb (get_or marks n 0) base) (set queue tail n) queue →
+    IsLooked board base from old marks' queue' head (suc seen) tail' square mark
 looked_along false board base from old marks queue head seen tail square mark d n tail' marks' queue' clear k at is te me qe =
     let to : n ≡ next board square d = is ∙ way_open board square d clear in
-    let same : is_new board base marks n ≡ ltb (get_or marks n 0) base = ap (λ (w : Bool). cond w false (ltb (get_or marks n 0) base)) (ap (is_wall board) to ∙ clear) in
-    looked board base from old marks queue head seen tail square mark d n tail' marks' queue' k at to (te ∙ ap (λ (b : Bool). cond b (tail + 1) tail) (sym same)) (me ∙ ap (λ (b : Bool). cond b (set marks n mark) marks) (sym same)) (qe ∙ ap (λ (b : Bool). cond b (set queue tail n) queue) (sym same))
+    let same : is_new board base marks n ≡ ltb (get_or marks n 0) base = ap (λ (w : Bool). cond w false (ltb (get_or marks n 0) base)) (ap (is_wall board) to ∙
+    clear) in
+    looked board base from old marks queue head seen tail square mark d n tail' marks' queue' k at to (te ∙
+    ap (λ (b : Bool). cond b (tail + 1) tail) (sym same)) (me ∙ ap (λ (b : Bool). cond b (set marks n mark) marks) (sym same)) (qe ∙
+    ap (λ (b : Bool). cond b (set queue tail n) queue) (sym same))
 looked_along true board base from old marks queue head seen tail square mark d n tail' marks' queue' barred k at is te me qe =
     let here : n ≡ square = is ∙ way_barred board square d barred in
     let m = marked_square board base from old marks queue head seen tail square mark k in
     let high : base < get_or marks n 0 = subst (λ (x : ℕ). base < get_or marks x 0) (sym here) m in
     let no : ltb (get_or marks n 0) base ≡ false = le-ltb (get_or marks n 0) base (omega (arith, high)) in
-    let old_news : is_new board base marks (next board square d) ≡ false = ap (λ (w : Bool). cond w false (ltb (get_or marks (next board square d) 0) base)) barred in
+    let old_news : is_new board base marks (next board square d) ≡ false =
+    ap (λ (w : Bool). cond w false (ltb (get_or marks (next board square d) 0) base)) barred in
     let x : ℕ = next board square d in
     looked board base from old marks queue head seen tail square mark d x tail' marks' queue' k at refl
     (te ∙ (ap (λ (b : Bool). cond b (tail + 1) tail) no ∙ sym (ap (λ (b : Bool). cond b (tail + 1) tail) old_news)))
@@ -189,7 +209,8 @@ looked_along true board base from old marks queue head seen tail square mark d n
     (qe ∙ (ap (λ (b : Bool). cond b (set queue tail n) queue) no ∙ sym (ap (λ (b : Bool). cond b (set queue tail x) queue) old_news)))
 
 -- along a way there is a place for a mark, and room in the queue where the square is new
-pub way_has_mark : (board : Board) (base from : ℕ) (old marks queue : List ℕ) (head seen tail square mark : ℕ) (d : Dir) (n : ℕ) → IsLooked board base from old marks queue head seen tail square mark → n ≡ way board square d → n < length marks
+pub way_has_mark : (board : Board) (base from : ℕ) (old marks queue : List ℕ) (head seen tail square mark : ℕ) (d : Dir) (n : ℕ) →
+    IsLooked board base from old marks queue head seen tail square mark → n ≡ way board square d → n < length marks
 way_has_mark board base from old marks queue head seen tail square mark d n k is =
     let q : get_or queue head 0 < length board.cells = queued_inside board base from old marks queue head seen tail k.under head k.here in
     let inside : square < length board.cells = subst (λ (x : ℕ). x < length board.cells) k.at q in
@@ -197,12 +218,15 @@ way_has_mark board base from old marks queue head seen tail square mark d n k is
     let r : length marks ≡ length board.cells = k.under.room in
     omega (arith, is, w, r)
 
-pub way_has_room : (board : Board) (base from : ℕ) (old marks queue : List ℕ) (head seen tail square mark : ℕ) (d : Dir) (n : ℕ) → IsLooked board base from old marks queue head seen tail square mark → n ≡ way board square d → get_or marks n 0 < base → tail < length queue
+pub way_has_room : (board : Board) (base from : ℕ) (old marks queue : List ℕ) (head seen tail square mark : ℕ) (d : Dir) (n : ℕ) →
+    IsLooked board base from old marks queue head seen tail square mark → n ≡ way board square d → get_or marks n 0 < base → tail < length queue
 way_has_room board base from old marks queue head seen tail square mark d n k is low =
     has_room board base from old marks queue head seen tail k.under n (way_has_mark board base from old marks queue head seen tail square mark d n k is) low
 
 -- what is written past the queue's end is of no account
-looked_past : (board : Board) (base from : ℕ) (old marks queue : List ℕ) (head seen tail square mark : ℕ) (queue' : List ℕ) → IsLooked board base from old marks queue head seen tail square mark → length queue' ≡ length queue → ((i : ℕ) → i < tail → get_or queue' i 0 ≡ get_or queue i 0) → IsLooked board base from old marks queue' head seen tail square mark
+looked_past : (board : Board) (base from : ℕ) (old marks queue : List ℕ) (head seen tail square mark : ℕ) (queue' : List ℕ) →
+    IsLooked board base from old marks queue head seen tail square mark → length queue' ≡ length queue →
+    ((i : ℕ) → i < tail → get_or queue' i 0 ≡ get_or queue i 0) → IsLooked board base from old marks queue' head seen tail square mark
 looked_past board base from old marks queue head seen tail square mark queue' k size stays = record {
   under = record {
     room = k.under.room;
@@ -225,7 +249,10 @@ put_stays : (fits : Bool) (queue : List ℕ) (tail n i : ℕ) → i < tail → g
 put_stays true queue tail n i lt = get_or-set_other queue tail i n 0 (λ e. omega arith)
 put_stays false queue tail n i lt = refl
 
-looked_way_at : (low : Bool) (board : Board) (base from : ℕ) (old marks queue : List ℕ) (head seen tail square mark : ℕ) (d : Dir) (n tail' : ℕ) (marks' queue' : List ℕ) → ltb (get_or marks n 0) base ≡ low → IsLooked board base from old marks queue head seen tail square mark → dir_number d ≡ seen → n ≡ way board square d → tail' ≡ cond low (tail + 1) tail → marks' ≡ set marks n (cond low mark (get_or marks n 0)) → queue' ≡ cond (ltb tail (length queue)) (set queue tail n) queue → IsLooked board base from old marks' queue' head (suc seen) tail' square mark
+looked_way_at : (low : Bool) (board : Board) (base from : ℕ) (old marks queue : List ℕ) (head seen tail square mark : ℕ) (d : Dir) (n tail' : ℕ)
+    (marks' queue' : List ℕ) → ltb (get_or marks n 0) base ≡ low → IsLooked board base from old marks queue head seen tail square mark → dir_number d ≡ seen →
+    n ≡ way board square d → tail' ≡ cond low (tail + 1) tail → marks' ≡ set marks n (cond low mark (get_or marks n 0)) →
+    queue' ≡ cond (ltb tail (length queue)) (set queue tail n) queue → IsLooked board base from old marks' queue' head (suc seen) tail' square mark
 looked_way_at true board base from old marks queue head seen tail square mark d n tail' marks' queue' new k at is te me qe =
     let room = way_has_room board base from old marks queue head seen tail square mark d n k is (ltb-true (get_or marks n 0) base new) in
     let fits : ltb tail (length queue) ≡ true = lt-ltb tail (length queue) room in
@@ -244,8 +271,12 @@ looked_way_at false board base from old marks queue head seen tail square mark d
     (λ i lt. ap (λ (xs : List ℕ). get_or xs i 0) qe ∙ put_stays fits queue tail n i (omega (arith, lt, same)))
 
 -- one look along a way, whatever it finds
-pub looked_way : (board : Board) (base from : ℕ) (old marks queue : List ℕ) (head seen tail square mark : ℕ) (d : Dir) (n tail' : ℕ) (marks' queue' : List ℕ) → IsLooked board base from old marks queue head seen tail square mark → dir_number d ≡ seen → n ≡ way board square d → tail' ≡ cond (ltb (get_or marks n 0) base) (tail + 1) tail → marks' ≡ set marks n (cond (ltb (get_or marks n 0) base) mark (get_or marks n 0)) → queue' ≡ cond (ltb tail (length queue)) (set queue tail n) queue → IsLooked board base from old marks' queue' head (suc seen) tail' square mark
-looked_way board base from old marks queue head seen tail square mark d n tail' marks' queue' k at is te me qe = looked_way_at (ltb (get_or marks n 0) base) board base from old marks queue head seen tail square mark d n tail' marks' queue' refl k at is te me qe
+pub looked_way : (board : Board) (base from : ℕ) (old marks queue : List ℕ) (head seen tail square mark : ℕ) (d : Dir) (n tail' : ℕ) (marks' queue' : List ℕ) →
+    IsLooked board base from old marks queue head seen tail square mark → dir_number d ≡ seen → n ≡ way board square d →
+    tail' ≡ cond (ltb (get_or marks n 0) base) (tail + 1) tail → marks' ≡ set marks n (cond (ltb (get_or marks n 0) base) mark (get_or marks n 0)) →
+    queue' ≡ cond (ltb tail (length queue)) (set queue tail n) queue → IsLooked board base from old marks' queue' head (suc seen) tail' square mark
+looked_way board base from old marks queue head seen tail square mark d n tail' marks' queue' k at is te me qe =
+    looked_way_at (ltb (get_or marks n 0) base) board base from old marks queue head seen tail square mark d n tail' marks' queue' refl k at is te me qe
 
 untouched_head : (low : Bool) (rest len : ℕ) → rest ≤ len → cond low 1 0 + rest ≤ suc len
 untouched_head true rest len le = omega arith
@@ -253,10 +284,13 @@ untouched_head false rest len le = omega arith
 
 pub untouched-le : (base : ℕ) (marks : List ℕ) → untouched base marks ≤ length marks
 untouched-le base [] = omega arith
-untouched-le base (m ∷ ms) = rw (sum_by-cons (λ (x : ℕ). cond (ltb x base) 1 0) m ms) (untouched_head (ltb m base) (untouched base ms) (length ms) (untouched-le base ms))
+untouched-le base (m ∷ ms) =
+    rw (sum_by-cons (λ (x : ℕ). cond (ltb x base) 1 0) m ms) (untouched_head (ltb m base) (untouched base ms) (length ms) (untouched-le base ms))
 
 -- a search as it begins: one square is reached, with no step, and stands in the queue
-pub started : (board : Board) (base from : ℕ) (marks queue : List ℕ) → length marks ≡ length board.cells → length queue ≡ length board.cells → ((q : ℕ) → get_or marks q 0 ≤ base) → is_wall board from ≡ false → get_or marks from 0 < base → IsUnderWay board base from marks (set marks from (base + 1)) (set queue 0 from) 0 0 1
+pub started : (board : Board) (base from : ℕ) (marks queue : List ℕ) → length marks ≡ length board.cells → length queue ≡ length board.cells →
+    ((q : ℕ) → get_or marks q 0 ≤ base) → is_wall board from ≡ false → get_or marks from 0 < base →
+    IsUnderWay board base from marks (set marks from (base + 1)) (set queue 0 from) 0 0 1
 started board base from marks queue room places fresh clear low =
     let inside : from < length marks = let g : from < length board.cells = inside_grid board from clear in omega arith in
     let some : 0 < length queue = omega arith in
@@ -269,7 +303,8 @@ started board base from marks queue room places fresh clear low =
       | inl e ↦ e
       | inr ne ↦ absurd (let f : mark q ≡ get_or marks q 0 = kept q ne in let g : get_or marks q 0 ≤ base = fresh q in omega arith)
     ] in
-    let mark_first : (i : ℕ) → i < 1 → mark (place i) ≡ base + 1 = λ i lt. (let z : i ≡ 0 = omega arith in ap (λ x. mark (place x)) z ∙ (ap mark first ∙ put)) in
+    let mark_first : (i : ℕ) → i < 1 → mark (place i) ≡ base + 1 = λ i lt. (let z : i ≡ 0 = omega arith in ap (λ x. mark (place x)) z ∙
+    (ap mark first ∙ put)) in
     record {
       room = length-set marks from (base + 1) ∙ room;
       places = length-set queue 0 from ∙ places;
@@ -280,7 +315,8 @@ started board base from marks queue room places fresh clear low =
         listed = λ q lt. (0, omega arith, first ∙ sym (only q lt));
         queued = λ i lt. (let e : mark (place i) ≡ base + 1 = mark_first i lt in omega arith);
         bound = λ i lt. (let e : mark (place i) ≡ base + 1 = mark_first i lt in omega arith);
-        sorted = λ i j le lt. (let e : mark (place i) ≡ base + 1 = mark_first i (omega arith) in let f : mark (place j) ≡ base + 1 = mark_first j lt in omega arith);
+        sorted = λ i j le lt. (let e : mark (place i) ≡ base + 1 = mark_first i (omega arith) in let f : mark (place j) ≡ base + 1 = mark_first j lt in
+            omega arith);
         close = λ i j low lt lt'. (let e : mark (place i) ≡ base + 1 = mark_first i lt in let f : mark (place j) ≡ base + 1 = mark_first j lt' in omega arith);
         done = λ i before lt e. absurd (omega arith);
         now = λ e lt. absurd (omega arith);
@@ -299,7 +335,8 @@ started board base from marks queue room places fresh clear low =
     }
 
 -- before the first look round from the square at the head
-pub begun : (board : Board) (base from : ℕ) (old marks queue : List ℕ) (head tail square x : ℕ) → IsUnderWay board base from old marks queue head 0 tail → head < tail → get_or queue head 0 ≡ square → x ≡ square → IsLooked board base from old marks queue head 0 tail square (get_or marks x 0 + 1)
+pub begun : (board : Board) (base from : ℕ) (old marks queue : List ℕ) (head tail square x : ℕ) → IsUnderWay board base from old marks queue head 0 tail →
+    head < tail → get_or queue head 0 ≡ square → x ≡ square → IsLooked board base from old marks queue head 0 tail square (get_or marks x 0 + 1)
 begun board base from old marks queue head tail square x u here at same = record {
   under = u;
   here = here;
@@ -308,7 +345,8 @@ begun board base from old marks queue head tail square x u here at same = record
 }
 
 -- after the last look
-pub passed : (board : Board) (base from : ℕ) (old marks queue : List ℕ) (head tail square mark : ℕ) → IsLooked board base from old marks queue head 4 tail square mark → IsUnderWay board base from old marks queue (head + 1) 0 tail
+pub passed : (board : Board) (base from : ℕ) (old marks queue : List ℕ) (head tail square mark : ℕ) →
+    IsLooked board base from old marks queue head 4 tail square mark → IsUnderWay board base from old marks queue (head + 1) 0 tail
 passed board base from old marks queue head tail square mark k =
     subst (λ (h : ℕ). IsUnderWay board base from old marks queue h 0 tail) (let e : suc head ≡ head + 1 = omega arith in e) (record {
       room = k.under.room;

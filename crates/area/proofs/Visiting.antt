@@ -1,5 +1,6 @@
 -- What a flood's visits to the words of a set do.
-use Rattle.std.proofs.Common.{◌≡◌, ◌≢◌, ℕ, ◌+◌, ◌-◌, ◌*◌, ◌/◌, ◌%◌, ◌^◌, ◌<◌, ◌≤◌, Bool, true, false, ◌||◌, ◌⊎◌, List, length, get_or, set, inl, inr, refl, sym, ap, subst, ◌∙◌, arith}
+use Rattle.std.proofs.Common.{◌≡◌, ◌≢◌, ℕ, ◌+◌, ◌-◌, ◌*◌, ◌/◌, ◌%◌, ◌^◌, ◌<◌, ◌≤◌, Bool, true, false, ◌||◌, ◌⊎◌, List, length, get_or, set, inl, inr, refl, sym}
+use Rattle.std.proofs.Common.{ap, subst, ◌∙◌, arith}
 use Rattle.std.specs.Int.{bit_not, w64}
 use Rattle.std.specs.Int.RustNames.{bit_and, bit_or}
 use Rattle.std.proofs.lemmas.Bool.{cases_lt, cases_eq, or_cases, not-true, not_from_false, and_parts, true≢false, false≢true}
@@ -50,7 +51,11 @@ module _ (m : StepMasks) where
   in_all_ways U j h = bit_or_right (bit_or (bit_or m.d m.l) m.r) m.u j h
 
 -- where a word has each square that a step could lead onto, its squares are settled
-pub full : (board : Board) (masks : List StepMasks) (boxes old : List ℕ) (place : ℕ) (e : StepMasks) → AreMasks board masks → place < length masks → get_or boxes place 0 < 2 ^ 64 → bit_or (get_or old place 0) (bit_and (bit_or (bit_or (bit_or (get_or masks place e).d (get_or masks place e).l) (get_or masks place e).r) (get_or masks place e).u) (bit_not w64 (get_or boxes place 0))) ≡ get_or old place 0 → IsSettling board boxes place old old false
+pub full : (board : Board) (masks : List StepMasks) (boxes old : List ℕ) (place : ℕ) (e : StepMasks) → AreMasks board masks → place < length masks →
+    get_or boxes place 0 < 2 ^ 64 →
+    bit_or (get_or old place 0)
+    (bit_and (bit_or (bit_or (bit_or (get_or masks place e).d (get_or masks place e).l) (get_or masks place e).r) (get_or masks place e).u)
+    (bit_not w64 (get_or boxes place 0))) ≡ get_or old place 0 → IsSettling board boxes place old old false
 full board masks boxes old place e are inside box_fits same = record {
   growing = growing_none board boxes old;
   others = λ k ne. refl;
@@ -63,12 +68,17 @@ full board masks boxes old place e are inside box_fits same = record {
       let w = came_one_way board old (WORD_BITS * place + j) entered in
       let can = (and_parts (can_enter board w.0 (WORD_BITS * place + j)) (has_bit old (next board (WORD_BITS * place + j) (opposite w.0))) w.1).0 in
       let masked : word_bit (word_for w.0 m) j ≡ true = mask_bit board masks w.0 place j e are inside inner ∙ can in
-      let free : word_bit open_bits j ≡ true = word_bit-not (get_or boxes place 0) j box_fits inner ∙ not_from_false (word_bit (get_or boxes place 0) j) (sym (has_bit-at boxes place j inner) ∙ clear) in
-      has_bit-at old place j inner ∙ (ap (λ (x : ℕ). word_bit x j) (sym same) ∙ bit_or_right (get_or old place 0) (bit_and any open_bits) j (bit_and_from any open_bits j (in_all_ways m w.0 j masked) free)));
+      let free : word_bit open_bits j ≡ true = word_bit-not (get_or boxes place 0) j box_fits inner ∙
+      not_from_false (word_bit (get_or boxes place 0) j) (sym (has_bit-at boxes place j inner) ∙ clear) in
+      has_bit-at old place j inner ∙
+      (ap (λ (x : ℕ). word_bit x j) (sym same) ∙
+      bit_or_right (get_or old place 0) (bit_and any open_bits) j (bit_and_from any open_bits j (in_all_ways m w.0 j masked) free)));
 }
 
-module _ (board : Board) (masks : List StepMasks) (boxes old : List ℕ) (place came : ℕ) (e : StepMasks) (are : AreMasks board masks) (inside : place < length masks) (room : length old ≡ length masks)
-    (box_fits : get_or boxes place 0 < 2 ^ 64) (old_fits : get_or old place 0 < 2 ^ 64) (bits : (j : ℕ) → j < WORD_BITS → word_bit came j ≡ is_entered board old (WORD_BITS * place + j)) where
+module _ (board : Board) (masks : List StepMasks) (boxes old : List ℕ) (place came : ℕ) (e : StepMasks) (are : AreMasks board masks)
+    (inside : place < length masks) (room : length old ≡ length masks)
+    (box_fits : get_or boxes place 0 < 2 ^ 64) (old_fits : get_or old place 0 < 2 ^ 64) (bits : (j : ℕ) → j < WORD_BITS →
+    word_bit came j ≡ is_entered board old (WORD_BITS * place + j)) where
   abbrev pub open_bits : ℕ
   open_bits = bit_not w64 (get_or boxes place 0)
 
@@ -83,7 +93,8 @@ module _ (board : Board) (masks : List StepMasks) (boxes old : List ℕ) (place 
   open_clear j lt h = has_bit-at boxes place j lt ∙ not-true (word_bit (get_or boxes place 0) j) (sym (word_bit-not (get_or boxes place 0) j box_fits lt) ∙ h)
 
   clear_open : (j : ℕ) → j < WORD_BITS → has_bit boxes (WORD_BITS * place + j) ≡ false → word_bit open_bits j ≡ true
-  clear_open j lt h = word_bit-not (get_or boxes place 0) j box_fits lt ∙ not_from_false (word_bit (get_or boxes place 0) j) (sym (has_bit-at boxes place j lt) ∙ h)
+  clear_open j lt h = word_bit-not (get_or boxes place 0) j box_fits lt ∙
+      not_from_false (word_bit (get_or boxes place 0) j) (sym (has_bit-at boxes place j lt) ∙ h)
 
   -- where a visit adds nothing to a word, its squares are settled
   pub still : first_bits ≡ get_or old place 0 → IsSettling board boxes place old old false
@@ -100,18 +111,22 @@ module _ (board : Board) (masks : List StepMasks) (boxes old : List ℕ) (place 
 
   module _ (test : ℕ → Bool) (keeps : IsKept board boxes test) where
     -- a direction's open mask bit passes the test on
-    passes : (d : Dir) (j : ℕ) → word_bit (bit_and (word_for d (get_or masks place e)) open_bits) j ≡ true → (j < WORD_BITS) × (can_enter board d (WORD_BITS * place + j) ≡ true) × (has_bit boxes (WORD_BITS * place + j) ≡ false)
+    passes : (d : Dir) (j : ℕ) → word_bit (bit_and (word_for d (get_or masks place e)) open_bits) j ≡ true → (j < WORD_BITS) ×
+        (can_enter board d (WORD_BITS * place + j) ≡ true) × (has_bit boxes (WORD_BITS * place + j) ≡ false)
     passes d j h =
         let p = and_bit (word_for d (get_or masks place e)) open_bits j h in
         let lt = word_bit_inside open_bits j open_fits p.1 in
         (lt, sym (mask_bit board masks d place j e are inside lt) ∙ p.0, open_clear j lt p.1)
 
-    onto : (d : Dir) (i j : ℕ) → word_bit (bit_and (word_for d (get_or masks place e)) open_bits) j ≡ true → (can_enter board d (WORD_BITS * place + j) ≡ true → next board (WORD_BITS * place + j) (opposite d) ≡ WORD_BITS * place + i) → test (WORD_BITS * place + i) ≡ true → test (WORD_BITS * place + j) ≡ true
+    onto : (d : Dir) (i j : ℕ) → word_bit (bit_and (word_for d (get_or masks place e)) open_bits) j ≡ true →
+        (can_enter board d (WORD_BITS * place + j) ≡ true → next board (WORD_BITS * place + j) (opposite d) ≡ WORD_BITS * place + i) →
+        test (WORD_BITS * place + i) ≡ true → test (WORD_BITS * place + j) ≡ true
     onto d i j h source start =
         let p = passes d j h in
         keeps d (WORD_BITS * place + j) p.2 p.1 (ap test (source p.1) ∙ start)
 
-    pub passes_on : PassesOn (λ j. test (WORD_BITS * place + j)) board.cols (bit_and (get_or masks place e).d open_bits) (bit_and (get_or masks place e).l open_bits) (bit_and (get_or masks place e).r open_bits) (bit_and (get_or masks place e).u open_bits)
+    pub passes_on : PassesOn (λ j. test (WORD_BITS * place + j)) board.cols (bit_and (get_or masks place e).d open_bits)
+        (bit_and (get_or masks place e).l open_bits) (bit_and (get_or masks place e).r open_bits) (bit_and (get_or masks place e).u open_bits)
     passes_on = record {
       on_right = λ i j step h start. onto R i j h (λ can. (let s = source_R board (WORD_BITS * place + j) can in omega arith)) start;
       on_left = λ i j step h start. onto L i j h (λ can. (let s = source_L board (WORD_BITS * place + j) can in omega arith)) start;
@@ -131,23 +146,32 @@ module _ (board : Board) (masks : List StepMasks) (boxes old : List ℕ) (place 
           keeps w.0 (WORD_BITS * place + j) (open_clear j lt p.1) parts.0 (all (next board (WORD_BITS * place + j) (opposite w.0)) parts.1))
     ]
 
-  module _ (filled by : ℕ) (fits : filled < 2 ^ 64) (cols : board.cols ≡ by) (grown : IsGrown first_bits filled (λ test. PassesOn test by (bit_and (get_or masks place e).d open_bits) (bit_and (get_or masks place e).l open_bits) (bit_and (get_or masks place e).r open_bits) (bit_and (get_or masks place e).u open_bits))) where
+  module _ (filled by : ℕ) (fits : filled < 2 ^ 64) (cols : board.cols ≡ by)
+      (grown : IsGrown first_bits filled (λ test. PassesOn test by (bit_and (get_or masks place e).d open_bits) (bit_and (get_or masks place e).l open_bits)
+      (bit_and (get_or masks place e).r open_bits) (bit_and (get_or masks place e).u open_bits))) where
     here_now : get_or (set old place filled) place 0 ≡ filled
     here_now = get_or-set_same old place filled 0 (omega arith)
 
     -- a square's bit is of the word that was written, or as before
-    bit_now : (q : ℕ) → (q / WORD_BITS ≡ place) × (has_bit (set old place filled) q ≡ word_bit filled (q % WORD_BITS)) × (has_bit old q ≡ word_bit (get_or old place 0) (q % WORD_BITS)) ⊎ (has_bit (set old place filled) q ≡ has_bit old q)
+    bit_now : (q : ℕ) → (q / WORD_BITS ≡ place) × (has_bit (set old place filled) q ≡ word_bit filled (q % WORD_BITS)) ×
+        (has_bit old q ≡ word_bit (get_or old place 0) (q % WORD_BITS)) ⊎ (has_bit (set old place filled) q ≡ has_bit old q)
     bit_now q = elim (cases_eq (q / WORD_BITS) place) [
       | inl at ↦ inl (
         at,
-        has_bit-parts (set old place filled) q ∙ (ap (λ (k : ℕ). word_bit (get_or (set old place filled) k 0) (q % WORD_BITS)) at ∙ ap (λ (w : ℕ). word_bit w (q % WORD_BITS)) here_now),
+        has_bit-parts (set old place filled) q ∙
+            (ap (λ (k : ℕ). word_bit (get_or (set old place filled) k 0) (q % WORD_BITS)) at ∙ ap (λ (w : ℕ). word_bit w (q % WORD_BITS)) here_now),
         has_bit-parts old q ∙ ap (λ (k : ℕ). word_bit (get_or old k 0) (q % WORD_BITS)) at,
       )
-      | inr ne ↦ inr (has_bit-parts (set old place filled) q ∙ (ap (λ (w : ℕ). word_bit w (q % WORD_BITS)) (get_or-set_other old place (q / WORD_BITS) filled 0 ne) ∙ sym (has_bit-parts old q)))
+      | inr ne ↦ inr (has_bit-parts (set old place filled) q ∙
+          (ap (λ (w : ℕ). word_bit w (q % WORD_BITS)) (get_or-set_other old place (q / WORD_BITS) filled 0 ne) ∙ sym (has_bit-parts old q)))
     ]
 
-    passes_by : (test : ℕ → Bool) → IsKept board boxes test → PassesOn (λ j. test (WORD_BITS * place + j)) by (bit_and (get_or masks place e).d open_bits) (bit_and (get_or masks place e).l open_bits) (bit_and (get_or masks place e).r open_bits) (bit_and (get_or masks place e).u open_bits)
-    passes_by test keeps = subst (λ (n : ℕ). PassesOn (λ j. test (WORD_BITS * place + j)) n (bit_and (get_or masks place e).d open_bits) (bit_and (get_or masks place e).l open_bits) (bit_and (get_or masks place e).r open_bits) (bit_and (get_or masks place e).u open_bits)) cols (passes_on test keeps)
+    passes_by : (test : ℕ → Bool) → IsKept board boxes test →
+        PassesOn (λ j. test (WORD_BITS * place + j)) by (bit_and (get_or masks place e).d open_bits) (bit_and (get_or masks place e).l open_bits)
+        (bit_and (get_or masks place e).r open_bits) (bit_and (get_or masks place e).u open_bits)
+    passes_by test keeps = subst (λ (n : ℕ). PassesOn (λ j. test (WORD_BITS * place + j)) n (bit_and (get_or masks place e).d open_bits)
+        (bit_and (get_or masks place e).l open_bits) (bit_and (get_or masks place e).r open_bits) (bit_and (get_or masks place e).u open_bits)) cols
+        (passes_on test keeps)
 
     grows : IsGrowing board boxes old (set old place filled)
     grows = record {
@@ -158,7 +182,8 @@ module _ (board : Board) (masks : List StepMasks) (boxes old : List ℕ) (place 
       sound = λ test keeps all q h. elim (bit_now q) [
         | inl now ↦
             (let at : WORD_BITS * place + q % WORD_BITS ≡ q = (let p = now.0 in omega arith) in
-            sym (ap test at) ∙ grown.sound (λ j. test (WORD_BITS * place + j)) (passes_by test keeps) (first_pass test keeps all) (q % WORD_BITS) (sym now.1 ∙ h))
+            sym (ap test at) ∙ grown.sound (λ j. test (WORD_BITS * place + j)) (passes_by test keeps) (first_pass test keeps all) (q % WORD_BITS) (sym now.1 ∙
+            h))
         | inr same ↦ all q (sym same ∙ h)
       ];
     }
@@ -185,7 +210,8 @@ module _ (board : Board) (masks : List StepMasks) (boxes old : List ℕ) (place 
         ]
 
 -- a visit that added nothing
-pub flooding_on : (board : Board) (boxes old now new : List ℕ) (place : ℕ) (grew : Bool) → IsFlooding board boxes place old now → IsSettling board boxes place now new grew → grew ≡ false → IsFlooding board boxes (place + 1) old new
+pub flooding_on : (board : Board) (boxes old now new : List ℕ) (place : ℕ) (grew : Bool) → IsFlooding board boxes place old now →
+    IsSettling board boxes place now new grew → grew ≡ false → IsFlooding board boxes (place + 1) old new
 flooding_on board boxes old now new place grew f s even = record {
   growing = growing_then board boxes old now new f.growing s.growing;
   settled = λ k j lt inner. elim (cases_lt k place) [
@@ -195,7 +221,8 @@ flooding_on board boxes old now new place grew f s even = record {
 }
 
 -- a visit that added squares changed no word that is so far before it, nor what is entered there
-pub flooding_back : (board : Board) (boxes old now new : List ℕ) (place back : ℕ) (grew : Bool) → board.cols / WORD_BITS + 1 ≤ back → IsFlooding board boxes place old now → IsSettling board boxes place now new grew → IsFlooding board boxes (place - back) old new
+pub flooding_back : (board : Board) (boxes old now new : List ℕ) (place back : ℕ) (grew : Bool) → board.cols / WORD_BITS + 1 ≤ back →
+    IsFlooding board boxes place old now → IsSettling board boxes place now new grew → IsFlooding board boxes (place - back) old new
 flooding_back board boxes old now new place back grew far f s = record {
   growing = growing_then board boxes old now new f.growing s.growing;
   settled = λ k j lt inner clear entered.
@@ -210,5 +237,6 @@ flooding_back board boxes old now new place back grew far f s = record {
 pub flooded : (board : Board) (boxes old new : List ℕ) (place : ℕ) → length new ≤ place → IsFlooding board boxes place old new → IsFlooded board boxes old new
 flooded board boxes old new place all f = record {
   growing = f.growing;
-  settled = λ q lt. subst (λ (x : ℕ). IsSettled board boxes new x) (square_parts q).0 (f.settled (q / WORD_BITS) (q % WORD_BITS) (omega arith) (square_parts q).1);
+  settled = λ q lt. subst (λ (x : ℕ). IsSettled board boxes new x) (square_parts q).0
+      (f.settled (q / WORD_BITS) (q % WORD_BITS) (omega arith) (square_parts q).1);
 }

@@ -258,7 +258,8 @@ fn joins_round(
 fn is_joined(level: &Level, square: Square, ahead: Square, side: Dir, scratch: &Scratch) -> bool
     requires inside { square < length level.now.cells }
     requires ahead { ahead < length level.now.cells }
-    ensures { IsTrue result → (contains scratch.now.reached (next level.now square side) ≡ true) ⊎ (contains scratch.now.reached (next level.now ahead side) ≡ false) }
+    ensures { IsTrue result → (contains scratch.now.reached (next level.now square side) ≡ true) ⊎
+        (contains scratch.now.reached (next level.now ahead side) ≡ false) }
 {
     scratch.reaches(level.next(square, side)) || !scratch.reaches(level.next(ahead, side))
 }
@@ -277,7 +278,8 @@ fn is_beyond_joined(
     requires inside { square < length level.now.cells }
     requires ahead { ahead < length level.now.cells }
     requires reached { (q : ℕ) → contains scratch.now.reached q ≡ true → q < length level.now.cells }
-    ensures { IsTrue result → (contains scratch.now.reached (next level.now ahead push_dir) ≡ false) ⊎ (GoesPast level.now scratch.now.reached square ahead push_dir side ⊎ GoesPast level.now scratch.now.reached square ahead push_dir (opposite side)) }
+    ensures { IsTrue result → (contains scratch.now.reached (next level.now ahead push_dir) ≡ false) ⊎
+        (GoesPast level.now scratch.now.reached square ahead push_dir side ⊎ GoesPast level.now scratch.now.reached square ahead push_dir (opposite side)) }
 {
     !scratch.reaches(level.next(ahead, push_dir))
         || goes_past(level, square, push_dir, ahead, side, scratch)

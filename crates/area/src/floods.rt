@@ -227,7 +227,8 @@ fn settle(
 fn entered(masks: &[StepMasks], cols: usize, reached: &[u64], place: usize) -> u64
     requires inside { place < length masks.now }
     requires room { length reached.now ≡ length masks.now }
-    ensures { (board : Board) → AreMasks board masks.now → board.cols ≡ cols → (j : ℕ) → j < WORD_BITS → word_bit result j ≡ is_entered board reached.now (WORD_BITS * place + j) }
+    ensures { (board : Board) → AreMasks board masks.now → board.cols ≡ cols → (j : ℕ) → j < WORD_BITS →
+        word_bit result j ≡ is_entered board reached.now (WORD_BITS * place + j) }
 {
     let StepMasks { d, l, r, u } = masks[place];
     (before(reached, place, cols) & d)

@@ -28,5 +28,6 @@ pub fn each_state_has_one_normal_form()
 /// All states of an area have the same normal form, and states with the same normal form are of one area.
 pub fn an_area_has_one_normal_form()
     ensures same { (board : Board) (s t n : Scene) (ds : List Dir) → IsScene board s → Play board Any s ds [] t → IsNorm board s n ↔ IsNorm board t n }
-    ensures shared { (board : Board) (s t n : Scene) → IsScene board s → IsScene board t → IsNorm board s n → IsNorm board t n → (ds : List Dir) × Play board Any s ds [] t }
+    ensures shared { (board : Board) (s t n : Scene) → IsScene board s → IsScene board t → IsNorm board s n → IsNorm board t n → (ds : List Dir) ×
+        Play board Any s ds [] t }
 {}

@@ -1,4 +1,15 @@
 //! Where the player walks without a push: flooding an area, normal positions, least walks.
+//!
+//! With the `level` of a room of three rows of three squares, the box in the middle, its goal at the top left and the
+//! player at the bottom right:
+//!
+//! ```text
+//! level.tell_start();
+//! let start = Position::start(&level).expect(&rt, "few boxes");
+//! let mut scratch = Scratch::new(alloc, &level).expect(&rt, "memory");
+//! let normal = area::normal(&level, &start, &mut scratch);
+//! assert_eq!(&rt; normal.player(), Square(6));
+//! ```
 #![tactic(auto)]
 
 mod after;

@@ -36,7 +36,8 @@ pub(crate) fn pushable(level: &Level, scratch: &Scratch, place: usize) -> PushMa
     requires inside { place < word_count (length level.now.cells) }
     requires boxes { (q : ℕ) → contains scratch.now.boxes q ≡ true → is_wall level.now q ≡ false }
     requires reached { (q : ℕ) → contains scratch.now.reached q ≡ true → q < length level.now.cells }
-    ensures { (d : Dir) (j : ℕ) → j < WORD_BITS → (word_bit (push_word d result) j ≡ true) ↔ IsPushable level.now scratch.now.boxes scratch.now.reached d (WORD_BITS * place + j) }
+    ensures { (d : Dir) (j : ℕ) → j < WORD_BITS → (word_bit (push_word d result) j ≡ true) ↔
+        IsPushable level.now scratch.now.boxes scratch.now.reached d (WORD_BITS * place + j) }
 {
     let masks = level.step_masks();
     let cols = level.cols();
@@ -66,7 +67,8 @@ fn pushed_on(
     requires inside { place < length masks.now }
     requires boxes { length boxes.now ≡ length masks.now }
     requires reached { length reached.now ≡ length masks.now }
-    ensures { (board : Board) → AreMasks board masks.now → GoesOn board dir by → (j : ℕ) → j < WORD_BITS → word_bit result j ≡ can_push board boxes.now reached.now dir (WORD_BITS * place + j) }
+    ensures { (board : Board) → AreMasks board masks.now → GoesOn board dir by → (j : ℕ) → j < WORD_BITS →
+        word_bit result j ≡ can_push board boxes.now reached.now dir (WORD_BITS * place + j) }
 {
     let entered = before(reached, place, by) & mask_for(masks[place], dir);
     (boxes[place] & entered) & open_after(masks, boxes, place, dir, by)
@@ -85,7 +87,8 @@ fn pushed_back(
     requires inside { place < length masks.now }
     requires boxes { length boxes.now ≡ length masks.now }
     requires reached { length reached.now ≡ length masks.now }
-    ensures { (board : Board) → AreMasks board masks.now → GoesBack board dir by → (j : ℕ) → j < WORD_BITS → word_bit result j ≡ can_push board boxes.now reached.now dir (WORD_BITS * place + j) }
+    ensures { (board : Board) → AreMasks board masks.now → GoesBack board dir by → (j : ℕ) → j < WORD_BITS →
+        word_bit result j ≡ can_push board boxes.now reached.now dir (WORD_BITS * place + j) }
 {
     let entered = after(reached, place, by) & mask_for(masks[place], dir);
     (boxes[place] & entered) & open_before(masks, boxes, place, dir, by)
@@ -96,7 +99,8 @@ fn pushed_back(
 fn open_after(masks: &[StepMasks], boxes: &[u64], place: usize, dir: Dir, by: usize) -> u64
     requires inside { place < length masks.now }
     requires boxes { length boxes.now ≡ length masks.now }
-    ensures { (board : Board) → AreMasks board masks.now → (i j : ℕ) → j < WORD_BITS → i ≡ WORD_BITS * place + j + by → word_bit result j ≡ is_open board boxes.now dir i }
+    ensures { (board : Board) → AreMasks board masks.now → (i j : ℕ) → j < WORD_BITS → i ≡ WORD_BITS * place + j + by →
+        word_bit result j ≡ is_open board boxes.now dir i }
 {
     let far = by / WORD_BITS;
     let here = open_at(masks, boxes, place + far, dir);
@@ -109,7 +113,8 @@ fn open_after(masks: &[StepMasks], boxes: &[u64], place: usize, dir: Dir, by: us
 fn open_before(masks: &[StepMasks], boxes: &[u64], place: usize, dir: Dir, by: usize) -> u64
     requires inside { place < length masks.now }
     requires boxes { length boxes.now ≡ length masks.now }
-    ensures there { (board : Board) → AreMasks board masks.now → (i j : ℕ) → j < WORD_BITS → i + by ≡ WORD_BITS * place + j → word_bit result j ≡ is_open board boxes.now dir i }
+    ensures there { (board : Board) → AreMasks board masks.now → (i j : ℕ) → j < WORD_BITS → i + by ≡ WORD_BITS * place + j →
+        word_bit result j ≡ is_open board boxes.now dir i }
     ensures none { (j : ℕ) → j < WORD_BITS → WORD_BITS * place + j < by → word_bit result j ≡ false }
 {
     let far = by / WORD_BITS;
@@ -123,7 +128,8 @@ fn open_before(masks: &[StepMasks], boxes: &[u64], place: usize, dir: Dir, by: u
 fn open_back(masks: &[StepMasks], boxes: &[u64], place: usize, dir: Dir, far: usize) -> u64
     requires inside { place < length masks.now }
     requires boxes { length boxes.now ≡ length masks.now }
-    ensures there { (board : Board) → AreMasks board masks.now → (j : ℕ) → j < WORD_BITS → far ≤ place → word_bit result j ≡ is_open board boxes.now dir (WORD_BITS * (place - far) + j) }
+    ensures there { (board : Board) → AreMasks board masks.now → (j : ℕ) → j < WORD_BITS → far ≤ place →
+        word_bit result j ≡ is_open board boxes.now dir (WORD_BITS * (place - far) + j) }
     ensures none { place < far → result ≡ 0 }
 {
     if far <= place {

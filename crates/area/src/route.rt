@@ -107,7 +107,8 @@ fn descend(
     requires room { length marks.now ≡ length level.now.cells }
     requires spread { IsSpread level.now base to (λ q. slice_index marks.now q) }
     requires reached { base < slice_index marks.now from }
-    ensures ok { OnOk result ((ds : List Dir) × IsDescent level.now base to (λ q. slice_index marks.now q) from ds × (moves.new ≡ moves.old ++ walk_letters ds)) }
+    ensures ok { OnOk result ((ds : List Dir) × IsDescent level.now base to (λ q. slice_index marks.now q) from ds ×
+        (moves.new ≡ moves.old ++ walk_letters ds)) }
     ensures err { OnErr result ((xs : List Letter) × (moves.new ≡ moves.old ++ xs)) }
 {
     let mut square = from;

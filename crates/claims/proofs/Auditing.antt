@@ -130,7 +130,8 @@ no_numbers x (h ∷ hs) free bare =
     let cons = sum_by-cons (number_count x) h hs in
     omega arith
 
-whole_told : (size next : ℕ) (hs others : List Hand) → AreDrawnOnce size next (hs ++ others) → HaveAllPlaces hs → (x : ℕ) → times_in x hs ≡ one_if (nat_lt x (min next size))
+whole_told : (size next : ℕ) (hs others : List Hand) → AreDrawnOnce size next (hs ++ others) → HaveAllPlaces hs → (x : ℕ) →
+    times_in x hs ≡ one_if (nat_lt x (min next size))
 whole_told size next hs others r all x =
     let free : (p : ℕ) → having p others ≡ 0 = λ p.
     (let both = sum_by-append (place_count p) hs others in
@@ -151,11 +152,13 @@ pub enters_gathered : (slots size : ℕ) → Enters (holds size) slots 0 (λ n w
 enters_gathered slots size s r long small =
     let w : View = view_of size [] in (
       w,
-      dealt size s.words s.views (s.views ++ w ∷ []) r (λ f none. let pushed = over_push f s.views w in omega arith) (fits_push size s.words s.views w r.views_fit (fits_none size s.words size)),
+      dealt size s.words s.views (s.views ++ w ∷ []) r (λ f none. let pushed = over_push f s.views w in
+          omega arith) (fits_push size s.words s.views w r.views_fit (fits_none size s.words size)),
       refl,
     )
 
-audits_view : (slots size id : ℕ) (hs : List Hand) → Allows (holds size) slots id (seat_of size hs) 0 (λ n. n) (audits (step slots 0 0 0 none) (seat_of size hs))
+audits_view : (slots size id : ℕ) (hs : List Hand) →
+    Allows (holds size) slots id (seat_of size hs) 0 (λ n. n) (audits (step slots 0 0 0 none) (seat_of size hs))
 audits_view slots size id hs s r long at small =
     let v : View = view_of size hs in
     let same_words = sym (set-get_or s.words 0 0) in
@@ -170,29 +173,35 @@ audits_view slots size id hs s r long at small =
     )
 
 -- the same of a seat with these hands
-pub audits_seat : (slots size id : ℕ) (me : Sat) (hs : List Hand) → me ≡ seat_of size hs → Allows (holds size) slots id me 0 (λ n. n) (audits (step slots 0 0 0 none) me)
-audits_seat slots size id me hs is = subst (λ (m : Sat). Allows (holds size) slots id m 0 (λ n. n) (audits (step slots 0 0 0 none) m)) (sym is) (audits_view slots size id hs)
+pub audits_seat : (slots size id : ℕ) (me : Sat) (hs : List Hand) → me ≡ seat_of size hs →
+    Allows (holds size) slots id me 0 (λ n. n) (audits (step slots 0 0 0 none) me)
+audits_seat slots size id me hs is = subst (λ (m : Sat). Allows (holds size) slots id m 0 (λ n. n) (audits (step slots 0 0 0 none) m)) (sym is)
+    (audits_view slots size id hs)
 
 -- ---- drawers that are put together
 
 -- a drawer of this length goes into a seat of the same
-pub joins_gathered : (size id : ℕ) (me : Sat) (hs : List Hand) (a : DrawerInside) (d : DrawerView) → me ≡ seat_of size hs → drawer_view a ≡ d → d.ledger.len ≡ size
+pub joins_gathered : (size id : ℕ) (me : Sat) (hs : List Hand) (a : DrawerInside) (d : DrawerView) → me ≡ seat_of size hs → drawer_view a ≡ d →
+    d.ledger.len ≡ size
     → Joins (holds size) id me.0 a.seat.id a.seat.me.0 (joined me.0 a.seat.me.0) spent_view
 joins_gathered size id me hs a d is is_d len =
     joins_meeting size id a.seat.id me.0 a.seat.me.0 (ap (λ (m : Sat). m.0.len) is ∙ sym (ap (λ (x : DrawerView). x.ledger.len) is_d ∙ len))
 
 -- its hand stands behind the others
-pub gathered_more : (size : ℕ) (me : Sat) (ds : List DrawerView) (a : DrawerInside) (d : DrawerView) → me ≡ seat_of size (hands_of ds) → drawer_view a ≡ d → IsSoundDrawer a
+pub gathered_more : (size : ℕ) (me : Sat) (ds : List DrawerView) (a : DrawerInside) (d : DrawerView) → me ≡ seat_of size (hands_of ds) → drawer_view a ≡ d →
+    IsSoundDrawer a
     → (joined me.0 a.seat.me.0, me.1) ≡ seat_of size (hands_of (ds ++ d ∷ []))
 gathered_more size me ds a d is is_d sound =
     let hand : a.seat.me.0.hands ≡ d.hand ∷ [] = ap (λ (m : Sat). m.0.hands) sound.seated ∙ ap (λ (x : DrawerView). x.hand ∷ []) is_d in
-    let all : me.0.hands ++ a.seat.me.0.hands ≡ hands_of (ds ++ d ∷ []) = (λ i. (is i).0.hands ++ hand i) ∙ sym (map-append (λ (x : DrawerView). x.hand) ds (d ∷ [])) in
+    let all : me.0.hands ++ a.seat.me.0.hands ≡ hands_of (ds ++ d ∷ []) = (λ i. (is i).0.hands ++ hand i) ∙
+    sym (map-append (λ (x : DrawerView). x.hand) ds (d ∷ [])) in
     λ i. (view_of (is i).0.len (all i), (is i).1)
 
 -- drawers of the ledger are drawers of its table
 pub of_table : (a : LedgerInside) (l : LedgerView) (ds : List DrawerView) → ledger_view a ≡ l → IsSoundLedger a → All (λ (d : DrawerView). d.ledger ≡ l) ds
     → All (λ (d : DrawerView). (d.ledger.table ≡ a.table.shared.table_id) × (d.ledger.len ≡ a.table.shared.key)) ds
-of_table a l ds is sound all = All-weaker (λ (d : DrawerView). d.ledger ≡ l) (λ (d : DrawerView). (d.ledger.table ≡ a.table.shared.table_id) × (d.ledger.len ≡ a.table.shared.key))
+of_table a l ds is sound all = All-weaker (λ (d : DrawerView). d.ledger ≡ l) (λ (d : DrawerView). (d.ledger.table ≡ a.table.shared.table_id) ×
+    (d.ledger.len ≡ a.table.shared.key))
     (λ d same.
     let whole = same ∙ sym is in
     (ap (λ (x : LedgerView). x.table) whole, ap (λ (x : LedgerView). x.len) whole ∙ sym sound.1)) ds all

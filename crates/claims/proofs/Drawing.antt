@@ -1,5 +1,6 @@
 -- A draw keeps the rule of a ledger.
-use Rattle.std.proofs.Common.{◌≡◌, ℕ, suc, ◌+◌, ◌%◌, ◌^◌, ◌<◌, ◌≤◌, Bool, true, false, true≢false, List, [], ◌∷◌, length, get_or, drop, set, refl, sym, ap, ◌∙◌, subst, arith}
+use Rattle.std.proofs.Common.{◌≡◌, ℕ, suc, ◌+◌, ◌%◌, ◌^◌, ◌<◌, ◌≤◌, Bool, true, false, true≢false, List, [], ◌∷◌, length, get_or, drop, set, refl, sym, ap, ◌∙◌}
+use Rattle.std.proofs.Common.{subst, arith}
 use Rattle.std.specs.Prelude.{All, sum, min, nat_lt, is_some, IsSome, IsNone, if◌then◌else◌, Option, Some, None, ◌==◌}
 use mathlib.Core.Option.{some, none}
 use lib.ListN.{get_elem?}
@@ -53,7 +54,8 @@ by_test : (P : Hand → Type 0) (b : Bool) (x y : Hand) → (b ≡ true → P x)
 by_test P true x y p q = p refl
 by_test P false x y p q = q refl
 
-module _ (size : ℕ) (words : List ℕ) (views : List View) (i : ℕ) (h : Hand) (r : IsDrawnOnce size words views) (at : get_elem? views i ≡ some (view_of size (h ∷ []))) where
+module _ (size : ℕ) (words : List ℕ) (views : List View) (i : ℕ) (h : Hand) (r : IsDrawnOnce size words views) (at : get_elem? views i ≡
+    some (view_of size (h ∷ []))) where
   abbrev pub next : ℕ
   next = get_or words 0 0
 
@@ -65,7 +67,8 @@ module _ (size : ℕ) (words : List ℕ) (views : List View) (i : ℕ) (h : Hand
 
   pub above : All (λ x. x < next) h.numbers
   above = all_below next size h.numbers (λ x.
-      let part : times x h.numbers ≤ over_hands (number_count x) views = let whole = over_part (number_count x) views i (view_of size (h ∷ [])) at in omega arith in
+      let part : times x h.numbers ≤ over_hands (number_count x) views = let whole = over_part (number_count x) views i (view_of size (h ∷ [])) at in
+      omega arith in
       let all = r.numbers x in
       omega arith)
 
@@ -106,7 +109,8 @@ module _ (size : ℕ) (words : List ℕ) (views : List View) (i : ℕ) (h : Hand
           single = λ p. let same = other p in let all = r.single p in omega arith;
           seats = let one = over_one placed_count k in let all = r.seats in let same = others in omega arith;
           excess = let f = first in omega arith;
-          views_fit = fits_set size after views i (view_of size (k ∷ [])) all_fit (fits_one size after k (number_fits size words after more stays h next has above fit));
+          views_fit = fits_set size after views i (view_of size (k ∷ [])) all_fit
+              (fits_one size after k (number_fits size words after more stays h next has above fit));
         }
 
     ends_keep : size ≤ next → h.spent ≡ false → IsDrawnOnce size after (set views i (view_of size (spent_out h ∷ [])))
@@ -136,7 +140,8 @@ module _ (size : ℕ) (words : List ℕ) (views : List View) (i : ℕ) (h : Hand
     draw_keeps unspent = by_test (λ k. IsDrawnOnce size after (set views i (view_of size (k ∷ [])))) (nat_lt next size) (with_number next h) (spent_out h)
         (λ is. gives_keep (ltb-true next size is)) (λ is. ends_keep (ltb-false next size is) unspent)
 
-pub draws_allow : (slots id size : ℕ) (h : Hand) → IsSome h.place → h.spent ≡ false → Allows (holds size) slots id (sat size h) 0 (λ n. (n + 1) % 2 ^ 64) (draws (step slots 0 1 0 none) (sat size h))
+pub draws_allow : (slots id size : ℕ) (h : Hand) → IsSome h.place → h.spent ≡ false →
+    Allows (holds size) slots id (sat size h) 0 (λ n. (n + 1) % 2 ^ 64) (draws (step slots 0 1 0 none) (sat size h))
 draws_allow slots id size h has unspent s r long at small =
     let next : ℕ = get_or s.words 0 0 in
     let most = next_le size s.words s.views r in
@@ -150,7 +155,9 @@ draws_allow slots id size h has unspent s r long at small =
     )
 
 -- the same of a seat with one hand
-pub draws_seat : (slots id size : ℕ) (me : Sat) → me ≡ sat me.0.len (first_hand me.0.hands) → me.0.len ≡ size → IsSome (first_hand me.0.hands).place → (first_hand me.0.hands).spent ≡ false
+pub draws_seat : (slots id size : ℕ) (me : Sat) → me ≡ sat me.0.len (first_hand me.0.hands) → me.0.len ≡ size → IsSome (first_hand me.0.hands).place →
+    (first_hand me.0.hands).spent ≡ false
     → Allows (holds size) slots id me 0 (λ n. (n + 1) % 2 ^ 64) (draws (step slots 0 1 0 none) me)
-draws_seat slots id size me seated len has unspent = subst (λ (m : Sat). Allows (holds size) slots id m 0 (λ n. (n + 1) % 2 ^ 64) (draws (step slots 0 1 0 none) m))
+draws_seat slots id size me seated len has unspent =
+    subst (λ (m : Sat). Allows (holds size) slots id m 0 (λ n. (n + 1) % 2 ^ 64) (draws (step slots 0 1 0 none) m))
     (sym (seat_is size me seated len)) (draws_allow slots id size (first_hand me.0.hands) has unspent)

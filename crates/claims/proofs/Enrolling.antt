@@ -1,5 +1,6 @@
 -- An enrolment keeps the rule of a ledger.
-use Rattle.std.proofs.Common.{◌≡◌, ◌≢◌, ℕ, zero, suc, ◌+◌, ◌-◌, ◌<◌, ◌≤◌, ⊎_elim, true≢false, List, [], ◌∷◌, get_or, drop, set, refl, sym, ap, ◌∙◌, subst, arith}
+use Rattle.std.proofs.Common.{◌≡◌, ◌≢◌, ℕ, zero, suc, ◌+◌, ◌-◌, ◌<◌, ◌≤◌, ⊎_elim, true≢false, List, [], ◌∷◌, get_or, drop, set, refl, sym, ap, ◌∙◌, subst}
+use Rattle.std.proofs.Common.{arith}
 use Rattle.std.specs.Prelude.{sum, min, nat_lt, IsNone, Option, Some, None}
 use mathlib.Core.Option.{some, none}
 use lib.ListN.{get_elem?}
@@ -26,7 +27,8 @@ drop_set : (words : List ℕ) (p a : ℕ) → drop 1 (set words (suc p) a) ≡ s
 drop_set [] p a = refl
 drop_set (w ∷ ws) p a = refl
 
-module _ (size : ℕ) (words : List ℕ) (views : List View) (i p : ℕ) (h : Hand) (r : IsDrawnOnce size words views) (at : get_elem? views i ≡ some (view_of size (h ∷ []))) where
+module _ (size : ℕ) (words : List ℕ) (views : List View) (i p : ℕ) (h : Hand) (r : IsDrawnOnce size words views) (at : get_elem? views i ≡
+    some (view_of size (h ∷ []))) where
   fit : FitsLedger size words h
   fit = fit_of size words size h [] (r.views_fit i (view_of size (h ∷ [])) at)
 
@@ -119,11 +121,13 @@ module _ (size : ℕ) (words : List ℕ) (views : List View) (i p : ℕ) (h : Ha
           (fits_one size after k (place_fits size words after (let f = first in omega arith) stays h p fit));
     }
 
-  swap_keeps : (found : ℕ) → get_or words (suc p) 0 ≡ found → p < PLACES → IsNone h.place → IsDrawnOnce size after (set views i (view_of size (after_swap p found h ∷ [])))
+  swap_keeps : (found : ℕ) → get_or words (suc p) 0 ≡ found → p < PLACES → IsNone h.place →
+      IsDrawnOnce size after (set views i (view_of size (after_swap p found h ∷ [])))
   swap_keeps zero is near bare = takes_keep near is bare
   swap_keeps (suc n) is near bare = let most = r.single p in sees_keep (omega arith)
 
-swaps_at : (slots id size p : ℕ) (h : Hand) → p < PLACES → IsNone h.place → Allows (holds size) slots id (sat size h) (suc p) (λ _. 1) (enrols (step slots (suc p) 1 0 none) (sat size h))
+swaps_at : (slots id size p : ℕ) (h : Hand) → p < PLACES → IsNone h.place →
+    Allows (holds size) slots id (sat size h) (suc p) (λ _. 1) (enrols (step slots (suc p) 1 0 none) (sat size h))
 swaps_at slots id size p h near bare s r long at small =
     let found : ℕ = get_or s.words (suc p) 0 in
     let place : p ≡ suc p - 1 = omega arith in (
@@ -135,7 +139,8 @@ swaps_at slots id size p h near bare s r long at small =
     )
 
 -- the same of a seat with one hand, at the word of the place
-pub swaps_seat : (slots id size p word : ℕ) (me : Sat) → word ≡ suc p → me ≡ sat me.0.len (first_hand me.0.hands) → me.0.len ≡ size → p < PLACES → IsNone (first_hand me.0.hands).place
+pub swaps_seat : (slots id size p word : ℕ) (me : Sat) → word ≡ suc p → me ≡ sat me.0.len (first_hand me.0.hands) → me.0.len ≡ size → p < PLACES →
+    IsNone (first_hand me.0.hands).place
     → Allows (holds size) slots id me word (λ _. 1) (enrols (step slots word 1 0 none) me)
 swaps_seat slots id size p word me is seated len near bare =
     subst (λ (w : ℕ). Allows (holds size) slots id me w (λ _. 1) (enrols (step slots w 1 0 none) me)) (sym is)

@@ -47,7 +47,8 @@ module _ (size : ℕ) (words : List ℕ) where
   }
 
 -- The words change, so that the next number is no less and no place becomes free
-module _ (size : ℕ) (words after : List ℕ) (more : get_or words 0 0 ≤ get_or after 0 0) (stays : (p : ℕ) → get_or words (suc p) 0 ≡ 1 → get_or after (suc p) 0 ≡ 1) where
+module _ (size : ℕ) (words after : List ℕ) (more : get_or words 0 0 ≤ get_or after 0 0) (stays : (p : ℕ) → get_or words (suc p) 0 ≡ 1 →
+    get_or after (suc p) 0 ≡ 1) where
   pub known_later : (ps : List ℕ) → All (λ p. get_or words (suc p) 0 ≡ 1) ps → All (λ p. get_or after (suc p) 0 ≡ 1) ps
   known_later ps all = All-weaker (λ p. get_or words (suc p) 0 ≡ 1) (λ p. get_or after (suc p) 0 ≡ 1) stays ps all
 

@@ -30,8 +30,10 @@ get_or_behind [] p = refl
 get_or_behind (w ∷ ws) p = refl
 
 -- the length of a drawer's view is what the table knows
-pub agrees : (a : DrawerInside) (b : LedgerInside) (d : DrawerView) (l : LedgerView) → drawer_view a ≡ d → ledger_view b ≡ l → d.ledger ≡ l → IsSoundLedger b → a.seat.me.0.len ≡ b.table.shared.key
-agrees a b d l is_d is_l same sound = ap (λ (x : DrawerView). x.ledger.len) is_d ∙ (ap (λ (x : LedgerView). x.len) same ∙ (sym (ap (λ (x : LedgerView). x.len) is_l) ∙ sym sound.1))
+pub agrees : (a : DrawerInside) (b : LedgerInside) (d : DrawerView) (l : LedgerView) → drawer_view a ≡ d → ledger_view b ≡ l → d.ledger ≡ l → IsSoundLedger b →
+    a.seat.me.0.len ≡ b.table.shared.key
+agrees a b d l is_d is_l same sound = ap (λ (x : DrawerView). x.ledger.len) is_d ∙
+    (ap (λ (x : LedgerView). x.len) same ∙ (sym (ap (λ (x : LedgerView). x.len) is_l) ∙ sym sound.1))
 
 pub seat_is : (size : ℕ) (me : Sat) → me ≡ sat me.0.len (first_hand me.0.hands) → me.0.len ≡ size → me ≡ sat size (first_hand me.0.hands)
 seat_is size me seated len = seated ∙ ap (λ (n : ℕ). sat n (first_hand me.0.hands)) len
@@ -70,7 +72,8 @@ module _ (size : ℕ) (words : List ℕ) (views : List View) (i : ℕ) (r : IsDr
   beside_keeps : (v : View) → v.len ≡ size → get_elem? views i ≡ some v → IsDrawnOnce size words (set views i v ++ beside v ∷ [])
   beside_keeps v len at =
       let same : set views i v ≡ views = set_again views i v at in
-      let new : Fits size words (beside v) = subst (λ (n : ℕ). Fits size words (view_of n (empty_hand ∷ []))) (sym len) (fits_one size words empty_hand (fits_empty size words)) in
+      let new : Fits size words (beside v) =
+      subst (λ (n : ℕ). Fits size words (view_of n (empty_hand ∷ []))) (sym len) (fits_one size words empty_hand (fits_empty size words)) in
       subst (λ (vs : List View). IsDrawnOnce size words (vs ++ beside v ∷ [])) (sym same)
       (dealt size words views (views ++ beside v ∷ []) r (λ f none. let pushed = over_push f views (beside v) in let one = sum_one f empty_hand in omega arith)
       (fits_push size words views (beside v) r.views_fit new))
@@ -155,5 +158,7 @@ loads_met slots size id h k s r long at small =
       (refl, hands_apart size s.words s.views id r h k at),
     )
 
-pub loads_meeting : (slots size id : ℕ) (me : Sat) (h k : Hand) → me ≡ met size h k → Allows (holds size) slots id me 0 (λ n. n) (compares (step slots 0 0 0 none) me)
-loads_meeting slots size id me h k is = subst (λ (m : Sat). Allows (holds size) slots id m 0 (λ n. n) (compares (step slots 0 0 0 none) m)) (sym is) (loads_met slots size id h k)
+pub loads_meeting : (slots size id : ℕ) (me : Sat) (h k : Hand) → me ≡ met size h k →
+    Allows (holds size) slots id me 0 (λ n. n) (compares (step slots 0 0 0 none) me)
+loads_meeting slots size id me h k is = subst (λ (m : Sat). Allows (holds size) slots id m 0 (λ n. n) (compares (step slots 0 0 0 none) m)) (sym is)
+    (loads_met slots size id h k)

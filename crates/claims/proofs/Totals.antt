@@ -17,7 +17,8 @@ module _ (f : Hand → ℕ) where
   over_cons v vs = sum_by-cons (λ (u : View). sum_by f u.hands) v vs
 
   -- the sum changes by what one view changes
-  pub over_set : (views : List View) (i : ℕ) (v w : View) → get_elem? views i ≡ some v → over_hands f (set views i w) + sum_by f v.hands ≡ over_hands f views + sum_by f w.hands
+  pub over_set : (views : List View) (i : ℕ) (v w : View) → get_elem? views i ≡ some v →
+      over_hands f (set views i w) + sum_by f v.hands ≡ over_hands f views + sum_by f w.hands
   over_set [] i v w at = absurd (some-ne-none v (sym at))
   over_set (x ∷ xs) zero v w at =
       let same : sum_by f x.hands ≡ sum_by f v.hands = ap (λ (u : View). sum_by f u.hands) (some-injective x v at) in

@@ -1,5 +1,6 @@
 -- What drawers have of a ledger, and how the calls change it.
-use Rattle.std.specs.Prelude.{◌≡◌, ℕ, ◌+◌, ◌<◌, ◌≤◌, ◌⊎◌, Bool, true, false, ◌==◌, if◌then◌else◌, List, [], ◌∷◌, ◌++◌, All, sum_by, Option, Some, None, IsSome, IsNone}
+use Rattle.std.specs.Prelude.{◌≡◌, ℕ, ◌+◌, ◌<◌, ◌≤◌, ◌⊎◌, Bool, true, false, ◌==◌, if◌then◌else◌, List, [], ◌∷◌, ◌++◌, All, sum_by, Option, Some, None, IsSome}
+use Rattle.std.specs.Prelude.{IsNone}
 use Rattle.atomic_table.specs.Seated.{TableId}
 use Rattle.claims.specs.declared.ledger.TheConstants.{PLACES}
 use Rattle.claims.specs.declared.views.Hand.{Hand}

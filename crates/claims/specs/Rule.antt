@@ -1,5 +1,6 @@
 -- The rule of a ledger's table, which each step keeps: each number is drawn once and none is left out.
-use Rattle.std.specs.Prelude.{◌≡◌, ℕ, suc, ◌+◌, ◌^◌, ◌<◌, ◌≤◌, min, true, false, nat_lt, List, [], ◌∷◌, All, AllPairs, drop, length, slice_index, sum, sum_by, is_some, IsNone}
+use Rattle.std.specs.Prelude.{◌≡◌, ℕ, suc, ◌+◌, ◌^◌, ◌<◌, ◌≤◌, min, true, false, nat_lt, List, [], ◌∷◌, All, AllPairs, drop, length, slice_index, sum, sum_by}
+use Rattle.std.specs.Prelude.{is_some, IsNone}
 use mathlib.Core.Option.{some}
 use lib.ListN.{get_elem?}
 use Rattle.atomic_table.specs.Table.{State}

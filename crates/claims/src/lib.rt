@@ -1,4 +1,12 @@
 //! A ledger whose numbers are drawn once each, by threads that wait for nobody.
+//!
+//! ```text
+//! let (ledger, mut drawer) = Ledger::new(alloc, 2).expect(&rt, "memory");
+//! assert!(&rt; ledger.enrol(&mut drawer, 0));
+//! assert_eq!(&rt; ledger.draw(&mut drawer), Some(0));
+//! assert_eq!(&rt; ledger.draw(&mut drawer), Some(1));
+//! assert_eq!(&rt; ledger.draw(&mut drawer), None);
+//! ```
 #![tactic(auto)]
 
 mod drawer;

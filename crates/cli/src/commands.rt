@@ -5,6 +5,7 @@ use crate::steady::Steady;
 use crate::trouble::Trouble;
 use crew::Config;
 use layers::{MAX_SHARES, MAX_WORKERS};
+use prover::Effort;
 use sokopar::{
     Reader, RunFault, Writer, run_check, run_dead, run_prove, run_replay, run_show, run_solve,
 };
@@ -108,24 +109,33 @@ pub(crate) fn solve<'a, R: Files + Print + Threads + Wait + Sync>(
     Ok(run_solve(rt, alloc, &mut source, number.get(), config, &mut sink)?)
 }
 
+/// What a proof may take: by so many workers, which the command line holds to their range, and under a limit of positions.
+pub(crate) fn effort_of(workers: NonZeroU32, limit: NonZeroU32) -> Effort {
+    Effort {
+        workers: workers.get().min(MAX_WORKERS as u32) as u8,
+        limit: limit.get(),
+    }
+}
+
 /// Proves that a solution has the fewest pushes on a level. Gives the exit status.
-pub(crate) fn prove<'a, R: Files + Print>(
+pub(crate) fn prove<'a, R: Files + Print + Threads + Sync>(
     rt: &R,
     alloc: Global,
     file: &'a str,
     number: NonZeroU32,
     solution: &'a str,
-    limit: NonZeroU32,
+    effort: Effort,
 ) -> Result<u8, Trouble<'a>> {
     let mut source = open(rt, file)?;
     let mut letters = open(rt, solution)?;
     let mut sink = Writer::new(Steady::new(io::writer(rt)));
     Ok(run_prove(
+        rt,
         alloc,
         &mut source,
         number.get(),
         &mut letters,
-        limit.get(),
+        effort,
         &mut sink,
     )?)
 }

@@ -207,8 +207,12 @@ turn, or solve the level.
 
 This asks less than 'sokopar solve', and mostly takes fewer positions.
 
-Example:
-  sokopar prove levels.xsb 1 solution.lurd";
+What it tells is the same with any number of workers: --workers 4 on four
+processors.
+
+Examples:
+  sokopar prove levels.xsb 1 solution.lurd
+  sokopar prove levels.xsb 1 solution.lurd --workers 4 --limit 50000000";
 
 /// The end of the help of `prove`.
 fn prove_notes(alloc: Global) -> Result<String, AllocError> {

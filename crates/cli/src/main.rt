@@ -9,7 +9,7 @@ mod steady;
 mod trouble;
 
 use clap::error::ErrorKind;
-use commands::{check, config_of, dead, prove, replay, show, solve};
+use commands::{check, config_of, dead, effort_of, prove, replay, show, solve};
 use help::Notes;
 use request::Request;
 use sokopar::RunFault;
@@ -44,8 +44,12 @@ fn perform<'a, R: Files + Print + Threads + Wait + Sync>(
             file,
             number,
             solution,
+            workers,
             limit,
-        } => prove(rt, alloc, file, number, solution, limit),
+        } => {
+            let effort = effort_of(workers, limit);
+            prove(rt, alloc, file, number, solution, effort)
+        }
         Request::Solve {
             file,
             number,

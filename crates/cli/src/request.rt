@@ -33,11 +33,13 @@ pub enum Request<'a> {
         number: NonZeroU32,
         solution: &'a str,
     },
-    /// Prove that the solution of a file has the fewest pushes on level N of a collection, under a limit of positions.
+    /// Prove that the solution of a file has the fewest pushes on level N of a collection, by some workers, under a limit of
+    /// positions.
     Prove {
         file: &'a str,
         number: NonZeroU32,
         solution: &'a str,
+        workers: NonZeroU32,
         limit: NonZeroU32,
     },
     /// Solve level N of a collection by some workers over some locks, under a limit of positions, and within a cap of
@@ -102,6 +104,7 @@ fn prove_command<'a>(alloc: Global, notes: &'a str) -> Result<Command<'a>, Alloc
     )?
     .after_help(notes)
     .arg(solution_operand(alloc))?
+    .arg(workers_option(alloc))?
     .arg(limit_option(alloc))
 }
 
@@ -243,11 +246,13 @@ fn prove_request<'a>(
     solution: &'a str,
     matches: &ArgMatches<'a>,
 ) -> Result<Request<'a>, BadValue<'a>> {
+    let workers = number_of(matches, "workers", "--workers <W>", MAX_WORKERS as u32)?;
     let limit = number_of(matches, "limit", "--limit <L>", u32::MAX)?;
     Ok(Request::Prove {
         file,
         number,
         solution,
+        workers,
         limit,
     })
 }

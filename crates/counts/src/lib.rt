@@ -1,5 +1,10 @@
 //! Counts: one to four decimal digits that write a number from 1 to 9999, and say how often what stands right after
 //! them is meant.
+//!
+//! ```text
+//! assert_eq!(&rt; counts::digit_count(b"12#"), 2);
+//! assert_eq!(&rt; counts::times(b"12"), Some(12));
+//! ```
 #![tactic(auto)]
 
 ghost use Rattle.std.specs.Prelude.{◌≡◌, ◌≤◌, length, IfSome, IfNone};

@@ -27,14 +27,16 @@ push_at (z ∷ xs) y zero x e = inr e
 push_at (z ∷ xs) y (suc i) x e = push_at xs y i x e
 
 -- a desk whose scratch stays leaves them roomy
-pub roomy_set : (size : ℕ) (desks : List Desk) (place : ℕ) (before after : Desk) → slice_get desks place ≡ Some before → after.scratch ≡ before.scratch → AreRoomy size desks → AreRoomy size (set desks place after)
+pub roomy_set : (size : ℕ) (desks : List Desk) (place : ℕ) (before after : Desk) → slice_get desks place ≡ Some before → after.scratch ≡ before.scratch →
+    AreRoomy size desks → AreRoomy size (set desks place after)
 roomy_set size desks place before after here kept roomy i desk at = elim (set_at desks place i after desk at) [
   | inl h ↦ ap (λ (d : Desk). d.scratch.size) h.1 ∙ ap (λ (s : Reach). s.size) kept ∙ roomy place before here
   | inr h ↦ roomy i desk h.1
 ]
 
 -- one more desk has a drawer
-pub drawers_set : (ledger : LedgerView) (place : ℕ) (desks : List Desk) (after : Desk) → after.drawer ≡ Some (newcomer ledger) → HaveDrawers ledger place desks → HaveDrawers ledger (place + 1) (set desks place after)
+pub drawers_set : (ledger : LedgerView) (place : ℕ) (desks : List Desk) (after : Desk) → after.drawer ≡ Some (newcomer ledger) →
+    HaveDrawers ledger place desks → HaveDrawers ledger (place + 1) (set desks place after)
 drawers_set ledger place desks after given drawers i desk lt at = elim (set_at desks place i after desk at) [
   | inl h ↦ ap (λ (d : Desk). d.drawer) h.1 ∙ given
   | inr h ↦ elim (cases_lt i place) [ inl less ↦ drawers i desk less h.1 | inr le ↦ absurd (h.0 (omega (arith, lt, le))) ]
@@ -51,7 +53,8 @@ pub roomy_none : (size : ℕ) → AreRoomy size []
 roomy_none size i desk at = cc
 
 -- where the size of each scratch stays they stay roomy
-pub roomy_each : (size : ℕ) (before after : List Desk) → length after ≡ length before → ((i : ℕ) (d : Desk) → i < length before → (get_or after i d).scratch.size ≡ (get_or before i d).scratch.size) → AreRoomy size before → AreRoomy size after
+pub roomy_each : (size : ℕ) (before after : List Desk) → length after ≡ length before →
+    ((i : ℕ) (d : Desk) → i < length before → (get_or after i d).scratch.size ≡ (get_or before i d).scratch.size) → AreRoomy size before → AreRoomy size after
 roomy_each size before after same kept roomy i desk at =
     let lt : i < length before = omega (arith, slice_get_within after i desk at, same) in
     let was : (get_or before i desk).scratch.size ≡ size = roomy i (get_or before i desk) (slice_get-get_or before i desk lt) in

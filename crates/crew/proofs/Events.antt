@@ -1,5 +1,6 @@
 -- Counts of events, and what the gate may have answered to them.
-use Rattle.std.proofs.Common.{◌≡◌, ℕ, zero, suc, ◌+◌, ◌-◌, ◌*◌, ◌^◌, ◌<◌, ◌≤◌, min, Bool, true, false, List, [], ◌∷◌, ◌++◌, length, inl, inr, refl, sym, ap, subst, ◌∙◌, arith, length-append}
+use Rattle.std.proofs.Common.{◌≡◌, ℕ, zero, suc, ◌+◌, ◌-◌, ◌*◌, ◌^◌, ◌<◌, ◌≤◌, min, Bool, true, false, List, [], ◌∷◌, ◌++◌, length, inl, inr, refl, sym, ap}
+use Rattle.std.proofs.Common.{subst, ◌∙◌, arith, length-append}
 use Rattle.std.proofs.Math.Nat.{min-eq_left, min-eq_right}
 use Rattle.std.proofs.lemmas.Bool.{cases_lt}
 use Rattle.std.proofs.lemmas.Nat.{mul-le}
@@ -25,7 +26,8 @@ goes_twice may nth j (suc k) all last after sum on (mid, more, it) =
     subst (λ n. GoesOn may nth n after) e (mid, goes_twice may nth j k (j + k) last mid refl on more, it)
 
 -- events, and further ones of a worker that then ends
-pub goes_until : (may : ℕ → Bool → Bool) (nth j k all last after : ℕ) (end : End) → all ≡ j + k → GoesOn may nth j last → GoesOnUntil may last k after end → GoesOnUntil may nth all after end
+pub goes_until : (may : ℕ → Bool → Bool) (nth j k all last after : ℕ) (end : End) → all ≡ j + k → GoesOn may nth j last → GoesOnUntil may last k after end →
+    GoesOnUntil may nth all after end
 goes_until may nth j k all last after Stopped sum on (before, mid, is, more, it) =
     (j + before, mid, omega (arith, sum, is), goes_twice may nth j before (j + before) last mid refl on more, it)
 goes_until may nth j k all last after Drained sum on more = absurd more
@@ -46,7 +48,8 @@ ends_at_once may nth after Foreign it = record { events = 0; few = omega arith; 
 ends_at_once may nth after NoPlace it = absurd it
 
 -- events, and then an end
-pub cut_off : (may : ℕ → Bool → Bool) (j k most nth last after : ℕ) (end : End) → j + k ≤ most → GoesOn may nth j last → IsCutOff may k last after end → IsCutOff may most nth after end
+pub cut_off : (may : ℕ → Bool → Bool) (j k most nth last after : ℕ) (end : End) → j + k ≤ most → GoesOn may nth j last → IsCutOff may k last after end →
+    IsCutOff may most nth after end
 cut_off may j k most nth last after end few on more = record {
   events = j + more.events;
   few = omega (arith, few, more.few);
@@ -60,7 +63,8 @@ pub works_none : (may : ℕ → Bool → Bool) (hand later : Hand) (nth after : 
 works_none may hand later nth after same still = record { drawn = 0; draws = let long = ap length same in omega (arith, long); on = still }
 
 -- one rank is drawn
-pub works_drawn : (may : ℕ → Bool → Bool) (hand later : Hand) (nth after rank : ℕ) → later.numbers ≡ hand.numbers ++ rank ∷ [] → IsTold may nth true after → Works may 0 hand nth later after
+pub works_drawn : (may : ℕ → Bool → Bool) (hand later : Hand) (nth after rank : ℕ) → later.numbers ≡ hand.numbers ++ rank ∷ [] → IsTold may nth true after →
+    Works may 0 hand nth later after
 works_drawn may hand later nth after rank drew it =
     record { drawn = 1; draws = ap length drew ∙ length-append hand.numbers (rank ∷ []); on = (nth, refl, it) }
 
@@ -69,7 +73,8 @@ pub works_accepted : (may : ℕ → Bool → Bool) (hand : Hand) (events nth aft
 works_accepted may hand events nth after on = record { drawn = 0; draws = omega arith; on = goes_twice may nth 0 events (0 + events) nth after refl refl on }
 
 -- work, and further work
-pub works_twice : (may : ℕ → Bool → Bool) (j k all : ℕ) (hand mid later : Hand) (nth last after : ℕ) → all ≡ j + k → Works may j hand nth mid last → Works may k mid last later after → Works may all hand nth later after
+pub works_twice : (may : ℕ → Bool → Bool) (j k all : ℕ) (hand mid later : Hand) (nth last after : ℕ) → all ≡ j + k → Works may j hand nth mid last →
+    Works may k mid last later after → Works may all hand nth later after
 works_twice may j k all hand mid later nth last after sum before more = record {
   drawn = before.drawn + more.drawn;
   draws = omega (arith, before.draws, more.draws);
@@ -77,17 +82,20 @@ works_twice may j k all hand mid later nth last after sum before more = record {
 }
 
 -- work, and further work that ends
-pub works_until : (may : ℕ → Bool → Bool) (j k most : ℕ) (hand mid later : Hand) (nth last after : ℕ) (end : End) → j + k ≤ most → Works may j hand nth mid last → WorksUntil may k mid last later after end → WorksUntil may most hand nth later after end
+pub works_until : (may : ℕ → Bool → Bool) (j k most : ℕ) (hand mid later : Hand) (nth last after : ℕ) (end : End) → j + k ≤ most →
+    Works may j hand nth mid last → WorksUntil may k mid last later after end → WorksUntil may most hand nth later after end
 works_until may j k most hand mid later nth last after end few before more = record {
   drawn = before.drawn + more.drawn;
   accepted = j + more.accepted;
   few = omega (arith, few, more.few);
   draws = omega (arith, before.draws, more.draws);
-  until = goes_until may nth (before.drawn + j) (more.drawn + more.accepted) (before.drawn + more.drawn + (j + more.accepted)) last after end (omega arith) before.on more.until;
+  until = goes_until may nth (before.drawn + j) (more.drawn + more.accepted) (before.drawn + more.drawn + (j + more.accepted)) last after end
+      (omega arith) before.on more.until;
 }
 
 -- events of parcels alone, and then an end
-pub works_cut_off : (may : ℕ → Bool → Bool) (hand : Hand) (most nth after : ℕ) (end : End) → IsCutOff may most nth after end → WorksUntil may most hand nth hand after end
+pub works_cut_off : (may : ℕ → Bool → Bool) (hand : Hand) (most nth after : ℕ) (end : End) → IsCutOff may most nth after end →
+    WorksUntil may most hand nth hand after end
 works_cut_off may hand most nth after end it = record {
   drawn = 0;
   accepted = it.events;
@@ -97,8 +105,10 @@ works_cut_off may hand most nth after end it = record {
 }
 
 -- a draw that ends a worker that is not drained
-pub works_drawn_until : (may : ℕ → Bool → Bool) (hand later : Hand) (nth after : ℕ) (end : End) → ¬ (end ≡ Drained) → DrawsAtLast may hand nth later after end → WorksUntil may 0 hand nth later after end
-works_drawn_until may hand later nth after Stopped other it = record { drawn = 1; accepted = 0; few = omega arith; draws = it.0; until = (0, nth, refl, refl, it.1) }
+pub works_drawn_until : (may : ℕ → Bool → Bool) (hand later : Hand) (nth after : ℕ) (end : End) → ¬ (end ≡ Drained) →
+    DrawsAtLast may hand nth later after end → WorksUntil may 0 hand nth later after end
+works_drawn_until may hand later nth after Stopped other it =
+    record { drawn = 1; accepted = 0; few = omega arith; draws = it.0; until = (0, nth, refl, refl, it.1) }
 works_drawn_until may hand later nth after Drained other it = absurd (other refl)
 works_drawn_until may hand later nth after (Refused refusal) other it = absurd it
 works_drawn_until may hand later nth after Foreign other it = absurd it
@@ -144,7 +154,8 @@ answers_until may events after (Refused refusal) it = (goes_told may events afte
 answers_until may events after Foreign it = (goes_told may events after it).1
 answers_until may events after NoPlace it = absurd it
 
-accepted_until : (may : ℕ → Bool → Bool) (nth events after books drawn accepted : ℕ) (end : End) → GoesOnUntil may nth events after end → accepted ≤ drawn * books → WereAccepted books drawn accepted end
+accepted_until : (may : ℕ → Bool → Bool) (nth events after books drawn accepted : ℕ) (end : End) → GoesOnUntil may nth events after end →
+    accepted ≤ drawn * books → WereAccepted books drawn accepted end
 accepted_until may nth events after books drawn accepted Stopped it few = few
 accepted_until may nth events after books drawn accepted Drained it few = absurd it
 accepted_until may nth events after books drawn accepted (Refused refusal) it few = few
@@ -184,16 +195,19 @@ has_drawn may books left all nth after hand mid later more has it = record {
 }
 
 -- those that are left are handed back, and others drawn
-pub has_handed : (may : ℕ → Bool → Bool) (books left many more nth after : ℕ) (hand mid later : Hand) → many ≡ books * left → length later.numbers ≡ length mid.numbers + more
+pub has_handed : (may : ℕ → Bool → Bool) (books left many more nth after : ℕ) (hand mid later : Hand) → many ≡ books * left →
+    length later.numbers ≡ length mid.numbers + more
     → HasLeft may books left hand mid nth → Works may many mid nth later after → HasLeft may books more hand later after
 has_handed may books left many more nth after hand mid later all drawn has it = record {
   done = has.done + left;
   all = omega (arith, drawn, has.all);
-  works = works_twice may (has.done * books) many ((has.done + left) * books) hand mid later 0 nth after (both_times has.done left books ∙ ap (λ n. has.done * books + n) (sym all)) has.works it;
+  works = works_twice may (has.done * books) many ((has.done + left) * books) hand mid later 0 nth after (both_times has.done left books
+      ∙ ap (λ n. has.done * books + n) (sym all)) has.works it;
 }
 
 -- none is left, and the worker is drained
-pub asks_drained : (may : ℕ → Bool → Bool) (books after : ℕ) (hand later : Hand) → HasLeft may books 0 hand later after → AsksTheGate may books hand later Drained
+pub asks_drained : (may : ℕ → Bool → Bool) (books after : ℕ) (hand later : Hand) → HasLeft may books 0 hand later after →
+    AsksTheGate may books hand later Drained
 asks_drained may books after hand later has = record {
   drawn = has.done;
   accepted = has.done * books;
@@ -205,8 +219,8 @@ asks_drained may books after hand later has = record {
 }
 
 -- the worker ends, and is not drained
-pub asks_until : (may : ℕ → Bool → Bool) (books left most nth after : ℕ) (hand mid later : Hand) (end : End) → most ≤ books * left → HasLeft may books left hand mid nth
-    → WorksUntil may most mid nth later after end → AsksTheGate may books hand later end
+pub asks_until : (may : ℕ → Bool → Bool) (books left most nth after : ℕ) (hand mid later : Hand) (end : End) → most ≤ books * left →
+    HasLeft may books left hand mid nth → WorksUntil may most mid nth later after end → AsksTheGate may books hand later end
 asks_until may books left most nth after hand mid later end within has more =
     let both = works_until may (has.done * books) most (has.done * books + most) hand mid later 0 nth after end (omega arith) has.works more in
     let many : has.done + left ≤ both.drawn = omega (arith, has.all, more.draws, both.draws) in
@@ -224,10 +238,17 @@ asks_until may books left most nth after hand mid later end within has more =
 pub asks_drawn : (may : ℕ → Bool → Bool) (books nth after : ℕ) (hand mid later : Hand) (end : End) → HasLeft may books 0 hand mid nth
     → DrawsAtLast may mid nth later after end → AsksTheGate may books hand later end
 asks_drawn may books nth after hand mid later Stopped has it =
-    asks_until may books 0 0 nth after hand mid later Stopped (omega arith) has (record { drawn = 1; accepted = 0; few = omega arith; draws = it.0; until = (0, nth, refl, refl, it.1) })
+    asks_until may books 0 0 nth after hand mid later Stopped (omega arith) has (record {
+      drawn = 1;
+      accepted = 0;
+      few = omega arith;
+      draws = it.0;
+      until = (0, nth, refl, refl, it.1);
+    })
 asks_drawn may books nth after hand mid later Drained has it =
     let same = ap length it.0 in
-    asks_drained may books after hand later (has_drawn may books 0 0 nth after hand mid later (omega (arith, same)) has (works_none may mid later nth after it.0 it.1))
+    asks_drained may books after hand later (has_drawn may books 0 0 nth after hand mid later (omega (arith, same)) has
+    (works_none may mid later nth after it.0 it.1))
 asks_drawn may books nth after hand mid later (Refused refusal) has it = absurd it
 asks_drawn may books nth after hand mid later Foreign has it = absurd it
 asks_drawn may books nth after hand mid later NoPlace has it = absurd it
@@ -235,14 +256,16 @@ asks_drawn may books nth after hand mid later NoPlace has it = absurd it
 -- ---- under a book's lock
 
 -- an end by the book comes with no event
-pub ends_by_book : (layer : LayerView) (worker : ℕ) (book : BookView) (parcel : ParcelView) (may : ℕ → Bool → Bool) (nth : ℕ) (end : End) → HandEnds layer worker book parcel end → EndsAtOnce may nth nth end
+pub ends_by_book : (layer : LayerView) (worker : ℕ) (book : BookView) (parcel : ParcelView) (may : ℕ → Bool → Bool) (nth : ℕ) (end : End) →
+    HandEnds layer worker book parcel end → EndsAtOnce may nth nth end
 ends_by_book layer worker book parcel may nth Foreign it = refl
 ends_by_book layer worker book parcel may nth (Refused refusal) it = refl
 ends_by_book layer worker book parcel may nth Drained it = absurd it
 ends_by_book layer worker book parcel may nth Stopped it = absurd it
 ends_by_book layer worker book parcel may nth NoPlace it = absurd it
 
-pub over_by_book : (layer : LayerView) (worker : ℕ) (book : BookView) (parcel : ParcelView) (end : End) → HandEnds layer worker book parcel end → HandOverEnds layer worker book parcel end
+pub over_by_book : (layer : LayerView) (worker : ℕ) (book : BookView) (parcel : ParcelView) (end : End) → HandEnds layer worker book parcel end →
+    HandOverEnds layer worker book parcel end
 over_by_book layer worker book parcel Foreign it = it
 over_by_book layer worker book parcel (Refused refusal) it = it
 over_by_book layer worker book parcel Drained it = absurd it
@@ -250,5 +273,6 @@ over_by_book layer worker book parcel Stopped it = absurd it
 over_by_book layer worker book parcel NoPlace it = absurd it
 
 -- or by the gate
-pub over_by_gate : (layer : LayerView) (worker : ℕ) (book : BookView) (parcel : ParcelView) (end : End) → end ≡ Stopped → IsOwn layer worker book × MayEnter book parcel → HandOverEnds layer worker book parcel end
+pub over_by_gate : (layer : LayerView) (worker : ℕ) (book : BookView) (parcel : ParcelView) (end : End) → end ≡ Stopped →
+    IsOwn layer worker book × MayEnter book parcel → HandOverEnds layer worker book parcel end
 over_by_gate layer worker book parcel end is may = subst (HandOverEnds layer worker book parcel) (sym is) may

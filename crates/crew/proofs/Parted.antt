@@ -12,8 +12,8 @@ module _ {X : Type 0} (P : ℕ → X → Type 0) (base : ℕ) where
       let at : base + (1 + k) ≡ base + 1 + k = omega arith in
       let down : 1 + k - 1 ≡ k = omega arith in
       subst (λ i. P i (get_or more k d)) at
-      (subst (P (base + (1 + k))) (ap (λ l. get_or l (1 + k) d) is ∙ get_or-append_right one more 1 (1 + k) d single (omega arith) ∙ ap (λ i. get_or more i d) down)
-      (each (1 + k) d (omega (arith, ap length is, length-append one more))))
+      (subst (P (base + (1 + k))) (ap (λ l. get_or l (1 + k) d) is ∙ get_or-append_right one more 1 (1 + k) d single (omega arith)
+      ∙ ap (λ i. get_or more i d) down) (each (1 + k) d (omega (arith, ap length is, length-append one more))))
 
   pub holds_only : (xs : List X) → length xs ≡ 1 → HoldsFrom P base xs → (d : X) → P base (get_or xs 0 d)
   holds_only xs single each d =
@@ -32,7 +32,8 @@ module _ {X : Type 0} (R : ℕ → X → X → Type 0) (base : ℕ) where
             (subst (λ x. R base x y) (get_or_default xs 0 e d (omega arith)) change)));
       }
 
-  pub changes_both : (all one more one' more' : List X) → all ≡ one ++ more → length one ≡ 1 → ChangesFrom R base one one' → ChangesFrom R (base + 1) more more' → ChangesFrom R base all (one' ++ more')
+  pub changes_both : (all one more one' more' : List X) → all ≡ one ++ more → length one ≡ 1 → ChangesFrom R base one one' →
+      ChangesFrom R (base + 1) more more' → ChangesFrom R base all (one' ++ more')
   changes_both all one more one' more' is single a b =
       let single' : length one' ≡ 1 = a.len ∙ single in
       record {
@@ -49,6 +50,7 @@ module _ {X : Type 0} (R : ℕ → X → X → Type 0) (base : ℕ) where
             (cases_lt k 1);
       }
 
-pub changes_all : {X : Type 0} (R : ℕ → X → X → Type 0) (xs ys : List X) → ChangesFrom R 0 xs ys → (i : ℕ) (d : X) → i < length xs → R i (get_or xs i d) (get_or ys i d)
+pub changes_all : {X : Type 0} (R : ℕ → X → X → Type 0) (xs ys : List X) → ChangesFrom R 0 xs ys → (i : ℕ) (d : X) → i < length xs →
+    R i (get_or xs i d) (get_or ys i d)
 changes_all R xs ys h i d low =
     let at : 0 + i ≡ i = omega arith in subst (λ k. R k (get_or xs i d) (get_or ys i d)) at (h.each i d low)

@@ -17,7 +17,8 @@ use Rattle.crew.specs.Configured.{IsWithinLimits}
 use Rattle.crew.specs.declared.config.Config.{Config}
 use Rattle.crew.specs.inside.Turning.{ArePausedBy, AreWorkedBy}
 
-module _ (config : Config) (task : Task) (books : List BookView) (trail : List (List (Origin Push))) (positions : ℕ) (limits : IsWithinLimits config) (turn : ArePausedBy config task books trail positions) where
+module _ (config : Config) (task : Task) (books : List BookView) (trail : List (List (Origin Push))) (positions : ℕ) (limits : IsWithinLimits config)
+    (turn : ArePausedBy config task books trail positions) where
   -- the books can be joined
   pub joinable : AreAllShares books
   joinable = all_shares task config.limit (config.workers + 1) config.locks books trail positions limits.locks.0 turn
@@ -35,7 +36,9 @@ module _ (config : Config) (task : Task) (books : List BookView) (trail : List (
   looked_before layer join = subst (λ b. IsLookedAt b config.limit trail positions) (sym (next_layer layer join).0) turn.looked
 
   -- once it was looked at, and its ranks are done in books that came back, these are between two turns again
-  pub goes_on : (layer : LayerView) (count : ℕ) (after : List BookView) (all : List (List (Origin Push))) (parents : List (Origin Push)) → IsJoinOf books layer → IsLookedAt layer.level config.limit (trail ++ layer.origins ∷ []) count → AreWorkedBy config layer Through after → all ≡ trail ++ parents ∷ [] → parents ≡ layer.origins → ArePausedBy config task after all count
+  pub goes_on : (layer : LayerView) (count : ℕ) (after : List BookView) (all : List (List (Origin Push))) (parents : List (Origin Push)) →
+      IsJoinOf books layer → IsLookedAt layer.level config.limit (trail ++ layer.origins ∷ []) count → AreWorkedBy config layer Through after →
+      all ≡ trail ++ parents ∷ [] → parents ≡ layer.origins → ArePausedBy config task after all count
   goes_on layer count after all parents join looked worked is same =
       let next = next_layer layer join in
       subst (λ b. ArePausedBy config b after all count) next.0
@@ -43,12 +46,15 @@ module _ (config : Config) (task : Task) (books : List BookView) (trail : List (
       (turn_on layer.level config.limit (config.workers + 1) config.locks after trail count layer (refl, next.1) looked worked))
 
   -- or they pass the limit, one of them or all together, and the answer is the limit
-  pub ends_over : (layer : LayerView) (count : ℕ) (after : List BookView) → IsJoinOf books layer → IsLookedAt layer.level config.limit (trail ++ layer.origins ∷ []) count → AreWorkedBy config layer Over after → IsAnswer task config.limit Limit
+  pub ends_over : (layer : LayerView) (count : ℕ) (after : List BookView) → IsJoinOf books layer →
+      IsLookedAt layer.level config.limit (trail ++ layer.origins ∷ []) count → AreWorkedBy config layer Over after → IsAnswer task config.limit Limit
   ends_over layer count after join looked worked =
       let next = next_layer layer join in
       let before = worked.0 in
       subst (λ b. IsAnswer b config.limit Limit) next.0 (elim worked.3 [
-        | inl over ↦ turn_over layer.level config.limit (config.workers + 1) config.locks after trail count layer (refl, next.1) looked (before, worked.1, worked.2, over)
-        | inr (still, passed) ↦ together_limit layer.level config.limit (config.workers + 1) config.locks after trail count layer limits.locks.0 (refl, next.1) looked
-            (still_dealt layer.level config.limit (config.workers + 1) config.locks layer before after worked.1 still) (still_working layer before after worked.2 still) passed
+        | inl over ↦ turn_over layer.level config.limit (config.workers + 1) config.locks after trail count layer (refl, next.1) looked
+            (before, worked.1, worked.2, over)
+        | inr (still, passed) ↦ together_limit layer.level config.limit (config.workers + 1) config.locks after trail count layer limits.locks.0
+            (refl, next.1) looked (still_dealt layer.level config.limit (config.workers + 1) config.locks layer before after worked.1 still)
+            (still_working layer before after worked.2 still) passed
       ])

@@ -85,7 +85,8 @@ EndsWith worker hand Foreign = Unit {0}
 -- a worker ends as refused only where a lawful book of its own did not accept a parcel of the layer, and as foreign only
 -- where the book was not its own
 abbrev pub WasAnswered : LayerView → ℕ → End → Type 0
-WasAnswered layer worker (Refused refusal) = (book : BookView) × (parcel : ParcelView) × IsLawfulBook book × IsOfLayer layer parcel × HandEnds layer worker book parcel (Refused refusal)
+WasAnswered layer worker (Refused refusal) = (book : BookView) × (parcel : ParcelView) × IsLawfulBook book × IsOfLayer layer parcel
+    × HandEnds layer worker book parcel (Refused refusal)
 WasAnswered layer worker Foreign = (book : BookView) × IsLawfulBook book × ¬ (IsOwn layer worker book)
 WasAnswered layer worker Drained = Unit {0}
 WasAnswered layer worker NoPlace = Unit {0}

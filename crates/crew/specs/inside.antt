@@ -1,4 +1,5 @@
 -- What keeps the books of the code: what its loops keep, and what its functions say to each other.
+pub mod Crews
 pub mod Desks
 pub mod Events
 pub mod Lots

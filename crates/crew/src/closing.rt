@@ -6,9 +6,11 @@ ghost use Rattle.successors.specs.declared.limits.TheConstants.{MAX_SHARES};
 ghost use Rattle.solo.specs.inside.Together.{AreFinished};
 ghost use Rattle.solo.specs.inside.Turns.{AreWorkingOn};
 
+use crate::gate::Gate;
 use crate::spreading::for_each_spread;
+use crate::terms::Terms;
 use area::Scratch;
-use layers::{Book, Layer, Pruner};
+use layers::{Book, Layer};
 use solo::rest::do_rest;
 use solo::turn::{Worked, close_ahead, finish_rest};
 use std::alloc::AllocError;
@@ -18,32 +20,32 @@ use std::thread::Threads;
 // than the start of a thread.
 const SIDE_BY_SIDE: u64 = 4096;
 
-// Does as one of the workers whatever is left of the layer in each of the books, and closes the next one there; until one
+// Does, by the caller's own number, whatever is left of the layer in each of the books, and closes the next one there; until one
 // of them is over, or comes to be, or all of them hold more positions together than the limit. No book closes before that is
 // known. They may close side by side.
-pub(crate) fn finish_all<R: Threads + Sync>(
+pub(crate) fn finish_all<R: Threads + Sync, G: Gate>(
     rt: &R,
+    terms: &Terms<'_, G>,
     books: &mut [Book],
     layer: &Layer,
-    pruner: &Pruner,
     scratch: &mut Scratch,
-    worker: u8,
-    limit: u32,
 ) -> Result<Worked, AllocError>
     requires few { length books.old ≤ MAX_SHARES }
     requires working { AreWorkingOn layer.now books.old }
-    requires worker { (i : ℕ) (v : BookView) → slice_get books.old i ≡ Some v → worker < v.workers }
-    requires pruner_of_level { pruner.now ≡ layer.now.level }
+    requires worker { (i : ℕ) (v : BookView) → slice_get books.old i ≡ Some v → terms.now.config.workers < v.workers }
+    requires pruner_of_level { terms.now.pruner.now ≡ layer.now.level }
     requires room { scratch.old.size ≡ length layer.now.level.board.cells }
-    ensures worked { IfOk result (λ worked. AreFinished limit books.old layer.now worked books.new) }
+    ensures worked { IfOk result (λ worked. AreFinished terms.now.config.limit books.old layer.now worked books.new) }
     ensures size { scratch.new.size ≡ scratch.old.size }
 {
-    let within = do_rest(books, layer, pruner, scratch, worker, limit)?;
+    // the caller's own number is the last one
+    let own = terms.config.workers;
+    let within = do_rest(books, layer, terms.pruner, scratch, own, terms.config.limit)?;
     let Some(left) = within else {
         return Ok(Worked::Over);
     };
     close_side_by_side(rt, books, layer, left);
-    let worked = finish_rest(books, layer, pruner, scratch, worker)?;
+    let worked = finish_rest(books, layer, terms.pruner, scratch, own)?;
     Ok(worked)
 }
 

@@ -105,17 +105,18 @@ fn desks_of<'a>(alloc: Global, level: &Level, workers: u8, books: u8) -> Vec<Des
 {
     let mut desks = Vec::new(alloc);
     for _ in 0..workers {
-        if append_desk(alloc, level, books, &mut desks).is_err() {
+        if append_desk(alloc, level, workers, books, &mut desks).is_err() {
             return desks;
         }
     }
     desks
 }
 
-// Appends a desk for a worker over so many books. The only error is that memory was refused, which leaves the desks as they were.
+// Appends a desk for one of so many workers over so many books. The only error is that memory was refused, which leaves the desks as they were.
 fn append_desk<'a>(
     alloc: Global,
     level: &Level,
+    workers: u8,
     books: u8,
     desks: &mut Vec<Desk<'a>>,
 ) -> Result<(), AllocError>
@@ -123,7 +124,7 @@ fn append_desk<'a>(
     ensures room { AreRoomy (length level.now.cells) desks.old.items → AreRoomy (length level.now.cells) desks.new.items }
 {
     let scratch = Scratch::new(alloc, level)?;
-    let lots = Lots::of(alloc, books as usize)?;
+    let lots = Lots::of_one_of(alloc, books as usize, workers)?;
     desks.push(Desk {
         scratch,
         lots,

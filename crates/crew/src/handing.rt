@@ -60,8 +60,10 @@ pub(crate) fn hand_lot<'a, R: Wait, G: Gate>(
     ensures end { IfErr result (λ end. MayEnd G.may_stop end) }
     ensures hand { IfErr result (λ end. EndsWith worker drawer.new.hand end) }
     ensures answered { IfErr result (λ end. WasAnswered shift.now.layer worker end) }
-    ensures works { OnOk result (Works (answers_to G.may_answer shift.now worker) (shift.now.books * length lot.now) drawer.old.hand nth.old drawer.new.hand nth.new) }
-    ensures gate { IfErr result (λ end. WorksUntil (answers_to G.may_answer shift.now worker) (shift.now.books * length lot.now) drawer.old.hand nth.old drawer.new.hand nth.new end) }
+    ensures works { OnOk result (Works (answers_to G.may_answer shift.now worker) (shift.now.books * length lot.now) drawer.old.hand nth.old drawer.new.hand
+        nth.new) }
+    ensures gate { IfErr result (λ end. WorksUntil (answers_to G.may_answer shift.now worker)
+        (shift.now.books * length lot.now) drawer.old.hand nth.old drawer.new.hand nth.new end) }
     ensures place { IsAtPlace shift.now.ledger worker drawer.new }
     ensures size { scratch.new.size ≡ scratch.old.size }
 {
@@ -91,7 +93,8 @@ fn hand_lot_to<'a, R: Wait, G: Gate>(
     ensures hand { IfErr result (λ end. EndsWith worker drawer.new.hand end) }
     ensures answered { IfErr result (λ end. WasAnswered shift.now.layer worker end) }
     ensures works { OnOk result (Works (answers_to G.may_answer shift.now worker) (length lot.now) drawer.old.hand nth.old drawer.new.hand nth.new) }
-    ensures gate { IfErr result (λ end. WorksUntil (answers_to G.may_answer shift.now worker) (length lot.now) drawer.old.hand nth.old drawer.new.hand nth.new end) }
+    ensures gate { IfErr result (λ end. WorksUntil (answers_to G.may_answer shift.now worker)
+        (length lot.now) drawer.old.hand nth.old drawer.new.hand nth.new end) }
     ensures place { IsAtPlace shift.now.ledger worker drawer.new }
     ensures size { scratch.new.size ≡ scratch.old.size }
 {

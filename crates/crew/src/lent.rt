@@ -8,8 +8,9 @@ ghost use Rattle.crew.specs.Lending.{ComesBack, ComeBack};
 use crate::config::Config;
 use crate::desks::Desks;
 use crate::gate::Gate;
+use crate::terms::Terms;
 use claims::{Drawer, Ledger};
-use layers::{Book, Layer, Pruner};
+use layers::{Book, Layer};
 use std::alloc::{AllocError, Global};
 use std::sync::{Mutex, Wait};
 use std::thread::Threads;
@@ -19,20 +20,21 @@ use std::thread::Threads;
 // that memory was refused.
 pub(crate) fn lend<R: Threads + Wait + Sync, G: Gate + Sync>(
     rt: &R,
-    alloc: Global,
+    terms: &Terms<'_, G>,
     books: Vec<Book>,
     layer: &Layer,
-    pruner: &Pruner,
     desks: &mut Desks<'_>,
-    gate: &G,
     positions: u64,
-    limit: u32,
 ) -> Result<Vec<Book>, AllocError>
-    requires pruner_of_level { pruner.now ≡ layer.now.level }
-    requires ranks { length layer.now.places < 2 ^ 32 }
+    requires pruner_of_level { terms.now.pruner.now ≡ layer.now.level }
+    requires few { length layer.now.places ≤ terms.now.config.limit }
     requires desks { desks.old ≡ layer.now.level.board }
     ensures desks { desks.new ≡ desks.old }
 {
+    let alloc = terms.alloc;
+    let pruner = terms.pruner;
+    let gate = terms.gate;
+    let limit = terms.config.limit;
     let (ledger, drawer) = ledger_of(alloc, layer)?;
     let locks = lock_each(alloc, books)?;
     let books = locks.as_slice();

@@ -29,25 +29,44 @@ const USUAL: u64 = MOST / AHEAD as u64;
 // A lot is to have one of so many parts of the ranks that are left, as far as it may have as many.
 const PARTS: u64 = 64;
 
+// So many ranks the lots of all workers have at most, of those that are handed back and of those that are drawn next: up to
+// four workers keep the greatest lots. A parcel takes some 40 KB, whatever the level.
+const MOST_OF_ALL: usize = 64;
+
 /// The lots of a worker: the one that it hands back, and the one that it draws next.
 #[derive(Drop)]
 pub(crate) struct Lots<'a> {
     pub(crate) ready: Lot<'a>,
     pub(crate) next: Lot<'a>,
+    // either has room for so many ranks at most
+    most: usize,
 }
 
 impl<'a> Lots<'a> {
     /// Lots of a rank each for so many books, and none is drawn. The only error is that memory was refused.
     pub(crate) fn of(alloc: Global, books: usize) -> Result<Lots<'a>, AllocError> {
+        Lots::of_one_of(alloc, books, 1)
+    }
+
+    /// The same for one of so many workers, whose lots grow less where these are many.
+    pub(crate) fn of_one_of(
+        alloc: Global,
+        books: usize,
+        workers: u8,
+    ) -> Result<Lots<'a>, AllocError> {
         let shares = shares_of(books);
         let ready = Lot::of(alloc, shares)?;
         let next = Lot::of(alloc, shares)?;
-        Ok(Lots { ready, next })
+        Ok(Lots {
+            ready,
+            next,
+            most: most_of_one(workers),
+        })
     }
 
     /// Makes room for the greatest lots of a layer of so many positions. Where memory is refused the lots stay as small as they are.
     pub(crate) fn have_room(&mut self, positions: u64) {
-        let most = lot_size(positions).saturating_mul(AHEAD);
+        let most = lot_size(positions).saturating_mul(AHEAD).min(self.most);
         self.ready.have_room(most);
         self.next.have_room(most);
     }
@@ -165,6 +184,14 @@ impl<'a> Lot<'a> {
         put(shift, rank, scratch, &mut self.parcels, place, self.shares);
         self.filled = place + 1;
         Ok(true)
+    }
+}
+
+// How many ranks the lot of one of so many workers has at most: one at least.
+fn most_of_one(workers: u8) -> usize {
+    match workers {
+        0 => MOST_OF_ALL,
+        _ => (MOST_OF_ALL / workers as usize).max(1),
     }
 }
 

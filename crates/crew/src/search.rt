@@ -5,11 +5,13 @@ ghost use Rattle.successors.specs.Capping.{capped};
 ghost use Rattle.solo.specs.Answers.{IsAnswer};
 ghost use Rattle.crew.specs.Configured.{IsWithinLimits};
 ghost use Rattle.crew.specs.Solving.{SolveRefused};
+ghost use Rattle.crew.specs.inside.Crews.{IsCrewOf};
 ghost use Rattle.crew.specs.inside.Turning.{ArePausedBy};
 
 use crate::config::Config;
 use crate::desks::Desks;
 use crate::gate::Gate;
+use crate::terms::{Crew, History, Terms};
 use crate::turns::{Turned, turn};
 use area::Scratch;
 use grid::{Level, MAX_BOXES};
@@ -39,7 +41,8 @@ pub fn solve<R: Threads + Wait + Sync, G: Gate + Sync>(
     gate: &G,
 ) -> Result<Answer, SolveFault>
     ensures answer { IfOk result (λ answer. IsAnswer (capped (arc_value level.now) config.cap) config.limit answer) }
-    ensures boxes { MatchResult result (λ answer. IsWithinLimits config × (box_count (arc_value level.now) ≤ MAX_BOXES)) (λ fault. SolveRefused config (arc_value level.now) fault) }
+    ensures boxes { MatchResult result (λ answer. IsWithinLimits config × (box_count (arc_value level.now) ≤ MAX_BOXES))
+        (λ fault. SolveRefused config (arc_value level.now) fault) }
 {
     if !config.is_within_limits() {
         return Err(SolveFault::BadConfig);
@@ -79,53 +82,37 @@ fn search<R: Threads + Wait + Sync, G: Gate + Sync>(
         config.locks,
         &mut scratch,
     )?;
-    let mut desks = Desks::of(alloc, level, config.workers, config.locks);
-    all_turns(
-        rt,
+    let desks = Desks::of(alloc, level, config.workers, config.locks);
+    let mut crew = Crew { scratch, desks };
+    let terms = Terms {
         alloc,
-        books,
-        &pruner,
-        &mut scratch,
-        &mut desks,
+        pruner: &pruner,
         config,
         gate,
-    )
+    };
+    all_turns(rt, &terms, books, &mut crew)
 }
 
 // Looks at layer after layer until there is an answer; `None` where other books came back than were lent. The only
 // error is that memory was refused.
 fn all_turns<R: Threads + Wait + Sync, G: Gate + Sync>(
     rt: &R,
-    alloc: Global,
+    terms: &Terms<'_, G>,
     first: Vec<Book>,
-    pruner: &Pruner,
-    scratch: &mut Scratch,
-    desks: &mut Desks<'_>,
-    config: Config,
-    gate: &G,
+    crew: &mut Crew<'_>,
 ) -> Result<Option<Answer>, AllocError>
-    requires limits { IsWithinLimits config }
-    requires first { ArePausedBy config pruner.now first.items [] 0 }
-    requires room { scratch.old.size ≡ length pruner.now.board.cells }
-    requires desks { desks.old ≡ pruner.now.board }
-    ensures { IfOk result (λ found. IfSome found (λ answer. IsAnswer pruner.now config.limit answer)) }
+    requires limits { IsWithinLimits terms.now.config }
+    requires first { ArePausedBy terms.now.config terms.now.pruner.now first.items [] 0 }
+    requires crew { IsCrewOf terms.now.pruner.now.board crew.old }
+    ensures { IfOk result (λ found. IfSome found (λ answer. IsAnswer terms.now.pruner.now terms.now.config.limit answer)) }
 {
-    let mut trail = Vec::new(alloc);
-    let mut positions = 0;
+    let mut history = History {
+        trail: Vec::new(terms.alloc),
+        positions: 0,
+    };
     let mut books = first;
     loop {
-        match turn(
-            rt,
-            alloc,
-            books,
-            &mut trail,
-            &mut positions,
-            pruner,
-            scratch,
-            desks,
-            config,
-            gate,
-        )? {
+        match turn(rt, terms, books, &mut history, crew)? {
             Turned::Onward(next) => books = next,
             Turned::Found(answer) => return Ok(Some(answer)),
             Turned::Foreign => return Ok(None),

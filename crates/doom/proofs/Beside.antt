@@ -22,7 +22,8 @@ pub floor_behind : (board : Board) (q : ℕ) (d : Dir) → ¬ (IsFast board q d)
 floor_behind board q d loose = no_wall board (next board q (opposite d)) (λ wall. loose (inr (inl (inl wall))))
 
 -- such a square is held where a member is next to it
-pub held_cases : (board : Board) (members : Squares) (q : ℕ) (d : Dir) → ¬ (IsFast board q d) → IsHeld board members q d → (contains members (next board q d) ≡ true) ⊎ (contains members (next board q (opposite d)) ≡ true)
+pub held_cases : (board : Board) (members : Squares) (q : ℕ) (d : Dir) → ¬ (IsFast board q d) → IsHeld board members q d →
+    (contains members (next board q d) ≡ true) ⊎ (contains members (next board q (opposite d)) ≡ true)
 held_cases board members q d loose (inl (inl wall)) = absurd (loose (inl (inl wall)))
 held_cases board members q d loose (inl (inr ahead)) = inl ahead
 held_cases board members q d loose (inr (inl (inl wall))) = absurd (loose (inr (inl (inl wall))))

@@ -1,5 +1,6 @@
 -- Where walls and dead squares alone hold a box, as sets.
-use Rattle.std.proofs.Common.{◌≡◌, ◌≢◌, ◌↔◌, ◌<◌, ◌≤◌, ◌+◌, ◌-◌, ℕ, Bool, true, false, eqb, ltb, ◌||◌, List, length, refl, sym, ap, subst, ◌∙◌, inl, inr, arith, add-one, IsTrue}
+use Rattle.std.proofs.Common.{◌≡◌, ◌≢◌, ◌↔◌, ◌<◌, ◌≤◌, ◌+◌, ◌-◌, ℕ, Bool, true, false, eqb, ltb, ◌||◌, List, length, refl, sym, ap, subst, ◌∙◌, inl, inr, arith}
+use Rattle.std.proofs.Common.{add-one, IsTrue}
 use Rattle.std.proofs.lemmas.Bool.{false≢true, cases_Bool, cond_both, or_cases, or_left, or_right, cases_eq, eqb-true, eq-eqb, ltb-false}
 use Rattle.grid.specs.declared.dir.Dir.{Dir}
 use Rattle.grid.specs.declared.dir.Dir.TheVariants.{D, L, R, U}
@@ -19,11 +20,13 @@ use Rattle.doom.proofs.Beside.{held_fast, held_cases, floor_ahead, floor_behind,
 
 below_of : (board : Board) (q : ℕ) → next board q D < length board.cells → next board q D ≡ q + board.cols
 unfolding next
-below_of board q = cond_both (ltb (q + board.cols) (length board.cells)) (q + board.cols) (length board.cells) (λ (x : ℕ). x < length board.cells → x ≡ q + board.cols) (λ e lt. refl) (λ e lt. absurd (omega arith))
+below_of board q = cond_both (ltb (q + board.cols) (length board.cells)) (q + board.cols) (length board.cells) (λ (x : ℕ). x < length board.cells →
+    x ≡ q + board.cols) (λ e lt. refl) (λ e lt. absurd (omega arith))
 
 above_of : (board : Board) (q : ℕ) → next board q U < length board.cells → next board q U + board.cols ≡ q
 unfolding next
-above_of board q = cond_both (ltb q board.cols) (length board.cells) (q - board.cols) (λ (x : ℕ). x < length board.cells → x + board.cols ≡ q) (λ e lt. absurd (omega arith)) (λ e lt. (let le = ltb-false q board.cols e in omega arith))
+above_of board q = cond_both (ltb q board.cols) (length board.cells) (q - board.cols) (λ (x : ℕ). x < length board.cells →
+    x + board.cols ≡ q) (λ e lt. absurd (omega arith)) (λ e lt. (let le = ltb-false q board.cols e in omega arith))
 
 pub apart_across : (board : Board) → IsApart board R 1
 apart_across board q loose = (
@@ -38,7 +41,8 @@ apart_along board cols same = subst (IsApart board D) (sym same) (λ q loose. (
 ))
 
 -- the squares beside one that nothing holds fast are others
-pub other_beside : (board : Board) (q : ℕ) (d : Dir) (by : ℕ) → 1 ≤ by → IsApart board d by → ¬ (IsFast board q d) → (next board q d ≢ q) × (next board q (opposite d) ≢ q)
+pub other_beside : (board : Board) (q : ℕ) (d : Dir) (by : ℕ) → 1 ≤ by → IsApart board d by → ¬ (IsFast board q d) → (next board q d ≢ q) ×
+    (next board q (opposite d) ≢ q)
 other_beside board q d by some apart loose =
     let (after, before) = apart q loose in
     (λ same. omega (arith, some, after, same), λ same. omega (arith, some, before, same))
@@ -46,7 +50,8 @@ other_beside board q d by some apart loose =
 -- ---- what holds a box among the members of a set
 
 -- a box is held by what the sets tell where walls, members or dead squares hold it
-held_told : (board : Board) (fast : List ℕ) (members : Squares) (q by : ℕ) (d : Dir) → AreFast board d fast → IsApart board d by → q < length board.cells → IsHeldBy fast by members q ↔ IsHeld board members q d
+held_told : (board : Board) (fast : List ℕ) (members : Squares) (q by : ℕ) (d : Dir) → AreFast board d fast → IsApart board d by → q < length board.cells →
+    IsHeldBy fast by members q ↔ IsHeld board members q d
 held_told board fast members q by d are apart inside = elim (cases_Bool (has_bit fast q)) [
   | inl there ↦ (λ _. held_fast board members q d ((are.right q inside).0 there), λ _. inl there)
   | inr none ↦
@@ -97,7 +102,8 @@ module _ (board : Board) (holds : Holds) (are : AreHolds board holds) (boxes : S
             ));
       }
 
-  pub frozen_told : (told : Bool) → IsTrue told ↔ ((part : Squares) × AreLocked holds board.cols boxes part) → IsTrue told ↔ ((part : Squares) × IsFrozen board boxes part)
+  pub frozen_told : (told : Bool) → IsTrue told ↔ ((part : Squares) × AreLocked holds board.cols boxes part) → IsTrue told ↔
+      ((part : Squares) × IsFrozen board boxes part)
   frozen_told told tells = (
     λ h. (let (part, locked) = tells.0 h in (part, frozen_as_locked part locked)),
     λ (part, frozen). tells.1 (part, locked_as_frozen part frozen),
@@ -112,7 +118,8 @@ IsFilledUpTo P n words = (q : ℕ) → (has_bit words q ≡ true) ↔ ((q < n) �
 pub filled_none : (P : ℕ → Type 0) (words : List ℕ) → ((q : ℕ) → has_bit words q ≡ false) → IsFilledUpTo P 0 words
 filled_none P words none q = (λ h. absurd (false≢true (sym (none q) ∙ h)), λ (lt, p). absurd (omega (arith, lt)))
 
-pub filled_more : (P : ℕ → Type 0) (old new : List ℕ) (n : ℕ) → ((q : ℕ) → has_bit new q ≡ (has_bit old q || eqb n q)) → P n → IsFilledUpTo P n old → IsFilledUpTo P (n + 1) new
+pub filled_more : (P : ℕ → Type 0) (old new : List ℕ) (n : ℕ) → ((q : ℕ) → has_bit new q ≡ (has_bit old q || eqb n q)) → P n → IsFilledUpTo P n old →
+    IsFilledUpTo P (n + 1) new
 filled_more P old new n put p filled q = (
   λ h. elim (or_cases (has_bit old q) (eqb n q) (sym (put q) ∙ h)) [
     | inl before ↦ (let (lt, has) = (filled q).0 before in (omega (arith, lt), has))

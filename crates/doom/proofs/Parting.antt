@@ -25,7 +25,8 @@ hangs_there (onto d w h) = h
 
 -- ---- frozen boxes, cut in two
 
-module _ (board : Board) (boxes members : Squares) (clear : (q : ℕ) → contains boxes q ≡ true → is_wall board q ≡ false) (frozen : IsFrozen board boxes members) where
+module _ (board : Board) (boxes members : Squares) (clear : (q : ℕ) → contains boxes q ≡ true →
+    is_wall board q ≡ false) (frozen : IsFrozen board boxes members) where
   -- the members that pass a test
   cut : (ℕ → Bool) → Squares
   cut test = passing_from (λ q. contains members q && test q) 0 (length board.cells)
@@ -33,13 +34,15 @@ module _ (board : Board) (boxes members : Squares) (clear : (q : ℕ) → contai
   cut_in : (test : ℕ → Bool) (q : ℕ) → contains members q ≡ true → test q ≡ true → contains (cut test) q ≡ true
   unfolding cut
   cut_in test q member passes =
-      (let lt = inside_grid board q (clear q (frozen.some q member)) in passing_within (λ x. contains members x && test x) 0 (length board.cells) q (omega arith) (omega (arith, lt)))
+      (let lt = inside_grid board q (clear q (frozen.some q member)) in
+      passing_within (λ x. contains members x && test x) 0 (length board.cells) q (omega arith) (omega (arith, lt)))
       ∙ and_from (contains members q) (test q) member passes
 
   cut_parts : (test : ℕ → Bool) (q : ℕ) → contains (cut test) q ≡ true → (contains members q ≡ true) × (test q ≡ true)
   unfolding cut
   cut_parts test q h = elim (cases_lt q (length board.cells)) [
-    | inl lt ↦ and_parts (contains members q) (test q) (sym (passing_within (λ x. contains members x && test x) 0 (length board.cells) q (omega arith) (omega (arith, lt))) ∙ h)
+    | inl lt ↦ and_parts (contains members q) (test q)
+        (sym (passing_within (λ x. contains members x && test x) 0 (length board.cells) q (omega arith) (omega (arith, lt))) ∙ h)
     | inr le ↦ absurd (true≢false (sym h ∙ passing_past (λ x. contains members x && test x) 0 (length board.cells) q (omega (arith, le))))
   ]
 
@@ -47,15 +50,18 @@ module _ (board : Board) (boxes members : Squares) (clear : (q : ℕ) → contai
   abbrev PassesBeside : (ℕ → Bool) → Type 0
   PassesBeside test = (q : ℕ) (d : Dir) → contains members q ≡ true → test q ≡ true → contains members (next board q d) ≡ true → test (next board q d) ≡ true
 
-  cut_held : (test : ℕ → Bool) → PassesBeside test → (q : ℕ) (d : Dir) → contains members q ≡ true → test q ≡ true → IsHeld board members q d → IsHeld board (cut test) q d
+  cut_held : (test : ℕ → Bool) → PassesBeside test → (q : ℕ) (d : Dir) → contains members q ≡ true → test q ≡ true → IsHeld board members q d →
+      IsHeld board (cut test) q d
   cut_held test on q d member passes (inl (inl wall)) = inl (inl wall)
   cut_held test on q d member passes (inl (inr ahead)) = inl (inr (cut_in test (next board q d) ahead (on q d member passes ahead)))
   cut_held test on q d member passes (inr (inl (inl wall))) = inr (inl (inl wall))
-  cut_held test on q d member passes (inr (inl (inr behind))) = inr (inl (inr (cut_in test (next board q (opposite d)) behind (on q (opposite d) member passes behind))))
+  cut_held test on q d member passes (inr (inl (inr behind))) =
+      inr (inl (inr (cut_in test (next board q (opposite d)) behind (on q (opposite d) member passes behind))))
   cut_held test on q d member passes (inr (inr dead)) = inr (inr dead)
 
   -- then those that pass it block one another without the rest
-  cut_frozen : (test : ℕ → Bool) → PassesBeside test → (q : ℕ) → contains members q ≡ true → test q ≡ true → is_goal board q ≡ false → IsFrozen board boxes (cut test)
+  cut_frozen : (test : ℕ → Bool) → PassesBeside test → (q : ℕ) → contains members q ≡ true → test q ≡ true → is_goal board q ≡ false →
+      IsFrozen board boxes (cut test)
   cut_frozen test on q member passes off = record {
     some = λ x h. frozen.some x (cut_parts test x h).0;
     off_goal = (q, cut_in test q member passes, off);
@@ -63,12 +69,18 @@ module _ (board : Board) (boxes members : Squares) (clear : (q : ℕ) → contai
   }
 
   -- of frozen boxes those that hang together with a box are frozen, or the others are
-  pub parted : (test : ℕ → Bool) (square : ℕ) → ((q : ℕ) → (test q ≡ true) ↔ HangsWith board boxes square q) → IsGroupFrozen board boxes square ⊎ AreOthersFrozen board boxes square
+  pub parted : (test : ℕ → Bool) (square : ℕ) → ((q : ℕ) → (test q ≡ true) ↔ HangsWith board boxes square q) → IsGroupFrozen board boxes square ⊎
+      AreOthersFrozen board boxes square
   parted test square tells =
       let (q, member, off) = frozen.off_goal in
       elim (cases_Bool (test q)) [
         | inl hangs ↦ inl (cut test, cut_frozen test joined q member hangs off, λ m h. (tells m).0 (cut_parts test m h).1)
-        | inr apart ↦ inr (cut (λ y. not (test y)), cut_frozen (λ y. not (test y)) parts q member (ap not apart) off, λ m h w. true≢false (sym ((tells m).1 w) ∙ not-true (test m) (cut_parts (λ y. not (test y)) m h).1))
+        | inr apart ↦ inr (
+          cut (λ y. not (test y)),
+          cut_frozen (λ y. not (test y)) parts q member (ap not apart) off,
+          λ m h w. true≢false (sym ((tells m).1 w) ∙
+              not-true (test m) (cut_parts (λ y. not (test y)) m h).1),
+        )
       ]
     where
       joined : PassesBeside test
@@ -77,16 +89,19 @@ module _ (board : Board) (boxes members : Squares) (clear : (q : ℕ) → contai
       parts : PassesBeside (λ y. not (test y))
       parts x d member apart beside = elim (cases_Bool (test (next board x d))) [
         | inl hangs ↦
-            (let back : next board (next board x d) (opposite d) ≡ x = next_back board x d (clear x (frozen.some x member)) (clear (next board x d) (frozen.some (next board x d) beside)) in
+            (let back : next board (next board x d) (opposite d) ≡ x =
+            next_back board x d (clear x (frozen.some x member)) (clear (next board x d) (frozen.some (next board x d) beside)) in
             let there : contains boxes (next board (next board x d) (opposite d)) ≡ true = ap (contains boxes) back ∙ frozen.some x member in
-            let hangs_too : HangsWith board boxes square x = subst (HangsWith board boxes square) back (onto (opposite d) ((tells (next board x d)).0 hangs) there) in
+            let hangs_too : HangsWith board boxes square x =
+            subst (HangsWith board boxes square) back (onto (opposite d) ((tells (next board x d)).0 hangs) there) in
             absurd (true≢false (sym ((tells x).1 hangs_too) ∙ not-true (test x) apart)))
         | inr none ↦ ap not none
       ]
 
 -- ---- what is told of a group
 
-module _ (board : Board) (boxes : Squares) (square : ℕ) (group : Squares) (told : Bool) (are : (q : ℕ) → (contains group q ≡ true) ↔ HangsWith board boxes square q)
+module _ (board : Board) (boxes : Squares) (square : ℕ) (group : Squares) (told : Bool) (are : (q : ℕ) → (contains group q ≡ true) ↔
+    HangsWith board boxes square q)
     (tells : IsTrue told ↔ ((frozen : Squares) × IsFrozen board group frozen)) where
   pub group_told : IsTrue told ↔ IsGroupFrozen board boxes square
   group_told = (
@@ -97,7 +112,8 @@ module _ (board : Board) (boxes : Squares) (square : ℕ) (group : Squares) (tol
     λ (frozen, is, hang). tells.1 (frozen, frozen_among board boxes group frozen (λ m there. (are m).1 (hang m there)) is),
   )
 
-  pub others_told : ((q : ℕ) → contains boxes q ≡ true → is_wall board q ≡ false) → (members : Squares) → IsFrozen board boxes members → IsTrue told ⊎ AreOthersFrozen board boxes square
+  pub others_told : ((q : ℕ) → contains boxes q ≡ true → is_wall board q ≡ false) → (members : Squares) → IsFrozen board boxes members → IsTrue told ⊎
+      AreOthersFrozen board boxes square
   others_told clear members frozen = elim (parted board boxes members clear frozen (contains group) square are) [
     | inl hangs ↦ inl (group_told.1 hangs)
     | inr others ↦ inr others
@@ -118,8 +134,10 @@ doomed_if_from board boxes q there (inl dead) = inl (q, there, dead)
 doomed_if_from board boxes q there (inr (members, frozen, _)) = inr (members, frozen)
 
 -- where the boxes before a push were not doomed, those after it are doomed from the pushed box or not at all
-pub doomed_as_from : (board : Board) (before after : Squares) (from to : ℕ) (told : Bool) → after ≡ insert (remove before from) to → contains after to ≡ true → ¬ (Doomed board before)
-    → IsTrue told ↔ DoomedFrom board after to → ((members : Squares) → IsFrozen board after members → IsTrue told ⊎ AreOthersFrozen board after to) → IsTrue told ↔ Doomed board after
+pub doomed_as_from : (board : Board) (before after : Squares) (from to : ℕ) (told : Bool) → after ≡ insert (remove before from) to → contains after to ≡ true →
+    ¬ (Doomed board before)
+    → IsTrue told ↔ DoomedFrom board after to → ((members : Squares) → IsFrozen board after members → IsTrue told ⊎ AreOthersFrozen board after to) →
+    IsTrue told ↔ Doomed board after
 doomed_as_from board before after from to told moved there safe tells others = (
   λ h. doomed_if_from board after to there (tells.0 h),
   λ doomed. elim doomed [
@@ -135,11 +153,13 @@ doomed_as_from board before after from to told moved there safe tells others = (
 )
   where
     stay : (rest : Squares) → IsFrozen board after rest → ((m : ℕ) → contains rest m ≡ true → ¬ (HangsWith board after to m)) → IsWithin rest before
-    stay rest is apart q m = stood_before before from to q (λ same. apart q m (subst (HangsWith board after to) same (itself there))) (sym (ap (λ (b : Squares). contains b q) moved) ∙ is.some q m)
+    stay rest is apart q m = stood_before before from to q (λ same. apart q m (subst (HangsWith board after to) same (itself there)))
+        (sym (ap (λ (b : Squares). contains b q) moved) ∙ is.some q m)
 
 -- where the boxes before a push were not doomed, frozen boxes after it are frozen among those that hang together with the
 -- pushed one
-module _ (board : Board) (before after : Squares) (from to : ℕ) (moved : after ≡ insert (remove before from) to) (there : contains after to ≡ true) (safe : ¬ (Doomed board before))
+module _ (board : Board) (before after : Squares) (from to : ℕ) (moved : after ≡ insert (remove before from) to) (there : contains after to ≡ true)
+    (safe : ¬ (Doomed board before))
     (clear : (q : ℕ) → contains after q ≡ true → is_wall board q ≡ false) where
   pub group_if_frozen : (members : Squares) → IsFrozen board after members → IsGroupFrozen board after to
   group_if_frozen members frozen =
@@ -150,7 +170,8 @@ module _ (board : Board) (before after : Squares) (from to : ℕ) (moved : after
       ]
     where
       stay : (rest : Squares) → IsFrozen board after rest → ((m : ℕ) → contains rest m ≡ true → ¬ (HangsWith board after to m)) → IsWithin rest before
-      stay rest is apart q m = stood_before before from to q (λ same. apart q m (subst (HangsWith board after to) same (itself there))) (sym (ap (λ (b : Squares). contains b q) moved) ∙ is.some q m)
+      stay rest is apart q m = stood_before before from to q (λ same. apart q m (subst (HangsWith board after to) same (itself there)))
+          (sym (ap (λ (b : Squares). contains b q) moved) ∙ is.some q m)
 
   module _ (told : Bool) (live : ¬ (IsDead board to)) (tells : IsTrue told ↔ ((members : Squares) × IsFrozen board after members)) where
     pub from_frozen : IsTrue told ↔ DoomedFrom board after to
@@ -166,8 +187,10 @@ module _ (board : Board) (before after : Squares) (from to : ℕ) (moved : after
     doomed_frozen = doomed_as_from board before after from to told moved there safe from_frozen (λ members frozen. inl (tells.1 (members, frozen)))
 
 -- the boxes before a push stand inside, where those after it and the one that was pushed do
-pub stood_inside : (board : Board) (before after : Squares) (from to : ℕ) → after ≡ insert (remove before from) to → from < length board.cells → StandInside board after → StandInside board before
+pub stood_inside : (board : Board) (before after : Squares) (from to : ℕ) → after ≡ insert (remove before from) to → from < length board.cells →
+    StandInside board after → StandInside board before
 stood_inside board before after from to moved inside stand q h = elim (cases_eq from q) [
   | inl same ↦ subst (λ (x : ℕ). x < length board.cells) same inside
-  | inr other ↦ stand q (ap (λ (b : Squares). contains b q) moved ∙ contains-insert_kept (remove before from) to q (contains-remove_other before from q other ∙ h))
+  | inr other ↦ stand q (ap (λ (b : Squares). contains b q) moved ∙ contains-insert_kept (remove before from) to q (contains-remove_other before from q other ∙
+      h))
 ]

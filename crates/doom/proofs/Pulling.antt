@@ -1,5 +1,6 @@
 -- Pulls from the goals, turn after turn, find exactly the least numbers of pushes.
-use Rattle.std.proofs.Common.{◌≡◌, ◌≢◌, ◌<◌, ◌≤◌, ◌+◌, ◌++◌, ℕ, zero, suc, true, cond, is_some, Option, Some, None, List, [], ◌∷◌, length, get_or, set, replicate, refl, sym, ap, subst, ◌∙◌, ◌⊎◌, inl, inr, arith, length-append, length-set, get_or-set_other, get_or-set_same}
+use Rattle.std.proofs.Common.{◌≡◌, ◌≢◌, ◌<◌, ◌≤◌, ◌+◌, ◌++◌, ℕ, zero, suc, true, cond, is_some, Option, Some, None, List, [], ◌∷◌, length, get_or, set}
+use Rattle.std.proofs.Common.{replicate, refl, sym, ap, subst, ◌∙◌, ◌⊎◌, inl, inr, arith, length-append, length-set, get_or-set_other, get_or-set_same}
 use Rattle.std.proofs.lemmas.List.{length-replicate}
 use Rattle.std.proofs.lemmas.Bool.{false≢true}
 use Rattle.std.proofs.lemmas.Bool.Decides.{eqb_tells}
@@ -15,10 +16,13 @@ use Rattle.doom.proofs.Ways.{goal_floor, way_pulled, some_injective, none_not_so
 -- ---- a square is marked
 
 -- it was known, and nothing changes, or it was not
-marks_split : (k q : ℕ) (far far' : List (Option ℕ)) (marked marked' : List ℕ) → Marks k q far marked far' marked' → ((n : ℕ) × (far_at far q ≡ Some n) × (far' ≡ far) × (marked' ≡ marked)) ⊎ ((far_at far q ≡ None) × (far' ≡ set far q (Some k)) × (marked' ≡ marked ++ q ∷ []))
+marks_split : (k q : ℕ) (far far' : List (Option ℕ)) (marked marked' : List ℕ) → Marks k q far marked far' marked' →
+    ((n : ℕ) × (far_at far q ≡ Some n) × (far' ≡ far) × (marked' ≡ marked)) ⊎
+    ((far_at far q ≡ None) × (far' ≡ set far q (Some k)) × (marked' ≡ marked ++ q ∷ []))
 marks_split k q far far' marked marked' (a, p) = by_entry (far_at far q) refl
   where
-    by_entry : (o : Option ℕ) → far_at far q ≡ o → ((n : ℕ) × (far_at far q ≡ Some n) × (far' ≡ far) × (marked' ≡ marked)) ⊎ ((far_at far q ≡ None) × (far' ≡ set far q (Some k)) × (marked' ≡ marked ++ q ∷ []))
+    by_entry : (o : Option ℕ) → far_at far q ≡ o → ((n : ℕ) × (far_at far q ≡ Some n) × (far' ≡ far) × (marked' ≡ marked)) ⊎
+        ((far_at far q ≡ None) × (far' ≡ set far q (Some k)) × (marked' ≡ marked ++ q ∷ []))
     by_entry (Some n) at = inl (n, at, a ∙ ap (λ o. cond (is_some o) far (set far q (Some k))) at, p ∙ ap (λ o. cond (is_some o) marked (marked ++ q ∷ [])) at)
     by_entry None at = inr (at, a ∙ ap (λ o. cond (is_some o) far (set far q (Some k))) at, p ∙ ap (λ o. cond (is_some o) marked (marked ++ q ∷ [])) at)
 
@@ -39,11 +43,13 @@ set_cases far q k x n lt at = elim (eqb_tells x q) [
 ]
 
 -- what is said of equal lists
-pub spread_along : (board : Board) (Asked : ℕ → Type 0) (Due : ℕ → Dir → Type 0) (k : ℕ) (far far' : List (Option ℕ)) (due marked marked' : List ℕ) → far' ≡ far → marked' ≡ marked → IsSpread board Asked Due k far due marked → IsSpread board Asked Due k far' due marked'
+pub spread_along : (board : Board) (Asked : ℕ → Type 0) (Due : ℕ → Dir → Type 0) (k : ℕ) (far far' : List (Option ℕ)) (due marked marked' : List ℕ) →
+    far' ≡ far → marked' ≡ marked → IsSpread board Asked Due k far due marked → IsSpread board Asked Due k far' due marked'
 spread_along board Asked Due k far far' due marked marked' same still spread =
     subst (λ ys. IsSpread board Asked Due k far' due ys) (sym still) (subst (λ fs. IsSpread board Asked Due k fs due marked) (sym same) spread)
 
-spread_set : (board : Board) (Asked : ℕ → Type 0) (Due : ℕ → Dir → Type 0) (k q : ℕ) (far : List (Option ℕ)) (due marked : List ℕ) → q < length far → HasWay board q k → far_at far q ≡ None → IsSpread board Asked Due k far due marked → IsSpread board Asked Due k (set far q (Some k)) due (marked ++ q ∷ [])
+spread_set : (board : Board) (Asked : ℕ → Type 0) (Due : ℕ → Dir → Type 0) (k q : ℕ) (far : List (Option ℕ)) (due marked : List ℕ) → q < length far →
+    HasWay board q k → far_at far q ≡ None → IsSpread board Asked Due k far due marked → IsSpread board Asked Due k (set far q (Some k)) due (marked ++ q ∷ [])
 spread_set board Asked Due k q far due marked lt way none spread = record {
   size = length-set far q (Some k) ∙ spread.size;
   sound = λ x n at. elim (set_cases far q k x n lt at) [
@@ -74,15 +80,20 @@ spread_set board Asked Due k q far due marked lt way none spread = record {
     kept x n at = set_kept far q k x n none at
 
 -- marking a square that has a way of k pushes keeps what a turn keeps
-pub spread_mark : (board : Board) (Asked : ℕ → Type 0) (Due : ℕ → Dir → Type 0) (k q : ℕ) (far far' : List (Option ℕ)) (due marked marked' : List ℕ) → q < length far → HasWay board q k → Marks k q far marked far' marked' → IsSpread board Asked Due k far due marked → IsSpread board Asked Due k far' due marked'
+pub spread_mark : (board : Board) (Asked : ℕ → Type 0) (Due : ℕ → Dir → Type 0) (k q : ℕ) (far far' : List (Option ℕ)) (due marked marked' : List ℕ) →
+    q < length far → HasWay board q k → Marks k q far marked far' marked' → IsSpread board Asked Due k far due marked →
+    IsSpread board Asked Due k far' due marked'
 spread_mark board Asked Due k q far far' due marked marked' lt way marks spread =
     elim (marks_split k q far far' marked marked' marks) [
       | inl (n, at, same, still) ↦ spread_along board Asked Due k far far' due marked marked' same still spread
-      | inr (none, same, still) ↦ spread_along board Asked Due k (set far q (Some k)) far' due (marked ++ q ∷ []) marked' same still (spread_set board Asked Due k q far due marked lt way none spread)
+      | inr (none, same, still) ↦
+          spread_along board Asked Due k (set far q (Some k)) far' due (marked ++ q ∷ []) marked' same still
+          (spread_set board Asked Due k q far due marked lt way none spread)
     ]
 
 -- and the square is known then
-pub marks_here : (board : Board) (Asked : ℕ → Type 0) (Due : ℕ → Dir → Type 0) (k q : ℕ) (far far' : List (Option ℕ)) (due marked marked' : List ℕ) → q < length far → Marks k q far marked far' marked' → IsSpread board Asked Due k far due marked → IsKnownWithin far' q k
+pub marks_here : (board : Board) (Asked : ℕ → Type 0) (Due : ℕ → Dir → Type 0) (k q : ℕ) (far far' : List (Option ℕ)) (due marked marked' : List ℕ) →
+    q < length far → Marks k q far marked far' marked' → IsSpread board Asked Due k far due marked → IsKnownWithin far' q k
 marks_here board Asked Due k q far far' due marked marked' lt marks spread =
     elim (marks_split k q far far' marked marked' marks) [
       | inl (n, at, same, still) ↦ (n, ap (λ fs. far_at fs q) same ∙ at, spread.most q n at)
@@ -96,7 +107,8 @@ unknown_less (None ∷ far) zero k lt none = refl
 unknown_less (Some n ∷ far) (suc q) k lt none = unknown_less far q k (omega arith) none
 unknown_less (None ∷ far) (suc q) k lt none = ap suc (unknown_less far q k (omega arith) none)
 
-pub marks_count : (k q : ℕ) (far far' : List (Option ℕ)) (marked marked' : List ℕ) → q < length far → Marks k q far marked far' marked' → length marked' + unknown far' ≤ length marked + unknown far
+pub marks_count : (k q : ℕ) (far far' : List (Option ℕ)) (marked marked' : List ℕ) → q < length far → Marks k q far marked far' marked' →
+    length marked' + unknown far' ≤ length marked + unknown far
 marks_count k q far far' marked marked' lt marks =
     elim (marks_split k q far far' marked marked' marks) [
       | inl (n, at, same, still) ↦ rw (same, still) (omega arith)
@@ -128,7 +140,8 @@ spread_none board = record {
     none (suc size) (suc q) n at = none size q n at
 
 -- one more square was asked for
-pub spread_more : (board : Board) (i : ℕ) (far : List (Option ℕ)) (marked : List ℕ) → (is_goal board i ≡ true → IsKnownWithin far i 0) → IsSpread board (λ q. q < i) (λ _ _. Unit {0}) 0 far [] marked → IsSpread board (λ q. q < i + 1) (λ _ _. Unit {0}) 0 far [] marked
+pub spread_more : (board : Board) (i : ℕ) (far : List (Option ℕ)) (marked : List ℕ) → (is_goal board i ≡ true → IsKnownWithin far i 0) →
+    IsSpread board (λ q. q < i) (λ _ _. Unit {0}) 0 far [] marked → IsSpread board (λ q. q < i + 1) (λ _ _. Unit {0}) 0 far [] marked
 spread_more board i far marked here spread = record {
   size = spread.size;
   sound = spread.sound;
@@ -149,7 +162,8 @@ spread_more board i far marked here spread = record {
     nought (n, at, le) = let none : n ≡ 0 = omega (arith, le) in at ∙ ap Some none
 
 -- all squares were asked for
-pub spread_goals : (board : Board) (i : ℕ) (far : List (Option ℕ)) (marked : List ℕ) → length board.cells ≤ i → IsSpread board (λ q. q < i) (λ _ _. Unit {0}) 0 far [] marked → IsFilling board 0 far [] marked
+pub spread_goals : (board : Board) (i : ℕ) (far : List (Option ℕ)) (marked : List ℕ) → length board.cells ≤ i →
+    IsSpread board (λ q. q < i) (λ _ _. Unit {0}) 0 far [] marked → IsFilling board 0 far [] marked
 spread_goals board i far marked all spread = record {
   size = spread.size;
   sound = spread.sound;
@@ -207,7 +221,8 @@ same_dir U R h = absurd (omega arith)
 same_dir U U h = refl
 
 -- a square that is due is taken up
-pub spread_pop : (board : Board) (k s : ℕ) (far : List (Option ℕ)) (due due' marked : List ℕ) → due ≡ due' ++ s ∷ [] → IsFilling board k far due marked → IsDue board k s 0 far due' marked
+pub spread_pop : (board : Board) (k s : ℕ) (far : List (Option ℕ)) (due due' marked : List ℕ) → due ≡ due' ++ s ∷ [] → IsFilling board k far due marked →
+    IsDue board k s 0 far due' marked
 spread_pop board k s far due due' marked popped spread = record {
   here = spread.before s (ap (λ ys. contains ys s) popped ∙ contains-push_last due' s);
   spread = record {
@@ -229,7 +244,8 @@ spread_pop board k s far due due' marked popped spread = record {
 }
 
 -- one direction more, where a box cannot be pulled or was
-spread_due : (board : Board) (k s i : ℕ) (d : Dir) (far : List (Option ℕ)) (due marked : List ℕ) → dir_number d ≡ i → (CanPull board s d → IsKnownWithin far (next board s d) k) → IsDue board k s i far due marked → IsDue board k s (i + 1) far due marked
+spread_due : (board : Board) (k s i : ℕ) (d : Dir) (far : List (Option ℕ)) (due marked : List ℕ) → dir_number d ≡ i →
+    (CanPull board s d → IsKnownWithin far (next board s d) k) → IsDue board k s i far due marked → IsDue board k s (i + 1) far due marked
 spread_due board k s i d far due marked number done before = record {
   here = before.here;
   spread = record {
@@ -264,7 +280,8 @@ spread_due board k s i d far due marked number done before = record {
     steps n at = let (j, known, e) = before.here in sym e ∙ ap suc (some_injective far s j n known at)
 
 -- the square that is due keeps its distance where another is marked
-here_kept : (k q s : ℕ) (far far' : List (Option ℕ)) (marked marked' : List ℕ) → Marks k q far marked far' marked' → (n : ℕ) × (far_at far s ≡ Some n) × (suc n ≡ k) → (n : ℕ) × (far_at far' s ≡ Some n) × (suc n ≡ k)
+here_kept : (k q s : ℕ) (far far' : List (Option ℕ)) (marked marked' : List ℕ) → Marks k q far marked far' marked' → (n : ℕ) × (far_at far s ≡ Some n) ×
+    (suc n ≡ k) → (n : ℕ) × (far_at far' s ≡ Some n) × (suc n ≡ k)
 here_kept k q s far far' marked marked' marks (n, at, e) =
     elim (marks_split k q far far' marked marked' marks) [
       | inl (m, old, same, still) ↦ (n, ap (λ fs. far_at fs s) same ∙ at, e)
@@ -272,7 +289,8 @@ here_kept k q s far far' marked marked' marks (n, at, e) =
     ]
 
 -- a pull in the next direction
-pub spread_pull : (board : Board) (k s i : ℕ) (d : Dir) (far far' : List (Option ℕ)) (due marked marked' : List ℕ) → dir_number d ≡ i → Pulls board k s d far marked far' marked' → IsDue board k s i far due marked → IsDue board k s (i + 1) far' due marked'
+pub spread_pull : (board : Board) (k s i : ℕ) (d : Dir) (far far' : List (Option ℕ)) (due marked marked' : List ℕ) → dir_number d ≡ i →
+    Pulls board k s d far marked far' marked' → IsDue board k s i far due marked → IsDue board k s (i + 1) far' due marked'
 spread_pull board k s i d far far' due marked marked' number (inl (pull, marks)) before =
     let lt : next board s d < length far = subst (λ n. next board s d < n) (sym before.spread.size) (inside_grid board (next board s d) pull.0) in
     let (n, at, e) = before.here in
@@ -287,7 +305,8 @@ spread_pull board k s i d far far' due marked marked' number (inr (stuck, same, 
     subst (λ ys. IsDue board k s (i + 1) far' due ys) (sym still)
     (subst (λ fs. IsDue board k s (i + 1) fs due marked) (sym same) (spread_due board k s i d far due marked number (λ pull. absurd (stuck pull)) before))
 
-pub pull_count : (board : Board) (k s : ℕ) (d : Dir) (far far' : List (Option ℕ)) (marked marked' : List ℕ) → length far ≡ length board.cells → Pulls board k s d far marked far' marked' → length marked' + unknown far' ≤ length marked + unknown far
+pub pull_count : (board : Board) (k s : ℕ) (d : Dir) (far far' : List (Option ℕ)) (marked marked' : List ℕ) → length far ≡ length board.cells →
+    Pulls board k s d far marked far' marked' → length marked' + unknown far' ≤ length marked + unknown far
 pull_count board k s d far far' marked marked' size (inl (pull, marks)) =
     marks_count k (next board s d) far far' marked marked' (subst (λ n. next board s d < n) (sym size) (inside_grid board (next board s d) pull.0)) marks
 pull_count board k s d far far' marked marked' size (inr (stuck, same, still)) = rw (same, still) (omega arith)

@@ -1,5 +1,6 @@
 -- Ways of lone boxes to goals, and the distances that pulls find of them.
-use Rattle.std.proofs.Common.{◌≡◌, ◌≤◌, ℕ, zero, suc, true, false, is_some, MatchOption, Option, Some, None, List, [], ◌∷◌, length, map, get_or, refl, sym, ap, subst, ◌∙◌, inl, inr, arith}
+use Rattle.std.proofs.Common.{◌≡◌, ◌≤◌, ℕ, zero, suc, true, false, is_some, MatchOption, Option, Some, None, List, [], ◌∷◌, length, map, get_or, refl, sym, ap}
+use Rattle.std.proofs.Common.{subst, ◌∙◌, inl, inr, arith}
 use Rattle.std.proofs.lemmas.Bool.{false≢true}
 use Rattle.grid.specs.declared.dir.Dir.{Dir}
 use Rattle.grid.specs.declared.cell.Cell.{Cell}
@@ -40,12 +41,18 @@ way_pulled board q n d (way, count) (from, behind) =
     )
 
 -- where the goals are known and pulls lead to what is known, each way is as long as the distance at least
-pub known_within : (board : Board) (far : List (Option ℕ)) → ((q : ℕ) → is_goal board q ≡ true → far_at far q ≡ Some 0) → ((q n : ℕ) (d : Dir) → far_at far q ≡ Some n → CanPull board q d → IsKnownWithin far (next board q d) (suc n)) → (q : ℕ) (way : Live board q) → IsKnownWithin far q (pushes_of way)
+pub known_within : (board : Board) (far : List (Option ℕ)) → ((q : ℕ) → is_goal board q ≡ true → far_at far q ≡ Some 0) →
+    ((q n : ℕ) (d : Dir) → far_at far q ≡ Some n → CanPull board q d → IsKnownWithin far (next board q d) (suc n)) → (q : ℕ) (way : Live board q) →
+    IsKnownWithin far q (pushes_of way)
 known_within board far goals closed q (home goal) = (0, goals q goal, omega arith)
 known_within board far goals closed q (onward d floor ahead behind way) =
     let back = next_back board q d floor ahead in
     let (n, at, le) = known_within board far goals closed (next board q d) way in
-    let pulled = closed (next board q d) n (opposite d) at (ap (is_wall board) back ∙ floor, ap (λ p. is_wall board (next board p (opposite d))) back ∙ behind) in
+    let pulled = closed (next board q d) n (opposite d) at (
+      ap (is_wall board) back ∙ floor,
+      ap (λ p. is_wall board (next board p (opposite d))) back ∙
+          behind,
+    ) in
     let (m, known, more) = subst (λ p. IsKnownWithin far p (suc n)) back pulled in
     (m, known, omega (arith, le, more))
 
@@ -84,7 +91,8 @@ filled board k far spread = record {
     least q way = known_within board far (λ g goal. spread.goals g tt goal) closed q way
 
 -- what the list tells of a square
-pub distance_of : (board : Board) (far : List (Option ℕ)) (q : ℕ) (o : Option ℕ) → o ≡ far_at far q → AreDistances board far → MatchOption o (IsDead board q) (λ n. IsFar board q n)
+pub distance_of : (board : Board) (far : List (Option ℕ)) (q : ℕ) (o : Option ℕ) → o ≡ far_at far q → AreDistances board far →
+    MatchOption o (IsDead board q) (λ n. IsFar board q n)
 distance_of board far q None e distances = distances.dead q (sym e)
 distance_of board far q (Some n) e distances = distances.known q n (sym e)
 

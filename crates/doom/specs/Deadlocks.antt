@@ -8,7 +8,8 @@ use Rattle.grid.specs.Board.{Board, Scene, is_wall, is_goal, next, opposite}
 -- a goal, or the box can be pushed on to a live square; the square ahead and the one behind must be no walls
 pub data Live (board : Board) : ℕ → Type 0 where
   home : {q : ℕ} → is_goal board q ≡ true → Live board q
-  onward : {q : ℕ} (d : Dir) → is_wall board q ≡ false → is_wall board (next board q d) ≡ false → is_wall board (next board q (opposite d)) ≡ false → Live board (next board q d) → Live board q
+  onward : {q : ℕ} (d : Dir) → is_wall board q ≡ false → is_wall board (next board q d) ≡ false → is_wall board (next board q (opposite d)) ≡ false →
+      Live board (next board q d) → Live board q
 
 -- every other square is dead, walls too
 abbrev pub IsDead : Board → ℕ → Type 0

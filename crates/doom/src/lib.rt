@@ -1,4 +1,13 @@
 //! Dead squares, and positions that can no longer be solved: simple and freeze deadlocks.
+//!
+//! With the `level` of a room of three rows of three squares, the box in the middle, its goal at the top left and the
+//! player at the bottom right:
+//!
+//! ```text
+//! let dead = Dead::of(alloc, &level).expect(&rt, "memory");
+//! assert!(&rt; dead.is_dead(Square(8)));
+//! assert!(&rt; !dead.is_dead(Square(7)));
+//! ```
 #![tactic(auto)]
 
 mod after;

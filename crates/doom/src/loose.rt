@@ -15,7 +15,8 @@ use grid::{Dir, Level, Push, Square};
 pub fn is_loose(level: &Level, dead: &Dead, scratch: &Scratch, push: Push) -> bool
     requires dead_of_level { dead.now ≡ level.now }
     requires inside { push.square < length level.now.cells }
-    ensures { IsTrue result ↔ IsLoose level.now (insert (remove scratch.now.boxes push.square) (next level.now push.square push.dir)) (next level.now push.square push.dir) }
+    ensures { IsTrue result ↔
+        IsLoose level.now (insert (remove scratch.now.boxes push.square) (next level.now push.square push.dir)) (next level.now push.square push.dir) }
 {
     let Push { square, dir } = push;
     let ahead = level.next(square, dir);
@@ -49,7 +50,9 @@ fn is_held(level: &Level, scratch: &Scratch, from: Square, to: Square, dir: Dir,
 /// Whether a box stands beside the square on the axis of the direction, but for the one that came from another square.
 fn has_beside(level: &Level, scratch: &Scratch, from: Square, to: Square, dir: Dir) -> bool
     requires inside { to < length level.now.cells }
-    ensures { IsTrue result ↔ ((contains (remove scratch.now.boxes from) (next level.now to dir) ≡ true) ⊎ (contains (remove scratch.now.boxes from) (next level.now to (opposite dir)) ≡ true)) }
+    ensures { IsTrue result ↔
+        ((contains (remove scratch.now.boxes from) (next level.now to dir) ≡ true) ⊎
+        (contains (remove scratch.now.boxes from) (next level.now to (opposite dir)) ≡ true)) }
 {
     is_other_box(scratch, from, level.next(to, dir))
         || is_other_box(scratch, from, level.next(to, dir.opposite()))

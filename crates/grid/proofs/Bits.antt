@@ -1,5 +1,6 @@
 -- Sets of squares as bits of words: one bit more, one word more, and the squares up to one.
-use Rattle.std.proofs.Common.{◌≡◌, ℕ, ◌+◌, ◌*◌, ◌/◌, ◌%◌, ◌^◌, ◌<◌, ◌≤◌, Bool, true, false, not, cond, eqb, ltb, ◌&&◌, ◌||◌, List, [], ◌∷◌, ◌++◌, length, get_or, map, inl, inr, bit_or, w64, refl, sym, ap, ◌∙◌, arith}
+use Rattle.std.proofs.Common.{◌≡◌, ℕ, ◌+◌, ◌*◌, ◌/◌, ◌%◌, ◌^◌, ◌<◌, ◌≤◌, Bool, true, false, not, cond, eqb, ltb, ◌&&◌, ◌||◌, List, [], ◌∷◌, ◌++◌, length}
+use Rattle.std.proofs.Common.{get_or, map, inl, inr, bit_or, w64, refl, sym, ap, ◌∙◌, arith}
 use Rattle.std.proofs.Math.Seq.{get_or-append_seam}
 use Rattle.std.proofs.lemmas.Bool.{eq-eqb, ne_eqb, cases_eq, cases_lt, lt-ltb, le-ltb, and_from, and_left, and_right, cond-true, cond-false}
 use Rattle.std.proofs.lemmas.List.{get_or_past, get_or-map, get_or_append_left, length-append, length-map}
@@ -39,17 +40,20 @@ set_where true x y e = eq-eqb y 1 e ∙ sym (or_true (eqb x 1))
 set_where false x y e = ap (λ z. eqb z 1) e ∙ sym (or_false (eqb x 1))
 
 -- a bit of a word that comes after others is a bit of the set
-pub has_bit-more : (d : Dir) (masks more : List StepMasks) (m : StepMasks) (k q : ℕ) → length masks ≡ k → more ≡ masks ++ m ∷ [] → q / WORD_BITS ≡ k → has_bit (words_for d more) q ≡ eqb (bit_at (word_for d m) (q % WORD_BITS)) 1
+pub has_bit-more : (d : Dir) (masks more : List StepMasks) (m : StepMasks) (k q : ℕ) → length masks ≡ k → more ≡ masks ++ m ∷ [] → q / WORD_BITS ≡ k →
+    has_bit (words_for d more) q ≡ eqb (bit_at (word_for d m) (q % WORD_BITS)) 1
 unfolding has_bit
 has_bit-more d masks more m k q size items here =
     let word = λ (x : StepMasks). word_for d x in
     let place : q / WORD_BITS ≡ length masks = here ∙ sym size in
     let long : q / WORD_BITS < length (masks ++ m ∷ []) = omega (arith, place, length-append masks (m ∷ [])) in
     let at : get_or (masks ++ m ∷ []) (q / WORD_BITS) m ≡ m = ap (λ i. get_or (masks ++ m ∷ []) i m) place ∙ get_or-append_seam masks m [] m in
-    ap (λ xs. eqb (bit_at (get_or (map word xs) (q / WORD_BITS) 0) (q % WORD_BITS)) 1) items ∙ ap (λ w. eqb (bit_at w (q % WORD_BITS)) 1) (get_or-map word (masks ++ m ∷ []) (q / WORD_BITS) m 0 long ∙ ap word at)
+    ap (λ xs. eqb (bit_at (get_or (map word xs) (q / WORD_BITS) 0) (q % WORD_BITS)) 1) items ∙
+    ap (λ w. eqb (bit_at w (q % WORD_BITS)) 1) (get_or-map word (masks ++ m ∷ []) (q / WORD_BITS) m 0 long ∙ ap word at)
 
 -- the bits of the words before it stay
-pub has_bit-kept : (d : Dir) (masks more : List StepMasks) (m : StepMasks) (q : ℕ) → more ≡ masks ++ m ∷ [] → q / WORD_BITS < length masks → has_bit (words_for d more) q ≡ has_bit (words_for d masks) q
+pub has_bit-kept : (d : Dir) (masks more : List StepMasks) (m : StepMasks) (q : ℕ) → more ≡ masks ++ m ∷ [] → q / WORD_BITS < length masks →
+    has_bit (words_for d more) q ≡ has_bit (words_for d masks) q
 unfolding has_bit
 has_bit-kept d masks more m q items before =
     let word = λ (x : StepMasks). word_for d x in
@@ -57,14 +61,16 @@ has_bit-kept d masks more m q items before =
     let new = get_or-map word (masks ++ m ∷ []) (q / WORD_BITS) m 0 long in
     let old = get_or-map word masks (q / WORD_BITS) m 0 before in
     let same = get_or_append_left masks (m ∷ []) m (q / WORD_BITS) before in
-    ap (λ xs. eqb (bit_at (get_or (map word xs) (q / WORD_BITS) 0) (q % WORD_BITS)) 1) items ∙ ap (λ w. eqb (bit_at w (q % WORD_BITS)) 1) (new ∙ (ap word same ∙ sym old))
+    ap (λ xs. eqb (bit_at (get_or (map word xs) (q / WORD_BITS) 0) (q % WORD_BITS)) 1) items ∙
+    ap (λ w. eqb (bit_at w (q % WORD_BITS)) 1) (new ∙ (ap word same ∙ sym old))
 
 -- past the last word there are no bits
 pub has_bit-past : (d : Dir) (masks : List StepMasks) (q : ℕ) → length masks ≤ q / WORD_BITS → has_bit (words_for d masks) q ≡ false
 unfolding has_bit
 has_bit-past d masks q past =
     let word = λ (x : StepMasks). word_for d x in
-    ap (λ w. eqb (bit_at w (q % WORD_BITS)) 1) (get_or_past (map word masks) (q / WORD_BITS) 0 (omega (arith, past, length-map masks word))) ∙ ap (λ x. eqb x 1) (bit_at-zero (q % WORD_BITS))
+    ap (λ w. eqb (bit_at w (q % WORD_BITS)) 1) (get_or_past (map word masks) (q / WORD_BITS) 0 (omega (arith, past, length-map masks word))) ∙
+    ap (λ x. eqb x 1) (bit_at-zero (q % WORD_BITS))
 
 -- what a test says of the bit of a square, counted from the first of a word or from the first of all
 same_bit : (first j k : ℕ) → eqb j k ≡ eqb (first + j) (first + k)
@@ -107,7 +113,8 @@ before_wall board d k q wall = elim (cases_eq q k) [
 ]
 
 -- another square's bit is set where a step in the direction can lead onto it
-before_floor : (board : Board) (d : Dir) (k q : ℕ) (old new : Bool) → is_wall board k ≡ false → old ≡ (ltb q k && can_enter board d q) → new ≡ (old || (ltb (next board k (opposite d)) (length board.cells) && eqb q k)) → new ≡ (ltb q (k + 1) && can_enter board d q)
+before_floor : (board : Board) (d : Dir) (k q : ℕ) (old new : Bool) → is_wall board k ≡ false → old ≡ (ltb q k && can_enter board d q) →
+    new ≡ (old || (ltb (next board k (opposite d)) (length board.cells) && eqb q k)) → new ≡ (ltb q (k + 1) && can_enter board d q)
 before_floor board d k q old new floor before e = elim (cases_eq q k) [
   | inl same ↦
       let goes = λ (x : ℕ). ltb (next board x (opposite d)) (length board.cells) in
@@ -132,15 +139,19 @@ within_end board d q k all = elim (cases_lt q (length board.cells)) [
 ]
 
 -- a bit more of the word that begins at a square is that of the next square
-pub bit_added : (board : Board) (d : Dir) (first bit j : ℕ) (old new : Bool) (r : ℕ) → is_wall board (first + bit) ≡ false → old ≡ (ltb (first + j) (first + bit) && can_enter board d (first + j))
-    → r ≡ next board (first + bit) (opposite d) → new ≡ (old || (ltb r (length board.cells) && eqb j bit)) → new ≡ (ltb (first + j) (first + (bit + 1)) && can_enter board d (first + j))
+pub bit_added : (board : Board) (d : Dir) (first bit j : ℕ) (old new : Bool) (r : ℕ) → is_wall board (first + bit) ≡ false →
+    old ≡ (ltb (first + j) (first + bit) && can_enter board d (first + j))
+    → r ≡ next board (first + bit) (opposite d) → new ≡ (old || (ltb r (length board.cells) && eqb j bit)) →
+    new ≡ (ltb (first + j) (first + (bit + 1)) && can_enter board d (first + j))
 bit_added board d first bit j old new r floor before behind e =
     let after : first + bit + 1 ≡ first + (bit + 1) = omega arith in
-    let here = e ∙ (ap (λ x. old || (ltb x (length board.cells) && eqb j bit)) behind ∙ ap (λ b. old || (ltb (next board (first + bit) (opposite d)) (length board.cells) && b)) (same_bit first j bit)) in
+    let here = e ∙ (ap (λ x. old || (ltb x (length board.cells) && eqb j bit)) behind ∙
+    ap (λ b. old || (ltb (next board (first + bit) (opposite d)) (length board.cells) && b)) (same_bit first j bit)) in
     before_floor board d (first + bit) (first + j) old new floor before here ∙ ap (λ k. ltb (first + j) k && can_enter board d (first + j)) after
 
 -- a wall adds none
-pub bit_left_out : (board : Board) (d : Dir) (first bit j : ℕ) (old : Bool) → is_wall board (first + bit) ≡ true → old ≡ (ltb (first + j) (first + bit) && can_enter board d (first + j))
+pub bit_left_out : (board : Board) (d : Dir) (first bit j : ℕ) (old : Bool) → is_wall board (first + bit) ≡ true →
+    old ≡ (ltb (first + j) (first + bit) && can_enter board d (first + j))
     → old ≡ (ltb (first + j) (first + (bit + 1)) && can_enter board d (first + j))
 bit_left_out board d first bit j old wall before =
     let after : first + bit + 1 ≡ first + (bit + 1) = omega arith in

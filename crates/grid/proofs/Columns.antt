@@ -29,5 +29,6 @@ one_more board listed more k last size each is items q e lt = elim (cases_lt q k
   | inl before ↦ ap (λ xs. get_or xs q e) items ∙ (get_or_append_left listed (last ∷ []) e q (omega (arith, before, size)) ∙ each q e before)
   | inr ge ↦
       let same : q ≡ length listed = omega (arith, lt, ge, size) in
-      ap (λ xs. get_or xs q e) items ∙ (ap (λ i. get_or (listed ++ last ∷ []) i e) same ∙ (get_or-append_seam listed last [] e ∙ (is ∙ ap (around_of board) (sym size ∙ sym same))))
+      ap (λ xs. get_or xs q e) items ∙
+      (ap (λ i. get_or (listed ++ last ∷ []) i e) same ∙ (get_or-append_seam listed last [] e ∙ (is ∙ ap (around_of board) (sym size ∙ sym same))))
 ]

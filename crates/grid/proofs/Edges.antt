@@ -32,12 +32,17 @@ next_is_one : (board : Board) (q k : ℕ) (d : Dir) → next board q d ≡ k →
 unfolding one_of
 next_is_one board q k D e = or_left (eqb (next board q D) k) _ (eq-eqb (next board q D) k e)
 next_is_one board q k L e = or_right (eqb (next board q D) k) _ (or_left (eqb (next board q L) k) _ (eq-eqb (next board q L) k e))
-next_is_one board q k R e = or_right (eqb (next board q D) k) _ (or_right (eqb (next board q L) k) _ (or_left (eqb (next board q R) k) _ (eq-eqb (next board q R) k e)))
-next_is_one board q k U e = or_right (eqb (next board q D) k) _ (or_right (eqb (next board q L) k) _ (or_right (eqb (next board q R) k) _ (or_left (eqb (next board q U) k) false (eq-eqb (next board q U) k e))))
+next_is_one board q k R e =
+    or_right (eqb (next board q D) k) _ (or_right (eqb (next board q L) k) _ (or_left (eqb (next board q R) k) _ (eq-eqb (next board q R) k e)))
+next_is_one board q k U e =
+    or_right (eqb (next board q D) k) _
+    (or_right (eqb (next board q L) k) _ (or_right (eqb (next board q R) k) _ (or_left (eqb (next board q U) k) false (eq-eqb (next board q U) k e))))
 
 -- a square lies at the edge where one of its neighbours is the end
-pub edge_test : (board : Board) (q end : ℕ) (a : Around) (r : Bool) → a ≡ around_of board q → end ≡ length board.cells → r ≡ (eqb a.d end || (eqb a.l end || (eqb a.r end || (eqb a.u end || false)))) → (r ≡ true) ↔ ((d : Dir) × (next board q d ≡ length board.cells))
+pub edge_test : (board : Board) (q end : ℕ) (a : Around) (r : Bool) → a ≡ around_of board q → end ≡ length board.cells →
+    r ≡ (eqb a.d end || (eqb a.l end || (eqb a.r end || (eqb a.u end || false)))) → (r ≡ true) ↔ ((d : Dir) × (next board q d ≡ length board.cells))
 unfolding one_of
 edge_test board q end a r near last test =
-    let same : r ≡ one_of (length board.cells) (next board q D) (next board q L) (next board q R) (next board q U) = test ∙ (λ i. one_of (last i) (near i).d (near i).l (near i).r (near i).u) in
+    let same : r ≡ one_of (length board.cells) (next board q D) (next board q L) (next board q R) (next board q U) = test ∙
+    (λ i. one_of (last i) (near i).d (near i).l (near i).r (near i).u) in
     (λ h. some_next board q (length board.cells) (sym same ∙ h), λ h. same ∙ next_is_one board q (length board.cells) h.0 h.1)

@@ -35,4 +35,5 @@ same_board_decides a b =
     let E : Cell → Cell → Bool = λ x y. eqb (cell_number x) (cell_number y) in
     let by_number = pointwise-map cell_number eqb a.cells b.cells in
     let cells = slice_eq-Decides (cells_decide E (λ x y. refl)) a.cells b.cells (pointwise eqb (map cell_number a.cells) (map cell_number b.cells)) by_number in
-    Decides-like (same_board a b) (board_from a b) (λ e. (ap (λ (x : Board). x.cols) e, ap (λ (x : Board). x.cells) e)) (Decides-and (eqb a.cols b.cols) (pointwise eqb (map cell_number a.cells) (map cell_number b.cells)) (Decides-eqb a.cols b.cols) cells)
+    Decides-like (same_board a b) (board_from a b) (λ e. (ap (λ (x : Board). x.cols) e, ap (λ (x : Board). x.cells) e))
+    (Decides-and (eqb a.cols b.cols) (pointwise eqb (map cell_number a.cells) (map cell_number b.cells)) (Decides-eqb a.cols b.cols) cells)

@@ -1,12 +1,14 @@
 -- Places at which a list passes a test, and the squares that flags mark.
-use Rattle.std.proofs.Common.{◌≡◌, ℕ, zero, suc, ◌+◌, ◌<◌, ◌≤◌, Bool, true, false, cond, eqb, ◌||◌, List, [], ◌∷◌, ◌++◌, length, get_or, set, map, replicate, count_by, inl, inr, refl, sym, ap, subst, ◌∙◌, append-nil, arith}
+use Rattle.std.proofs.Common.{◌≡◌, ℕ, zero, suc, ◌+◌, ◌<◌, ◌≤◌, Bool, true, false, cond, eqb, ◌||◌, List, [], ◌∷◌, ◌++◌, length, get_or, set, map, replicate}
+use Rattle.std.proofs.Common.{count_by, inl, inr, refl, sym, ap, subst, ◌∙◌, append-nil, arith}
 use Rattle.std.proofs.lemmas.Bool.{eqb-true, ne_eqb, cases_eq, cases_lt, false≢true}
 use Rattle.std.proofs.lemmas.List.{get_or_past, get_or-set_same, get_or-set_other, length-set}
 use Rattle.std.proofs.lemmas.List.Recursion.{is_count_by}
 use Rattle.grid.specs.Squares.{Squares, contains, remove, insert, places_from}
 use Rattle.grid.specs.Rising.{rises_from, is_rising}
 use Rattle.grid.specs.Marks.{marked}
-use Rattle.grid.proofs.lemmas.Squares.{contains-below, contains-insert_here, contains-insert_other, contains-remove_here, contains-remove_other, contains_head, is_rising-insert, is_rising-remove, rises_from-cons, rises_from-weaker, same_set}
+use Rattle.grid.proofs.lemmas.Squares.{contains-below, contains-insert_here, contains-insert_other, contains-remove_here, contains-remove_other, contains_head}
+use Rattle.grid.proofs.lemmas.Squares.{is_rising-insert, is_rising-remove, rises_from-cons, rises_from-weaker, same_set}
 
 -- ---- places
 
@@ -32,10 +34,12 @@ place_later k true ps q lt = rw (ne_eqb k q (λ e. omega arith)) refl
 place_later k false ps q lt = refl
 
 -- a place counted from k is among the places where the element there passes; d, the element past the end, fails
-pub contains-places_from : {A : Type 0} (test : A → Bool) (k : ℕ) (cs : List A) (i : ℕ) (d : A) → test d ≡ false → contains (places_from test k cs) (k + i) ≡ test (get_or cs i d)
+pub contains-places_from : {A : Type 0} (test : A → Bool) (k : ℕ) (cs : List A) (i : ℕ) (d : A) → test d ≡ false →
+    contains (places_from test k cs) (k + i) ≡ test (get_or cs i d)
 contains-places_from test k [] i d fails = sym fails
 contains-places_from test k (c ∷ cs) zero d fails =
-    subst (λ (q : ℕ). contains (places_from test k (c ∷ cs)) q ≡ test c) (let e : k ≡ k + zero = omega arith in e) (place_here k (test c) (places_from test (suc k) cs) (rises_from-places_from test (suc k) cs))
+    subst (λ (q : ℕ). contains (places_from test k (c ∷ cs)) q ≡ test c) (let e : k ≡ k + zero = omega arith in
+    e) (place_here k (test c) (places_from test (suc k) cs) (rises_from-places_from test (suc k) cs))
 contains-places_from test k (c ∷ cs) (suc i) d fails =
     place_later k (test c) (places_from test (suc k) cs) (k + suc i) (omega arith)
     ∙ (ap (λ (q : ℕ). contains (places_from test (suc k) cs) q) (let e : k + suc i ≡ suc k + i = omega arith in e)
@@ -43,7 +47,8 @@ contains-places_from test k (c ∷ cs) (suc i) d fails =
 
 -- a place is among the places where the element there passes; d, the element past the end, fails
 pub contains-places : {A : Type 0} (test : A → Bool) (cs : List A) (q : ℕ) (d : A) → test d ≡ false → contains (places_from test 0 cs) q ≡ test (get_or cs q d)
-contains-places test cs q d fails = subst (λ (r : ℕ). contains (places_from test 0 cs) r ≡ test (get_or cs q d)) (let e : 0 + q ≡ q = omega arith in e) (contains-places_from test 0 cs q d fails)
+contains-places test cs q d fails = subst (λ (r : ℕ). contains (places_from test 0 cs) r ≡ test (get_or cs q d)) (let e : 0 + q ≡ q = omega arith in
+    e) (contains-places_from test 0 cs q d fails)
 
 -- how many elements pass, by recursion
 abbrev passing : {A : Type 0} → (A → Bool) → List A → ℕ
@@ -67,15 +72,19 @@ place_joins k true ps qs = refl
 place_joins k false ps qs = refl
 
 -- the places in joined lists
-pub places_from-append : {A : Type 0} (test : A → Bool) (k : ℕ) (cs ds : List A) → places_from test k (cs ++ ds) ≡ places_from test k cs ++ places_from test (k + length cs) ds
+pub places_from-append : {A : Type 0} (test : A → Bool) (k : ℕ) (cs ds : List A) →
+    places_from test k (cs ++ ds) ≡ places_from test k cs ++ places_from test (k + length cs) ds
 places_from-append test k [] ds = ap (λ (n : ℕ). places_from test n ds) (let e : k ≡ k + 0 = omega arith in e)
 places_from-append test k (c ∷ cs) ds =
-    ap (λ (ps : Squares). cond (test c) (k ∷ ps) ps) (places_from-append test (suc k) cs ds ∙ ap (λ (n : ℕ). places_from test (suc k) cs ++ places_from test n ds) (let e : suc k + length cs ≡ k + suc (length cs) = omega arith in e))
+    ap (λ (ps : Squares). cond (test c) (k ∷ ps) ps) (places_from-append test (suc k) cs ds ∙
+    ap (λ (n : ℕ). places_from test (suc k) cs ++ places_from test n ds) (let e : suc k + length cs ≡ k + suc (length cs) = omega arith in e))
     ∙ place_joins k (test c) (places_from test (suc k) cs) (places_from test (k + suc (length cs)) ds)
 
 -- one more element, which passes
-pub places_push_yes : {A : Type 0} (test : A → Bool) (cs : List A) (c : A) → test c ≡ true → places_from test 0 (cs ++ c ∷ []) ≡ places_from test 0 cs ++ length cs ∷ []
-places_push_yes test cs c passes = places_from-append test 0 cs (c ∷ []) ∙ rw passes (ap (λ (n : ℕ). places_from test 0 cs ++ n ∷ []) (let e : 0 + length cs ≡ length cs = omega arith in e))
+pub places_push_yes : {A : Type 0} (test : A → Bool) (cs : List A) (c : A) → test c ≡ true →
+    places_from test 0 (cs ++ c ∷ []) ≡ places_from test 0 cs ++ length cs ∷ []
+places_push_yes test cs c passes = places_from-append test 0 cs (c ∷ []) ∙
+    rw passes (ap (λ (n : ℕ). places_from test 0 cs ++ n ∷ []) (let e : 0 + length cs ≡ length cs = omega arith in e))
 
 -- one more element, which doesn't
 pub places_push_no : {A : Type 0} (test : A → Bool) (cs : List A) (c : A) → test c ≡ false → places_from test 0 (cs ++ c ∷ []) ≡ places_from test 0 cs
@@ -96,8 +105,10 @@ only_member (x ∷ []) q one here = only (eqb x q) (eqb-true x q) here
 only_member (x ∷ y ∷ xs) q one here = absurd (omega arith)
 
 -- where one element passes, its place is the first
-pub first_place : {A : Type 0} (test : A → Bool) (cs : List A) (q : ℕ) (d : A) → test d ≡ false → count_by test cs ≡ 1 → test (get_or cs q d) ≡ true → get_or (places_from test 0 cs) 0 0 ≡ q
-first_place test cs q d fails one passes = only_member (places_from test 0 cs) q (length-places_from test 0 cs ∙ one) (contains-places test cs q d fails ∙ passes)
+pub first_place : {A : Type 0} (test : A → Bool) (cs : List A) (q : ℕ) (d : A) → test d ≡ false → count_by test cs ≡ 1 → test (get_or cs q d) ≡ true →
+    get_or (places_from test 0 cs) 0 0 ≡ q
+first_place test cs q d fails one passes = only_member (places_from test 0 cs) q (length-places_from test 0 cs ∙ one) (contains-places test cs q d fails ∙
+    passes)
 
 -- ---- flags
 
@@ -147,10 +158,12 @@ marked-replicate n = unmarked 0 n
 
 -- to clear a flag is to take its square out
 pub marked-set_false : (flags : List Bool) (q : ℕ) → marked (set flags q false) ≡ remove (marked flags) q
-marked-set_false flags q = marked_is (set flags q false) (remove (marked flags) q) (is_rising-remove (marked flags) q (is_rising-marked flags)) (λ r. elim (cases_eq r q) [
-  | inl e ↦ subst (λ (z : ℕ). get_or (set flags q false) z false ≡ contains (remove (marked flags) q) z) (sym e) (cleared flags q ∙ sym (contains-remove_here (marked flags) q))
-  | inr ne ↦ get_or-set_other flags q r false false ne ∙ (sym (contains-marked flags r) ∙ sym (contains-remove_other (marked flags) q r (λ e. ne (sym e))))
-])
+marked-set_false flags q = marked_is (set flags q false) (remove (marked flags) q) (is_rising-remove (marked flags) q (is_rising-marked flags))
+    (λ r. elim (cases_eq r q) [
+      | inl e ↦ subst (λ (z : ℕ). get_or (set flags q false) z false ≡ contains (remove (marked flags) q) z) (sym e) (cleared flags q ∙
+          sym (contains-remove_here (marked flags) q))
+      | inr ne ↦ get_or-set_other flags q r false false ne ∙ (sym (contains-marked flags r) ∙ sym (contains-remove_other (marked flags) q r (λ e. ne (sym e))))
+    ])
   where
     cleared : (fs : List Bool) (k : ℕ) → get_or (set fs k false) k false ≡ false
     cleared [] k = refl
@@ -159,10 +172,12 @@ marked-set_false flags q = marked_is (set flags q false) (remove (marked flags) 
 
 -- to set a flag is to put its square in
 pub marked-set_true : (flags : List Bool) (q : ℕ) → q < length flags → marked (set flags q true) ≡ insert (marked flags) q
-marked-set_true flags q lt = marked_is (set flags q true) (insert (marked flags) q) (is_rising-insert (marked flags) q (is_rising-marked flags)) (λ r. elim (cases_eq r q) [
-  | inl e ↦ subst (λ (z : ℕ). get_or (set flags q true) z false ≡ contains (insert (marked flags) q) z) (sym e) (get_or-set_same flags q true false lt ∙ sym (contains-insert_here (marked flags) q))
-  | inr ne ↦ get_or-set_other flags q r true false ne ∙ (sym (contains-marked flags r) ∙ sym (contains-insert_other (marked flags) q r (λ e. ne (sym e))))
-])
+marked-set_true flags q lt = marked_is (set flags q true) (insert (marked flags) q) (is_rising-insert (marked flags) q (is_rising-marked flags))
+    (λ r. elim (cases_eq r q) [
+      | inl e ↦ subst (λ (z : ℕ). get_or (set flags q true) z false ≡ contains (insert (marked flags) q) z) (sym e) (get_or-set_same flags q true false lt ∙
+          sym (contains-insert_here (marked flags) q))
+      | inr ne ↦ get_or-set_other flags q r true false ne ∙ (sym (contains-marked flags r) ∙ sym (contains-insert_other (marked flags) q r (λ e. ne (sym e))))
+    ])
 
 -- to clear a flag and set another is to move its square
 pub marked-moved : (flags : List Bool) (q r : ℕ) → r < length flags → marked (set (set flags q false) r true) ≡ insert (remove (marked flags) q) r

@@ -89,7 +89,9 @@ run_back board first start square some row more floor free run = (
         full e = (let lt : suc (start - 1) % board.cols < board.cols = mod-lt (suc (start - 1)) (omega (arith, some)) in omega (arith, e, lt))
 
     there : Awaits board ((start - 1) ∷ []) start
-    there = subst (λ (y : ℕ). is_wall board y ≡ false → Awaits board ((start - 1) ∷ []) y) right (λ open_here. along (listed (or_left (eqb (start - 1) (start - 1)) false (eq-eqb (start - 1) (start - 1) refl)) free) open_here) floor
+    there = subst (λ (y : ℕ). is_wall board y ≡ false →
+        Awaits board ((start - 1) ∷ []) y) right
+        (λ open_here. along (listed (or_left (eqb (start - 1) (start - 1)) false (eq-eqb (start - 1) (start - 1) refl)) free) open_here) floor
 
     back : Awaits board ((start - 1) ∷ []) square
     back = go run

@@ -1,5 +1,6 @@
 -- The squares of a run are marked one by one, until it ends.
-use Rattle.std.proofs.Common.{◌≡◌, ℕ, suc, ◌+◌, ◌-◌, ◌%◌, ◌<◌, ◌≤◌, Bool, true, false, not, cond, eqb, ◌&&◌, List, [], ◌∷◌, length, get_or, set, ◌⊎◌, inl, inr, refl, sym, ap, subst, ◌∙◌, arith}
+use Rattle.std.proofs.Common.{◌≡◌, ℕ, suc, ◌+◌, ◌-◌, ◌%◌, ◌<◌, ◌≤◌, Bool, true, false, not, cond, eqb, ◌&&◌, List, [], ◌∷◌, length, get_or, set, ◌⊎◌, inl, inr}
+use Rattle.std.proofs.Common.{refl, sym, ap, subst, ◌∙◌, arith}
 use Rattle.std.proofs.lemmas.Bool.{eqb-true, eq-eqb, cases_eq, cases_lt, or_cases, or_left, or_right, false≢true, true≢false}
 use Rattle.std.proofs.Math.Nat.{add-mod_right}
 use Rattle.std.proofs.lemmas.List.{get_or-set_same, get_or-set_other, length-set}
@@ -95,9 +96,11 @@ module _ (board : Board) (marks : List Bool) (p0 p1 p2 : List ℕ) (place : ℕ)
   above_known = subst (λ (x : ℕ). a ≡ true → is_wall board x ≡ false → Awaits board p0 x) up above
 
   below_known : b ≡ true → is_wall board (place + board.cols) ≡ false → Awaits board p1 (place + board.cols)
-  below_known e open_here = awaits_more board p0 p1 sa.kept (place + board.cols) (subst (λ (x : ℕ). b ≡ true → is_wall board x ≡ false → Awaits board p0 x) down below e open_here)
+  below_known e open_here =
+      awaits_more board p0 p1 sa.kept (place + board.cols) (subst (λ (x : ℕ). b ≡ true → is_wall board x ≡ false → Awaits board p0 x) down below e open_here)
 
-  run_whole : (q : ℕ) → IsMarked (set marks place true) q → is_wall board (next board q R) ≡ false → IsMarked (set marks place true) (next board q R) ⊎ (next board q R ≡ place + 1)
+  run_whole : (q : ℕ) → IsMarked (set marks place true) q → is_wall board (next board q R) ≡ false → IsMarked (set marks place true) (next board q R) ⊎
+      (next board q R ≡ place + 1)
   run_whole q h open_here = elim (fresh q h) [
     | inl e ↦ inr (ap (λ (x : ℕ). next board x R) e ∙ right)
     | inr was ↦ elim (f.whole q was open_here) [
@@ -128,17 +131,24 @@ module _ (board : Board) (marks : List Bool) (p0 p1 p2 : List ℕ) (place : ℕ)
       steps : (d : Dir) (x : ℕ) → next board place d ≡ x → is_wall board x ≡ false → InRoom board x
       steps d x e = subst (λ (y : ℕ). is_wall board y ≡ false → InRoom board y) e (λ open_there. beside d in_room open_there)
 
-  run_closed_here : (d : Dir) → is_wall board (next board place d) ≡ false → IsMarked (set marks place true) (next board place d) ⊎ Awaits board ((place + 1) ∷ p2) (next board place d)
-  run_closed_here D = subst (λ (x : ℕ). is_wall board x ≡ false → IsMarked (set marks place true) x ⊎ Awaits board ((place + 1) ∷ p2) x) (sym down) (λ open_here. elim (seed_marked board (set marks place true) p1 p2 (place + board.cols) b bb sb below_known open_here) [
-    | inl m ↦ inl m
-    | inr w ↦ inr (awaits_more board p2 ((place + 1) ∷ p2) into (place + board.cols) w)
-  ])
-  run_closed_here L = subst (λ (x : ℕ). is_wall board x ≡ false → IsMarked (set marks place true) x ⊎ Awaits board ((place + 1) ∷ p2) x) (sym left) (λ open_here. inl (kept (place - 1) (behind open_here)))
-  run_closed_here R = subst (λ (x : ℕ). is_wall board x ≡ false → IsMarked (set marks place true) x ⊎ Awaits board ((place + 1) ∷ p2) x) (sym right) (λ open_here. inr (head open_here))
-  run_closed_here U = subst (λ (x : ℕ). is_wall board x ≡ false → IsMarked (set marks place true) x ⊎ Awaits board ((place + 1) ∷ p2) x) (sym up) (λ open_here. elim (seed_marked board (set marks place true) p0 p1 (place - board.cols) a aa sa above_known open_here) [
-    | inl m ↦ inl m
-    | inr w ↦ inr (awaits_more board p1 ((place + 1) ∷ p2) (λ r h. into r (sb.kept r h)) (place - board.cols) w)
-  ])
+  run_closed_here : (d : Dir) → is_wall board (next board place d) ≡ false → IsMarked (set marks place true) (next board place d) ⊎
+      Awaits board ((place + 1) ∷ p2) (next board place d)
+  run_closed_here D = subst (λ (x : ℕ). is_wall board x ≡ false → IsMarked (set marks place true) x ⊎
+      Awaits board ((place + 1) ∷ p2) x) (sym down)
+      (λ open_here. elim (seed_marked board (set marks place true) p1 p2 (place + board.cols) b bb sb below_known open_here) [
+        | inl m ↦ inl m
+        | inr w ↦ inr (awaits_more board p2 ((place + 1) ∷ p2) into (place + board.cols) w)
+      ])
+  run_closed_here L = subst (λ (x : ℕ). is_wall board x ≡ false → IsMarked (set marks place true) x ⊎
+      Awaits board ((place + 1) ∷ p2) x) (sym left) (λ open_here. inl (kept (place - 1) (behind open_here)))
+  run_closed_here R = subst (λ (x : ℕ). is_wall board x ≡ false → IsMarked (set marks place true) x ⊎
+      Awaits board ((place + 1) ∷ p2) x) (sym right) (λ open_here. inr (head open_here))
+  run_closed_here U = subst (λ (x : ℕ). is_wall board x ≡ false → IsMarked (set marks place true) x ⊎
+      Awaits board ((place + 1) ∷ p2) x) (sym up)
+      (λ open_here. elim (seed_marked board (set marks place true) p0 p1 (place - board.cols) a aa sa above_known open_here) [
+        | inl m ↦ inl m
+        | inr w ↦ inr (awaits_more board p1 ((place + 1) ∷ p2) (λ r h. into r (sb.kept r h)) (place - board.cols) w)
+      ])
 
   run_inner_here : (d : Dir) → next board place d ≡ length board.cells → ⊥
   run_inner_here D e = omega (arith, e, down, low)
@@ -155,7 +165,8 @@ module _ (board : Board) (marks : List Bool) (p0 p1 p2 : List ℕ) (place : ℕ)
     waits = run_waits;
     whole = run_whole;
     closed = λ q d h open_here. elim (fresh q h) [
-      | inl e ↦ subst (λ (x : ℕ). is_wall board (next board x d) ≡ false → IsMarked (set marks place true) (next board x d) ⊎ Awaits board ((place + 1) ∷ p2) (next board x d)) (sym e) (run_closed_here d) open_here
+      | inl e ↦ subst (λ (x : ℕ). is_wall board (next board x d) ≡ false → IsMarked (set marks place true) (next board x d) ⊎
+          Awaits board ((place + 1) ∷ p2) (next board x d)) (sym e) (run_closed_here d) open_here
       | inr was ↦ elim (f.closed q d was open_here) [
         | inl m ↦ inl (kept (next board q d) m)
         | inr w ↦ without (next board q d) w
@@ -172,13 +183,15 @@ module _ (board : Board) (marks : List Bool) (p0 p1 p2 : List ℕ) (place : ℕ)
   run_above is open_here = subst (λ (x : ℕ). is_wall board x ≡ false → Awaits board p2 x) to (λ h. along here_above h) open_here
     where
       here_above : Awaits board p2 (place - board.cols)
-      here_above = awaits_more board p1 p2 sb.kept (place - board.cols) (seed_awaits board (set marks place true) p0 p1 (place - board.cols) a aa sa above_known is)
+      here_above = awaits_more board p1 p2 sb.kept (place - board.cols)
+          (seed_awaits board (set marks place true) p0 p1 (place - board.cols) a aa sa above_known is)
 
       column : (place - board.cols) % board.cols ≡ place % board.cols
       column = sym (add-mod_right (place - board.cols) board.cols) ∙ ap (λ (x : ℕ). x % board.cols) (omega (arith, top))
 
       to : next board (place - board.cols) R ≡ next board (place + 1) U
-      to = right_is board (place - board.cols) some (λ e. short (ap (λ (x : ℕ). x + 1) (sym column) ∙ e)) ∙ (omega (arith, top) ∙ sym (up_is board (place + 1) (omega (arith, top))))
+      to = right_is board (place - board.cols) some (λ e. short (ap (λ (x : ℕ). x + 1) (sym column) ∙ e)) ∙
+          (omega (arith, top) ∙ sym (up_is board (place + 1) (omega (arith, top))))
 
   -- and so does the next one below
   pub run_below : bb ≡ true → is_wall board (next board (place + 1) D) ≡ false → Awaits board p2 (next board (place + 1) D)
@@ -194,7 +207,8 @@ module _ (board : Board) (marks : List Bool) (p0 p1 p2 : List ℕ) (place : ℕ)
       column = add-mod_right place board.cols
 
       to : place + 1 + board.cols < length board.cells → next board (place + board.cols) R ≡ next board (place + 1) D
-      to lt = right_is board (place + board.cols) some (λ e. short (ap (λ (x : ℕ). x + 1) (sym column) ∙ e)) ∙ (omega arith ∙ sym (down_is board (place + 1) lt))
+      to lt = right_is board (place + board.cols) some (λ e. short (ap (λ (x : ℕ). x + 1) (sym column) ∙ e)) ∙
+          (omega arith ∙ sym (down_is board (place + 1) lt))
 
   -- there is no more work than before
   pub run_work : work (set marks place true) p2 ≤ work marks p0
@@ -218,11 +232,13 @@ stale_marked false true r is no_more floor = refl
 stale_marked false false r is no_more floor = absurd (true≢false (sym is ∙ no_more))
 
 -- what is pending and no wall is of the room
-pub first_in_room : (board : Board) (marks : List Bool) (p place : ℕ) (xs : List ℕ) → IsRunning board marks (p ∷ xs) place → is_wall board p ≡ false → InRoom board p
+pub first_in_room : (board : Board) (marks : List Bool) (p place : ℕ) (xs : List ℕ) → IsRunning board marks (p ∷ xs) place → is_wall board p ≡ false →
+    InRoom board p
 first_in_room board marks p place xs f floor = f.waits p (or_left (eqb p p) (contains xs p) (eq-eqb p p refl)) floor
 
 -- the columns of a run's next square
-pub row_more : (cols first place : ℕ) → 1 ≤ cols → place ≡ first + place % cols → (place ≡ first + cols - 1 → ⊥) → (place % cols + 1 ≡ cols → ⊥) × (place + 1 ≡ first + (place + 1) % cols)
+pub row_more : (cols first place : ℕ) → 1 ≤ cols → place ≡ first + place % cols → (place ≡ first + cols - 1 → ⊥) → (place % cols + 1 ≡ cols → ⊥) ×
+    (place + 1 ≡ first + (place + 1) % cols)
 row_more cols first place some row more = (short, omega (arith, row, next_column place cols (place % cols) some refl short, ap (λ (x : ℕ). x % cols) is))
   where
     is : place + 1 ≡ suc place
@@ -232,7 +248,8 @@ row_more cols first place some row more = (short, omega (arith, row, next_column
     short e = more (omega (arith, e, row, some))
 
 -- at the end of a row the room lies open
-pub open_right : (board : Board) (first place : ℕ) → 1 ≤ board.cols → place ≡ first + place % board.cols → place ≡ first + board.cols - 1 → InRoom board place → IsOpen board
+pub open_right : (board : Board) (first place : ℕ) → 1 ≤ board.cols → place ≡ first + place % board.cols → place ≡ first + board.cols - 1 → InRoom board place →
+    IsOpen board
 open_right board first place some row last r = (place, R, r, right_ends board place (omega (arith, row, last, some)))
 
 -- and at its beginning
@@ -274,5 +291,6 @@ run_first board marks p start xs f floor run room = record {
     to (along {q} before open_here) = along (to before) open_here
 
 -- a pending square that is a wall or has its mark is no longer pending
-pub forget_first : (board : Board) (marks : List Bool) (p : ℕ) (xs : List ℕ) → IsFilling board marks (p ∷ xs) → (is_wall board p ≡ false → IsMarked marks p) → IsFilling board marks xs
+pub forget_first : (board : Board) (marks : List Bool) (p : ℕ) (xs : List ℕ) → IsFilling board marks (p ∷ xs) → (is_wall board p ≡ false → IsMarked marks p) →
+    IsFilling board marks xs
 forget_first board marks p xs f gone = forget board marks p (length board.cells) xs f gone (λ floor. absurd (true≢false (sym (wall_at_end board) ∙ floor)))

@@ -1,5 +1,6 @@
 -- A square takes another's place in a rising list: the squares between move by one place.
-use Rattle.std.proofs.Common.{◌≡◌, ℕ, zero, suc, ◌+◌, ◌-◌, ◌<◌, ◌≤◌, false, true, ltb, List, [], ◌∷◌, length, get_or, set, inl, inr, refl, sym, ap, subst, ◌∙◌, add-one, arith}
+use Rattle.std.proofs.Common.{◌≡◌, ℕ, zero, suc, ◌+◌, ◌-◌, ◌<◌, ◌≤◌, false, true, ltb, List, [], ◌∷◌, length, get_or, set, inl, inr, refl, sym, ap, subst, ◌∙◌}
+use Rattle.std.proofs.Common.{add-one, arith}
 use Rattle.std.specs.List.{prefix_len, insert as insert_at, remove as remove_at}
 use Rattle.std.proofs.lemmas.Bool.{lt-ltb, le-ltb, cases_eq, true≢false}
 use Rattle.std.proofs.lemmas.List.Edits.{get_or-remove_below, get_or-remove_above, length-remove}
@@ -26,25 +27,30 @@ hole_filled (x ∷ xs) (suc h) q lt = ap (λ (zs : List ℕ). x ∷ zs) (hole_fi
 pub moved_up : (xs : List ℕ) (h y : ℕ) → h + 1 < length xs → y ≡ get_or xs (h + 1) 0 → remove_at (set xs h y) (h + 1) ≡ remove_at xs h
 moved_up xs h y lt e =
     let e' : y ≡ get_or xs (suc h) 0 = subst (λ (n : ℕ). y ≡ get_or xs n 0) (add-one h) e in
-    subst (λ (n : ℕ). remove_at (set xs h y) n ≡ remove_at xs h) (sym (add-one h)) (ap (λ (z : ℕ). remove_at (set xs h z) (suc h)) e' ∙ hole_up xs h (omega arith))
+    subst (λ (n : ℕ). remove_at (set xs h y) n ≡ remove_at xs h) (sym (add-one h)) (ap (λ (z : ℕ). remove_at (set xs h z) (suc h)) e' ∙
+    hole_up xs h (omega arith))
 
 -- the hole stands between what is less and what is not
-pub settled : (xs : List ℕ) (h q : ℕ) → h < length xs → is_rising (remove_at xs h) ≡ true → contains (remove_at xs h) q ≡ false → (0 < h → get_or xs (h - 1) 0 ≤ q) → (h + 1 < length xs → q ≤ get_or xs (h + 1) 0) → set xs h q ≡ insert (remove_at xs h) q
+pub settled : (xs : List ℕ) (h q : ℕ) → h < length xs → is_rising (remove_at xs h) ≡ true → contains (remove_at xs h) q ≡ false →
+    (0 < h → get_or xs (h - 1) 0 ≤ q) → (h + 1 < length xs → q ≤ get_or xs (h + 1) 0) → set xs h q ≡ insert (remove_at xs h) q
 settled xs h q lt rising out less more =
     let ys = remove_at xs h in
     let size : length ys + 1 ≡ length xs = length-remove xs h lt in
     let below : (k : ℕ) → k < h → get_or ys k 0 < q = λ k k<h.
     let last : get_or ys (h - 1) 0 ≡ get_or xs (h - 1) 0 = get_or-remove_below xs h 0 (h - 1) (omega arith) lt in
     let most : get_or xs (h - 1) 0 ≤ q = less (omega arith) in
-    let other : get_or ys (h - 1) 0 ≡ q → ⊥ = λ e. true≢false (sym (subst (λ (x : ℕ). contains ys x ≡ true) e (contains-get_or ys (h - 1) 0 (omega arith))) ∙ out) in
+    let other : get_or ys (h - 1) 0 ≡ q → ⊥ = λ e. true≢false (sym (subst (λ (x : ℕ). contains ys x ≡ true) e (contains-get_or ys (h - 1) 0 (omega arith))) ∙
+    out) in
     let high : get_or xs (h - 1) 0 < q = omega (arith, last, most, other) in
     elim (cases_eq k (h - 1)) [
       | inl e ↦ subst (λ (n : ℕ). get_or ys n 0 < q) (sym e) (omega (arith, last, high))
-      | inr ne ↦ let low : get_or ys k 0 < get_or ys (h - 1) 0 = rising_places ys k (h - 1) 0 rising (omega (arith, ne)) (omega arith) in omega (arith, low, last, high)
+      | inr ne ↦ let low : get_or ys k 0 < get_or ys (h - 1) 0 = rising_places ys k (h - 1) 0 rising (omega (arith, ne)) (omega arith) in
+          omega (arith, low, last, high)
     ] in
     let above : h < length ys → q ≤ get_or ys h 0 = λ inside.
     let first : get_or ys h 0 ≡ get_or xs (h + 1) 0 = get_or-remove_above xs h 0 h (omega arith) lt in
     let low : q ≤ get_or xs (h + 1) 0 = more (omega arith) in
     omega (arith, first, low) in
-    let place : prefix_len (λ x. ltb x q) ys ≡ h = prefix_len_is (λ x. ltb x q) ys h 0 (omega arith) (λ k k<h. lt-ltb (get_or ys k 0) q (below k k<h)) (λ inside. le-ltb (get_or ys h 0) q (above inside)) in
+    let place : prefix_len (λ x. ltb x q) ys ≡ h = prefix_len_is (λ x. ltb x q) ys h 0 (omega arith) (λ k k<h. lt-ltb (get_or ys k 0) q (below k k<h))
+    (λ inside. le-ltb (get_or ys h 0) q (above inside)) in
     hole_filled xs h q lt ∙ (ap (λ (n : ℕ). insert_at ys n q) (sym place) ∙ insert_place ys q out)

@@ -16,7 +16,8 @@ push_at board s d = record { square = next board s.player d; dir = d }
 pub data Play (board : Board) (ok : Scene → Type 0) : Scene → List Dir → List Push → Scene → Type 0 where
   stay : {s : Scene} → ok s → Play board ok s [] [] s
   walk : {s m t : Scene} {d : Dir} {ds : List Dir} {ps : List Push} → ok s → Walks board s d m → Play board ok m ds ps t → Play board ok s (d ∷ ds) ps t
-  push : {s m t : Scene} {d : Dir} {ds : List Dir} {ps : List Push} → ok s → Pushes board s d m → Play board ok m ds ps t → Play board ok s (d ∷ ds) (push_at board s d ∷ ps) t
+  push : {s m t : Scene} {d : Dir} {ds : List Dir} {ps : List Push} → ok s → Pushes board s d m → Play board ok m ds ps t →
+      Play board ok s (d ∷ ds) (push_at board s d ∷ ps) t
 
 -- any state at all
 abbrev pub Any : Scene → Type 0

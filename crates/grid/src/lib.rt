@@ -1,4 +1,13 @@
 //! Squares, lawful levels, states, steps and positions of Sokoban.
+//!
+//! With the `level` of a hall `@$.`, a player, a box and a goal in a row:
+//!
+//! ```text
+//! let mut state = State::start(alloc, &level).expect(&rt, "memory");
+//! assert_eq!(&rt; state.step(&level, Dir::L), Step::Blocked);
+//! assert_eq!(&rt; state.step(&level, Dir::R), Step::Pushed);
+//! assert!(&rt; state.is_solved(&level));
+//! ```
 #![tactic(auto)]
 
 mod around;

@@ -1,5 +1,6 @@
 -- A list that is cut into pieces.
-use Rattle.std.proofs.Common.{◌≡◌, ℕ, zero, suc, ◌+◌, ◌<◌, ◌≤◌, Bool, true, false, cond, ◌||◌, List, [], ◌∷◌, ◌++◌, length, map, take, drop, get_or, Some, None, is_some, inl, inr, refl, sym, ap, ◌∙◌, arith}
+use Rattle.std.proofs.Common.{◌≡◌, ℕ, zero, suc, ◌+◌, ◌<◌, ◌≤◌, Bool, true, false, cond, ◌||◌, List, [], ◌∷◌, ◌++◌, length, map, take, drop, get_or, Some, None}
+use Rattle.std.proofs.Common.{is_some, inl, inr, refl, sym, ap, ◌∙◌, arith}
 use Rattle.std.proofs.lemmas.List.{length-drop, length-take}
 use Rattle.std.proofs.lemmas.Option.{same_Some, none-some, slice_get_within, slice_get_past, slice_get-map}
 use Rattle.std.specs.Prelude.{slice_get}
@@ -16,7 +17,8 @@ length-cut_at (i ∷ []) xs = refl
 length-cut_at (i ∷ j ∷ js) xs = ap suc (length-cut_at (j ∷ js) xs)
 
 -- the piece that a place begins
-pub cut_piece : {A : Type 0} (starts : List ℕ) (xs : List A) (k p q : ℕ) → IsPiece starts (length xs) k p q → get_or (cut_at starts xs) k [] ≡ drop p (take q xs)
+pub cut_piece : {A : Type 0} (starts : List ℕ) (xs : List A) (k p q : ℕ) → IsPiece starts (length xs) k p q →
+    get_or (cut_at starts xs) k [] ≡ drop p (take q xs)
 cut_piece [] xs k p q (at, next) = absurd (none-some p at)
 cut_piece (i ∷ []) xs zero p q (at, inl next) = absurd (none-some q next)
 cut_piece (i ∷ []) xs zero p q (at, inr (none, e)) = (λ n. drop (same_Some i p at n) xs) ∙ ap (drop p) (sym (take_all xs) ∙ ap (λ n. take n xs) (sym e))
@@ -58,15 +60,20 @@ pub past_piece : {A : Type 0} (xs : List A) (p q i : ℕ) → q ≤ p + i → sl
 past_piece xs p q i le = slice_get_past (drop p (take q xs)) i (omega (arith, length-drop p (take q xs), length-take q xs))
 
 -- the place of a piece in the list of the pieces' places
-pub place_in_piece : {A B : Type 0} (f : A → B) (starts : List ℕ) (xs : List A) (k p q i : ℕ) → IsPiece starts (length xs) k p q → p + i < q → slice_get (map f (get_or (cut_at starts xs) k [])) i ≡ option_map f (slice_get xs (p + i))
+pub place_in_piece : {A B : Type 0} (f : A → B) (starts : List ℕ) (xs : List A) (k p q i : ℕ) → IsPiece starts (length xs) k p q → p + i < q →
+    slice_get (map f (get_or (cut_at starts xs) k [])) i ≡ option_map f (slice_get xs (p + i))
 place_in_piece f starts xs k p q i piece lt =
-    slice_get-map f (get_or (cut_at starts xs) k []) i ∙ ap (λ zs. option_map f (slice_get zs i)) (cut_piece starts xs k p q piece) ∙ ap (option_map f) (at_piece xs p q i lt)
+    slice_get-map f (get_or (cut_at starts xs) k []) i ∙ ap (λ zs. option_map f (slice_get zs i)) (cut_piece starts xs k p q piece)
+    ∙ ap (option_map f) (at_piece xs p q i lt)
 
-pub place_past_piece : {A B : Type 0} (f : A → B) (starts : List ℕ) (xs : List A) (k p q i : ℕ) → IsPiece starts (length xs) k p q → q ≤ p + i → slice_get (map f (get_or (cut_at starts xs) k [])) i ≡ None
+pub place_past_piece : {A B : Type 0} (f : A → B) (starts : List ℕ) (xs : List A) (k p q i : ℕ) → IsPiece starts (length xs) k p q → q ≤ p + i →
+    slice_get (map f (get_or (cut_at starts xs) k [])) i ≡ None
 place_past_piece f starts xs k p q i piece le =
-    slice_get-map f (get_or (cut_at starts xs) k []) i ∙ ap (λ zs. option_map f (slice_get zs i)) (cut_piece starts xs k p q piece) ∙ ap (option_map f) (past_piece xs p q i le)
+    slice_get-map f (get_or (cut_at starts xs) k []) i ∙ ap (λ zs. option_map f (slice_get zs i)) (cut_piece starts xs k p q piece)
+    ∙ ap (option_map f) (past_piece xs p q i le)
 
-pub place_past : {A B : Type 0} (f : A → B) (starts : List ℕ) (xs : List A) (k i : ℕ) → length starts ≤ k → slice_get (map f (get_or (cut_at starts xs) k [])) i ≡ None
+pub place_past : {A B : Type 0} (f : A → B) (starts : List ℕ) (xs : List A) (k i : ℕ) → length starts ≤ k →
+    slice_get (map f (get_or (cut_at starts xs) k [])) i ≡ None
 place_past f starts xs k i le = ap (λ zs. slice_get (map f zs) i) (cut_past starts xs k le)
 
 -- ---- all pieces together
@@ -94,10 +101,12 @@ or_false true = refl
 or_false false = refl
 
 -- the cuts behind the first are cuts
-later_cuts : (i j : ℕ) (js : List ℕ) → ((k p q : ℕ) → slice_get (i ∷ j ∷ js) k ≡ Some p → slice_get (i ∷ j ∷ js) (suc k) ≡ Some q → p ≤ q) → (k p q : ℕ) → slice_get (j ∷ js) k ≡ Some p → slice_get (j ∷ js) (suc k) ≡ Some q → p ≤ q
+later_cuts : (i j : ℕ) (js : List ℕ) → ((k p q : ℕ) → slice_get (i ∷ j ∷ js) k ≡ Some p → slice_get (i ∷ j ∷ js) (suc k) ≡ Some q → p ≤ q) → (k p q : ℕ) →
+    slice_get (j ∷ js) k ≡ Some p → slice_get (j ∷ js) (suc k) ≡ Some q → p ≤ q
 later_cuts i j js rise k p q at next = rise (suc k) p q at next
 
-total-from : {A : Type 0} (i : ℕ) (is : List ℕ) (xs : List A) → ((k p q : ℕ) → slice_get (i ∷ is) k ≡ Some p → slice_get (i ∷ is) (suc k) ≡ Some q → p ≤ q) → ((k p : ℕ) → slice_get (i ∷ is) k ≡ Some p → p ≤ length xs) → total (cut_at (i ∷ is) xs) + i ≡ length xs
+total-from : {A : Type 0} (i : ℕ) (is : List ℕ) (xs : List A) → ((k p q : ℕ) → slice_get (i ∷ is) k ≡ Some p → slice_get (i ∷ is) (suc k) ≡ Some q → p ≤ q) →
+    ((k p : ℕ) → slice_get (i ∷ is) k ≡ Some p → p ≤ length xs) → total (cut_at (i ∷ is) xs) + i ≡ length xs
 total-from i [] xs rise within = omega (arith, sum_by_first length (drop i xs) [], length-drop i xs, within zero i refl)
 total-from i (j ∷ js) xs rise within =
     omega (
@@ -114,7 +123,9 @@ pub total-cuts : {A : Type 0} (starts : List ℕ) (xs : List A) → AreCuts star
 total-cuts [] xs cuts = absurd (none-some 0 cuts.first)
 total-cuts (i ∷ is) xs cuts = omega (arith, total-from i is xs cuts.rise cuts.within, same_Some i 0 cuts.first)
 
-any-from : {A : Type 0} (test : A → Bool) (i : ℕ) (is : List ℕ) (xs : List A) → ((k p q : ℕ) → slice_get (i ∷ is) k ≡ Some p → slice_get (i ∷ is) (suc k) ≡ Some q → p ≤ q) → list_any (λ es. list_any test es) (cut_at (i ∷ is) xs) ≡ list_any test (drop i xs)
+any-from : {A : Type 0} (test : A → Bool) (i : ℕ) (is : List ℕ) (xs : List A) →
+    ((k p q : ℕ) → slice_get (i ∷ is) k ≡ Some p → slice_get (i ∷ is) (suc k) ≡ Some q → p ≤ q) →
+    list_any (λ es. list_any test es) (cut_at (i ∷ is) xs) ≡ list_any test (drop i xs)
 any-from test i [] xs rise = or_false (list_any test (drop i xs))
 any-from test i (j ∷ js) xs rise =
     ap (λ b. list_any test (drop i (take j xs)) || b) (any-from test j js xs (later_cuts i j js rise))
@@ -129,12 +140,15 @@ any-lookup test (e ∷ es) = go (test e.0) (any-lookup test es)
     go false h = h
 
 -- what is found among all is in a piece
-pub any-cuts : {K X : Type 0} (test : K → Bool) (starts : List ℕ) (es : List (K × X)) → AreCuts starts (length es) → list_any (λ xs. list_any (λ e. test e.0) xs) (cut_at starts es) ≡ is_some (lookup test es)
+pub any-cuts : {K X : Type 0} (test : K → Bool) (starts : List ℕ) (es : List (K × X)) → AreCuts starts (length es) →
+    list_any (λ xs. list_any (λ e. test e.0) xs) (cut_at starts es) ≡ is_some (lookup test es)
 any-cuts test [] es cuts = absurd (none-some 0 cuts.first)
-any-cuts test (i ∷ is) es cuts = any-from (λ e. test e.0) i is es cuts.rise ∙ ap (λ k. list_any (λ e. test e.0) (drop k es)) (same_Some i 0 cuts.first) ∙ any-lookup test es
+any-cuts test (i ∷ is) es cuts = any-from (λ e. test e.0) i is es cuts.rise ∙ ap (λ k. list_any (λ e. test e.0) (drop k es)) (same_Some i 0 cuts.first)
+    ∙ any-lookup test es
 
 -- one more piece, behind all
-pub cut_push : {A : Type 0} (starts : List ℕ) (xs ys : List A) → AreCuts starts (length xs) → cut_at (starts ++ length xs ∷ []) (xs ++ ys) ≡ cut_at starts xs ++ ys ∷ []
+pub cut_push : {A : Type 0} (starts : List ℕ) (xs ys : List A) → AreCuts starts (length xs) →
+    cut_at (starts ++ length xs ∷ []) (xs ++ ys) ≡ cut_at starts xs ++ ys ∷ []
 cut_push [] xs ys cuts = absurd (none-some 0 cuts.first)
 cut_push {A} (i ∷ is) xs ys cuts = go i is cuts.within
   where
@@ -151,7 +165,8 @@ cut_push {A} (i ∷ is) xs ys cuts = go i is cuts.within
     take_long [] = refl
     take_long (z ∷ zs) = ap (λ us. z ∷ us) (take_long zs)
 
-    go : (k : ℕ) (ks : List ℕ) → ((n p : ℕ) → slice_get (k ∷ ks) n ≡ Some p → p ≤ length xs) → cut_at ((k ∷ ks) ++ length xs ∷ []) (xs ++ ys) ≡ cut_at (k ∷ ks) xs ++ ys ∷ []
+    go : (k : ℕ) (ks : List ℕ) → ((n p : ℕ) → slice_get (k ∷ ks) n ≡ Some p → p ≤ length xs) →
+        cut_at ((k ∷ ks) ++ length xs ∷ []) (xs ++ ys) ≡ cut_at (k ∷ ks) xs ++ ys ∷ []
     go k [] within = λ n. drop k ((take_front xs (length xs) (omega arith) ∙ take_long xs) n) ∷ drop_all xs n ∷ []
     go k (j ∷ js) within = λ n. drop k (take_front xs j (within (suc zero) j refl) n) ∷ go j js (λ m p at. within (suc m) p at) n
 

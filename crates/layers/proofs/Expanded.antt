@@ -14,15 +14,21 @@ use Rattle.successors.specs.ParcelView.{AreSuccessors, IsSource}
 use Rattle.layers.specs.LayerView.{LayerView, IsWhole}
 
 -- the successors of the position with a rank are told of each position with that rank, by the layer's own level and number
-pub of_place : (places : List Scene) (rank : ℕ) (n : Scene) → slice_get places rank ≡ Some n → (level same : Task) → level ≡ same → (number layer : ℕ) → number ≡ layer →
-    (ss : List Successor) → AreSuccessors level number n ss → (m : Scene) → slice_get places rank ≡ Some m → AreSuccessors same layer m ss
+pub of_place : (places : List Scene) (rank : ℕ) (n : Scene) → slice_get places rank ≡ Some n → (level same : Task) → level ≡ same → (number layer : ℕ) →
+    number ≡ layer → (ss : List Successor) → AreSuccessors level number n ss → (m : Scene) → slice_get places rank ≡ Some m → AreSuccessors same layer m ss
 of_place places rank n here level same e number layer f ss come m there =
     let g = same_Some n m (sym here ∙ there) in
-    subst (λ (x : Scene). AreSuccessors same layer x ss) g (subst (λ (k : ℕ). AreSuccessors same k n ss) f (subst (λ (t : Task). AreSuccessors t number n ss) e come))
+    subst (λ (x : Scene). AreSuccessors same layer x ss) g (subst (λ (k : ℕ). AreSuccessors same k n ss) f
+    (subst (λ (t : Task). AreSuccessors t number n ss) e come))
 
 -- the position with a rank of a whole layer is one that may be expanded
-pub is_source : (v : LayerView) → IsWhole v → (board : Board) (cap : Option ℕ) (number rank : ℕ) (n : Scene) → board ≡ v.level.board → cap ≡ v.level.cap → number ≡ v.number →
-    slice_get v.places rank ≡ Some n → FitsLevel v.level.board n → Undoomed v.level.board n → IsSource board (record { cap = cap; layer = number; rank = rank; position = n })
+pub is_source : (v : LayerView) → IsWhole v → (board : Board) (cap : Option ℕ) (number rank : ℕ) (n : Scene) → board ≡ v.level.board → cap ≡ v.level.cap →
+    number ≡ v.number → slice_get v.places rank ≡ Some n → FitsLevel v.level.board n → Undoomed v.level.board n → IsSource board (record {
+      cap = cap;
+      layer = number;
+      rank = rank;
+      position = n;
+    })
 is_source v whole board cap number rank n same e named here fits undoomed = record {
   lawful = subst IsLevel (sym same) whole.lawful;
   places = v.places;

@@ -1,5 +1,6 @@
 -- Layer 0, and a new book.
-use Rattle.std.proofs.Common.{◌≡◌, ℕ, zero, suc, ◌<◌, ◌≤◌, false, List, [], ◌∷◌, ◌++◌, length, sum, drop, replicate, Bool, Option, Some, None, inl, inr, refl, sym, ap, subst, ◌∙◌, arith}
+use Rattle.std.proofs.Common.{◌≡◌, ℕ, zero, suc, ◌<◌, ◌≤◌, false, List, [], ◌∷◌, ◌++◌, length, sum, drop, replicate, Bool, Option, Some, None, inl, inr, refl}
+use Rattle.std.proofs.Common.{sym, ap, subst, ◌∙◌, arith}
 use Rattle.std.proofs.lemmas.List.{length-replicate}
 use Rattle.std.proofs.lemmas.Option.{same_Some, none-some}
 use Rattle.std.specs.Prelude.{slice_get}
@@ -37,7 +38,9 @@ no_later [] = refl
 no_later (q ∷ qs) = shortlex_shorter push_cmp [] (q ∷ qs) (omega arith)
 
 -- the start's normal position is layer 0 of its own share
-pub first_layer : (task : Task) → IsLevel task.board → (shares share : ℕ) (n : Scene) → Undoomed task.board (start task.board) → IsNorm task.board (start task.board) n → FitsLevel task.board n → Admits task 0 n → share_of shares n ≡ share → IsShareOfLayer task shares share 0 ((n, None) ∷ [])
+pub first_layer : (task : Task) → IsLevel task.board → (shares share : ℕ) (n : Scene) → Undoomed task.board (start task.board) →
+    IsNorm task.board (start task.board) n → FitsLevel task.board n → Admits task 0 n → share_of shares n ≡ share →
+    IsShareOfLayer task shares share 0 ((n, None) ∷ [])
 first_layer task level shares share n safe norm fits adm own = record {
   layer = record {
     leads = λ r m at. leads r m at;
@@ -54,8 +57,12 @@ first_layer task level shares share n safe norm fits adm own = record {
     lead : IsLead push_cmp (Reaches task.board) n []
     lead = record { reached = here; least = λ qs reach. no_later qs }
 
-    leads : (r : ℕ) (m : Scene) → slice_get (n ∷ []) r ≡ Some m → ((share_of shares m ≡ share) × Admits task 0 m) × ((ps : List Push) × IsLead push_cmp (Reaches task.board) m ps × (length ps ≡ 0))
-    leads zero m at = ((ap (share_of shares) (sym (same_Some n m at)) ∙ own, subst (Admits task 0) (same_Some n m at) adm), ([], subst (λ x. IsLead push_cmp (Reaches task.board) x []) (same_Some n m at) lead, refl))
+    leads : (r : ℕ) (m : Scene) → slice_get (n ∷ []) r ≡ Some m → ((share_of shares m ≡ share) × Admits task 0 m)
+        × ((ps : List Push) × IsLead push_cmp (Reaches task.board) m ps × (length ps ≡ 0))
+    leads zero m at = (
+      (ap (share_of shares) (sym (same_Some n m at)) ∙ own, subst (Admits task 0) (same_Some n m at) adm),
+      ([], subst (λ x. IsLead push_cmp (Reaches task.board) x []) (same_Some n m at) lead, refl),
+    )
     leads (suc r) m at = absurd (none-some m at)
 
     past : (r s : ℕ) (l : Scene) → r < s → slice_get (n ∷ []) s ≡ Some l → ⊥
@@ -75,7 +82,8 @@ first_layer task level shares share n safe norm fits adm own = record {
     fit (suc i) m o at = absurd (none-some (m, o) at)
 
 -- layer 0 of another share is empty
-pub other_layer : (task : Task) → IsLevel task.board → (shares share : ℕ) (n : Scene) → Undoomed task.board (start task.board) → IsNorm task.board (start task.board) n → ¬ (share_of shares n ≡ share) → IsShareOfLayer task shares share 0 []
+pub other_layer : (task : Task) → IsLevel task.board → (shares share : ℕ) (n : Scene) → Undoomed task.board (start task.board) →
+    IsNorm task.board (start task.board) n → ¬ (share_of shares n ≡ share) → IsShareOfLayer task shares share 0 []
 other_layer task level shares share n safe norm other = record {
   layer = record {
     leads = λ r m at. absurd (none-some m at);
@@ -119,19 +127,22 @@ barred_layer task level shares share barred = record {
     unmoved (p ∷ ps) m reach long = absurd (omega arith)
 
 -- layer 0 of a share by the first position of the level
-pub share_without : (task : Task) → IsLevel task.board → (shares share : ℕ) (first : Option Scene) → IsFirst task first → first ≡ None → IsShareOfLayer task shares share 0 []
+pub share_without : (task : Task) → IsLevel task.board → (shares share : ℕ) (first : Option Scene) → IsFirst task first → first ≡ None →
+    IsShareOfLayer task shares share 0 []
 share_without task level shares share first is none = by (subst (IsFirst task) none is)
   where
     by : IsFirst task None → IsShareOfLayer task shares share 0 []
     by (inl doomed) = doomed_layer task shares share doomed
     by (inr barred) = barred_layer task level shares share barred
 
-pub share_with : (task : Task) → IsLevel task.board → (shares share : ℕ) (first : Option Scene) (m : Scene) → IsFirst task first → first ≡ Some m → share_of shares m ≡ share → IsShareOfLayer task shares share 0 ((m, None) ∷ [])
+pub share_with : (task : Task) → IsLevel task.board → (shares share : ℕ) (first : Option Scene) (m : Scene) → IsFirst task first → first ≡ Some m →
+    share_of shares m ≡ share → IsShareOfLayer task shares share 0 ((m, None) ∷ [])
 share_with task level shares share first m is some own =
     let w : IsFirst task (Some m) = subst (IsFirst task) some is in
     first_layer task level shares share m w.0 w.1 w.2 w.3 own
 
-pub share_beside : (task : Task) → IsLevel task.board → (shares share : ℕ) (first : Option Scene) (m : Scene) → IsFirst task first → first ≡ Some m → ¬ (share_of shares m ≡ share) → IsShareOfLayer task shares share 0 []
+pub share_beside : (task : Task) → IsLevel task.board → (shares share : ℕ) (first : Option Scene) (m : Scene) → IsFirst task first → first ≡ Some m →
+    ¬ (share_of shares m ≡ share) → IsShareOfLayer task shares share 0 []
 share_beside task level shares share first m is some other =
     let w : IsFirst task (Some m) = subst (IsFirst task) some is in
     other_layer task level shares share m w.0 w.1 other
@@ -145,8 +156,21 @@ none_summed zero = refl
 none_summed (suc n) = omega (arith, sum_by_first (λ (x : ℕ). x) 0 (replicate n 0), none_summed n)
 
 -- a new book is lawful
-pub lawful_new : (task : Task) (limit workers share shares : ℕ) (es : List Closed) → IsLevel task.board → AreBounds limit workers share shares → IsShareOfLayer task shares share 0 es → length es ≤ limit →
-    IsLawfulBook (record { level = task; limit = limit; workers = workers; share = share; shares = shares; closed = es ∷ []; begun = false; claimed = []; done = []; waiting = []; tallies = replicate workers 0; over = false })
+pub lawful_new : (task : Task) (limit workers share shares : ℕ) (es : List Closed) → IsLevel task.board → AreBounds limit workers share shares →
+    IsShareOfLayer task shares share 0 es → length es ≤ limit → IsLawfulBook (record {
+      level = task;
+      limit = limit;
+      workers = workers;
+      share = share;
+      shares = shares;
+      closed = es ∷ [];
+      begun = false;
+      claimed = [];
+      done = [];
+      waiting = [];
+      tallies = replicate workers 0;
+      over = false;
+    })
 lawful_new task limit workers share shares es level bounds layer few = record {
   level = level;
   bounds = bounds;
@@ -175,26 +199,52 @@ drop_none (x ∷ xs) = refl
 
 -- ---- a new book, on the fields
 
-module _ (task : Task) (limit workers share shares : ℕ) (starts tallies : List ℕ) (es : List Closed) (claimed done : List Bool) (waiting : List (Entry Scene Push))
-    (layer : IsShareOfLayer task shares share 0 es × (length es ≤ 1))
-    (starts_are : starts ≡ replicate 1 0) (tallies_are : tallies ≡ replicate workers 0) (no_claims : claimed ≡ []) (none_done : done ≡ []) (none_waits : waiting ≡ []) where
+module _ (task : Task) (limit workers share shares : ℕ) (starts tallies : List ℕ) (es : List Closed) (claimed done : List Bool)
+    (waiting : List (Entry Scene Push)) (layer : IsShareOfLayer task shares share 0 es × (length es ≤ 1))
+    (starts_are : starts ≡ replicate 1 0) (tallies_are : tallies ≡ replicate workers 0) (no_claims : claimed ≡ []) (none_done : done ≡ [])
+    (none_waits : waiting ≡ []) where
   abbrev fresh : BookView
-  fresh = record { level = task; limit = limit; workers = workers; share = share; shares = shares; closed = cut_at starts es; begun = false; claimed = claimed; done = done; waiting = waiting; tallies = tallies; over = false }
+  fresh = record {
+    level = task;
+    limit = limit;
+    workers = workers;
+    share = share;
+    shares = shares;
+    closed = cut_at starts es;
+    begun = false;
+    claimed = claimed;
+    done = done;
+    waiting = waiting;
+    tallies = tallies;
+    over = false;
+  }
 
   closed_is : cut_at starts es ≡ es ∷ []
   closed_is = ap (λ s. cut_at s es) starts_are ∙ ap (λ xs. xs ∷ []) (drop_none es)
 
   pub fresh_lawful : IsLevel task.board → AreBounds limit workers share shares → IsLawfulBook fresh
   fresh_lawful level bounds = subst IsLawfulBook
-      (λ i. record { level = task; limit = limit; workers = workers; share = share; shares = shares; closed = sym closed_is i; begun = false; claimed = sym no_claims i; done = sym none_done i; waiting = sym none_waits i; tallies = sym tallies_are i; over = false })
-      (lawful_new task limit workers share shares es level bounds layer.0 (omega (arith, layer.1, bounds.limits.0)))
+      (λ i. record {
+        level = task;
+        limit = limit;
+        workers = workers;
+        share = share;
+        shares = shares;
+        closed = sym closed_is i;
+        begun = false;
+        claimed = sym no_claims i;
+        done = sym none_done i;
+        waiting = sym none_waits i;
+        tallies = sym tallies_are i;
+        over = false;
+      }) (lawful_new task limit workers share shares es level bounds layer.0 (omega (arith, layer.1, bounds.limits.0)))
 
   pub fresh_cuts : AreCuts starts (length es)
-  fresh_cuts = subst (λ s. AreCuts s (length es)) (sym starts_are) (record { first = refl; rise = λ j p q at next. absurd (none-some q next); within = λ j p at. within j p at })
-    where
-      within : (j p : ℕ) → slice_get (0 ∷ []) j ≡ Some p → p ≤ length es
-      within zero p at = omega (arith, same_Some 0 p at)
-      within (suc j) p at = absurd (none-some p at)
+  fresh_cuts = subst (λ s. AreCuts s (length es)) (sym starts_are)
+      (record { first = refl; rise = λ j p q at next. absurd (none-some q next); within = λ j p at. within j p at }) where
+        within : (j p : ℕ) → slice_get (0 ∷ []) j ≡ Some p → p ≤ length es
+        within zero p at = omega (arith, same_Some 0 p at)
+        within (suc j) p at = absurd (none-some p at)
 
   pub fresh_new : IsNew task limit workers share shares fresh
   fresh_new = record {
@@ -207,7 +257,8 @@ module _ (task : Task) (limit workers share shares : ℕ) (starts tallies : List
   }
 
 -- ---- new books, one share after the other
-pub one_share_more : (task : Task) (limit workers share shares : ℕ) (books : List BookView) (book : BookView) → length books ≡ share → AreNewInOrder task limit workers shares books → IsNew task limit workers share shares book → AreNewInOrder task limit workers shares (books ++ book ∷ [])
+pub one_share_more : (task : Task) (limit workers share shares : ℕ) (books : List BookView) (book : BookView) → length books ≡ share →
+    AreNewInOrder task limit workers shares books → IsNew task limit workers share shares book → AreNewInOrder task limit workers shares (books ++ book ∷ [])
 one_share_more task limit workers share shares books book long before last = λ i v at. elim (at-push books book i v at) [
   | inl old ↦ before i v old
   | inr new ↦ subst (λ k. IsNew task limit workers k shares v) (sym (new.0 ∙ long)) (subst (IsNew task limit workers share shares) (sym new.1) last)

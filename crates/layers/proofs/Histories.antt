@@ -1,5 +1,6 @@
 -- What lasts over any list of events of a book, and what its order decides.
-use Rattle.std.proofs.Common.{◌≡◌, ℕ, zero, suc, ◌<◌, ◌≤◌, Bool, true, false, List, [], ◌∷◌, ◌++◌, length, drop, get_or, Option, Some, None, refl, sym, ap, subst, ◌∙◌, arith}
+use Rattle.std.proofs.Common.{◌≡◌, ℕ, zero, suc, ◌<◌, ◌≤◌, Bool, true, false, List, [], ◌∷◌, ◌++◌, length, drop, get_or, Option, Some, None, refl, sym, ap}
+use Rattle.std.proofs.Common.{subst, ◌∙◌, arith}
 use Rattle.std.proofs.lemmas.List.{length-append, length-map}
 use Rattle.std.proofs.lemmas.Option.{same_Some, slice_get_within}
 use Rattle.std.specs.Prelude.{slice_get}
@@ -29,7 +30,8 @@ use Rattle.layers.proofs.lemmas.Layers.{layer_unique, place_unique}
 
 -- ---- one event
 
-refused_lawful : (v : BookView) (parcel : ParcelView) (refusal : Refusal) → IsLawfulBook v → IsParcel parcel → HandBackRefused v parcel refusal → IsLawfulBook (after_refusal v refusal)
+refused_lawful : (v : BookView) (parcel : ParcelView) (refusal : Refusal) → IsLawfulBook v → IsParcel parcel → HandBackRefused v parcel refusal →
+    IsLawfulBook (after_refusal v refusal)
 refused_lawful v parcel OtherLevel book is why = book
 refused_lawful v parcel OtherLayer book is why = book
 refused_lawful v parcel NoSuchRank book is why = book
@@ -74,7 +76,8 @@ happens_lasts v (claims (Some claim)) w did = lasts_since v w _ did.3 (lasts_its
 happens_lasts v (hands_back worker parcel) w did = lasts_since v w _ did.3 (lasts_itself v)
 happens_lasts v (hand_back_refused worker parcel refusal) w did = lasts_since v w _ did.3 (refused_lasts v refusal)
 happens_lasts v reopens w did = lasts_since v w _ did (lasts_itself v)
-happens_lasts v (closes report) w did = lasts_since v w (with_closed v did.1.0) did.1.2 ((refl, refl, refl, refl, refl), λ k es found. at_before v.closed (did.1.0 ∷ []) k es found)
+happens_lasts v (closes report) w did = lasts_since v w (with_closed v did.1.0) did.1.2
+    ((refl, refl, refl, refl, refl), λ k es found. at_before v.closed (did.1.0 ∷ []) k es found)
 happens_lasts v (close_refused fault) w did = lasts_since v w v did.1 (lasts_itself v)
 
 -- ---- any list of events
@@ -108,13 +111,26 @@ first_few task shares share (x ∷ y ∷ es) l =
     let u = (l.layer.leads 0 x.0 refl).1 in let w = (l.layer.leads 1 y.0 refl).1 in
     absurd (none_before u.0 w.0 u.2 w.2 (l.layer.rise 0 1 x.0 y.0 u.0 w.0 (omega arith) refl refl u.1 w.1))
 
-pub new_lawful : (task : Task) (limit workers share shares : ℕ) (v : BookView) → IsLevel task.board → AreBounds limit workers share shares → IsNew task limit workers share shares v → IsLawfulBook v
+pub new_lawful : (task : Task) (limit workers share shares : ℕ) (v : BookView) → IsLevel task.board → AreBounds limit workers share shares →
+    IsNew task limit workers share shares v → IsLawfulBook v
 new_lawful task limit workers share shares v lawful bounds new =
     let m = new.made_with in let c = new.closed in let n = new.nothing in
     let few = first_few task shares share c.0 c.2 in
     subst IsLawfulBook
-    (λ i. record { level = sym m.0 i; limit = sym m.1 i; workers = sym m.2 i; share = sym m.3 i; shares = sym m.4 i; closed = sym c.1 i; begun = sym new.begun i; claimed = sym n.0 i; done = sym n.1 i; waiting = sym n.2 i; tallies = sym new.tallies i; over = sym new.over i })
-    (lawful_new task limit workers share shares c.0 lawful bounds c.2 (let some = bounds.limits.0 in omega arith))
+    (λ i. record {
+      level = sym m.0 i;
+      limit = sym m.1 i;
+      workers = sym m.2 i;
+      share = sym m.3 i;
+      shares = sym m.4 i;
+      closed = sym c.1 i;
+      begun = sym new.begun i;
+      claimed = sym n.0 i;
+      done = sym n.1 i;
+      waiting = sym n.2 i;
+      tallies = sym new.tallies i;
+      over = sym new.over i;
+    }) (lawful_new task limit workers share shares c.0 lawful bounds c.2 (let some = bounds.limits.0 in omega arith))
 
 -- ---- the order of events
 
@@ -128,7 +144,8 @@ push_same (a ∷ xs) (b ∷ ys) x y e =
     (λ i. head i ∷ rest.0 i, rest.1)
 
 -- a position has one origin in the layer before
-one_origin : (task : Task) → IsLevel task.board → (k : ℕ) (xs : List Scene) → IsLayerOf task k xs → (m : Scene) (o p : Origin Push) → HasOrigin task k m o → HasOrigin task k m p → o ≡ p
+one_origin : (task : Task) → IsLevel task.board → (k : ℕ) (xs : List Scene) → IsLayerOf task k xs → (m : Scene) (o p : Origin Push) → HasOrigin task k m o →
+    HasOrigin task k m p → o ≡ p
 one_origin task level k xs layer m o p a b =
     let laws = level_laws task level in
     let u = a xs layer in let w = b xs layer in
@@ -138,30 +155,35 @@ one_origin task level k xs layer m o p a b =
     let rank = place_unique laws k xs layer o.0 p.0 w.0 (u.1 ∙ ap (λ (z : Scene). Some z) n) w.1 in
     λ i. (rank i, e.1 i)
 
-closed_origin : (task : Task) → IsLevel task.board → (k : ℕ) → ((j : ℕ) → k ≡ suc j → (xs : List Scene) × IsLayerOf task j xs) → (m : Scene) (o p : Option (Origin Push)) → HasClosedOrigin task k m o → HasClosedOrigin task k m p → o ≡ p
+closed_origin : (task : Task) → IsLevel task.board → (k : ℕ) → ((j : ℕ) → k ≡ suc j → (xs : List Scene) × IsLayerOf task j xs) →
+    (m : Scene) (o p : Option (Origin Push)) → HasClosedOrigin task k m o → HasClosedOrigin task k m p → o ≡ p
 closed_origin task level zero before m o p a b = a ∙ sym b
 closed_origin task level (suc k) before m None p a b = absurd a
 closed_origin task level (suc k) before m (Some o) None a b = absurd b
 closed_origin task level (suc k) before m (Some o) (Some p) a b = let w = before k refl in ap Some (one_origin task level k w.0 w.1 m o p a b)
 
 -- a closed list is one only
-one_list : (task : Task) → IsLevel task.board → (shares share k : ℕ) → ((j : ℕ) → k ≡ suc j → (xs : List Scene) × IsLayerOf task j xs) → (es fs : List Closed) → IsShareOfLayer task shares share k es → IsShareOfLayer task shares share k fs → es ≡ fs
+one_list : (task : Task) → IsLevel task.board → (shares share k : ℕ) → ((j : ℕ) → k ≡ suc j → (xs : List Scene) × IsLayerOf task j xs) →
+    (es fs : List Closed) → IsShareOfLayer task shares share k es → IsShareOfLayer task shares share k fs → es ≡ fs
 one_list task level shares share k before es fs a b =
     let e = layer_unique (level_laws task level) k (places_of es) (places_of fs) a.layer b.layer in
     same_places es fs (sym (length-map es (λ (x : Closed). x.0)) ∙ ap length e ∙ length-map fs (λ (x : Closed). x.0))
     (λ i x y at_x at_y.
     let place = same_Some x.0 y.0 (sym (map_at (λ (z : Closed). z.0) es i x at_x) ∙ ap (λ zs. slice_get zs i) e ∙ map_at (λ (z : Closed). z.0) fs i y at_y) in
-    let origin = closed_origin task level k before y.0 x.1 y.1 (subst (λ m. HasClosedOrigin task k m x.1) place (a.origins i x.0 x.1 at_x)) (b.origins i y.0 y.1 at_y) in
-    λ n. (place n, origin n))
+    let origin = closed_origin task level k before y.0 x.1 y.1 (subst (λ m. HasClosedOrigin task k m x.1) place (a.origins i x.0 x.1 at_x))
+    (b.origins i y.0 y.1 at_y) in λ n. (place n, origin n))
 
 pub closed_alike : (v w : BookView) → IsLawfulBook v → IsLawfulBook w → v.level ≡ w.level → v.share ≡ w.share → v.shares ≡ w.shares → CloseAlike v w
 closed_alike v w book other level share shares k es fs at_v at_w =
-    one_list v.level book.level v.shares v.share k (λ j e. (get_or book.wholes j [], book.whole j (get_or book.wholes j []) (read_at book.wholes j (before j e)))) es fs (book.closed k es at_v)
-    (subst (λ b. IsShareOfLayer b v.shares v.share k fs) (sym level) (subst (λ n. IsShareOfLayer w.level n v.share k fs) (sym shares) (subst (λ n. IsShareOfLayer w.level w.shares n k fs) (sym share) (other.closed k fs at_w))))
-  where
-    long : (b : Bool) → v.begun ≡ b → length v.closed ≤ suc (length book.wholes)
-    long true e = let some = book.some in omega (arith, (book.begun e).0)
-    long false e = let some = book.some in omega (arith, (book.not_begun e).0)
+    one_list v.level book.level v.shares v.share k (λ j e. (
+      get_or book.wholes j [],
+      book.whole j (get_or book.wholes j []) (read_at book.wholes j (before j e)),
+    )) es fs (book.closed k es at_v)
+    (subst (λ b. IsShareOfLayer b v.shares v.share k fs) (sym level) (subst (λ n. IsShareOfLayer w.level n v.share k fs) (sym shares)
+    (subst (λ n. IsShareOfLayer w.level w.shares n k fs) (sym share) (other.closed k fs at_w)))) where
+      long : (b : Bool) → v.begun ≡ b → length v.closed ≤ suc (length book.wholes)
+      long true e = let some = book.some in omega (arith, (book.begun e).0)
+      long false e = let some = book.some in omega (arith, (book.not_begun e).0)
 
-    before : (j : ℕ) → k ≡ suc j → j < length book.wholes
-    before j e = omega (arith, long v.begun refl, slice_get_within v.closed k es at_v)
+      before : (j : ℕ) → k ≡ suc j → j < length book.wholes
+      before j e = omega (arith, long v.begun refl, slice_get_within v.closed k es at_v)

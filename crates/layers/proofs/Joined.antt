@@ -1,5 +1,6 @@
 -- The last closed lists of all the shares, merged, are the whole layer.
-use Rattle.std.proofs.Common.{◌≡◌, ℕ, zero, suc, ◌+◌, ◌^◌, ◌<◌, ◌≤◌, Bool, true, false, List, [], ◌∷◌, ◌++◌, length, map, take, get_or, Option, Some, inl, inr, refl, sym, ap, subst, ◌∙◌, arith}
+use Rattle.std.proofs.Common.{◌≡◌, ℕ, zero, suc, ◌+◌, ◌^◌, ◌<◌, ◌≤◌, Bool, true, false, List, [], ◌∷◌, ◌++◌, length, map, take, get_or, Option, Some, inl, inr}
+use Rattle.std.proofs.Common.{refl, sym, ap, subst, ◌∙◌, arith}
 use Rattle.std.proofs.lemmas.List.{length-append}
 use Rattle.std.specs.Prelude.{slice_get}
 use Rattle.grid.specs.declared.square.Push.{Push}
@@ -58,22 +59,28 @@ module _ (books : List BookView) (all : AreAllShares books) (lawful : AreLawfulB
         arith,
         few_books,
         total-map last_list books,
-        sum_by-word (λ (v : BookView). length (last_list v)) books (λ i v at. (let small = small_book i v at in omega (arith, small, one_of_all v.closed (last_layer v)))),
+        sum_by-word (λ (v : BookView). length (last_list v)) books (λ i v at. (let small = small_book i v at in
+            omega (arith, small, one_of_all v.closed (last_layer v)))),
       )
 
   module _ (es : List Closed) (merged : IsMerged lists es) where
     before : (j : ℕ) → last_layer first ≡ suc j → (xs : List Scene) × IsLayerOf first.level j xs
-    before j e = (get_or first_is.wholes j [], first_is.whole j (get_or first_is.wholes j []) (read_at first_is.wholes j (omega (arith, e, wholes_long first first_is))))
+    before j e = (
+      get_or first_is.wholes j [],
+      first_is.whole j (get_or first_is.wholes j []) (read_at first_is.wholes j (omega (arith, e, wholes_long first first_is))),
+    )
 
     layer : IsLayerOf first.level (last_layer first) (places_of es)
-    layer = merged_layer first.level first_is.level first.shares (last_layer first) lists (last_shares books all lawful) before es (some_shares books all lawful) merged
+    layer = merged_layer first.level first_is.level first.shares (last_layer first) lists (last_shares books all lawful) before es
+        (some_shares books all lawful) merged
 
     origin : (i : ℕ) (m : Scene) (o : Option (Origin Push)) → slice_get es i ≡ Some (m, o) → HasClosedOrigin first.level (last_layer first) m o
     origin = merged_origin first.level first_is.level first.shares (last_layer first) lists (last_shares books all lawful) es merged
 
     fits : (r : ℕ) (m : Scene) → slice_get (places_of es) r ≡ Some m → FitsLevel first.level.board m
     fits r m at = let x = at_map (λ (e : Closed). e.0) es r m at in
-        subst (FitsLevel first.level.board) x.2 (merged_fits first.level first_is.level first.shares (last_layer first) lists (last_shares books all lawful) es merged r x.0.0 x.0.1 x.1)
+        subst (FitsLevel first.level.board) x.2 (merged_fits first.level first_is.level first.shares (last_layer first) lists
+        (last_shares books all lawful) es merged r x.0.0 x.0.1 x.1)
 
     -- the layers before it
     abbrev earlier : List (List Scene)
@@ -112,10 +119,12 @@ module _ (books : List BookView) (all : AreAllShares books) (lawful : AreLawfulB
     pub joined_whole : (v : LayerView) → v.level ≡ first.level → v.number ≡ last_layer first → v.places ≡ places_of es → v.origins ≡ origins_of es → IsWhole v
     joined_whole v level number places origins = record {
       lawful = subst (λ b. IsLevel b.board) (sym level) first_is.level;
-      layer = subst (λ b. IsLayerOf b v.number v.places) (sym level) (subst (λ k. IsLayerOf first.level k v.places) (sym number) (subst (IsLayerOf first.level (last_layer first)) (sym places) layer));
+      layer = subst (λ b. IsLayerOf b v.number v.places) (sym level) (subst (λ k. IsLayerOf first.level k v.places) (sym number)
+          (subst (IsLayerOf first.level (last_layer first)) (sym places) layer));
       fits = λ r m at. subst (λ b. FitsLevel b.board m) (sym level) (fits r m (ap (λ xs. slice_get xs r) (sym places) ∙ at));
       first = λ z. origins ∙ no_origins first.level es (λ i m o at. subst (λ k. HasClosedOrigin first.level k m o) (sym number ∙ z) (origin i m o at));
-      later = λ k e. subst (λ b. HaveOrigins b k v.places v.origins) (sym level) (subst (λ ps. HaveOrigins first.level k ps v.origins) (sym places) (subst (HaveOrigins first.level k (places_of es)) (sym origins)
+      later = λ k e. subst (λ b. HaveOrigins b k v.places v.origins) (sym level)
+          (subst (λ ps. HaveOrigins first.level k ps v.origins) (sym places) (subst (HaveOrigins first.level k (places_of es)) (sym origins)
           (all_origins first.level k es (λ i m o at. subst (λ j. HasClosedOrigin first.level j m o) (sym number ∙ e) (origin i m o at)))));
       most = (
         earlier,

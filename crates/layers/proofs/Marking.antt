@@ -1,5 +1,6 @@
 -- Marks over ranks, as bits of words.
-use Rattle.std.proofs.Common.{◌≡◌, ℕ, zero, suc, ◌≢◌, ◌+◌, ◌-◌, ◌*◌, ◌/◌, ◌<◌, ◌≤◌, Bool, true, false, eqb, cond, ◌||◌, List, [], ◌∷◌, ◌++◌, length, take, drop, count_by, get_or, set, replicate, Some, None, refl, sym, ap, ◌∙◌, arith}
+use Rattle.std.proofs.Common.{◌≡◌, ℕ, zero, suc, ◌≢◌, ◌+◌, ◌-◌, ◌*◌, ◌/◌, ◌<◌, ◌≤◌, Bool, true, false, eqb, cond, ◌||◌, List, [], ◌∷◌, ◌++◌, length, take, drop}
+use Rattle.std.proofs.Common.{count_by, get_or, set, replicate, Some, None, refl, sym, ap, ◌∙◌, arith}
 use Rattle.std.proofs.lemmas.Bool.{ne_eqb, eq-eqb, eqb-true, true≢false}
 use Rattle.std.proofs.lemmas.List.{length-replicate, length-set, take_at}
 use Rattle.std.proofs.lemmas.Option.{slice_get_within}
@@ -22,7 +23,8 @@ length-marks words k (suc n) = ap suc (length-marks words (suc k) n)
 pub mark_at : (words : List ℕ) (k n r : ℕ) → r < n → slice_get (marks_from words k n) r ≡ Some (has_bit words (k + r))
 mark_at words k zero r lt = absurd (omega arith)
 mark_at words k (suc n) zero lt = ap (λ (i : ℕ). Some (has_bit words i)) (let e : k ≡ k + 0 = omega arith in e)
-mark_at words k (suc n) (suc r) lt = mark_at words (suc k) n r (omega (arith, lt)) ∙ ap (λ (i : ℕ). Some (has_bit words i)) (let e : suc k + r ≡ k + suc r = omega arith in e)
+mark_at words k (suc n) (suc r) lt = mark_at words (suc k) n r (omega (arith, lt))
+    ∙ ap (λ (i : ℕ). Some (has_bit words i)) (let e : suc k + r ≡ k + suc r = omega arith in e)
 
 pub mark_past : (words : List ℕ) (k n r : ℕ) → n ≤ r → slice_get (marks_from words k n) r ≡ None
 mark_past words k zero r le = refl
@@ -55,7 +57,8 @@ or_false true c e = refl
 or_false false c e = e
 
 -- one more bit is one more mark
-pub one_marked : (words more : List ℕ) (k n r rank : ℕ) → rank ≡ k + r → r < n → ((q : ℕ) → has_bit more q ≡ (has_bit words q || eqb rank q)) → marks_from more k n ≡ set (marks_from words k n) r true
+pub one_marked : (words more : List ℕ) (k n r rank : ℕ) → rank ≡ k + r → r < n → ((q : ℕ) → has_bit more q ≡ (has_bit words q || eqb rank q)) →
+    marks_from more k n ≡ set (marks_from words k n) r true
 one_marked words more k zero r rank e lt bits = absurd (omega (arith, lt))
 one_marked words more k (suc n) zero rank e lt bits =
     let here : has_bit more k ≡ true = bits k ∙ or_true (has_bit words k) (eqb rank k) (eq-eqb rank k (omega (arith, e))) in
@@ -79,7 +82,8 @@ all_counted (b ∷ bs) e r lt = go (all_counted bs) b refl r lt
     first : count_by (λ (x : Bool). x) (b ∷ bs) ≡ cond b 1 0 + count_by (λ (x : Bool). x) bs
     first = sum_by_first (λ (x : Bool). cond x 1 0) b bs
 
-    go : (count_by (λ (x : Bool). x) bs ≡ length bs → (r : ℕ) → r < length bs → get_or bs r false ≡ true) → (x : Bool) → b ≡ x → (r : ℕ) → r < length (b ∷ bs) → get_or (b ∷ bs) r false ≡ true
+    go : (count_by (λ (x : Bool). x) bs ≡ length bs → (r : ℕ) → r < length bs → get_or bs r false ≡ true) → (x : Bool) → b ≡ x → (r : ℕ) →
+        r < length (b ∷ bs) → get_or (b ∷ bs) r false ≡ true
     go rest true f zero lt = f
     go rest true f (suc r) lt = rest (omega (arith, e, first, ap {B = ℕ} (λ (x : Bool). cond x 1 0) f)) r (omega (arith, lt))
     go rest false f r lt = absurd (omega (arith, e, few, first, ap {B = ℕ} (λ (x : Bool). cond x 1 0) f))
@@ -92,7 +96,8 @@ one_missing (b ∷ bs) lt = go (one_missing bs) b refl
     first : count_by (λ (x : Bool). x) (b ∷ bs) ≡ cond b 1 0 + count_by (λ (x : Bool). x) bs
     first = sum_by_first (λ (x : Bool). cond x 1 0) b bs
 
-    go : (count_by (λ (x : Bool). x) bs < length bs → (r : ℕ) × (slice_get bs r ≡ Some false)) → (x : Bool) → b ≡ x → (r : ℕ) × (slice_get (b ∷ bs) r ≡ Some false)
+    go : (count_by (λ (x : Bool). x) bs < length bs → (r : ℕ) × (slice_get bs r ≡ Some false)) → (x : Bool) → b ≡ x →
+        (r : ℕ) × (slice_get (b ∷ bs) r ≡ Some false)
     go rest true f = let found = rest (omega (arith, lt, first, ap {B = ℕ} (λ (x : Bool). cond x 1 0) f)) in (suc found.0, found.1)
     go rest false f = (zero, ap (λ (x : Bool). Some x) f)
 
@@ -131,7 +136,8 @@ module _ (words : List ℕ) (len : ℕ) (now : List Bool) (view : marks_of words
     counted = marks.counted ∙ ap (count_by (λ (x : Bool). x)) view
 
     -- whether all are set
-    pub all_or_not : (b : Bool) → b ≡ eqb count len → MatchBool b ((r : ℕ) → r < length now → get_or now r false ≡ true) ((r : ℕ) × (slice_get now r ≡ Some false))
+    pub all_or_not : (b : Bool) → b ≡ eqb count len → MatchBool b ((r : ℕ) → r < length now →
+        get_or now r false ≡ true) ((r : ℕ) × (slice_get now r ≡ Some false))
     all_or_not true e = all_counted now (omega (arith, counted, marks_long, eqb-true count len (sym e)))
     all_or_not false e = one_missing now (less (count_by-le-length (λ (x : Bool). x) now) (λ same. true≢false (sym (eq-eqb count len same) ∙ sym e)))
       where
@@ -144,9 +150,17 @@ module _ (words : List ℕ) (len : ℕ) (now : List Bool) (view : marks_of words
       within_marks = omega (arith, marks_long, slice_get_within now rank false free)
 
       pub count_fits : suc count ≤ len
-      count_fits = omega (arith, counted, marks_long, count-set_true now rank free, count_by-le-length (λ (x : Bool). x) (set now rank true), length-set now rank true)
+      count_fits = omega (
+        arith,
+        counted,
+        marks_long,
+        count-set_true now rank free,
+        count_by-le-length (λ (x : Bool). x) (set now rank true),
+        length-set now rank true,
+      )
 
-      module _ (read more : List ℕ) (same : read ≡ words) (bits : (q : ℕ) → has_bit more q ≡ (has_bit read q || eqb rank q)) (long : length more ≡ length read) where
+      module _ (read more : List ℕ) (same : read ≡ words) (bits : (q : ℕ) → has_bit more q ≡ (has_bit read q || eqb rank q))
+          (long : length more ≡ length read) where
         pub marks_more : marks_of more len ≡ set now rank true
         marks_more =
             one_marked words more 0 len rank rank (from_none rank) within_marks (λ q. bits q ∙ ap (λ (ws : List ℕ). has_bit ws q || eqb rank q) same)

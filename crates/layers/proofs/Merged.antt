@@ -1,5 +1,6 @@
 -- All the shares of a layer, merged by their origins, are the layer.
-use Rattle.std.proofs.Common.{◌≡◌, ◌≢◌, ℕ, zero, suc, ◌+◌, ◌<◌, false, List, [], ◌∷◌, ◌++◌, length, sum, get_or, Option, Some, None, inl, inr, refl, sym, ap, subst, ◌∙◌, arith}
+use Rattle.std.proofs.Common.{◌≡◌, ◌≢◌, ℕ, zero, suc, ◌+◌, ◌<◌, false, List, [], ◌∷◌, ◌++◌, length, sum, get_or, Option, Some, None, inl, inr, refl, sym, ap}
+use Rattle.std.proofs.Common.{subst, ◌∙◌, arith}
 use Rattle.std.proofs.lemmas.Cmp.{tied_itself}
 use Rattle.std.proofs.lemmas.Nat.{mod_below}
 use Rattle.std.proofs.lemmas.Option.{same_Some}
@@ -31,8 +32,9 @@ use Rattle.layers.proofs.lemmas.Orders.{slice_cmp-snoc, less_then, equal_then, n
 use Rattle.layers.proofs.Ordered.{taken_of, merged_all, merged_rise}
 
 -- two positions that come from one layer, the first by a lesser origin, have leads in that order
-leads_less : (task : Task) → IsLevel task.board → (j : ℕ) (xs : List Scene) → IsLayerOf task j xs → (o p : Origin Push) (n l : Scene) → slice_get xs o.0 ≡ Some n → slice_get xs p.0 ≡ Some l → (ps qs : List Push) → IsLeadOf task.board n ps → IsLeadOf task.board l qs → length ps ≡ j → length qs ≡ j →
-    origin_cmp push_cmp o p ≡ Less → slice_cmp push_cmp (ps ++ o.1 ∷ []) (qs ++ p.1 ∷ []) ≡ Less
+leads_less : (task : Task) → IsLevel task.board → (j : ℕ) (xs : List Scene) → IsLayerOf task j xs → (o p : Origin Push) (n l : Scene) →
+    slice_get xs o.0 ≡ Some n → slice_get xs p.0 ≡ Some l → (ps qs : List Push) → IsLeadOf task.board n ps → IsLeadOf task.board l qs → length ps ≡ j →
+    length qs ≡ j → origin_cmp push_cmp o p ≡ Less → slice_cmp push_cmp (ps ++ o.1 ∷ []) (qs ++ p.1 ∷ []) ≡ Less
 leads_less task level j xs layer o p n l at_n at_l ps qs lead lead' long long' less =
     let laws = level_laws task level in
     rw (slice_cmp-snoc push_cmp ps qs o.1 p.1 (long ∙ sym long'))
@@ -44,8 +46,9 @@ leads_less task level j xs layer o p n l at_n at_l ps qs lead lead' long long' l
     ])
 
 -- positions that come from one layer by origins that are equal are one
-origins_same : (task : Task) → IsLevel task.board → (o p : Origin Push) (n l a b : Scene) (xs : List Scene) → slice_get xs o.0 ≡ Some n → slice_get xs p.0 ≡ Some l → (ps qs : List Push) → IsLeadOf task.board n ps → IsLeadOf task.board l qs → IsLeadOf task.board a (ps ++ o.1 ∷ []) → IsLeadOf task.board b (qs ++ p.1 ∷ []) →
-    origin_cmp push_cmp o p ≡ Equal → a ≡ b
+origins_same : (task : Task) → IsLevel task.board → (o p : Origin Push) (n l a b : Scene) (xs : List Scene) → slice_get xs o.0 ≡ Some n →
+    slice_get xs p.0 ≡ Some l → (ps qs : List Push) → IsLeadOf task.board n ps → IsLeadOf task.board l qs → IsLeadOf task.board a (ps ++ o.1 ∷ []) →
+    IsLeadOf task.board b (qs ++ p.1 ∷ []) → origin_cmp push_cmp o p ≡ Equal → a ≡ b
 origins_same task level o p n l a b xs at_n at_l ps qs lead lead' lead_a lead_b equal =
     let laws = level_laws task level in
     let w = nat_cmp_equal o.0 p.0 (push_cmp o.1 p.1) equal in
@@ -64,7 +67,8 @@ module _ (task : Task) (level : IsLevel task.board) (shares k : ℕ) (lists : Li
   laws = level_laws task level
 
   -- a position's share, that it is admitted, and its lead
-  lead_in : (t : ℕ) (es : List Closed) (a : Closed) → slice_get lists t ≡ Some es → IsIn es a → ((share_of shares a.0 ≡ t) × Admits task k a.0) × ((ps : List Push) × IsLeadOf task.board a.0 ps × (length ps ≡ k))
+  lead_in : (t : ℕ) (es : List Closed) (a : Closed) → slice_get lists t ≡ Some es → IsIn es a →
+      ((share_of shares a.0 ≡ t) × Admits task k a.0) × ((ps : List Push) × IsLeadOf task.board a.0 ps × (length ps ≡ k))
   lead_in t es a at (i, at_i) = (are.each t es at).layer.leads i a.0 (map_at (λ (e : Closed). e.0) es i a at_i)
 
   -- the one has an earlier lead than the other
@@ -72,17 +76,28 @@ module _ (task : Task) (level : IsLevel task.board) (shares k : ℕ) (lists : Li
   IsEarlier a b = (ps : List Push) × (qs : List Push) × IsLeadOf task.board a.0 ps × IsLeadOf task.board b.0 qs × (slice_cmp push_cmp ps qs ≡ Less)
 
   earlier_trans : (a b c : Closed) → IsEarlier a b → IsEarlier b c → IsEarlier a c
-  earlier_trans a b c (ps, qs, lead_a, lead_b, less) (qs', rs, lead_b', lead_c, less') =
-      (ps, rs, lead_a, lead_c, (lists_total laws.total).trans ps qs rs less (subst (λ zs. slice_cmp push_cmp zs rs ≡ Less) (lead_unique laws b.0 qs' qs lead_b' lead_b) less'))
+  earlier_trans a b c (ps, qs, lead_a, lead_b, less) (qs', rs, lead_b', lead_c, less') = (
+    ps,
+    rs,
+    lead_a,
+    lead_c,
+    (lists_total laws.total).trans ps qs rs less (subst (λ zs. slice_cmp push_cmp zs rs ≡ Less) (lead_unique laws b.0 qs' qs lead_b' lead_b) less'),
+  )
 
   share_rise : (t : ℕ) (es : List Closed) → slice_get lists t ≡ Some es → Rises IsEarlier es
   share_rise t es at i j a b lt at_a at_b =
-      let u = (lead_in t es a at (i, at_a)).1 in let v = (lead_in t es b at (j, at_b)).1 in
-      (u.0, v.0, u.1, v.1, (are.each t es at).layer.rise i j a.0 b.0 u.0 v.0 lt (map_at (λ (e : Closed). e.0) es i a at_a) (map_at (λ (e : Closed). e.0) es j b at_b) u.1 v.1)
+      let u = (lead_in t es a at (i, at_a)).1 in let v = (lead_in t es b at (j, at_b)).1 in (
+        u.0,
+        v.0,
+        u.1,
+        v.1,
+        (are.each t es at).layer.rise i j a.0 b.0 u.0 v.0 lt (map_at (λ (e : Closed). e.0) es i a at_a) (map_at (λ (e : Closed). e.0) es j b at_b) u.1 v.1,
+      )
 
   module _ (before : (j : ℕ) → k ≡ suc j → (xs : List Scene) × IsLayerOf task j xs) where
     -- of two positions of different shares, the one with the origin that is no greater has the earlier lead
-    shares_apart : (s t : ℕ) (es fs : List Closed) (a b : Closed) → s ≢ t → slice_get lists s ≡ Some es → slice_get lists t ≡ Some fs → IsIn es a → IsIn fs b → is_gt (origin_cmp push_cmp (origin_in a.1) (origin_in b.1)) ≡ false → IsEarlier a b
+    shares_apart : (s t : ℕ) (es fs : List Closed) (a b : Closed) → s ≢ t → slice_get lists s ≡ Some es → slice_get lists t ≡ Some fs → IsIn es a → IsIn fs b →
+        is_gt (origin_cmp push_cmp (origin_in a.1) (origin_in b.1)) ≡ false → IsEarlier a b
     shares_apart s t es fs a b ne at_s at_t (i, at_i) (j, at_j) le =
         go k refl a.1 b.1 refl refl ((are.each s es at_s).origins i a.0 a.1 at_i) ((are.each t fs at_t).origins j b.0 b.1 at_j)
       where
@@ -99,7 +114,8 @@ module _ (task : Task) (level : IsLevel task.board) (shares k : ℕ) (lists : Li
         go zero e o p is_o is_p has has' =
             let u : mine.1.0 ≡ [] = no_longer mine.1.0 (mine.1.2 ∙ e) in
             let v : other.1.0 ≡ [] = no_longer other.1.0 (other.1.2 ∙ e) in
-            absurd (not_one (laws.same [] a.0 b.0 (subst (λ zs. Reaches task.board zs a.0) u mine.1.1.reached) (subst (λ zs. Reaches task.board zs b.0) v other.1.1.reached)))
+            absurd (not_one (laws.same [] a.0 b.0 (subst (λ zs. Reaches task.board zs a.0) u mine.1.1.reached)
+            (subst (λ zs. Reaches task.board zs b.0) v other.1.1.reached)))
         go (suc n) e None p is_o is_p has has' = absurd has
         go (suc n) e (Some o) None is_o is_p has has' = absurd has'
         go (suc n) e (Some o) (Some p) is_o is_p has has' = by (origin_cmp push_cmp o p) refl
@@ -130,7 +146,8 @@ module _ (task : Task) (level : IsLevel task.board) (shares k : ℕ) (lists : Li
               from'.2 parent'.0 parent'.1,
               leads_less task level n layer.0 layer.1 o p from.0 from'.0 from.1 from'.1 parent.0 parent'.0 parent.1 parent'.1 parent.2 parent'.2 f,
             )
-            by Equal f = absurd (not_one (origins_same task level o p from.0 from'.0 a.0 b.0 layer.0 from.1 from'.1 parent.0 parent'.0 parent.1 parent'.1 (from.2 parent.0 parent.1) (from'.2 parent'.0 parent'.1) f))
+            by Equal f = absurd (not_one (origins_same task level o p from.0 from'.0 a.0 b.0 layer.0 from.1 from'.1 parent.0 parent'.0 parent.1 parent'.1
+                (from.2 parent.0 parent.1) (from'.2 parent'.0 parent'.1) f))
             by Greater f = cc
 
     -- all the shares, merged, are the layer
@@ -158,8 +175,10 @@ module _ (task : Task) (level : IsLevel task.board) (shares k : ℕ) (lists : Li
     }
 
   -- each entry has its origin and fits the level
-  pub merged_origin : (es : List Closed) → IsMerged lists es → (i : ℕ) (m : Scene) (o : Option (Origin Push)) → slice_get es i ≡ Some (m, o) → HasClosedOrigin task k m o
+  pub merged_origin : (es : List Closed) → IsMerged lists es → (i : ℕ) (m : Scene) (o : Option (Origin Push)) → slice_get es i ≡ Some (m, o) →
+      HasClosedOrigin task k m o
   merged_origin es merged i m o at = let w = taken_of merged.1 (m, o) (i, at) in (are.each w.0 w.1 w.2).origins w.3.0 m o w.3.1
 
-  pub merged_fits : (es : List Closed) → IsMerged lists es → (i : ℕ) (m : Scene) (o : Option (Origin Push)) → slice_get es i ≡ Some (m, o) → FitsLevel task.board m
+  pub merged_fits : (es : List Closed) → IsMerged lists es → (i : ℕ) (m : Scene) (o : Option (Origin Push)) → slice_get es i ≡ Some (m, o) →
+      FitsLevel task.board m
   merged_fits es merged i m o at = let w = taken_of merged.1 (m, o) (i, at) in (are.each w.0 w.1 w.2).fits w.3.0 m o w.3.1

@@ -56,9 +56,10 @@ module _ {P : Type 0} {cmp : P → P → Ordering} (total : IsTotalOrder cmp) wh
   best_either (Some a) b = elim (lesser_either a b) [ inl e ↦ inr (ap Some (sym e)) | inr e ↦ inl e ]
 
 -- offers that lead nowhere are as good as none, and the names of those that count may change
-pub reoffered : {N P : Type 0} {cmp : P → P → Ordering} {Edge : N → P → N → Type 0} {Kept : N → Type 0} {layer : ℕ → List N} {k : ℕ} {Offered : ℕ → P → Type 0} {look : N → Option (Origin P)} (Others : ℕ → P → Type 0) →
-    ((r : ℕ) (p : P) → Offered r p → Others r p) → ((r : ℕ) (p : P) (n m : N) → Others r p → slice_get (layer k) r ≡ Some n → Edge n p m → Kept m → Offered r p) →
-    IsOpen cmp Edge Kept layer k Offered look → IsOpen cmp Edge Kept layer k Others look
+pub reoffered : {N P : Type 0} {cmp : P → P → Ordering} {Edge : N → P → N → Type 0} {Kept : N → Type 0} {layer : ℕ → List N} {k : ℕ} {Offered : ℕ → P →
+    Type 0} {look : N → Option (Origin P)} (Others : ℕ → P → Type 0) →
+    ((r : ℕ) (p : P) → Offered r p → Others r p) → ((r : ℕ) (p : P) (n m : N) → Others r p → slice_get (layer k) r ≡ Some n → Edge n p m → Kept m →
+    Offered r p) → IsOpen cmp Edge Kept layer k Offered look → IsOpen cmp Edge Kept layer k Others look
 reoffered Others more fewer o = record {
   from = λ m r p e. (let f = o.from m r p e in (f.0, more r p f.1, f.2));
   fresh = o.fresh;
@@ -67,7 +68,8 @@ reoffered Others more fewer o = record {
 }
 
 -- one origin more is offered
-module _ {N P : Type 0} {cmp : P → P → Ordering} {Edge : N → P → N → Type 0} {Kept : N → Type 0} {layer : ℕ → List N} {k : ℕ} {Offered : ℕ → P → Type 0} {look : N → Option (Origin P)} (total : IsTotalOrder cmp) (o : IsOpen cmp Edge Kept layer k Offered look)
+module _ {N P : Type 0} {cmp : P → P → Ordering} {Edge : N → P → N → Type 0} {Kept : N → Type 0} {layer : ℕ → List N} {k : ℕ} {Offered : ℕ → P →
+    Type 0} {look : N → Option (Origin P)} (total : IsTotalOrder cmp) (o : IsOpen cmp Edge Kept layer k Offered look)
     (r₀ : ℕ) (p₀ : P) (n₀ m₀ : N) (at : slice_get (layer k) r₀ ≡ Some n₀) (edge : Edge n₀ p₀ m₀) (one : (m : N) → Edge n₀ p₀ m → m ≡ m₀) where
   -- an origin of a place that is not kept, or stands in a layer, changes nothing
   pub offer_nothing : (Kept m₀ → (j : ℕ) × (j ≤ k) × IsIn (layer j) m₀) → IsOpen cmp Edge Kept layer k (λ r p. Offered r p ⊎ ((r ≡ r₀) × (p ≡ p₀))) look
@@ -77,20 +79,20 @@ module _ {N P : Type 0} {cmp : P → P → Ordering} {Edge : N → P → N → T
     least = λ m r p e s q n offer at_s edge_s. elim offer [
       | inl given ↦ o.least m r p e s q n given at_s edge_s
       | inr new ↦ (let g = o.from m r p e in
-          let m_is = one m (subst (λ x. Edge x p₀ m) (same_Some n n₀ (sym at_s ∙ ap (slice_get (layer k)) new.0 ∙ at)) (subst (λ x. Edge n x m) new.1 edge_s)) in
-          let w = old (subst Kept m_is g.0) in
+          let m_is = one m (subst (λ x. Edge x p₀ m) (same_Some n n₀ (sym at_s ∙ ap (slice_get (layer k)) new.0 ∙ at))
+          (subst (λ x. Edge n x m) new.1 edge_s)) in let w = old (subst Kept m_is g.0) in
           absurd (o.fresh m r p e w.0 w.1 (subst (IsIn (layer w.0)) (sym m_is) w.2)))
     ];
     whole = λ r p n m offer at_r edge_r kept. elim offer [
       | inl given ↦ o.whole r p n m given at_r edge_r kept
-      | inr new ↦ (let m_is = one m (subst (λ x. Edge x p₀ m) (same_Some n n₀ (sym at_r ∙ ap (slice_get (layer k)) new.0 ∙ at)) (subst (λ x. Edge n x m) new.1 edge_r)) in
-          let w = old (subst Kept m_is kept) in
-          inl (w.0, w.1, subst (IsIn (layer w.0)) (sym m_is) w.2))
+      | inr new ↦ (let m_is = one m (subst (λ x. Edge x p₀ m) (same_Some n n₀ (sym at_r ∙ ap (slice_get (layer k)) new.0 ∙ at))
+          (subst (λ x. Edge n x m) new.1 edge_r)) in let w = old (subst Kept m_is kept) in inl (w.0, w.1, subst (IsIn (layer w.0)) (sym m_is) w.2))
     ];
   }
 
   -- an origin of a place that is kept and stands in no layer is entered, or lessens what is there
-  pub offer_one : Kept m₀ → ((j : ℕ) → j ≤ k → ¬ (IsIn (layer j) m₀)) → (look' : N → Option (Origin P)) → look' m₀ ≡ Some (best cmp (look m₀) (r₀, p₀)) → ((m : N) → (look' m ≡ look m) ⊎ (m ≡ m₀)) → IsOpen cmp Edge Kept layer k (λ r p. Offered r p ⊎ ((r ≡ r₀) × (p ≡ p₀))) look'
+  pub offer_one : Kept m₀ → ((j : ℕ) → j ≤ k → ¬ (IsIn (layer j) m₀)) → (look' : N → Option (Origin P)) → look' m₀ ≡ Some (best cmp (look m₀) (r₀, p₀)) →
+      ((m : N) → (look' m ≡ look m) ⊎ (m ≡ m₀)) → IsOpen cmp Edge Kept layer k (λ r p. Offered r p ⊎ ((r ≡ r₀) × (p ≡ p₀))) look'
   offer_one kept new look' here others = record {
     from = λ m r p e. elim (others m) [
       | inl same ↦ (let f = o.from m r p (sym same ∙ e) in (f.0, inl f.1, f.2))
@@ -103,16 +105,18 @@ module _ {N P : Type 0} {cmp : P → P → Ordering} {Edge : N → P → N → T
     least = λ m r p e s q n offer at_s edge_s. elim offer [
       | inl given ↦ elim (others m) [
         | inl same ↦ o.least m r p (sym same ∙ e) s q n given at_s edge_s
-        | inr m_is ↦ subst (λ x. is_gt (origin_cmp cmp x (s, q)) ≡ false) (sym (is_best m r p m_is e)) (least-here s q n given at_s (subst (Edge n q) m_is edge_s) (look m₀) refl)
+        | inr m_is ↦ subst (λ x. is_gt (origin_cmp cmp x (s, q)) ≡ false) (sym (is_best m r p m_is e))
+            (least-here s q n given at_s (subst (Edge n q) m_is edge_s) (look m₀) refl)
       ]
-      | inr w ↦ (let m_is = one m (subst (λ x. Edge x p₀ m) (same_Some n n₀ (sym at_s ∙ ap (slice_get (layer k)) w.0 ∙ at)) (subst (λ x. Edge n x m) w.1 edge_s)) in
-          subst (λ x. is_gt (origin_cmp cmp x (s, q)) ≡ false) (sym (is_best m r p m_is e)) (subst (λ x. is_gt (origin_cmp cmp (best cmp (look m₀) (r₀, p₀)) x) ≡ false) (λ i. (sym w.0 i, sym w.1 i)) (best_offer total (look m₀) (r₀, p₀))))
+      | inr w ↦ (let m_is = one m (subst (λ x. Edge x p₀ m) (same_Some n n₀ (sym at_s ∙ ap (slice_get (layer k)) w.0 ∙ at))
+          (subst (λ x. Edge n x m) w.1 edge_s)) in subst (λ x. is_gt (origin_cmp cmp x (s, q)) ≡ false) (sym (is_best m r p m_is e))
+          (subst (λ x. is_gt (origin_cmp cmp (best cmp (look m₀) (r₀, p₀)) x) ≡ false) (λ i. (sym w.0 i, sym w.1 i)) (best_offer total (look m₀) (r₀, p₀))))
     ];
     whole = λ r p n m offer at_r edge_r kept_m. elim (others m) [
       | inl same ↦ elim offer [
         | inl given ↦ elim (o.whole r p n m given at_r edge_r kept_m) [ inl old ↦ inl old | inr w ↦ inr (w.0, same ∙ w.1) ]
-        | inr w ↦ (let m_is = one m (subst (λ x. Edge x p₀ m) (same_Some n n₀ (sym at_r ∙ ap (slice_get (layer k)) w.0 ∙ at)) (subst (λ x. Edge n x m) w.1 edge_r)) in
-            inr (best cmp (look m₀) (r₀, p₀), ap look' m_is ∙ here))
+        | inr w ↦ (let m_is = one m (subst (λ x. Edge x p₀ m) (same_Some n n₀ (sym at_r ∙ ap (slice_get (layer k)) w.0 ∙ at))
+            (subst (λ x. Edge n x m) w.1 edge_r)) in inr (best cmp (look m₀) (r₀, p₀), ap look' m_is ∙ here))
       ]
       | inr m_is ↦ inr (best cmp (look m₀) (r₀, p₀), ap look' m_is ∙ here)
     ];
@@ -121,27 +125,39 @@ module _ {N P : Type 0} {cmp : P → P → Ordering} {Edge : N → P → N → T
       is_best : (m : N) (r : ℕ) (p : P) → m ≡ m₀ → look' m ≡ Some (r, p) → (r, p) ≡ best cmp (look m₀) (r₀, p₀)
       is_best m r p m_is e = same_Some (r, p) (best cmp (look m₀) (r₀, p₀)) (sym e ∙ ap look' m_is ∙ here)
 
-      from-here : (m : N) (r : ℕ) (p : P) → m ≡ m₀ → (r, p) ≡ best cmp (look m₀) (r₀, p₀) → Kept m × (Offered r p ⊎ ((r ≡ r₀) × (p ≡ p₀))) × ((n : N) × (slice_get (layer k) r ≡ Some n) × Edge n p m)
+      from-here : (m : N) (r : ℕ) (p : P) → m ≡ m₀ → (r, p) ≡ best cmp (look m₀) (r₀, p₀) →
+          Kept m × (Offered r p ⊎ ((r ≡ r₀) × (p ≡ p₀))) × ((n : N) × (slice_get (layer k) r ≡ Some n) × Edge n p m)
       from-here m r p m_is b = elim (best_either total (look m₀) (r₀, p₀)) [
         | inl is_new ↦ (let e = b ∙ is_new in
-            let at_r = ap (λ (x : Origin P). x.0) e in let at_p = ap (λ (x : Origin P). x.1) e in
-            (subst Kept (sym m_is) kept, inr (at_r, at_p), (n₀, ap (slice_get (layer k)) at_r ∙ at, subst (λ x. Edge n₀ x m) (sym at_p) (subst (Edge n₀ p₀) (sym m_is) edge))))
+            let at_r = ap (λ (x : Origin P). x.0) e in let at_p = ap (λ (x : Origin P). x.1) e in (
+              subst Kept (sym m_is) kept,
+              inr (at_r, at_p),
+              (
+                n₀,
+                ap (slice_get (layer k)) at_r ∙ at,
+                subst (λ x. Edge n₀ x m) (sym at_p) (subst (Edge n₀ p₀) (sym m_is) edge),
+              ),
+            ))
         | inr is_old ↦ (let f = o.from m₀ r p (is_old ∙ ap Some (sym b)) in
             (subst Kept (sym m_is) kept, inl f.1, (f.2.0, f.2.1, subst (Edge f.2.0 p) (sym m_is) f.2.2)))
       ]
 
-      least-here : (s : ℕ) (q : P) (n : N) → Offered s q → slice_get (layer k) s ≡ Some n → Edge n q m₀ → (there : Option (Origin P)) → look m₀ ≡ there → is_gt (origin_cmp cmp (best cmp (look m₀) (r₀, p₀)) (s, q)) ≡ false
+      least-here : (s : ℕ) (q : P) (n : N) → Offered s q → slice_get (layer k) s ≡ Some n → Edge n q m₀ → (there : Option (Origin P)) → look m₀ ≡ there →
+          is_gt (origin_cmp cmp (best cmp (look m₀) (r₀, p₀)) (s, q)) ≡ false
       least-here s q n given at_s edge_s None e = elim (o.whole s q n m₀ given at_s edge_s kept) [
         | inl old ↦ absurd (new old.0 old.1 old.2)
         | inr w ↦ absurd (none-some w.0 (sym e ∙ w.1))
       ]
       least-here s q n given at_s edge_s (Some a) e =
-          upto (origin_total total) (best cmp (look m₀) (r₀, p₀)) a (s, q) (best_old total (look m₀) a (r₀, p₀) e) (o.least m₀ a.0 a.1 e s q n given at_s edge_s)
+          upto (origin_total total) (best cmp (look m₀) (r₀, p₀)) a (s, q) (best_old total (look m₀) a (r₀, p₀) e)
+          (o.least m₀ a.0 a.1 e s q n given at_s edge_s)
 
 -- what stands open once every origin was offered, in the order of the origins, is the next layer's entries
-pub closed_next : {N P : Type 0} {cmp : P → P → Ordering} {Edge : N → P → N → Type 0} {Kept : N → Type 0} {layer : ℕ → List N} {k : ℕ} {Offered : ℕ → P → Type 0} {look : N → Option (Origin P)} → IsOpen cmp Edge Kept layer k Offered look →
+pub closed_next : {N P : Type 0} {cmp : P → P → Ordering} {Edge : N → P → N → Type 0} {Kept : N → Type 0} {layer : ℕ → List N} {k : ℕ} {Offered : ℕ → P →
+    Type 0} {look : N → Option (Origin P)} → IsOpen cmp Edge Kept layer k Offered look →
     ((r : ℕ) (n : N) (p : P) → slice_get (layer k) r ≡ Some n → Offered r p) → (ys : List (Entry N P)) →
-    ((i : ℕ) (m : N) (p : Origin P) → slice_get ys i ≡ Some (m, p) → look m ≡ Some p) → ((m : N) (p : Origin P) → look m ≡ Some p → (i : ℕ) × (slice_get ys i ≡ Some (m, p))) →
+    ((i : ℕ) (m : N) (p : Origin P) → slice_get ys i ≡ Some (m, p) → look m ≡ Some p) →
+    ((m : N) (p : Origin P) → look m ≡ Some p → (i : ℕ) × (slice_get ys i ≡ Some (m, p))) →
     ((i j : ℕ) (x y : Entry N P) → i < j → slice_get ys i ≡ Some x → slice_get ys j ≡ Some y → origin_cmp cmp x.1 y.1 ≡ Less) → IsNext cmp Edge Kept layer k ys
 closed_next o all ys listed lists rise = record {
   from = λ i m r p at. (let f = o.from m r p (listed i m (r, p) at) in (f.0, f.2));

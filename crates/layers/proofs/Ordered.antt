@@ -20,7 +20,8 @@ use Rattle.store.proofs.lemmas.Origins.{origin_total}
 -- ---- lists
 
 -- what stands in a list of lists after one of them was changed
-at-set : {A : Type 0} (xs : List A) (s t : ℕ) (x y z : A) → slice_get xs s ≡ Some x → slice_get (set xs s y) t ≡ Some z → ((t ≡ s) × (z ≡ y)) ⊎ ((t ≢ s) × (slice_get xs t ≡ Some z))
+at-set : {A : Type 0} (xs : List A) (s t : ℕ) (x y z : A) → slice_get xs s ≡ Some x → slice_get (set xs s y) t ≡ Some z →
+    ((t ≡ s) × (z ≡ y)) ⊎ ((t ≢ s) × (slice_get xs t ≡ Some z))
 at-set [] s t x y z here at = absurd (none-some x here)
 at-set (w ∷ xs) zero zero x y z here at = inl (refl, sym (same_Some y z at))
 at-set (w ∷ xs) zero (suc t) x y z here at = inr ((λ e. omega (arith, e)), at)
@@ -69,13 +70,15 @@ ends_rise xs y ys z rise (front, e) (i, at) =
 taken_on : (lists : List (List Closed)) (taken left : List Closed) → Takes lists taken (left ∷ []) → Takes lists (taken ++ left) ([] ∷ [])
 taken_on lists taken [] takes = subst (λ es. Takes lists es ([] ∷ [])) (sym (append-nil taken)) takes
 taken_on lists taken (e ∷ left) takes =
-    subst (λ es. Takes lists es ([] ∷ [])) (append_assoc taken (e ∷ []) left) (taken_on lists (taken ++ e ∷ []) left (one {s = zero} {e = e} {rest = left} takes (record { here = refl; least = λ t f more at. least t f more at })))
-  where
-    least : (t : ℕ) (f : Closed) (more : List Closed) → slice_get ((e ∷ left) ∷ []) t ≡ Some (f ∷ more) → is_gt (origin_cmp push_cmp (origin_in e.1) (origin_in f.1)) ≡ false
-    least zero f more at =
-        let same : e ≡ f = same_Some e f (ap (λ es. slice_get es 0) (same_Some (e ∷ left) (f ∷ more) at)) in
-        ap (λ (g : Closed). is_gt (origin_cmp push_cmp (origin_in e.1) (origin_in g.1))) (sym same) ∙ ap is_gt (tied_itself (origin_total push_cmp_total) (origin_in e.1))
-    least (suc t) f more at = absurd (none-some (f ∷ more) at)
+    subst (λ es. Takes lists es ([] ∷ [])) (append_assoc taken (e ∷ []) left) (taken_on lists (taken ++ e ∷ []) left (one {s =
+    zero} {e = e} {rest = left} takes (record { here = refl; least = λ t f more at. least t f more at }))) where
+      least : (t : ℕ) (f : Closed) (more : List Closed) → slice_get ((e ∷ left) ∷ []) t ≡ Some (f ∷ more) →
+          is_gt (origin_cmp push_cmp (origin_in e.1) (origin_in f.1)) ≡ false
+      least zero f more at =
+          let same : e ≡ f = same_Some e f (ap (λ es. slice_get es 0) (same_Some (e ∷ left) (f ∷ more) at)) in
+          ap (λ (g : Closed). is_gt (origin_cmp push_cmp (origin_in e.1) (origin_in g.1))) (sym same)
+          ∙ ap is_gt (tied_itself (origin_total push_cmp_total) (origin_in e.1))
+      least (suc t) f more at = absurd (none-some (f ∷ more) at)
 
 pub one_merged : (es : List Closed) → IsMerged (es ∷ []) es
 one_merged es = ([] ∷ [], taken_on (es ∷ []) [] es nothing, refl)
@@ -84,7 +87,8 @@ one_merged es = ([] ∷ [], taken_on (es ∷ []) [] es nothing, refl)
 
 module _ {lists : List (List Closed)} where
   -- what is left of a list is its end
-  left_ends : {taken : List Closed} {rests : List (List Closed)} → Takes lists taken rests → (t : ℕ) (rest : List Closed) → slice_get rests t ≡ Some rest → (es : List Closed) × (slice_get lists t ≡ Some es) × EndsWith es rest
+  left_ends : {taken : List Closed} {rests : List (List Closed)} → Takes lists taken rests → (t : ℕ) (rest : List Closed) → slice_get rests t ≡ Some rest →
+      (es : List Closed) × (slice_get lists t ≡ Some es) × EndsWith es rest
   left_ends nothing t rest at = (rest, at, ends_itself rest)
   left_ends (one {taken} {rests} {s} {e} {rest = more} takes least) t rest at = elim (at-set rests s t (e ∷ more) more rest least.here at) [
     | inl same ↦ (let w = left_ends takes s (e ∷ more) least.here in
@@ -93,7 +97,8 @@ module _ {lists : List (List Closed)} where
   ]
 
   -- what is taken is of a list
-  pub taken_of : {taken : List Closed} {rests : List (List Closed)} → Takes lists taken rests → (a : Closed) → IsIn taken a → (t : ℕ) × (es : List Closed) × (slice_get lists t ≡ Some es) × IsIn es a
+  pub taken_of : {taken : List Closed} {rests : List (List Closed)} → Takes lists taken rests → (a : Closed) → IsIn taken a →
+      (t : ℕ) × (es : List Closed) × (slice_get lists t ≡ Some es) × IsIn es a
   taken_of nothing a (i, at) = absurd (none-some a at)
   taken_of (one {taken} {rests} {s} {e} {rest = more} takes least) a (i, at) = elim (at-push taken e i a at) [
     | inl old ↦ taken_of takes a (i, old)
@@ -102,7 +107,8 @@ module _ {lists : List (List Closed)} where
   ]
 
   -- and each entry of a list is taken or left
-  taken_or_left : {taken : List Closed} {rests : List (List Closed)} → Takes lists taken rests → (t : ℕ) (es : List Closed) (a : Closed) → slice_get lists t ≡ Some es → IsIn es a → IsIn taken a ⊎ ((rest : List Closed) × (slice_get rests t ≡ Some rest) × IsIn rest a)
+  taken_or_left : {taken : List Closed} {rests : List (List Closed)} → Takes lists taken rests → (t : ℕ) (es : List Closed) (a : Closed) →
+      slice_get lists t ≡ Some es → IsIn es a → IsIn taken a ⊎ ((rest : List Closed) × (slice_get rests t ≡ Some rest) × IsIn rest a)
   taken_or_left nothing t es a at i = inr (es, at, i)
   taken_or_left (one {taken} {rests} {s} {e} {rest = more} takes least) t es a at i = elim (taken_or_left takes t es a at i) [
     | inl old ↦ inl (old.0, at_before taken (e ∷ []) old.0 a old.1)
@@ -112,15 +118,18 @@ module _ {lists : List (List Closed)} where
     ]
   ]
     where
-      go : (rest : List Closed) → rest ≡ e ∷ more → IsIn rest a → t ≡ s → IsIn (taken ++ e ∷ []) a ⊎ ((left : List Closed) × (slice_get (set rests s more) t ≡ Some left) × IsIn left a)
+      go : (rest : List Closed) → rest ≡ e ∷ more → IsIn rest a → t ≡ s → IsIn (taken ++ e ∷ []) a
+          ⊎ ((left : List Closed) × (slice_get (set rests s more) t ≡ Some left) × IsIn left a)
       go rest is (j, left) same = by j (ap (λ xs. slice_get xs j) (sym is) ∙ left)
         where
-          by : (j : ℕ) → slice_get (e ∷ more) j ≡ Some a → IsIn (taken ++ e ∷ []) a ⊎ ((left : List Closed) × (slice_get (set rests s more) t ≡ Some left) × IsIn left a)
+          by : (j : ℕ) → slice_get (e ∷ more) j ≡ Some a → IsIn (taken ++ e ∷ []) a
+              ⊎ ((left : List Closed) × (slice_get (set rests s more) t ≡ Some left) × IsIn left a)
           by zero found = inl (length taken, at_seam taken e ∙ found)
           by (suc j) found = inr (more, ap (slice_get (set rests s more)) same ∙ set-at rests s (e ∷ more) more least.here, (j, found))
 
 -- where nothing is left, each is taken
-pub merged_all : (lists : List (List Closed)) (es : List Closed) → IsMerged lists es → (t : ℕ) (list : List Closed) (a : Closed) → slice_get lists t ≡ Some list → IsIn list a → IsIn es a
+pub merged_all : (lists : List (List Closed)) (es : List Closed) → IsMerged lists es → (t : ℕ) (list : List Closed) (a : Closed) →
+    slice_get lists t ≡ Some list → IsIn list a → IsIn es a
 merged_all lists es (rests, takes, none) t list a at i = elim (taken_or_left takes t list a at i) [
   | inl taken ↦ taken
   | inr (rest, there, left) ↦ absurd (empty rests t rest there left none)
@@ -135,12 +144,15 @@ merged_all lists es (rests, takes, none) t list a at i = elim (taken_or_left tak
 
 module _ {Sooner : Closed → Closed → Type 0} (lists : List (List Closed)) (trans : (a b c : Closed) → Sooner a b → Sooner b c → Sooner a c)
     (rise : (t : ℕ) (es : List Closed) → slice_get lists t ≡ Some es → Rises Sooner es)
-    (apart : (s t : ℕ) (es fs : List Closed) (a b : Closed) → s ≢ t → slice_get lists s ≡ Some es → slice_get lists t ≡ Some fs → IsIn es a → IsIn fs b → is_gt (origin_cmp push_cmp (origin_in a.1) (origin_in b.1)) ≡ false → Sooner a b) where
+    (apart : (s t : ℕ) (es fs : List Closed) (a b : Closed) → s ≢ t → slice_get lists s ≡ Some es → slice_get lists t ≡ Some fs → IsIn es a → IsIn fs b →
+    is_gt (origin_cmp push_cmp (origin_in a.1) (origin_in b.1)) ≡ false → Sooner a b) where
   -- what is taken rises, and is before all that is left
   abbrev IsTakenInOrder : List Closed → List (List Closed) → Type 0
-  IsTakenInOrder taken rests = Rises Sooner taken × ((a : Closed) → IsIn taken a → (t : ℕ) (rest : List Closed) (b : Closed) → slice_get rests t ≡ Some rest → IsIn rest b → Sooner a b)
+  IsTakenInOrder taken rests = Rises Sooner taken × ((a : Closed) → IsIn taken a → (t : ℕ) (rest : List Closed) (b : Closed) → slice_get rests t ≡ Some rest →
+      IsIn rest b → Sooner a b)
 
-  module _ (taken : List Closed) (rests : List (List Closed)) (s : ℕ) (e : Closed) (more : List Closed) (takes : Takes lists taken rests) (least : IsLeastFirst rests s e more) (old : IsTakenInOrder taken rests) where
+  module _ (taken : List Closed) (rests : List (List Closed)) (s : ℕ) (e : Closed) (more : List Closed) (takes : Takes lists taken rests)
+      (least : IsLeastFirst rests s e more) (old : IsTakenInOrder taken rests) where
     rises : Rises Sooner (taken ++ e ∷ [])
     rises i j a b lt at_a at_b = elim (at-push taken e i a at_a) [
       | inl first ↦ elim (at-push taken e j b at_b) [
@@ -165,13 +177,15 @@ module _ {Sooner : Closed → Closed → Type 0} (lists : List (List Closed)) (t
         other = left_ends takes t (f ∷ rest) there
 
         sooner : Sooner e f
-        sooner = apart s t mine.0 other.0 e f (λ same. ne (sym same)) mine.1 other.1 (ends_in mine.0 (e ∷ more) e mine.2 (0, refl)) (ends_in other.0 (f ∷ rest) f other.2 (0, refl)) (least.least t f rest there)
+        sooner = apart s t mine.0 other.0 e f (λ same. ne (sym same)) mine.1 other.1 (ends_in mine.0 (e ∷ more) e mine.2 (0, refl))
+            (ends_in other.0 (f ∷ rest) f other.2 (0, refl)) (least.least t f rest there)
 
         by : (j : ℕ) → slice_get (f ∷ rest) j ≡ Some b → Sooner e b
         by zero found = subst (Sooner e) (same_Some f b found) sooner
         by (suc j) found = trans e f b sooner (ends_rise other.0 f rest b (rise t other.0 other.1) other.2 (j, found))
 
-    later : (a : Closed) → IsIn (taken ++ e ∷ []) a → (t : ℕ) (rest : List Closed) (b : Closed) → slice_get (set rests s more) t ≡ Some rest → IsIn rest b → Sooner a b
+    later : (a : Closed) → IsIn (taken ++ e ∷ []) a → (t : ℕ) (rest : List Closed) (b : Closed) → slice_get (set rests s more) t ≡ Some rest → IsIn rest b →
+        Sooner a b
     later a (i, at) t rest b there left = elim (at-set rests s t (e ∷ more) more rest least.here there) [
       | inl same ↦ (let mine = left_ends takes s (e ∷ more) least.here in
           let in_more : IsIn more b = (left.0, ap (λ xs. slice_get xs left.0) (sym same.1) ∙ left.1) in
@@ -187,7 +201,8 @@ module _ {Sooner : Closed → Closed → Type 0} (lists : List (List Closed)) (t
 
   taken_rise : {taken : List Closed} {rests : List (List Closed)} → Takes lists taken rests → IsTakenInOrder taken rests
   taken_rise nothing = ((λ i j a b lt at_a at_b. absurd (none-some a at_a)), λ a i. absurd (none-some a i.1))
-  taken_rise (one {taken} {rests} {s} {e} {rest = more} takes least) = let old = taken_rise takes in (rises taken rests s e more takes least old, later taken rests s e more takes least old)
+  taken_rise (one {taken} {rests} {s} {e} {rest = more} takes least) = let old = taken_rise takes in
+      (rises taken rests s e more takes least old, later taken rests s e more takes least old)
 
   pub merged_rise : (es : List Closed) → IsMerged lists es → Rises Sooner es
   merged_rise es merged = (taken_rise merged.1).0

@@ -52,7 +52,8 @@ module _ {board : Board} where
           (back.0 ++ p.dir ∷ cut.late, t, subst (λ q. Play board (Undoomed board) n.0 (back.0 ++ p.dir ∷ cut.late) (q ∷ []) t) (sym cut.named) next, norm),
         )
 
-    reaches-split : (qs : List Push) (m : Scene) (k : ℕ) → Reaches board qs m → length qs ≡ suc k → (ps : List Push) × (p : Push) × (n : Scene) × (qs ≡ ps ++ p ∷ []) × Reaches board ps n × IsSuccessor board n p m
+    reaches-split : (qs : List Push) (m : Scene) (k : ℕ) → Reaches board qs m → length qs ≡ suc k →
+        (ps : List Push) × (p : Push) × (n : Scene) × (qs ≡ ps ++ p ∷ []) × Reaches board ps n × IsSuccessor board n p m
     reaches-split [] m k reach long = absurd (omega arith)
     reaches-split (q ∷ qs) m k reach long =
         let s = split_last q qs in

@@ -1,5 +1,6 @@
 -- Lists that are merged by their origins.
-use Rattle.std.proofs.Common.{◌≡◌, ℕ, zero, suc, ◌+◌, ◌-◌, ◌<◌, ◌≤◌, true, false, is_some, ◌⊎◌, inl, MatchOption, List, [], ◌∷◌, ◌++◌, length, take, drop, get_or, set, Some, None, Option, option_map, inr, refl, sym, ap, subst, ◌∙◌, arith}
+use Rattle.std.proofs.Common.{◌≡◌, ℕ, zero, suc, ◌+◌, ◌-◌, ◌<◌, ◌≤◌, true, false, is_some, ◌⊎◌, inl, MatchOption, List, [], ◌∷◌, ◌++◌, length, take, drop}
+use Rattle.std.proofs.Common.{get_or, set, Some, None, Option, option_map, inr, refl, sym, ap, subst, ◌∙◌, arith}
 use Rattle.std.proofs.lemmas.Bool.{cases_lt, true≢false}
 use Rattle.std.proofs.lemmas.Cmp.{tied_itself}
 use Rattle.std.proofs.lemmas.List.{length-append, length-drop}
@@ -56,7 +57,8 @@ take_all [] = refl
 take_all (x ∷ xs) = ap (λ ys. x ∷ ys) (take_all xs)
 
 -- the last closed list is what was seen from the last beginning on
-pub last_seen : (a : Inside) (from : ℕ) → 1 ≤ length a.starts.items → slice_get a.starts.items (length a.starts.items - 1) ≡ Some from → last_list (book_view a) ≡ drop from a.found.seen
+pub last_seen : (a : Inside) (from : ℕ) → 1 ≤ length a.starts.items → slice_get a.starts.items (length a.starts.items - 1) ≡ Some from →
+    last_list (book_view a) ≡ drop from a.found.seen
 last_seen a from some at =
     let long = length-cut_at a.starts.items a.found.seen in
     let k = length a.starts.items - 1 in
@@ -72,9 +74,11 @@ total-set (ys ∷ xss) zero x xs at = omega (arith, sum_by_first length ys xss, 
 total-set (ys ∷ xss) (suc s) x xs at = omega (arith, sum_by_first length ys xss, sum_by_first length ys (set xss s xs), total-set xss s x xs at)
 
 -- as many entries are taken as are no longer left
-pub taken_counted : {lists : List (List Closed)} {taken : List Closed} {rests : List (List Closed)} → Takes lists taken rests → length taken + total rests ≡ total lists
+pub taken_counted : {lists : List (List Closed)} {taken : List Closed} {rests : List (List Closed)} → Takes lists taken rests →
+    length taken + total rests ≡ total lists
 taken_counted nothing = omega arith
-taken_counted (one {taken} {rests} {s} {e} {rest} before least) = omega (arith, taken_counted before, total-set rests s e rest least.here, length-append taken (e ∷ []))
+taken_counted (one {taken} {rests} {s} {e} {rest} before least) =
+    omega (arith, taken_counted before, total-set rests s e rest least.here, length-append taken (e ∷ []))
 
 -- ---- the least first entry
 
@@ -98,7 +102,8 @@ abbrev pub IsLeastSoFar : List (List Closed) → ℕ → Option ℕ → Origin P
 IsLeastSoFar rests place None bound = (t : ℕ) (f : Closed) (more : List Closed) → t < place → slice_get rests t ≡ Some (f ∷ more) → ⊥
 IsLeastSoFar rests place (Some s) bound =
     (e : Closed) × (rest : List Closed) × (slice_get rests s ≡ Some (e ∷ rest)) × (bound ≡ origin_in e.1)
-    × ((t : ℕ) (f : Closed) (more : List Closed) → t < place → slice_get rests t ≡ Some (f ∷ more) → is_gt (origin_cmp push_cmp (origin_in e.1) (origin_in f.1)) ≡ false)
+    × ((t : ℕ) (f : Closed) (more : List Closed) → t < place → slice_get rests t ≡ Some (f ∷ more) →
+    is_gt (origin_cmp push_cmp (origin_in e.1) (origin_in f.1)) ≡ false)
 
 module _ (rests : List (List Closed)) (place : ℕ) (list : List Closed) (at : slice_get rests place ≡ Some list) where
   upto : (t : ℕ) → t < place + 1 → (t < place) ⊎ (t ≡ place)
@@ -108,7 +113,8 @@ module _ (rests : List (List Closed)) (place : ℕ) (list : List Closed) (at : s
   here_is t f more e at_t = ap first_origin (same_Some list (f ∷ more) (sym at ∙ ap (slice_get rests) (sym e) ∙ at_t))
 
   -- an empty list changes nothing
-  pub least_kept : (least : Option ℕ) (bound : Origin Push) → IsLeastSoFar rests place least bound → first_origin list ≡ None → IsLeastSoFar rests (place + 1) least bound
+  pub least_kept : (least : Option ℕ) (bound : Origin Push) → IsLeastSoFar rests place least bound → first_origin list ≡ None →
+      IsLeastSoFar rests (place + 1) least bound
   least_kept None bound before none = λ t f more lt at_t. elim (upto t lt) [
     | inl less ↦ before t f more less at_t
     | inr e ↦ none-some (origin_in f.1) (sym none ∙ here_is t f more e at_t)
@@ -125,7 +131,8 @@ module _ (rests : List (List Closed)) (place : ℕ) (list : List Closed) (at : s
   )
 
   -- nor does one that begins with no lesser origin
-  pub least_passed : (least : Option ℕ) (bound o : Origin Push) → IsLeastSoFar rests place least bound → is_some least ≡ true → first_origin list ≡ Some o → is_lt (origin_cmp push_cmp o bound) ≡ false → IsLeastSoFar rests (place + 1) least bound
+  pub least_passed : (least : Option ℕ) (bound o : Origin Push) → IsLeastSoFar rests place least bound → is_some least ≡ true → first_origin list ≡ Some o →
+      is_lt (origin_cmp push_cmp o bound) ≡ false → IsLeastSoFar rests (place + 1) least bound
   least_passed None bound o before some first later = absurd (true≢false (sym some))
   least_passed (Some s) bound o before some first later = (
     before.0,
@@ -140,15 +147,18 @@ module _ (rests : List (List Closed)) (place : ℕ) (list : List Closed) (at : s
   )
 
   -- one that begins with a lesser origin is chosen
-  pub least_chosen : (least : Option ℕ) (bound o : Origin Push) → IsLeastSoFar rests place least bound → (is_some least ≡ false) ⊎ (is_lt (origin_cmp push_cmp o bound) ≡ true) → first_origin list ≡ Some o → IsLeastSoFar rests (place + 1) (Some place) o
+  pub least_chosen : (least : Option ℕ) (bound o : Origin Push) → IsLeastSoFar rests place least bound →
+      (is_some least ≡ false) ⊎ (is_lt (origin_cmp push_cmp o bound) ≡ true) → first_origin list ≡ Some o → IsLeastSoFar rests (place + 1) (Some place) o
   least_chosen least bound o before why first = go list refl
     where
-      others : (l : Option ℕ) → IsLeastSoFar rests place l bound → (is_some l ≡ false) ⊎ (is_lt (origin_cmp push_cmp o bound) ≡ true) → (t : ℕ) (f : Closed) (more : List Closed) → t < place → slice_get rests t ≡ Some (f ∷ more) → is_gt (origin_cmp push_cmp o (origin_in f.1)) ≡ false
+      others : (l : Option ℕ) → IsLeastSoFar rests place l bound → (is_some l ≡ false) ⊎ (is_lt (origin_cmp push_cmp o bound) ≡ true) →
+          (t : ℕ) (f : Closed) (more : List Closed) → t < place → slice_get rests t ≡ Some (f ∷ more) → is_gt (origin_cmp push_cmp o (origin_in f.1)) ≡ false
       others None was because t f more lt at_t = absurd (was t f more lt at_t)
       others (Some s) was (inl none) t f more lt at_t = absurd (true≢false none)
       others (Some s) was (inr lesser) t f more lt at_t =
-          let later : is_gt (origin_cmp push_cmp bound (origin_in f.1)) ≡ false = ap (λ p. is_gt (origin_cmp push_cmp p (origin_in f.1))) was.3 ∙ was.4 t f more lt at_t in
-          upto-less (origin_cmp push_cmp o (origin_in f.1)) (less_upto (origin_total push_cmp_total) o bound (origin_in f.1) (is_less (origin_cmp push_cmp o bound) lesser) later)
+          let later : is_gt (origin_cmp push_cmp bound (origin_in f.1)) ≡ false = ap (λ p. is_gt (origin_cmp push_cmp p (origin_in f.1))) was.3
+          ∙ was.4 t f more lt at_t in upto-less (origin_cmp push_cmp o (origin_in f.1)) (less_upto (origin_total push_cmp_total) o bound (origin_in f.1)
+          (is_less (origin_cmp push_cmp o bound) lesser) later)
 
       go : (es : List Closed) → list ≡ es → IsLeastSoFar rests (place + 1) (Some place) o
       go [] e = absurd (none-some o (ap first_origin (sym e) ∙ first))
@@ -171,30 +181,36 @@ none_left [] none = refl
 none_left ([] ∷ xss) none = omega (arith, sum_by_first length [] xss, none_left xss (λ t x xs at. none (suc t) x xs at))
 none_left ((y ∷ ys) ∷ xss) none = absurd (none zero y ys refl)
 
-pub least_found : (rests : List (List Closed)) (place : ℕ) (least : Option ℕ) (bound : Origin Push) → length rests ≤ place → IsLeastSoFar rests place least bound → MatchOption least (total rests ≡ 0) (λ s. HasLeastFirst rests s)
+pub least_found : (rests : List (List Closed)) (place : ℕ) (least : Option ℕ) (bound : Origin Push) → length rests ≤ place →
+    IsLeastSoFar rests place least bound → MatchOption least (total rests ≡ 0) (λ s. HasLeastFirst rests s)
 least_found rests place None bound le so = none_left rests (λ t f more at. so t f more (omega (arith, slice_get_within rests t (f ∷ more) at)) at)
-least_found rests place (Some s) bound le so = (so.0, so.1, record { here = so.2; least = λ t f more at. so.4 t f more (omega (arith, slice_get_within rests t (f ∷ more) at)) at })
+least_found rests place (Some s) bound le so =
+    (so.0, so.1, record { here = so.2; least = λ t f more at. so.4 t f more (omega (arith, slice_get_within rests t (f ∷ more) at)) at })
 
 -- ---- one entry more
 
 -- the place of a least first entry is that of a list, and something is left of it
-pub first_there : (rests : List (List Closed)) (s : ℕ) (list : List Closed) → HasLeastFirst rests s → list ≡ get_or rests s list → (s < length rests) × (0 < length list)
+pub first_there : (rests : List (List Closed)) (s : ℕ) (list : List Closed) → HasLeastFirst rests s → list ≡ get_or rests s list →
+    (s < length rests) × (0 < length list)
 first_there rests s list (e, rest, least) is = (
   slice_get_within rests s (e ∷ rest) least.here,
   omega (arith, ap length (is ∙ get_or_from_slice_get rests s (e ∷ rest) list least.here)),
 )
 
 -- it is taken, copied, and less is left
-pub one_more : (lists rests : List (List Closed)) (s : ℕ) (list now : List Closed) (squares more_squares : List ℕ) (origins more_origins : List (Origin Push)) → HasLeastFirst rests s → list ≡ get_or rests s list →
+pub one_more : (lists rests : List (List Closed)) (s : ℕ) (list now : List Closed) (squares more_squares : List ℕ)
+    (origins more_origins : List (Origin Push)) → HasLeastFirst rests s → list ≡ get_or rests s list →
     ((e : Closed) (rest : List Closed) → list ≡ e ∷ rest → (now ≡ rest) × IsCopied e squares more_squares origins more_origins) →
     ((taken : List Closed) × Takes lists taken rests × (squares ≡ squares_of (places_of taken)) × (origins ≡ origins_of taken)) →
-    ((taken : List Closed) × Takes lists taken (set rests s now) × (more_squares ≡ squares_of (places_of taken)) × (more_origins ≡ origins_of taken)) × (total (set rests s now) < total rests)
+    ((taken : List Closed) × Takes lists taken (set rests s now) × (more_squares ≡ squares_of (places_of taken)) × (more_origins ≡ origins_of taken))
+    × (total (set rests s now) < total rests)
 one_more lists rests s list now squares more_squares origins more_origins (e, rest, least) is copied (taken, takes, squares_are, origins_are) =
     let w = copied e rest (is ∙ get_or_from_slice_get rests s (e ∷ rest) list least.here) in (
       (
         taken ++ e ∷ [],
         subst (λ xs. Takes lists (taken ++ e ∷ []) (set rests s xs)) (sym w.0) (one takes least),
-        w.1.0 ∙ ap (λ xs. xs ++ (e.0.boxes ++ e.0.player ∷ [])) squares_are ∙ sym (squares-push (places_of taken) e.0) ∙ ap squares_of (sym (places-push taken e)),
+        w.1.0 ∙ ap (λ xs. xs ++ (e.0.boxes ++ e.0.player ∷ [])) squares_are ∙ sym (squares-push (places_of taken) e.0)
+            ∙ ap squares_of (sym (places-push taken e)),
         w.1.1 ∙ ap (λ xs. xs ++ option_to_list e.1) origins_are ∙ sym (origins-push taken e),
       ),
       subst (λ xs. total (set rests s xs) < total rests) (sym w.0) (omega (arith, total-set rests s e rest least.here)),

@@ -1,5 +1,6 @@
 -- What is left of the books' last closed lists once so many entries of each were taken.
-use Rattle.std.proofs.Common.{◌≡◌, ℕ, zero, suc, ◌+◌, ◌^◌, ◌<◌, List, [], ◌∷◌, ◌++◌, length, map, take, drop, get_or, set, replicate, Some, refl, sym, ap, subst, ◌∙◌, arith}
+use Rattle.std.proofs.Common.{◌≡◌, ℕ, zero, suc, ◌+◌, ◌^◌, ◌<◌, List, [], ◌∷◌, ◌++◌, length, map, take, drop, get_or, set, replicate, Some, refl, sym, ap}
+use Rattle.std.proofs.Common.{subst, ◌∙◌, arith}
 use Rattle.std.proofs.lemmas.List.{append-nil, append_assoc}
 use Rattle.std.proofs.lemmas.Option.{same_Some, none-some}
 use Rattle.std.specs.Prelude.{slice_get}
@@ -24,7 +25,8 @@ drop_none [] = refl
 drop_none (x ∷ xs) = refl
 
 -- what is left of one book more
-pub left_more : (vs : List BookView) (ns : List ℕ) (i : ℕ) (v : BookView) → slice_get vs i ≡ Some v → left_of (take (suc i) vs) ns ≡ left_of (take i vs) ns ++ drop (get_or ns i 0) (last_list v) ∷ []
+pub left_more : (vs : List BookView) (ns : List ℕ) (i : ℕ) (v : BookView) → slice_get vs i ≡ Some v →
+    left_of (take (suc i) vs) ns ≡ left_of (take i vs) ns ++ drop (get_or ns i 0) (last_list v) ∷ []
 left_more [] ns i v at = absurd (none-some v at)
 left_more (w ∷ vs) [] zero v at = ap (λ (u : BookView). last_list u ∷ []) (same_Some w v at) ∙ ap (λ xs. xs ∷ []) (sym (drop_none (last_list v)))
 left_more (w ∷ vs) (n ∷ ns) zero v at = ap (λ (u : BookView). drop n (last_list u) ∷ []) (same_Some w v at)
@@ -37,7 +39,8 @@ length-left (v ∷ vs) [] = ap suc (length-left vs [])
 length-left (v ∷ vs) (n ∷ ns) = ap suc (length-left vs ns)
 
 -- one entry more is taken of a list
-pub left_taken : (vs : List BookView) (ns : List ℕ) (s n : ℕ) (e : Closed) (rest : List Closed) → slice_get (left_of vs ns) s ≡ Some (e ∷ rest) → slice_get ns s ≡ Some n → set (left_of vs ns) s rest ≡ left_of vs (set ns s (n + 1))
+pub left_taken : (vs : List BookView) (ns : List ℕ) (s n : ℕ) (e : Closed) (rest : List Closed) → slice_get (left_of vs ns) s ≡ Some (e ∷ rest) →
+    slice_get ns s ≡ Some n → set (left_of vs ns) s rest ≡ left_of vs (set ns s (n + 1))
 left_taken [] ns s n e rest at at_n = absurd (none-some (e ∷ rest) at)
 left_taken (v ∷ vs) [] s n e rest at at_n = absurd (none-some n at_n)
 left_taken (v ∷ vs) (m ∷ ns) zero n e rest at at_n =
@@ -48,7 +51,8 @@ left_taken (v ∷ vs) (m ∷ ns) zero n e rest at at_n =
 left_taken (v ∷ vs) (m ∷ ns) (suc s) n e rest at at_n = ap (λ xs. drop m (last_list v) ∷ xs) (left_taken vs ns s n e rest at at_n)
 
 -- where something is left of a list, fewer were taken than it has
-left_fewer : (vs : List BookView) (ns : List ℕ) (s n : ℕ) (e : Closed) (rest : List Closed) → slice_get (left_of vs ns) s ≡ Some (e ∷ rest) → slice_get ns s ≡ Some n → (v : BookView) × (slice_get vs s ≡ Some v) × (n < length (last_list v))
+left_fewer : (vs : List BookView) (ns : List ℕ) (s n : ℕ) (e : Closed) (rest : List Closed) → slice_get (left_of vs ns) s ≡ Some (e ∷ rest) →
+    slice_get ns s ≡ Some n → (v : BookView) × (slice_get vs s ≡ Some v) × (n < length (last_list v))
 left_fewer [] ns s n e rest at at_n = absurd (none-some (e ∷ rest) at)
 left_fewer (v ∷ vs) [] s n e rest at at_n = absurd (none-some n at_n)
 left_fewer (v ∷ vs) (m ∷ ns) zero n e rest at at_n =
@@ -56,7 +60,8 @@ left_fewer (v ∷ vs) (m ∷ ns) zero n e rest at at_n =
 left_fewer (v ∷ vs) (m ∷ ns) (suc s) n e rest at at_n = left_fewer vs ns s n e rest at at_n
 
 -- and so fewer than a book may hold
-pub left_small : (vs : List BookView) → AreLawfulBooks vs → (ns : List ℕ) (s n : ℕ) (e : Closed) (rest : List Closed) → slice_get (left_of vs ns) s ≡ Some (e ∷ rest) → slice_get ns s ≡ Some n → n < 2 ^ 32
+pub left_small : (vs : List BookView) → AreLawfulBooks vs → (ns : List ℕ) (s n : ℕ) (e : Closed) (rest : List Closed) →
+    slice_get (left_of vs ns) s ≡ Some (e ∷ rest) → slice_get ns s ≡ Some n → n < 2 ^ 32
 left_small vs lawful ns s n e rest at at_n =
     let w = left_fewer vs ns s n e rest at at_n in
     let book = lawful s w.0 w.1 in
@@ -70,7 +75,8 @@ left_zeros (v ∷ vs) zero = refl
 left_zeros (v ∷ vs) (suc n) = (λ i. sym (drop_none (last_list v)) i ∷ left_zeros vs n i)
 
 -- at first nothing was taken
-pub none_taken : (books : List BookView) (ends squares : List ℕ) (origins : List (Origin Push)) (n : ℕ) → ends ≡ replicate n 0 → squares ≡ [] → origins ≡ [] → AreTaken books [] ends squares origins
+pub none_taken : (books : List BookView) (ends squares : List ℕ) (origins : List (Origin Push)) (n : ℕ) → ends ≡ replicate n 0 → squares ≡ [] → origins ≡ [] →
+    AreTaken books [] ends squares origins
 none_taken books ends squares origins n zeros no_squares no_origins = record {
   entries = [];
   taken = subst (Takes (left_of books []) []) (left_zeros books n ∙ ap (left_of books) (sym zeros)) nothing;
@@ -78,22 +84,26 @@ none_taken books ends squares origins n zeros no_squares no_origins = record {
   origins_are = no_origins;
 }
 
-takes_on : {lists rests left : List (List Closed)} {taken more : List Closed} → Takes lists taken rests → Takes rests more left → Takes lists (taken ++ more) left
+takes_on : {lists rests left : List (List Closed)} {taken more : List Closed} → Takes lists taken rests → Takes rests more left →
+    Takes lists (taken ++ more) left
 takes_on {lists} {rests} {taken = taken} takes nothing = subst (λ es. Takes lists es rests) (sym (append-nil taken)) takes
 takes_on {lists} {taken = taken} takes (one {taken = more} {rests = between} {s} {e} {rest} later least) =
     subst (λ es. Takes lists es (set between s rest)) (append_assoc taken more (e ∷ [])) (one (takes_on takes later) least)
 
 squares-append : (xs ys : List Closed) → squares_of (places_of (xs ++ ys)) ≡ squares_of (places_of xs) ++ squares_of (places_of ys)
 squares-append [] ys = refl
-squares-append (x ∷ xs) ys = ap (λ zs. x.0.boxes ++ x.0.player ∷ zs) (squares-append xs ys) ∙ sym (append_assoc x.0.boxes (x.0.player ∷ squares_of (places_of xs)) (squares_of (places_of ys)))
+squares-append (x ∷ xs) ys = ap (λ zs. x.0.boxes ++ x.0.player ∷ zs) (squares-append xs ys)
+    ∙ sym (append_assoc x.0.boxes (x.0.player ∷ squares_of (places_of xs)) (squares_of (places_of ys)))
 
 origins-append : (xs ys : List Closed) → origins_of (xs ++ ys) ≡ origins_of xs ++ origins_of ys
 origins-append [] ys = refl
-origins-append (x ∷ xs) ys = ap (λ zs. option_to_list x.1 ++ zs) (origins-append xs ys) ∙ sym (append_assoc (option_to_list x.1) (origins_of xs) (origins_of ys))
+origins-append (x ∷ xs) ys = ap (λ zs. option_to_list x.1 ++ zs) (origins-append xs ys)
+    ∙ sym (append_assoc (option_to_list x.1) (origins_of xs) (origins_of ys))
 
 -- what is taken of what is left comes after what was taken
 pub more_taken : (books : List BookView) (starts middles ends squares more_squares : List ℕ) (origins more_origins : List (Origin Push)) →
-    AreTaken books starts middles squares origins → AreTaken books middles ends more_squares more_origins → AreTaken books starts ends (squares ++ more_squares) (origins ++ more_origins)
+    AreTaken books starts middles squares origins → AreTaken books middles ends more_squares more_origins →
+    AreTaken books starts ends (squares ++ more_squares) (origins ++ more_origins)
 more_taken books starts middles ends squares more_squares origins more_origins first second = record {
   entries = first.entries ++ second.entries;
   taken = takes_on first.taken second.taken;
@@ -102,7 +112,8 @@ more_taken books starts middles ends squares more_squares origins more_origins f
 }
 
 -- what holds of each still does once one is another of which it holds
-pub each_kept : {A : Type 0} (P : A → Type 0) (xs : List A) (place : ℕ) (y : A) → P y → ((i : ℕ) (x : A) → slice_get xs i ≡ Some x → P x) → (i : ℕ) (x : A) → slice_get (set xs place y) i ≡ Some x → P x
+pub each_kept : {A : Type 0} (P : A → Type 0) (xs : List A) (place : ℕ) (y : A) → P y → ((i : ℕ) (x : A) → slice_get xs i ≡ Some x → P x) → (i : ℕ) (x : A) →
+    slice_get (set xs place y) i ≡ Some x → P x
 each_kept P [] place y new all i x at = absurd (none-some x at)
 each_kept P (z ∷ xs) zero y new all zero x at = subst P (same_Some y x at) new
 each_kept P (z ∷ xs) zero y new all (suc i) x at = all (suc i) x at
@@ -110,10 +121,11 @@ each_kept P (z ∷ xs) (suc place) y new all zero x at = all zero x at
 each_kept P (z ∷ xs) (suc place) y new all (suc i) x at = each_kept P xs place y new (λ j. all (suc j)) i x at
 
 -- where nothing is left, the lists are merged
-pub all_taken : (books : List BookView) (ends squares : List ℕ) (origins : List (Origin Push)) → AreTaken books [] ends squares origins → total (left_of books ends) ≡ 0 → AreMerged (map last_list books) (total (map last_list books)) squares origins
+pub all_taken : (books : List BookView) (ends squares : List ℕ) (origins : List (Origin Push)) → AreTaken books [] ends squares origins →
+    total (left_of books ends) ≡ 0 → AreMerged (map last_list books) (total (map last_list books)) squares origins
 all_taken books ends squares origins all none =
-    let takes : Takes (map last_list books) all.entries (left_of books ends) = subst (λ lists. Takes lists all.entries (left_of books ends)) (left_all books) all.taken in
-    record {
+    let takes : Takes (map last_list books) all.entries (left_of books ends) = subst (λ lists. Takes lists all.entries (left_of books ends))
+    (left_all books) all.taken in record {
       entries = all.entries;
       merged = (left_of books ends, takes, none);
       counted = omega (arith, taken_counted takes, none);

@@ -1,5 +1,6 @@
 -- What contracts see of a book, and what is true of each: a book is lawful.
-use Rattle.std.specs.Prelude.{◌≡◌, ℕ, zero, suc, ◌+◌, ◌-◌, ◌^◌, ◌<◌, ◌≤◌, Bool, true, false, List, [], length, map, sum, take, count_by, slice_get, slice_index_or, Option, None, Some}
+use Rattle.std.specs.Prelude.{◌≡◌, ℕ, zero, suc, ◌+◌, ◌-◌, ◌^◌, ◌<◌, ◌≤◌, Bool, true, false, List, [], length, map, sum, take, count_by, slice_get}
+use Rattle.std.specs.Prelude.{slice_index_or, Option, None, Some}
 use Rattle.grid.specs.declared.square.Push.{Push}
 use Rattle.grid.specs.Board.{Scene, push_cmp}
 use Rattle.grid.specs.States.{FitsLevel}
@@ -94,9 +95,11 @@ pub record IsLawfulBook (v : BookView) : Type 0 where
   pub wholes : List (List Scene)
   pub whole : AreLayersOf v.level wholes
   pub few : total wholes ≤ MOST_POSITIONS
-  pub begun : v.begun ≡ true → (length wholes ≡ length v.closed) × (length v.claimed ≡ length v.done) × (length v.done ≡ length (slice_index_or wholes (last_layer v) []))
+  pub begun : v.begun ≡ true → (length wholes ≡ length v.closed) × (length v.claimed ≡ length v.done)
+      × (length v.done ≡ length (slice_index_or wholes (last_layer v) []))
   pub not_begun : v.begun ≡ false → (length wholes ≡ last_layer v) × (v.claimed ≡ []) × (v.done ≡ []) × (v.waiting ≡ [])
-  pub waiting : v.begun ≡ true → IsOpen push_cmp (IsSuccessor v.level.board) (IsKept v) (λ j. slice_index_or wholes j []) (last_layer v) (λ r p. IsDone v r) (origin_of v.waiting)
+  pub waiting : v.begun ≡ true → IsOpen push_cmp (IsSuccessor v.level.board) (IsKept v) (λ j. slice_index_or wholes j []) (last_layer v) (λ r p. IsDone v r)
+      (origin_of v.waiting)
   pub distinct : AreDistinct (map (λ e. e.0) v.waiting)
   pub fits : (m : Scene) → IsIn (map (λ e. e.0) v.waiting) m → FitsLevel v.level.board m
   pub tallies : (length v.tallies ≡ v.workers) × (sum v.tallies ≡ total (take (last_layer v) wholes) + count_by (λ b. b) v.done)

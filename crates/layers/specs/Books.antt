@@ -1,5 +1,6 @@
 -- The events of a book: each gives the book after it as a function of the book before, and says what it leaves.
-use Rattle.std.specs.Prelude.{◌≡◌, ◌≢◌, ℕ, suc, ◌+◌, ◌<◌, ◌≤◌, Bool, true, false, ◌==◌, ◌&&◌, not, List, [], ◌∷◌, ◌++◌, length, fold, replicate, slice_get, slice_index_or, slice_set, Option, None, Some, ◌⊎◌}
+use Rattle.std.specs.Prelude.{◌≡◌, ◌≢◌, ℕ, suc, ◌+◌, ◌<◌, ◌≤◌, Bool, true, false, ◌==◌, ◌&&◌, not, List, [], ◌∷◌, ◌++◌, length, fold, replicate, slice_get}
+use Rattle.std.specs.Prelude.{slice_index_or, slice_set, Option, None, Some, ◌⊎◌}
 use Rattle.std.specs.Map.{lookup}
 use Rattle.std.specs.List.{list_any}
 use Rattle.grid.specs.declared.square.Push.{Push}
@@ -91,7 +92,9 @@ IsFreeRank v r = (slice_get v.claimed r ≡ Some false) × (slice_get v.done r �
 abbrev pub ClaimAnswer : BookView → Option Claim → BookView → Type 0
 ClaimAnswer v None after = ((r : ℕ) → r < length v.done → IsTaken v r) × (after ≡ v)
 ClaimAnswer v (Some claim) after =
-    (claim.layer ≡ last_layer v) × IsFreeRank v claim.rank × ((r : ℕ) → r < claim.rank → IsTaken v r) × (after ≡ record v { claimed = slice_set v.claimed claim.rank true })
+    (claim.layer ≡ last_layer v) × IsFreeRank v claim.rank × ((r : ℕ) → r < claim.rank → IsTaken v r) × (after ≡ record v {
+      claimed = slice_set v.claimed claim.rank true;
+    })
 
 -- ---- hand back
 
@@ -125,7 +128,8 @@ PassesLimit v parcel = (v.over ≡ true) ⊎ (v.limit < total v.closed + length 
 
 -- nothing but want of memory stands in the parcel's way
 abbrev pub MayEnter : BookView → ParcelView → Type 0
-MayEnter v parcel = IsAtWork v parcel × (slice_get v.done parcel.rank ≡ Some false) × (v.over ≡ false) × (total v.closed + length (all_entered v parcel.rank parcel.successors) ≤ v.limit)
+MayEnter v parcel = IsAtWork v parcel × (slice_get v.done parcel.rank ≡ Some false) × (v.over ≡ false)
+    × (total v.closed + length (all_entered v parcel.rank parcel.successors) ≤ v.limit)
 
 -- why a parcel is refused; of several reasons the first in this order
 abbrev pub HandBackRefused : BookView → ParcelView → Refusal → Type 0
@@ -163,7 +167,8 @@ with_closed v es = record v { closed = v.closed ++ es ∷ []; begun = false; cla
 
 -- es is what stood open, in the order of the origins
 pub record IsSortedOpen (v : BookView) (es : List Closed) : Type 0 where
-  pub from : (i : ℕ) (m : Scene) (o : Option (Origin Push)) → slice_get es i ≡ Some (m, o) → (p : Origin Push) × (o ≡ Some p) × (lookup (same_scene m) v.waiting ≡ Some p)
+  pub from : (i : ℕ) (m : Scene) (o : Option (Origin Push)) → slice_get es i ≡ Some (m, o) →
+      (p : Origin Push) × (o ≡ Some p) × (lookup (same_scene m) v.waiting ≡ Some p)
   pub all : length es ≡ length v.waiting
   pub next : IsShareOfLayer v.level v.shares v.share (length v.closed) es
 
@@ -181,7 +186,8 @@ CloseRefused v CloseOutOfMemory = AllDone v
 
 -- the book is share i beside the first one: of the same level, cap, limit and number of shares, at the same last closed layer
 abbrev pub IsShareBeside : BookView → ℕ → BookView → Type 0
-IsShareBeside first i v = (v.share ≡ i) × (v.level ≡ first.level) × (v.limit ≡ first.limit) × (v.shares ≡ first.shares) × (length v.closed ≡ length first.closed)
+IsShareBeside first i v = (v.share ≡ i) × (v.level ≡ first.level) × (v.limit ≡ first.limit) × (v.shares ≡ first.shares)
+    × (length v.closed ≡ length first.closed)
 
 -- the books are all the shares, in order, of one level, cap, limit and number of shares, at the same last closed layer
 pub record AreAllShares (books : List BookView) : Type 0 where

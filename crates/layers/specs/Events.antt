@@ -9,7 +9,8 @@ use Rattle.layers.specs.LayerView.{LayerView, IsWhole}
 use Rattle.successors.specs.ParcelView.{ParcelView, IsParcel}
 use Rattle.layers.specs.BookView.{BookView}
 use Rattle.store.specs.Entries.{Closed}
-use Rattle.layers.specs.Books.{MayBegin, with_begun, BeginRefused, ClaimAnswer, MayEnter, with_parcel, HandBackRefused, after_refusal, with_reopened, IsClosedBy, CloseRefused}
+use Rattle.layers.specs.Books.{MayBegin, with_begun, BeginRefused, ClaimAnswer, MayEnter, with_parcel, HandBackRefused, after_refusal, with_reopened}
+use Rattle.layers.specs.Books.{IsClosedBy, CloseRefused}
 
 -- an event with its answer: a layer begins or is refused; a rank is claimed, or none is left; a worker's parcel is
 -- accepted or refused; claimed ranks are freed; the next layer closes or is refused
@@ -30,7 +31,8 @@ Happens v (begins layer) after = IsWhole layer × MayBegin v layer × (after ≡
 Happens v (begin_refused layer fault) after = IsWhole layer × BeginRefused v layer fault × (after ≡ v)
 Happens v (claims answer) after = ClaimAnswer v answer after
 Happens v (hands_back worker parcel) after = (worker < v.workers) × IsParcel parcel × MayEnter v parcel × (after ≡ with_parcel v worker parcel)
-Happens v (hand_back_refused worker parcel refusal) after = (worker < v.workers) × IsParcel parcel × HandBackRefused v parcel refusal × (after ≡ after_refusal v refusal)
+Happens v (hand_back_refused worker parcel refusal) after = (worker < v.workers) × IsParcel parcel × HandBackRefused v parcel refusal
+    × (after ≡ after_refusal v refusal)
 Happens v reopens after = after ≡ with_reopened v
 Happens v (closes report) after = IsClosedBy v report after
 Happens v (close_refused fault) after = CloseRefused v fault × (after ≡ v)

@@ -1,4 +1,5 @@
-ghost use Rattle.std.specs.Prelude.{◌≡◌, ◌+◌, ◌-◌, ◌*◌, ◌<◌, ◌≤◌, ◌↔◌, IsTrue, IfOk, IfSome, MatchOption, MatchResult, length, replicate, slice_get, slice_index_or, true, Some};
+ghost use Rattle.std.specs.Prelude.{◌≡◌, ◌+◌, ◌-◌, ◌*◌, ◌<◌, ◌≤◌, ◌↔◌, IsTrue, IfOk, IfSome, MatchOption, MatchResult, length, replicate, slice_get};
+ghost use Rattle.std.specs.Prelude.{slice_index_or, true, Some};
 ghost use Rattle.grid.specs.Board.{start};
 ghost use Rattle.grid.specs.Lawful.{box_count};
 ghost use Rattle.grid.specs.States.{FitsLevel};
@@ -77,8 +78,8 @@ impl Model for Book {
 
 impl Book {
     /// A book of a share of the level's positions, with layer 0 closed, which is empty where the start is doomed, needs
-    /// more pushes than the cap by what lone boxes need, or is of another share. The only errors are that the level has more boxes than [`MAX_BOXES`](grid::MAX_BOXES), and
-    /// that memory was refused.
+    /// more pushes than the cap by what lone boxes need, or is of another share. The only errors are that the level has more
+    /// boxes than [`MAX_BOXES`](grid::MAX_BOXES), and that memory was refused.
     pub fn of(
         alloc: Global,
         level: Arc<Level>,

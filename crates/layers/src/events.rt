@@ -1,8 +1,10 @@
-ghost use Rattle.std.specs.Prelude.{◌≡◌, ◌+◌, ◌<◌, ◌≤◌, [], ◌∷◌, ◌++◌, Some, false, true, slice_get, slice_index_or, slice_set, vec_len, IfNone, IfSome, IfErr, OnOk, OnErr, IfOk, length};
+ghost use Rattle.std.specs.Prelude.{◌≡◌, ◌+◌, ◌<◌, ◌≤◌, [], ◌∷◌, ◌++◌, Some, false, true, slice_get, slice_index_or, slice_set, vec_len, IfNone, IfSome, IfErr};
+ghost use Rattle.std.specs.Prelude.{OnOk, OnErr, IfOk, length};
 ghost use Rattle.std.specs.Vec.{vec_capacity};
 ghost use Rattle.successors.specs.inside.Dealt.{successor_places};
 ghost use Rattle.layers.specs.declared.limits.TheConstants.{MOST_POSITIONS};
-ghost use Rattle.layers.specs.Books.{IsAtWork, MayBegin, with_begun, BeginRefused, ClaimAnswer, MayEnter, with_parcel, HandBackRefused, after_refusal, with_reopened, IsClosedBy, CloseRefused};
+ghost use Rattle.layers.specs.Books.{IsAtWork, MayBegin, with_begun, BeginRefused, ClaimAnswer, MayEnter, with_parcel, HandBackRefused, after_refusal};
+ghost use Rattle.layers.specs.Books.{with_reopened, IsClosedBy, CloseRefused};
 
 use crate::book::{Book, Claim, Closed};
 use crate::fault::{BeginFault, CloseFault, Refusal};

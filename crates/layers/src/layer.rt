@@ -128,7 +128,10 @@ fn read_position(squares: &[Square], rank: usize, boxes: usize) -> Position
     requires inside { rank * (boxes + 1) + (boxes + 1) ≤ length squares.now }
     requires rising { is_rising (take boxes (drop (rank * (boxes + 1)) squares.now)) ≡ true }
     requires few { boxes ≤ MAX_BOXES }
-    ensures { result ≡ record { boxes = take boxes (drop (rank * (boxes + 1)) squares.now); player = slice_index_or (drop (rank * (boxes + 1)) squares.now) boxes 0 } }
+    ensures { result ≡ record {
+      boxes = take boxes (drop (rank * (boxes + 1)) squares.now);
+      player = slice_index_or (drop (rank * (boxes + 1)) squares.now) boxes 0;
+    } }
 {
     let (_, row) = squares.split_at(rank * (boxes + 1));
     let (front, _) = row.split_at(boxes);

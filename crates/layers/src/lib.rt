@@ -1,6 +1,15 @@
 //! Layers of normal positions in the order of the least push lists that lead there, and the books in which the
 //! successors of a layer are entered until the next one closes. What successors are given by stands in `successors`; what its
 //! callers name of it is here too.
+//!
+//! With the `level` of a room of three rows of three squares, the box in the middle, its goal at the top left and the
+//! player at the bottom right:
+//!
+//! ```text
+//! let book = Book::of(alloc, level, None, 1_000, 1, 0, 1).expect(&rt, "memory");
+//! let layer = Layer::join(alloc, slice::from_ref(&book)).expect(&rt, "memory");
+//! assert_eq!(&rt; (layer.number(), layer.len()), (0, 1));
+//! ```
 #![tactic(auto)]
 
 mod book;

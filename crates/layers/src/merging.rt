@@ -73,7 +73,8 @@ impl<'a> Rest<'a> {
         origins: &mut Vec<Origin>,
     ) -> Result<(), AllocError>
         requires { 0 < length self.old }
-        ensures { OnOk result ((e : Closed) (rest : List Closed) → self.old ≡ e ∷ rest → (self.new ≡ rest) × IsCopied e squares.old.items squares.new.items origins.old.items origins.new.items) }
+        ensures { OnOk result ((e : Closed) (rest : List Closed) → self.old ≡ e ∷ rest →
+            (self.new ≡ rest) × IsCopied e squares.old.items squares.new.items origins.old.items origins.new.items) }
     {
         self.found.copy_at(self.place, squares, origins)?;
         self.place += 1;

@@ -19,7 +19,7 @@ const HALVINGS: u32 = 64;
 
 /// A stretch of the layer that books closed last: from so many positions of each book's share of it on, up to an origin. It
 /// holds its positions once it is merged.
-#[derive(Drop)]
+#[derive(Debug, Drop)]
 pub struct Stretch {
     // how many positions of each book's last list come before it
     pub(crate) starts: Vec<usize>,
@@ -31,7 +31,7 @@ pub struct Stretch {
 }
 
 /// The positions of a stretch, in the order of their origins.
-#[derive(Drop)]
+#[derive(Debug, Drop)]
 pub(crate) struct Merged {
     // how many positions of each book's last list come before its end
     pub(crate) ends: Vec<usize>,

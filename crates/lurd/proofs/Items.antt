@@ -1,5 +1,6 @@
 -- What stands at the beginning of bytes: digits, a letter, or a fault.
-use Rattle.std.proofs.Common.{◌≡◌, ℕ, suc, ◌+◌, ◌<◌, ◌≤◌, Bool, true, false, cond, List, [], ◌∷◌, ◌++◌, ◌⊎◌, length, take, drop, slice_index, refl, sym, ap, subst, length-append, ◌∙◌, arith, append_assoc}
+use Rattle.std.proofs.Common.{◌≡◌, ℕ, suc, ◌+◌, ◌<◌, ◌≤◌, Bool, true, false, cond, List, [], ◌∷◌, ◌++◌, ◌⊎◌, length, take, drop, slice_index, refl, sym, ap}
+use Rattle.std.proofs.Common.{subst, length-append, ◌∙◌, arith, append_assoc}
 use Rattle.std.specs.Char.{is_ascii_digit}
 use Rattle.std.specs.List.{prefix_len}
 use Rattle.std.proofs.lemmas.List.{take-append-drop}
@@ -16,7 +17,8 @@ no_digit_by n true none = absurd (omega (arith, none))
 no_digit_by n false none = refl
 
 -- a byte that is no blank, no digit and no letter is bad
-pub bad_byte : (bytes : List ℕ) → 0 < length bytes → is_blank (slice_index bytes 0) ≡ false → digit_count bytes ≡ 0 → ¬ (BeginsWithLetter bytes) → BeginsBadly bytes
+pub bad_byte : (bytes : List ℕ) → 0 < length bytes → is_blank (slice_index bytes 0) ≡ false → digit_count bytes ≡ 0 → ¬ (BeginsWithLetter bytes) →
+    BeginsBadly bytes
 bad_byte [] some blank none letter = absurd (omega (arith, some))
 bad_byte (b ∷ bs) some blank none letter = record {
   byte = b;
@@ -28,7 +30,8 @@ bad_byte (b ∷ bs) some blank none letter = record {
 }
 
 -- digits that are no count, or that no letter follows, are a bad count
-pub bad_count : (bytes : List ℕ) (n : ℕ) → n ≡ digit_count bytes → 0 < n → (¬ (IsCount (take n bytes))) ⊎ (¬ (BeginsWithLetter (drop n bytes))) → BeginsWithBadCount bytes
+pub bad_count : (bytes : List ℕ) (n : ℕ) → n ≡ digit_count bytes → 0 < n → (¬ (IsCount (take n bytes))) ⊎ (¬ (BeginsWithLetter (drop n bytes))) →
+    BeginsWithBadCount bytes
 bad_count bytes n is some bad = record {
   digits = take n bytes;
   more = drop n bytes;
@@ -40,12 +43,14 @@ bad_count bytes n is some bad = record {
 }
 
 -- the bytes are digits, a letter, and more
-pub cut_at_letter : (bytes : List ℕ) (n : ℕ) (letter : Letter) (more : List ℕ) → drop n bytes ≡ byte_of letter ∷ more → bytes ≡ spelling (item (take n bytes) letter) ++ more
+pub cut_at_letter : (bytes : List ℕ) (n : ℕ) (letter : Letter) (more : List ℕ) → drop n bytes ≡ byte_of letter ∷ more →
+    bytes ≡ spelling (item (take n bytes) letter) ++ more
 cut_at_letter bytes n letter more is =
     sym (take-append-drop n bytes) ∙ (ap (λ ys. take n bytes ++ ys) is ∙ sym (append_assoc (take n bytes) (byte_of letter ∷ []) more))
 
 -- a letter that brings the moves above the greatest number
-pub too_many : (bytes : List ℕ) (moves n times : ℕ) (letter : Letter) (more : List ℕ) → drop n bytes ≡ byte_of letter ∷ more → (take n bytes ≡ []) ⊎ IsCount (take n bytes) → times ≡ repeats (take n bytes) → MAX_MOVES < moves + times → BeginsWithTooMany moves bytes
+pub too_many : (bytes : List ℕ) (moves n times : ℕ) (letter : Letter) (more : List ℕ) → drop n bytes ≡ byte_of letter ∷ more → (take n bytes ≡ []) ⊎
+    IsCount (take n bytes) → times ≡ repeats (take n bytes) → MAX_MOVES < moves + times → BeginsWithTooMany moves bytes
 too_many bytes moves n times letter more is lawful counted above = record {
   digits = take n bytes;
   letter = letter;
@@ -56,7 +61,8 @@ too_many bytes moves n times letter more is lawful counted above = record {
 }
 
 -- a letter that does not
-pub takes_item : (bytes : List ℕ) (moves n times : ℕ) (letter : Letter) (more : List ℕ) → n ≡ digit_count bytes → drop n bytes ≡ byte_of letter ∷ more → (take n bytes ≡ []) ⊎ IsCount (take n bytes) → times ≡ repeats (take n bytes) → moves + times ≤ MAX_MOVES → TakesItem moves bytes letter times (n + 1)
+pub takes_item : (bytes : List ℕ) (moves n times : ℕ) (letter : Letter) (more : List ℕ) → n ≡ digit_count bytes → drop n bytes ≡ byte_of letter ∷ more →
+    (take n bytes ≡ []) ⊎ IsCount (take n bytes) → times ≡ repeats (take n bytes) → moves + times ≤ MAX_MOVES → TakesItem moves bytes letter times (n + 1)
 takes_item bytes moves n times letter more count is lawful counted few = record {
   digits = take n bytes;
   more = more;

@@ -1,5 +1,6 @@
 -- Letters and their bytes, which are neither digits nor blanks.
-use Rattle.std.proofs.Common.{◌≡◌, ◌≢◌, eqb, Option, Some, None, ℕ, zero, suc, ◌+◌, ◌<◌, ◌≤◌, Bool, true, false, cond, List, [], ◌∷◌, ◌++◌, ◌⊎◌, length, take, drop, Result, Ok, Err, refl, sym, ap, subst, ◌∙◌, inl, inr, arith, append_assoc, length-append}
+use Rattle.std.proofs.Common.{◌≡◌, ◌≢◌, eqb, Option, Some, None, ℕ, zero, suc, ◌+◌, ◌<◌, ◌≤◌, Bool, true, false, cond, List, [], ◌∷◌, ◌++◌, ◌⊎◌, length, take}
+use Rattle.std.proofs.Common.{drop, Result, Ok, Err, refl, sym, ap, subst, ◌∙◌, inl, inr, arith, append_assoc, length-append}
 use Rattle.std.specs.Char.{is_ascii_digit}
 use Rattle.std.specs.List.{AllByRecursion, flat_map}
 use Rattle.std.proofs.lemmas.List.{append-nil, length-replicate, length-take}
@@ -16,7 +17,8 @@ use Rattle.counts.specs.NoCount.{IsNoCount}
 use Rattle.counts.proofs.lemmas.Digits.{digit_count, digits_in_front, SameRun, one_run, digits_of_count, count_or_not}
 use Rattle.lurd.specs.ExactlyOne.{ExactlyOne}
 use Rattle.lurd.specs.inside.Item.{TakesItem, IsLetterByte}
-use Rattle.lurd.specs.Text.{byte_of, is_blank, Piece, blank, item, spelling, meaning, IsPiece, IsText, BeginsWithLetter, BeginsBadly, BeginsWithBadCount, BeginsWithTooMany, FaultsAt}
+use Rattle.lurd.specs.Text.{byte_of, is_blank, Piece, blank, item, spelling, meaning, IsPiece, IsText, BeginsWithLetter, BeginsBadly, BeginsWithBadCount}
+use Rattle.lurd.specs.Text.{BeginsWithTooMany, FaultsAt}
 use Rattle.lurd.specs.Parsing.{Reads}
 use Rattle.lurd.proofs.Items.{bad_byte, bad_count, too_many, takes_item}
 use Rattle.lurd.proofs.Leading.{letter_by}
@@ -56,7 +58,8 @@ blank_no_digit b is = grind (arith, nat_tests)
 
 -- the letters, and the one that a byte writes
 abbrev letters_all : List Letter
-letters_all = letter_by D true ∷ letter_by L true ∷ letter_by R true ∷ letter_by U true ∷ letter_by D false ∷ letter_by L false ∷ letter_by R false ∷ letter_by U false ∷ []
+letters_all = letter_by D true ∷ letter_by L true ∷ letter_by R true ∷ letter_by U true ∷ letter_by D false ∷ letter_by L false ∷ letter_by R false ∷
+    letter_by U false ∷ []
 
 abbrev find_letter : ℕ → List Letter → Option Letter
 find_letter b [] = None
@@ -79,7 +82,8 @@ one_letter x y same =
     let b : find_letter (byte_of y) letters_all ≡ Some y = found_by y.dir y.push in
     cc
 
-search_by : (b : ℕ) (x : Letter) (v : Bool) (rest : Option Letter) → eqb (byte_of x) b ≡ v → IsLetterByte b ⊎ (rest ≡ None) → IsLetterByte b ⊎ (cond v (Some x) rest ≡ None)
+search_by : (b : ℕ) (x : Letter) (v : Bool) (rest : Option Letter) → eqb (byte_of x) b ≡ v → IsLetterByte b ⊎ (rest ≡ None) → IsLetterByte b ⊎
+    (cond v (Some x) rest ≡ None)
 search_by b x true rest is more = inl (x, eqb-true (byte_of x) b is)
 search_by b x false rest is more = more
 

@@ -1,5 +1,6 @@
 -- Each list of bytes is read in one way.
-use Rattle.std.proofs.Common.{◌≡◌, ◌≢◌, eqb, Option, Some, None, ℕ, zero, suc, ◌+◌, ◌<◌, ◌≤◌, Bool, true, false, cond, List, [], ◌∷◌, ◌++◌, ◌⊎◌, length, take, drop, Result, Ok, Err, refl, sym, ap, subst, ◌∙◌, inl, inr, arith, append_assoc, length-append}
+use Rattle.std.proofs.Common.{◌≡◌, ◌≢◌, eqb, Option, Some, None, ℕ, zero, suc, ◌+◌, ◌<◌, ◌≤◌, Bool, true, false, cond, List, [], ◌∷◌, ◌++◌, ◌⊎◌, length, take}
+use Rattle.std.proofs.Common.{drop, Result, Ok, Err, refl, sym, ap, subst, ◌∙◌, inl, inr, arith, append_assoc, length-append}
 use Rattle.std.specs.Char.{is_ascii_digit}
 use Rattle.std.specs.List.{AllByRecursion, flat_map}
 use Rattle.std.proofs.lemmas.List.{append-nil, length-replicate, length-take}
@@ -16,7 +17,8 @@ use Rattle.counts.specs.NoCount.{IsNoCount}
 use Rattle.counts.proofs.lemmas.Digits.{digit_count, digits_in_front, SameRun, one_run, digits_of_count, count_or_not}
 use Rattle.lurd.specs.ExactlyOne.{ExactlyOne}
 use Rattle.lurd.specs.inside.Item.{TakesItem, IsLetterByte}
-use Rattle.lurd.specs.Text.{byte_of, is_blank, Piece, blank, item, spelling, meaning, IsPiece, IsText, BeginsWithLetter, BeginsBadly, BeginsWithBadCount, BeginsWithTooMany, FaultsAt}
+use Rattle.lurd.specs.Text.{byte_of, is_blank, Piece, blank, item, spelling, meaning, IsPiece, IsText, BeginsWithLetter, BeginsBadly, BeginsWithBadCount}
+use Rattle.lurd.specs.Text.{BeginsWithTooMany, FaultsAt}
 use Rattle.lurd.specs.Parsing.{Reads}
 use Rattle.lurd.proofs.Items.{bad_byte, bad_count, too_many, takes_item}
 use Rattle.lurd.proofs.Letters.{letter_no_digit, letter_no_blank, blank_no_digit, one_letter, letter_or_not}
@@ -52,7 +54,8 @@ one_piece (blank b) (blank c) m n is other same =
 one_piece (blank b) (item ds x) m n is other same = absurd (blank_or_item b ds x m n is (digits_of_count ds other) (same ∙ item_then ds x n))
 one_piece (item ds x) (blank c) m n is other same = absurd (blank_or_item c ds x n m other (digits_of_count ds is) (sym same ∙ item_then ds x m))
 one_piece (item ds x) (item es y) m n is other same =
-    let run = one_run ds es (byte_of x ∷ m) (byte_of y ∷ n) (digits_of_count ds is) (digits_of_count es other) (letter_no_digit x) (letter_no_digit y) (sym (item_then ds x m) ∙ (same ∙ item_then es y n)) in
+    let run = one_run ds es (byte_of x ∷ m) (byte_of y ∷ n) (digits_of_count ds is) (digits_of_count es other) (letter_no_digit x) (letter_no_digit y)
+    (sym (item_then ds x m) ∙ (same ∙ item_then es y n)) in
     let left : byte_of x ∷ m ≡ byte_of y ∷ n = run.more in
     let digits : ds ≡ es = run.digits in
     let head : byte_of x ≡ byte_of y = cc in
@@ -88,7 +91,8 @@ bad_or_count bytes bad count =
     let none = bad.no_digit in
     cc
 
-count_by_run : (digits more ds m : List ℕ) (x : Letter) → 1 ≤ length digits → (¬ (IsCount digits)) ⊎ (¬ (BeginsWithLetter more)) → SameRun digits ds more (byte_of x ∷ m) → (ds ≡ []) ⊎ IsCount ds → ⊥
+count_by_run : (digits more ds m : List ℕ) (x : Letter) → 1 ≤ length digits → (¬ (IsCount digits)) ⊎ (¬ (BeginsWithLetter more)) →
+    SameRun digits ds more (byte_of x ∷ m) → (ds ≡ []) ⊎ IsCount ds → ⊥
 count_by_run digits more ds m x some bad run (inl none) = let f : length digits ≡ 0 = ap (λ (es : List ℕ). length es) (run.digits ∙ none) in omega arith
 count_by_run digits more ds m x some (inl bad) run (inr count) = bad (subst (λ (es : List ℕ). IsCount es) (sym run.digits) count)
 count_by_run digits more ds m x some (inr none) run (inr count) = none (x, m, run.more)
@@ -102,7 +106,8 @@ count_or_piece (item ds x) bytes m bad is same =
     count_by_run bad.digits bad.more ds m x bad.some bad.bad
     (one_run bad.digits ds bad.more (byte_of x ∷ m) bad.all (digits_of_count ds is) bad.whole (letter_no_digit x) (sym bad.cut ∙ (same ∙ item_then ds x m))) is
 
-many_or_piece : (p : Piece) (moves : ℕ) (bytes m : List ℕ) → BeginsWithTooMany moves bytes → IsPiece p → bytes ≡ spelling p ++ m → MAX_MOVES < moves + length (meaning p)
+many_or_piece : (p : Piece) (moves : ℕ) (bytes m : List ℕ) → BeginsWithTooMany moves bytes → IsPiece p → bytes ≡ spelling p ++ m →
+    MAX_MOVES < moves + length (meaning p)
 many_or_piece p moves bytes m many is same =
     let one = one_piece (item many.digits many.letter) p many.more m many.lawful is (sym many.cut ∙ same) in
     let size : length (meaning (item many.digits many.letter)) ≡ repeats many.digits = length-replicate (repeats many.digits) many.letter in
@@ -110,7 +115,8 @@ many_or_piece p moves bytes m many is same =
     subst (λ (q : Piece). MAX_MOVES < moves + length (meaning q)) one.piece above
 
 -- no fault stands where a piece stands that does not bring the moves above the greatest number
-pub fault_or_piece : (p : Piece) (place moves : ℕ) (bytes m : List ℕ) (fault : LurdFault) → FaultsAt place moves bytes fault → IsPiece p → bytes ≡ spelling p ++ m → moves + length (meaning p) ≤ MAX_MOVES → ⊥
+pub fault_or_piece : (p : Piece) (place moves : ℕ) (bytes m : List ℕ) (fault : LurdFault) → FaultsAt place moves bytes fault → IsPiece p →
+    bytes ≡ spelling p ++ m → moves + length (meaning p) ≤ MAX_MOVES → ⊥
 fault_or_piece p place moves bytes m (BadByte at) fault is same few = bad_or_piece p bytes m fault.1 is same
 fault_or_piece p place moves bytes m (BadCount at) fault is same few = count_or_piece p bytes m fault.1 is same
 fault_or_piece p place moves bytes m TooManyMoves fault is same few = let f = many_or_piece p moves bytes m fault is same in omega arith
@@ -120,12 +126,15 @@ fault_or_piece p place moves bytes m OutOfMemory fault is same few = fault
 pub one_fault : (place moves : ℕ) (bytes : List ℕ) (f g : LurdFault) → FaultsAt place moves bytes f → FaultsAt place moves bytes g → f ≡ g
 one_fault place moves bytes (BadByte at) (BadByte to) one other = ap (λ (k : ℕ). BadByte k) (one.0 ∙ sym other.0)
 one_fault place moves bytes (BadByte at) (BadCount to) one other = absurd (bad_or_count bytes one.1 other.1)
-one_fault place moves bytes (BadByte at) TooManyMoves one other = absurd (bad_or_piece (item other.digits other.letter) bytes other.more one.1 other.lawful other.cut)
+one_fault place moves bytes (BadByte at) TooManyMoves one other =
+    absurd (bad_or_piece (item other.digits other.letter) bytes other.more one.1 other.lawful other.cut)
 one_fault place moves bytes (BadCount at) (BadByte to) one other = absurd (bad_or_count bytes other.1 one.1)
 one_fault place moves bytes (BadCount at) (BadCount to) one other = ap (λ (k : ℕ). BadCount k) (one.0 ∙ sym other.0)
-one_fault place moves bytes (BadCount at) TooManyMoves one other = absurd (count_or_piece (item other.digits other.letter) bytes other.more one.1 other.lawful other.cut)
+one_fault place moves bytes (BadCount at) TooManyMoves one other =
+    absurd (count_or_piece (item other.digits other.letter) bytes other.more one.1 other.lawful other.cut)
 one_fault place moves bytes TooManyMoves (BadByte to) one other = absurd (bad_or_piece (item one.digits one.letter) bytes one.more other.1 one.lawful one.cut)
-one_fault place moves bytes TooManyMoves (BadCount to) one other = absurd (count_or_piece (item one.digits one.letter) bytes one.more other.1 one.lawful one.cut)
+one_fault place moves bytes TooManyMoves (BadCount to) one other =
+    absurd (count_or_piece (item one.digits one.letter) bytes one.more other.1 one.lawful one.cut)
 one_fault place moves bytes TooManyMoves TooManyMoves one other = refl
 one_fault place moves bytes OutOfMemory g one other = absurd one
 one_fault place moves bytes (BadByte at) OutOfMemory one other = absurd other
@@ -154,7 +163,8 @@ none_at_end place moves bytes TooManyMoves none fault =
     omega arith
 none_at_end place moves bytes OutOfMemory none fault = fault
 
-one_ending : (place : ℕ) (letters : List Letter) (rest : List ℕ) (r s : Result (List Letter) LurdFault) → Ending place letters rest r → Ending place letters rest s → r ≡ s
+one_ending : (place : ℕ) (letters : List Letter) (rest : List ℕ) (r s : Result (List Letter) LurdFault) → Ending place letters rest r →
+    Ending place letters rest s → r ≡ s
 one_ending place letters rest (Ok all) (Ok most) one other = ap (λ (ls : List Letter). Ok ls) (one.1 ∙ sym other.1)
 one_ending place letters rest (Ok all) (Err g) one other = absurd (none_at_end place (length letters) rest g one.0 other)
 one_ending place letters rest (Err f) (Ok most) one other = absurd (none_at_end place (length letters) rest f other.0 one)
@@ -170,7 +180,8 @@ piece_some (item [] x) m none = cc
 piece_some (item (d ∷ ds) x) m none = cc
 
 -- no reading ends where a piece stands that may come next
-ending_or_piece : (p : Piece) (place : ℕ) (letters : List Letter) (rest m : List ℕ) (r : Result (List Letter) LurdFault) → Ending place letters rest r → IsPiece p → rest ≡ spelling p ++ m → length letters + length (meaning p) ≤ MAX_MOVES → ⊥
+ending_or_piece : (p : Piece) (place : ℕ) (letters : List Letter) (rest m : List ℕ) (r : Result (List Letter) LurdFault) → Ending place letters rest r →
+    IsPiece p → rest ≡ spelling p ++ m → length letters + length (meaning p) ≤ MAX_MOVES → ⊥
 ending_or_piece p place letters rest m (Ok all) ends is same few = piece_some p m (sym same ∙ ends.0)
 ending_or_piece p place letters rest m (Err fault) ends is same few = fault_or_piece p place (length letters) rest m fault ends is same few
 
@@ -181,19 +192,23 @@ pub record Way (place : ℕ) (before : List Letter) (ps : List Piece) (rest : Li
   pub ending : Ending (place + length (flat_map spelling ps)) (before ++ flat_map meaning ps) rest r
 
 -- the way behind the first piece
-way_on : (place : ℕ) (before : List Letter) (p : Piece) (ps : List Piece) (rest : List ℕ) (r : Result (List Letter) LurdFault) → Way place before (p ∷ ps) rest r → Way (place + length (spelling p)) (before ++ meaning p) ps rest r
+way_on : (place : ℕ) (before : List Letter) (p : Piece) (ps : List Piece) (rest : List ℕ) (r : Result (List Letter) LurdFault) →
+    Way place before (p ∷ ps) rest r → Way (place + length (spelling p)) (before ++ meaning p) ps rest r
 way_on place before p ps rest r way =
     let bytes : place + length (flat_map spelling (p ∷ ps)) ≡ place + length (spelling p) + length (flat_map spelling ps) =
     (let f = length-append (spelling p) (flat_map spelling ps) in omega arith) in
-    let letters : before ++ flat_map meaning (p ∷ ps) ≡ (before ++ meaning p) ++ flat_map meaning ps = sym (append_assoc before (meaning p) (flat_map meaning ps)) in
+    let letters : before ++ flat_map meaning (p ∷ ps) ≡ (before ++ meaning p) ++ flat_map meaning ps =
+    sym (append_assoc before (meaning p) (flat_map meaning ps)) in
     record {
       each = way.each.1;
       few = subst (λ (ls : List Letter). length ls ≤ MAX_MOVES) letters way.few;
-      ending = subst (λ k. Ending k ((before ++ meaning p) ++ flat_map meaning ps) rest r) bytes (subst (λ ls. Ending (place + length (flat_map spelling (p ∷ ps))) ls rest r) letters way.ending);
+      ending = subst (λ k. Ending k ((before ++ meaning p) ++ flat_map meaning ps) rest r) bytes
+          (subst (λ ls. Ending (place + length (flat_map spelling (p ∷ ps))) ls rest r) letters way.ending);
     }
 
 -- the first piece does not bring the moves above the greatest number
-first_few : (place : ℕ) (before : List Letter) (p : Piece) (ps : List Piece) (rest : List ℕ) (r : Result (List Letter) LurdFault) → Way place before (p ∷ ps) rest r → length before + length (meaning p) ≤ MAX_MOVES
+first_few : (place : ℕ) (before : List Letter) (p : Piece) (ps : List Piece) (rest : List ℕ) (r : Result (List Letter) LurdFault) →
+    Way place before (p ∷ ps) rest r → length before + length (meaning p) ≤ MAX_MOVES
 first_few place before p ps rest r way =
     let f = length-append before (flat_map meaning (p ∷ ps)) in
     let g = length-append (meaning p) (flat_map meaning ps) in
@@ -206,15 +221,19 @@ way_end place before rest r way =
     let f : place + 0 ≡ place = omega arith in
     subst (λ k. Ending k before rest r) f (subst (λ ls. Ending (place + 0) ls rest r) (append-nil before) way.ending)
 
-one_way : (place : ℕ) (before : List Letter) (ps qs : List Piece) (m n : List ℕ) (r s : Result (List Letter) LurdFault) → Way place before ps m r → Way place before qs n s → flat_map spelling ps ++ m ≡ flat_map spelling qs ++ n → r ≡ s
+one_way : (place : ℕ) (before : List Letter) (ps qs : List Piece) (m n : List ℕ) (r s : Result (List Letter) LurdFault) → Way place before ps m r →
+    Way place before qs n s → flat_map spelling ps ++ m ≡ flat_map spelling qs ++ n → r ≡ s
 one_way place before [] [] m n r s one other same =
     one_ending place before m r s (way_end place before m r one) (subst (λ ys. Ending place before ys s) (sym same) (way_end place before n s other))
 one_way place before [] (q ∷ qs) m n r s one other same =
-    absurd (ending_or_piece q place before m (flat_map spelling qs ++ n) r (way_end place before m r one) other.each.0 (same ∙ piece_then q qs n) (first_few place before q qs n s other))
+    absurd (ending_or_piece q place before m (flat_map spelling qs ++ n) r (way_end place before m r one) other.each.0 (same ∙
+    piece_then q qs n) (first_few place before q qs n s other))
 one_way place before (p ∷ ps) [] m n r s one other same =
-    absurd (ending_or_piece p place before n (flat_map spelling ps ++ m) s (way_end place before n s other) one.each.0 (sym same ∙ piece_then p ps m) (first_few place before p ps m r one))
+    absurd (ending_or_piece p place before n (flat_map spelling ps ++ m) s (way_end place before n s other) one.each.0 (sym same ∙
+    piece_then p ps m) (first_few place before p ps m r one))
 one_way place before (p ∷ ps) (q ∷ qs) m n r s one other same =
-    let first = one_piece p q (flat_map spelling ps ++ m) (flat_map spelling qs ++ n) one.each.0 other.each.0 (sym (piece_then p ps m) ∙ (same ∙ piece_then q qs n)) in
+    let first = one_piece p q (flat_map spelling ps ++ m) (flat_map spelling qs ++ n) one.each.0 other.each.0 (sym (piece_then p ps m) ∙
+    (same ∙ piece_then q qs n)) in
     let further : Way (place + length (spelling p)) (before ++ meaning p) qs n s =
     subst (λ (t : Piece). Way (place + length (spelling t)) (before ++ meaning t) qs n s) (sym first.piece) (way_on place before q qs n s other) in
     one_way (place + length (spelling p)) (before ++ meaning p) ps qs m n r s (way_on place before p ps m r one) further first.more
@@ -239,7 +258,8 @@ from_start bytes (Ok letters) text = record {
 }
 from_start bytes (Err fault) faulty =
     let text = faulty.text in
-    let place : length faulty.front + 1 ≡ 1 + length (flat_map spelling text.pieces) = (let f : length faulty.front ≡ length (flat_map spelling text.pieces) = ap (λ (ys : List ℕ). length ys) text.spelled in omega arith) in
+    let place : length faulty.front + 1 ≡ 1 + length (flat_map spelling text.pieces) =
+    (let f : length faulty.front ≡ length (flat_map spelling text.pieces) = ap (λ (ys : List ℕ). length ys) text.spelled in omega arith) in
     record {
       pieces = text.pieces;
       rest = faulty.rest;
@@ -272,16 +292,19 @@ abbrev ItemOrFault : ℕ → ℕ → List ℕ → Type 0
 ItemOrFault place moves bytes =
     ((x : Letter) × (times : ℕ) × (len : ℕ) × TakesItem moves bytes x times len) ⊎ ((fault : LurdFault) × FaultsAt place moves bytes fault)
 
-letterless : (place moves : ℕ) (b : ℕ) (bs : List ℕ) (n : ℕ) → is_blank b ≡ false → n ≡ digit_count (b ∷ bs) → ¬ (BeginsWithLetter (drop n (b ∷ bs))) → ItemOrFault place moves (b ∷ bs)
+letterless : (place moves : ℕ) (b : ℕ) (bs : List ℕ) (n : ℕ) → is_blank b ≡ false → n ≡ digit_count (b ∷ bs) → ¬ (BeginsWithLetter (drop n (b ∷ bs))) →
+    ItemOrFault place moves (b ∷ bs)
 letterless place moves b bs zero no_blank count none = inr (BadByte place, (refl, bad_byte (b ∷ bs) (omega arith) no_blank (sym count) none))
 letterless place moves b bs (suc n) no_blank count none = inr (BadCount place, (refl, bad_count (b ∷ bs) (suc n) count (omega arith) (inr none)))
 
-with_letter : (place moves : ℕ) (bytes : List ℕ) (n : ℕ) (x : Letter) (more : List ℕ) → n ≡ digit_count bytes → drop n bytes ≡ byte_of x ∷ more → ((take n bytes ≡ []) ⊎ IsCount (take n bytes)) ⊎ IsNoCount (take n bytes) → ItemOrFault place moves bytes
+with_letter : (place moves : ℕ) (bytes : List ℕ) (n : ℕ) (x : Letter) (more : List ℕ) → n ≡ digit_count bytes → drop n bytes ≡ byte_of x ∷ more →
+    ((take n bytes ≡ []) ⊎ IsCount (take n bytes)) ⊎ IsNoCount (take n bytes) → ItemOrFault place moves bytes
 with_letter place moves bytes n x more count is (inl lawful) = elim (cases_lt MAX_MOVES (moves + repeats (take n bytes))) [
   | inl above ↦ inr (TooManyMoves, too_many bytes moves n (repeats (take n bytes)) x more is lawful refl above)
   | inr few ↦ inl (x, repeats (take n bytes), n + 1, takes_item bytes moves n (repeats (take n bytes)) x more count is lawful refl few)
 ]
-with_letter place moves bytes n x more count is (inr bad) = inr (BadCount place, (refl, bad_count bytes n count (let some = bad.0 in let f = length-take n bytes in omega arith) (inl bad.1)))
+with_letter place moves bytes n x more count is (inr bad) =
+    inr (BadCount place, (refl, bad_count bytes n count (let some = bad.0 in let f = length-take n bytes in omega arith) (inl bad.1)))
 
 item_or_fault : (place moves : ℕ) (b : ℕ) (bs : List ℕ) → is_blank b ≡ false → ItemOrFault place moves (b ∷ bs)
 item_or_fault place moves b bs no_blank =
@@ -304,11 +327,13 @@ read_blank front b letters text is =
 abbrev ReadsOn : ℕ → Type 0
 ReadsOn fuel = (rest front : List ℕ) (letters : List Letter) → length rest ≤ fuel → IsText front letters → Read (front ++ rest)
 
-read_item : (fuel : ℕ) (front bs : List ℕ) (b : ℕ) (letters : List Letter) → length (b ∷ bs) ≤ suc fuel → IsText front letters → ReadsOn fuel → ItemOrFault (length front + 1) (length letters) (b ∷ bs) → Read (front ++ b ∷ bs)
+read_item : (fuel : ℕ) (front bs : List ℕ) (b : ℕ) (letters : List Letter) → length (b ∷ bs) ≤ suc fuel → IsText front letters → ReadsOn fuel →
+    ItemOrFault (length front + 1) (length letters) (b ∷ bs) → Read (front ++ b ∷ bs)
 read_item fuel front bs b letters enough text next (inl (x, times, len, takes)) =
     let p = item takes.digits x in
     let few : length (letters ++ meaning p) ≤ MAX_MOVES =
-    (let f = length-append letters (meaning p) in let g = length-replicate (repeats takes.digits) x in let h = takes.few in let i = takes.counted in omega arith) in
+    (let f = length-append letters (meaning p) in let g = length-replicate (repeats takes.digits) x in let h = takes.few in let i = takes.counted in
+    omega arith) in
     let whole : (front ++ spelling p) ++ takes.more ≡ front ++ b ∷ bs = append_assoc front (spelling p) takes.more ∙ ap (λ ys. front ++ ys) (sym takes.cut) in
     let less : length takes.more ≤ fuel =
     (let f : length (b ∷ bs) ≡ length (spelling p ++ takes.more) = ap (λ (ys : List ℕ). length ys) takes.cut in
@@ -319,7 +344,8 @@ read_item fuel front bs b letters enough text next (inl (x, times, len, takes)) 
 read_item fuel front bs b letters enough text next (inr (fault, stands)) =
     (Err fault, record { front = front; letters = letters; rest = b ∷ bs; cut = refl; text = text; stands = stands })
 
-read_by : (fuel : ℕ) (front bs : List ℕ) (b : ℕ) (letters : List Letter) (v : Bool) → is_blank b ≡ v → length (b ∷ bs) ≤ suc fuel → IsText front letters → ReadsOn fuel → Read (front ++ b ∷ bs)
+read_by : (fuel : ℕ) (front bs : List ℕ) (b : ℕ) (letters : List Letter) (v : Bool) → is_blank b ≡ v → length (b ∷ bs) ≤ suc fuel → IsText front letters →
+    ReadsOn fuel → Read (front ++ b ∷ bs)
 read_by fuel front bs b letters true is enough text next =
     subst (λ ys. Read ys) (append_assoc front (b ∷ []) bs) (next bs (front ++ b ∷ []) letters (omega (arith, enough)) (read_blank front b letters text is))
 read_by fuel front bs b letters false is enough text next =
@@ -328,7 +354,8 @@ read_by fuel front bs b letters false is enough text next =
 read_on : (fuel : ℕ) → ReadsOn fuel
 read_on fuel [] front letters enough text = subst (λ ys. Read ys) (sym (append-nil front)) (Ok letters, text)
 read_on zero (b ∷ bs) front letters enough text = absurd (omega (arith, enough))
-read_on (suc fuel) (b ∷ bs) front letters enough text = read_by fuel front bs b letters (is_blank b) refl enough text (λ rest before so_far. read_on fuel rest before so_far)
+read_on (suc fuel) (b ∷ bs) front letters enough text =
+    read_by fuel front bs b letters (is_blank b) refl enough text (λ rest before so_far. read_on fuel rest before so_far)
 
 -- bytes are read in one way
 pub one_reading : (bytes : List ℕ) → ExactlyOne (λ r. Reads bytes r)

@@ -1,4 +1,20 @@
 //! Solutions as text in LURD notation, and what the rules say of them on a level.
+//!
+//! With the `level` of a hall `@$.`, a player, a box and a goal in a row:
+//!
+//! ```text
+//! let moves = lurd::parse(alloc, b"R").expect(&rt, "letters");
+//! let verdict = lurd::replay(alloc, &level, &moves).expect(&rt, "memory");
+//! assert!(&rt;
+//!     matches!(
+//!         verdict,
+//!         Verdict::Solved {
+//!             pushes: 1,
+//!             moves: 1
+//!         }
+//!     )
+//! );
+//! ```
 #![tactic(auto)]
 
 mod fault;

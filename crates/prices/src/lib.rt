@@ -5,12 +5,17 @@
 //! distance and the goal's toll, and no play that ends solved has fewer pushes than the boxes need above the sum of the
 //! tolls. That holds for any tolls whatever, so nothing is proved of the matching; a good one makes the bound great.
 //!
+//! With the `level` of a room of three rows of three squares, the box in the middle, its goal at the top left and the
+//! player at the bottom right:
+//!
 //! ```text
-//! let distances = Distances::of(rt.alloc(), &level)?;
+//! level.tell_start();
+//! let start = Position::start(&level).expect(&rt, "few boxes");
+//! let distances = Distances::of(alloc, &level).expect(&rt, "memory");
 //! let mut matching = Matching::new();
-//! if distances.needs_more(&position, 99, &mut matching) {
-//!     // no play from the position with at most 99 pushes ends solved
-//! }
+//! // the box is two pushes from its goal
+//! assert!(&rt; distances.needs_more(&start, 1, &mut matching));
+//! assert!(&rt; !distances.needs_more(&start, 2, &mut matching));
 //! ```
 #![tactic(auto)]
 

@@ -1,5 +1,6 @@
 -- Positions that stand as squares, one after the other, each with its label.
-use Rattle.std.proofs.Common.{◌≡◌, ℕ, zero, suc, ◌+◌, ◌*◌, ◌<◌, ◌≤◌, List, [], ◌∷◌, ◌++◌, length, take, drop, get_or, Some, refl, sym, ap, subst, ◌∙◌, add-one, arith}
+use Rattle.std.proofs.Common.{◌≡◌, ℕ, zero, suc, ◌+◌, ◌*◌, ◌<◌, ◌≤◌, List, [], ◌∷◌, ◌++◌, length, take, drop, get_or, Some, refl, sym, ap, subst, ◌∙◌, add-one}
+use Rattle.std.proofs.Common.{arith}
 use Rattle.std.proofs.lemmas.List.{drop-drop, length-drop, take-append-le, drop-append-le, get_or_append_left}
 use Rattle.std.specs.Prelude.{slice_get}
 use Rattle.grid.specs.Board.{Scene}
@@ -18,21 +19,30 @@ row_within width (suc count) zero lt = omega arith
 row_within width (suc count) (suc place) lt = omega (arith, row_within width count place (omega arith))
 
 -- the position at a place is that of the squares there
-pub seen_at : (boxes : ℕ) (xs : List ℕ) (ls : List Label) (place : ℕ) (d : Label) → place < length ls → slice_get (seen_of boxes xs ls) place ≡ Some (record { scene = record { boxes = take boxes (drop (place * suc boxes) xs); player = get_or (drop (place * suc boxes) xs) boxes 0 }; pushes = (get_or ls place d).pushes })
+pub seen_at : (boxes : ℕ) (xs : List ℕ) (ls : List Label) (place : ℕ) (d : Label) → place < length ls →
+    slice_get (seen_of boxes xs ls) place ≡
+    Some (record {
+      scene = record { boxes = take boxes (drop (place * suc boxes) xs); player = get_or (drop (place * suc boxes) xs) boxes 0 };
+      pushes = (get_or ls place d).pushes;
+    })
 seen_at boxes xs [] place d lt = absurd (omega arith)
 seen_at boxes xs (l ∷ ls) zero d lt =
     let z : 0 * suc boxes ≡ 0 = omega arith in
-    ap (λ ys. Some (record { scene = record { boxes = take boxes ys; player = get_or ys boxes 0 }; pushes = l.pushes })) (drop_none xs ∙ ap (λ n. drop n xs) (sym z))
+    ap (λ ys. Some (record { scene = record { boxes = take boxes ys; player = get_or ys boxes 0 }; pushes = l.pushes })) (drop_none xs ∙
+    ap (λ n. drop n xs) (sym z))
   where
     drop_none : (ys : List ℕ) → ys ≡ drop 0 ys
     drop_none [] = refl
     drop_none (y ∷ ys) = refl
 seen_at boxes xs (l ∷ ls) (suc place) d lt =
     let e : suc boxes + place * suc boxes ≡ suc place * suc boxes = omega arith in
-    seen_at boxes (drop (suc boxes) xs) ls place d (omega arith) ∙ ap (λ ys. Some (record { scene = record { boxes = take boxes ys; player = get_or ys boxes 0 }; pushes = (get_or ls place d).pushes })) (drop-drop (place * suc boxes) (suc boxes) xs ∙ ap (λ n. drop n xs) e)
+    seen_at boxes (drop (suc boxes) xs) ls place d (omega arith) ∙
+    ap (λ ys. Some (record { scene = record { boxes = take boxes ys; player = get_or ys boxes 0 }; pushes = (get_or ls place d).pushes }))
+    (drop-drop (place * suc boxes) (suc boxes) xs ∙ ap (λ n. drop n xs) e)
 
 -- one more position, where the squares are those of the labels
-pub seen_more : (boxes : ℕ) (xs : List ℕ) (ls : List Label) (n : Scene) (l : Label) → length xs ≡ length ls * suc boxes → length n.boxes ≡ boxes → seen_of boxes (xs ++ (n.boxes ++ n.player ∷ [])) (ls ++ l ∷ []) ≡ seen_of boxes xs ls ++ record { scene = n; pushes = l.pushes } ∷ []
+pub seen_more : (boxes : ℕ) (xs : List ℕ) (ls : List Label) (n : Scene) (l : Label) → length xs ≡ length ls * suc boxes → length n.boxes ≡ boxes →
+    seen_of boxes (xs ++ (n.boxes ++ n.player ∷ [])) (ls ++ l ∷ []) ≡ seen_of boxes xs ls ++ record { scene = n; pushes = l.pushes } ∷ []
 seen_more boxes [] [] n l long many = λ i. record { scene = record { boxes = front i; player = last i }; pushes = l.pushes } ∷ []
   where
     take_front : (ys zs : List ℕ) → take (length ys) (ys ++ zs) ≡ ys
@@ -49,7 +59,10 @@ seen_more boxes [] [] n l long many = λ i. record { scene = record { boxes = fr
     last : get_or (n.boxes ++ n.player ∷ []) boxes 0 ≡ n.player
     last = ap (λ k. get_or (n.boxes ++ n.player ∷ []) k 0) (sym many) ∙ read_next n.boxes [] n.player
 seen_more boxes (x ∷ xs) [] n l long many = absurd (omega (arith, long))
-seen_more boxes xs (k ∷ ls) n l long many = λ i. record { scene = record { boxes = front i; player = last i }; pushes = k.pushes } ∷ (ap (λ ys. seen_of boxes ys (ls ++ l ∷ [])) rest ∙ seen_more boxes (drop (suc boxes) xs) ls n l less many) i
+seen_more boxes xs (k ∷ ls) n l long many = λ i. record {
+  scene = record { boxes = front i; player = last i };
+  pushes = k.pushes;
+} ∷ (ap (λ ys. seen_of boxes ys (ls ++ l ∷ [])) rest ∙ seen_more boxes (drop (suc boxes) xs) ls n l less many) i
   where
     enough : suc boxes ≤ length xs
     enough = omega (arith, long)
@@ -70,11 +83,20 @@ seen_more boxes xs (k ∷ ls) n l long many = λ i. record { scene = record { bo
     less = omega (arith, length-drop (suc boxes) xs, long)
 
 -- what contracts see at a place
-pub entry_at : (a : Inside) (v : EntriesView) → AreWhole a → entries_view a ≡ v → (boxes place : ℕ) → boxes ≡ a.boxes → place < length v.seen → (xs : List ℕ) → xs ≡ a.squares.items → (d : Label) →
-    (slice_get v.seen place ≡ Some (record { scene = row_scene boxes place xs; pushes = (get_or a.labels.items place d).pushes })) × (place * (boxes + 1) + (boxes + 1) ≤ length xs) × (place < length a.labels.items)
+pub entry_at : (a : Inside) (v : EntriesView) → AreWhole a → entries_view a ≡ v → (boxes place : ℕ) → boxes ≡ a.boxes → place < length v.seen → (xs : List ℕ) →
+    xs ≡ a.squares.items → (d : Label) →
+    (slice_get v.seen place ≡ Some (record { scene = row_scene boxes place xs; pushes = (get_or a.labels.items place d).pushes })) ×
+    (place * (boxes + 1) + (boxes + 1) ≤ length xs) × (place < length a.labels.items)
 entry_at a v whole view boxes place e within xs same d = (
-  ap (λ (u : EntriesView). slice_get u.seen place) (sym view) ∙ ap (λ n. slice_get (seen_of n a.squares.items a.labels.items) place) (sym e) ∙ seen_at boxes a.squares.items a.labels.items place d lt
-      ∙ (λ i. Some (record { scene = record { boxes = take boxes (drop (place * sym (add-one boxes) i) (sym same i)); player = get_or (drop (place * sym (add-one boxes) i) (sym same i)) boxes 0 }; pushes = (get_or a.labels.items place d).pushes })),
+  ap (λ (u : EntriesView). slice_get u.seen place) (sym view) ∙ ap (λ n. slice_get (seen_of n a.squares.items a.labels.items) place) (sym e) ∙
+      seen_at boxes a.squares.items a.labels.items place d lt
+      ∙ (λ i. Some (record {
+        scene = record {
+          boxes = take boxes (drop (place * sym (add-one boxes) i) (sym same i));
+          player = get_or (drop (place * sym (add-one boxes) i) (sym same i)) boxes 0;
+        };
+        pushes = (get_or a.labels.items place d).pushes;
+      })),
   subst (λ n. place * n + n ≤ length xs) (sym (add-one boxes)) (omega (arith, row_within (suc boxes) (length a.labels.items) place lt, long)),
   lt,
 )

@@ -8,8 +8,10 @@ use Rattle.prover.specs.declared.outcome.Outcome.{Outcome}
 use Rattle.prover.specs.declared.outcome.Outcome.TheVariants.{None, Found, Limit}
 use Rattle.prover.proofs.lemmas.Parity.{two_less_decide}
 
-pub judged_by : {E : Type 0} (board : Board) → IsLevel board → (known most : ℕ) (r : Result Outcome E) → SomeHas board known → known ≡ suc (suc most) → IfOk r (λ o. IsOutcome board most o) → IfOk r (λ o. IsJudgement board known o)
-judged_by board level known most (Ok None) some two none = subst (λ (n : ℕ). NoneHasFewer board n) (sym two) (two_less_decide board level most (subst (λ (n : ℕ). SomeHas board n) two some) none)
+pub judged_by : {E : Type 0} (board : Board) → IsLevel board → (known most : ℕ) (r : Result Outcome E) → SomeHas board known → known ≡ suc (suc most) →
+    IfOk r (λ o. IsOutcome board most o) → IfOk r (λ o. IsJudgement board known o)
+judged_by board level known most (Ok None) some two none =
+    subst (λ (n : ℕ). NoneHasFewer board n) (sym two) (two_less_decide board level most (subst (λ (n : ℕ). SomeHas board n) two some) none)
 judged_by board level known most (Ok (Found moves pushes)) some two found = (found.0, omega (arith, two, found.1))
 judged_by board level known most (Ok Limit) some two so = tt
 judged_by board level known most (Err e) some two so = tt

@@ -1,5 +1,6 @@
 -- Steps of a search, over plain lists of what was seen.
-use Rattle.std.proofs.Common.{◌≡◌, ℕ, zero, suc, ◌+◌, ◌≤◌, ◌<◌, ◌⊎◌, List, [], ◌∷◌, ◌++◌, length, Some, Result, Ok, Err, OnOk, get_or, inl, inr, refl, sym, ap, subst, ◌∙◌, append-nil, append_assoc, arith}
+use Rattle.std.proofs.Common.{◌≡◌, ℕ, zero, suc, ◌+◌, ◌≤◌, ◌<◌, ◌⊎◌, List, [], ◌∷◌, ◌++◌, length, Some, Result, Ok, Err, OnOk, get_or, inl, inr, refl, sym, ap}
+use Rattle.std.proofs.Common.{subst, ◌∙◌, append-nil, append_assoc, arith}
 use Rattle.std.proofs.lemmas.Bool.{cases_lt}
 use Rattle.std.proofs.lemmas.Option.{same_Some, slice_get_within, slice_get_read}
 use Rattle.std.specs.Prelude.{slice_get}
@@ -52,10 +53,12 @@ pub grows_one : (v w : EntriesView) (n : Scene) (k : ℕ) → w ≡ record { box
 grows_one v w n k e = (ap (λ (u : EntriesView). u.boxes) e, (record { scene = n; pushes = k } ∷ [], ap (λ (u : EntriesView). u.seen) e))
 
 pub grows_on : (u v w : EntriesView) → Grows u v → Grows v w → Grows u w
-grows_on u v w (boxes, (more, grown)) (boxes', (others, grown')) = (boxes' ∙ boxes, (more ++ others, grown' ∙ ap (λ (xs : List Seen). xs ++ others) grown ∙ append_assoc u.seen more others))
+grows_on u v w (boxes, (more, grown)) (boxes', (others, grown')) =
+    (boxes' ∙ boxes, (more ++ others, grown' ∙ ap (λ (xs : List Seen). xs ++ others) grown ∙ append_assoc u.seen more others))
 
 pub seen_on : (v w : EntriesView) (k : ℕ) (s : Scene) → Grows v w → IsSeen v.seen k s → IsSeen w.seen k s
-seen_on v w k s (boxes, (more, grown)) (i, x, at, same, le) = (i, x, subst (λ (xs : List Seen). slice_get xs i ≡ Some x) (sym grown) (still_at v.seen more i x at), same, le)
+seen_on v w k s (boxes, (more, grown)) (i, x, at, same, le) =
+    (i, x, subst (λ (xs : List Seen). slice_get xs i ≡ Some x) (sym grown) (still_at v.seen more i x at), same, le)
 
 pub length_on : (v w : EntriesView) → Grows v w → length v.seen ≤ length w.seen
 length_on v w (boxes, (more, grown)) = subst (λ (xs : List Seen). length v.seen ≤ length xs) (sym grown) (shorter v.seen)
@@ -68,17 +71,27 @@ length_on v w (boxes, (more, grown)) = subst (λ (xs : List Seen). length v.seen
 pub before_on : (v w : EntriesView) (i : ℕ) (x : Seen) → Grows v w → i < length v.seen → slice_get w.seen i ≡ Some x → slice_get v.seen i ≡ Some x
 before_on v w i x (boxes, (more, grown)) lt at = was_at v.seen more i x lt (subst (λ (xs : List Seen). slice_get xs i ≡ Some x) grown at)
 
-pub last_seen : (v w : EntriesView) (n : Scene) (k : ℕ) → w ≡ record { boxes = v.boxes; seen = v.seen ++ record { scene = n; pushes = k } ∷ [] } → IsSeen w.seen k n
-last_seen v w n k e = (length v.seen, record { scene = n; pushes = k }, ap (λ (u : EntriesView). slice_get u.seen (length v.seen)) e ∙ last_at v.seen (record { scene = n; pushes = k }), refl, omega arith)
+pub last_seen : (v w : EntriesView) (n : Scene) (k : ℕ) → w ≡ record { boxes = v.boxes; seen = v.seen ++ record { scene = n; pushes = k } ∷ [] } →
+    IsSeen w.seen k n
+last_seen v w n k e = (
+  length v.seen,
+  record { scene = n; pushes = k },
+  ap (λ (u : EntriesView). slice_get u.seen (length v.seen)) e ∙
+      last_at v.seen (record { scene = n; pushes = k }),
+  refl,
+  omega arith,
+)
 
 pub fit_none : (board : Board) (v w : EntriesView) → w ≡ v → AllFit board v.seen → AllFit board w.seen
 fit_none board v w e fit = subst (λ (u : EntriesView). AllFit board u.seen) (sym e) fit
 
-pub fit_one : (board : Board) (v w : EntriesView) (n : Scene) (k : ℕ) → w ≡ record { boxes = v.boxes; seen = v.seen ++ record { scene = n; pushes = k } ∷ [] } → FitsLevel board n → AllFit board v.seen → AllFit board w.seen
-fit_one board v w n k e fits fit = subst (λ (u : EntriesView). AllFit board u.seen) (sym e) (λ i x at. elim (either_at v.seen (record { scene = n; pushes = k }) i x at) [
-  | inl before ↦ fit i x before
-  | inr last ↦ subst (λ (y : Seen). FitsLevel board y.scene) last fits
-])
+pub fit_one : (board : Board) (v w : EntriesView) (n : Scene) (k : ℕ) → w ≡ record { boxes = v.boxes; seen = v.seen ++ record { scene = n; pushes = k } ∷ [] } →
+    FitsLevel board n → AllFit board v.seen → AllFit board w.seen
+fit_one board v w n k e fits fit =
+    subst (λ (u : EntriesView). AllFit board u.seen) (sym e) (λ i x at. elim (either_at v.seen (record { scene = n; pushes = k }) i x at) [
+      | inl before ↦ fit i x before
+      | inr last ↦ subst (λ (y : Seen). FitsLevel board y.scene) last fits
+    ])
 
 -- ---- an expansion
 
@@ -88,19 +101,23 @@ lost_none board left s lost ds ps t play solved = absurd (lost t ds ps play solv
 
 -- what is true of the normal form is true of the state
 pub norm_none : (board : Board) (left : ℕ) (s n : Scene) → IsScene board s → IsNorm board s n → NoneWithin board left n → NoneWithin board left s
-norm_none board left s n scene norm none = (none_is_not_solvable board left s).1 (λ h. (none_is_not_solvable board left n).0 none ((norms_change_nothing board s n scene norm left).0 h))
+norm_none board left s n scene norm none =
+    (none_is_not_solvable board left s).1 (λ h. (none_is_not_solvable board left n).0 none ((norms_change_nothing board s n scene norm left).0 h))
 
 pub reached_on : (all : List Seen) (v w : EntriesView) (k : ℕ) (t : Scene) → Grows v w → IsReached all v.seen k t → IsReached all w.seen k t
 reached_on all v w k t grows (inl seen) = inl seen
 reached_on all v w k t grows (inr new) = inr (seen_on v w k t grows new)
 
-done_on : (board : Board) (left : ℕ) (all : List Seen) (v w : EntriesView) (k : ℕ) (s : Scene) (p : Push) → Grows v w → IsDoneWith board left (IsReached all v.seen k) s p → IsDoneWith board left (IsReached all w.seen k) s p
+done_on : (board : Board) (left : ℕ) (all : List Seen) (v w : EntriesView) (k : ℕ) (s : Scene) (p : Push) → Grows v w →
+    IsDoneWith board left (IsReached all v.seen k) s p → IsDoneWith board left (IsReached all w.seen k) s p
 done_on board left all v w k s p grows (inl (n, norm, kept)) = inl (n, norm, reached_on all v w k n grows kept)
 done_on board left all v w k s p grows (inr none) = inr none
 
 -- one more push is done with
-pub done_more : (board : Board) (left : ℕ) (all : List Seen) (v w : EntriesView) (k : ℕ) (s : Scene) (pushes : List Push) (count : ℕ) (p : Push) → Grows v w → slice_get pushes count ≡ Some p
-    → AreDoneWith board left (IsReached all v.seen k) s pushes count → IsDoneWith board left (IsReached all w.seen k) s p → AreDoneWith board left (IsReached all w.seen k) s pushes (count + 1)
+pub done_more : (board : Board) (left : ℕ) (all : List Seen) (v w : EntriesView) (k : ℕ) (s : Scene) (pushes : List Push) (count : ℕ) (p : Push) → Grows v w →
+    slice_get pushes count ≡ Some p
+    → AreDoneWith board left (IsReached all v.seen k) s pushes count → IsDoneWith board left (IsReached all w.seen k) s p →
+    AreDoneWith board left (IsReached all w.seen k) s pushes (count + 1)
 done_more board left all v w k s pushes count p grows here before done i q lt at = elim (cases_lt i count) [
   | inl less ↦ done_on board left all v w k s q grows (before i q less at)
   | inr ge ↦
@@ -110,7 +127,8 @@ done_more board left all v w k s pushes count p grows here before done i q lt at
 ]
 
 -- all pushes are done with
-pub expansion_keeps : (board : Board) (left : ℕ) (Kept : Scene → Type 0) (most k : ℕ) (s : Scene) (pushes : List Push) (count : ℕ) → IsScene board s → ArePushes board s pushes → length pushes ≤ count → most ≤ suc k + left
+pub expansion_keeps : (board : Board) (left : ℕ) (Kept : Scene → Type 0) (most k : ℕ) (s : Scene) (pushes : List Push) (count : ℕ) → IsScene board s →
+    ArePushes board s pushes → length pushes ≤ count → most ≤ suc k + left
     → AreDoneWith board left Kept s pushes count → Keeps board most Kept k s
 expansion_keeps board left Kept most k s pushes count scene are all enough done = all_keep board Kept most k s scene (λ p can.
     let here = are.whole p can in
@@ -128,9 +146,11 @@ nothing_left board Kept most k s over m few unsolved solvable = absurd (omega (a
 
 -- one more position is expanded
 pub expanded_more : (board : Board) (most : ℕ) (all : List Seen) (v w : EntriesView) (from place : ℕ) (x : Seen) → Grows v w → slice_get all place ≡ Some x
-    → AreExpanded board most all v.seen from place → Keeps board most (IsReached all w.seen (suc x.pushes)) x.pushes x.scene → AreExpanded board most all w.seen from (place + 1)
+    → AreExpanded board most all v.seen from place → Keeps board most (IsReached all w.seen (suc x.pushes)) x.pushes x.scene →
+    AreExpanded board most all w.seen from (place + 1)
 expanded_more board most all v w from place x grows here before keeps i y ge lt at = elim (cases_lt i place) [
-  | inl less ↦ keeps_so board (IsReached all v.seen (suc y.pushes)) (IsReached all w.seen (suc y.pushes)) most y.pushes y.scene (λ t kept. reached_on all v w (suc y.pushes) t grows kept) (before i y ge less at)
+  | inl less ↦ keeps_so board (IsReached all v.seen (suc y.pushes)) (IsReached all w.seen (suc y.pushes)) most y.pushes y.scene
+      (λ t kept. reached_on all v w (suc y.pushes) t grows kept) (before i y ge less at)
   | inr more ↦
       let same : i ≡ place = omega (arith, lt, more) in
       let e : x ≡ y = same_Some x y (sym here ∙ (ap (λ (j : ℕ). slice_get all j) (sym same) ∙ at)) in
@@ -152,12 +172,15 @@ entered_more more v w place y grows here before seen i x lt at = elim (cases_lt 
 -- ---- the search
 
 -- positions that stay unsolved as the list grows
-pub unsolved_on : (board : Board) (v w : EntriesView) (from to : ℕ) → Grows v w → to ≤ length v.seen → AreUnsolved board v.seen from to → AreUnsolved board w.seen from to
+pub unsolved_on : (board : Board) (v w : EntriesView) (from to : ℕ) → Grows v w → to ≤ length v.seen → AreUnsolved board v.seen from to →
+    AreUnsolved board w.seen from to
 unsolved_on board v w from to grows within unsolved i x ge lt at = unsolved i x ge lt (before_on v w i x grows (omega (arith, lt, within)) at)
 
 -- a stretch was expanded, and what it leads to has entered
-pub under_way_on : (board : Board) (most : ℕ) (v w : EntriesView) (more : List Seen) (from to : ℕ) → IsUnderWay board most v.seen from → AreUnsolved board v.seen from to → to ≤ length v.seen
-    → AreExpanded board most v.seen more from to → Grows v w → AllFit board w.seen → ((i : ℕ) (x : Seen) → slice_get more i ≡ Some x → IsSeen w.seen x.pushes x.scene)
+pub under_way_on : (board : Board) (most : ℕ) (v w : EntriesView) (more : List Seen) (from to : ℕ) → IsUnderWay board most v.seen from →
+    AreUnsolved board v.seen from to → to ≤ length v.seen
+    → AreExpanded board most v.seen more from to → Grows v w → AllFit board w.seen →
+    ((i : ℕ) (x : Seen) → slice_get more i ≡ Some x → IsSeen w.seen x.pushes x.scene)
     → IsUnderWay board most w.seen to
 under_way_on board most v w more from to under unsolved within expanded grows fit entered = record {
   fit = fit;
@@ -167,8 +190,10 @@ under_way_on board most v w more from to under unsolved within expanded grows fi
     | inr more ↦ unsolved i x more lt was
   ]);
   closed = λ i x lt at. (let was = before_on v w i x grows (omega (arith, lt, within)) at in elim (cases_lt i from) [
-    | inl less ↦ keeps_so board (IsSeen v.seen (suc x.pushes)) (IsSeen w.seen (suc x.pushes)) most x.pushes x.scene (λ t seen. seen_on v w (suc x.pushes) t grows seen) (under.closed i x less was)
-    | inr ge ↦ keeps_so board (IsReached v.seen more (suc x.pushes)) (IsSeen w.seen (suc x.pushes)) most x.pushes x.scene (λ t kept. now (suc x.pushes) t kept) (expanded i x ge lt was)
+    | inl less ↦ keeps_so board (IsSeen v.seen (suc x.pushes)) (IsSeen w.seen (suc x.pushes)) most x.pushes x.scene
+        (λ t seen. seen_on v w (suc x.pushes) t grows seen) (under.closed i x less was)
+    | inr ge ↦ keeps_so board (IsReached v.seen more (suc x.pushes)) (IsSeen w.seen (suc x.pushes)) most x.pushes x.scene (λ t kept. now (suc x.pushes) t kept)
+        (expanded i x ge lt was)
   ]);
 }
   where
@@ -177,15 +202,18 @@ under_way_on board most v w more from to under unsolved within expanded grows fi
     now k t (inr (i, x, at, same, le)) = (let (j, y, there, alike, few) = entered i x at in (j, y, there, alike ∙ same, omega (arith, few, le)))
 
 -- all that was seen was expanded, and none of it is solved
-pub none_is_left : (board : Board) (most : ℕ) (all : List Seen) (place : ℕ) → IsLevel board → IsUnderWay board most all place → length all ≤ place → NoneWithin board most (start board)
+pub none_is_left : (board : Board) (most : ℕ) (all : List Seen) (place : ℕ) → IsLevel board → IsUnderWay board most all place → length all ≤ place →
+    NoneWithin board most (start board)
 none_is_left board most all place level under over =
-    search_decides board level most all under.begun.0 under.begun.1 under.begun.2 (λ i x at. under.closed i x (within i x at) at) (λ (i, x, at, solved). under.unsolved i x (omega arith) (within i x at) at solved)
+    search_decides board level most all under.begun.0 under.begun.1 under.begun.2 (λ i x at. under.closed i x (within i x at) at)
+    (λ (i, x, at, solved). under.unsolved i x (omega arith) (within i x at) at solved)
   where
     within : (i : ℕ) (x : Seen) → slice_get all i ≡ Some x → i < place
     within i x at = let lt = slice_get_within all i x at in omega (arith, lt, over)
 
 -- a search begins with the start alone
-pub under_way_first : (board : Board) (most : ℕ) (n : Scene) (v w : EntriesView) → IsNorm board (start board) n → v.seen ≡ [] → Grows v w → IsSeen w.seen 0 n → AllFit board w.seen → IsUnderWay board most w.seen 0
+pub under_way_first : (board : Board) (most : ℕ) (n : Scene) (v w : EntriesView) → IsNorm board (start board) n → v.seen ≡ [] → Grows v w → IsSeen w.seen 0 n →
+    AllFit board w.seen → IsUnderWay board most w.seen 0
 under_way_first board most n v w norm none grows seen fit = record {
   fit = fit;
   begun = (n, norm, seen);
@@ -212,9 +240,11 @@ entered_fit board v w n k (inl (seen, e)) fits fit = fit_none board v w e fit
 entered_fit board v w n k (inr e) fits fit = fit_one board v w n k e fits fit
 
 -- the start alone has entered
-pub begun_by : (board : Board) (most : ℕ) (n : Scene) (v w : EntriesView) → IsNorm board (start board) n → FitsLevel board n → v.seen ≡ [] → HasEntered v w n 0 → IsUnderWay board most w.seen 0
+pub begun_by : (board : Board) (most : ℕ) (n : Scene) (v w : EntriesView) → IsNorm board (start board) n → FitsLevel board n → v.seen ≡ [] →
+    HasEntered v w n 0 → IsUnderWay board most w.seen 0
 begun_by board most n v w norm fits none has = under_way_first board most n v w norm none (entered_grows v w n 0 has) (entered_seen v w n 0 has)
-    (entered_fit board v w n 0 has fits (λ i x at. absurd (let lt = slice_get_within v.seen i x at in let e = ap (λ (xs : List Seen). length xs) none in omega (arith, lt, e))))
+    (entered_fit board v w n 0 has fits (λ i x at. absurd (let lt = slice_get_within v.seen i x at in let e = ap (λ (xs : List Seen). length xs) none in
+    omega (arith, lt, e))))
 
 -- three things that are told of a good answer, and what follows from them
 pub on_ok_three : {T E A B C D : Type 0} (r : Result T E) → (A → B → C → D) → OnOk r A → OnOk r B → OnOk r C → OnOk r D

@@ -30,8 +30,10 @@ IsClosed board most all = (i : ℕ) (x : Seen) → slice_get all i ≡ Some x �
 
 -- then a position that was seen, and that a play solves with no more pushes than are left, means that a solved one was seen
 abbrev pub SearchFinds : Board → Type 0
-SearchFinds board = (most k m : ℕ) (all : List Seen) (s : Scene) → IsClosed board most all → IsSeen all k s → k + m ≤ most → SolvableWithin board m s → HasFound board all
+SearchFinds board = (most k m : ℕ) (all : List Seen) (s : Scene) → IsClosed board most all → IsSeen all k s → k + m ≤ most → SolvableWithin board m s →
+    HasFound board all
 
 -- so where the start was seen and no solved position, no play with so many pushes ends solved
 abbrev pub SearchDecides : Board → Type 0
-SearchDecides board = IsLevel board → (most : ℕ) (all : List Seen) (n : Scene) → IsNorm board (start board) n → IsSeen all 0 n → IsClosed board most all → ¬ (HasFound board all) → NoneWithin board most (start board)
+SearchDecides board = IsLevel board → (most : ℕ) (all : List Seen) (n : Scene) → IsNorm board (start board) n → IsSeen all 0 n → IsClosed board most all →
+    ¬ (HasFound board all) → NoneWithin board most (start board)

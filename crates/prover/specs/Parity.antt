@@ -15,7 +15,8 @@ is_odd (suc n) = not (is_odd n)
 
 -- two plays from one state to solved ones have pushes of one parity
 abbrev pub SolutionsAlike : Board → Type 0
-SolutionsAlike board = IsLevel board → (s t u : Scene) (ds es : List Dir) (ps qs : List Push) → FitsLevel board s → Play board Any s ds ps t → IsSolved board t → Play board Any s es qs u → IsSolved board u → is_odd (length ps) ≡ is_odd (length qs)
+SolutionsAlike board = IsLevel board → (s t u : Scene) (ds es : List Dir) (ps qs : List Push) → FitsLevel board s → Play board Any s ds ps t →
+    IsSolved board t → Play board Any s es qs u → IsSolved board u → is_odd (length ps) ≡ is_odd (length qs)
 
 -- no solution has fewer pushes
 abbrev pub NoneHasFewer : Board → ℕ → Type 0

@@ -105,6 +105,14 @@ impl Entries {
         true
     }
 
+    /// Forgets all positions. Their memory is kept for others.
+    pub(crate) fn clear(&mut self)
+        ensures { self.new ≡ record { boxes = self.old.boxes; seen = [] } }
+    {
+        self.squares.clear();
+        self.labels.clear();
+    }
+
     /// Appends a position. An error leaves the list as it was.
     pub(crate) fn append(&mut self, position: &Position, label: Label) -> Result<(), AllocError>
         requires { length position.now.boxes ≡ self.old.boxes }

@@ -15,28 +15,34 @@ use crate::store::Store;
 use grid::Position;
 use std::alloc::AllocError;
 
-/// Appends what the pushes of the positions from one place up to another lead to, but for what was seen, and for what no play
-/// with so many pushes at most passes through that ends solved.
+/// The places from one up to another.
+#[derive(Clone, Copy)]
+pub(crate) struct Span {
+    pub(crate) from: usize,
+    pub(crate) to: usize,
+}
+
+/// Appends what the pushes of the positions at some places lead to, but for what was seen, and for what no play with so many
+/// pushes at most passes through that ends solved.
 pub(crate) fn expand_all(
     pruner: &Pruner<'_>,
     store: &Store,
-    from: usize,
-    to: usize,
     most: u32,
+    span: Span,
     desk: &mut Desk,
     more: &mut Entries,
 ) -> Result<(), AllocError>
     requires fit { AllFit pruner.now store.now.seen }
-    requires within { to ≤ length store.now.seen }
+    requires within { span.to ≤ length store.now.seen }
     requires boxes { more.old.boxes ≡ box_count pruner.now }
     requires room { desk.old.scratch.size ≡ length pruner.now.cells }
     requires more_fit { AllFit pruner.now more.old.seen }
-    ensures expanded { OnOk result (AreExpanded pruner.now most store.now.seen more.new.seen from to) }
+    ensures expanded { OnOk result (AreExpanded pruner.now most store.now.seen more.new.seen span.from span.to) }
     ensures fit { OnOk result (AllFit pruner.now more.new.seen) }
     ensures boxes { more.new.boxes ≡ more.old.boxes }
     ensures room { desk.new.scratch.size ≡ desk.old.scratch.size }
 {
-    for place in from..to {
+    for place in span.from..span.to {
         let (position, pushes) = store.entries().get(place);
         if pushes < most {
             let label = Label {
@@ -71,7 +77,8 @@ fn expand(
     requires boxes { more.old.boxes ≡ box_count pruner.now }
     requires room { desk.old.scratch.size ≡ length pruner.now.cells }
     requires more_fit { AllFit pruner.now more.old.seen }
-    ensures keeps { OnOk result ((most k : ℕ) → most ≤ suc k + left → label.pushes ≡ suc k → Keeps pruner.now most (IsReached store.now.seen more.new.seen (suc k)) k position.now) }
+    ensures keeps { OnOk result ((most k : ℕ) → most ≤ suc k + left → label.pushes ≡ suc k →
+        Keeps pruner.now most (IsReached store.now.seen more.new.seen (suc k)) k position.now) }
     ensures fit { OnOk result (AllFit pruner.now more.new.seen) }
     ensures grows { Grows more.old more.new }
     ensures room { desk.new.scratch.size ≡ desk.old.scratch.size }

@@ -6,22 +6,24 @@ ghost use Rattle.grid.specs.Rising.{is_rising};
 ghost use Rattle.prover.specs.Frame.{Seen, IsSeen};
 ghost use Rattle.prices.specs.Solving.{NoneWithin};
 ghost use Rattle.prover.specs.Outcomes.{IsOutcome};
+ghost use Rattle.prover.specs.inside.Benches.{AreRoomy};
 ghost use Rattle.prover.specs.inside.Entries.{Grows};
 ghost use Rattle.prover.specs.inside.Progress.{AllFit, AreExpanded, AreUnsolved, IsUnderWay};
 
-use crate::desk::Desk;
-use crate::entries::{Entries, Label};
-use crate::expansion::expand_all;
+use crate::bench::{Bench, benches_of};
+use crate::effort::Effort;
+use crate::entries::Label;
+use crate::expansion::Span;
 use crate::outcome::{Outcome, SearchFault};
 use crate::pruner::Pruner;
 use crate::retracing::retrace;
+use crate::rounds::expand_round;
 use crate::solved::first_solved;
 use crate::store::Store;
+use area::Scratch;
 use grid::{Level, MAX_BOXES, Position};
 use std::alloc::{AllocError, Global};
-
-/// So many positions are expanded before what they lead to is entered.
-const ROUND: usize = 1024;
+use std::thread::Threads;
 
 // What is asked of a search: the greatest number of pushes, and beyond how many positions it gives up.
 #[derive(Clone, Copy)]
@@ -41,11 +43,18 @@ enum End {
 }
 
 /// Whether some play with at most `most` pushes solves the level. `Outcome::None` only where there is none, and
-/// `Outcome::Found` only with one. `Outcome::Limit` where the search holds more positions than `limit` once all positions are
-/// expanded that the same number of pushes leads to.
+/// `Outcome::Found` only with one. `Outcome::Limit` where the search holds more positions than the limit once all positions are
+/// expanded that the same number of pushes leads to. The outcome is the same for every number of workers; a worker for which
+/// no thread can be started works in the caller's.
 ///
 /// Positions are left out that are doomed, and those whose boxes need more pushes than are left.
-pub fn search(alloc: Global, level: &Level, most: u32, limit: u32) -> Result<Outcome, SearchFault>
+pub fn search<R: Threads + Sync>(
+    rt: &R,
+    alloc: Global,
+    level: &Level,
+    most: u32,
+    effort: Effort,
+) -> Result<Outcome, SearchFault>
     ensures outcome { IfOk result (λ outcome. IsOutcome level.now most outcome) }
     ensures few { OnOk result (box_count level.now ≤ MAX_BOXES) }
     ensures fault { IfErr result (λ fault. (fault ≡ SearchFault.OutOfMemory) ⊎ ((fault ≡ SearchFault.TooManyBoxes) × (MAX_BOXES < box_count level.now))) }
@@ -53,55 +62,66 @@ pub fn search(alloc: Global, level: &Level, most: u32, limit: u32) -> Result<Out
     let Some(first) = Position::start(level) else {
         return Err(SearchFault::TooManyBoxes);
     };
-    Ok(search_from(alloc, level, &first, Asked { most, limit })?)
+    Ok(search_from(rt, alloc, level, &first, most, effort)?)
 }
 
 // The search from the start.
-fn search_from(
+fn search_from<R: Threads + Sync>(
+    rt: &R,
     alloc: Global,
     level: &Level,
     first: &Position,
-    asked: Asked,
+    most: u32,
+    effort: Effort,
 ) -> Result<Outcome, AllocError>
     requires first { first.now ≡ start level.now }
     requires few { box_count level.now ≤ MAX_BOXES }
-    ensures { IfOk result (λ outcome. IsOutcome level.now asked.most outcome) }
+    ensures { IfOk result (λ outcome. IsOutcome level.now most outcome) }
 {
     let pruner = Pruner::of(alloc, level)?;
-    search_pruned(alloc, &pruner, first, asked)
+    search_pruned(rt, alloc, &pruner, first, most, effort)
 }
 
 // The search from the start, by what is to leave positions out.
-fn search_pruned(
+fn search_pruned<R: Threads + Sync>(
+    rt: &R,
     alloc: Global,
     pruner: &Pruner<'_>,
     first: &Position,
-    asked: Asked,
+    most: u32,
+    effort: Effort,
 ) -> Result<Outcome, AllocError>
     requires first { first.now ≡ start pruner.now }
     requires few { box_count pruner.now ≤ MAX_BOXES }
-    ensures { IfOk result (λ outcome. IsOutcome pruner.now asked.most outcome) }
+    ensures { IfOk result (λ outcome. IsOutcome pruner.now most outcome) }
 {
-    let mut desk = Desk::new(alloc, pruner.level())?;
-    search_at(alloc, pruner, first, asked, &mut desk)
+    let mut benches = benches_of(alloc, pruner.level(), effort.workers)?;
+    let asked = Asked {
+        most,
+        limit: effort.limit,
+    };
+    search_at(rt, alloc, pruner, first, asked, benches.as_mut_slice())
 }
 
-// That search, at a desk.
-fn search_at(
+// That search, at benches.
+fn search_at<R: Threads + Sync>(
+    rt: &R,
     alloc: Global,
     pruner: &Pruner<'_>,
     first: &Position,
     asked: Asked,
-    desk: &mut Desk,
+    benches: &mut [Bench],
 ) -> Result<Outcome, AllocError>
     requires first { first.now ≡ start pruner.now }
     requires few { box_count pruner.now ≤ MAX_BOXES }
-    requires room { desk.old.scratch.size ≡ length pruner.now.cells }
+    requires some { 0 < length benches.old }
+    requires roomy { AreRoomy pruner.now benches.old }
     ensures { IfOk result (λ outcome. IsOutcome pruner.now asked.most outcome) }
 {
     let level = pruner.level();
-    let mut store = begun(alloc, level, first, desk)?;
-    match run(pruner, asked, &mut store, desk)? {
+    let mut scratch = Scratch::new(alloc, level)?;
+    let mut store = begun(alloc, level, first, &mut scratch)?;
+    match run(rt, pruner, asked, &mut store, benches)? {
         End::Through => Ok(Outcome::None),
         End::Limit => Ok(Outcome::Limit),
         End::Solved(place) => retrace(
@@ -110,7 +130,7 @@ fn search_at(
             store.entries(),
             place,
             asked.most,
-            &mut desk.scratch,
+            &mut scratch,
         ),
     }
 }
@@ -120,17 +140,17 @@ fn begun(
     alloc: Global,
     level: &Level,
     first: &Position,
-    desk: &mut Desk,
+    scratch: &mut Scratch,
 ) -> Result<Store, AllocError>
     requires first { first.now ≡ start level.now }
     requires few { box_count level.now ≤ MAX_BOXES }
-    requires room { desk.old.scratch.size ≡ length level.now.cells }
+    requires room { scratch.old.size ≡ length level.now.cells }
     ensures begun { IfOk result (λ store. (most : ℕ) → IsUnderWay level.now most store.seen 0) }
     ensures boxes { IfOk result (λ store. store.boxes ≡ box_count level.now) }
-    ensures room { desk.new.scratch.size ≡ desk.old.scratch.size }
+    ensures room { scratch.new.size ≡ scratch.old.size }
 {
     level.tell_start();
-    let normal = area::normal(level, first, &mut desk.scratch);
+    let normal = area::normal(level, first, scratch);
     let mut store = Store::new(alloc, level.boxes())?;
     let label = Label {
         pushes: 0,
@@ -141,18 +161,19 @@ fn begun(
 }
 
 // Expands layer after layer, until one has no position or a solved one, or the limit is passed.
-fn run(
+fn run<R: Threads + Sync>(
+    rt: &R,
     pruner: &Pruner<'_>,
     asked: Asked,
     store: &mut Store,
-    desk: &mut Desk,
+    benches: &mut [Bench],
 ) -> Result<End, AllocError>
     requires under_way { IsUnderWay pruner.now asked.most store.old.seen 0 }
     requires boxes { store.old.boxes ≡ box_count pruner.now }
-    requires room { desk.old.scratch.size ≡ length pruner.now.cells }
+    requires some { 0 < length benches.old }
+    requires roomy { AreRoomy pruner.now benches.old }
     ensures through { IfOk result (λ end. end ≡ End.Through → NoneWithin pruner.now asked.most (start pruner.now)) }
     ensures fit { OnOk result (AllFit pruner.now store.new.seen) }
-    ensures room { desk.new.scratch.size ≡ desk.old.scratch.size }
 {
     pruner.level().tell();
     let mut from = 0;
@@ -167,7 +188,7 @@ fn run(
         if let Some(place) = first_solved(pruner.level(), store.entries(), from, end) {
             return Ok(End::Solved(place));
         }
-        if !expand_layer(pruner, asked, store, from, end, desk)? {
+        if !expand_layer(rt, pruner, asked, store, Span { from, to: end }, benches)? {
             return Ok(End::Limit);
         }
         from = end;
@@ -175,88 +196,36 @@ fn run(
     Ok(End::Limit)
 }
 
-// Expands the positions from one place up to another, and enters what they lead to; `false` where the limit is passed.
-fn expand_layer(
+// Expands the positions at some places, and enters what they lead to; `false` where the limit is passed.
+fn expand_layer<R: Threads + Sync>(
+    rt: &R,
     pruner: &Pruner<'_>,
     asked: Asked,
     store: &mut Store,
-    from: usize,
-    end: usize,
-    desk: &mut Desk,
+    span: Span,
+    benches: &mut [Bench],
 ) -> Result<bool, AllocError>
-    requires under_way { IsUnderWay pruner.now asked.most store.old.seen from }
-    requires unsolved { AreUnsolved pruner.now store.old.seen from end }
-    requires order { from ≤ end }
-    requires within { end ≤ length store.old.seen }
+    requires under_way { IsUnderWay pruner.now asked.most store.old.seen span.from }
+    requires unsolved { AreUnsolved pruner.now store.old.seen span.from span.to }
+    requires order { span.from ≤ span.to }
+    requires within { span.to ≤ length store.old.seen }
     requires boxes { store.old.boxes ≡ box_count pruner.now }
-    requires room { desk.old.scratch.size ≡ length pruner.now.cells }
-    ensures under_way { IfOk result (λ whole. IsTrue whole → IsUnderWay pruner.now asked.most store.new.seen end) }
+    requires benches { (0 < length benches.old) × AreRoomy pruner.now benches.old }
+    ensures under_way { IfOk result (λ whole. IsTrue whole → IsUnderWay pruner.now asked.most store.new.seen span.to) }
     ensures fit { OnOk result (AllFit pruner.now store.new.seen) }
     ensures grows { OnOk result (Grows store.old store.new) }
-    ensures room { desk.new.scratch.size ≡ desk.old.scratch.size }
+    ensures benches { (length benches.new ≡ length benches.old) × AreRoomy pruner.now benches.new }
 {
-    let mut place = from;
-    while place < end {
-        let to = round_end(place, end);
-        expand_round(pruner, asked.most, store, place, to, desk)?;
+    let mut place = span.from;
+    while place < span.to {
+        let rest = Span {
+            from: place,
+            to: span.to,
+        };
+        place = expand_round(rt, pruner, asked.most, store, rest, benches)?;
         if store.entries().len() > asked.limit as usize {
             return Ok(false);
         }
-        place = to;
     }
     Ok(true)
-}
-
-// Up to which place the round goes that begins at another.
-fn round_end(place: usize, end: usize) -> usize
-    requires { place < end }
-    ensures more { place < result }
-    ensures within { result ≤ end }
-{
-    if end - place > ROUND {
-        place + ROUND
-    } else {
-        end
-    }
-}
-
-// Expands the positions from one place up to another, and then enters what they lead to.
-fn expand_round(
-    pruner: &Pruner<'_>,
-    most: u32,
-    store: &mut Store,
-    from: usize,
-    to: usize,
-    desk: &mut Desk,
-) -> Result<(), AllocError>
-    requires under_way { IsUnderWay pruner.now most store.old.seen from }
-    requires unsolved { AreUnsolved pruner.now store.old.seen from to }
-    requires within { to ≤ length store.old.seen }
-    requires boxes { store.old.boxes ≡ box_count pruner.now }
-    requires room { desk.old.scratch.size ≡ length pruner.now.cells }
-    ensures under_way { OnOk result (IsUnderWay pruner.now most store.new.seen to) }
-    ensures grows { OnOk result (Grows store.old store.new) }
-    ensures room { desk.new.scratch.size ≡ desk.old.scratch.size }
-{
-    let alloc = desk.scratch.allocator();
-    let mut more = Entries::new(alloc, store.entries().boxes());
-    expand_all(pruner, store, from, to, most, desk, &mut more)?;
-    enter_all(store, &more)
-}
-
-// Enters positions. After an error some of them may have entered.
-fn enter_all(store: &mut Store, more: &Entries) -> Result<(), AllocError>
-    requires boxes { more.now.boxes ≡ store.old.boxes }
-    requires long { (i : ℕ) (x : Seen) → slice_get more.now.seen i ≡ Some x → length x.scene.boxes ≡ more.now.boxes }
-    requires rising { (i : ℕ) (x : Seen) → slice_get more.now.seen i ≡ Some x → is_rising x.scene.boxes ≡ true }
-    ensures seen { OnOk result ((i : ℕ) (x : Seen) → slice_get more.now.seen i ≡ Some x → IsSeen store.new.seen x.pushes x.scene) }
-    ensures fit { OnOk result ((board : Board) → AllFit board more.now.seen → AllFit board store.old.seen → AllFit board store.new.seen) }
-    ensures grows { OnOk result (Grows store.old store.new) }
-{
-    for place in 0..more.len() {
-        let (position, pushes) = more.get(place);
-        let parent = more.parent(place).unwrap_or(u32::MAX);
-        store.enter(&position, Label { pushes, parent })?;
-    }
-    Ok(())
 }

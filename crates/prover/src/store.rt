@@ -64,7 +64,8 @@ impl Store {
     /// positions as they were.
     pub(crate) fn enter(&mut self, position: &Position, label: Label) -> Result<(), AllocError>
         requires { length position.now.boxes ≡ self.old.boxes }
-        ensures { OnOk result ((IsSeen self.old.seen label.pushes position.now × (self.new ≡ self.old)) ⊎ (self.new ≡ with_entry self.old position.now label.pushes)) }
+        ensures { OnOk result ((IsSeen self.old.seen label.pushes position.now × (self.new ≡ self.old)) ⊎
+            (self.new ≡ with_entry self.old position.now label.pushes)) }
     {
         self.make_room()?;
         let found = free_slot(&self.entries, self.slots.as_slice(), position, label.pushes);

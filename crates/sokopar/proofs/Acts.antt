@@ -1,5 +1,6 @@
 -- Acts in order, and what becomes of known bytes.
-use Rattle.std.proofs.Common.{◌≡◌, ◌≤◌, List, [], ◌∷◌, ℕ, ◌++◌, length, take, Option, Some, None, refl, sym, ap, ◌∙◌, subst, arith, append_assoc, append-nil, length-take-le}
+use Rattle.std.proofs.Common.{◌≡◌, ◌≤◌, List, [], ◌∷◌, ℕ, ◌++◌, length, take, Option, Some, None, refl, sym, ap, ◌∙◌, subst, arith, append_assoc, append-nil}
+use Rattle.std.proofs.Common.{length-take-le}
 use Rattle.std.specs.Io.KnownBytes.{Consumes, Appends, Keeps, IsAtEnd}
 use Rattle.sokopar.specs.Ends.{Act, moved, Pass, none, more, WereAll}
 
@@ -23,11 +24,13 @@ consumes_none None bytes is = tt
 consumes_none (Some xs) bytes is = rw is refl
 
 -- some bytes more are gone
-pub consumes_more : (old mid new : Option (List ℕ)) (bytes all part : List ℕ) → Consumes old mid bytes → Consumes mid new part → all ≡ bytes ++ part → Consumes old new all
+pub consumes_more : (old mid new : Option (List ℕ)) (bytes all part : List ℕ) → Consumes old mid bytes → Consumes mid new part → all ≡ bytes ++ part →
+    Consumes old new all
 consumes_more None mid new bytes all part p q is = tt
 consumes_more (Some xs) None new bytes all part p q is = absurd p
 consumes_more (Some xs) (Some ys) None bytes all part p q is = absurd q
-consumes_more (Some xs) (Some ys) (Some zs) bytes all part p q is = p ∙ ap (λ (l : List ℕ). bytes ++ l) q ∙ sym (append_assoc bytes part zs) ∙ ap (λ (l : List ℕ). l ++ zs) (sym is)
+consumes_more (Some xs) (Some ys) (Some zs) bytes all part p q is = p ∙ ap (λ (l : List ℕ). bytes ++ l) q ∙ sym (append_assoc bytes part zs) ∙
+    ap (λ (l : List ℕ). l ++ zs) (sym is)
 
 -- a read that fails takes none of them
 pub consumes_kept : (old mid new : Option (List ℕ)) (bytes : List ℕ) → Consumes old mid bytes → Keeps mid new → Consumes old new bytes
@@ -37,7 +40,8 @@ consumes_kept (Some xs) (Some ys) None bytes p q = absurd q
 consumes_kept (Some xs) (Some ys) (Some zs) bytes p q = p ∙ ap (λ (l : List ℕ). bytes ++ l) (sym q)
 
 -- at the end all of them are gone
-pub were_all : (old mid new : Option (List ℕ)) (bytes buffer : List ℕ) (n : ℕ) → Consumes old mid bytes → Consumes mid new (take n buffer) → n ≡ 0 → IsAtEnd new → WereAll old new bytes
+pub were_all : (old mid new : Option (List ℕ)) (bytes buffer : List ℕ) (n : ℕ) → Consumes old mid bytes → Consumes mid new (take n buffer) → n ≡ 0 →
+    IsAtEnd new → WereAll old new bytes
 were_all None mid new bytes buffer n p q zero_long end = tt
 were_all (Some xs) None new bytes buffer n p q zero_long end = absurd p
 were_all (Some xs) (Some ys) None bytes buffer n p q zero_long end = absurd q

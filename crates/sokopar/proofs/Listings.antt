@@ -1,5 +1,7 @@
 -- A collection, as its boards are judged one by one.
-use Rattle.std.proofs.Common.{◌≡◌, ◌≢◌, ℕ, zero, suc, ◌+◌, ◌-◌, ◌<◌, ◌≤◌, Bool, true, false, cond, List, [], ◌∷◌, ◌++◌, length, Option, Some, None, Result, Ok, Err, IfOk, IfErr, ◌⊎◌, inl, inr, option_map, slice_get, ◌==◌, if◌then◌else◌, codes, decimal, refl, sym, ap, ◌∙◌, subst, arith, length-append, append_assoc}
+use Rattle.std.proofs.Common.{◌≡◌, ◌≢◌, ℕ, zero, suc, ◌+◌, ◌-◌, ◌<◌, ◌≤◌, Bool, true, false, cond, List, [], ◌∷◌, ◌++◌, length, Option, Some, None, Result, Ok}
+use Rattle.std.proofs.Common.{Err, IfOk, IfErr, ◌⊎◌, inl, inr, option_map, slice_get, ◌==◌, if◌then◌else◌, codes, decimal, refl, sym, ap, ◌∙◌, subst, arith}
+use Rattle.std.proofs.Common.{length-append, append_assoc}
 use Rattle.std.specs.List.{AllZip}
 use Rattle.std.proofs.lemmas.List.{append-nil}
 use Rattle.std.proofs.lemmas.List.Recursion.{is_count_by}
@@ -56,7 +58,8 @@ pub record HasChecked (bytes : List ℕ) (left : Collection) (text : List ℕ) (
   pub few : good ≤ levels
   pub room : levels + lines_left left ≤ MAX_FILE
 
-pub checked-none : (bytes : List ℕ) (left : Collection) (text : List ℕ) → HasRead bytes left [] → text ≡ [] → lines_left left ≤ MAX_FILE → HasChecked bytes left text 0 0
+pub checked-none : (bytes : List ℕ) (left : Collection) (text : List ℕ) → HasRead bytes left [] → text ≡ [] → lines_left left ≤ MAX_FILE →
+    HasChecked bytes left text 0 0
 checked-none bytes left text read none few = record {
   listing = [];
   so_far = record { founds = []; read = read; each = tt };
@@ -67,11 +70,13 @@ checked-none bytes left text read none few = record {
   room = omega arith;
 }
 
-lines-last : (n p : ℕ) (listing : List Listed) (listed : Listed) → p ≡ n + length listing → check_lines n (listing ++ listed ∷ []) ≡ check_lines n listing ++ check_line p listed
+lines-last : (n p : ℕ) (listing : List Listed) (listed : Listed) → p ≡ n + length listing →
+    check_lines n (listing ++ listed ∷ []) ≡ check_lines n listing ++ check_line p listed
 lines-last n p [] listed at =
     let same : n ≡ p = omega arith in append-nil (check_line n listed) ∙ ap (λ k. check_line k listed) same
 lines-last n p (l ∷ listing) listed at =
-    ap (λ t. check_line n l ++ t) (lines-last (suc n) p listing listed (omega arith)) ∙ sym (append_assoc (check_line n l) (check_lines (suc n) listing) (check_line p listed))
+    ap (λ t. check_line n l ++ t) (lines-last (suc n) p listing listed (omega arith)) ∙
+    sym (append_assoc (check_line n l) (check_lines (suc n) listing) (check_line p listed))
 
 abbrev goods : List Listed → ℕ
 goods [] = 0
@@ -99,7 +104,8 @@ good-bound true now good levels e few = let f : now ≡ good + 1 = e in omega ar
 good-bound false now good levels e few = let f : now ≡ good = e in omega arith
 
 -- a board more is checked
-pub checked-more : {bytes text : List ℕ} {first : Collection} {levels good : ℕ} (last : Collection) (entry : BoardEntry) (more : List ℕ) (now : ℕ) (t : Bool) (is : HasChecked bytes first text levels good)
+pub checked-more : {bytes text : List ℕ} {first : Collection} {levels good : ℕ} (last : Collection) (entry : BoardEntry) (more : List ℕ) (now : ℕ) (t : Bool)
+    (is : HasChecked bytes first text levels good)
     → GivesNext bytes is.so_far.founds last (Some entry) → lines_left last < lines_left first → t ≡ is_good (listed_of entry) → now ≡ cond t (good + 1) good
     → more ≡ text ++ check_line (levels + 1) (listed_of entry) → HasChecked bytes last more (levels + 1) now
 checked-more {bytes} {text} {first} {levels} {good} last entry more now t is next fewer lawful grown line =
@@ -108,7 +114,8 @@ checked-more {bytes} {text} {first} {levels} {good} last entry more now t is nex
     record {
       listing = is.listing ++ listed_of entry ∷ [];
       so_far = listed-more last entry is.so_far next;
-      lines = line ∙ ap (λ l. l ++ check_line (levels + 1) (listed_of entry)) is.lines ∙ sym (lines-last 1 (levels + 1) is.listing (listed_of entry) (omega arith));
+      lines = line ∙ ap (λ l. l ++ check_line (levels + 1) (listed_of entry)) is.lines ∙
+          sym (lines-last 1 (levels + 1) is.listing (listed_of entry) (omega arith));
       count = omega arith;
       lawful = grown ∙ ap (λ (b : Bool). cond b (good + 1) good) lawful ∙ ap (λ (n : ℕ). cond (is_good (listed_of entry)) (n + 1) n) before
           ∙ sym (goods-last is.listing (listed_of entry)) ∙ goods-are (is.listing ++ listed_of entry ∷ []);
@@ -126,8 +133,14 @@ pub checked-all : {bytes text : List ℕ} {left : Collection} {levels good : ℕ
 checked-all {bytes} {text} {left} {levels} {good} last is all report made = (
   is.listing,
   listed-all last is.so_far all,
-  made ∙ ap (λ t. record { text = t ++ line (decimal levels ++ codes " levels, " ++ decimal good ++ codes " good"); status = if good == levels then 0 else 1 }) is.lines
-      ∙ ap (λ n. record { text = check_lines 1 is.listing ++ line (decimal n ++ codes " levels, " ++ decimal good ++ codes " good"); status = if good == n then 0 else 1 }) is.count
+  made ∙ ap (λ t. record {
+    text = t ++ line (decimal levels ++ codes " levels, " ++ decimal good ++ codes " good");
+    status = if good == levels then 0 else 1;
+  }) is.lines
+      ∙ ap (λ n. record {
+        text = check_lines 1 is.listing ++ line (decimal n ++ codes " levels, " ++ decimal good ++ codes " good");
+        status = if good == n then 0 else 1;
+      }) is.count
       ∙ ap (λ n. record {
         text = check_lines 1 is.listing ++ line (decimal (length is.listing) ++ codes " levels, " ++ decimal n ++ codes " good");
         status = if n == length is.listing then 0 else 1;
@@ -164,8 +177,10 @@ get-other (l ∷ listing) listed zero at = refl
 get-other (l ∷ listing) listed (suc k) at = get-other listing listed k (λ e. at (ap suc e))
 
 -- a board more, which is that of the number
-pub looked-here : {bytes : List ℕ} {first : Collection} {number count : ℕ} {chosen : Option (Result Board LevelFault)} (last : Collection) (entry : BoardEntry) (is : HasLooked bytes first number count chosen)
-    → GivesNext bytes is.so_far.founds last (Some entry) → lines_left last < lines_left first → count + 1 ≡ number → (board : Result Board LevelFault) → board ≡ entry.board
+pub looked-here : {bytes : List ℕ} {first : Collection} {number count : ℕ} {chosen : Option (Result Board LevelFault)} (last : Collection) (entry : BoardEntry)
+    (is : HasLooked bytes first number count chosen)
+    → GivesNext bytes is.so_far.founds last (Some entry) → lines_left last < lines_left first → count + 1 ≡ number → (board : Result Board LevelFault) →
+    board ≡ entry.board
     → HasLooked bytes last number (count + 1) (Some board)
 looked-here {bytes} {first} {number} {count} {chosen} last entry is next fewer here board same =
     let counted = is.counted in let long = length-append is.listing (listed_of entry ∷ []) in let room = is.room in
@@ -178,15 +193,18 @@ looked-here {bytes} {first} {number} {count} {chosen} last entry is next fewer h
     }
 
 -- or another one
-pub looked-on : {bytes : List ℕ} {first : Collection} {number count : ℕ} {chosen : Option (Result Board LevelFault)} (last : Collection) (entry : BoardEntry) (is : HasLooked bytes first number count chosen)
-    → GivesNext bytes is.so_far.founds last (Some entry) → lines_left last < lines_left first → 1 ≤ number → count + 1 ≢ number → HasLooked bytes last number (count + 1) chosen
+pub looked-on : {bytes : List ℕ} {first : Collection} {number count : ℕ} {chosen : Option (Result Board LevelFault)} (last : Collection) (entry : BoardEntry)
+    (is : HasLooked bytes first number count chosen)
+    → GivesNext bytes is.so_far.founds last (Some entry) → lines_left last < lines_left first → 1 ≤ number → count + 1 ≢ number →
+    HasLooked bytes last number (count + 1) chosen
 looked-on {bytes} {first} {number} {count} {chosen} last entry is next fewer some other =
     let counted = is.counted in let long = length-append is.listing (listed_of entry ∷ []) in let room = is.room in
     record {
       listing = is.listing ++ listed_of entry ∷ [];
       so_far = listed-more last entry is.so_far next;
       counted = omega arith;
-      is = is.is ∙ sym (ap (option_map (λ listed. listed.board)) (get-other is.listing (listed_of entry) (number - 1) (λ e. other (omega (arith, e, counted, some)))));
+      is = is.is ∙ sym (ap (option_map (λ listed. listed.board))
+          (get-other is.listing (listed_of entry) (number - 1) (λ e. other (omega (arith, e, counted, some)))));
       room = omega arith;
     }
 
@@ -199,7 +217,8 @@ replay_read old new n level board text report is reads replayed =
     (Some text, reads, subst P (sym is) (text, refl, replayed))
 
 -- the level that was chosen is that of the number
-pub at_number : {E : Type 0} (bytes : List ℕ) (n : ℕ) (chosen : Option (Result Board LevelFault)) (P : Option (Result Board LevelFault) → Report → Type 0) (result : Result Report E)
+pub at_number : {E : Type 0} (bytes : List ℕ) (n : ℕ) (chosen : Option (Result Board LevelFault)) (P : Option (Result Board LevelFault) → Report →
+    Type 0) (result : Result Report E)
     → (listing : List Listed) × IsListing bytes listing × (chosen ≡ level_at listing n) → IfOk result (λ r. P chosen r)
     → IfOk result (λ r. (listing : List Listed) × IsListing bytes listing × P (level_at listing n) r)
 at_number bytes n chosen P (Ok r) has is = (has.0, has.1, subst (λ at. P at r) has.2 is)

@@ -1,5 +1,6 @@
 -- The marks of squares, and rows of them.
-use Rattle.std.proofs.Common.{◌≡◌, ℕ, suc, ◌+◌, ◌-◌, ◌<◌, ◌≤◌, min, Bool, true, false, ◌⊎◌, subst, ◌==◌, List, [], ◌∷◌, ◌++◌, length, take, drop, flat_map, slice_index, refl, sym, ◌∙◌, ap, arith, inl, inr, length-append, append_assoc}
+use Rattle.std.proofs.Common.{◌≡◌, ℕ, suc, ◌+◌, ◌-◌, ◌<◌, ◌≤◌, min, Bool, true, false, ◌⊎◌, subst, ◌==◌, List, [], ◌∷◌, ◌++◌, length, take, drop, flat_map}
+use Rattle.std.proofs.Common.{slice_index, refl, sym, ◌∙◌, ap, arith, inl, inr, length-append, append_assoc}
 use Rattle.std.proofs.lemmas.List.{get_or_append_left, take_min, drop_min}
 use Rattle.std.proofs.Math.Seq.{get_or-append_seam}
 use Rattle.std.proofs.lemmas.Bool.{cases_lt}
@@ -45,7 +46,8 @@ cut_other (b ∷ row) last is = ap (before_rest (b == 32) b) (cut_other row last
 
 -- the rows that are left are one and those after it
 map_step : (rows i cols : ℕ) (rest : List ℕ) → i < rows
-    → flat_map marked_row (rows_from (rows - i) cols rest) ≡ marked_row (take (min cols (length rest)) rest) ++ flat_map marked_row (rows_from (rows - (i + 1)) cols (drop (min cols (length rest)) rest))
+    → flat_map marked_row (rows_from (rows - i) cols rest) ≡
+    marked_row (take (min cols (length rest)) rest) ++ flat_map marked_row (rows_from (rows - (i + 1)) cols (drop (min cols (length rest)) rest))
 map_step rows i cols rest below =
     let left : rows - i ≡ suc (rows - (i + 1)) = omega arith in
     let t = take_min cols rest in
@@ -53,8 +55,10 @@ map_step rows i cols rest below =
     rw left (rw t (rw d refl))
 
 -- after the next row the text with the rows that are left is as before
-pub map_goes_on : (rows i cols : ℕ) (rest row later text new : List ℕ) → i < rows → row ≡ take (min cols (length rest)) rest → later ≡ drop (min cols (length rest)) rest
-    → new ≡ text ++ marked_row row → new ++ flat_map marked_row (rows_from (rows - (i + 1)) cols later) ≡ text ++ flat_map marked_row (rows_from (rows - i) cols rest)
+pub map_goes_on : (rows i cols : ℕ) (rest row later text new : List ℕ) → i < rows → row ≡ take (min cols (length rest)) rest →
+    later ≡ drop (min cols (length rest)) rest
+    → new ≡ text ++ marked_row row → new ++ flat_map marked_row (rows_from (rows - (i + 1)) cols later) ≡
+    text ++ flat_map marked_row (rows_from (rows - i) cols rest)
 map_goes_on rows i cols rest row later text new below is_row is_later is_new =
     let step = map_step rows i cols rest below in
     rw (is_new, is_later, is_row, step) (append_assoc text (marked_row (take (min cols (length rest)) rest)) _)

@@ -1,5 +1,6 @@
 -- Two reports of one input are the same.
-use Rattle.std.proofs.Common.{◌≡◌, ℕ, zero, suc, ◌-◌, ◌<◌, Bool, true, false, List, [], ◌∷◌, length, refl, sym, ap, subst, ◌∙◌, arith, inl, inr, Result, Ok, Err, IfOk, Option, Some, None, unwrap_or, option_map}
+use Rattle.std.proofs.Common.{◌≡◌, ℕ, zero, suc, ◌-◌, ◌<◌, Bool, true, false, List, [], ◌∷◌, length, refl, sym, ap, subst, ◌∙◌, arith, inl, inr, Result, Ok}
+use Rattle.std.proofs.Common.{Err, IfOk, Option, Some, None, unwrap_or, option_map}
 use Rattle.std.specs.Prelude.{⊤, slice_get, flat_map}
 use Rattle.std.specs.List.{AllZip}
 use Rattle.std.proofs.lemmas.List.{ext_get_or}
@@ -21,7 +22,8 @@ use Rattle.sokopar.specs.DeadMap.{IsMark, wall, goal, dead, other, AreMarks, IsD
 use Rattle.sokopar.specs.Listing.{Listed, IsListed, IsListing, level_at}
 use Rattle.sokopar.specs.OneAtMost.{IsOneAtMost}
 use Rattle.sokopar.specs.OneReport.{IsOnlyReport}
-use Rattle.sokopar.specs.Report.{Report, IsReplayOf, IsCheckReport, IsShowReport, IsReplayReport, ReplaysOn, ReportsOn, IsShown, check_report, verdict_report, text_fault_report}
+use Rattle.sokopar.specs.Report.{Report, IsReplayOf, IsCheckReport, IsShowReport, IsReplayReport, ReplaysOn, ReportsOn, IsShown, check_report, verdict_report}
+use Rattle.sokopar.specs.Report.{text_fault_report}
 use Rattle.sokopar.specs.Solving.{IsSolveOf, IsSolveReport, answer_report}
 use Rattle.sokopar.specs.inside.Parts.{MapsOn, SolvesOn}
 
@@ -172,7 +174,8 @@ same_replay reading judging board bytes report others (inr (fault, bad, told)) (
     let same : fault₁ ≡ fault = ap (fault_or fault) (same_reading reading bytes (Err fault) (Err fault₁) bad bad₁) in
     tells ∙ ap text_fault_report same ∙ sym told
 
-same_replay_on : IsOneReading → IsOneVerdict → (n : ℕ) (level : Option (Result Board LevelFault)) (solution : Option (List ℕ)) → IsOneAtMost (λ report. ReplaysOn n level solution report)
+same_replay_on : IsOneReading → IsOneVerdict → (n : ℕ) (level : Option (Result Board LevelFault)) (solution : Option (List ℕ)) →
+    IsOneAtMost (λ report. ReplaysOn n level solution report)
 same_replay_on reading judging n None solution report others told also = also.1 ∙ sym told.1
 same_replay_on reading judging n (Some (Err fault)) solution report others told also = also.1 ∙ sym told.1
 same_replay_on reading judging n (Some (Ok board)) solution report others (xs, read, told) (ys, reads, also) =
@@ -191,7 +194,8 @@ same_solve law cap limit board lawful report others (inr (few, more)) (inl (many
 same_solve law cap limit board lawful report others (inr (few, (a, is, told))) (inr (few₁, (b, iss, also))) =
     also ∙ ap (answer_report cap limit) (law (capped board cap) limit b a lawful iss is) ∙ sym told
 
-same_solve_on : IsOneAnswer → (cap : Option ℕ) (limit n : ℕ) (level : Option (Result Board LevelFault)) → ((board : Board) → level ≡ Some (Ok board) → IsLevel board)
+same_solve_on : IsOneAnswer → (cap : Option ℕ) (limit n : ℕ) (level : Option (Result Board LevelFault)) →
+    ((board : Board) → level ≡ Some (Ok board) → IsLevel board)
     → IsOneAtMost (λ report. SolvesOn cap limit n level report)
 same_solve_on law cap limit n None lawful report others told also = also ∙ sym told
 same_solve_on law cap limit n (Some (Err fault)) lawful report others told also = also ∙ sym told
@@ -218,19 +222,22 @@ one_dead_report law n bytes report others (xs, lists, told) (ys, listed, also) =
     let P : List Listed → Type 0 = λ l. MapsOn n (level_at l n) others in
     same_map n (level_at xs n) report others told (subst P (one_listing law bytes xs ys lists listed) also)
 
-pub one_replay_report : AreOneCollection → IsOneReading → IsOneVerdict → (n : ℕ) (bytes : List ℕ) (solution : Option (List ℕ)) → IsOneAtMost (λ report. IsReplayReport n bytes solution report)
+pub one_replay_report : AreOneCollection → IsOneReading → IsOneVerdict → (n : ℕ) (bytes : List ℕ) (solution : Option (List ℕ)) →
+    IsOneAtMost (λ report. IsReplayReport n bytes solution report)
 one_replay_report law reading judging n bytes solution report others (xs, lists, told) (ys, listed, also) =
     let P : List Listed → Type 0 = λ l. ReplaysOn n (level_at l n) solution others in
     same_replay_on reading judging n (level_at xs n) solution report others told (subst P (one_listing law bytes xs ys lists listed) also)
 
-pub one_solve_report : AreOneCollection → IsOneAnswer → (cap : Option ℕ) (limit n : ℕ) (bytes : List ℕ) → IsOneAtMost (λ report. IsSolveReport cap limit n bytes report)
+pub one_solve_report : AreOneCollection → IsOneAnswer → (cap : Option ℕ) (limit n : ℕ) (bytes : List ℕ) →
+    IsOneAtMost (λ report. IsSolveReport cap limit n bytes report)
 one_solve_report law answering cap limit n bytes report others (xs, lists, told) (ys, listed, also) =
     let P : List Listed → Type 0 = λ l. SolvesOn cap limit n (level_at l n) others in
     same_solve_on answering cap limit n (level_at xs n) (λ board. lawful_at lists.0 xs (n - 1) board lists.2) report others told
     (subst P (one_listing law bytes xs ys lists listed) also)
 
 -- a report that was made is the only one
-pub only_report : {E : Type 0} (IsReport : List ℕ → Report → Type 0) (bytes : List ℕ) → IsOneAtMost (λ report. IsReport bytes report) → (result : Result Report E)
+pub only_report : {E : Type 0} (IsReport : List ℕ → Report → Type 0) (bytes : List ℕ) → IsOneAtMost (λ report. IsReport bytes report) →
+    (result : Result Report E)
     → IfOk result (λ report. IsReport bytes report) → IfOk result (λ report. IsOnlyReport IsReport bytes report)
 only_report IsReport bytes one (Ok report) is = record { is = is; only = λ others also. one report others is also }
 only_report IsReport bytes one (Err e) is = tt

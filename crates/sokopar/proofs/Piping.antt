@@ -32,7 +32,8 @@ record HasLevel (bytes : List ℕ) (n : ℕ) (board : Board) : Type 0 where
   is : level_at listing n ≡ Some (Ok board)
 
 -- a solution that is told replays as told
-told_replays : Laws → (cap : Option ℕ) (limit n : ℕ) (bytes : List ℕ) (board : Board) → HasLevel bytes n board → (report : Report) (given : Answer) → IsAnswer (capped board cap) limit given
+told_replays : Laws → (cap : Option ℕ) (limit n : ℕ) (bytes : List ℕ) (board : Board) → HasLevel bytes n board → (report : Report) (given : Answer) →
+    IsAnswer (capped board cap) limit given
     → report ≡ answer_report cap limit given → report.status ≡ 0 → ReplaysAsTold n bytes report
 told_replays laws cap limit n bytes board has report (answer.Solved moves pushes positions) is told good =
     let text = line (bytes_of moves) in
@@ -58,7 +59,8 @@ told_replays laws cap limit n bytes board has report (answer.NoneWithin position
 told_replays laws cap limit n bytes board has report answer.Limit is told good =
     let bad : 4 ≡ 0 = sym (ap (λ (r : Report). r.status) told) ∙ good in absurd (omega (arith, bad))
 
-at_level : Laws → (cap : Option ℕ) (limit n : ℕ) (bytes : List ℕ) (listing : List Listed) → IsListing bytes listing → (report : Report) (level : Option (Result Board LevelFault))
+at_level : Laws → (cap : Option ℕ) (limit n : ℕ) (bytes : List ℕ) (listing : List Listed) → IsListing bytes listing →
+    (report : Report) (level : Option (Result Board LevelFault))
     → level_at listing n ≡ level → SolvesOn cap limit n level report → report.status ≡ 0 → ReplaysAsTold n bytes report
 at_level laws cap limit n bytes listing lists report None is told good =
     let bad : 1 ≡ 0 = sym (ap (λ (r : Report). r.status) told) ∙ good in absurd (omega (arith, bad))
@@ -69,6 +71,7 @@ at_level laws cap limit n bytes listing lists report (Some (Ok board)) is (inl (
 at_level laws cap limit n bytes listing lists report (Some (Ok board)) is (inr (few, (given, answers, told))) good =
     told_replays laws cap limit n bytes board (record { listing = listing; lists = lists; is = is }) report given answers told good
 
-pub printed_solution_replays : Laws → (cap : Option ℕ) (limit n : ℕ) (bytes : List ℕ) (report : Report) → IsSolveReport cap limit n bytes report → report.status ≡ 0 → ReplaysAsTold n bytes report
+pub printed_solution_replays : Laws → (cap : Option ℕ) (limit n : ℕ) (bytes : List ℕ) (report : Report) → IsSolveReport cap limit n bytes report →
+    report.status ≡ 0 → ReplaysAsTold n bytes report
 printed_solution_replays laws cap limit n bytes report (listing, lists, solves) good =
     at_level laws cap limit n bytes listing lists report (level_at listing n) refl solves good

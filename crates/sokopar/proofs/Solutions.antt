@@ -15,7 +15,8 @@ use Rattle.successors.specs.Capping.{capped}
 use Rattle.solo.specs.Answers.{IsAnswer}
 use Rattle.sokopar.specs.Report.{line}
 
-pub solution_replays : (board : Board) (cap : Option ℕ) (limit : ℕ) (moves : List Letter) (pushes positions : ℕ) → IsAnswer (capped board cap) limit (answer.Solved moves pushes positions) → IsVerdict board moves (verdict.Solved pushes (length moves))
+pub solution_replays : (board : Board) (cap : Option ℕ) (limit : ℕ) (moves : List Letter) (pushes positions : ℕ) →
+    IsAnswer (capped board cap) limit (answer.Solved moves pushes positions) → IsVerdict board moves (verdict.Solved pushes (length moves))
 solution_replays board cap limit moves pushes positions is =
     let writes = is.0 in
     let count : upper_count moves ≡ length writes.list = sym (ap (λ (ls : List Letter). upper_count ls) writes.written) ∙ pushes_of_play writes.play in (

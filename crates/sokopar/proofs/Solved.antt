@@ -10,8 +10,10 @@ use Rattle.sokopar.specs.Report.{Report}
 use Rattle.sokopar.specs.Solving.{IsSolveOf, answer_report}
 
 -- an answer to a level that is this one, told as a report
-pub solves_by : {E : Type 0} (cap : Option ℕ) (limit : ℕ) (board held : Board) (answer : Answer) (result : Result Report E) → held ≡ board → box_count held ≤ MAX_BOXES
-    → IsAnswer (capped held cap) limit answer → IfOk result (λ report. report ≡ answer_report cap limit answer) → IfOk result (λ report. IsSolveOf cap limit board report)
+pub solves_by : {E : Type 0} (cap : Option ℕ) (limit : ℕ) (board held : Board) (answer : Answer) (result : Result Report E) → held ≡ board →
+    box_count held ≤ MAX_BOXES
+    → IsAnswer (capped held cap) limit answer → IfOk result (λ report. report ≡ answer_report cap limit answer) →
+    IfOk result (λ report. IsSolveOf cap limit board report)
 solves_by cap limit board held answer (Ok report) same few is told =
     let here = subst (λ (b : Board). IsAnswer (capped b cap) limit answer) same is in
     let size = subst (λ (b : Board). box_count b ≤ MAX_BOXES) same few in

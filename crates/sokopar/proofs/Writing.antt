@@ -36,7 +36,8 @@ taken_all old new text rest taken is =
     subst P (sym whole) (record { taken = taken.taken; holds = taken.holds })
 
 -- a write failed
-pub taken_part : (old mid new : Seen) (text rest : List ℕ) → Taken old mid text rest → new.acts ≡ mid.acts ++ failed ∷ [] → Keeps mid.known new.known → WritesPart old new text
+pub taken_part : (old mid new : Seen) (text rest : List ℕ) → Taken old mid text rest → new.acts ≡ mid.acts ++ failed ∷ [] → Keeps mid.known new.known →
+    WritesPart old new text
 taken_part old mid new text rest before act kept = record {
   part = before.part;
   rest = rest;

@@ -36,7 +36,8 @@ beaten_report pushes fewer letters = record {
 abbrev pub IsJudged : ℕ → Board → ℕ → Report → Type 0
 IsJudged limit board pushes report =
     (NoneHasFewer board pushes × (report ≡ optimal_report pushes)) ⊎
-    (((fewer : ℕ) × (letters : List Letter) × IsVerdict board letters (Solved fewer (length letters)) × (fewer < pushes) × (report ≡ beaten_report pushes fewer letters)) ⊎
+    (((fewer : ℕ) × (letters : List Letter) × IsVerdict board letters (Solved fewer (length letters)) × (fewer < pushes) ×
+    (report ≡ beaten_report pushes fewer letters)) ⊎
     (report ≡ one_line (codes "limit " ++ decimal limit ++ codes " reached") 4))
 
 -- the report of letters by the verdict on them: where they solve the level, that its boxes are too many, or what the solution is

@@ -1,5 +1,6 @@
 -- What the program writes, and its exit status.
-use Rattle.std.specs.Prelude.{◌≡◌, ℕ, suc, ◌==◌, if◌then◌else◌, List, [], ◌∷◌, ◌++◌, length, count_by, is_ok, Result, Ok, Err, Option, Some, None, codes, decimal, ◌⊎◌}
+use Rattle.std.specs.Prelude.{◌≡◌, ℕ, suc, ◌==◌, if◌then◌else◌, List, [], ◌∷◌, ◌++◌, length, count_by, is_ok, Result, Ok, Err, Option, Some, None, codes}
+use Rattle.std.specs.Prelude.{decimal, ◌⊎◌}
 use Rattle.grid.specs.Board.{Board}
 use Rattle.grid.specs.Lawful.{row_count, box_count}
 use Rattle.grid.specs.declared.fault.LevelFault.{LevelFault}

@@ -33,7 +33,8 @@ answer_report cap limit Limit = one_line (codes "limit " ++ decimal limit ++ cod
 abbrev pub IsSolveOf : Option ℕ → ℕ → Board → Report → Type 0
 IsSolveOf cap limit board report =
     ((MAX_BOXES < box_count board) × (report ≡ one_line (codes "too many boxes") 1)) ⊎
-    ((box_count board ≤ MAX_BOXES) × ((answer : Answer) × IsAnswer (record { board = board; cap = cap }) limit answer × (report ≡ answer_report cap limit answer)))
+    ((box_count board ≤ MAX_BOXES) ×
+    ((answer : Answer) × IsAnswer (record { board = board; cap = cap }) limit answer × (report ≡ answer_report cap limit answer)))
 
 -- the report of solving level n of these bytes under a cap of pushes and a limit of positions
 abbrev pub IsSolveReport : Option ℕ → ℕ → ℕ → List ℕ → Report → Type 0

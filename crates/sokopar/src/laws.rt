@@ -27,7 +27,8 @@ pub fn solution_replays()
 /// [`run_replay`](crate::run_replay), with the numbers that were told with it, where the solution has at most
 /// [`MAX_MOVES`](lurd::MAX_MOVES) moves.
 pub fn printed_solution_replays()
-    ensures { (cap : Option ℕ) (limit n : ℕ) (bytes : List ℕ) (report : Report) → IsSolveReport cap limit n bytes report → report.status ≡ 0 → ReplaysAsTold n bytes report }
+    ensures { (cap : Option ℕ) (limit n : ℕ) (bytes : List ℕ) (report : Report) → IsSolveReport cap limit n bytes report → report.status ≡ 0 →
+        ReplaysAsTold n bytes report }
 {
     written_text();
     one_reading();

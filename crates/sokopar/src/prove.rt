@@ -17,8 +17,9 @@ use crate::source::Source;
 use crate::text::Text;
 use grid::{Level, Moves};
 use lurd::{Verdict, parse, replay};
-use prover::{Outcome, SearchFault};
+use prover::{Effort, Outcome, SearchFault};
 use std::alloc::{AllocError, Global};
+use std::thread::Threads;
 use xsb::MAX_FILE;
 
 /// The report that no solution has fewer pushes.
@@ -49,11 +50,17 @@ fn beaten(alloc: Global, pushes: usize, fewer: usize, moves: &Moves) -> Result<R
 
 #[tactic(auto, using(crate::proofs::Judging::of_optimal, crate::proofs::Judging::of_beaten, crate::proofs::Judging::of_limit, crate::proofs::Judging::of_many))]
 /// The report of a solution of so many pushes.
-fn judged(alloc: Global, level: &Level, pushes: usize, limit: u32) -> Result<Report, AllocError>
+fn judged<R: Threads + Sync>(
+    rt: &R,
+    alloc: Global,
+    level: &Level,
+    pushes: usize,
+    effort: Effort,
+) -> Result<Report, AllocError>
     requires { SomeHas level.now pushes }
-    ensures { IfOk result (λ report. (moves : ℕ) → IsProvedBy limit level.now (Verdict.Solved pushes moves) report) }
+    ensures { IfOk result (λ report. (moves : ℕ) → IsProvedBy effort.limit level.now (Verdict.Solved pushes moves) report) }
 {
-    match prover::judge(alloc, level, pushes, limit) {
+    match prover::judge(rt, alloc, level, pushes, effort) {
         Ok(Outcome::None) => optimal(alloc, pushes),
         Ok(
             Outcome::Found {
@@ -61,7 +68,7 @@ fn judged(alloc: Global, level: &Level, pushes: usize, limit: u32) -> Result<Rep
                 pushes: fewer,
             },
         ) => beaten(alloc, pushes, fewer, &moves),
-        Ok(Outcome::Limit) => limit_reached(alloc, limit),
+        Ok(Outcome::Limit) => limit_reached(alloc, effort.limit),
         Err(SearchFault::TooManyBoxes) => too_many_boxes(alloc),
         Err(SearchFault::OutOfMemory) => Err(AllocError),
     }
@@ -69,17 +76,18 @@ fn judged(alloc: Global, level: &Level, pushes: usize, limit: u32) -> Result<Rep
 
 #[tactic(auto, using(crate::proofs::Judging::some_has, crate::proofs::Judging::of_solved, crate::proofs::Judging::of_unsolved, crate::proofs::Judging::of_blocked, crate::proofs::Judging::of_wrong_case))]
 /// The report of moves.
-fn moves_report(
+fn moves_report<R: Threads + Sync>(
+    rt: &R,
     alloc: Global,
     level: &Level,
     moves: &Moves,
-    limit: u32,
+    effort: Effort,
 ) -> Result<Report, AllocError>
-    ensures { IfOk result (λ report. (v : Verdict) × IsVerdict level.now moves.now v × IsProvedBy limit level.now v report) }
+    ensures { IfOk result (λ report. (v : Verdict) × IsVerdict level.now moves.now v × IsProvedBy effort.limit level.now v report) }
 {
     let verdict = replay(alloc, level, moves)?;
     match verdict {
-        Verdict::Solved { pushes, .. } => judged(alloc, level, pushes, limit),
+        Verdict::Solved { pushes, .. } => judged(rt, alloc, level, pushes, effort),
         Verdict::Unsolved { .. } => verdict_report(alloc, verdict),
         Verdict::Blocked { .. } => verdict_report(alloc, verdict),
         Verdict::WrongCase { .. } => verdict_report(alloc, verdict),
@@ -88,32 +96,34 @@ fn moves_report(
 
 #[tactic(auto, using(crate::proofs::Judging::of_text, crate::proofs::Judging::of_fault))]
 /// The report of proving a text on a level.
-fn prove_report(
+fn prove_report<R: Threads + Sync>(
+    rt: &R,
     alloc: Global,
     level: &Level,
     solution: &[u8],
-    limit: u32,
+    effort: Effort,
 ) -> Result<Report, AllocError>
-    ensures { IfOk result (λ report. IsProofOf limit level.now solution.now report) }
+    ensures { IfOk result (λ report. IsProofOf effort.limit level.now solution.now report) }
 {
     match parse(alloc, solution) {
-        Ok(moves) => moves_report(alloc, level, &moves, limit),
+        Ok(moves) => moves_report(rt, alloc, level, &moves, effort),
         Err(fault) => text_fault_report(alloc, fault),
     }
 }
 
 #[tactic(auto, using(crate::proofs::Reading::stops_after))]
 /// The report of proving on level N; the solution is read to its end exactly where the level is lawful.
-fn prove_level<T: Source>(
+fn prove_level<R: Threads + Sync, T: Source>(
+    rt: &R,
     alloc: Global,
     chosen: &Chosen,
     number: u32,
-    limit: u32,
+    effort: Effort,
     solution: &mut T,
 ) -> Result<Report, RunFault>
     requires { 1 ≤ number }
     ensures ok { IfOk result (λ report. (text : Option (List ℕ)) × ReadsIfSome (T.seen solution.old) (T.seen solution.new) text
-        × ProvesOn limit number chosen.now text report) }
+        × ProvesOn effort.limit number chosen.now text report) }
     ensures err { IfErr result (λ fault. ((fault ≡ RunFault.OutOfMemory) × (T.seen solution.new ≡ T.seen solution.old))
         ⊎ ((board : Board) × (chosen.now ≡ Some (Ok board)) × Stops (T.seen solution.old) (T.seen solution.new) fault)) }
 {
@@ -122,26 +132,27 @@ fn prove_level<T: Source>(
         Some(Err(fault)) => Ok(fault_report(alloc, *fault)?),
         Some(Ok(level)) => {
             let text = read_whole(alloc, solution)?;
-            Ok(prove_report(alloc, level, text.as_slice(), limit)?)
+            Ok(prove_report(rt, alloc, level, text.as_slice(), effort)?)
         }
     }
 }
 
 /// The report of proving on level N of a collection; the solution is read to its end exactly where the level is lawful.
-pub(crate) fn prove_in<T: Source>(
+pub(crate) fn prove_in<R: Threads + Sync, T: Source>(
+    rt: &R,
     alloc: Global,
     bytes: &[u8],
     number: u32,
-    limit: u32,
+    effort: Effort,
     solution: &mut T,
 ) -> Result<Report, RunFault>
     requires number { 1 ≤ number }
     requires bound { length bytes.now ≤ MAX_FILE }
     ensures ok { IfOk result (λ report. (text : Option (List ℕ)) × ReadsIfSome (T.seen solution.old) (T.seen solution.new) text
-        × IsProveReport limit number bytes.now text report) }
+        × IsProveReport effort.limit number bytes.now text report) }
     ensures err { IfErr result (λ fault. ((fault ≡ RunFault.OutOfMemory) × (T.seen solution.new ≡ T.seen solution.old))
         ⊎ ((board : Board) × IsLevelOf bytes.now number board × Stops (T.seen solution.old) (T.seen solution.new) fault)) }
 {
     let chosen = level_of(alloc, bytes, number)?;
-    prove_level(alloc, &chosen, number, limit, solution)
+    prove_level(rt, alloc, &chosen, number, effort, solution)
 }

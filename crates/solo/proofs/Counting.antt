@@ -15,27 +15,32 @@ use Rattle.solo.proofs.Each.{set_here, set_there}
 use Rattle.solo.proofs.lemmas.Together.{back_to}
 
 -- one more book is counted
-pub held_more : (books : List BookView) (place : ℕ) (v : BookView) → slice_get books place ≡ Some v → all_held (take (place + 1) books) ≡ all_held (take place books) + held v
+pub held_more : (books : List BookView) (place : ℕ) (v : BookView) → slice_get books place ≡ Some v →
+    all_held (take (place + 1) books) ≡ all_held (take place books) + held v
 held_more books place v at =
     let one : place + 1 ≡ suc place = omega arith in
     ap (λ n. all_held (take n books)) one ∙ ap all_held (take_push books place v at) ∙ sum_by_push held (take place books) v
 
 -- and is lawful
-pub lawful_more : (books : List BookView) (place : ℕ) (v : BookView) → slice_get books place ≡ Some v → IsLawfulBook v → ((i : ℕ) (u : BookView) → i < place → slice_get books i ≡ Some u → IsLawfulBook u) → (i : ℕ) (u : BookView) → i < place + 1 → slice_get books i ≡ Some u → IsLawfulBook u
+pub lawful_more : (books : List BookView) (place : ℕ) (v : BookView) → slice_get books place ≡ Some v → IsLawfulBook v →
+    ((i : ℕ) (u : BookView) → i < place → slice_get books i ≡ Some u → IsLawfulBook u) → (i : ℕ) (u : BookView) → i < place + 1 → slice_get books i ≡ Some u →
+    IsLawfulBook u
 lawful_more books place v at lawful before i u lt at_u = elim (cases_lt i place) [
   | inl less ↦ before i u less at_u
   | inr more ↦ (let e : place ≡ i = omega arith in subst IsLawfulBook (same_Some v u (sym at ∙ ap (slice_get books) e ∙ at_u)) lawful)
 ]
 
 -- at first each book is still at work
-pub still_first : (layer : LayerView) (books : List BookView) → ((i : ℕ) (v : BookView) → slice_get books i ≡ Some v → HasBegun v layer) → AreStill layer books books
+pub still_first : (layer : LayerView) (books : List BookView) → ((i : ℕ) (v : BookView) → slice_get books i ≡ Some v → HasBegun v layer) →
+    AreStill layer books books
 still_first layer books begun = (refl, λ i v at. (v, at, ((refl, refl, refl, refl, refl), refl, begun i v at)))
 
 still_twice : (layer : LayerView) (v u w : BookView) → IsStill layer v u → IsStill layer u w → IsStill layer v w
 still_twice layer v u w (a, closed, begun) (b, more, still) = ((a.0 ∙ b.0, a.1 ∙ b.1, a.2 ∙ b.2, a.3 ∙ b.3, a.4 ∙ b.4), more ∙ closed, still)
 
 -- and so is each where one of them works on
-pub still_set : (layer : LayerView) (before books : List BookView) (place : ℕ) (u w : BookView) → AreStill layer before books → slice_get books place ≡ Some u → IsStill layer u w → AreStill layer before (set books place w)
+pub still_set : (layer : LayerView) (before books : List BookView) (place : ℕ) (u w : BookView) → AreStill layer before books →
+    slice_get books place ≡ Some u → IsStill layer u w → AreStill layer before (set books place w)
 still_set layer before books place u w (same, each) at still = (length-set books place w ∙ same, λ i v at_v. one i v at_v)
   where
     one : (i : ℕ) (v : BookView) → slice_get before i ≡ Some v → (x : BookView) × (slice_get (set books place w) i ≡ Some x) × IsStill layer v x
@@ -46,13 +51,17 @@ still_set layer before books place u w (same, each) at still = (length-set books
           | inr more ↦ elim (cases_lt place i) [
             | inl less ↦ (old.0, set_there books place i w (λ e. absurd (omega (arith, e, less))) ∙ old.1, old.2)
             | inr le ↦ (let e : place ≡ i = omega arith in
-                let is : old.0 ≡ u = same_Some old.0 u (sym old.1 ∙ ap (slice_get books) (sym e) ∙ at) in
-                (w, subst (λ j. slice_get (set books place w) j ≡ Some w) e (set_here books place w (slice_get_within books place u at)), still_twice layer v u w (subst (IsStill layer v) is old.2) still))
+                let is : old.0 ≡ u = same_Some old.0 u (sym old.1 ∙ ap (slice_get books) (sym e) ∙ at) in (
+                  w,
+                  subst (λ j. slice_get (set books place w) j ≡ Some w) e (set_here books place w (slice_get_within books place u at)),
+                  still_twice layer v u w (subst (IsStill layer v) is old.2) still,
+                ))
           ]
         ]
 
 -- and is at work on the layer
-pub still_begun : (layer : LayerView) (before after : List BookView) → AreStill layer before after → (i : ℕ) (u : BookView) → slice_get after i ≡ Some u → HasBegun u layer
+pub still_begun : (layer : LayerView) (before after : List BookView) → AreStill layer before after → (i : ℕ) (u : BookView) → slice_get after i ≡ Some u →
+    HasBegun u layer
 still_begun layer before after still i u at = (back_to layer before after still i u at).2.2
 
 -- the first so many of no more are all

@@ -1,5 +1,6 @@
 -- Whom the ranks are credited to that are done.
-use Rattle.std.proofs.Common.{◌≡◌, ℕ, zero, suc, ◌+◌, ◌<◌, Bool, true, false, not, cond, List, [], ◌∷◌, length, count_by, get_or, set, Some, refl, sym, ap, subst, ◌∙◌, arith}
+use Rattle.std.proofs.Common.{◌≡◌, ℕ, zero, suc, ◌+◌, ◌<◌, Bool, true, false, not, cond, List, [], ◌∷◌, length, count_by, get_or, set, Some, refl, sym, ap}
+use Rattle.std.proofs.Common.{subst, ◌∙◌, arith}
 use Rattle.std.specs.Prelude.{slice_get}
 use Rattle.std.proofs.lemmas.Option.{same_Some}
 use Rattle.successors.proofs.lemmas.Lists.{sum_by_first}
@@ -23,7 +24,12 @@ count_not-set (b ∷ bs) (suc i) e =
 count_not-all : (bs : List Bool) → ((r : ℕ) → r < length bs → get_or bs r false ≡ true) → count_by not bs ≡ 0
 count_not-all [] all = refl
 count_not-all (b ∷ bs) all =
-    omega (arith, sum_by_first (λ c. cond (not c) 1 0) b bs, ap {B = ℕ} (λ c. cond (not c) 1 0) (all zero (omega arith)), count_not-all bs (λ r lt. all (suc r) (omega arith)))
+    omega (
+      arith,
+      sum_by_first (λ c. cond (not c) 1 0) b bs,
+      ap {B = ℕ} (λ c. cond (not c) 1 0) (all zero (omega arith)),
+      count_not-all bs (λ r lt. all (suc r) (omega arith)),
+    )
 
 add_nothing : (ns : List ℕ) (i : ℕ) → ns ≡ set ns i (get_or ns i 0 + 0)
 add_nothing [] i = refl
@@ -48,7 +54,8 @@ by_both worker first then last (a, left, to) (b, more, on) =
     (a + b, omega (arith, left, more), on ∙ ap (λ ns. set ns worker (get_or ns worker 0 + b)) to ∙ add_both first.tallies worker a b)
 
 -- a rank that the worker hands back
-pub by_parcel : (worker : ℕ) (before after : BookView) (parcel : ParcelView) → slice_get before.done parcel.rank ≡ Some false → after ≡ with_parcel before worker parcel → IsDoneBy worker before after
+pub by_parcel : (worker : ℕ) (before after : BookView) (parcel : ParcelView) → slice_get before.done parcel.rank ≡ Some false →
+    after ≡ with_parcel before worker parcel → IsDoneBy worker before after
 by_parcel worker before after parcel free is = subst (IsDoneBy worker before) (sym is)
     (1, count_not-set before.done parcel.rank free, ap (λ n. set before.tallies worker n) (omega arith))
 
@@ -60,9 +67,15 @@ by_close worker before after all (es, is) = subst (IsDoneBy worker before) (sym 
 -- ---- several books
 
 -- those that were come to
-pub are_done_by : (worker : ℕ) (before : List BookView) (place : ℕ) (books : List BookView) → HaveChangedUpTo (IsDoneBy worker) before place books → AreDoneBy worker before books
-are_done_by worker before place books so = (so.same, λ i v at. some_changed (IsDoneBy worker) before place books (λ x. by_nobody worker x x refl refl) so i v at)
+pub are_done_by : (worker : ℕ) (before : List BookView) (place : ℕ) (books : List BookView) → HaveChangedUpTo (IsDoneBy worker) before place books →
+    AreDoneBy worker before books
+are_done_by worker before place books so = (
+  so.same,
+  λ i v at. some_changed (IsDoneBy worker) before place books (λ x. by_nobody worker x x refl refl) so i v at,
+)
 
 -- and the next one
-pub are_done_by_now : (worker : ℕ) (before : List BookView) (place : ℕ) (books : List BookView) (v w : BookView) → HaveChangedUpTo (IsDoneBy worker) before place books → slice_get before place ≡ Some v → IsDoneBy worker v w → AreDoneBy worker before (set books place w)
-are_done_by_now worker before place books v w so at by = are_done_by worker before (place + 1) (set books place w) (one_changed (IsDoneBy worker) before place books v w so at by)
+pub are_done_by_now : (worker : ℕ) (before : List BookView) (place : ℕ) (books : List BookView) (v w : BookView) →
+    HaveChangedUpTo (IsDoneBy worker) before place books → slice_get before place ≡ Some v → IsDoneBy worker v w → AreDoneBy worker before (set books place w)
+are_done_by_now worker before place books v w so at by = are_done_by worker before (place + 1) (set books place w)
+    (one_changed (IsDoneBy worker) before place books v w so at by)

@@ -1,5 +1,6 @@
 -- The least play with given pushes has the least walk before each of them.
-use Rattle.std.proofs.Common.{◌≡◌, ℕ, zero, suc, ◌+◌, ◌<◌, Bool, true, false, List, [], ◌∷◌, ◌++◌, length, take, Some, refl, sym, ap, subst, ◌∙◌, append_assoc, append-nil, arith}
+use Rattle.std.proofs.Common.{◌≡◌, ℕ, zero, suc, ◌+◌, ◌<◌, Bool, true, false, List, [], ◌∷◌, ◌++◌, length, take, Some, refl, sym, ap, subst, ◌∙◌, append_assoc}
+use Rattle.std.proofs.Common.{append-nil, arith}
 use Rattle.std.proofs.lemmas.Option.{same_Some, none-some}
 use Rattle.std.specs.Prelude.{slice_get}
 use Rattle.std.specs.Ordering.{is_gt}
@@ -32,7 +33,8 @@ abbrev pub pushing : Dir → Letter
 pushing d = record { dir = d; push = true }
 
 -- a play goes on by another, and so do their letters
-written-append : {board : Board} {s m t : Scene} {ds es : List Dir} {ps qs : List Push} (q : Play board Any s ds ps m) (r : Play board Any m es qs t) → (w : Play board Any s (ds ++ es) (ps ++ qs) t) × (letters_of w ≡ letters_of q ++ letters_of r)
+written-append : {board : Board} {s m t : Scene} {ds es : List Dir} {ps qs : List Push} (q : Play board Any s ds ps m) (r : Play board Any m es qs t) →
+    (w : Play board Any s (ds ++ es) (ps ++ qs) t) × (letters_of w ≡ letters_of q ++ letters_of r)
 written-append (stay o) r = (r, refl)
 written-append (walk {d = d} o h q) r =
     let x = written-append q r in
@@ -47,7 +49,8 @@ walk_written (stay o) = refl
 walk_written (walk {d = d} o h q) = ap (λ (xs : List Letter). record { dir = d; push = false } ∷ xs) (walk_written q)
 
 -- the letter of a push
-push_written : (board : Board) (s : Scene) (d : Dir) (t : Scene) → Pushes board s d t → (q : Play board Any s (d ∷ []) (push_at board s d ∷ []) t) × (letters_of q ≡ pushing d ∷ [])
+push_written : (board : Board) (s : Scene) (d : Dir) (t : Scene) → Pushes board s d t → (q : Play board Any s (d ∷ []) (push_at board s d ∷ []) t)
+    × (letters_of q ≡ pushing d ∷ [])
 push_written board s d t h = (push tt h (stay tt), refl)
 
 -- the letters of a play have its directions
@@ -78,11 +81,13 @@ record IsPushFrom (board : Board) (s : Scene) (p : Push) (before after : Scene) 
   stood : before ≡ at s (behind board p)
   same : after ≡ after_push board s p
 
-pushed_from : (board : Board) (s : Scene) → IsScene board s → (p : Push) (before after : Scene) (ws : List Dir) → Play board Any s ws [] before → Pushes board before p.dir after → p ≡ push_at board before p.dir → IsPushFrom board s p before after
+pushed_from : (board : Board) (s : Scene) → IsScene board s → (p : Push) (before after : Scene) (ws : List Dir) → Play board Any s ws [] before →
+    Pushes board before p.dir after → p ≡ push_at board before p.dir → IsPushFrom board s p before after
 pushed_from board s scene p before after ws walked pushed named =
     let kept : before.boxes ≡ s.boxes = walk_keeps_boxes walked in
     let square : p.square ≡ next board before.player p.dir = ap (λ (q : Push). q.square) named in
-    let place : behind board p ≡ before.player = ap (λ (q : ℕ). next board q (opposite p.dir)) square ∙ push_from board before p.dir after (play_scene scene walked) pushed in
+    let place : behind board p ≡ before.player = ap (λ (q : ℕ). next board q (opposite p.dir)) square
+    ∙ push_from board before p.dir after (play_scene scene walked) pushed in
     let stood : before ≡ at s (behind board p) = λ i. record { boxes = kept i; player = sym place i } in
     let moved : Pushes board (at s (behind board p)) p.dir after = subst (λ (x : Scene). Pushes board x p.dir after) stood pushed in
     let faced : next board (behind board p) p.dir ≡ p.square = sym (square ∙ ap (λ (x : Scene). next board x.player p.dir) stood) in
@@ -106,9 +111,11 @@ walk_found board s q xs ys true answer area = refl
 walk_found board s q xs ys false answer area = absurd (answer.0 area.0 area.1)
 
 -- so the push is made, once the player stands behind the box
-pub pushed_on : (board : Board) (s : Scene) → IsScene board s → (p : Push) → CanPush board s p → (from t : Scene) (did : Step) → from ≡ at s (behind board p) → Steps board from p.dir did t → t ≡ after_push board s p
+pub pushed_on : (board : Board) (s : Scene) → IsScene board s → (p : Push) → CanPush board s p → (from t : Scene) (did : Step) → from ≡ at s (behind board p) →
+    Steps board from p.dir did t → t ≡ after_push board s p
 pushed_on board s scene p can from t did stood step =
-    step_pushes board (at s (behind board p)) p.dir did t (after_push board s p) (pushes_on board s scene p can) (subst (λ (x : Scene). Steps board x p.dir did t) stood step)
+    step_pushes board (at s (behind board p)) p.dir did t (after_push board s p) (pushes_on board s scene p can)
+    (subst (λ (x : Scene). Steps board x p.dir did t) stood step)
 
 -- the square of a box that can be pushed is in the grid
 pub box_inside : (board : Board) (s : Scene) → IsScene board s → (p : Push) → CanPush board s p → p.square < length board.cells
@@ -131,14 +138,16 @@ none_written board = record {
 }
 
 -- what can be pushed next in a play with more pushes
-pub next_possible : (board : Board) (ps : List Push) (s : Scene) (xs : List Letter) → WritesLeastPlay board ps s xs → IsScene board s → (p : Push) (rest : List Push) → ArePlayed board (ps ++ p ∷ rest) → CanPush board s p
+pub next_possible : (board : Board) (ps : List Push) (s : Scene) (xs : List Letter) → WritesLeastPlay board ps s xs → IsScene board s →
+    (p : Push) (rest : List Push) → ArePlayed board (ps ++ p ∷ rest) → CanPush board s p
 next_possible board ps s xs w scene p rest played =
     let c = cut_push ps p rest played.2 in
     let f = w.common c.early c.before c.first in
     (pushed_from board s scene p c.before c.after f.1 f.4 c.pushed c.named).can
 
 -- one more push, after the least walk behind its box
-module _ (board : Board) (ps : List Push) (s : Scene) (xs : List Letter) (w : WritesLeastPlay board ps s xs) (scene : IsScene board s) (p : Push) (can : CanPush board s p) (ws : List Dir) (least : IsLeastWalk board s ws (behind board p)) where
+module _ (board : Board) (ps : List Push) (s : Scene) (xs : List Letter) (w : WritesLeastPlay board ps s xs) (scene : IsScene board s) (p : Push)
+    (can : CanPush board s p) (ws : List Dir) (least : IsLeastWalk board s ws (behind board p)) where
   abbrev from : Scene
   from = at s (behind board p)
 
@@ -160,8 +169,10 @@ module _ (board : Board) (ps : List Push) (s : Scene) (xs : List Letter) (w : Wr
       let a = written-append w.play least.walk in
       let step = push_written board from p.dir (after_push board s p) (pushes_on board s scene p can) in
       let b = written-append a.0 step.0 in
-      let walked : letters_of a.0 ≡ xs ++ walk_letters ws = a.1 ∙ (ap (λ (us : List Letter). us ++ letters_of least.walk) w.written ∙ ap (λ (us : List Letter). xs ++ us) (walk_written least.walk)) in
-      let text : letters_of b.0 ≡ whole_letters = b.1 ∙ (ap (λ (us : List Letter). us ++ letters_of step.0) walked ∙ ap (λ (us : List Letter). (xs ++ walk_letters ws) ++ us) step.1) in
+      let walked : letters_of a.0 ≡ xs ++ walk_letters ws = a.1 ∙ (ap (λ (us : List Letter). us ++ letters_of least.walk) w.written
+      ∙ ap (λ (us : List Letter). xs ++ us) (walk_written least.walk)) in
+      let text : letters_of b.0 ≡ whole_letters = b.1 ∙ (ap (λ (us : List Letter). us ++ letters_of step.0) walked
+      ∙ ap (λ (us : List Letter). (xs ++ walk_letters ws) ++ us) step.1) in
       let pushes : (ps ++ []) ++ push_at board from p.dir ∷ [] ≡ ps ++ p ∷ [] = λ i. append-nil ps i ++ named i ∷ [] in
       subst (λ (qs : List Push). (q : Play board Any (start board) whole_dirs qs (after_push board s p)) × (letters_of q ≡ whole_letters)) pushes (b.0, text)
 
@@ -174,7 +185,8 @@ module _ (board : Board) (ps : List Push) (s : Scene) (xs : List Letter) (w : Wr
       let between = least.least f.1 (subst (λ (x : Scene). Play board Any s f.1 [] x) h.stood f.4) in
       let parts : es ≡ (f.0 ++ f.1) ++ p.dir ∷ c.late = c.whole ∙ ap (λ (y : List Dir). y ++ p.dir ∷ c.late) f.2 in
       subst (λ (y : List Dir). is_gt (shortlex dir_cmp whole_dirs y) ≡ false) (sym parts)
-      (shortlex-append_not_gt dir_cmp (w.dirs ++ ws) (f.0 ++ f.1) (p.dir ∷ []) (p.dir ∷ c.late) (shortlex-append_not_gt dir_cmp w.dirs f.0 ws f.1 front between) (one_first p.dir c.late))
+      (shortlex-append_not_gt dir_cmp (w.dirs ++ ws) (f.0 ++ f.1) (p.dir ∷ []) (p.dir ∷ c.late)
+      (shortlex-append_not_gt dir_cmp w.dirs f.0 ws f.1 front between) (one_first p.dir c.late))
 
   whole_common : AllComeTo board (ps ++ p ∷ []) (after_push board s p)
   whole_common es u play =
@@ -182,7 +194,8 @@ module _ (board : Board) (ps : List Push) (s : Scene) (xs : List Letter) (w : Wr
       let f = w.common c.early c.before c.first in
       let h = pushed_from board s scene p c.before c.after f.1 f.4 c.pushed c.named in
       let front = play_push_on p.dir c.first c.pushed tt in
-      let renamed : Play board Any (start board) (c.early ++ p.dir ∷ []) (ps ++ p ∷ []) c.after = subst (λ (y : Push). Play board Any (start board) (c.early ++ p.dir ∷ []) (ps ++ y ∷ []) c.after) (sym c.named) front in (
+      let renamed : Play board Any (start board) (c.early ++ p.dir ∷ []) (ps ++ p ∷ []) c.after = subst
+      (λ (y : Push). Play board Any (start board) (c.early ++ p.dir ∷ []) (ps ++ y ∷ []) c.after) (sym c.named) front in (
         c.early ++ p.dir ∷ [],
         c.late,
         c.whole ∙ sym (append_assoc c.early (p.dir ∷ []) c.late),
@@ -200,16 +213,18 @@ module _ (board : Board) (ps : List Push) (s : Scene) (xs : List Letter) (w : Wr
   }
 
 -- the letters of the least play with one more push
-pub push_more : (board : Board) (ps : List Push) (s : Scene) (xs ys : List Letter) → WritesLeastPlay board ps s xs → IsScene board s → (p : Push) → CanPush board s p → WritesPush board s p xs ys → WritesLeastPlay board (ps ++ p ∷ []) (after_push board s p) ys
+pub push_more : (board : Board) (ps : List Push) (s : Scene) (xs ys : List Letter) → WritesLeastPlay board ps s xs → IsScene board s → (p : Push) →
+    CanPush board s p → WritesPush board s p xs ys → WritesLeastPlay board (ps ++ p ∷ []) (after_push board s p) ys
 push_more board ps s xs ys w scene p can step =
     subst (WritesLeastPlay board (ps ++ p ∷ []) (after_push board s p)) (sym step.written) (whole_written board ps s xs w scene p can step.walk step.least)
 
 -- the least play whose pushes are a lead
-pub lead_written : (board : Board) (n : Scene) (ps : List Push) (s : Scene) (xs : List Letter) → IsLeadOf board n ps → WritesLeastPlay board ps s xs → WritesLead board n xs
+pub lead_written : (board : Board) (n : Scene) (ps : List Push) (s : Scene) (xs : List Letter) → IsLeadOf board n ps → WritesLeastPlay board ps s xs →
+    WritesLead board n xs
 lead_written board n ps s xs lead w =
     let dirs : w.dirs ≡ dirs_of xs = sym (dirs_written w.play) ∙ ap dirs_of w.written in
-    let play : (q : Play board Any (start board) (dirs_of xs) ps s) × (letters_of q ≡ xs) = subst (λ (ds : List Dir). (q : Play board Any (start board) ds ps s) × (letters_of q ≡ xs)) dirs (w.play, w.written) in
-    record {
+    let play : (q : Play board Any (start board) (dirs_of xs) ps s) × (letters_of q ≡ xs) = subst
+    (λ (ds : List Dir). (q : Play board Any (start board) ds ps s) × (letters_of q ≡ xs)) dirs (w.play, w.written) in record {
       pushes = ps;
       lead = lead;
       end = s;
@@ -220,7 +235,8 @@ lead_written board n ps s xs lead w =
 
 -- ---- the place of a push in a list
 
-place_split-suc : {A : Type 0} (xs : List A) (i : ℕ) (x : A) → slice_get xs i ≡ Some x → (take (suc i) xs ≡ take i xs ++ x ∷ []) × ((rest : List A) × (xs ≡ take i xs ++ x ∷ rest))
+place_split-suc : {A : Type 0} (xs : List A) (i : ℕ) (x : A) → slice_get xs i ≡ Some x →
+    (take (suc i) xs ≡ take i xs ++ x ∷ []) × ((rest : List A) × (xs ≡ take i xs ++ x ∷ rest))
 place_split-suc [] i x e = absurd (none-some x e)
 place_split-suc (y ∷ xs) zero x e = let same = same_Some y x e in (ap (λ z. z ∷ []) same, (xs, ap (λ z. z ∷ xs) same))
 place_split-suc (y ∷ xs) (suc i) x e =
@@ -228,24 +244,29 @@ place_split-suc (y ∷ xs) (suc i) x e =
     (ap (λ zs. y ∷ zs) r.0, (r.1.0, ap (λ zs. y ∷ zs) r.1.1))
 
 -- what stands before a place, and behind it
-pub place_split : {A : Type 0} (xs : List A) (i : ℕ) (x : A) → slice_get xs i ≡ Some x → (take (i + 1) xs ≡ take i xs ++ x ∷ []) × ((rest : List A) × (xs ≡ take i xs ++ x ∷ rest))
+pub place_split : {A : Type 0} (xs : List A) (i : ℕ) (x : A) → slice_get xs i ≡ Some x →
+    (take (i + 1) xs ≡ take i xs ++ x ∷ []) × ((rest : List A) × (xs ≡ take i xs ++ x ∷ rest))
 place_split xs i x e =
     let r = place_split-suc xs i x e in
     let next : i + 1 ≡ suc i = omega arith in
     (ap (λ (k : ℕ). take k xs) next ∙ r.0, r.1)
 
 -- the next push of a list that is played can be made
-pub possible_at : (board : Board) (pushes : List Push) (i : ℕ) (p : Push) → slice_get pushes i ≡ Some p → ArePlayed board pushes → (s : Scene) (xs : List Letter) → WritesLeastPlay board (take i pushes) s xs → IsScene board s → CanPush board s p
+pub possible_at : (board : Board) (pushes : List Push) (i : ℕ) (p : Push) → slice_get pushes i ≡ Some p → ArePlayed board pushes →
+    (s : Scene) (xs : List Letter) → WritesLeastPlay board (take i pushes) s xs → IsScene board s → CanPush board s p
 possible_at board pushes i p here played s xs w scene =
     let parts = place_split pushes i p here in
     next_possible board (take i pushes) s xs w scene p parts.1.0 (subst (ArePlayed board) parts.1.1 played)
 
 -- and leads to the least play with one more push
-pub more_at : (board : Board) (pushes : List Push) (i : ℕ) (p : Push) → slice_get pushes i ≡ Some p → ArePlayed board pushes → (s t : Scene) (xs ys : List Letter) → WritesLeastPlay board (take i pushes) s xs → IsScene board s → t ≡ after_push board s p → WritesPush board s p xs ys → WritesLeastPlay board (take (i + 1) pushes) t ys × IsScene board t
+pub more_at : (board : Board) (pushes : List Push) (i : ℕ) (p : Push) → slice_get pushes i ≡ Some p → ArePlayed board pushes →
+    (s t : Scene) (xs ys : List Letter) → WritesLeastPlay board (take i pushes) s xs → IsScene board s → t ≡ after_push board s p →
+    WritesPush board s p xs ys → WritesLeastPlay board (take (i + 1) pushes) t ys × IsScene board t
 more_at board pushes i p here played s t xs ys w scene after step =
     let can = possible_at board pushes i p here played s xs w scene in
     let parts = place_split pushes i p here in
     let more = push_more board (take i pushes) s xs ys w scene p can step in (
-      subst (λ (x : Scene). WritesLeastPlay board (take (i + 1) pushes) x ys) (sym after) (subst (λ (ps : List Push). WritesLeastPlay board ps (after_push board s p) ys) (sym parts.0) more),
+      subst (λ (x : Scene). WritesLeastPlay board (take (i + 1) pushes) x ys) (sym after)
+          (subst (λ (ps : List Push). WritesLeastPlay board ps (after_push board s p) ys) (sym parts.0) more),
       subst (IsScene board) (sym after) (after_scene board s scene p can),
     )

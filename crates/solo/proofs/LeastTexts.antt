@@ -41,7 +41,8 @@ abbrev Begins : ℕ → (List Dir → Type 0) → Dir → Type 0
 Begins n P d = (ds : List Dir) × P (d ∷ ds) × (length ds ≡ n)
 
 -- what begins with the first letter that may be is first, if its rest is
-with_letter : (n : ℕ) (P : List Dir → Type 0) (d : Dir) → ((e : Dir) → dir_number e < dir_number d → ¬ (Begins n P e)) → (ds : List Dir) → IsFirst n (λ es. P (d ∷ es)) ds → IsFirst (suc n) P (d ∷ ds)
+with_letter : (n : ℕ) (P : List Dir → Type 0) (d : Dir) → ((e : Dir) → dir_number e < dir_number d → ¬ (Begins n P e)) → (ds : List Dir) →
+    IsFirst n (λ es. P (d ∷ es)) ds → IsFirst (suc n) P (d ∷ ds)
 with_letter n P d none ds (p, long, least) = (p, ap suc long, λ es q e. by es q e)
   where
     by : (es : List Dir) → P es → length es ≡ suc n → is_gt (slice_cmp dir_cmp (d ∷ ds) es) ≡ false
@@ -79,7 +80,8 @@ first_text (suc n) P (d ∷ ds) p long =
       ])
     ])
   where
-    pick : FirstText n → (x : Dir) → Begins n P x → ((e : Dir) → dir_number e < dir_number x → ¬ (Begins n P e)) → ¬ (¬ ((es : List Dir) × IsFirst (suc n) P es))
+    pick : FirstText n → (x : Dir) → Begins n P x → ((e : Dir) → dir_number e < dir_number x → ¬ (Begins n P e)) →
+        ¬ (¬ ((es : List Dir) × IsFirst (suc n) P es))
     pick again x found none = and_so (again (λ es. P (x ∷ es)) found.0 found.1 found.2) (λ w. sure (x ∷ w.0, with_letter n P x none w.0 w.1))
 
     before_l : ¬ (Begins n P D) → (e : Dir) → dir_number e < 1 → ¬ (Begins n P e)
@@ -132,7 +134,8 @@ lead_text board n ps lead = and_so
     (least_text (λ es. (t : Scene) × Play board Any (start board) es ps t) lead.reached.0 (lead.reached.1, play_any lead.reached.2))
     (λ w. sure (letters_of w.1.0.1, written w.0 w.1.0.0 w.1.0.1 (λ es t other. w.1.1 es (t, other))))
   where
-    written : (ds : List Dir) (t : Scene) (q : Play board Any (start board) ds ps t) → ((es : List Dir) (u : Scene) → Play board Any (start board) es ps u → is_gt (shortlex dir_cmp ds es) ≡ false) → WritesLead board n (letters_of q)
+    written : (ds : List Dir) (t : Scene) (q : Play board Any (start board) ds ps t) →
+        ((es : List Dir) (u : Scene) → Play board Any (start board) es ps u → is_gt (shortlex dir_cmp ds es) ≡ false) → WritesLead board n (letters_of q)
     written ds t q least =
         let dirs : ds ≡ dirs_of (letters_of q) = sym (dirs_written q) in
         let play = subst (λ (fs : List Dir). (r : Play board Any (start board) fs ps t) × (letters_of r ≡ letters_of q)) dirs (q, refl) in

@@ -18,7 +18,8 @@ use Rattle.solo.proofs.Solving.{layer_distance}
 use Rattle.solo.proofs.Uniqueness.{solved_passes, unsolvable_passes}
 
 -- the limit is passed by the positions of the first layers and of the next one, where no solution has fewer pushes
-passed_by : (task : Task) → IsLevel task.board → (limit pushes : ℕ) (layers : List (List Scene)) → AreLayersOf task layers → length layers ≡ suc pushes → limit < total layers → ((ds : List Dir) (ps : List Push) → IsSolutionOf task ds ps → pushes ≤ length ps) → PassesLimit task limit
+passed_by : (task : Task) → IsLevel task.board → (limit pushes : ℕ) (layers : List (List Scene)) → AreLayersOf task layers → length layers ≡ suc pushes →
+    limit < total layers → ((ds : List Dir) (ps : List Push) → IsSolutionOf task ds ps → pushes ≤ length ps) → PassesLimit task limit
 passed_by task level limit pushes layers are long passed unsolved = record {
   layers = take pushes layers;
   are = λ j xs at. are j xs (take_at layers pushes j xs at).0;
@@ -39,15 +40,19 @@ passed_by task level limit pushes layers are long passed unsolved = record {
     short = length-take-le pushes layers (omega (arith, long))
 
 -- a level that is solved
-pub limit_solved : (task : Task) (limit pushes positions : ℕ) → IsLevel task.board → IsFewest task pushes → HaveTotal task (suc pushes) positions → PassesLimit task limit ↔ (limit < positions)
+pub limit_solved : (task : Task) (limit pushes positions : ℕ) → IsLevel task.board → IsFewest task pushes → HaveTotal task (suc pushes) positions →
+    PassesLimit task limit ↔ (limit < positions)
 limit_solved task limit pushes positions level (some, fewest) have = (
   λ p. solved_passes task level limit pushes positions some.0 some.1 some.2 some.3 have p,
   λ passed. passed_by task level limit pushes have.0 have.1 have.2 (omega (arith, passed, have.3)) fewest,
 )
 
 -- a level that is not
-pub limit_unsolvable : (task : Task) (limit positions : ℕ) → IsLevel task.board → IsUnsolvable task → HasInAll task positions → PassesLimit task limit ↔ (limit < positions)
+pub limit_unsolvable : (task : Task) (limit positions : ℕ) → IsLevel task.board → IsUnsolvable task → HasInAll task positions →
+    PassesLimit task limit ↔ (limit < positions)
 limit_unsolvable task limit positions level none all = (
   λ p. unsolvable_passes task level limit positions all p,
-  λ passed. passed_by task level limit (length all.layers - 1) all.layers all.are (omega (arith, slice_get_within all.layers (length all.layers - 1) [] all.last)) (omega (arith, passed, all.total)) (λ ds ps solution. absurd (none ds ps solution)),
+  λ passed. passed_by task level limit (length all.layers - 1) all.layers all.are
+      (omega (arith, slice_get_within all.layers (length all.layers - 1) [] all.last)) (omega (arith, passed, all.total))
+      (λ ds ps solution. absurd (none ds ps solution)),
 )

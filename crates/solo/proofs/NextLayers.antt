@@ -1,6 +1,7 @@
 -- That there are layers. What is said to be is said not to fail: no list can be found here that the rules of a level decide, so each choice
 -- is one that cannot be missing.
-use Rattle.std.proofs.Common.{◌≡◌, ℕ, zero, suc, ◌+◌, ◌*◌, ◌<◌, ◌≤◌, false, List, [], ◌∷◌, ◌++◌, length, map, get_or, Some, ◌⊎◌, inl, inr, refl, sym, ap, subst, ◌∙◌, arith}
+use Rattle.std.proofs.Common.{◌≡◌, ℕ, zero, suc, ◌+◌, ◌*◌, ◌<◌, ◌≤◌, false, List, [], ◌∷◌, ◌++◌, length, map, get_or, Some, ◌⊎◌, inl, inr, refl, sym, ap, subst}
+use Rattle.std.proofs.Common.{◌∙◌, arith}
 use Rattle.std.proofs.lemmas.Bool.{cases_lt}
 use Rattle.std.proofs.lemmas.Cmp.{nat_cmp_total, on_total, then_total, tied_itself}
 use Rattle.std.proofs.lemmas.Option.{same_Some, none-some, slice_get_within}
@@ -45,18 +46,23 @@ decided A no_way = no_way (inr (λ x. no_way (inl x)))
 -- ---- the next layer, origin by origin
 
 -- the part of the next layer that comes from the origins whose numbers are below one
-record IsNextUpTo {N P : Type 0} (cmp : P → P → Ordering) (Edge : N → P → N → Type 0) (Kept : N → Type 0) (layer : ℕ → List N) (k : ℕ) (code : ℕ → P → ℕ) (below : ℕ) (ys : List (Entry N P)) : Type 0 where
+record IsNextUpTo {N P : Type 0} (cmp : P → P → Ordering) (Edge : N → P → N → Type 0) (Kept : N → Type 0) (layer : ℕ → List N) (k : ℕ) (code : ℕ → P →
+    ℕ) (below : ℕ) (ys : List (Entry N P)) : Type 0 where
   from : (i : ℕ) (m : N) (r : ℕ) (p : P) → slice_get ys i ≡ Some (m, (r, p)) → Kept m × ((n : N) × (slice_get (layer k) r ≡ Some n) × Edge n p m)
   fresh : (i : ℕ) (m : N) (r : ℕ) (p : P) → slice_get ys i ≡ Some (m, (r, p)) → (j : ℕ) → j ≤ k → ¬ (IsIn (layer j) m)
-  least : (i : ℕ) (m : N) (r : ℕ) (p : P) → slice_get ys i ≡ Some (m, (r, p)) → (s : ℕ) (q : P) (n : N) → slice_get (layer k) s ≡ Some n → Edge n q m → is_gt (origin_cmp cmp (r, p) (s, q)) ≡ false
+  least : (i : ℕ) (m : N) (r : ℕ) (p : P) → slice_get ys i ≡ Some (m, (r, p)) → (s : ℕ) (q : P) (n : N) → slice_get (layer k) s ≡ Some n → Edge n q m →
+      is_gt (origin_cmp cmp (r, p) (s, q)) ≡ false
   rise : (i j : ℕ) (x y : Entry N P) → i < j → slice_get ys i ≡ Some x → slice_get ys j ≡ Some y → origin_cmp cmp x.1 y.1 ≡ Less
   past : (i : ℕ) (m : N) (r : ℕ) (p : P) → slice_get ys i ≡ Some (m, (r, p)) → code r p < below
-  whole : (r : ℕ) (n : N) (p : P) (m : N) → slice_get (layer k) r ≡ Some n → Edge n p m → Kept m → code r p < below → ((j : ℕ) × (j ≤ k) × IsIn (layer j) m) ⊎ ((i : ℕ) × (o : Origin P) × (slice_get ys i ≡ Some (m, o)))
+  whole : (r : ℕ) (n : N) (p : P) (m : N) → slice_get (layer k) r ≡ Some n → Edge n p m → Kept m → code r p < below →
+      ((j : ℕ) × (j ≤ k) × IsIn (layer j) m) ⊎ ((i : ℕ) × (o : Origin P) × (slice_get ys i ≡ Some (m, o)))
 
 module _ {N P : Type 0} (cmp : P → P → Ordering) (Edge : N → P → N → Type 0) (Kept : N → Type 0) (layer : ℕ → List N) (k : ℕ) (code : ℕ → P → ℕ)
     (tied : (o : Origin P) → is_gt (origin_cmp cmp o o) ≡ false)
-    (less : (r s : ℕ) (p q : P) (n l m o : N) → slice_get (layer k) r ≡ Some n → Edge n p m → slice_get (layer k) s ≡ Some l → Edge l q o → code r p < code s q → origin_cmp cmp (r, p) (s, q) ≡ Less)
-    (same : (r s : ℕ) (p q : P) (n l m o : N) → slice_get (layer k) r ≡ Some n → Edge n p m → slice_get (layer k) s ≡ Some l → Edge l q o → code r p ≡ code s q → (r ≡ s) × (p ≡ q) × (m ≡ o)) where
+    (less : (r s : ℕ) (p q : P) (n l m o : N) → slice_get (layer k) r ≡ Some n → Edge n p m → slice_get (layer k) s ≡ Some l → Edge l q o →
+    code r p < code s q → origin_cmp cmp (r, p) (s, q) ≡ Less)
+    (same : (r s : ℕ) (p q : P) (n l m o : N) → slice_get (layer k) r ≡ Some n → Edge n p m → slice_get (layer k) s ≡ Some l → Edge l q o →
+    code r p ≡ code s q → (r ≡ s) × (p ≡ q) × (m ≡ o)) where
   abbrev UpTo : ℕ → List (Entry N P) → Type 0
   UpTo below ys = IsNextUpTo cmp Edge Kept layer k code below ys
 
@@ -68,17 +74,20 @@ module _ {N P : Type 0} (cmp : P → P → Ordering) (Edge : N → P → N → T
   Comes below = (r : ℕ) × (p : P) × (n : N) × (m : N) × (slice_get (layer k) r ≡ Some n) × Edge n p m × Kept m × (code r p ≡ below)
 
   -- all places that come from it are known
-  unchanged : (below : ℕ) (ys : List (Entry N P)) → UpTo below ys → ((r : ℕ) (n : N) (p : P) (m : N) → slice_get (layer k) r ≡ Some n → Edge n p m → Kept m → code r p ≡ below → IsKnown ys m) → UpTo (suc below) ys
+  unchanged : (below : ℕ) (ys : List (Entry N P)) → UpTo below ys → ((r : ℕ) (n : N) (p : P) (m : N) → slice_get (layer k) r ≡ Some n → Edge n p m → Kept m →
+      code r p ≡ below → IsKnown ys m) → UpTo (suc below) ys
   unchanged below ys is known = record {
     from = is.from;
     fresh = is.fresh;
     least = is.least;
     rise = is.rise;
     past = λ i m r p at. omega (arith, is.past i m r p at);
-    whole = λ r n p m at edge kept lt. elim (cases_lt (code r p) below) [ inl l ↦ is.whole r n p m at edge kept l | inr ge ↦ known r n p m at edge kept (omega arith) ];
+    whole = λ r n p m at edge kept lt. elim (cases_lt (code r p) below)
+        [ inl l ↦ is.whole r n p m at edge kept l | inr ge ↦ known r n p m at edge kept (omega arith) ];
   }
 
-  module _ (below : ℕ) (ys : List (Entry N P)) (is : UpTo below ys) (r0 : ℕ) (p0 : P) (n0 m0 : N) (at0 : slice_get (layer k) r0 ≡ Some n0) (edge0 : Edge n0 p0 m0) (kept0 : Kept m0) (code0 : code r0 p0 ≡ below) (new : ¬ (IsKnown ys m0)) where
+  module _ (below : ℕ) (ys : List (Entry N P)) (is : UpTo below ys) (r0 : ℕ) (p0 : P) (n0 m0 : N) (at0 : slice_get (layer k) r0 ≡ Some n0)
+      (edge0 : Edge n0 p0 m0) (kept0 : Kept m0) (code0 : code r0 p0 ≡ below) (new : ¬ (IsKnown ys m0)) where
     abbrev more : List (Entry N P)
     more = ys ++ (m0, (r0, p0)) ∷ []
 
@@ -88,7 +97,8 @@ module _ {N P : Type 0} (cmp : P → P → Ordering) (Edge : N → P → N → T
       | inr ge ↦ elim (cases_lt below (code s q)) [
         | inl gt ↦ ap is_gt (less r0 s p0 q n0 n m0 m0 at0 edge0 at edge (omega (arith, code0)))
         | inr le ↦ (let e = same r0 s p0 q n0 n m0 m0 at0 edge0 at edge (omega (arith, code0)) in
-            subst (λ (x : ℕ). is_gt (origin_cmp cmp (r0, p0) (x, q)) ≡ false) e.0 (subst (λ (y : P). is_gt (origin_cmp cmp (r0, p0) (r0, y)) ≡ false) e.1 (tied (r0, p0))))
+            subst (λ (x : ℕ). is_gt (origin_cmp cmp (r0, p0) (x, q)) ≡ false) e.0
+            (subst (λ (y : P). is_gt (origin_cmp cmp (r0, p0) (r0, y)) ≡ false) e.1 (tied (r0, p0))))
       ]
     ]
 
@@ -100,7 +110,8 @@ module _ {N P : Type 0} (cmp : P → P → Ordering) (Edge : N → P → N → T
     appended = record {
       from = λ i m r p at. elim (at-push ys (m0, (r0, p0)) i (m, (r, p)) at) [
         | inl old ↦ is.from i m r p old
-        | inr last ↦ subst (λ (y : Entry N P). Kept y.0 × ((n : N) × (slice_get (layer k) y.1.0 ≡ Some n) × Edge n y.1.1 y.0)) (sym last.1) (kept0, (n0, at0, edge0))
+        | inr last ↦ subst (λ (y : Entry N P). Kept y.0 × ((n : N) × (slice_get (layer k) y.1.0 ≡ Some n) × Edge n y.1.1 y.0)) (sym last.1)
+            (kept0, (n0, at0, edge0))
       ];
       fresh = λ i m r p at. elim (at-push ys (m0, (r0, p0)) i (m, (r, p)) at) [
         | inl old ↦ is.fresh i m r p old
@@ -108,7 +119,8 @@ module _ {N P : Type 0} (cmp : P → P → Ordering) (Edge : N → P → N → T
       ];
       least = λ i m r p at. elim (at-push ys (m0, (r0, p0)) i (m, (r, p)) at) [
         | inl old ↦ is.least i m r p old
-        | inr last ↦ subst (λ (y : Entry N P). (s : ℕ) (q : P) (n : N) → slice_get (layer k) s ≡ Some n → Edge n q y.0 → is_gt (origin_cmp cmp y.1 (s, q)) ≡ false) (sym last.1) first
+        | inr last ↦ subst (λ (y : Entry N P). (s : ℕ) (q : P) (n : N) → slice_get (layer k) s ≡ Some n → Edge n q y.0 →
+            is_gt (origin_cmp cmp y.1 (s, q)) ≡ false) (sym last.1) first
       ];
       rise = λ i j x y lt at_i at_j. elim (at-push ys (m0, (r0, p0)) i x at_i) [
         | inl old ↦ elim (at-push ys (m0, (r0, p0)) j y at_j) [
@@ -138,7 +150,10 @@ module _ {N P : Type 0} (cmp : P → P → Ordering) (Edge : N → P → N → T
   step below ys is = and_so (decided (Comes below)) (λ comes. elim comes [
     | inr none ↦ sure (ys, unchanged below ys is (λ r n p m at edge kept e. absurd (none (r, p, n, m, at, edge, kept, e))))
     | inl (r0, p0, n0, m0, at0, edge0, kept0, code0) ↦ and_so (decided (IsKnown ys m0)) (λ known. elim known [
-      | inl old ↦ sure (ys, unchanged below ys is (λ r n p m at edge kept e. subst (IsKnown ys) (same r0 r p0 p n0 n m0 m at0 edge0 at edge (code0 ∙ sym e)).2 old))
+      | inl old ↦ sure (
+        ys,
+        unchanged below ys is (λ r n p m at edge kept e. subst (IsKnown ys) (same r0 r p0 p n0 n m0 m at0 edge0 at edge (code0 ∙ sym e)).2 old),
+      )
       | inr new ↦ sure (more below ys is r0 p0 n0 m0 at0 edge0 kept0 code0 new, appended below ys is r0 p0 n0 m0 at0 edge0 kept0 code0 new)
     ])
   ])
@@ -157,7 +172,8 @@ module _ {N P : Type 0} (cmp : P → P → Ordering) (Edge : N → P → N → T
   )
   all_steps (suc below) = and_so (all_steps below) (λ w. step below w.0 w.1)
 
-  pub next_entries : (bound : ℕ) → ((r : ℕ) (n : N) (p : P) (m : N) → slice_get (layer k) r ≡ Some n → Edge n p m → code r p < bound) → ¬ (¬ ((ys : List (Entry N P)) × IsNext cmp Edge Kept layer k ys))
+  pub next_entries : (bound : ℕ) → ((r : ℕ) (n : N) (p : P) (m : N) → slice_get (layer k) r ≡ Some n → Edge n p m → code r p < bound) →
+      ¬ (¬ ((ys : List (Entry N P)) × IsNext cmp Edge Kept layer k ys))
   next_entries bound within = and_so (all_steps bound) (λ w. sure (
     w.0,
     record {
@@ -230,7 +246,8 @@ push_same_number p q e =
     let dir : p.dir ≡ q.dir = dir_same p.dir q.dir (omega (arith, square)) in
     λ i. record { square = square i; dir = dir i }
 
-code_less : (squares r s : ℕ) (p q : Push) → p.square < squares → q.square < squares → code_of squares r p < code_of squares s q → origin_cmp push_cmp (r, p) (s, q) ≡ Less
+code_less : (squares r s : ℕ) (p q : Push) → p.square < squares → q.square < squares → code_of squares r p < code_of squares s q →
+    origin_cmp push_cmp (r, p) (s, q) ≡ Less
 code_less squares r s p q few few' lt = elim (cases_lt r s) [
   | inl l ↦ less_then (nat_cmp r s) (push_cmp p q) (nat_cmp-less r s l)
   | inr ge ↦ elim (cases_lt s r) [
@@ -259,7 +276,8 @@ push_inside board n p m scene (ds, t, play, norm) =
     inside_grid board p.square (subst (λ (x : Push). is_wall board x.square ≡ false) (sym c.named) wall)
 
 -- a position of a layer is a scene
-layer_scene : (task : Task) → IsLevel task.board → (k : ℕ) (xs : List Scene) → IsLayerOf task k xs → (r : ℕ) (n : Scene) → slice_get xs r ≡ Some n → IsScene task.board n
+layer_scene : (task : Task) → IsLevel task.board → (k : ℕ) (xs : List Scene) → IsLayerOf task k xs → (r : ℕ) (n : Scene) → slice_get xs r ≡ Some n →
+    IsScene task.board n
 layer_scene task level k xs layer r n at =
     let reach = (layer.leads r n at).1.1.reached in
     norm_scene (play_scene (start_is_scene task.board level) reach.2) reach.3
@@ -277,10 +295,12 @@ module _ (task : Task) (level : IsLevel task.board) (layers : List (List Scene))
   abbrev code : ℕ → Push → ℕ
   code r p = code_of (length task.board.cells) r p
 
-  same_place : (r s : ℕ) (p q : Push) (n l m o : Scene) → slice_get (nth k) r ≡ Some n → IsSuccessor task.board n p m → slice_get (nth k) s ≡ Some l → IsSuccessor task.board l q o → (r ≡ s) × (p ≡ q) → (r ≡ s) × (p ≡ q) × (m ≡ o)
+  same_place : (r s : ℕ) (p q : Push) (n l m o : Scene) → slice_get (nth k) r ≡ Some n → IsSuccessor task.board n p m → slice_get (nth k) s ≡ Some l →
+      IsSuccessor task.board l q o → (r ≡ s) × (p ≡ q) → (r ≡ s) × (p ≡ q) × (m ≡ o)
   same_place r s p q n l m o at edge at' edge' (e, f) =
       let g : l ≡ n = same_Some l n (sym at' ∙ ap (slice_get (nth k)) (sym e) ∙ at) in
-      let there : IsSuccessor task.board n p o = subst (λ (x : Push). IsSuccessor task.board n x o) (sym f) (subst (λ (x : Scene). IsSuccessor task.board x q o) g edge') in
+      let there : IsSuccessor task.board n p o = subst (λ (x : Push). IsSuccessor task.board n x o) (sym f)
+      (subst (λ (x : Scene). IsSuccessor task.board x q o) g edge') in
       (e, f, one_successor task level k (nth k) (is_layer k (omega arith)) r n at p o m there edge)
 
   pub layer_after : ¬ (¬ ((xs : List Scene) × IsLayerOf task (suc k) xs))
@@ -288,12 +308,16 @@ module _ (task : Task) (level : IsLevel task.board) (layers : List (List Scene))
       (next_entries push_cmp (IsSuccessor task.board) (Admits task (suc k)) nth k code
       (λ o. ap is_gt (tied_itself (then_total (on_total (λ (x : Origin Push). x.0) nat_cmp_total) (on_total (λ (x : Origin Push). x.1) push_cmp_total)) o))
       (λ r s p q n l m o at edge at' edge' lt. code_less (length task.board.cells) r s p q (inside r n p m at edge) (inside s l q o at' edge') lt)
-      (λ r s p q n l m o at edge at' edge' e. same_place r s p q n l m o at edge at' edge' (code_same (length task.board.cells) r s p q (inside r n p m at edge) (inside s l q o at' edge') e))
+      (λ r s p q n l m o at edge at' edge' e. same_place r s p q n l m o at edge at' edge'
+      (code_same (length task.board.cells) r s p q (inside r n p m at edge) (inside s l q o at' edge') e))
       (block (length task.board.cells * 4) (length (nth k)))
-      (λ r n p m at edge. omega (arith, blocks (length task.board.cells * 4) r (length (nth k)) (slice_get_within (nth k) r n at), number_few (length task.board.cells) p (inside r n p m at edge))))
-      (λ w. sure (map (λ y. y.0) w.0, is_next w.0 w.1))
-    where
-      is_next : (ys : List (Entry Scene Push)) → IsNext push_cmp (IsSuccessor task.board) (Admits task (suc k)) nth k ys → IsLayerOf task (suc k) (map (λ y. y.0) ys)
-      is_next ys next =
-          let l = next_layer (level_laws task level) nth k is_layer {Kept = Admits task (suc k)} (λ m kept. kept) ys next in
-          record { leads = l.leads; rise = l.rise; whole = l.whole }
+      (λ r n p m at edge. omega (
+        arith,
+        blocks (length task.board.cells * 4) r (length (nth k)) (slice_get_within (nth k) r n at),
+        number_few (length task.board.cells) p (inside r n p m at edge),
+      ))) (λ w. sure (map (λ y. y.0) w.0, is_next w.0 w.1)) where
+        is_next : (ys : List (Entry Scene Push)) → IsNext push_cmp (IsSuccessor task.board) (Admits task (suc k)) nth k ys →
+            IsLayerOf task (suc k) (map (λ y. y.0) ys)
+        is_next ys next =
+            let l = next_layer (level_laws task level) nth k is_layer {Kept = Admits task (suc k)} (λ m kept. kept) ys next in
+            record { leads = l.leads; rise = l.rise; whole = l.whole }

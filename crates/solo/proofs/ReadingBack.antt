@@ -1,5 +1,6 @@
 -- A lead is read back through the layers, from its last push to its first.
-use Rattle.std.proofs.Common.{◌≡◌, ℕ, zero, suc, ◌+◌, ◌-◌, ◌<◌, ◌≤◌, ◌⊎◌, inl, inr, List, [], ◌∷◌, ◌++◌, length, map, reverse, get_or, Option, Some, None, option_map, refl, sym, ap, subst, ◌∙◌, append_assoc, append-nil, arith}
+use Rattle.std.proofs.Common.{◌≡◌, ℕ, zero, suc, ◌+◌, ◌-◌, ◌<◌, ◌≤◌, ◌⊎◌, inl, inr, List, [], ◌∷◌, ◌++◌, length, map, reverse, get_or, Option, Some, None}
+use Rattle.std.proofs.Common.{option_map, refl, sym, ap, subst, ◌∙◌, append_assoc, append-nil, arith}
 use Rattle.std.proofs.lemmas.Option.{same_Some, none-some, slice_get-map, slice_get_read, slice_get_within, slice_get-get_or}
 use Rattle.std.proofs.lemmas.List.{length-map, reverse-append}
 use Rattle.std.specs.Prelude.{slice_get, slice_index_or}
@@ -32,7 +33,8 @@ ended (x ∷ xs) zero e = absurd (none-some x (sym e))
 ended (x ∷ xs) (suc i) e = let r = ended xs i e in omega arith
 
 -- a position of a later layer has an origin
-pub origin_there : (before layer : LayerView) → IsWhole layer → layer.number ≡ suc before.number → (rank : ℕ) → rank < length layer.places → slice_get layer.origins rank ≡ None → ⊥
+pub origin_there : (before layer : LayerView) → IsWhole layer → layer.number ≡ suc before.number → (rank : ℕ) → rank < length layer.places →
+    slice_get layer.origins rank ≡ None → ⊥
 origin_there before layer whole number rank lt none =
     let have = whole.later before.number number in
     let each = have.each in
@@ -40,7 +42,8 @@ origin_there before layer whole number rank lt none =
     omega arith
 
 -- which leads back to the layer before
-pub origin_at : (before layer : LayerView) → IsWhole before → IsWhole layer → before.level ≡ layer.level → layer.number ≡ suc before.number → (rank : ℕ) → rank < length layer.places → (o : Origin Push) → slice_get layer.origins rank ≡ Some o → IsOriginAt layer.level before.places layer.places rank o
+pub origin_at : (before layer : LayerView) → IsWhole before → IsWhole layer → before.level ≡ layer.level → layer.number ≡ suc before.number → (rank : ℕ) →
+    rank < length layer.places → (o : Origin Push) → slice_get layer.origins rank ≡ Some o → IsOriginAt layer.level before.places layer.places rank o
 origin_at before layer whole_before whole level number rank lt o at =
     let m = there_is layer.places rank lt in
     let origin : HasOrigin layer.level before.number m.0 o = (whole.later before.number number).right rank m.0 o m.1 at in
@@ -48,7 +51,8 @@ origin_at before layer whole_before whole level number rank lt o at =
     record { place = m.0; there = m.1; parent = x.0; parent_there = x.1; lead = x.2 }
 
 -- nothing is read yet
-pub read_begins : (layers : List LayerView) (task : Task) (rank : ℕ) → rank < length (last_places layers) → IsReadBack layers task rank (length layers - 1) rank []
+pub read_begins : (layers : List LayerView) (task : Task) (rank : ℕ) → rank < length (last_places layers) →
+    IsReadBack layers task rank (length layers - 1) rank []
 read_begins layers task rank lt = by (slice_get layers (length layers - 1)) refl
   where
     by : (o : Option LayerView) → slice_get layers (length layers - 1) ≡ o → IsReadBack layers task rank (length layers - 1) rank []
@@ -68,7 +72,9 @@ read_begins layers task rank lt = by (slice_get layers (length layers - 1)) refl
         }
 
 -- one push more is read
-pub read_on : (layers : List LayerView) (task : Task) (asked number lower rank : ℕ) (late : List Push) → IsReadBack layers task asked number rank late → (before layer : LayerView) → slice_get layers lower ≡ Some before → slice_get layers number ≡ Some layer → (o : Origin Push) → IsOriginAt task before.places layer.places rank o → IsReadBack layers task asked lower o.0 (o.1 ∷ late)
+pub read_on : (layers : List LayerView) (task : Task) (asked number lower rank : ℕ) (late : List Push) → IsReadBack layers task asked number rank late →
+    (before layer : LayerView) → slice_get layers lower ≡ Some before → slice_get layers number ≡ Some layer → (o : Origin Push) →
+    IsOriginAt task before.places layer.places rank o → IsReadBack layers task asked lower o.0 (o.1 ∷ late)
 read_on layers task asked number lower rank late r before layer at_before at_layer o origin =
     let same : r.layer ≡ layer = same_Some r.layer layer (sym r.in_layer ∙ at_layer) in
     let there : slice_get layer.places rank ≡ Some r.place = subst (λ (l : LayerView). slice_get l.places rank ≡ Some r.place) same r.there in
@@ -80,7 +86,8 @@ read_on layers task asked number lower rank late r before layer at_before at_lay
       there = origin.parent_there;
       end = r.end;
       asked_for = r.asked_for;
-      lead = λ ps lead. subst (IsLeadOf task.board r.end) (append_assoc ps (o.1 ∷ []) late) (r.lead (ps ++ o.1 ∷ []) (subst (λ (m : Scene). IsLeadOf task.board m (ps ++ o.1 ∷ [])) place (origin.lead ps lead)));
+      lead = λ ps lead. subst (IsLeadOf task.board r.end) (append_assoc ps (o.1 ∷ []) late)
+          (r.lead (ps ++ o.1 ∷ []) (subst (λ (m : Scene). IsLeadOf task.board m (ps ++ o.1 ∷ [])) place (origin.lead ps lead)));
     }
 
 -- the layers of a trail are as many as it has lists
@@ -88,12 +95,17 @@ pub trail_long : (task : Task) (layers : List LayerView) (trail : List (List (Or
 trail_long task layers trail trailed = sym (length-map layers (λ (x : LayerView). x.origins)) ∙ ap (λ (xs : List (List (Origin Push))). length xs) trailed.shown
 
 -- what a trail has of a layer
-trail_at : (task : Task) (layers : List LayerView) (trail : List (List (Origin Push))) → AreTrailed task layers trail → (k : ℕ) (layer : LayerView) → slice_get layers k ≡ Some layer → slice_get trail k ≡ Some layer.origins
+trail_at : (task : Task) (layers : List LayerView) (trail : List (List (Origin Push))) → AreTrailed task layers trail → (k : ℕ) (layer : LayerView) →
+    slice_get layers k ≡ Some layer → slice_get trail k ≡ Some layer.origins
 trail_at task layers trail trailed k layer at =
-    ap (λ (xs : List (List (Origin Push))). slice_get xs k) (sym trailed.shown) ∙ slice_get-map (λ (x : LayerView). x.origins) layers k ∙ ap (option_map (λ (x : LayerView). x.origins)) at
+    ap (λ (xs : List (List (Origin Push))). slice_get xs k) (sym trailed.shown) ∙ slice_get-map (λ (x : LayerView). x.origins) layers k
+    ∙ ap (option_map (λ (x : LayerView). x.origins)) at
 
 -- a position of a later layer that was come to has an origin, and one push more is read
-pub read_origin : (task : Task) (layers : List LayerView) (trail : List (List (Origin Push))) → AreTrailed task layers trail → (asked k rank : ℕ) (read : List Push) → 1 ≤ k → IsReadBack layers task asked k rank (reverse read) → (list : List (Origin Push)) → slice_get trail k ≡ Some list → (found : Option (Origin Push)) → found ≡ slice_get list rank → (o : Origin Push) × (found ≡ Some o) × IsReadBack layers task asked (k - 1) o.0 (reverse (read ++ o.1 ∷ []))
+pub read_origin : (task : Task) (layers : List LayerView) (trail : List (List (Origin Push))) → AreTrailed task layers trail →
+    (asked k rank : ℕ) (read : List Push) → 1 ≤ k → IsReadBack layers task asked k rank (reverse read) → (list : List (Origin Push)) →
+    slice_get trail k ≡ Some list → (found : Option (Origin Push)) → found ≡ slice_get list rank →
+    (o : Origin Push) × (found ≡ Some o) × IsReadBack layers task asked (k - 1) o.0 (reverse (read ++ o.1 ∷ []))
 read_origin task layers trail trailed asked k rank read later r list at found is = by found refl
   where
     layer : LayerView
@@ -127,12 +139,14 @@ read_origin task layers trail trailed asked k rank read later r list at found is
     by None e = absurd (origin_there before layer whole number rank lt (sym here ∙ e))
     by (Some o) e =
         let level = (trailed.each k layer r.in_layer).0 in
-        let origin = origin_at before layer (trailed.each (k - 1) before at_before).2 whole ((trailed.each (k - 1) before at_before).0 ∙ sym level) number rank lt o (sym here ∙ e) in
-        let next = read_on layers task asked k (k - 1) rank (reverse read) r before layer at_before r.in_layer o (subst (λ (b : Task). IsOriginAt b before.places layer.places rank o) level origin) in
+        let origin = origin_at before layer (trailed.each (k - 1) before at_before).2 whole ((trailed.each (k - 1) before at_before).0
+        ∙ sym level) number rank lt o (sym here ∙ e) in let next = read_on layers task asked k (k - 1) rank (reverse read) r before layer at_before r.in_layer o
+        (subst (λ (b : Task). IsOriginAt b before.places layer.places rank o) level origin) in
         (o, e, subst (IsReadBack layers task asked (k - 1) o.0) (sym (reverse-append read (o.1 ∷ []))) next)
 
 -- in layer 0 all is read
-pub read_done : (task : Task) (layers : List LayerView) (trail : List (List (Origin Push))) → AreTrailed task layers trail → (asked k rank : ℕ) (late : List Push) → k ≡ 0 → IsReadBack layers task asked k rank late → IsLeadAt task (last_places layers) asked late
+pub read_done : (task : Task) (layers : List LayerView) (trail : List (List (Origin Push))) → AreTrailed task layers trail →
+    (asked k rank : ℕ) (late : List Push) → k ≡ 0 → IsReadBack layers task asked k rank late → IsLeadAt task (last_places layers) asked late
 read_done task layers trail trailed asked k rank late none r =
     let own = ((layer_0.leads rank r.place r.there).1) in
     record { place = r.end; there = r.asked_for; lead = r.lead [] (subst (IsLeadOf task.board r.place) (empty own.0 own.2) own.1) }
@@ -145,20 +159,29 @@ read_done task layers trail trailed asked k rank late none r =
     here = trailed.each k r.layer r.in_layer
 
     layer_0 : IsLayerOf task 0 r.layer.places
-    layer_0 = subst (λ (n : ℕ). IsLayerOf task n r.layer.places) (here.1 ∙ none) (subst (λ (b : Task). IsLayerOf b r.layer.number r.layer.places) here.0 here.2.layer)
+    layer_0 = subst (λ (n : ℕ). IsLayerOf task n r.layer.places) (here.1 ∙ none)
+        (subst (λ (b : Task). IsLayerOf b r.layer.number r.layer.places) here.0 here.2.layer)
 
 -- whoever tells the origins, what they are at a place
-told_at : {P : Type 0} (origins : P → List (Origin Push)) (trail : List P) (k : ℕ) (p : P) → k < length trail → p ≡ slice_index_or trail k p → slice_get (map origins trail) k ≡ Some (origins p)
+told_at : {P : Type 0} (origins : P → List (Origin Push)) (trail : List P) (k : ℕ) (p : P) → k < length trail → p ≡ slice_index_or trail k p →
+    slice_get (map origins trail) k ≡ Some (origins p)
 told_at origins trail k p lt is =
     slice_get-map origins trail k ∙ ap (option_map origins) (slice_get_read trail (length trail) k p refl lt is)
 
 -- before the first look nothing is read
-pub read_first : {P : Type 0} (origins : P → List (Origin Push)) (trail : List P) (task : Task) (layers : List LayerView) → AreTrailed task layers (map origins trail) → (asked : ℕ) → asked < length (last_places layers) → IsReadBack layers task asked (length trail - 1) asked (reverse [])
+pub read_first : {P : Type 0} (origins : P → List (Origin Push)) (trail : List P) (task : Task) (layers : List LayerView) →
+    AreTrailed task layers (map origins trail) → (asked : ℕ) → asked < length (last_places layers) →
+    IsReadBack layers task asked (length trail - 1) asked (reverse [])
 read_first origins trail task layers trailed asked lt =
-    subst (λ (n : ℕ). IsReadBack layers task asked (n - 1) asked []) (trail_long task layers (map origins trail) trailed ∙ length-map trail origins) (read_begins layers task asked lt)
+    subst (λ (n : ℕ). IsReadBack layers task asked (n - 1) asked []) (trail_long task layers (map origins trail) trailed ∙ length-map trail origins)
+    (read_begins layers task asked lt)
 
 -- a look at the parents of the layer that was come to reads one push more
-pub read_some : {P : Type 0} (origins : P → List (Origin Push)) (trail : List P) (task : Task) (layers : List LayerView) → AreTrailed task layers (map origins trail) → (asked number rank : ℕ) (read after : List Push) → 1 < number → number ≤ length trail → IsReadBack layers task asked (number - 1) rank (reverse read) → (p : P) → p ≡ slice_index_or trail (number - 1) p → (found : Option (Origin Push)) → found ≡ slice_get (origins p) rank → (o : Origin Push) → found ≡ Some o → after ≡ read ++ o.1 ∷ [] → IsReadBack layers task asked ((number - 1) - 1) o.0 (reverse after)
+pub read_some : {P : Type 0} (origins : P → List (Origin Push)) (trail : List P) (task : Task) (layers : List LayerView) →
+    AreTrailed task layers (map origins trail) → (asked number rank : ℕ) (read after : List Push) → 1 < number → number ≤ length trail →
+    IsReadBack layers task asked (number - 1) rank (reverse read) → (p : P) → p ≡ slice_index_or trail (number - 1) p → (found : Option (Origin Push)) →
+    found ≡ slice_get (origins p) rank → (o : Origin Push) → found ≡ Some o → after ≡ read ++ o.1 ∷ [] →
+    IsReadBack layers task asked ((number - 1) - 1) o.0 (reverse after)
 read_some origins trail task layers trailed asked number rank read after more within r p is found told o some items =
     let at = told_at origins trail (number - 1) p (omega (arith, more, within)) is in
     let x = read_origin task layers (map origins trail) trailed asked (number - 1) rank read (omega (arith, more)) r (origins p) at found told in
@@ -167,7 +190,10 @@ read_some origins trail task layers trailed asked number rank read after more wi
     (subst (λ (y : Origin Push). IsReadBack layers task asked ((number - 1) - 1) y.0 (reverse (read ++ y.1 ∷ []))) same x.2)
 
 -- and finds one
-pub read_none : {P : Type 0} (origins : P → List (Origin Push)) (trail : List P) (task : Task) (layers : List LayerView) → AreTrailed task layers (map origins trail) → (asked number rank : ℕ) (read : List Push) → 1 < number → number ≤ length trail → IsReadBack layers task asked (number - 1) rank (reverse read) → (p : P) → p ≡ slice_index_or trail (number - 1) p → (found : Option (Origin Push)) → found ≡ slice_get (origins p) rank → found ≡ None → IsReadBack layers task asked ((number - 1) - 1) rank (reverse read)
+pub read_none : {P : Type 0} (origins : P → List (Origin Push)) (trail : List P) (task : Task) (layers : List LayerView) →
+    AreTrailed task layers (map origins trail) → (asked number rank : ℕ) (read : List Push) → 1 < number → number ≤ length trail →
+    IsReadBack layers task asked (number - 1) rank (reverse read) → (p : P) → p ≡ slice_index_or trail (number - 1) p → (found : Option (Origin Push)) →
+    found ≡ slice_get (origins p) rank → found ≡ None → IsReadBack layers task asked ((number - 1) - 1) rank (reverse read)
 read_none origins trail task layers trailed asked number rank read more within r p is found told none =
     let at = told_at origins trail (number - 1) p (omega (arith, more, within)) is in
     let x = read_origin task layers (map origins trail) trailed asked (number - 1) rank read (omega (arith, more)) r (origins p) at found told in
@@ -180,18 +206,23 @@ lesser_or_same (suc j) zero lt = absurd (omega (arith, lt))
 lesser_or_same (suc j) (suc k) lt = elim (lesser_or_same j k (omega (arith, lt))) [ inl less ↦ inl (omega (arith, less)) | inr same ↦ inr (ap suc same) ]
 
 -- some layers are whole up to a place, and the one there too
-pub whole_upto : (layers : List LayerView) (index : ℕ) (here : LayerView) → index < length layers → here ≡ slice_index_or layers index here → IsWhole here → ((j : ℕ) (layer : LayerView) → j < index → slice_get layers j ≡ Some layer → IsWhole layer) → (j : ℕ) (layer : LayerView) → j < index + 1 → slice_get layers j ≡ Some layer → IsWhole layer
+pub whole_upto : (layers : List LayerView) (index : ℕ) (here : LayerView) → index < length layers → here ≡ slice_index_or layers index here → IsWhole here →
+    ((j : ℕ) (layer : LayerView) → j < index → slice_get layers j ≡ Some layer → IsWhole layer) → (j : ℕ) (layer : LayerView) → j < index + 1 →
+    slice_get layers j ≡ Some layer → IsWhole layer
 whole_upto layers index here lt is whole before j layer below at = elim (lesser_or_same j index (omega (arith, below))) [
   | inl less ↦ before j layer less at
-  | inr same ↦ subst IsWhole (same_Some here layer (sym (slice_get_read layers (length layers) index here refl lt is) ∙ ap (slice_get layers) (sym same) ∙ at)) whole
+  | inr same ↦ subst IsWhole (same_Some here layer (sym (slice_get_read layers (length layers) index here refl lt is) ∙ ap (slice_get layers) (sym same) ∙ at))
+      whole
 ]
 
 -- the level of the first layer
-pub first_level : (layers : List LayerView) → AreFirstLayers layers → (first : LayerView) → first ≡ slice_index_or layers 0 first → first.level ≡ level_of layers
+pub first_level : (layers : List LayerView) → AreFirstLayers layers → (first : LayerView) → first ≡ slice_index_or layers 0 first →
+    first.level ≡ level_of layers
 first_level layers are first is = (are.each 0 first (slice_get_read layers (length layers) 0 first refl (let some = are.some in omega (arith, some)) is)).0
 
 -- some first layers, each of which is whole, are a trail of their own
-pub own_trail : (layers : List LayerView) → AreFirstLayers layers → ((j : ℕ) (layer : LayerView) → slice_get layers j ≡ Some layer → IsWhole layer) → AreTrailed (level_of layers) layers (map (λ (x : LayerView). x.origins) layers)
+pub own_trail : (layers : List LayerView) → AreFirstLayers layers → ((j : ℕ) (layer : LayerView) → slice_get layers j ≡ Some layer → IsWhole layer) →
+    AreTrailed (level_of layers) layers (map (λ (x : LayerView). x.origins) layers)
 own_trail layers first whole = record {
   each = λ j layer at. ((first.each j layer at).0, (first.each j layer at).1, whole j layer at);
   shown = refl;
@@ -205,7 +236,8 @@ told_same f same (x ∷ xs) = λ i. same x i ∷ told_same f same xs i
 -- ---- the last layer apart from those before it
 
 -- a position without an origin is that of layer 0
-pub back_start : (trail : List (List (Origin Push))) (layer : LayerView) → IsNextOf trail layer → IsWhole layer → (rank : ℕ) → rank < length layer.places → slice_get layer.origins rank ≡ None → IsLeadAt layer.level layer.places rank []
+pub back_start : (trail : List (List (Origin Push))) (layer : LayerView) → IsNextOf trail layer → IsWhole layer → (rank : ℕ) → rank < length layer.places →
+    slice_get layer.origins rank ≡ None → IsLeadAt layer.level layer.places rank []
 back_start trail layer next whole rank lt none = by layer.number refl
   where
     m : (m : Scene) × (slice_get layer.places rank ≡ Some m)
@@ -229,7 +261,10 @@ pub last_before : (layers : List LayerView) (before : LayerView) → slice_get l
 last_before layers before at = ap places_or_none at
 
 -- a position with an origin has the lead of its parent, and then the push
-pub back_on : (trail : List (List (Origin Push))) (layer : LayerView) → IsNextOf trail layer → IsWhole layer → (rank : ℕ) → rank < length layer.places → (o : Origin Push) → slice_get layer.origins rank ≡ Some o → (pushes : List Push) → ((task : Task) (layers : List LayerView) → AreTrailed task layers trail → o.0 < length (last_places layers) → IsLeadAt task (last_places layers) o.0 pushes) → IsLeadAt layer.level layer.places rank (pushes ++ o.1 ∷ [])
+pub back_on : (trail : List (List (Origin Push))) (layer : LayerView) → IsNextOf trail layer → IsWhole layer → (rank : ℕ) → rank < length layer.places →
+    (o : Origin Push) → slice_get layer.origins rank ≡ Some o → (pushes : List Push) →
+    ((task : Task) (layers : List LayerView) → AreTrailed task layers trail → o.0 < length (last_places layers) →
+    IsLeadAt task (last_places layers) o.0 pushes) → IsLeadAt layer.level layer.places rank (pushes ++ o.1 ∷ [])
 back_on trail layer next whole rank lt o at pushes read = by layer.number refl
   where
     layers : List LayerView
@@ -250,20 +285,28 @@ back_on trail layer next whole rank lt o at pushes read = by layer.number refl
         let lead = read layer.level layers next.trailed (omega (arith, parent, ap (λ (xs : List Scene). length xs) last)) in
         let there : slice_get before.places o.0 ≡ Some lead.place = ap (λ (xs : List Scene). slice_get xs o.0) (sym last) ∙ lead.there in
         let same : lead.place ≡ origin.parent = same_Some lead.place origin.parent (sym there ∙ origin.parent_there) in
-        record { place = origin.place; there = origin.there; lead = origin.lead pushes (subst (λ (m : Scene). IsLeadOf layer.level.board m pushes) same lead.lead) }
+        record {
+          place = origin.place;
+          there = origin.there;
+          lead = origin.lead pushes (subst (λ (m : Scene). IsLeadOf layer.level.board m pushes) same lead.lead);
+        }
 
 -- ---- a lead that was read
 
 -- is the pushes of a play
-pub lead_played : (task : Task) (other : Board) (places : List Scene) (rank : ℕ) (ps qs : List Push) → other ≡ task.board → qs ≡ ps → IsLeadAt task places rank ps → ArePlayed other qs
+pub lead_played : (task : Task) (other : Board) (places : List Scene) (rank : ℕ) (ps qs : List Push) → other ≡ task.board → qs ≡ ps →
+    IsLeadAt task places rank ps → ArePlayed other qs
 lead_played task other places rank ps qs level same lead =
     let reached = lead.lead.reached in
     let played : ArePlayed task.board ps = (reached.0, reached.1, play_any reached.2) in
     subst (λ (b : Board). ArePlayed b qs) (sym level) (subst (ArePlayed task.board) (sym same) played)
 
 -- so its least play is the one that is asked for
-pub lead_moves : (task : Task) (other : Board) (places : List Scene) (rank : ℕ) (ps qs : List Push) (letters : List Letter) → other ≡ task.board → qs ≡ ps → IsLeadAt task places rank ps → ((t : Scene) × WritesLeastPlay other qs t letters) → (n : Scene) → slice_get places rank ≡ Some n → WritesLead task.board n letters
+pub lead_moves : (task : Task) (other : Board) (places : List Scene) (rank : ℕ) (ps qs : List Push) (letters : List Letter) → other ≡ task.board → qs ≡ ps →
+    IsLeadAt task places rank ps → ((t : Scene) × WritesLeastPlay other qs t letters) → (n : Scene) → slice_get places rank ≡ Some n →
+    WritesLead task.board n letters
 lead_moves task other places rank ps qs letters level same lead w n at =
     let place : lead.place ≡ n = same_Some lead.place n (sym lead.there ∙ at) in
-    let written : WritesLeastPlay task.board ps w.0 letters = subst (λ (b : Board). WritesLeastPlay b ps w.0 letters) level (subst (λ (rs : List Push). WritesLeastPlay other rs w.0 letters) same w.1) in
+    let written : WritesLeastPlay task.board ps w.0 letters = subst (λ (b : Board). WritesLeastPlay b ps w.0 letters) level
+    (subst (λ (rs : List Push). WritesLeastPlay other rs w.0 letters) same w.1) in
     lead_written task.board n ps w.0 letters (subst (λ (m : Scene). IsLeadOf task.board m ps) place lead.lead) written

@@ -25,21 +25,25 @@ closed_ahead before after report by = inr (closes before after by.1.0 by.1.2)
 abbrev pub IsRestThrough : BookView → BookView → Type 0
 IsRestThrough v w = RestAnswer v Through w × IsLawfulBook w
 
-pub rests_through : (before : List BookView) (place : ℕ) (books : List BookView) → length books ≤ place → HaveChangedUpTo IsRestThrough before place books → RestAnswers before Through books
+pub rests_through : (before : List BookView) (place : ℕ) (books : List BookView) → length books ≤ place → HaveChangedUpTo IsRestThrough before place books →
+    RestAnswers before Through books
 rests_through before place books all so = (so.same, λ i v at. (let c = all_changed IsRestThrough before place books all so i v at in (c.0, c.1, c.2.0, c.2.1)))
 
 -- one of them is over
-pub rest_over : (before : List BookView) (place : ℕ) (books : List BookView) (v w : BookView) → slice_get before place ≡ Some v → RestAnswer v Over w → IsLawfulBook w → HaveChangedUpTo IsRestThrough before place books → RestAnswers before Over (set books place w)
+pub rest_over : (before : List BookView) (place : ℕ) (books : List BookView) (v w : BookView) → slice_get before place ≡ Some v → RestAnswer v Over w →
+    IsLawfulBook w → HaveChangedUpTo IsRestThrough before place books → RestAnswers before Over (set books place w)
 rest_over before place books v w at over lawful so =
     (place, v, at, (w, set_here books place w (omega (arith, slice_get_within before place v at, so.same)), over, lawful))
 
 -- a finish that was refused left its book at work
-pub rest_may_be_worked : (before : List BookView) (layer : LayerView) (place : ℕ) (books : List BookView) (v w : BookView) → slice_get before place ≡ Some v → IsStillAt v layer w → HaveChangedUpTo IsRestThrough before place books → MayBeWorked before layer (set books place w)
-rest_may_be_worked before layer place books v w at still so = (more.same, λ i x at_x. some_changed (MayBeLeft layer) before (place + 1) (set books place w) (λ y. inl refl) more i x at_x)
-  where
-    left : (b : Bool) (x y : BookView) → MatchBool b (WorkAnswer x Through y) ((Through ≡ Through) × (y ≡ x)) → MayBeLeft layer x y
-    left true x y through = inr (inr through)
-    left false x y kept = inl kept.1
+pub rest_may_be_worked : (before : List BookView) (layer : LayerView) (place : ℕ) (books : List BookView) (v w : BookView) → slice_get before place ≡ Some v →
+    IsStillAt v layer w → HaveChangedUpTo IsRestThrough before place books → MayBeWorked before layer (set books place w)
+rest_may_be_worked before layer place books v w at still so =
+    (more.same, λ i x at_x. some_changed (MayBeLeft layer) before (place + 1) (set books place w) (λ y. inl refl) more i x at_x) where
+      left : (b : Bool) (x y : BookView) → MatchBool b (WorkAnswer x Through y) ((Through ≡ Through) × (y ≡ x)) → MayBeLeft layer x y
+      left true x y through = inr (inr through)
+      left false x y kept = inl kept.1
 
-    more : HaveChangedUpTo (MayBeLeft layer) before (place + 1) (set books place w)
-    more = one_changed (MayBeLeft layer) before place books v w (weaker IsRestThrough (MayBeLeft layer) before place books (λ x y e. left x.begun x y e.0) so) at (inr (inl still))
+      more : HaveChangedUpTo (MayBeLeft layer) before (place + 1) (set books place w)
+      more = one_changed (MayBeLeft layer) before place books v w (weaker IsRestThrough (MayBeLeft layer) before place books (λ x y e. left x.begun x y e.0) so)
+          at (inr (inl still))

@@ -34,7 +34,9 @@ contained_all test (x ∷ xs) all q there =
     by false e later here = later (rw e at there)
 
 -- one more place that is not solved
-pub unsolved_more : (board : Board) (places : List Scene) (rank : ℕ) → ((r : ℕ) (n : Scene) → r < rank → slice_get places r ≡ Some n → ¬ (IsSolved board n)) → ((n : Scene) → slice_get places rank ≡ Some n → ¬ (IsSolved board n)) → (r : ℕ) (n : Scene) → r < rank + 1 → slice_get places r ≡ Some n → ¬ (IsSolved board n)
+pub unsolved_more : (board : Board) (places : List Scene) (rank : ℕ) → ((r : ℕ) (n : Scene) → r < rank → slice_get places r ≡ Some n → ¬ (IsSolved board n)) →
+    ((n : Scene) → slice_get places rank ≡ Some n → ¬ (IsSolved board n)) → (r : ℕ) (n : Scene) → r < rank + 1 → slice_get places r ≡ Some n →
+    ¬ (IsSolved board n)
 unsolved_more board places rank before here r n lt at =
     elim (cases_lt r rank) [
       | inl less ↦ before r n less at
@@ -42,5 +44,6 @@ unsolved_more board places rank before here r n lt at =
     ]
 
 -- at the end of the list all places were looked at
-pub unsolved_all : (board : Board) (places : List Scene) (rank : ℕ) → ((r : ℕ) (n : Scene) → r < rank → slice_get places r ≡ Some n → ¬ (IsSolved board n)) → length places ≤ rank → (r : ℕ) (n : Scene) → slice_get places r ≡ Some n → ¬ (IsSolved board n)
+pub unsolved_all : (board : Board) (places : List Scene) (rank : ℕ) → ((r : ℕ) (n : Scene) → r < rank → slice_get places r ≡ Some n → ¬ (IsSolved board n)) →
+    length places ≤ rank → (r : ℕ) (n : Scene) → slice_get places r ≡ Some n → ¬ (IsSolved board n)
 unsolved_all board places rank before le r n at = let within = slice_get_within places r n at in before r n (omega arith) at

@@ -1,5 +1,6 @@
 -- What a search has behind it, and what answers follow from where it ends.
-use Rattle.std.proofs.Common.{◌≡◌, ℕ, zero, suc, ◌+◌, ◌-◌, ◌<◌, ◌≤◌, false, true, List, [], ◌∷◌, ◌++◌, length, get_or, Option, None, Some, inl, inr, refl, sym, ap, subst, ◌∙◌, arith}
+use Rattle.std.proofs.Common.{◌≡◌, ℕ, zero, suc, ◌+◌, ◌-◌, ◌<◌, ◌≤◌, false, true, List, [], ◌∷◌, ◌++◌, length, get_or, Option, None, Some, inl, inr, refl, sym}
+use Rattle.std.proofs.Common.{ap, subst, ◌∙◌, arith}
 use Rattle.std.proofs.lemmas.Bool.{cases_lt}
 use Rattle.std.proofs.lemmas.List.{length-append}
 use Rattle.std.proofs.lemmas.Option.{same_Some, none-some}
@@ -45,7 +46,8 @@ total-push [] xs = omega arith
 total-push (ys ∷ xss) xs = omega (arith, sum_by_first length ys (xss ++ xs ∷ []), sum_by_first length ys xss, total-push xss xs)
 
 -- the first layers with the next one are the first layers
-pub layers_more : (task : Task) (layers : List (List Scene)) (xs : List Scene) → AreLayersOf task layers → IsLayerOf task (length layers) xs → AreLayersOf task (layers ++ xs ∷ [])
+pub layers_more : (task : Task) (layers : List (List Scene)) (xs : List Scene) → AreLayersOf task layers → IsLayerOf task (length layers) xs →
+    AreLayersOf task (layers ++ xs ∷ [])
 layers_more task layers xs are layer j ys at_j = elim (at-push layers xs j ys at_j) [
   | inl old ↦ are j ys old
   | inr last ↦ subst (λ zs. IsLayerOf task j zs) (sym last.1) (subst (λ i. IsLayerOf task i xs) (sym last.0) layer)
@@ -60,7 +62,8 @@ none_searched task = record {
 }
 
 -- a layer that is neither empty nor has a solved position is searched too
-pub searched_more : (task : Task) (layers : List (List Scene)) (xs : List Scene) → AreSearched task layers → IsLayerOf task (length layers) xs → 1 ≤ length xs → AreUnsolved task.board xs → AreSearched task (layers ++ xs ∷ [])
+pub searched_more : (task : Task) (layers : List (List Scene)) (xs : List Scene) → AreSearched task layers → IsLayerOf task (length layers) xs →
+    1 ≤ length xs → AreUnsolved task.board xs → AreSearched task (layers ++ xs ∷ [])
 searched_more task layers xs searched layer some unsolved = record {
   are = layers_more task layers xs searched.are layer;
   filled = λ j ys at_j. elim (at-push layers xs j ys at_j) [
@@ -80,7 +83,8 @@ pub solved_boxes : (board : Board) (s t : Scene) → s.boxes ≡ t.boxes → IsS
 solved_boxes board s t same solved q there = solved q (subst (λ (boxes : Squares). contains boxes q ≡ true) (sym same) there)
 
 -- the pushes of a solution lead through undoomed positions to a solved normal form
-pub solution_reaches : (board : Board) → IsLevel board → (ds : List Dir) (ps : List Push) → IsSolution board ds ps → (n : Scene) × Reaches board ps n × IsSolved board n
+pub solution_reaches : (board : Board) → IsLevel board → (ds : List Dir) (ps : List Push) → IsSolution board ds ps →
+    (n : Scene) × Reaches board ps n × IsSolved board n
 solution_reaches board level ds ps (t, play, solved) =
     let scene = start_is_scene board level in
     let n = norm_exists board t (play_scene scene play) in
@@ -108,15 +112,19 @@ solved_admitted task k n solved kept = go task.cap kept
     go (Some most) le = (0, solved_need_none task.board n solved, omega (arith, le))
 
 -- no fewer pushes than there are layers that were searched lead to a solved position
-pub solved_bound : (task : Task) (layers : List (List Scene)) → IsLevel task.board → AreSearched task layers → (ps : List Push) (n : Scene) → Reaches task.board ps n → IsSolved task.board n → KeepsCap task.cap (length ps) → length layers ≤ length ps
+pub solved_bound : (task : Task) (layers : List (List Scene)) → IsLevel task.board → AreSearched task layers → (ps : List Push) (n : Scene) →
+    Reaches task.board ps n → IsSolved task.board n → KeepsCap task.cap (length ps) → length layers ≤ length ps
 solved_bound task layers level searched ps n reach solved kept = elim (cases_lt (length ps) (length layers)) [
-  | inl lt ↦ (let w = found (level_laws task level) (λ j. get_or layers j []) (length ps) (λ j le. searched.are j (get_or layers j []) (read_at layers j (omega arith))) (length ps) ps n (omega arith) (omega arith) reach (solved_admitted task (length ps) n solved kept) in
+  | inl lt ↦ (let w = found (level_laws task level) (λ j. get_or layers j []) (length ps)
+      (λ j le. searched.are j (get_or layers j []) (read_at layers j (omega arith))) (length ps) ps n (omega arith) (omega arith) reach
+      (solved_admitted task (length ps) n solved kept) in
       absurd (searched.unsolved w.0 (get_or layers w.0 []) (read_at layers w.0 (omega (arith, w.1))) w.2.0 n w.2.1 solved))
   | inr ge ↦ omega arith
 ]
 
 -- so no solution has fewer
-pub searched_bound : (task : Task) (layers : List (List Scene)) → IsLevel task.board → AreSearched task layers → (ds : List Dir) (ps : List Push) → IsSolutionOf task ds ps → length layers ≤ length ps
+pub searched_bound : (task : Task) (layers : List (List Scene)) → IsLevel task.board → AreSearched task layers → (ds : List Dir) (ps : List Push) →
+    IsSolutionOf task ds ps → length layers ≤ length ps
 searched_bound task layers level searched ds ps (solution, kept) =
     let r = solution_reaches task.board level ds ps solution in
     solved_bound task layers level searched ps r.0 r.1 r.2 kept
@@ -126,15 +134,19 @@ searched_bound task layers level searched ds ps (solution, kept) =
 -- the lead of the first solved position of the first layer that has one comes after no push list that leads to a
 -- solved position
 pub first_lead_least : (task : Task) (layers : List (List Scene)) (xs : List Scene) (rank : ℕ) (n : Scene) (ps : List Push) →
-    IsLevel task.board → AreSearched task layers → IsLayerOf task (length layers) xs → IsFirstSolved task.board xs rank → slice_get xs rank ≡ Some n → IsLeadOf task.board n ps → length ps ≡ length layers →
+    IsLevel task.board → AreSearched task layers → IsLayerOf task (length layers) xs → IsFirstSolved task.board xs rank → slice_get xs rank ≡ Some n →
+    IsLeadOf task.board n ps → length ps ≡ length layers →
     (qs : List Push) (m : Scene) → Reaches task.board qs m → IsSolved task.board m → is_gt (shortlex push_cmp ps qs) ≡ false
 first_lead_least task layers xs rank n ps level searched layer first at_rank lead long qs m reach solved = elim (cases_lt (length layers) (length qs)) [
   | inl lt ↦ shortlex_shorter push_cmp ps qs (omega arith)
-  | inr ge ↦ (let same : length qs ≡ length layers = omega (arith, ge, solved_bound task layers level searched qs m reach solved (fewer (length qs) (omega (arith, ge)))) in
-      elim (layer.whole qs m reach same (solved_admitted task (length layers) m solved kept)) [
-        | inl i ↦ within i.0 i.1
-        | inr w ↦ absurd (omega (arith, w.2, solved_bound task layers level searched w.0 m w.1 solved (fewer (length w.0) (omega (arith, w.2)))))
-      ])
+  | inr ge ↦ (let same : length qs ≡ length layers = omega (
+    arith,
+    ge,
+    solved_bound task layers level searched qs m reach solved (fewer (length qs) (omega (arith, ge))),
+  ) in elim (layer.whole qs m reach same (solved_admitted task (length layers) m solved kept)) [
+    | inl i ↦ within i.0 i.1
+    | inr w ↦ absurd (omega (arith, w.2, solved_bound task layers level searched w.0 m w.1 solved (fewer (length w.0) (omega (arith, w.2)))))
+  ])
 ]
   where
     -- the position at the rank is admitted, so as many pushes as there are layers are within the cap, and fewer are
@@ -148,7 +160,8 @@ first_lead_least task layers xs rank n ps level searched layer first at_rank lea
     within r at_r = elim (cases_lt rank r) [
       | inl lt ↦ (let l = (layer.leads r m at_r).1 in
           let less = layer.rise rank r n m ps l.0 lt at_rank at_r lead l.1 in
-          upto-less (shortlex push_cmp ps qs) (less_upto (shortlex_total push_cmp_total) ps l.0 qs (shortlex_same push_cmp ps l.0 (omega (arith, l.2)) ∙ less) (l.1.least qs reach)))
+          upto-less (shortlex push_cmp ps qs) (less_upto (shortlex_total push_cmp_total) ps l.0 qs (shortlex_same push_cmp ps l.0 (omega (arith, l.2)) ∙ less)
+          (l.1.least qs reach)))
       | inr le ↦ elim (cases_lt r rank) [
         | inl lt ↦ absurd (first.first r m lt at_r solved)
         | inr ge ↦ (let e : r ≡ rank = omega arith in
@@ -165,7 +178,8 @@ then_tied Greater b e f = e
 
 -- the letters for the first solved position write the least solution
 pub writes_least : (task : Task) (layers : List (List Scene)) (xs : List Scene) (rank : ℕ) (n : Scene) (letters : List Letter) →
-    IsLevel task.board → AreSearched task layers → IsLayerOf task (length layers) xs → IsFirstSolved task.board xs rank → slice_get xs rank ≡ Some n → WritesLead task.board n letters → WritesLeastSolution task.board letters (length layers)
+    IsLevel task.board → AreSearched task layers → IsLayerOf task (length layers) xs → IsFirstSolved task.board xs rank → slice_get xs rank ≡ Some n →
+    WritesLead task.board n letters → WritesLeastSolution task.board letters (length layers)
 writes_least task layers xs rank n letters level searched layer first at_rank writes = record {
   list = writes.pushes;
   end = writes.end;
@@ -195,27 +209,39 @@ writes_least task layers xs rank n letters level searched layer first at_rank wr
         writes.least es solution.0 (subst (λ ps. Play task.board Any (start task.board) es ps solution.0) (sym same) solution.1)))
 
 -- the layers that were searched and the next one have their positions together
-pub have_total : (task : Task) (layers : List (List Scene)) (xs : List Scene) → AreLayersOf task layers → IsLayerOf task (length layers) xs → HaveTotal task (suc (length layers)) (total layers + length xs)
-have_total task layers xs are layer = (layers ++ xs ∷ [], layers_more task layers xs are layer, omega (arith, length-append layers (xs ∷ [])), total-push layers xs)
+pub have_total : (task : Task) (layers : List (List Scene)) (xs : List Scene) → AreLayersOf task layers → IsLayerOf task (length layers) xs →
+    HaveTotal task (suc (length layers)) (total layers + length xs)
+have_total task layers xs are layer = (
+  layers ++ xs ∷ [],
+  layers_more task layers xs are layer,
+  omega (arith, length-append layers (xs ∷ [])),
+  total-push layers xs,
+)
 
 -- the level is solved by the first solved position of the next layer
 pub solved_answer : (task : Task) (limit : ℕ) (layers : List (List Scene)) (xs : List Scene) (rank : ℕ) (n : Scene) (letters : List Letter) →
-    IsLevel task.board → AreSearched task layers → IsLayerOf task (length layers) xs → IsFirstSolved task.board xs rank → slice_get xs rank ≡ Some n → WritesLead task.board n letters → total layers + length xs ≤ limit →
-    IsAnswer task limit (Solved letters (length layers) (total layers + length xs))
-solved_answer task limit layers xs rank n letters level searched layer first at_rank writes few =
-    (writes_least task layers xs rank n letters level searched layer first at_rank writes, have_total task layers xs searched.are layer, few, admitted_kept task (length layers) n (layer.leads rank n at_rank).0)
+    IsLevel task.board → AreSearched task layers → IsLayerOf task (length layers) xs → IsFirstSolved task.board xs rank → slice_get xs rank ≡ Some n →
+    WritesLead task.board n letters → total layers + length xs ≤ limit → IsAnswer task limit (Solved letters (length layers) (total layers + length xs))
+solved_answer task limit layers xs rank n letters level searched layer first at_rank writes few = (
+  writes_least task layers xs rank n letters level searched layer first at_rank writes,
+  have_total task layers xs searched.are layer,
+  few,
+  admitted_kept task (length layers) n (layer.leads rank n at_rank).0,
+)
 
 -- ---- unsolvable
 
 -- where layer k is empty, what is reached and admitted is reached by fewer than k pushes
 module _ (task : Task) (level : IsLevel task.board) (k : ℕ) (empty : IsLayerOf task k []) where
-  sooner_here : (ps : List Push) (n : Scene) → Reaches task.board ps n → length ps ≤ k → Admits task k n → (qs : List Push) × Reaches task.board qs n × (length qs < k)
+  sooner_here : (ps : List Push) (n : Scene) → Reaches task.board ps n → length ps ≤ k → Admits task k n →
+      (qs : List Push) × Reaches task.board qs n × (length qs < k)
   sooner_here ps n reach short adm = elim (cases_lt (length ps) k) [
     | inl lt ↦ (ps, reach, lt)
     | inr ge ↦ elim (empty.whole ps n reach (omega arith) adm) [ inl i ↦ absurd (none-some n i.1) | inr w ↦ w ]
   ]
 
-  sooner_by : (b : ℕ) (ps : List Push) (n : Scene) → Reaches task.board ps n → length ps ≡ b → Admits task b n → (qs : List Push) × Reaches task.board qs n × (length qs < k)
+  sooner_by : (b : ℕ) (ps : List Push) (n : Scene) → Reaches task.board ps n → length ps ≡ b → Admits task b n →
+      (qs : List Push) × Reaches task.board qs n × (length qs < k)
   sooner_by zero ps n reach long adm = elim (cases_lt zero k) [
     | inl lt ↦ (ps, reach, omega arith)
     | inr ge ↦ sooner_here ps n reach (omega arith) ((level_laws task level).earlier k zero n (omega arith) adm)
@@ -223,17 +249,19 @@ module _ (task : Task) (level : IsLevel task.board) (k : ℕ) (empty : IsLayerOf
   sooner_by (suc b) ps n reach long adm =
       let laws = level_laws task level in
       let cut = laws.split ps n b reach long in
-      let early = sooner_by b cut.0 cut.2 cut.4 (omega (arith, ap length cut.3, length-append cut.0 (cut.1 ∷ []))) (laws.closed b cut.0 cut.2 cut.1 n cut.4 cut.5 adm) in
-      elim (cases_lt (suc b) k) [
+      let early = sooner_by b cut.0 cut.2 cut.4 (omega (arith, ap length cut.3, length-append cut.0 (cut.1 ∷ [])))
+      (laws.closed b cut.0 cut.2 cut.1 n cut.4 cut.5 adm) in elim (cases_lt (suc b) k) [
         | inl lt ↦ (ps, reach, omega arith)
-        | inr ge ↦ sooner_here (early.0 ++ cut.1 ∷ []) n (laws.grow early.0 cut.2 cut.1 n early.1 cut.5) (omega (arith, early.2, length-append early.0 (cut.1 ∷ []))) (laws.earlier k (suc b) n (omega arith) adm)
+        | inr ge ↦ sooner_here (early.0 ++ cut.1 ∷ []) n (laws.grow early.0 cut.2 cut.1 n early.1 cut.5)
+            (omega (arith, early.2, length-append early.0 (cut.1 ∷ []))) (laws.earlier k (suc b) n (omega arith) adm)
       ]
 
   pub sooner : (ps : List Push) (n : Scene) → Reaches task.board ps n → Admits task (length ps) n → (qs : List Push) × Reaches task.board qs n × (length qs < k)
   sooner ps n reach adm = sooner_by (length ps) ps n reach refl adm
 
 -- where the next layer is empty no play solves the level within the cap
-pub none_answer : (task : Task) (limit : ℕ) (layers : List (List Scene)) → IsLevel task.board → AreSearched task layers → IsLayerOf task (length layers) [] → total layers ≤ limit → HasNone task limit (total layers)
+pub none_answer : (task : Task) (limit : ℕ) (layers : List (List Scene)) → IsLevel task.board → AreSearched task layers → IsLayerOf task (length layers) [] →
+    total layers ≤ limit → HasNone task limit (total layers)
 none_answer task limit layers level searched empty few = (none, all, few)
   where
     none : (ds : List Dir) (ps : List Push) → ¬ (IsSolutionOf task ds ps)
@@ -241,7 +269,11 @@ none_answer task limit layers level searched empty few = (none, all, few)
         let r = solution_reaches task.board level ds ps solution in
         let short = solved_bound task layers level searched ps r.0 r.1 r.2 kept in
         let w = sooner task level (length layers) empty ps r.0 r.1 (solved_admitted task (length ps) r.0 r.2 kept) in
-        omega (arith, w.2, solved_bound task layers level searched w.0 r.0 w.1 r.2 (fewer_kept task.cap (length w.0) (length ps) (omega (arith, w.2, short)) kept))
+        omega (
+          arith,
+          w.2,
+          solved_bound task layers level searched w.0 r.0 w.1 r.2 (fewer_kept task.cap (length w.0) (length ps) (omega (arith, w.2, short)) kept),
+        )
 
     last : length (layers ++ [] ∷ []) - 1 ≡ length layers
     last = omega (arith, length-append layers ([] ∷ []))
@@ -268,7 +300,8 @@ layer_distance task level k xs layer n i =
     ((l.0, l.1.reached, l.2), λ qs reach. omega (arith, l.2, lead-length (level_laws task level) n l.0 qs l.1 reach), there.0)
 
 -- where the positions of the next layer pass the limit, the answer is the limit
-pub limit_answer : (task : Task) (limit : ℕ) (layers : List (List Scene)) (xs : List Scene) → IsLevel task.board → AreSearched task layers → IsLayerOf task (length layers) xs → limit < total layers + length xs → IsAnswer task limit Limit
+pub limit_answer : (task : Task) (limit : ℕ) (layers : List (List Scene)) (xs : List Scene) → IsLevel task.board → AreSearched task layers →
+    IsLayerOf task (length layers) xs → limit < total layers + length xs → IsAnswer task limit Limit
 limit_answer task limit layers xs level searched layer passed = record {
   layers = layers;
   are = searched.are;

@@ -1,5 +1,6 @@
 -- An answer is the only one.
-use Rattle.std.proofs.Common.{◌≡◌, ℕ, zero, suc, ◌+◌, ◌-◌, ◌<◌, ◌≤◌, false, true, List, [], ◌∷◌, length, take, get_or, Some, inl, inr, refl, sym, ap, subst, ◌∙◌, arith}
+use Rattle.std.proofs.Common.{◌≡◌, ℕ, zero, suc, ◌+◌, ◌-◌, ◌<◌, ◌≤◌, false, true, List, [], ◌∷◌, length, take, get_or, Some, inl, inr, refl, sym, ap, subst}
+use Rattle.std.proofs.Common.{◌∙◌, arith}
 use Rattle.std.proofs.lemmas.Bool.{cases_lt}
 use Rattle.std.proofs.lemmas.List.{length-take-le}
 use Rattle.std.proofs.lemmas.Option.{slice_get_within}
@@ -29,7 +30,8 @@ use Rattle.solo.proofs.Solving.{sooner}
 -- ---- letters
 
 -- plays from one state with the same directions are written by the same letters
-pub letters_same : {board : Board} {ok other : Scene → Type 0} {s t u v : Scene} {ds es : List Dir} {ps qs : List Push} (one : Play board ok s ds ps t) (two : Play board other u es qs v) → s ≡ u → ds ≡ es → letters_of one ≡ letters_of two
+pub letters_same : {board : Board} {ok other : Scene → Type 0} {s t u v : Scene} {ds es : List Dir} {ps qs : List Push} (one : Play board ok s ds ps t)
+    (two : Play board other u es qs v) → s ≡ u → ds ≡ es → letters_of one ≡ letters_of two
 letters_same (stay o) (stay o') from dirs = refl
 letters_same (stay o) (walk o' k q) from dirs = absurd (cc)
 letters_same (stay o) (push o' k q) from dirs = absurd (cc)
@@ -72,8 +74,10 @@ front_are : (task : Task) (n : ℕ) (xss : List (List Scene)) → AreLayersOf ta
 front_are task n xss are j xs at_j = are j xs (take_at xss n j xs at_j).0
 
 -- fewer of the first layers are the first of them
-front_same : (task : Task) → IsLevel task.board → (xss yss : List (List Scene)) → AreLayersOf task xss → AreLayersOf task yss → length xss ≤ length yss → take (length xss) yss ≡ xss
-front_same task level xss yss a b short = layers_same task level (take (length xss) yss) xss (front_are task (length xss) yss b) a (length-take-le (length xss) yss short)
+front_same : (task : Task) → IsLevel task.board → (xss yss : List (List Scene)) → AreLayersOf task xss → AreLayersOf task yss → length xss ≤ length yss →
+    take (length xss) yss ≡ xss
+front_same task level xss yss a b short = layers_same task level (take (length xss) yss) xss (front_are task (length xss) yss b) a
+    (length-take-le (length xss) yss short)
 
 -- what is k pushes away is in layer k
 distant_in : (task : Task) (k : ℕ) (xs : List Scene) → IsLayerOf task k xs → (n : Scene) → IsAtDistance task n k → IsIn xs n
@@ -84,13 +88,14 @@ distant_in task k xs layer n far = elim (layer.whole far.0.0 n far.0.1 far.0.2 f
 
 -- the first layers and distinct positions of the next one are no more than more layers have
 pub next_within : (task : Task) → IsLevel task.board → (layers : List (List Scene)) (more : List Scene) (yss : List (List Scene)) →
-    AreLayersOf task layers → AreDistinct more → ((n : Scene) → IsIn more n → IsAtDistance task n (length layers)) → AreLayersOf task yss → length layers < length yss →
-    total layers + length more ≤ total yss
+    AreLayersOf task layers → AreDistinct more → ((n : Scene) → IsIn more n → IsAtDistance task n (length layers)) → AreLayersOf task yss →
+    length layers < length yss → total layers + length more ≤ total yss
 next_within task level layers more yss are distinct next b lt =
     omega (
       arith,
       ap total (front_same task level layers yss are b (omega arith)),
-      length-distinct more (get_or yss (length layers) []) distinct (λ n i. distant_in task (length layers) (get_or yss (length layers) []) (b (length layers) (get_or yss (length layers) []) (read_at yss (length layers) lt)) n (next n i)),
+      length-distinct more (get_or yss (length layers) []) distinct (λ n i. distant_in task (length layers) (get_or yss (length layers) [])
+          (b (length layers) (get_or yss (length layers) []) (read_at yss (length layers) lt)) n (next n i)),
       total-take_more yss (length layers) lt,
       total-take (suc (length layers)) yss,
     )
@@ -116,10 +121,12 @@ in_all_short task level s t a b = elim (cases_lt (length b.layers) (length a.lay
 
 pub in_all_same : (task : Task) → IsLevel task.board → (s t : ℕ) → HasInAll task s → HasInAll task t → s ≡ t
 in_all_same task level s t a b =
-    sym a.total ∙ (ap total (layers_same task level a.layers b.layers a.are b.are (omega (arith, in_all_short task level s t a b, in_all_short task level t s b a))) ∙ b.total)
+    sym a.total ∙ (ap total (layers_same task level a.layers b.layers a.are b.are
+    (omega (arith, in_all_short task level s t a b, in_all_short task level t s b a))) ∙ b.total)
 
 -- nothing is in a layer after an empty one
-pub past_empty : (task : Task) (empty later : ℕ) (places : List Scene) → IsLevel task.board → IsLayerOf task empty [] → empty ≤ later → IsLayerOf task later places → places ≡ []
+pub past_empty : (task : Task) (empty later : ℕ) (places : List Scene) → IsLevel task.board → IsLayerOf task empty [] → empty ≤ later →
+    IsLayerOf task later places → places ≡ []
 past_empty task empty later [] level none past layer = refl
 past_empty task empty later (n ∷ places) level none past layer =
     let there = layer.leads zero n refl in
@@ -128,7 +135,8 @@ past_empty task empty later (n ∷ places) level none past layer =
     absurd (omega (arith, w.2, l.2, lead-length (level_laws task level) n l.0 w.0 l.1 w.1))
 
 -- nor is anything that many pushes away
-none_distant : (task : Task) → IsLevel task.board → (s : ℕ) (all : HasInAll task s) (k : ℕ) (more : List Scene) → length all.layers ≤ k → ((n : Scene) → IsIn more n → IsAtDistance task n k) → length more ≡ 0
+none_distant : (task : Task) → IsLevel task.board → (s : ℕ) (all : HasInAll task s) (k : ℕ) (more : List Scene) → length all.layers ≤ k →
+    ((n : Scene) → IsIn more n → IsAtDistance task n k) → length more ≡ 0
 none_distant task level s all k [] past next = refl
 none_distant task level s all k (n ∷ more) past next =
     let far = next n (zero, refl) in
@@ -143,7 +151,8 @@ within_all task level s all limit p = elim (cases_lt (length p.layers) (length a
     arith,
     all.total,
     none_distant task level s all (length p.layers) p.more (omega arith) p.next,
-    total-front (length all.layers) p.layers (λ j xs le at_j. ap length (past_empty task (empty_layer all) j xs level (all.are (empty_layer all) [] all.last) (omega (arith, le)) (p.are j xs at_j))),
+    total-front (length all.layers) p.layers (λ j xs le at_j. ap length (past_empty task (empty_layer all) j xs level (all.are (empty_layer all) [] all.last)
+        (omega (arith, le)) (p.are j xs at_j))),
     ap total (front_same task level all.layers p.layers all.are p.are (omega arith)),
   )
 ]
@@ -151,7 +160,8 @@ within_all task level s all limit p = elim (cases_lt (length p.layers) (length a
 -- ---- answers
 
 -- a solution and a limit that is passed: the positions up to the solution are more than the limit
-pub solved_passes : (task : Task) → IsLevel task.board → (limit pushes positions : ℕ) (ds : List Dir) (ps : List Push) → IsSolutionOf task ds ps → length ps ≡ pushes → HaveTotal task (suc pushes) positions → PassesLimit task limit → limit < positions
+pub solved_passes : (task : Task) → IsLevel task.board → (limit pushes positions : ℕ) (ds : List Dir) (ps : List Push) → IsSolutionOf task ds ps →
+    length ps ≡ pushes → HaveTotal task (suc pushes) positions → PassesLimit task limit → limit < positions
 solved_passes task level limit pushes positions ds ps solution count have p =
     omega (
       arith,
@@ -165,7 +175,8 @@ pub unsolvable_passes : (task : Task) → IsLevel task.board → (limit position
 unsolvable_passes task level limit positions all p = omega (arith, p.passed, within_all task level positions all limit p)
 
 -- what writes the least solution solves the level within the cap, where its pushes are
-solves : (task : Task) (letters : List Letter) (k : ℕ) (writes : WritesLeastSolution task.board letters k) → KeepsCap task.cap k → IsSolutionOf task (dirs_of letters) writes.list
+solves : (task : Task) (letters : List Letter) (k : ℕ) (writes : WritesLeastSolution task.board letters k) → KeepsCap task.cap k →
+    IsSolutionOf task (dirs_of letters) writes.list
 solves task letters k writes kept = (writes.least.0, subst (KeepsCap task.cap) (sym writes.count) kept)
 
 -- it excludes that there is no solution
@@ -173,8 +184,10 @@ solved_or_none : (task : Task) (limit : ℕ) (letters : List Letter) (k t s : �
 solved_or_none task limit letters k t s (writes, have, few, kept) none = none.0 (dirs_of letters) writes.list (solves task letters k writes kept)
 
 -- a solution within the limit and a limit that is passed exclude each other
-solved_or_limit : (task : Task) → IsLevel task.board → (limit : ℕ) (letters : List Letter) (k t : ℕ) → IsAnswer task limit (Solved letters k t) → PassesLimit task limit → ⊥
-solved_or_limit task level limit letters k t (writes, have, few, kept) p = omega (arith, few, solved_passes task level limit k t (dirs_of letters) writes.list (solves task letters k writes kept) writes.count have p)
+solved_or_limit : (task : Task) → IsLevel task.board → (limit : ℕ) (letters : List Letter) (k t : ℕ) → IsAnswer task limit (Solved letters k t) →
+    PassesLimit task limit → ⊥
+solved_or_limit task level limit letters k t (writes, have, few, kept) p =
+    omega (arith, few, solved_passes task level limit k t (dirs_of letters) writes.list (solves task letters k writes kept) writes.count have p)
 
 none_or_limit : (task : Task) → IsLevel task.board → (limit t : ℕ) → HasNone task limit t → PassesLimit task limit → ⊥
 none_or_limit task level limit t (none, all, few) p = omega (arith, few, unsolvable_passes task level limit t all p)

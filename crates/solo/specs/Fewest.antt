@@ -12,4 +12,5 @@ IsUnsolvable task = (ds : List Dir) (ps : List Push) → ¬ (IsSolutionOf task d
 -- k is the least number of pushes of a solution within the cap
 abbrev pub IsFewest : Task → ℕ → Type 0
 IsFewest task k =
-    ((ds : List Dir) × (ps : List Push) × IsSolutionOf task ds ps × (length ps ≡ k)) × ((ds : List Dir) (ps : List Push) → IsSolutionOf task ds ps → k ≤ length ps)
+    ((ds : List Dir) × (ps : List Push) × IsSolutionOf task ds ps × (length ps ≡ k))
+    × ((ds : List Dir) (ps : List Push) → IsSolutionOf task ds ps → k ≤ length ps)

@@ -32,22 +32,28 @@ pub fn an_answer_is_never_missing()
 /// solved, those of the layers up to the least number of pushes of a solution; for one that is not, those of all
 /// layers.
 pub fn the_limit_is_passed_by_the_positions_needed()
-    ensures solved { (task : Task) (limit pushes positions : ℕ) → IsLevel task.board → IsFewest task pushes → HaveTotal task (suc pushes) positions → IsAnswer task limit Limit ↔ (limit < positions) }
-    ensures unsolvable { (task : Task) (limit positions : ℕ) → IsLevel task.board → IsUnsolvable task → HasInAll task positions → IsAnswer task limit Limit ↔ (limit < positions) }
+    ensures solved { (task : Task) (limit pushes positions : ℕ) → IsLevel task.board → IsFewest task pushes → HaveTotal task (suc pushes) positions →
+        IsAnswer task limit Limit ↔ (limit < positions) }
+    ensures unsolvable { (task : Task) (limit positions : ℕ) → IsLevel task.board → IsUnsolvable task → HasInAll task positions →
+        IsAnswer task limit Limit ↔ (limit < positions) }
 {}
 
 /// Beyond a layer without positions there is nothing.
 pub fn an_empty_layer_is_the_last()
-    ensures { (task : Task) (empty later : ℕ) (places : List Scene) → IsLevel task.board → IsLayerOf task empty [] → empty ≤ later → IsLayerOf task later places → places ≡ [] }
+    ensures { (task : Task) (empty later : ℕ) (places : List Scene) → IsLevel task.board → IsLayerOf task empty [] → empty ≤ later →
+        IsLayerOf task later places → places ≡ [] }
 {}
 
 /// Where a book of whatever share is over, and the layers that it has closed were looked at, the answer is `Limit`.
 pub fn a_book_that_is_over_passes_the_limit()
-    ensures { (task : Task) (limit positions : ℕ) (trail : List (List (Origin Push))) (book : BookView) → IsLookedAt task limit trail positions → IsLawfulBook book → book.level ≡ task → book.limit ≡ limit → book.over ≡ true → length book.closed ≡ length trail → IsAnswer task limit Limit }
+    ensures { (task : Task) (limit positions : ℕ) (trail : List (List (Origin Push))) (book : BookView) → IsLookedAt task limit trail positions →
+        IsLawfulBook book → book.level ≡ task → book.limit ≡ limit → book.over ≡ true → length book.closed ≡ length trail → IsAnswer task limit Limit }
 {}
 
 /// Where the books of all shares hold more positions together than the limit, and the layers that they have closed were looked
 /// at, the answer is `Limit`, whichever ranks are done in which of them.
 pub fn books_that_hold_more_together_pass_the_limit()
-    ensures { (task : Task) (limit positions : ℕ) (trail : List (List (Origin Push))) (books : List BookView) (all : AreAllShares books) → IsLookedAt task limit trail positions → AreLawfulBooks books → all.first.level ≡ task → length all.first.closed ≡ length trail → limit < all_held books → IsAnswer task limit Limit }
+    ensures { (task : Task) (limit positions : ℕ) (trail : List (List (Origin Push))) (books : List BookView) (all : AreAllShares books) →
+        IsLookedAt task limit trail positions → AreLawfulBooks books → all.first.level ≡ task → length all.first.closed ≡ length trail →
+        limit < all_held books → IsAnswer task limit Limit }
 {}

@@ -110,7 +110,8 @@ fn lead_back(
 
 // The lead of the position with a rank of the last layer of some first ones, read back through the parents.
 fn lead_of<P: HasParents>(alloc: Global, trail: &[P], asked: u64) -> Result<Vec<Push>, AllocError>
-    ensures { IfOk result (λ pushes. (task : Task) (layers : List LayerView) → AreTrailed task layers (map P.origins trail.now) → asked < length (last_places layers) → IsLeadAt task (last_places layers) asked pushes.items) }
+    ensures { IfOk result (λ pushes. (task : Task) (layers : List LayerView) → AreTrailed task layers (map P.origins trail.now) →
+        asked < length (last_places layers) → IsLeadAt task (last_places layers) asked pushes.items) }
 {
     let mut pushes = Vec::new(alloc);
     let mut rank = asked;

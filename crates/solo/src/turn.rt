@@ -1,6 +1,7 @@
 //! The turns of a search, for one worker and for several: each looks at the next layer, and where that gives no answer
 //! has its ranks done until the layer after it is closed. The only error is that memory was refused.
-ghost use Rattle.std.specs.Prelude.{◌≡◌, ◌≢◌, ◌+◌, ◌-◌, ◌<◌, ◌≤◌, ◌↔◌, ℕ, List, [], ◌∷◌, ◌++◌, Some, true, false, IfNone, IfOk, IfSome, MatchBool, OnErr, OnOk, length, slice_get};
+ghost use Rattle.std.specs.Prelude.{◌≡◌, ◌≢◌, ◌+◌, ◌-◌, ◌<◌, ◌≤◌, ◌↔◌, ℕ, List, [], ◌∷◌, ◌++◌, Some, true, false, IfNone, IfOk, IfSome, MatchBool, OnErr, OnOk};
+ghost use Rattle.std.specs.Prelude.{length, slice_get};
 ghost use Rattle.std.specs.Arc.{arc_value};
 ghost use Rattle.grid.specs.Lawful.{box_count};
 ghost use Rattle.grid.specs.declared.limits.TheConstants.{MAX_BOXES};
@@ -351,15 +352,19 @@ fn enter(book: &mut Book, worker: u8, parcel: &Parcel<'_>) -> Result<bool, Alloc
     }
 }
 
+// So many positions a book has room for at least once it has closed a layer ahead. What holds them is then so large that the C
+// library maps it in pages of its own, which grow in place; smaller ones lie among others, and leave gaps where they grow.
+const LEAST_ROOM: u64 = 16384;
+
 /// Closes the next layer ahead of [`finish`], where each rank is done, and makes room for as many positions more as it has,
-/// which the one after it mostly has too, unless these are more than `room`. Where a rank is not done, or memory is refused,
-/// the book stays as it was.
+/// which the one after it mostly has too, unless these are more than `room`, and for some thousands in any case, as far as `room`
+/// goes. Where a rank is not done, or memory is refused, the book stays as it was.
 pub fn close_ahead(book: &mut Book, room: u64)
     ensures { MayBeClosed book.old book.new }
 {
     if let Ok(closed) = book.close() {
         if closed.count <= room {
-            book.have_room(closed.count);
+            book.have_room(closed.count.max(room.min(LEAST_ROOM)));
         }
     }
 }

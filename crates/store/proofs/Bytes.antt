@@ -1,5 +1,6 @@
 -- The rows of bytes of a key: how they are written, and what is read from them.
-use Rattle.std.proofs.Common.{◌≡◌, ℕ, zero, suc, ◌+◌, ◌*◌, ◌/◌, ◌%◌, ◌<◌, ◌≤◌, Bool, true, false, ◌&&◌, ◌||◌, ◌==◌, ◌⊎◌, inl, inr, List, [], ◌∷◌, ◌++◌, length, map, take, drop, set, fold, replicate, get_or, nat_eq, Some, add-one, refl, sym, ap, subst, ◌∙◌, arith}
+use Rattle.std.proofs.Common.{◌≡◌, ℕ, zero, suc, ◌+◌, ◌*◌, ◌/◌, ◌%◌, ◌<◌, ◌≤◌, Bool, true, false, ◌&&◌, ◌||◌, ◌==◌, ◌⊎◌, inl, inr, List, [], ◌∷◌, ◌++◌, length}
+use Rattle.std.proofs.Common.{map, take, drop, set, fold, replicate, get_or, nat_eq, Some, add-one, refl, sym, ap, subst, ◌∙◌, arith}
 use Rattle.std.proofs.lemmas.Bool.Decides.{nat_tests}
 use Rattle.std.proofs.lemmas.List.{append_assoc, length-map, length-take-le}
 use Rattle.std.proofs.lemmas.Option.{same_Some}
@@ -11,7 +12,8 @@ use Rattle.successors.specs.declared.parcel.Successor.{Successor}
 use Rattle.store.specs.Entries.{Entry, Closed, same_scene}
 use Rattle.grid.specs.Rising.{is_rising}
 use Rattle.store.specs.FoundView.{AllFit, AreBelow, FitsGrid, FoundView, found_view}
-use Rattle.store.specs.inside.KeyRows.{AllSuit, IsKey, Suits, SuitsLevel, high_bytes, joined_bytes, key_scene, key_squares, key_writes, low_bytes, padded, scene_in}
+use Rattle.store.specs.inside.KeyRows.{AllSuit, IsKey, Suits, SuitsLevel, high_bytes, joined_bytes, key_scene, key_squares, key_writes, low_bytes, padded}
+use Rattle.store.specs.inside.KeyRows.{scene_in}
 use Rattle.store.proofs.lemmas.Offers.{and_both, same_true, same_since}
 use Rattle.successors.proofs.lemmas.Lists.{map-push}
 
@@ -45,7 +47,8 @@ pub first_written : (n x : ℕ) → 0 < n → set (padded n []) 0 x ≡ padded n
 first_written zero x lt = absurd (omega arith)
 first_written (suc n) x lt = refl
 
-pub more_written : (f : ℕ → ℕ) (n place p x : ℕ) (boxes row : List ℕ) → row ≡ padded n (map f (p ∷ take place boxes)) → take (place + 1) boxes ≡ take place boxes ++ x ∷ [] → place < length boxes → place + 1 < n →
+pub more_written : (f : ℕ → ℕ) (n place p x : ℕ) (boxes row : List ℕ) → row ≡ padded n (map f (p ∷ take place boxes)) →
+    take (place + 1) boxes ≡ take place boxes ++ x ∷ [] → place < length boxes → place + 1 < n →
     set row (place + 1) (f x) ≡ padded n (map f (p ∷ take (place + 1) boxes))
 more_written f n place p x boxes row is more lt room =
     let before = map f (p ∷ take place boxes) in
@@ -65,10 +68,13 @@ both_back n [] le = refl
 both_back zero (x ∷ xs) le = absurd (omega arith)
 both_back (suc n) (x ∷ xs) le = let e : x % 256 + 256 * (x / 256) ≡ x = omega arith in λ i. e i ∷ both_back n xs (omega arith) i
 
-back : (n k : ℕ) (m : Scene) → Suits n k m → take (length (key_squares m)) (joined_bytes (padded n (low_bytes (key_squares m))) (padded k (high_bytes (key_squares m)))) ≡ key_squares m
+back : (n k : ℕ) (m : Scene) → Suits n k m →
+    take (length (key_squares m)) (joined_bytes (padded n (low_bytes (key_squares m))) (padded k (high_bytes (key_squares m)))) ≡ key_squares m
 back n k m suits = elim suits.bytes [
-  | inl same ↦ ap (λ j. take (length (key_squares m)) (joined_bytes (padded n (low_bytes (key_squares m))) (padded j (high_bytes (key_squares m))))) same ∙ both_back n (key_squares m) (omega (arith, suits.room))
-  | inr small ↦ ap (λ j. take (length (key_squares m)) (joined_bytes (padded n (low_bytes (key_squares m))) (padded j (high_bytes (key_squares m))))) small.0 ∙ low_back n (key_squares m) (omega (arith, suits.room)) small.1
+  | inl same ↦ ap (λ j. take (length (key_squares m)) (joined_bytes (padded n (low_bytes (key_squares m))) (padded j (high_bytes (key_squares m))))) same ∙
+      both_back n (key_squares m) (omega (arith, suits.room))
+  | inr small ↦ ap (λ j. take (length (key_squares m)) (joined_bytes (padded n (low_bytes (key_squares m))) (padded j (high_bytes (key_squares m))))) small.0 ∙
+      low_back n (key_squares m) (omega (arith, suits.room)) small.1
 ]
 
 in_row : (row : List ℕ) (m : Scene) → take (length (key_squares m)) row ≡ key_squares m → scene_in (length m.boxes) row ≡ m
@@ -82,7 +88,8 @@ in_row (x ∷ xs) m e =
 pub shown : (n k : ℕ) (m : Scene) → Suits n k m → key_scene (length m.boxes) (padded n (low_bytes (key_squares m))) (padded k (high_bytes (key_squares m))) ≡ m
 shown n k m suits = in_row (joined_bytes (padded n (low_bytes (key_squares m))) (padded k (high_bytes (key_squares m)))) m (back n k m suits)
 
-pub is_key : (n k count : ℕ) (low high : List ℕ) (m : Scene) → Suits n k m → is_rising m.boxes ≡ true → count ≡ length m.boxes → low ≡ padded n (low_bytes (key_squares m)) → high ≡ padded k (high_bytes (key_squares m)) → IsKey n k count low high × (key_scene count low high ≡ m)
+pub is_key : (n k count : ℕ) (low high : List ℕ) (m : Scene) → Suits n k m → is_rising m.boxes ≡ true → count ≡ length m.boxes →
+    low ≡ padded n (low_bytes (key_squares m)) → high ≡ padded k (high_bytes (key_squares m)) → IsKey n k count low high × (key_scene count low high ≡ m)
 is_key n k count low high m suits rising count_is low_is high_is =
     let view : key_scene count low high ≡ m = (λ i. key_scene (count_is i) (low_is i) (high_is i)) ∙ shown n k m suits in (
       record {
@@ -95,7 +102,8 @@ is_key n k count low high m suits rising count_is low_is high_is =
       view,
     )
 
-pub joined_at : (low high : List ℕ) (place l h : ℕ) → slice_get low place ≡ Some l → slice_get high place ≡ Some h → slice_get (joined_bytes low high) place ≡ Some (l + 256 * h)
+pub joined_at : (low high : List ℕ) (place l h : ℕ) → slice_get low place ≡ Some l → slice_get high place ≡ Some h →
+    slice_get (joined_bytes low high) place ≡ Some (l + 256 * h)
 joined_at [] high place l h e f = cc
 joined_at (x ∷ low) [] place l h e f = cc
 joined_at (x ∷ low) (y ∷ high) zero l h e f = let s = same_Some x l e in let t = same_Some y h f in λ i. Some (s i + 256 * t i)
@@ -134,11 +142,14 @@ one_more xs ys more i x e at is = is ∙ ap (λ zs. zs ++ x ∷ []) e ∙ sym (t
 
 pub one_pushed : (old xs ys more : List ℕ) (i x : ℕ) → ys ≡ old ++ take i xs → slice_get xs i ≡ Some x → more ≡ ys ++ x ∷ [] → more ≡ old ++ take (i + 1) xs
 one_pushed old xs ys more i x e at is =
-    is ∙ ap (λ zs. zs ++ x ∷ []) e ∙ append_assoc old (take i xs) (x ∷ []) ∙ ap (λ zs. old ++ zs) (sym (taken xs i x at) ∙ ap (λ k. take k xs) (sym (add-one i)))
+    is ∙ ap (λ zs. zs ++ x ∷ []) e ∙ append_assoc old (take i xs) (x ∷ []) ∙
+    ap (λ zs. old ++ zs) (sym (taken xs i x at) ∙ ap (λ k. take k xs) (sym (add-one i)))
 
 -- a key that was made of a position's squares shows it
-pub made : (n k count player : ℕ) (low high boxes : List ℕ) (m : Scene) → Suits n k m → boxes ≡ m.boxes → player ≡ m.player → is_rising boxes ≡ true → count ≡ length boxes →
-    low ≡ padded (length {A = ℕ} (replicate n 0)) (low_bytes (player ∷ boxes)) → high ≡ padded (length {A = ℕ} (replicate k 0)) (high_bytes (player ∷ boxes)) → IsKey n k count low high × (key_scene count low high ≡ m)
+pub made : (n k count player : ℕ) (low high boxes : List ℕ) (m : Scene) → Suits n k m → boxes ≡ m.boxes → player ≡ m.player → is_rising boxes ≡ true →
+    count ≡ length boxes →
+    low ≡ padded (length {A = ℕ} (replicate n 0)) (low_bytes (player ∷ boxes)) → high ≡ padded (length {A = ℕ} (replicate k 0)) (high_bytes (player ∷ boxes)) →
+    IsKey n k count low high × (key_scene count low high ≡ m)
 made n k count player low high boxes m suits boxes_are player_is rising counted low_is high_is =
     is_key n k count low high m suits (ap is_rising (sym boxes_are) ∙ rising) (counted ∙ ap length boxes_are)
     (low_is ∙ (λ i. padded (length (zeros n i)) (low_bytes (player_is i ∷ boxes_are i))) ∙ ap (λ j. padded j (low_bytes (key_squares m))) (long n []))
@@ -147,9 +158,11 @@ made n k count player low high boxes m suits boxes_are player_is rising counted 
 -- ---- comparing
 
 -- the fields are the same exactly where the positions are
-pub same_fields : (n k a b : ℕ) (low others high higher : List ℕ) (s t : Scene) → IsKey n k a low high → IsKey n k b others higher → key_scene a low high ≡ s → key_scene b others higher ≡ t →
+pub same_fields : (n k a b : ℕ) (low others high higher : List ℕ) (s t : Scene) → IsKey n k a low high → IsKey n k b others higher → key_scene a low high ≡ s →
+    key_scene b others higher ≡ t →
     (((a == b) && pointwise nat_eq low others) && pointwise nat_eq high higher) ≡ same_scene s t
-same_fields n k a b low others high higher s t one other view views = both (((a == b) && pointwise nat_eq low others) && pointwise nat_eq high higher) refl (same_scene s t) refl
+same_fields n k a b low others high higher s t one other view views = both (((a == b) && pointwise nat_eq low others) &&
+    pointwise nat_eq high higher) refl (same_scene s t) refl
   where
     forth : (((a == b) && pointwise nat_eq low others) && pointwise nat_eq high higher) ≡ true → same_scene s t ≡ true
     forth e =
@@ -172,20 +185,24 @@ same_fields n k a b low others high higher s t one other view views = both (((a 
         let lows : low ≡ others = one.low_is ∙ ap (λ (m : Scene). padded n (low_bytes (key_squares m))) same ∙ sym other.low_is in
         let highs : high ≡ higher = one.high_is ∙ ap (λ (m : Scene). padded k (high_bytes (key_squares m))) same ∙ sym other.high_is in
         let counts : (a == b) ≡ true = grind (arith, nat_tests) in
-        three (a == b) (pointwise nat_eq low others) (pointwise nat_eq high higher) counts ((bytes_decides low others).1 lows) ((bytes_decides high higher).1 highs)
+        three (a == b) (pointwise nat_eq low others) (pointwise nat_eq high higher) counts ((bytes_decides low others).1 lows)
+        ((bytes_decides high higher).1 highs)
 
-    both : (p : Bool) → (((a == b) && pointwise nat_eq low others) && pointwise nat_eq high higher) ≡ p → (q : Bool) → same_scene s t ≡ q → (((a == b) && pointwise nat_eq low others) && pointwise nat_eq high higher) ≡ same_scene s t
+    both : (p : Bool) → (((a == b) && pointwise nat_eq low others) && pointwise nat_eq high higher) ≡ p → (q : Bool) → same_scene s t ≡ q →
+        (((a == b) && pointwise nat_eq low others) && pointwise nat_eq high higher) ≡ same_scene s t
     both true e q f = e ∙ sym (forth e)
     both false e true f = back_again f ∙ sym f
     both false e false f = e ∙ sym f
 
 -- ---- feeding a hasher
 
-pub fed_both : {S : Type 0} (write : S → List ℕ → S) (n k : ℕ) (before after : S) (low high : List ℕ) (m : Scene) → low ≡ padded n (low_bytes (key_squares m)) → high ≡ padded k (high_bytes (key_squares m)) → 0 < k → after ≡ write (write before low) high → after ≡ fold write before (key_writes n k m)
+pub fed_both : {S : Type 0} (write : S → List ℕ → S) (n k : ℕ) (before after : S) (low high : List ℕ) (m : Scene) → low ≡ padded n (low_bytes (key_squares m)) →
+    high ≡ padded k (high_bytes (key_squares m)) → 0 < k → after ≡ write (write before low) high → after ≡ fold write before (key_writes n k m)
 fed_both write n zero before after low high m low_is high_is lt e = absurd (omega arith)
 fed_both write n (suc k) before after low high m low_is high_is lt e = e ∙ (λ i. write (write before (low_is i)) (high_is i))
 
-pub fed_low : {S : Type 0} (write : S → List ℕ → S) (n k : ℕ) (before after : S) (low : List ℕ) (m : Scene) → low ≡ padded n (low_bytes (key_squares m)) → ¬ (0 < k) → after ≡ write before low → after ≡ fold write before (key_writes n k m)
+pub fed_low : {S : Type 0} (write : S → List ℕ → S) (n k : ℕ) (before after : S) (low : List ℕ) (m : Scene) → low ≡ padded n (low_bytes (key_squares m)) →
+    ¬ (0 < k) → after ≡ write before low → after ≡ fold write before (key_writes n k m)
 fed_low write n zero before after low m low_is none e = e ∙ ap (write before) low_is
 fed_low write n (suc k) before after low m low_is none e = absurd (none (omega arith))
 
@@ -203,7 +220,8 @@ suits n k boxes squares m level fits = record {
 }
 
 -- so they suit what fits what is found
-pub found_suit : (n k boxes squares start : ℕ) (es : List Closed) (inbox : List (Entry Scene Push)) (v : FoundView) (ss : List Successor) → SuitsLevel n k boxes squares → found_view boxes squares start es inbox ≡ v → AllFit v ss → AllSuit n k ss
+pub found_suit : (n k boxes squares start : ℕ) (es : List Closed) (inbox : List (Entry Scene Push)) (v : FoundView) (ss : List Successor) →
+    SuitsLevel n k boxes squares → found_view boxes squares start es inbox ≡ v → AllFit v ss → AllSuit n k ss
 found_suit n k boxes squares start es inbox v ss level view fit = λ i s at.
     suits n k v.boxes v.squares s.position (subst (λ (u : FoundView). SuitsLevel n k u.boxes u.squares) view level) (fit.each i s at)
 

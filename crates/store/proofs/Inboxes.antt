@@ -1,5 +1,6 @@
 -- Offers that wait in an inbox: which they are, and what stands open once they have entered.
-use Rattle.std.proofs.Common.{◌≡◌, ℕ, zero, suc, get_or, ◌+◌, ◌-◌, ◌≤◌, Bool, true, false, cond, ◌&&◌, ◌==◌, not, is_some, ltb, List, [], ◌∷◌, ◌++◌, length, map, fold, Option, Some, None, Result, Ok, Err, refl, sym, ap, subst, ◌∙◌, if◌then◌else◌, arith}
+use Rattle.std.proofs.Common.{◌≡◌, ℕ, zero, suc, get_or, ◌+◌, ◌-◌, ◌≤◌, Bool, true, false, cond, ◌&&◌, ◌==◌, not, is_some, ltb, List, [], ◌∷◌, ◌++◌, length}
+use Rattle.std.proofs.Common.{map, fold, Option, Some, None, Result, Ok, Err, refl, sym, ap, subst, ◌∙◌, if◌then◌else◌, arith}
 use Rattle.std.proofs.lemmas.Bool.Decides.{nat_tests}
 use Rattle.std.proofs.lemmas.List.{append-nil, append_assoc, length-append, length-map}
 use Rattle.std.proofs.lemmas.List.Sums.{fold-append, fold_push}
@@ -21,13 +22,16 @@ use Rattle.store.proofs.Tails.{split}
 -- ---- which they are
 
 -- one more successor's offer is the last
-pub offers_more : (shares share rank : ℕ) (ss : List Successor) (s : Successor) → offers_of shares share rank (ss ++ s ∷ []) ≡ offers_of shares share rank ss ++ offer_of shares share rank s
+pub offers_more : (shares share rank : ℕ) (ss : List Successor) (s : Successor) →
+    offers_of shares share rank (ss ++ s ∷ []) ≡ offers_of shares share rank ss ++ offer_of shares share rank s
 offers_more shares share rank [] s = append-nil (offer_of shares share rank s)
 offers_more shares share rank (t ∷ ss) s =
-    ap (λ xs. offer_of shares share rank t ++ xs) (offers_more shares share rank ss s) ∙ sym (append_assoc (offer_of shares share rank t) (offers_of shares share rank ss) (offer_of shares share rank s))
+    ap (λ xs. offer_of shares share rank t ++ xs) (offers_more shares share rank ss s) ∙
+    sym (append_assoc (offer_of shares share rank t) (offers_of shares share rank ss) (offer_of shares share rank s))
 
 -- the sum beside a successor is that of its position
-pub sum_beside : (ss : List Successor) (sums : List ℕ) (place : ℕ) (s : Successor) → AreSums ss sums → slice_get ss place ≡ Some s → get_or sums place 0 ≡ scene_sum s.position
+pub sum_beside : (ss : List Successor) (sums : List ℕ) (place : ℕ) (s : Successor) → AreSums ss sums → slice_get ss place ≡ Some s →
+    get_or sums place 0 ≡ scene_sum s.position
 sum_beside ss sums place s are at = ap (λ xs. get_or xs place 0) are ∙ go ss place at
   where
     go : (ts : List Successor) (i : ℕ) → slice_get ts i ≡ Some s → get_or (map (λ (t : Successor). scene_sum t.position) ts) i 0 ≡ scene_sum s.position
@@ -38,7 +42,12 @@ sum_beside ss sums place s are at = ap (λ xs. get_or xs place 0) are ∙ go ss 
 -- there are no more offers than successors
 pub length-offers : (shares share rank : ℕ) (ss : List Successor) → length (offers_of shares share rank ss) ≤ length ss
 length-offers shares share rank [] = omega arith
-length-offers shares share rank (s ∷ ss) = omega (arith, length-append (offer_of shares share rank s) (offers_of shares share rank ss), one (share_of shares s.position == share), length-offers shares share rank ss)
+length-offers shares share rank (s ∷ ss) = omega (
+  arith,
+  length-append (offer_of shares share rank s) (offers_of shares share rank ss),
+  one (share_of shares s.position == share),
+  length-offers shares share rank ss,
+)
   where
     one : (b : Bool) → length {A = Entry Scene Push} (if b then (s.position, (rank, s.push)) ∷ [] else []) ≤ 1
     one true = omega arith
@@ -47,34 +56,43 @@ length-offers shares share rank (s ∷ ss) = omega (arith, length-append (offer_
 -- ---- how they enter
 
 -- one more offer enters after the others
-pub let_in_more : (seen : List Closed) (ws offers : List (Entry Scene Push)) (e : Entry Scene Push) → all_let_in seen ws (offers ++ e ∷ []) ≡ let_in seen (all_let_in seen ws offers) e
+pub let_in_more : (seen : List Closed) (ws offers : List (Entry Scene Push)) (e : Entry Scene Push) →
+    all_let_in seen ws (offers ++ e ∷ []) ≡ let_in seen (all_let_in seen ws offers) e
 let_in_more seen ws offers e = fold_push (let_in seen) ws offers e
 
 -- the offers of a rank's successors enter as the wanted successors do
-pub let_in_offers : (seen : List Closed) (shares share rank : ℕ) (ss : List Successor) (ws : List (Entry Scene Push)) → all_let_in seen ws (offers_of shares share rank ss) ≡ fold (entered (is_wanted_in seen shares share) rank) ws ss
+pub let_in_offers : (seen : List Closed) (shares share rank : ℕ) (ss : List Successor) (ws : List (Entry Scene Push)) →
+    all_let_in seen ws (offers_of shares share rank ss) ≡ fold (entered (is_wanted_in seen shares share) rank) ws ss
 let_in_offers seen shares share rank [] ws = refl
 let_in_offers seen shares share rank (s ∷ ss) ws =
-    fold-append (let_in seen) ws (offer_of shares share rank s) (offers_of shares share rank ss) ∙ let_in_offers seen shares share rank ss (all_let_in seen ws (offer_of shares share rank s))
-    ∙ ap (λ vs. fold (entered (is_wanted_in seen shares share) rank) vs ss) (go (share_of shares s.position == share) (is_some (lookup (same_scene s.position) seen)) refl)
+    fold-append (let_in seen) ws (offer_of shares share rank s) (offers_of shares share rank ss) ∙
+    let_in_offers seen shares share rank ss (all_let_in seen ws (offer_of shares share rank s))
+    ∙ ap (λ vs. fold (entered (is_wanted_in seen shares share) rank) vs ss)
+    (go (share_of shares s.position == share) (is_some (lookup (same_scene s.position) seen)) refl)
   where
-    go : (a b : Bool) → is_some (lookup (same_scene s.position) seen) ≡ b → all_let_in seen ws (if a then (s.position, (rank, s.push)) ∷ [] else []) ≡ (if a && not b then offered ws s.position (rank, s.push) else ws)
+    go : (a b : Bool) → is_some (lookup (same_scene s.position) seen) ≡ b → all_let_in seen ws (if a then (s.position, (rank, s.push)) ∷ [] else []) ≡
+        (if a && not b then offered ws s.position (rank, s.push) else ws)
     go false b e = refl
     go true true e = ap (λ b. if b then ws else offered ws s.position (rank, s.push)) e
     go true false e = ap (λ b. if b then ws else offered ws s.position (rank, s.push)) e
 
 -- so with the offers of a rank's successors appended, what is found is what it was with them entered
-pub offers_appended : (boxes squares start shares share rank : ℕ) (es : List Closed) (inbox : List (Entry Scene Push)) (ss : List Successor) (v : FoundView) → found_view boxes squares start es inbox ≡ v →
+pub offers_appended : (boxes squares start shares share rank : ℕ) (es : List Closed) (inbox : List (Entry Scene Push)) (ss : List Successor) (v : FoundView) →
+    found_view boxes squares start es inbox ≡ v →
     found_view boxes squares start es (inbox ++ offers_of shares share rank ss) ≡ with_entered v shares share rank ss
 offers_appended boxes squares start shares share rank es inbox ss v view =
     let seen = seen_of start es in
-    let waits : all_let_in seen (open_of start es) (inbox ++ offers_of shares share rank ss) ≡ fold (entered (is_wanted_in seen shares share) rank) (all_let_in seen (open_of start es) inbox) ss =
-    fold-append (let_in seen) (open_of start es) inbox (offers_of shares share rank ss) ∙ let_in_offers seen shares share rank ss (all_let_in seen (open_of start es) inbox) in
+    let waits : all_let_in seen (open_of start es) (inbox ++ offers_of shares share rank ss) ≡
+    fold (entered (is_wanted_in seen shares share) rank) (all_let_in seen (open_of start es) inbox) ss =
+    fold-append (let_in seen) (open_of start es) inbox (offers_of shares share rank ss) ∙
+    let_in_offers seen shares share rank ss (all_let_in seen (open_of start es) inbox) in
     (λ i. record { boxes = boxes; squares = squares; seen = seen; waiting = waits i }) ∙ ap (λ (u : FoundView). with_entered u shares share rank ss) view
 
 -- ---- how many they are
 
 -- an offer makes at most one more stand open
-length-let_in : (seen : List Closed) (ws : List (Entry Scene Push)) (e : Entry Scene Push) → (length ws ≤ length (let_in seen ws e)) × (length (let_in seen ws e) ≤ length ws + 1)
+length-let_in : (seen : List Closed) (ws : List (Entry Scene Push)) (e : Entry Scene Push) → (length ws ≤ length (let_in seen ws e)) ×
+    (length (let_in seen ws e) ≤ length ws + 1)
 length-let_in seen ws e = go (is_some (lookup (same_scene e.0) seen))
   where
     one : (o : Option (Origin Push)) → cond (is_some o) 0 1 ≤ 1
@@ -85,7 +103,8 @@ length-let_in seen ws e = go (is_some (lookup (same_scene e.0) seen))
     go true = (omega arith, omega arith)
     go false = (omega (arith, length-offered ws e.0 e.1), omega (arith, length-offered ws e.0 e.1, one (origin_of ws e.0)))
 
-pub length-all_let_in : (seen : List Closed) (offers ws : List (Entry Scene Push)) → (length ws ≤ length (all_let_in seen ws offers)) × (length (all_let_in seen ws offers) ≤ length ws + length offers)
+pub length-all_let_in : (seen : List Closed) (offers ws : List (Entry Scene Push)) → (length ws ≤ length (all_let_in seen ws offers)) ×
+    (length (all_let_in seen ws offers) ≤ length ws + length offers)
 length-all_let_in seen [] ws = (omega arith, omega arith)
 length-all_let_in seen (e ∷ offers) ws =
     let one = length-let_in seen ws e in
@@ -94,10 +113,16 @@ length-all_let_in seen (e ∷ offers) ws =
 
 -- the entries are those that are closed and those that stand open
 pub length-split : (start : ℕ) (es : List Closed) → IsFound start es → length es ≡ length (seen_of start es) + length (open_of start es)
-length-split start es found = omega (arith, ap length (split start es found), length-append (seen_of start es) (map closed_entry (open_of start es)), length-map (open_of start es) closed_entry)
+length-split start es found = omega (
+  arith,
+  ap length (split start es found),
+  length-append (seen_of start es) (map closed_entry (open_of start es)),
+  length-map (open_of start es) closed_entry,
+)
 
 -- the map holds no more than is found, and with the inbox no less
-pub length-found : (boxes squares start : ℕ) (es : List Closed) (inbox : List (Entry Scene Push)) (v : FoundView) → IsFound start es → found_view boxes squares start es inbox ≡ v → (length es ≤ length v.seen + length v.waiting) × (length v.seen + length v.waiting ≤ length es + length inbox)
+pub length-found : (boxes squares start : ℕ) (es : List Closed) (inbox : List (Entry Scene Push)) (v : FoundView) → IsFound start es →
+    found_view boxes squares start es inbox ≡ v → (length es ≤ length v.seen + length v.waiting) × (length v.seen + length v.waiting ≤ length es + length inbox)
 length-found boxes squares start es inbox v found view =
     let n = length-split start es found in
     let m = length-all_let_in (seen_of start es) inbox (open_of start es) in
@@ -107,7 +132,8 @@ length-found boxes squares start es inbox v found view =
 
 -- ---- the limit
 
-length-entered-le : (wanted : Scene → Bool) (rank : ℕ) (ss : List Successor) (es : List (Entry Scene Push)) → length (fold (entered wanted rank) es ss) ≤ length es + length ss
+length-entered-le : (wanted : Scene → Bool) (rank : ℕ) (ss : List Successor) (es : List (Entry Scene Push)) →
+    length (fold (entered wanted rank) es ss) ≤ length es + length ss
 length-entered-le wanted rank [] es = omega arith
 length-entered-le wanted rank (s ∷ ss) es = omega (arith, length-entered-le wanted rank ss (entered wanted rank es s), one (wanted s.position))
   where
@@ -120,7 +146,8 @@ length-entered-le wanted rank (s ∷ ss) es = omega (arith, length-entered-le wa
     one false = omega arith
 
 -- where there is room for all that waits and all successors, the limit is not passed
-pub within_limit : (limit shares share rank held waits : ℕ) (ss : List Successor) (v : FoundView) → length v.seen + length v.waiting ≤ held + waits → held ≤ limit → waits + length ss ≤ limit - held →
+pub within_limit : (limit shares share rank held waits : ℕ) (ss : List Successor) (v : FoundView) → length v.seen + length v.waiting ≤ held + waits →
+    held ≤ limit → waits + length ss ≤ limit - held →
     false ≡ ltb limit (length v.seen + length (with_entered v shares share rank ss).waiting)
 within_limit limit shares share rank held waits ss v few le room =
     let m = length-entered-le (is_wanted_in v.seen shares share) rank ss v.waiting in
@@ -130,11 +157,13 @@ within_limit limit shares share rank held waits ss v few le room =
     not_less x y le = grind (arith, nat_tests)
 
 -- and otherwise the new positions are counted, once nothing waits
-pub counted_limit : (boxes squares start limit shares share rank held n : ℕ) (es : List Closed) (ss : List Successor) (v : FoundView) → IsFound start es → found_view boxes squares start es [] ≡ v → held ≡ length es → held ≤ limit →
+pub counted_limit : (boxes squares start limit shares share rank held n : ℕ) (es : List Closed) (ss : List Successor) (v : FoundView) → IsFound start es →
+    found_view boxes squares start es [] ≡ v → held ≡ length es → held ≤ limit →
     length (fold (entered (is_wanted_in (seen_of start es) shares share) rank) (open_of start es) ss) ≡ length (open_of start es) + n →
     ltb (limit - held) n ≡ ltb limit (length v.seen + length (with_entered v shares share rank ss).waiting)
 counted_limit boxes squares start limit shares share rank held n es ss v found view is le count =
-    shifted limit held n (length (seen_of start es) + length (fold (entered (is_wanted_in (seen_of start es) shares share) rank) (open_of start es) ss)) le (omega (arith, length-split start es found, is, count))
+    shifted limit held n (length (seen_of start es) + length (fold (entered (is_wanted_in (seen_of start es) shares share) rank) (open_of start es) ss)) le
+    (omega (arith, length-split start es found, is, count))
     ∙ ap (λ (u : FoundView). ltb limit (length u.seen + length (with_entered u shares share rank ss).waiting)) view
   where
     shifted : (limit h k all : ℕ) → h ≤ limit → all ≡ h + k → ltb (limit - h) k ≡ ltb limit all
@@ -143,9 +172,11 @@ counted_limit boxes squares start limit shares share rank held n es ss v found v
 -- ---- a close
 
 -- once nothing waits, what stands open is closed behind what was seen
-pub all_closed : (boxes squares start n : ℕ) (es new : List Closed) (v : FoundView) → found_view boxes squares start es [] ≡ v → n ≡ length new → IsSortedAppend (seen_of start es) (open_of start es) new → IsSortedAppend v.seen v.waiting (seen_of n new)
+pub all_closed : (boxes squares start n : ℕ) (es new : List Closed) (v : FoundView) → found_view boxes squares start es [] ≡ v → n ≡ length new →
+    IsSortedAppend (seen_of start es) (open_of start es) new → IsSortedAppend v.seen v.waiting (seen_of n new)
 all_closed boxes squares start n es new v view long sorted =
-    subst (IsSortedAppend v.seen v.waiting) (sym (ap (λ k. seen_of k new) long ∙ take-length new)) (subst (λ (u : FoundView). IsSortedAppend u.seen u.waiting new) view sorted)
+    subst (IsSortedAppend v.seen v.waiting) (sym (ap (λ k. seen_of k new) long ∙ take-length new))
+    (subst (λ (u : FoundView). IsSortedAppend u.seen u.waiting new) view sorted)
 
 pub on_err : {T E : Type 0} {P : Type 0} (r : Result T E) → P → OnErr r P
 on_err (Ok x) h = tt

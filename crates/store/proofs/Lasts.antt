@@ -1,5 +1,6 @@
 -- The last of the origins of what stands open, and what it tells of an offer.
-use Rattle.std.proofs.Common.{◌≡◌, ℕ, zero, suc, ◌+◌, ◌<◌, ◌≤◌, Bool, true, false, cond, ◌||◌, not, is_some, List, [], ◌∷◌, length, position, Option, Some, None, refl, sym, ap, subst, ◌∙◌, if◌then◌else◌, arith}
+use Rattle.std.proofs.Common.{◌≡◌, ℕ, zero, suc, ◌+◌, ◌<◌, ◌≤◌, Bool, true, false, cond, ◌||◌, not, is_some, List, [], ◌∷◌, length, position, Option, Some}
+use Rattle.std.proofs.Common.{None, refl, sym, ap, subst, ◌∙◌, if◌then◌else◌, arith}
 use Rattle.std.proofs.lemmas.Option.{same_Some, none-some}
 use Rattle.std.specs.Prelude.{slice_get}
 use Rattle.std.specs.List.{position_or_len}
@@ -22,7 +23,8 @@ order : IsTotalOrder (origin_cmp push_cmp)
 order = origin_total push_cmp_total
 
 -- an offer of what is closed changes nothing
-pub closed_kept : (m : Scene) (o : Origin Push) (start : ℕ) (es : List Closed) (i : ℕ) → position (same_scene m) (keys_of es) ≡ Some i → i < start → true ≡ keeps (seen_of start es) (open_of start es) m o
+pub closed_kept : (m : Scene) (o : Origin Push) (start : ℕ) (es : List Closed) (i : ℕ) → position (same_scene m) (keys_of es) ≡ Some i → i < start →
+    true ≡ keeps (seen_of start es) (open_of start es) m o
 closed_kept m o start es i at lt = ap (λ b. b || is_least (origin_of (open_of start es) m) o) (sym (below i start lt) ∙ sym (placed m i start es at))
 
 not_less : (a b : Origin Push) → is_gt (origin_cmp push_cmp a b) ≡ false → is_lt (origin_cmp push_cmp b a) ≡ false
@@ -34,11 +36,13 @@ not_less a b e = ap is_lt (order.antisymm b a) ∙ turned (origin_cmp push_cmp a
     turned Greater f = cc
 
 -- nor does one of what is there, where its origin does not come before the last one
-pub late_kept : (m : Scene) (o : Origin Push) (start : ℕ) (es : List Closed) → IsFound start es → (v : Option (Origin Push)) (last : Origin Push) → lookup (same_scene m) es ≡ Some v → NoneExceed (open_of start es) last →
+pub late_kept : (m : Scene) (o : Origin Push) (start : ℕ) (es : List Closed) → IsFound start es → (v : Option (Origin Push)) (last : Origin Push) →
+    lookup (same_scene m) es ≡ Some v → NoneExceed (open_of start es) last →
     is_lt (origin_cmp push_cmp o last) ≡ false → true ≡ keeps (seen_of start es) (open_of start es) m o
 late_kept m o start es found v last is none late = go (is_some (lookup (same_scene m) (seen_of start es))) refl (origin_of (open_of start es) m) refl
   where
-    go : (b : Bool) → is_some (lookup (same_scene m) (seen_of start es)) ≡ b → (f : Option (Origin Push)) → origin_of (open_of start es) m ≡ f → true ≡ keeps (seen_of start es) (open_of start es) m o
+    go : (b : Bool) → is_some (lookup (same_scene m) (seen_of start es)) ≡ b → (f : Option (Origin Push)) → origin_of (open_of start es) m ≡ f →
+        true ≡ keeps (seen_of start es) (open_of start es) m o
     go true e f g = ap (λ x. x || is_least (origin_of (open_of start es) m) o) (sym e)
     go false e None g =
         let rest = look_rest m start es found (no_some (lookup (same_scene m) (seen_of start es)) e) in
@@ -50,26 +54,31 @@ late_kept m o start es found v last is none late = go (is_some (lookup (same_sce
 
 -- ---- one more offer
 
-lesser_least : (a o next : Origin Push) → is_gt (origin_cmp push_cmp a next) ≡ false → is_gt (origin_cmp push_cmp o next) ≡ false → is_gt (origin_cmp push_cmp (lesser push_cmp a o) next) ≡ false
+lesser_least : (a o next : Origin Push) → is_gt (origin_cmp push_cmp a next) ≡ false → is_gt (origin_cmp push_cmp o next) ≡ false →
+    is_gt (origin_cmp push_cmp (lesser push_cmp a o) next) ≡ false
 lesser_least a o next e f = go (is_lt (origin_cmp push_cmp o a))
   where
     go : (b : Bool) → is_gt (origin_cmp push_cmp (if b then o else a) next) ≡ false
     go true = f
     go false = e
 
-exceed_offered : (ws : List (Entry Scene Push)) (m : Scene) (o next : Origin Push) → NoneExceed ws next → is_gt (origin_cmp push_cmp o next) ≡ false → NoneExceed (offered ws m o) next
+exceed_offered : (ws : List (Entry Scene Push)) (m : Scene) (o next : Origin Push) → NoneExceed ws next → is_gt (origin_cmp push_cmp o next) ≡ false →
+    NoneExceed (offered ws m o) next
 exceed_offered [] m o next none late zero x at = subst (λ (y : Entry Scene Push). is_gt (origin_cmp push_cmp y.1 next) ≡ false) (same_Some (m, o) x at) late
 exceed_offered [] m o next none late (suc i) x at = cc
 exceed_offered (w ∷ ws) m o next none late i x at = go (same_scene m w.0) (exceed_offered ws m o next (λ j y there. none (suc j) y there) late) i x at
   where
-    go : (b : Bool) → NoneExceed (offered ws m o) next → (i : ℕ) (x : Entry Scene Push) → slice_get (if b then (w.0, lesser push_cmp w.1 o) ∷ ws else w ∷ offered ws m o) i ≡ Some x → is_gt (origin_cmp push_cmp x.1 next) ≡ false
-    go true rest zero x at = subst (λ (y : Entry Scene Push). is_gt (origin_cmp push_cmp y.1 next) ≡ false) (same_Some (w.0, lesser push_cmp w.1 o) x at) (lesser_least w.1 o next (none zero w refl) late)
+    go : (b : Bool) → NoneExceed (offered ws m o) next → (i : ℕ) (x : Entry Scene Push) →
+        slice_get (if b then (w.0, lesser push_cmp w.1 o) ∷ ws else w ∷ offered ws m o) i ≡ Some x → is_gt (origin_cmp push_cmp x.1 next) ≡ false
+    go true rest zero x at = subst (λ (y : Entry Scene Push). is_gt (origin_cmp push_cmp y.1 next) ≡ false) (same_Some (w.0, lesser push_cmp w.1 o) x at)
+        (lesser_least w.1 o next (none zero w refl) late)
     go true rest (suc i) x at = none (suc i) x at
     go false rest zero x at = none zero x at
     go false rest (suc i) x at = rest i x at
 
 -- an origin after which neither the last one nor an offer's comes is the last one then
-pub let_in_last : (seen : List Closed) (ws : List (Entry Scene Push)) (m : Scene) (o last next : Origin Push) → NoneExceed ws last → is_gt (origin_cmp push_cmp last next) ≡ false → is_gt (origin_cmp push_cmp o next) ≡ false → NoneExceed (let_in seen ws (m, o)) next
+pub let_in_last : (seen : List Closed) (ws : List (Entry Scene Push)) (m : Scene) (o last next : Origin Push) → NoneExceed ws last →
+    is_gt (origin_cmp push_cmp last next) ≡ false → is_gt (origin_cmp push_cmp o next) ≡ false → NoneExceed (let_in seen ws (m, o)) next
 let_in_last seen ws m o last next none later late = go (is_some (lookup (same_scene m) seen))
   where
     all : NoneExceed ws next
@@ -109,15 +118,19 @@ other_least a b e = not_greater b a (sym e)
 
 -- ---- where what is there stands
 
-stands_within : (m : Scene) (v : Option (Origin Push)) (es : List Closed) → lookup (same_scene m) es ≡ Some v → position_or_len (same_scene m) (keys_of es) < length (keys_of es)
+stands_within : (m : Scene) (v : Option (Origin Push)) (es : List Closed) → lookup (same_scene m) es ≡ Some v →
+    position_or_len (same_scene m) (keys_of es) < length (keys_of es)
 stands_within m v [] e = absurd (none-some v e)
 stands_within m v (x ∷ es) e = go (same_scene m x.0) e (stands_within m v es)
   where
-    go : (b : Bool) → cond b (Some x.1) (lookup (same_scene m) es) ≡ Some v → (lookup (same_scene m) es ≡ Some v → position_or_len (same_scene m) (keys_of es) < length (keys_of es)) →
+    go : (b : Bool) → cond b (Some x.1) (lookup (same_scene m) es) ≡ Some v →
+        (lookup (same_scene m) es ≡ Some v → position_or_len (same_scene m) (keys_of es) < length (keys_of es)) →
         cond (not b) (1 + position_or_len (same_scene m) (keys_of es)) 0 < suc (length (keys_of es))
     go true f t = omega arith
     go false f t = omega (arith, t f)
 
 -- a position that has an entry stands where it would be put
-pub stands : (m : Scene) (v : Option (Origin Push)) (es : List Closed) (i : ℕ) → lookup (same_scene m) es ≡ Some v → i ≡ position_or_len (same_scene m) (keys_of es) → position (same_scene m) (keys_of es) ≡ Some i
-stands m v es i e at = ap (λ b. cond b (Some (position_or_len (same_scene m) (keys_of es))) None) (below (position_or_len (same_scene m) (keys_of es)) (length (keys_of es)) (stands_within m v es e)) ∙ ap Some (sym at)
+pub stands : (m : Scene) (v : Option (Origin Push)) (es : List Closed) (i : ℕ) → lookup (same_scene m) es ≡ Some v →
+    i ≡ position_or_len (same_scene m) (keys_of es) → position (same_scene m) (keys_of es) ≡ Some i
+stands m v es i e at = ap (λ b. cond b (Some (position_or_len (same_scene m) (keys_of es))) None)
+    (below (position_or_len (same_scene m) (keys_of es)) (length (keys_of es)) (stands_within m v es e)) ∙ ap Some (sym at)

@@ -38,8 +38,11 @@ parted_packed r s d lt =
 pub word_order : (m n : ℕ) → nat_cmp m n ≡ origin_cmp push_cmp (parted m) (parted n)
 word_order m n =
     by_directions m n ∙ ap (λ o. ordering_then o (nat_cmp (m % DIRECTIONS) (n % DIRECTIONS))) (by_squares (m / DIRECTIONS) (n / DIRECTIONS))
-    ∙ then-assoc (nat_cmp (m / DIRECTIONS / SQUARES) (n / DIRECTIONS / SQUARES)) (nat_cmp (m / DIRECTIONS % SQUARES) (n / DIRECTIONS % SQUARES)) (nat_cmp (m % DIRECTIONS) (n % DIRECTIONS))
-    ∙ (λ i. ordering_then (nat_cmp (m / DIRECTIONS / SQUARES) (n / DIRECTIONS / SQUARES)) (ordering_then (nat_cmp (m / DIRECTIONS % SQUARES) (n / DIRECTIONS % SQUARES)) (nat_cmp (sym (number_at (m % DIRECTIONS) (omega arith)) i) (sym (number_at (n % DIRECTIONS) (omega arith)) i))))
+    ∙ then-assoc (nat_cmp (m / DIRECTIONS / SQUARES) (n / DIRECTIONS / SQUARES)) (nat_cmp (m / DIRECTIONS % SQUARES) (n / DIRECTIONS % SQUARES))
+    (nat_cmp (m % DIRECTIONS) (n % DIRECTIONS))
+    ∙ (λ i. ordering_then (nat_cmp (m / DIRECTIONS / SQUARES) (n / DIRECTIONS / SQUARES))
+    (ordering_then (nat_cmp (m / DIRECTIONS % SQUARES) (n / DIRECTIONS % SQUARES))
+    (nat_cmp (sym (number_at (m % DIRECTIONS) (omega arith)) i) (sym (number_at (n % DIRECTIONS) (omega arith)) i))))
   where
     by_directions : (x y : ℕ) → nat_cmp x y ≡ ordering_then (nat_cmp (x / DIRECTIONS) (y / DIRECTIONS)) (nat_cmp (x % DIRECTIONS) (y % DIRECTIONS))
     by_directions x y = grind (arith, nat_tests)

@@ -1,5 +1,6 @@
 -- What contracts see of the positions that a book has found.
-use Rattle.std.specs.Prelude.{⊤, ◌≡◌, ℕ, ◌<◌, ◌≤◌, Bool, false, ◌==◌, ◌||◌, not, is_some, List, [], ◌∷◌, ◌++◌, fold, map, take, drop, length, slice_get, Option, Some, None, if◌then◌else◌}
+use Rattle.std.specs.Prelude.{⊤, ◌≡◌, ℕ, ◌<◌, ◌≤◌, Bool, false, ◌==◌, ◌||◌, not, is_some, List, [], ◌∷◌, ◌++◌, fold, map, take, drop, length, slice_get, Option}
+use Rattle.std.specs.Prelude.{Some, None, if◌then◌else◌}
 use Rattle.std.specs.Map.{lookup}
 use Rattle.std.specs.Ordering.{is_gt, is_lt}
 use Rattle.grid.specs.declared.dir.Dir.TheVariants.{D}
@@ -44,7 +45,12 @@ all_let_in seen waiting offers = fold (let_in seen) waiting offers
 
 -- what is found: of the entries those before a place are closed, and with those from it on stands open what the inbox has
 abbrev pub found_view : ℕ → ℕ → ℕ → List Closed → List (Entry Scene Push) → FoundView
-found_view boxes squares start es inbox = record { boxes = boxes; squares = squares; seen = seen_of start es; waiting = all_let_in (seen_of start es) (open_of start es) inbox }
+found_view boxes squares start es inbox = record {
+  boxes = boxes;
+  squares = squares;
+  seen = seen_of start es;
+  waiting = all_let_in (seen_of start es) (open_of start es) inbox;
+}
 
 -- it is the same with these entries and that inbox, and with others and another one
 abbrev pub StaysFound : ℕ → List Closed → List (Entry Scene Push) → List Closed → List (Entry Scene Push) → Type 0
@@ -52,7 +58,12 @@ StaysFound start es inbox others other = (boxes squares : ℕ) → found_view bo
 
 -- what is found once the wanted successors of a rank have entered
 abbrev pub with_entered : FoundView → ℕ → ℕ → ℕ → List Successor → FoundView
-with_entered v shares share rank ss = record { boxes = v.boxes; squares = v.squares; seen = v.seen; waiting = fold (entered (is_wanted_in v.seen shares share) rank) v.waiting ss }
+with_entered v shares share rank ss = record {
+  boxes = v.boxes;
+  squares = v.squares;
+  seen = v.seen;
+  waiting = fold (entered (is_wanted_in v.seen shares share) rank) v.waiting ss;
+}
 
 -- the offer of a rank's successor, if its position is of the share
 abbrev pub offer_of : ℕ → ℕ → ℕ → Successor → List (Entry Scene Push)

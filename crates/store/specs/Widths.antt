@@ -1,6 +1,7 @@
 -- What contracts see of what is found, whatever the width of its keys.
 use Rattle.store.specs.declared.found.Tables.{Tables}
-use Rattle.store.specs.declared.found.Tables.TheVariants.{NarrowLow, MiddleLow, HalfLow, WideLow, BroadLow, WidestLow, Narrow, Middle, Half, Wide, Broad, Widest}
+use Rattle.store.specs.declared.found.Tables.TheVariants.{NarrowLow, MiddleLow, HalfLow, WideLow, BroadLow, WidestLow, Narrow, Middle, Half, Wide, Broad}
+use Rattle.store.specs.declared.found.Tables.TheVariants.{Widest}
 use Rattle.store.specs.FoundView.{FoundView}
 
 abbrev pub tables_view : Tables → FoundView

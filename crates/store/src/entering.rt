@@ -136,7 +136,9 @@ pub(crate) fn count_new<const N: usize, const M: usize>(
     requires shares { 0 < shares }
     requires few { AllSuit N M successors.now }
     requires found { IsFound start table.now.entries }
-    ensures { (rank : ℕ) → length (fold (entered (is_wanted_in (seen_of start table.now.entries) shares share) rank) (open_of start table.now.entries) successors.now) ≡ length (open_of start table.now.entries) + result }
+    ensures { (rank : ℕ) → length
+        (fold (entered (is_wanted_in (seen_of start table.now.entries) shares share) rank) (open_of start table.now.entries) successors.now) ≡
+        length (open_of start table.now.entries) + result }
 {
     let mut count = 0;
     for (place, successor) in successors.iter().enumerate() {
@@ -167,7 +169,8 @@ fn is_new<const N: usize, const M: usize>(
     requires shares { 0 < shares }
     requires suits { Suits N M position.now }
     requires found { IsFound start table.now.entries }
-    ensures { result ≡ (is_wanted_in (seen_of start table.now.entries) shares share position.now && not (is_some (origin_of (open_of start table.now.entries) position.now) || list_any (λ s. same_scene s.position position.now) before.now)) }
+    ensures { result ≡ (is_wanted_in (seen_of start table.now.entries) shares share position.now &&
+        not (is_some (origin_of (open_of start table.now.entries) position.now) || list_any (λ s. same_scene s.position position.now) before.now)) }
 {
     if share_of(position, shares) != share {
         return false;

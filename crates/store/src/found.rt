@@ -130,7 +130,8 @@ impl Found {
         origins: &mut Vec<Origin>,
     ) -> Result<(), AllocError>
         requires { place < length self.now.seen }
-        ensures { OnOk result ((e : Closed) → slice_get self.now.seen place ≡ Some e → IsCopied e squares.old.items squares.new.items origins.old.items origins.new.items) }
+        ensures { OnOk result ((e : Closed) → slice_get self.now.seen place ≡ Some e →
+            IsCopied e squares.old.items squares.new.items origins.old.items origins.new.items) }
     {
         in_each!(&self.tables, table => table.copy_at(place, squares, origins))
     }

@@ -54,7 +54,8 @@ pub(crate) fn make_room<const N: usize, const M: usize>(
     ensures last { NoneExceed (open_of start table.new.entries) last.new }
     ensures same { StaysFound start table.old.entries inbox.old.items table.new.entries inbox.new.items }
     ensures room { length inbox.new.items ≤ spare table.new }
-    ensures ok { OnOk result ((length inbox.new.items + length successors.now ≤ spare table.new) × (vec_len inbox.new + length successors.now ≤ vec_capacity inbox.new)) }
+    ensures ok { OnOk result ((length inbox.new.items + length successors.now ≤ spare table.new) ×
+        (vec_len inbox.new + length successors.now ≤ vec_capacity inbox.new)) }
 {
     enter_if_full(table, start, last, inbox, most);
     let more = successors.len();

@@ -127,7 +127,8 @@ impl<const N: usize, const M: usize> Table<N, M> {
         origins: &mut Vec<Origin>,
     ) -> Result<(), AllocError>
         requires { place < length self.now.seen }
-        ensures { OnOk result ((e : Closed) → slice_get self.now.seen place ≡ Some e → IsCopied e squares.old.items squares.new.items origins.old.items origins.new.items) }
+        ensures { OnOk result ((e : Closed) → slice_get self.now.seen place ≡ Some e →
+            IsCopied e squares.old.items squares.new.items origins.old.items origins.new.items) }
     {
         let Some((key, origin)) = self.table.get_index(place) else {
             unreachable!()

@@ -3,7 +3,8 @@ use Rattle.std.proofs.Common.{◌≡◌, ℕ, ◌+◌, ◌<◌, List, [], ◌∷
 use Rattle.std.proofs.lemmas.List.{length-set, take-set, take_more_set, get_or-set_same}
 use Rattle.std.proofs.Math.Seq.{take-append_seam}
 
-module _ {A : Type 0} (old slots lent : List A) (count : ℕ) (s : A) (inside : count < length slots) (kept : take count slots ≡ take count old) (same : lent ≡ slots) where
+module _ {A : Type 0} (old slots lent : List A) (count : ℕ) (s : A) (inside : count < length slots) (kept : take count slots ≡ take count old) (same : lent ≡
+    slots) where
   -- what the slots hold after one of them was written while all were lent
   slots_written : take (length slots) (set lent count s ++ drop (length (set lent count s)) slots) ≡ set slots count s
   slots_written =
@@ -24,7 +25,8 @@ module _ {A : Type 0} (old slots lent : List A) (count : ℕ) (s : A) (inside : 
   slot_read now is d = ap (λ (xs : List A). get_or xs count d) (is ∙ slots_written) ∙ get_or-set_same slots count s d inside
 
 -- what the slots hold after all of them were lent and given back
-pub slots_refilled : {A : Type 0} (slots lent back : List A) → length back ≡ length lent → lent ≡ slots → take (length slots) (back ++ drop (length back) slots) ≡ back
+pub slots_refilled : {A : Type 0} (slots lent back : List A) → length back ≡ length lent → lent ≡ slots →
+    take (length slots) (back ++ drop (length back) slots) ≡ back
 slots_refilled slots lent back long same =
     let size : length back ≡ length slots = long ∙ ap length same in
     ap (λ n. take n (back ++ drop (length back) slots)) (sym size) ∙ take-append_seam back (drop (length back) slots)

@@ -23,12 +23,14 @@ module _ {A : Type 0} (now : List A) (front place : ℕ) (s : A) (order : front 
 
   -- the exchange, told by two stores
   stores : swap now front place ≡ set (set now front s) place (get_or now front s)
-  stores = sym (swap_is now front place s (omega (arith, order, inside)) inside) ∙ ap (λ (x : A). set (set now front x) place (get_or now front s)) (get_or_from_slice_get now place s s here)
+  stores = sym (swap_is now front place s (omega (arith, order, inside)) inside) ∙
+      ap (λ (x : A). set (set now front x) place (get_or now front s)) (get_or_from_slice_get now place s s here)
 
   -- one more stands in front
   pub front_more : take (front + 1) (swap now front place) ≡ take front now ++ s ∷ []
   front_more = ap (take (front + 1)) stores ∙ elim (cases_lt front place) [
-    | inl less ↦ take-set-le (front + 1) (set now front s) place (get_or now front s) (omega (arith, less)) ∙ take_more_set now front s (omega (arith, less, inside))
+    | inl less ↦ take-set-le (front + 1) (set now front s) place (get_or now front s) (omega (arith, less)) ∙
+        take_more_set now front s (omega (arith, less, inside))
     | inr le ↦ (let same : front ≡ place = omega (arith, le, order) in
         let value : get_or now front s ≡ s = ap (λ i. get_or now i s) same ∙ get_or_from_slice_get now place s s here in
         (λ i. take (front + 1) (set (set now front s) (sym same i) (value i)))
@@ -44,7 +46,8 @@ module _ {A : Type 0} (now : List A) (front place : ℕ) (s : A) (order : front 
 
 -- ---- the sums
 
-map_at : (ss : List Successor) (i : ℕ) (s : Successor) → slice_get ss i ≡ Some s → slice_get (map (λ (t : Successor). scene_sum t.position) ss) i ≡ Some (scene_sum s.position)
+map_at : (ss : List Successor) (i : ℕ) (s : Successor) → slice_get ss i ≡ Some s → slice_get (map (λ (t : Successor). scene_sum t.position) ss) i ≡
+    Some (scene_sum s.position)
 map_at [] i s at = cc
 map_at (t ∷ ss) zero s at = ap (λ (u : Successor). Some (scene_sum u.position)) (same_Some t s at)
 map_at (t ∷ ss) (suc i) s at = map_at ss i s at
@@ -56,7 +59,8 @@ at_take (x ∷ xs) (suc n) zero a lt at = at
 at_take (x ∷ xs) (suc n) (suc i) a lt at = at_take xs n i a (omega (arith, lt)) at
 
 -- beside each of the first so many successors lies its sum
-pub sum_at : (count : ℕ) (ss : List Successor) (sums : List ℕ) → AreSums (take count ss) (take count sums) → (place : ℕ) (s : Successor) → place < count → slice_get ss place ≡ Some s → slice_get sums place ≡ Some (scene_sum s.position)
+pub sum_at : (count : ℕ) (ss : List Successor) (sums : List ℕ) → AreSums (take count ss) (take count sums) → (place : ℕ) (s : Successor) → place < count →
+    slice_get ss place ≡ Some s → slice_get sums place ≡ Some (scene_sum s.position)
 sum_at count ss sums told place s lt at =
     (take_at sums count place (scene_sum s.position) (ap (λ xs. slice_get xs place) told ∙ map_at (take count ss) place s (at_take ss count place s lt at))).0
 
@@ -74,7 +78,8 @@ no_sums (s ∷ ss) (x ∷ xs) = refl
 pub none_brought : (ss : List Successor) (sums : List ℕ) → AreBrought ss sums sums 0 0
 none_brought ss sums = record { told = no_sums ss sums; rest = λ i x le at. at }
 
-module _ (now : List Successor) (before sums : List ℕ) (front place : ℕ) (s : Successor) (order : front ≤ place) (there : slice_get now place ≡ Some s) (beside : slice_get before place ≡ Some (scene_sum s.position)) (are : AreBrought now before sums front place) where
+module _ (now : List Successor) (before sums : List ℕ) (front place : ℕ) (s : Successor) (order : front ≤ place) (there : slice_get now place ≡ Some s)
+    (beside : slice_get before place ≡ Some (scene_sum s.position)) (are : AreBrought now before sums front place) where
   here_too : slice_get sums place ≡ Some (scene_sum s.position)
   here_too = are.rest place (scene_sum s.position) (omega arith) beside
 

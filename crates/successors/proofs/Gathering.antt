@@ -36,24 +36,36 @@ module _ (board : Board) (n : Scene) (scene : IsScene board n) (ps : List Push) 
     | inr le ↦ inr (let same : i ≡ k = omega (arith, lt, le) in same_Some q p (sym e ∙ (ap (λ (j : ℕ). slice_get ps j) same ∙ at)))
   ]
 
-  pub by_same : (k : ℕ) (p : Push) (ss : List Successor) → slice_get ps k ≡ Some p → AreSuccessorsBy board n k ps ss → ((m : Scene) → ¬ (IsSuccessor board n p m)) → AreSuccessorsBy board n (k + 1) ps ss
+  pub by_same : (k : ℕ) (p : Push) (ss : List Successor) → slice_get ps k ≡ Some p → AreSuccessorsBy board n k ps ss →
+      ((m : Scene) → ¬ (IsSuccessor board n p m)) → AreSuccessorsBy board n (k + 1) ps ss
   by_same k p ss at all none = all_same _ _ ss all
       (λ s h. (h.0, (h.1.0, omega (arith, h.1.1), h.1.2)))
-      (λ s h. (h.0, elim (among_more k p s.push at h.1) [ inl w ↦ w | inr e ↦ absurd (none s.position (subst (λ (q : Push). IsSuccessor board n q s.position) e h.0)) ]))
+      (λ s h. (
+        h.0,
+        elim (among_more k p s.push at h.1) [
+          | inl w ↦ w
+          | inr e ↦
+              absurd (none s.position (subst (λ (q : Push). IsSuccessor board n q s.position) e h.0))
+        ],
+      ))
 
-  pub by_more : (k : ℕ) (p : Push) (ss : List Successor) (new : Successor) → ArePushes board n ps → slice_get ps k ≡ Some p → AreSuccessorsBy board n k ps ss → new.push ≡ p → IsSuccessor board n p new.position → AreSuccessorsBy board n (k + 1) ps (ss ++ new ∷ [])
+  pub by_more : (k : ℕ) (p : Push) (ss : List Successor) (new : Successor) → ArePushes board n ps → slice_get ps k ≡ Some p → AreSuccessorsBy board n k ps ss →
+      new.push ≡ p → IsSuccessor board n p new.position → AreSuccessorsBy board n (k + 1) ps (ss ++ new ∷ [])
   by_more k p ss new pushes at all named come =
-      all_push (λ s. IsSuccessor board n s.push s.position × IsAmong k ps s.push) (λ s. IsSuccessor board n s.push s.position × IsAmong (k + 1) ps s.push) ss new all
+      all_push (λ s. IsSuccessor board n s.push s.position × IsAmong k ps s.push) (λ s. IsSuccessor board n s.push s.position ×
+      IsAmong (k + 1) ps s.push) ss new all
       (subst (λ (q : Push). IsSuccessor board n q new.position) (sym named) come, (k, omega arith, at ∙ ap Some (sym named)))
       (λ s h. (h.0, (h.1.0, omega (arith, h.1.1), h.1.2)))
       (λ s h. elim (among_more k p s.push at h.1) [
         | inl w ↦ inl (h.0, w)
-        | inr e ↦ inr (let f = successor_unique board n scene p s.position new.position (subst (λ (q : Push). IsSuccessor board n q s.position) e h.0) come in let g = e ∙ sym named in λ i. record { push = g i; position = f i })
+        | inr e ↦ inr (let f = successor_unique board n scene p s.position new.position (subst (λ (q : Push). IsSuccessor board n q s.position) e h.0) come in
+            let g = e ∙ sym named in λ i. record { push = g i; position = f i })
       ])
       (λ s h. subst (λ (q : Push). push_cmp s.push q ≡ Less) (sym named) (pushes.rise h.1.0 k s.push p h.1.1 h.1.2 at))
 
   -- the successors by all the pushes are all successors
-  pub by_all : (k : ℕ) (ss : List Successor) → length ps ≤ k → ArePushes board n ps → ((p : Push) (m : Scene) → IsSuccessor board n p m → CanPush board n p) → AreSuccessorsBy board n k ps ss → (layer : ℕ) → AreSuccessors (uncapped board) layer n ss
+  pub by_all : (k : ℕ) (ss : List Successor) → length ps ≤ k → ArePushes board n ps → ((p : Push) (m : Scene) → IsSuccessor board n p m → CanPush board n p) →
+      AreSuccessorsBy board n k ps ss → (layer : ℕ) → AreSuccessors (uncapped board) layer n ss
   by_all k ss long pushes can all layer = record {
     each = λ i s e. ((all.each i s e).0, tt);
     rise = all.rise;
@@ -63,12 +75,17 @@ module _ (board : Board) (n : Scene) (scene : IsScene board n) (ps : List Push) 
 
 -- one more successor that is a position of the level
 pub fit_more : (board : Board) (ss : List Successor) (new : Successor) → FitLevel board ss → FitsLevel board new.position → FitLevel board (ss ++ new ∷ [])
-fit_more board ss new fit here i s e = elim (pushed_at ss new s i e) [ inl h ↦ fit i s h | inr h ↦ subst (λ (x : Successor). FitsLevel board x.position) (sym h.1) here ]
+fit_more board ss new fit here i s e = elim (pushed_at ss new s i e) [
+  | inl h ↦ fit i s h
+  | inr h ↦
+      subst (λ (x : Successor). FitsLevel board x.position) (sym h.1) here
+]
 
 -- ---- the parcel of a rank
 
 -- the successors of the position make a parcel
-pub is_parcel : (board : Board) (s : Source) → IsSource board s → (ss : List Successor) → AreSuccessors (capped board s.cap) s.layer s.position ss → FitLevel board ss →
+pub is_parcel : (board : Board) (s : Source) → IsSource board s → (ss : List Successor) → AreSuccessors (capped board s.cap) s.layer s.position ss →
+    FitLevel board ss →
     IsParcel (record { level = capped board s.cap; layer = s.layer; rank = s.rank; successors = ss })
 is_parcel board s is ss come fit = record {
   lawful = is.lawful;

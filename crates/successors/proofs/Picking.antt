@@ -1,5 +1,6 @@
 -- What is left of the successors under a cap.
-use Rattle.std.proofs.Common.{◌≡◌, ℕ, zero, suc, true, eqb, leb, ◌+◌, ◌<◌, ◌≤◌, List, [], ◌∷◌, ◌++◌, length, take, drop, get_or, Option, Some, inl, inr, refl, sym, ap, subst, ◌∙◌, arith}
+use Rattle.std.proofs.Common.{◌≡◌, ℕ, zero, suc, true, eqb, leb, ◌+◌, ◌<◌, ◌≤◌, List, [], ◌∷◌, ◌++◌, length, take, drop, get_or, Option, Some, inl, inr, refl}
+use Rattle.std.proofs.Common.{sym, ap, subst, ◌∙◌, arith}
 use Rattle.std.proofs.lemmas.Bool.{or_cases, eqb-true}
 use Rattle.std.proofs.lemmas.Bool.Decides.{nat_tests}
 use Rattle.std.proofs.lemmas.List.Edits.{length-swap}
@@ -55,7 +56,8 @@ module _ {A : Type 0} {Holds : A → Type 0} where
   picked_rise nothing rises i j a b lt at_a at_b = absurd (none-some a at_a)
   picked_rise {Before} (kept {xs = xs} {ys = ys} {x = x} rest holds) rises i j a b lt at_a at_b = elim (at-push ys x j b at_b) [
     | inl old ↦ elim (at-push ys x i a at_a) [
-      | inl first ↦ picked_rise rest (λ k l c d less at_c at_d. rises k l c d less (at_before xs (x ∷ []) k c at_c) (at_before xs (x ∷ []) l d at_d)) i j a b lt first old
+      | inl first ↦ picked_rise rest (λ k l c d less at_c at_d. rises k l c d less (at_before xs (x ∷ []) k c at_c) (at_before xs (x ∷ []) l d at_d)) i j a b lt
+          first old
       | inr past ↦ absurd (let w = slice_get_within ys j b old in omega (arith, lt, w, past.0))
     ]
     | inr last ↦ elim (at-push ys x i a at_a) [
@@ -70,7 +72,8 @@ module _ {A : Type 0} {Holds : A → Type 0} where
 -- ---- picked successors
 
 -- the successors that the cap admits
-pub picked_successors : (board : Board) (most room k : ℕ) (n : Scene) (before after : List Successor) → k + 1 + room ≡ most → ArePicked board room before after → AreSuccessors (uncapped board) k n before → AreSuccessors (capped board (Some most)) k n after
+pub picked_successors : (board : Board) (most room k : ℕ) (n : Scene) (before after : List Successor) → k + 1 + room ≡ most →
+    ArePicked board room before after → AreSuccessors (uncapped board) k n before → AreSuccessors (capped board (Some most)) k n after
 picked_successors board most room k n before after sum picks all = record {
   each = λ i s at. (let w = picked_from picks s (i, at) in ((all.each w.0.0 s w.0.1).0, (w.1.0, w.1.1, omega (arith, sum, w.1.2))));
   rise = picked_rise picks all.rise;
@@ -95,14 +98,18 @@ pub picked_fit : (board : Board) (room : ℕ) (before after : List Successor) �
 picked_fit board room before after picks fit i s at = let w = (picked_from picks s (i, at)).0 in fit w.0 s w.1
 
 -- the successors under a cap are those of the level with it
-pub under_cap : (task : Task) (board : Board) (cap : Option ℕ) → board ≡ task.board → task.cap ≡ cap → (k : ℕ) (n : Scene) (ss : List Successor) → AreSuccessors (capped board cap) k n ss → AreSuccessors task k n ss
+pub under_cap : (task : Task) (board : Board) (cap : Option ℕ) → board ≡ task.board → task.cap ≡ cap → (k : ℕ) (n : Scene) (ss : List Successor) →
+    AreSuccessors (capped board cap) k n ss → AreSuccessors task k n ss
 under_cap task board cap same e k n ss all = subst (λ (t : Task). AreSuccessors t k n ss) (λ i. record { board = same i; cap = sym e i }) all
 
 -- the sums beside successors, where both were lent and given back
-pub sums_refilled : (n : ℕ) (slots lent back : List Successor) (sums lent_sums back_sums : List ℕ) → length back ≡ length lent → lent ≡ slots → length back_sums ≡ length lent_sums → lent_sums ≡ sums
-    → AreSums (take n back) (take n back_sums) → AreSums (take n (take (length slots) (back ++ drop (length back) slots))) (take n (take (length sums) (back_sums ++ drop (length back_sums) sums)))
+pub sums_refilled : (n : ℕ) (slots lent back : List Successor) (sums lent_sums back_sums : List ℕ) → length back ≡ length lent → lent ≡ slots →
+    length back_sums ≡ length lent_sums → lent_sums ≡ sums
+    → AreSums (take n back) (take n back_sums) →
+    AreSums (take n (take (length slots) (back ++ drop (length back) slots))) (take n (take (length sums) (back_sums ++ drop (length back_sums) sums)))
 sums_refilled n slots lent back sums lent_sums back_sums long same long_sums same_sums are =
-    subst (λ (xs : List Successor). AreSums (take n xs) (take n (take (length sums) (back_sums ++ drop (length back_sums) sums)))) (sym (slots_refilled slots lent back long same))
+    subst (λ (xs : List Successor). AreSums (take n xs) (take n (take (length sums) (back_sums ++ drop (length back_sums) sums))))
+    (sym (slots_refilled slots lent back long same))
     (subst (λ (xs : List ℕ). AreSums (take n back) (take n xs)) (sym (slots_refilled sums lent_sums back_sums long_sums same_sums)) are)
 
 -- ---- one more is looked at
@@ -129,7 +136,8 @@ none_picked board room before = record {
 take_more : {A : Type 0} (xs : List A) (n : ℕ) (a : A) → slice_get xs n ≡ Some a → take (n + 1) xs ≡ take n xs ++ a ∷ []
 take_more xs n a at = ap (λ k. take k xs) (let e : n + 1 ≡ suc n = omega arith in e) ∙ take_push xs n a at
 
-module _ (board : Board) (room : ℕ) (before now : List Successor) (front place : ℕ) (s : Successor) (is : IsPicking board room before now front place) (there : slice_get before place ≡ Some s) where
+module _ (board : Board) (room : ℕ) (before now : List Successor) (front place : ℕ) (s : Successor) (is : IsPicking board room before now front place)
+    (there : slice_get before place ≡ Some s) where
   here : slice_get now place ≡ Some s
   here = is.rest place s (omega arith) there
 
@@ -188,14 +196,17 @@ at_take (x ∷ xs) (suc n) zero a lt at = at
 at_take (x ∷ xs) (suc n) (suc i) a lt at = at_take xs n i a (omega (arith, lt)) at
 
 -- what stands at the place stood there before
-pub stood : (board : Board) (room : ℕ) (before now : List Successor) (front place : ℕ) → IsPicking board room before now front place → place < length before → (s : Successor) → s ≡ get_or now place s → slice_get before place ≡ Some s
+pub stood : (board : Board) (room : ℕ) (before now : List Successor) (front place : ℕ) → IsPicking board room before now front place → place < length before →
+    (s : Successor) → s ≡ get_or now place s → slice_get before place ≡ Some s
 stood board room before now front place is lt s read =
     let t = get_or before place s in
     let at : slice_get before place ≡ Some t = slice_get-get_or before place s lt in
     let e : t ≡ s = sym (get_or_from_slice_get now place t s (is.rest place t (omega arith) at)) ∙ sym read in
     at ∙ ap (λ (x : Successor). Some x) e
 
-pub stood_fits : (board : Board) (room : ℕ) (before now : List Successor) (front place count : ℕ) → IsPicking board room before now front place → place < count → count ≤ length before → FitLevel board (take count before) → (s : Successor) → s ≡ get_or now place s → FitsLevel board (get_or now place s).position
+pub stood_fits : (board : Board) (room : ℕ) (before now : List Successor) (front place count : ℕ) → IsPicking board room before now front place →
+    place < count → count ≤ length before → FitLevel board (take count before) → (s : Successor) → s ≡ get_or now place s →
+    FitsLevel board (get_or now place s).position
 stood_fits board room before now front place count is lt few fit s read =
     subst (λ (x : Successor). FitsLevel board x.position) read
     (fit place s (at_take before count place s lt (stood board room before now front place is (omega (arith, lt, few)) s read)))

@@ -19,7 +19,8 @@ neither : (a b : Bool) → (a || b) ≡ false → (a ≡ false) × (b ≡ false)
 neither true b e = absurd (true≢false e)
 neither false b e = (refl, e)
 
-insert_sum_at : (x : ℕ) (xs : List ℕ) (q : ℕ) (lt eq : Bool) → eq ≡ false → sum (insert xs q) ≡ q + sum xs → sum (cond lt (q ∷ x ∷ xs) (cond eq (x ∷ xs) (x ∷ insert xs q))) ≡ q + sum (x ∷ xs)
+insert_sum_at : (x : ℕ) (xs : List ℕ) (q : ℕ) (lt eq : Bool) → eq ≡ false → sum (insert xs q) ≡ q + sum xs →
+    sum (cond lt (q ∷ x ∷ xs) (cond eq (x ∷ xs) (x ∷ insert xs q))) ≡ q + sum (x ∷ xs)
 insert_sum_at x xs q true eq ne h = sum-cons q (x ∷ xs)
 insert_sum_at x xs q false true ne h = absurd (true≢false ne)
 insert_sum_at x xs q false false ne h = omega (arith, sum-cons x (insert xs q), sum-cons x xs, h)
@@ -31,7 +32,8 @@ sum-insert (x ∷ xs) q out =
     let p = neither (eqb x q) (contains xs q) out in
     insert_sum_at x xs q (ltb q x) (eqb x q) p.0 (sum-insert xs q p.1)
 
-remove_sum_at : (x : ℕ) (xs : List ℕ) (q : ℕ) (eq : Bool) → (eq ≡ true → x ≡ q) → rises_from (suc x) xs ≡ true → (eq || contains xs q) ≡ true → (contains xs q ≡ true → q + sum (remove xs q) ≡ sum xs) → q + sum (cond eq (remove xs q) (x ∷ remove xs q)) ≡ sum (x ∷ xs)
+remove_sum_at : (x : ℕ) (xs : List ℕ) (q : ℕ) (eq : Bool) → (eq ≡ true → x ≡ q) → rises_from (suc x) xs ≡ true → (eq || contains xs q) ≡ true →
+    (contains xs q ≡ true → q + sum (remove xs q) ≡ sum xs) → q + sum (cond eq (remove xs q) (x ∷ remove xs q)) ≡ sum (x ∷ xs)
 remove_sum_at x xs q true same h here rest =
     let e = same refl in
     let left : sum (remove xs q) ≡ sum xs = ap sum (remove_out xs q (contains-below (suc x) xs q h (omega (arith, e)))) in
@@ -49,7 +51,8 @@ sum-moved : (xs : Squares) (q r : ℕ) → is_rising xs ≡ true → contains xs
 sum-moved xs q r h here out = omega (arith, sum-insert (remove xs q) r (contains-remove_out xs q r out), sum-remove_from 0 xs q h here)
 
 -- the sums of the boxes before and after a push
-pub pushed_sums : (board : Board) (n : Scene) → IsScene board n → (p : Push) (m : Scene) → IsSuccessor board n p m → sum n.boxes + next board p.square p.dir ≡ sum m.boxes + p.square
+pub pushed_sums : (board : Board) (n : Scene) → IsScene board n → (p : Push) (m : Scene) → IsSuccessor board n p m →
+    sum n.boxes + next board p.square p.dir ≡ sum m.boxes + p.square
 pushed_sums board n scene p m come =
     let has = come_by board n scene p m come in
     let ahead : ℕ = next board p.square p.dir in

@@ -21,5 +21,6 @@ pub record IsLead {N P : Type 0} (cmp : P → P → Ordering) (Reach : List P �
 -- whole is said without asking whether fewer pushes lead to a place: it is in the list, or fewer pushes lead there.
 pub record IsLayer {N P : Type 0} (cmp : P → P → Ordering) (Reach : List P → N → Type 0) (Adm : ℕ → N → Type 0) (k : ℕ) (xs : List N) : Type 0 where
   pub leads : (r : ℕ) (n : N) → slice_get xs r ≡ Some n → Adm k n × ((ps : List P) × IsLead cmp Reach n ps × (length ps ≡ k))
-  pub rise : (r s : ℕ) (m n : N) (ps qs : List P) → r < s → slice_get xs r ≡ Some m → slice_get xs s ≡ Some n → IsLead cmp Reach m ps → IsLead cmp Reach n qs → slice_cmp cmp ps qs ≡ Less
+  pub rise : (r s : ℕ) (m n : N) (ps qs : List P) → r < s → slice_get xs r ≡ Some m → slice_get xs s ≡ Some n → IsLead cmp Reach m ps → IsLead cmp Reach n qs →
+      slice_cmp cmp ps qs ≡ Less
   pub whole : (ps : List P) (n : N) → Reach ps n → length ps ≡ k → Adm k n → IsIn xs n ⊎ ((qs : List P) × Reach qs n × (length qs < k))

@@ -34,7 +34,8 @@ FitLevel board ss = (i : ℕ) (s : Successor) → slice_get ss i ≡ Some s → 
 -- `more` is `ss` and after it what the push leads to; or it is `ss`, where the push leads to no successor
 abbrev pub IsAppended : Board → Scene → Push → List Successor → List Successor → Type 0
 IsAppended board n p ss more =
-    ((s : Successor) × (more ≡ ss ++ s ∷ []) × (s.push ≡ p) × IsSuccessor board n p s.position × FitsLevel board s.position) ⊎ ((more ≡ ss) × ((m : Scene) → ¬ (IsSuccessor board n p m)))
+    ((s : Successor) × (more ≡ ss ++ s ∷ []) × (s.push ≡ p) × IsSuccessor board n p s.position × FitsLevel board s.position) ⊎
+    ((more ≡ ss) × ((m : Scene) → ¬ (IsSuccessor board n p m)))
 
 -- the parcel of a rank of its layer holds exactly the undoomed successors of the position there that are admitted
 pub record IsParcel (v : ParcelView) : Type 0 where

@@ -69,7 +69,8 @@ pub(crate) fn keep_admitted(
     ensures filled { result ≤ length slots.new }
     ensures fits { FitLevel bound.now (take result slots.new) }
     ensures sums { AreSums (take result slots.new) (take result sums.new) }
-    ensures successors { (n : Scene) → AreSuccessors (uncapped bound.now) layer n (take count slots.old) → AreSuccessors (capped bound.now (Some most)) layer n (take result slots.new) }
+    ensures successors { (n : Scene) → AreSuccessors (uncapped bound.now) layer n (take count slots.old) →
+        AreSuccessors (capped bound.now (Some most)) layer n (take result slots.new) }
 {
     let most = u64::from(most);
     if layer >= most {

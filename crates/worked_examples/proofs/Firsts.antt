@@ -15,7 +15,8 @@ AreFirst task layers = (j : ℕ) (layer : LayerView) → slice_get layers j ≡ 
 pub none_first : (task : Task) → AreFirst task []
 none_first task j layer at = let within = slice_get_within [] j layer at in absurd (omega arith)
 
-pub one_more : (task : Task) (layers : List LayerView) (layer : LayerView) → AreFirst task layers → layer.level ≡ task → layer.number ≡ length layers → AreFirst task (layers ++ layer ∷ [])
+pub one_more : (task : Task) (layers : List LayerView) (layer : LayerView) → AreFirst task layers → layer.level ≡ task → layer.number ≡ length layers →
+    AreFirst task (layers ++ layer ∷ [])
 one_more task layers layer all same number j x at =
     let within = slice_get_within (layers ++ layer ∷ []) j x at in
     let is : get_or (layers ++ layer ∷ []) j layer ≡ x = get_or_from_slice_get (layers ++ layer ∷ []) j x layer at in
@@ -29,4 +30,5 @@ one_more task layers layer all same number j x at =
 
 pub are_first : (task : Task) (layers : List LayerView) → 1 ≤ length layers → AreFirst task layers → AreFirstLayers layers
 are_first task [] some all = absurd (omega arith)
-are_first task (x ∷ xs) some all = let first = (all 0 x (slice_get-get_or (x ∷ xs) 0 x (omega arith))).0 in record { some = some; each = λ j l at. (let t = all j l at in (t.0 ∙ sym first, t.1)) }
+are_first task (x ∷ xs) some all = let first = (all 0 x (slice_get-get_or (x ∷ xs) 0 x (omega arith))).0 in
+    record { some = some; each = λ j l at. (let t = all j l at in (t.0 ∙ sym first, t.1)) }

@@ -9,6 +9,8 @@ mod books;
 mod crews;
 mod ends;
 #[cfg(test)]
+mod pages;
+#[cfg(test)]
 mod tests;
 
 pub use ends::{Paper, Pieces};

@@ -22,7 +22,8 @@ pub record Filling (cols count k : ℕ) (rest : List (List ℕ)) (cells : List C
   pub made : cells ++ flat_map (padded cols) others ≡ flat_map (padded cols) rows
   pub wide : cols_of others ≤ cols
 
-pub Filling-none : (stretch : Stretch) (rows : List (List Cell)) (rest : List (List ℕ)) → HasRows stretch rows → cols_of rows ≤ stretch.size.cols → rest ≡ stretch.lines → Filling stretch.size.cols stretch.count 0 rest [] rows
+pub Filling-none : (stretch : Stretch) (rows : List (List Cell)) (rest : List (List ℕ)) → HasRows stretch rows → cols_of rows ≤ stretch.size.cols →
+    rest ≡ stretch.lines → Filling stretch.size.cols stretch.count 0 rest [] rows
 Filling-none stretch rows rest has wide e = record {
   lines = has.lines;
   after = has.after;
@@ -42,15 +43,27 @@ record Taken (cols : ℕ) (line : List ℕ) (lines : List (List ℕ)) (others : 
   all : others ≡ first ++ left
   wide : (cols_of first ≤ cols) × (cols_of left ≤ cols)
 
-take-line : (cols : ℕ) (line : List ℕ) (lines : List (List ℕ)) (others : List (List Cell)) (by_line : List (List (List Cell))) → AllZip IsRowLine (line ∷ lines) by_line → others ≡ flat_map (λ r. r) by_line → cols_of others ≤ cols → Taken cols line lines others
+take-line : (cols : ℕ) (line : List ℕ) (lines : List (List ℕ)) (others : List (List Cell)) (by_line : List (List (List Cell))) →
+    AllZip IsRowLine (line ∷ lines) by_line → others ≡ flat_map (λ r. r) by_line → cols_of others ≤ cols → Taken cols line lines others
 take-line cols line lines others [] each all wide = absurd each
 take-line cols line lines others (first ∷ more) each all wide =
     let both = cols_of-append first (flat_map (λ r. r) more) in let same = ap cols_of all in
-    record { first = first; left = flat_map (λ r. r) more; is = each.0; rest = record { by_line = more; each = each.1; all = refl }; all = all; wide = (omega arith, omega arith) }
+    record {
+      first = first;
+      left = flat_map (λ r. r) more;
+      is = each.0;
+      rest = record { by_line = more; each = each.1; all = refl };
+      all = all;
+      wide = (omega arith, omega arith);
+    }
 
-fill-line : (cols count k n : ℕ) (rest next : List (List ℕ)) (cells fresh : List Cell) (rows : List (List Cell)) (raw : List ℕ) (lines after : List (List ℕ)) (others : List (List Cell)) →
-    cut_lines rest ≡ lines ++ after → length lines + k ≡ count → AreRowLines lines others → cells ++ flat_map (padded cols) others ≡ flat_map (padded cols) rows → cols_of others ≤ cols →
-    k < count → rest ≡ raw ∷ next → n ≡ suc k → ((made : List (List Cell)) → IsRowLine (cut_line raw) made → cols_of made ≤ cols → fresh ≡ cells ++ flat_map (padded cols) made) → Filling cols count n next fresh rows
+fill-line : (cols count k n : ℕ) (rest next : List (List ℕ)) (cells fresh : List Cell) (rows : List (List Cell)) (raw : List ℕ) (lines after : List (List ℕ))
+    (others : List (List Cell)) →
+    cut_lines rest ≡ lines ++ after → length lines + k ≡ count → AreRowLines lines others →
+    cells ++ flat_map (padded cols) others ≡ flat_map (padded cols) rows → cols_of others ≤ cols →
+    k < count → rest ≡ raw ∷ next → n ≡ suc k →
+    ((made : List (List Cell)) → IsRowLine (cut_line raw) made → cols_of made ≤ cols → fresh ≡ cells ++ flat_map (padded cols) made) →
+    Filling cols count n next fresh rows
 fill-line cols count k n rest next cells fresh rows raw [] after others whole count_is are made wide less e f pushed = absurd (omega arith)
 fill-line cols count k n rest next cells fresh rows raw (line ∷ lines) after others whole count_is are made wide less e f pushed =
     let t = take-line cols line lines others are.by_line are.each are.all wide in
@@ -70,23 +83,29 @@ fill-line cols count k n rest next cells fresh rows raw (line ∷ lines) after o
       wide = t.wide.1;
     }
 
-pub Filling-more : {cols count k n : ℕ} {rest next : List (List ℕ)} {cells fresh : List Cell} {rows : List (List Cell)} (raw : List ℕ) → Filling cols count k rest cells rows →
-    k < count → rest ≡ raw ∷ next → n ≡ suc k → ((made : List (List Cell)) → IsRowLine (cut_line raw) made → cols_of made ≤ cols → fresh ≡ cells ++ flat_map (padded cols) made) → Filling cols count n next fresh rows
+pub Filling-more : {cols count k n : ℕ} {rest next : List (List ℕ)} {cells fresh : List Cell} {rows : List (List Cell)} (raw : List ℕ) →
+    Filling cols count k rest cells rows →
+    k < count → rest ≡ raw ∷ next → n ≡ suc k →
+    ((made : List (List Cell)) → IsRowLine (cut_line raw) made → cols_of made ≤ cols → fresh ≡ cells ++ flat_map (padded cols) made) →
+    Filling cols count n next fresh rows
 Filling-more {cols} {count} {k} {n} {rest} {next} {cells} {fresh} {rows} raw is less e f pushed =
     fill-line cols count k n rest next cells fresh rows raw is.lines is.after is.others is.whole is.count_is is.rows_are is.made is.wide less e f pushed
 
-no-rows : (others : List (List Cell)) (by_line : List (List (List Cell))) (lines : List (List ℕ)) → length lines ≡ 0 → AllZip IsRowLine lines by_line → others ≡ flat_map (λ r. r) by_line → others ≡ []
+no-rows : (others : List (List Cell)) (by_line : List (List (List Cell))) (lines : List (List ℕ)) → length lines ≡ 0 → AllZip IsRowLine lines by_line →
+    others ≡ flat_map (λ r. r) by_line → others ≡ []
 no-rows others [] [] e each all = all
 no-rows others (r ∷ rs) [] e each all = absurd each
 no-rows others by_line (l ∷ ls) e each all = absurd (omega arith)
 
-pub Filling-all : {cols count k : ℕ} {rest : List (List ℕ)} {cells : List Cell} {rows : List (List Cell)} → Filling cols count k rest cells rows → count ≤ k → cells ≡ flat_map (padded cols) rows
+pub Filling-all : {cols count k : ℕ} {rest : List (List ℕ)} {cells : List Cell} {rows : List (List Cell)} → Filling cols count k rest cells rows → count ≤ k →
+    cells ≡ flat_map (padded cols) rows
 Filling-all {cols} {count} {k} {rest} {cells} {rows} is e =
     let n = is.count_is in
     let none = no-rows is.others is.rows_are.by_line is.lines (omega arith) is.rows_are.each is.rows_are.all in
     sym (append-nil cells) ∙ ap (λ o. cells ++ flat_map (padded cols) o) (sym none) ∙ is.made
 
 -- there is a next line as long as not all lines are done
-pub Filling-some : {cols count k : ℕ} {rest : List (List ℕ)} {cells : List Cell} {rows : List (List Cell)} → Filling cols count k rest cells rows → k < count → rest ≡ [] → ⊥
+pub Filling-some : {cols count k : ℕ} {rest : List (List ℕ)} {cells : List Cell} {rows : List (List Cell)} → Filling cols count k rest cells rows → k < count →
+    rest ≡ [] → ⊥
 Filling-some {cols} {count} {k} {rest} {cells} {rows} is less e =
     let n = is.count_is in let l = ap length (sym (ap cut_lines e) ∙ is.whole) in omega (arith, length-append is.lines is.after)

@@ -1,5 +1,6 @@
 -- Writing: the cells of a level by its readers, and rows without floor at their ends.
-use Rattle.std.proofs.Common.{◌≡◌, ℕ, zero, suc, ◌+◌, ◌-◌, ◌*◌, ◌<◌, ◌≤◌, Bool, true, false, ◌==◌, List, [], ◌∷◌, ◌++◌, length, get_or, take, drop, flat_map, refl, sym, ap, ◌∙◌, arith, get_or-drop, length-drop, div-add-mod'}
+use Rattle.std.proofs.Common.{◌≡◌, ℕ, zero, suc, ◌+◌, ◌-◌, ◌*◌, ◌<◌, ◌≤◌, Bool, true, false, ◌==◌, List, [], ◌∷◌, ◌++◌, length, get_or, take, drop, flat_map}
+use Rattle.std.proofs.Common.{refl, sym, ap, ◌∙◌, arith, get_or-drop, length-drop, div-add-mod'}
 use Rattle.std.proofs.lemmas.Bool.{false≢true, eq-eqb, ne_eqb}
 use Rattle.std.proofs.lemmas.List.{take_more, length-take-le}
 use Rattle.std.proofs.Math.Nat.{mul-le-mul_right}
@@ -27,31 +28,40 @@ cell_with-cell PlayerOnGoal = refl
 
 player-test : (board : Board) (q : ℕ) (t : Bool) → player_count board ≡ 1 → player_cell (get_or board.cells q Wall) ≡ t → (start_player board == q) ≡ t
 player-test board q true one here = eq-eqb (start_player board) q (start_player_is board q one here)
-player-test board q false one here = ne_eqb (start_player board) q (λ e. false≢true (sym here ∙ ap (λ p. player_cell (get_or board.cells p Wall)) (sym e) ∙ player_at_start board one))
+player-test board q false one here = ne_eqb (start_player board) q (λ e. false≢true (sym here ∙ ap (λ p. player_cell (get_or board.cells p Wall)) (sym e) ∙
+    player_at_start board one))
 
 -- the readers of a level tell its cell
-pub cell_with-level : (board : Board) (q : ℕ) (w b p g : Bool) → IsLevel board → w ≡ is_wall board q → b ≡ has_box board q → p ≡ (start_player board == q) → g ≡ is_goal board q → cell_with w b p g ≡ get_or board.cells q Wall
+pub cell_with-level : (board : Board) (q : ℕ) (w b p g : Bool) → IsLevel board → w ≡ is_wall board q → b ≡ has_box board q → p ≡ (start_player board == q) →
+    g ≡ is_goal board q → cell_with w b p g ≡ get_or board.cells q Wall
 unfolding is_wall has_box is_goal
 cell_with-level board q w b p g level wall boxed player goal =
     let one = (counts_of board level.lawful.cells).player in
     let c = get_or board.cells q Wall in
-    ap (λ t. cell_with t b p g) wall ∙ ap (λ t. cell_with (wall_cell c) t p g) boxed ∙ ap (λ t. cell_with (wall_cell c) (box_cell c) t g) (player ∙ player-test board q (player_cell c) one refl)
+    ap (λ t. cell_with t b p g) wall ∙ ap (λ t. cell_with (wall_cell c) t p g) boxed ∙
+    ap (λ t. cell_with (wall_cell c) (box_cell c) t g) (player ∙ player-test board q (player_cell c) one refl)
     ∙ ap (λ t. cell_with (wall_cell c) (box_cell c) (player_cell c) t) goal ∙ cell_with-cell c
 
 -- one cell more of a row
-pub row-more : (cells : List Cell) (start col : ℕ) → start + col < length cells → take (col + 1) (drop start cells) ≡ take col (drop start cells) ++ get_or cells (start + col) Wall ∷ []
+pub row-more : (cells : List Cell) (start col : ℕ) → start + col < length cells →
+    take (col + 1) (drop start cells) ≡ take col (drop start cells) ++ get_or cells (start + col) Wall ∷ []
 row-more cells start col inside =
     let left = length-drop start cells in
     take_more (drop start cells) col Wall (omega arith) ∙ ap (λ c. take col (drop start cells) ++ c ∷ []) (get_or-drop start cells col Wall)
 
-pub kept-floor : (cells : List Cell) (start col kept : ℕ) → start + col < length cells → kept ≡ length (cut_row (take col (drop start cells))) → is_floor (get_or cells (start + col) Wall) ≡ true → kept ≡ length (cut_row (take (col + 1) (drop start cells)))
-kept-floor cells start col kept inside e floor = e ∙ ap length (cut_end-last_blank is_floor (take (col + 1) (drop start cells)) (take col (drop start cells)) (get_or cells (start + col) Wall) (row-more cells start col inside) floor)
+pub kept-floor : (cells : List Cell) (start col kept : ℕ) → start + col < length cells → kept ≡ length (cut_row (take col (drop start cells))) →
+    is_floor (get_or cells (start + col) Wall) ≡ true → kept ≡ length (cut_row (take (col + 1) (drop start cells)))
+kept-floor cells start col kept inside e floor = e ∙
+    ap length (cut_end-last_blank is_floor (take (col + 1) (drop start cells)) (take col (drop start cells)) (get_or cells (start + col) Wall)
+    (row-more cells start col inside) floor)
 
-pub kept-other : (cells : List Cell) (start col : ℕ) → start + col < length cells → is_floor (get_or cells (start + col) Wall) ≡ false → col + 1 ≡ length (cut_row (take (col + 1) (drop start cells)))
+pub kept-other : (cells : List Cell) (start col : ℕ) → start + col < length cells → is_floor (get_or cells (start + col) Wall) ≡ false →
+    col + 1 ≡ length (cut_row (take (col + 1) (drop start cells)))
 kept-other cells start col inside other =
     let left = length-drop start cells in
     let long = length-take-le (col + 1) (drop start cells) (omega arith) in
-    sym (ap length (cut_end-last_other is_floor (take (col + 1) (drop start cells)) (take col (drop start cells)) (get_or cells (start + col) Wall) (row-more cells start col inside) other) ∙ long)
+    sym (ap length (cut_end-last_other is_floor (take (col + 1) (drop start cells)) (take col (drop start cells)) (get_or cells (start + col) Wall)
+    (row-more cells start col inside) other) ∙ long)
 
 -- what is left is the front
 take-before : {A : Type 0} (t : Bool) (x : A) (ys xs : List A) → take (length ys) xs ≡ ys → take (length (before_rest t x ys)) (x ∷ xs) ≡ before_rest t x ys
@@ -69,7 +79,8 @@ take-take (suc m) zero xs le = absurd (omega arith)
 take-take (suc m) (suc n) [] le = refl
 take-take (suc m) (suc n) (x ∷ xs) le = ap (λ l. x ∷ l) (take-take m n xs (omega arith))
 
-pub kept-cells : (cells : List Cell) (start cols kept : ℕ) → kept ≡ length (cut_row (take cols (drop start cells))) → kept ≤ cols → take kept (drop start cells) ≡ cut_row (take cols (drop start cells))
+pub kept-cells : (cells : List Cell) (start cols kept : ℕ) → kept ≡ length (cut_row (take cols (drop start cells))) → kept ≤ cols →
+    take kept (drop start cells) ≡ cut_row (take cols (drop start cells))
 kept-cells cells start cols kept e le =
     sym (take-take kept cols (drop start cells) le) ∙ ap (λ k. take k (take cols (drop start cells))) e ∙ take-cut_end is_floor (take cols (drop start cells))
 
@@ -98,16 +109,21 @@ pub left-none : (board : Board) → left_from board 0 ≡ written board
 unfolding written
 left-none board =
     let a : row_count board - 0 ≡ row_count board = omega arith in let b : 0 * board.cols ≡ 0 = omega arith in
-    ap (λ n. flat_map written_row (rows_from n board.cols (drop (0 * board.cols) board.cells))) a ∙ ap (λ n. flat_map written_row (rows_from (row_count board) board.cols (drop n board.cells))) b
+    ap (λ n. flat_map written_row (rows_from n board.cols (drop (0 * board.cols) board.cells))) a ∙
+    ap (λ n. flat_map written_row (rows_from (row_count board) board.cols (drop n board.cells))) b
     ∙ ap (λ cs. flat_map written_row (rows_from (row_count board) board.cols cs)) (drop-zero board.cells)
 
-pub left-more : (board : Board) (row : ℕ) → row < row_count board → left_from board row ≡ written_row (take board.cols (drop (row * board.cols) board.cells)) ++ left_from board (row + 1)
+pub left-more : (board : Board) (row : ℕ) → row < row_count board →
+    left_from board row ≡ written_row (take board.cols (drop (row * board.cols) board.cells)) ++ left_from board (row + 1)
 left-more board row less =
     let a : row_count board - row ≡ suc (row_count board - (row + 1)) = omega arith in
     let b : row * board.cols + board.cols ≡ (row + 1) * board.cols = omega arith in
     ap (λ n. flat_map written_row (rows_from n board.cols (drop (row * board.cols) board.cells))) a
-    ∙ ap (λ cs. written_row (take board.cols (drop (row * board.cols) board.cells)) ++ flat_map written_row (rows_from (row_count board - (row + 1)) board.cols cs)) (drop-drop board.cols (row * board.cols) board.cells)
-    ∙ ap (λ k. written_row (take board.cols (drop (row * board.cols) board.cells)) ++ flat_map written_row (rows_from (row_count board - (row + 1)) board.cols (drop k board.cells))) b
+    ∙ ap (λ cs. written_row (take board.cols (drop (row * board.cols) board.cells)) ++
+    flat_map written_row (rows_from (row_count board - (row + 1)) board.cols cs)) (drop-drop board.cols (row * board.cols) board.cells)
+    ∙ ap (λ k. written_row (take board.cols (drop (row * board.cols) board.cells)) ++
+    flat_map written_row (rows_from (row_count board - (row + 1)) board.cols (drop k board.cells))) b
 
 pub left-all : (board : Board) (row : ℕ) → row_count board ≤ row → left_from board row ≡ []
-left-all board row le = let a : row_count board - row ≡ 0 = omega arith in ap (λ n. flat_map written_row (rows_from n board.cols (drop (row * board.cols) board.cells))) a
+left-all board row le = let a : row_count board - row ≡ 0 = omega arith in
+    ap (λ n. flat_map written_row (rows_from n board.cols (drop (row * board.cols) board.cells))) a

@@ -1,5 +1,6 @@
 -- Lists without what stands at their ends: rows without floor, and their padding.
-use Rattle.std.proofs.Common.{◌≡◌, ℕ, zero, suc, ◌-◌, ◌<◌, ◌≤◌, Bool, true, false, List, [], ◌∷◌, ◌++◌, length, replicate, take, min, refl, sym, ap, ◌∙◌, arith, length-append}
+use Rattle.std.proofs.Common.{◌≡◌, ℕ, zero, suc, ◌-◌, ◌<◌, ◌≤◌, Bool, true, false, List, [], ◌∷◌, ◌++◌, length, replicate, take, min, refl, sym, ap, ◌∙◌, arith}
+use Rattle.std.proofs.Common.{length-append}
 use Rattle.std.specs.List.{AllByRecursion}
 use Rattle.grid.specs.declared.cell.Cell.{Cell}
 use Rattle.grid.specs.declared.cell.Cell.TheVariants.{Wall, Floor, Goal, Box, BoxOnGoal, Player, PlayerOnGoal}
@@ -99,7 +100,8 @@ take-replicate_min (suc cols) (suc m) zero x e = absurd (omega arith)
 take-replicate_min (suc cols) (suc m) (suc n) x e = ap (λ r. x ∷ r) (take-replicate_min cols m n x (omega arith))
 
 -- the first cells of a list and as many copies of a cell as there is still room for
-pub take-more : {A : Type 0} (cols : ℕ) (front : List A) (m n : ℕ) (x : A) → n ≡ min m (cols - length front) → take cols (front ++ replicate m x) ≡ take cols front ++ replicate n x
+pub take-more : {A : Type 0} (cols : ℕ) (front : List A) (m n : ℕ) (x : A) → n ≡ min m (cols - length front) →
+    take cols (front ++ replicate m x) ≡ take cols front ++ replicate n x
 take-more cols [] m n x e = take-replicate_min cols m n x (omega arith) ∙ ap (λ t. t ++ replicate n x) (sym (take-nil cols))
 take-more zero (y ∷ front) m n x e = let none : n ≡ 0 = omega arith in rw none refl
 take-more (suc cols) (y ∷ front) m n x e = ap (λ r. y ∷ r) (take-more cols front m n x (omega arith))

@@ -29,8 +29,10 @@ unwrap_or-copied : (o : Option (Bor (List ℕ))) (d : Bor (List ℕ)) → (unwra
 unwrap_or-copied None d = refl
 unwrap_or-copied (Some x) d = refl
 
-pub IsGap-more : (gap : Gap) (comment title fresh_comment fresh_title : Option (Bor (List ℕ))) (line : List ℕ) → option_copied fresh_comment ≡ comment_of line → option_copied fresh_title ≡ title_of line →
-    comment ≡ option_or fresh_comment gap.comment → title ≡ option_or gap.title fresh_title → (lines : List (List ℕ)) → IsGap gap lines → IsGap (record { comment = comment; title = title }) (lines ++ line ∷ [])
+pub IsGap-more : (gap : Gap) (comment title fresh_comment fresh_title : Option (Bor (List ℕ))) (line : List ℕ) → option_copied fresh_comment ≡ comment_of line →
+    option_copied fresh_title ≡ title_of line →
+    comment ≡ option_or fresh_comment gap.comment → title ≡ option_or gap.title fresh_title → (lines : List (List ℕ)) → IsGap gap lines →
+    IsGap (record { comment = comment; title = title }) (lines ++ line ∷ [])
 IsGap-more gap comment title fresh_comment fresh_title line a b c d lines is = record {
   last_comment = ap option_copied c ∙ copied-or fresh_comment gap.comment ∙ ap (λ o. option_or o (option_copied gap.comment)) a
       ∙ ap (option_or (comment_of line)) is.last_comment ∙ sym (last_some-last comment_of lines line);
@@ -38,9 +40,11 @@ IsGap-more gap comment title fresh_comment fresh_title line a b c d lines is = r
       ∙ ap (option_or (first_some title_of lines)) b ∙ sym (first_some-last title_of lines line);
 }
 
-pub name_of-gaps : (before after : Gap) (o : Option (Bor (List ℕ))) (d named : Bor (List ℕ)) (result : List ℕ) → o ≡ option_or before.comment after.title → named ≡ unwrap_or o d → d.now ≡ [] → result ≡ trimmed named.now →
+pub name_of-gaps : (before after : Gap) (o : Option (Bor (List ℕ))) (d named : Bor (List ℕ)) (result : List ℕ) → o ≡ option_or before.comment after.title →
+    named ≡ unwrap_or o d → d.now ≡ [] → result ≡ trimmed named.now →
     (before_lines after_lines : List (List ℕ)) → IsGap before before_lines → IsGap after after_lines → result ≡ name_of before_lines after_lines
 unfolding name_of
 name_of-gaps before after o d named result e f g h before_lines after_lines b a =
     h ∙ ap (λ n. trimmed n.now) f ∙ ap trimmed (unwrap_or-copied o d ∙ ap (unwrap_or (option_copied o)) g
-    ∙ ap (λ p. unwrap_or p []) (ap option_copied e ∙ copied-or before.comment after.title ∙ ap (λ p. option_or p (option_copied after.title)) b.last_comment ∙ ap (option_or (last_some comment_of before_lines)) a.first_title))
+    ∙ ap (λ p. unwrap_or p []) (ap option_copied e ∙ copied-or before.comment after.title ∙ ap (λ p. option_or p (option_copied after.title)) b.last_comment ∙
+    ap (option_or (last_some comment_of before_lines)) a.first_title))

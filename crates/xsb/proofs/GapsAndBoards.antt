@@ -1,5 +1,6 @@
 -- Gaps and boards, as they are read line by line.
-use Rattle.std.proofs.Common.{◌≡◌, ℕ, ◌+◌, ◌<◌, true, false, List, [], ◌∷◌, ◌++◌, length, drop, flat_map, refl, sym, ap, ◌∙◌, arith, length-append, append_assoc, subst, Option, Some, None, is_some, MatchOption}
+use Rattle.std.proofs.Common.{◌≡◌, ℕ, ◌+◌, ◌<◌, true, false, List, [], ◌∷◌, ◌++◌, length, drop, flat_map, refl, sym, ap, ◌∙◌, arith, length-append}
+use Rattle.std.proofs.Common.{append_assoc, subst, Option, Some, None, is_some, MatchOption}
 use Rattle.std.proofs.lemmas.Bool.{false≢true}
 use Rattle.std.specs.List.{AllByRecursion}
 use Rattle.std.proofs.lemmas.List.{append-nil}
@@ -28,7 +29,8 @@ drop-zero [] = refl
 drop-zero (x ∷ xs) = refl
 
 -- the line that comes next, and those after it
-pub next-line : (rest after : List (List ℕ)) (line : List ℕ) → (raw : List ℕ) × (more : List (List ℕ)) × (rest ≡ raw ∷ more) × (line ≡ cut_line raw) → after ≡ drop 1 rest → cut_lines rest ≡ line ∷ cut_lines after
+pub next-line : (rest after : List (List ℕ)) (line : List ℕ) → (raw : List ℕ) × (more : List (List ℕ)) × (rest ≡ raw ∷ more) × (line ≡ cut_line raw) →
+    after ≡ drop 1 rest → cut_lines rest ≡ line ∷ cut_lines after
 next-line rest after line next e =
     let more : after ≡ next.1 = e ∙ ap (drop 1) next.2 ∙ drop-zero next.1 in
     ap cut_lines next.2 ∙ ap (λ l. l ∷ cut_lines next.1) (sym next.3) ∙ ap (λ m. line ∷ cut_lines m) (sym more)
@@ -45,7 +47,8 @@ ReadsTexts-none lines gap is = record { all = tt; whole = refl; number = omega a
 
 -- one text line more
 pub ReadsTexts-more : {old mid : Lines} {gap : Gap} {texts : List (List ℕ)} (new : Lines) (fresh : Gap) (line : List ℕ) → ReadsTexts old mid gap texts →
-    (raw : List ℕ) × (more : List (List ℕ)) × (mid.rest ≡ raw ∷ more) × (line ≡ cut_line raw) → IsTextLine line → new.rest ≡ drop 1 mid.rest → new.number ≡ mid.number + 1 →
+    (raw : List ℕ) × (more : List (List ℕ)) × (mid.rest ≡ raw ∷ more) × (line ≡ cut_line raw) → IsTextLine line → new.rest ≡ drop 1 mid.rest →
+    new.number ≡ mid.number + 1 →
     ((lines : List (List ℕ)) → IsGap gap lines → IsGap fresh (lines ++ line ∷ [])) → ReadsTexts old new fresh (texts ++ line ∷ [])
 ReadsTexts-more {old} {mid} {gap} {texts} new fresh line is next text e f told =
     let long = length-append texts (line ∷ []) in let was = is.number in
@@ -58,7 +61,8 @@ ReadsTexts-more {old} {mid} {gap} {texts} new fresh line is next text e f told =
 
 -- the texts are a gap where a row line comes next
 pub ReadsGap-row : {old new : Lines} {gap : Gap} {texts : List (List ℕ)} (line : List ℕ) → ReadsTexts old new gap texts →
-    (raw : List ℕ) × (more : List (List ℕ)) × (new.rest ≡ raw ∷ more) × (line ≡ cut_line raw) → (rows : List (List Cell)) × IsRowLine line rows → ReadsGap old new gap
+    (raw : List ℕ) × (more : List (List ℕ)) × (new.rest ≡ raw ∷ more) × (line ≡ cut_line raw) → (rows : List (List Cell)) × IsRowLine line rows →
+    ReadsGap old new gap
 ReadsGap-row {old} {new} {gap} {texts} line is next row = record {
   texts = texts;
   read = is;
@@ -70,15 +74,19 @@ pub ReadsGap-end : {old new : Lines} {gap : Gap} {texts : List (List ℕ)} → R
 ReadsGap-end {old} {new} {gap} {texts} is e = record { texts = texts; read = is; ends = subst BeginsBoard (sym (ap cut_lines e)) tt }
 
 -- the rows of one line more
-AreRowLines-more : (lines : List (List ℕ)) (rows others : List (List Cell)) (line : List ℕ) → AreRowLines lines rows → IsRowLine line others → AreRowLines (lines ++ line ∷ []) (rows ++ others)
+AreRowLines-more : (lines : List (List ℕ)) (rows others : List (List Cell)) (line : List ℕ) → AreRowLines lines rows → IsRowLine line others →
+    AreRowLines (lines ++ line ∷ []) (rows ++ others)
 AreRowLines-more lines rows others line is row = record {
   by_line = is.by_line ++ others ∷ [];
   each = AllZip-last IsRowLine lines is.by_line line others is.each row;
-  all = ap (λ r. r ++ others) is.all ∙ ap (λ r. flat_map (λ r. r) is.by_line ++ r) (sym (append-nil others)) ∙ sym (flat_map-append (λ r. r) is.by_line (others ∷ []));
+  all = ap (λ r. r ++ others) is.all ∙ ap (λ r. flat_map (λ r. r) is.by_line ++ r) (sym (append-nil others)) ∙
+      sym (flat_map-append (λ r. r) is.by_line (others ∷ []));
 }
 
-pub IsRead-more : {old mid : Lines} {size : Size} {first_line : ℕ} {first : LinesWithTerminator} (new : Lines) (more fresh : Size) (line : List ℕ) → IsRead old mid size first_line first →
-    (raw : List ℕ) × (left : List (List ℕ)) × (mid.rest ≡ raw ∷ left) × (line ≡ cut_line raw) → (rows : List (List Cell)) × IsRowLine line rows × IsSize more rows → new.rest ≡ drop 1 mid.rest → new.number ≡ mid.number + 1 →
+pub IsRead-more : {old mid : Lines} {size : Size} {first_line : ℕ} {first : LinesWithTerminator} (new : Lines) (more fresh : Size) (line : List ℕ) →
+    IsRead old mid size first_line first →
+    (raw : List ℕ) × (left : List (List ℕ)) × (mid.rest ≡ raw ∷ left) × (line ≡ cut_line raw) → (rows : List (List Cell)) × IsRowLine line rows ×
+    IsSize more rows → new.rest ≡ drop 1 mid.rest → new.number ≡ mid.number + 1 →
     ((rows others : List (List Cell)) → IsSize size rows → IsSize more others → IsSize fresh (rows ++ others)) → IsRead old new fresh first_line first
 IsRead-more {old} {mid} {size} {first_line} {first} new more fresh line is next row e f sizes =
     let long = length-append is.lines (line ∷ []) in let was = is.read.number in
@@ -86,7 +94,8 @@ IsRead-more {old} {mid} {size} {first_line} {first} new more fresh line is next 
       lines = is.lines ++ line ∷ [];
       rows = is.rows ++ row.0;
       read = record {
-        whole = is.read.whole ∙ ap (λ l. is.lines ++ l) (next-line mid.rest new.rest line next e) ∙ sym (append_assoc is.lines (line ∷ []) (cut_lines new.rest));
+        whole = is.read.whole ∙ ap (λ l. is.lines ++ l) (next-line mid.rest new.rest line next e) ∙
+            sym (append_assoc is.lines (line ∷ []) (cut_lines new.rest));
         number = omega arith;
         rows_are = AreRowLines-more is.lines is.rows row.0 line is.read.rows_are row.1;
         size_is = sizes is.rows row.0 is.read.size_is row.2;
@@ -96,10 +105,12 @@ IsRead-more {old} {mid} {size} {first_line} {first} new more fresh line is next 
     }
 
 -- what the size of a line says of it
-pub text-none : (o : Option Size) (line : List ℕ) → MatchOption o (IsTextLine line) (λ size. (rows : List (List Cell)) × IsRowLine line rows × IsSize size rows) → is_some o ≡ false → IsTextLine line
+pub text-none : (o : Option Size) (line : List ℕ) → MatchOption o (IsTextLine line) (λ size. (rows : List (List Cell)) × IsRowLine line rows ×
+    IsSize size rows) → is_some o ≡ false → IsTextLine line
 text-none None line is e = is
 text-none (Some size) line is e = absurd (false≢true (sym e))
 
-pub row-some : (o : Option Size) (line : List ℕ) → MatchOption o (IsTextLine line) (λ size. (rows : List (List Cell)) × IsRowLine line rows × IsSize size rows) → is_some o ≡ true → (rows : List (List Cell)) × IsRowLine line rows
+pub row-some : (o : Option Size) (line : List ℕ) → MatchOption o (IsTextLine line) (λ size. (rows : List (List Cell)) × IsRowLine line rows ×
+    IsSize size rows) → is_some o ≡ true → (rows : List (List Cell)) × IsRowLine line rows
 row-some None line is e = absurd (false≢true e)
 row-some (Some size) line is e = (is.0, is.1)

@@ -1,5 +1,6 @@
 -- The board of some rows, and how it is judged.
-use Rattle.std.proofs.Common.{◌≡◌, ℕ, ◌-◌, ◌*◌, ◌/◌, ◌%◌, ◌<◌, ◌≤◌, Bool, true, false, cond, nat_lt, List, [], ◌∷◌, length, replicate, flat_map, Some, None, sym, ap, ◌∙◌, arith, length-append, subst, ◌⊎◌, inl, ⊎_elim, ◌≢◌, MatchBool}
+use Rattle.std.proofs.Common.{◌≡◌, ℕ, ◌-◌, ◌*◌, ◌/◌, ◌%◌, ◌<◌, ◌≤◌, Bool, true, false, cond, nat_lt, List, [], ◌∷◌, length, replicate, flat_map, Some, None}
+use Rattle.std.proofs.Common.{sym, ap, ◌∙◌, arith, length-append, subst, ◌⊎◌, inl, ⊎_elim, ◌≢◌, MatchBool}
 use Rattle.std.proofs.lemmas.Bool.{false≢true}
 use Rattle.std.specs.List.{AllZip}
 use Rattle.std.specs.Option.{option_or}
@@ -36,7 +37,8 @@ unfolding board_of
 row_count-board_of rows some = ap (λ n. n / cols_of rows) (length-padded_rows (cols_of rows) rows (omega arith)) ∙ mul-div_cancel (length rows) (omega arith)
 
 -- the rows of a stretch have a column
-some-cols : (lines : List (List ℕ)) (by_line : List (List (List Cell))) (rows : List (List Cell)) → 0 < length lines → AllZip IsRowLine lines by_line → rows ≡ flat_map (λ r. r) by_line → 1 ≤ cols_of rows
+some-cols : (lines : List (List ℕ)) (by_line : List (List (List Cell))) (rows : List (List Cell)) → 0 < length lines → AllZip IsRowLine lines by_line →
+    rows ≡ flat_map (λ r. r) by_line → 1 ≤ cols_of rows
 some-cols [] by_line rows some each all = absurd (omega arith)
 some-cols (line ∷ lines) [] rows some each all = absurd each
 some-cols (line ∷ lines) (first ∷ more) rows some each all =
@@ -56,7 +58,8 @@ too-tall {stretch} rows has tall =
     let test : nat_lt MAX_ROWS (row_count (board_of rows)) ≡ true = grind (arith, nat_tests) in
     inl (ap (λ t. cond t (Some TooTall) (cond (nat_lt MAX_COLS (cols_of rows)) (Some TooWide) (count_fault (board_of rows)))) test)
 
-pub too-wide : {stretch : Stretch} (rows : List (List Cell)) → HasRows stretch rows → stretch.size.rows ≤ MAX_ROWS → MAX_COLS < stretch.size.cols → HasFault (board_of rows) TooWide
+pub too-wide : {stretch : Stretch} (rows : List (List Cell)) → HasRows stretch rows → stretch.size.rows ≤ MAX_ROWS → MAX_COLS < stretch.size.cols →
+    HasFault (board_of rows) TooWide
 unfolding board_of
 too-wide {stretch} rows has short wide =
     let n = has.size.row_count in let m = has.size.col_count in
@@ -73,16 +76,19 @@ pub cols-exact : {stretch : Stretch} (rows : List (List Cell)) → HasRows stret
 cols-exact {stretch} rows has few = let m = has.size.col_count in omega arith
 
 pub cells-whole : (cols : ℕ) (rows : List (List Cell)) (cells : List Cell) → cols_of rows ≡ cols → cells ≡ flat_map (padded cols) rows → length cells % cols ≡ 0
-cells-whole cols rows cells e f = ap (λ c. length c % cols) f ∙ ap (λ n. n % cols) (length-padded_rows cols rows (omega arith)) ∙ mul-mod_left (length rows) cols
+cells-whole cols rows cells e f = ap (λ c. length c % cols) f ∙ ap (λ n. n % cols) (length-padded_rows cols rows (omega arith)) ∙
+    mul-mod_left (length rows) cols
 
 -- the board that was handed in is that of the rows
-pub same-board : {stretch : Stretch} (rows : List (List Cell)) (cells : List Cell) → HasRows stretch rows → stretch.size.cols ≤ MAX_COLS → cells ≡ flat_map (padded stretch.size.cols) rows →
+pub same-board : {stretch : Stretch} (rows : List (List Cell)) (cells : List Cell) → HasRows stretch rows → stretch.size.cols ≤ MAX_COLS →
+    cells ≡ flat_map (padded stretch.size.cols) rows →
     record { cols = stretch.size.cols; cells = cells } ≡ board_of rows
 unfolding board_of
 same-board {stretch} rows cells has few made =
     let cols = cols-exact rows has few in
     ap (λ c. record { cols = stretch.size.cols; cells = c }) made ∙ ap (λ n. record { cols = n; cells = flat_map (padded n) rows }) (sym cols)
 
-pub judged-fault : {board other : Board} (f : LevelFault) (memory : Bool) → other ≡ board → (f ≡ OutOfMemory) ⊎ HasFault other f → MatchBool memory (f ≡ OutOfMemory) (f ≢ OutOfMemory) → memory ≡ false → HasFault board f
+pub judged-fault : {board other : Board} (f : LevelFault) (memory : Bool) → other ≡ board → (f ≡ OutOfMemory) ⊎ HasFault other f →
+    MatchBool memory (f ≡ OutOfMemory) (f ≢ OutOfMemory) → memory ≡ false → HasFault board f
 judged-fault f true e fault is was = absurd (false≢true (sym was))
 judged-fault f false e fault is was = ⊎_elim (λ m. absurd (is m)) (λ h. subst (λ b. HasFault b f) e h) fault

@@ -21,7 +21,8 @@ lines-other : (b : ℕ) (bs : List ℕ) → (b == line_feed) ≡ false → lines
 unfolding line_len
 lines-other b [] e =
     let one : line_len (b ∷ []) ≡ 1 = ap (λ t. cond t 1 (suc 0)) e in
-    lines-step (b ∷ []) (omega arith) ∙ ap (λ n. take n (b ∷ []) ∷ lines_of (drop n (b ∷ []))) one ∙ ap (λ l. (b ∷ []) ∷ l) lines-nil ∙ ap (onto_first b) (sym lines-nil)
+    lines-step (b ∷ []) (omega arith) ∙ ap (λ n. take n (b ∷ []) ∷ lines_of (drop n (b ∷ []))) one ∙ ap (λ l. (b ∷ []) ∷ l) lines-nil ∙
+    ap (onto_first b) (sym lines-nil)
 lines-other b (c ∷ bs) e =
     let more : line_len (b ∷ c ∷ bs) ≡ suc (line_len (c ∷ bs)) = ap (λ t. cond t 1 (suc (line_len (c ∷ bs)))) e in
     lines-step (b ∷ c ∷ bs) (omega arith) ∙ ap (λ n. take n (b ∷ c ∷ bs) ∷ lines_of (drop n (b ∷ c ∷ bs))) more
@@ -36,7 +37,8 @@ without_last-onto : (c b : ℕ) (ls : List (List ℕ)) → (b == c) ≡ false �
 without_last-onto c b [] e = ap (λ l. l ∷ []) (without_last-other c b [] e)
 without_last-onto c b (l ∷ ls) e = ap (λ k. k ∷ map (without_last c) ls) (without_last-other c b l e)
 
-without_last_empty-onto : (b : ℕ) (part : List ℕ) (parts : List (List ℕ)) → without_last_empty (onto_first b (part ∷ parts)) ≡ onto_first b (without_last_empty (part ∷ parts))
+without_last_empty-onto : (b : ℕ) (part : List ℕ) (parts : List (List ℕ)) →
+    without_last_empty (onto_first b (part ∷ parts)) ≡ onto_first b (without_last_empty (part ∷ parts))
 without_last_empty-onto b [] [] = refl
 without_last_empty-onto b (c ∷ part) [] = refl
 without_last_empty-onto b [] (next ∷ parts) = refl
@@ -59,8 +61,10 @@ without_last_empty-cons : (parts : List (List ℕ)) → 0 < length parts → wit
 without_last_empty-cons [] some = absurd (omega arith)
 without_last_empty-cons (part ∷ parts) some = refl
 
-lines-split_step : (b : ℕ) (bs : List ℕ) (t : Bool) → (b == line_feed) ≡ t → map (without_last line_feed) (lines_of bs) ≡ without_last_empty (slice_split (λ b. b == line_feed) bs) →
-    map (without_last line_feed) (lines_of (b ∷ bs)) ≡ without_last_empty (cond t ([] ∷ slice_split (λ b. b == line_feed) bs) (onto_first b (slice_split (λ b. b == line_feed) bs)))
+lines-split_step : (b : ℕ) (bs : List ℕ) (t : Bool) → (b == line_feed) ≡ t →
+    map (without_last line_feed) (lines_of bs) ≡ without_last_empty (slice_split (λ b. b == line_feed) bs) →
+    map (without_last line_feed) (lines_of (b ∷ bs)) ≡
+    without_last_empty (cond t ([] ∷ slice_split (λ b. b == line_feed) bs) (onto_first b (slice_split (λ b. b == line_feed) bs)))
 lines-split_step b bs true e rest =
     let s = split-some line_feed bs in
     let some : 0 < length (slice_split (λ b. b == line_feed) bs) = let l = ap length s.2 in omega arith in
@@ -78,7 +82,8 @@ lines-split (b ∷ bs) = lines-split_step b bs (b == line_feed) refl (lines-spli
 
 pub lines-of_text : (bytes : List ℕ) → cut_lines (lines_of (without_mark bytes)) ≡ lines_of_text bytes
 unfolding lines_of_text
-lines-of_text bytes = sym (map-map (without_last carriage_return) (without_last line_feed) (lines_of (without_mark bytes))) ∙ ap (map (without_last carriage_return)) (lines-split (without_mark bytes))
+lines-of_text bytes = sym (map-map (without_last carriage_return) (without_last line_feed) (lines_of (without_mark bytes))) ∙
+    ap (map (without_last carriage_return)) (lines-split (without_mark bytes))
 
 cons-cond : (t : Bool) (b : ℕ) (xs ys : List ℕ) → (b ∷ cond t xs ys) ≡ cond t (b ∷ xs) (b ∷ ys)
 cons-cond true b xs ys = refl

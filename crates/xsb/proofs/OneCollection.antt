@@ -1,5 +1,6 @@
 -- Bytes are a collection in one way, and in no other.
-use Rattle.std.proofs.Common.{◌≡◌, ℕ, suc, ◌+◌, ◌<◌, List, [], ◌∷◌, ◌++◌, length, flat_map, refl, sym, ap, ◌∙◌, arith, length-append, append_assoc, subst, ⊎_elim}
+use Rattle.std.proofs.Common.{◌≡◌, ℕ, suc, ◌+◌, ◌<◌, List, [], ◌∷◌, ◌++◌, length, flat_map, refl, sym, ap, ◌∙◌, arith, length-append, append_assoc, subst}
+use Rattle.std.proofs.Common.{⊎_elim}
 use Rattle.std.specs.Bool.{⊤}
 use Rattle.std.specs.List.{AllZip, AllByRecursion}
 use Rattle.grid.specs.declared.cell.Cell.{Cell}
@@ -21,7 +22,8 @@ Begins P [] = ⊤
 Begins P (x ∷ xs) = P x
 
 -- the front of one kind before another kind is one front
-same-front : {A : Type 0} (P Q : A → Type 0) → ((x : A) → P x → Q x → ⊥) → (xs ys r s : List A) → AllByRecursion Q xs → AllByRecursion Q ys → Begins P r → Begins P s → xs ++ r ≡ ys ++ s → (xs ≡ ys) × (r ≡ s)
+same-front : {A : Type 0} (P Q : A → Type 0) → ((x : A) → P x → Q x → ⊥) → (xs ys r s : List A) → AllByRecursion Q xs → AllByRecursion Q ys → Begins P r →
+    Begins P s → xs ++ r ≡ ys ++ s → (xs ≡ ys) × (r ≡ s)
 same-front P Q other [] [] r s a b f g e = (refl, e)
 same-front P Q other [] (y ∷ ys) [] s a b f g e = absurd (cc)
 same-front P Q other [] (y ∷ ys) (x ∷ r) s a b f g e = absurd (let same : x ≡ y = cc in other y (subst P same f) b.0)
@@ -43,10 +45,12 @@ begins-all Q (x ∷ xs) ys some all = all.0
 begins-parts : (parts : List Part) → AllByRecursion IsPart parts → Begins HasRowLine (lines_of_parts parts)
 begins-parts [] boards = tt
 begins-parts (part ∷ parts) boards =
-    subst (Begins HasRowLine) (sym (append_assoc part.board part.gap (lines_of_parts parts))) (begins-all HasRowLine part.board (part.gap ++ lines_of_parts parts) boards.0.some boards.0.board)
+    subst (Begins HasRowLine) (sym (append_assoc part.board part.gap (lines_of_parts parts)))
+    (begins-all HasRowLine part.board (part.gap ++ lines_of_parts parts) boards.0.some boards.0.board)
 
 -- after a board a text line comes, or nothing
-begins-gap : (gap : List (List ℕ)) (parts : List Part) → AllByRecursion IsTextLine gap → ((next : Part) (more : List Part) → parts ≡ next ∷ more → 0 < length gap) → Begins IsTextLine (gap ++ lines_of_parts parts)
+begins-gap : (gap : List (List ℕ)) (parts : List Part) → AllByRecursion IsTextLine gap →
+    ((next : Part) (more : List Part) → parts ≡ next ∷ more → 0 < length gap) → Begins IsTextLine (gap ++ lines_of_parts parts)
 begins-gap [] [] texts some = tt
 begins-gap [] (next ∷ more) texts some = absurd (let l = some next more refl in omega arith)
 begins-gap (line ∷ gap) parts texts some = texts.0
@@ -63,15 +67,20 @@ no-both : (line : List ℕ) → HasRowLine line → IsTextLine line → ⊥
 no-both line rows text = text rows.0 rows.1
 
 -- lines are cut into boards and gaps in one way
-same-parts : (ps qs : List Part) → AllByRecursion IsPart ps → AllByRecursion IsPart qs → AreApart ps → AreApart qs → lines_of_parts ps ≡ lines_of_parts qs → ps ≡ qs
+same-parts : (ps qs : List Part) → AllByRecursion IsPart ps → AllByRecursion IsPart qs → AreApart ps → AreApart qs → lines_of_parts ps ≡ lines_of_parts qs →
+    ps ≡ qs
 same-parts [] [] a b f g e = refl
-same-parts [] (q ∷ qs) a b f g e = absurd (let l = ap length e in let some = b.0.some in let m = length-append (q.board ++ q.gap) (lines_of_parts qs) in let n = length-append q.board q.gap in omega arith)
-same-parts (p ∷ ps) [] a b f g e = absurd (let l = ap length e in let some = a.0.some in let m = length-append (p.board ++ p.gap) (lines_of_parts ps) in let n = length-append p.board p.gap in omega arith)
+same-parts [] (q ∷ qs) a b f g e = absurd (let l = ap length e in let some = b.0.some in let m = length-append (q.board ++ q.gap) (lines_of_parts qs) in
+    let n = length-append q.board q.gap in omega arith)
+same-parts (p ∷ ps) [] a b f g e = absurd (let l = ap length e in let some = a.0.some in let m = length-append (p.board ++ p.gap) (lines_of_parts ps) in
+    let n = length-append p.board p.gap in omega arith)
 same-parts (p ∷ ps) (q ∷ qs) a b f g e =
     let whole = sym (append_assoc p.board p.gap (lines_of_parts ps)) ∙ e ∙ append_assoc q.board q.gap (lines_of_parts qs) in
-    let boards = same-front IsTextLine HasRowLine (λ x t r. no-both x r t) p.board q.board (p.gap ++ lines_of_parts ps) (q.gap ++ lines_of_parts qs) a.0.board b.0.board
+    let boards = same-front IsTextLine HasRowLine (λ x t r. no-both x r t) p.board q.board (p.gap ++ lines_of_parts ps)
+    (q.gap ++ lines_of_parts qs) a.0.board b.0.board
     (begins-gap p.gap ps a.0.gap (apart-gap p ps f)) (begins-gap q.gap qs b.0.gap (apart-gap q qs g)) whole in
-    let gaps = same-front HasRowLine IsTextLine no-both p.gap q.gap (lines_of_parts ps) (lines_of_parts qs) a.0.gap b.0.gap (begins-parts ps a.1) (begins-parts qs b.1) boards.1 in
+    let gaps = same-front HasRowLine IsTextLine no-both p.gap q.gap (lines_of_parts ps) (lines_of_parts qs) a.0.gap b.0.gap (begins-parts ps a.1)
+    (begins-parts qs b.1) boards.1 in
     let rest = same-parts ps qs a.1 b.1 (apart-rest p ps f) (apart-rest q qs g) gaps.1 in
     let first : p ≡ q = ap (λ l. record { board = l; gap = p.gap }) boards.0 ∙ ap (λ l. record { board = q.board; gap = l }) gaps.0 in
     ap (λ x. x ∷ ps) first ∙ ap (λ l. q ∷ l) rest
@@ -104,7 +113,8 @@ same-found line before part f g a b =
     ap (λ n. record { name = n; first_line = f.first_line; board = f.board }) name ∙ ap (λ n. record { name = g.name; first_line = n; board = f.board }) first
     ∙ ap (λ n. record { name = g.name; first_line = g.first_line; board = n }) board
 
-same-founds : (line : ℕ) (before : List (List ℕ)) (parts : List Part) (fs gs : List Found) → AreFound line before parts fs → AreFound line before parts gs → fs ≡ gs
+same-founds : (line : ℕ) (before : List (List ℕ)) (parts : List Part) (fs gs : List Found) → AreFound line before parts fs → AreFound line before parts gs →
+    fs ≡ gs
 same-founds line before [] [] [] a b = refl
 same-founds line before [] [] (g ∷ gs) a b = absurd b
 same-founds line before [] (f ∷ fs) gs a b = absurd a
@@ -118,7 +128,8 @@ pub one-collection : (bytes : List ℕ) (founds others : List Found) → IsColle
 unfolding IsCollection
 one-collection bytes founds others a b =
     let one = a.2 in let two = b.2 in
-    let gaps = same-front HasRowLine IsTextLine no-both a.0 b.0 (lines_of_parts a.1) (lines_of_parts b.1) one.texts two.texts (begins-parts a.1 one.boards) (begins-parts b.1 two.boards) (sym one.whole ∙ two.whole) in
+    let gaps = same-front HasRowLine IsTextLine no-both a.0 b.0 (lines_of_parts a.1) (lines_of_parts b.1) one.texts two.texts (begins-parts a.1 one.boards)
+    (begins-parts b.1 two.boards) (sym one.whole ∙ two.whole) in
     let parts = same-parts a.1 b.1 one.boards two.boards one.apart two.apart gaps.1 in
     same-founds (suc (length b.0)) b.0 b.1 founds others
     (subst (λ ps. AreFound (suc (length b.0)) b.0 ps founds) parts (subst (λ g. AreFound (suc (length g)) g a.1 founds) gaps.0 a.3)) b.3
@@ -136,11 +147,13 @@ cut-text line lines text cut = record {
   is = record { whole = ap (λ l. line ∷ l) cut.is.whole; texts = (text, cut.is.texts); boards = cut.is.boards; apart = cut.is.apart };
 }
 
-apart-grown : (line : List ℕ) (part : Part) (parts : List Part) → AreApart (part ∷ parts) → AreApart (record { board = line ∷ part.board; gap = part.gap } ∷ parts)
+apart-grown : (line : List ℕ) (part : Part) (parts : List Part) → AreApart (part ∷ parts) →
+    AreApart (record { board = line ∷ part.board; gap = part.gap } ∷ parts)
 apart-grown line part [] apart = tt
 apart-grown line part (q ∷ parts) apart = apart
 
-apart-new : (line : List ℕ) (g : List ℕ) (gap : List (List ℕ)) (parts : List Part) → AreApart parts → AreApart (record { board = line ∷ []; gap = g ∷ gap } ∷ parts)
+apart-new : (line : List ℕ) (g : List ℕ) (gap : List (List ℕ)) (parts : List Part) → AreApart parts →
+    AreApart (record { board = line ∷ []; gap = g ∷ gap } ∷ parts)
 apart-new line g gap [] apart = tt
 apart-new line g gap (q ∷ parts) apart = (omega arith, apart)
 
@@ -163,7 +176,12 @@ cut-row line lines row [] (part ∷ parts) is = record {
 cut-row line lines row (g ∷ gap) parts is = record {
   gap = [];
   parts = record { board = line ∷ []; gap = g ∷ gap } ∷ parts;
-  is = record { whole = ap (λ l. line ∷ l) is.whole; texts = tt; boards = (record { some = omega arith; board = (row, tt); gap = is.texts }, is.boards); apart = apart-new line g gap parts is.apart };
+  is = record {
+    whole = ap (λ l. line ∷ l) is.whole;
+    texts = tt;
+    boards = (record { some = omega arith; board = (row, tt); gap = is.texts }, is.boards);
+    apart = apart-new line g gap parts is.apart;
+  };
 }
 
 cut-lines : (lines : List (List ℕ)) → Cut lines

@@ -1,5 +1,7 @@
 -- What is written is read again.
-use Rattle.std.proofs.Common.{◌≡◌, ℕ, zero, suc, ◌-◌, ◌*◌, ◌<◌, ◌≤◌, Bool, true, false, cond, ◌==◌, nat_eq, List, [], ◌∷◌, ◌++◌, length, get_or, take, drop, map, max, replicate, flat_map, Contains, Some, None, refl, sym, ap, ◌∙◌, arith, append_assoc, subst, inl, inr, ⊎_elim, take_all, length-drop, take-append-drop}
+use Rattle.std.proofs.Common.{◌≡◌, ℕ, zero, suc, ◌-◌, ◌*◌, ◌<◌, ◌≤◌, Bool, true, false, cond, ◌==◌, nat_eq, List, [], ◌∷◌, ◌++◌, length, get_or, take, drop}
+use Rattle.std.proofs.Common.{map, max, replicate, flat_map, Contains, Some, None, refl, sym, ap, ◌∙◌, arith, append_assoc, subst, inl, inr, ⊎_elim, take_all}
+use Rattle.std.proofs.Common.{length-drop, take-append-drop}
 use Rattle.std.specs.List.{AllZip, AllByRecursion, slice_split, starts_with}
 use Rattle.std.proofs.lemmas.Bool.{eqb-true, eqb-false, ne_eqb}
 use Rattle.xsb.proofs.FirstItem.{none≢some}
@@ -78,8 +80,10 @@ length-map f (x ∷ xs) = ap suc (length-map f xs)
 row_line : (row : List Cell) → Has Wall row → IsRowLine (line_of row) (cut_row row ∷ [])
 row_line row wall =
     let some = cut-wall row wall in let long = length-map byte_of (cut_row row) in
-    let one : slice_split (λ b. b == bar) (line_of row) ≡ line_of row ∷ [] = slice_split_none (λ b. b == bar) (line_of row) (All-from_recursion _ _ (other-bytes bar (cut_row row) refl)) in
-    let piece : some_of (slice_split (λ b. b == bar) (line_of row)) ≡ line_of row ∷ [] = ap some_of one ∙ ap (λ t. cond t (line_of row ∷ []) []) (has_byte-is (line_of row) (omega arith)) in
+    let one : slice_split (λ b. b == bar) (line_of row) ≡ line_of row ∷ [] =
+    slice_split_none (λ b. b == bar) (line_of row) (All-from_recursion _ _ (other-bytes bar (cut_row row) refl)) in
+    let piece : some_of (slice_split (λ b. b == bar) (line_of row)) ≡ line_of row ∷ [] = ap some_of one ∙
+    ap (λ t. cond t (line_of row ∷ []) []) (has_byte-is (line_of row) (omega arith)) in
     record {
       pieces = subst (λ ps. AllZip IsRow ps (cut_row row ∷ [])) (sym piece) (row-written (cut_row row), tt);
       wall = contains-here wall_byte (line_of row) (has-map (cut_row row) (has-cut row wall));
@@ -102,7 +106,8 @@ written-lines (row ∷ rows) =
     let rest = split-more (flat_map written_row rows) in
     let some : 0 < length (slice_split (λ b. b == line_feed) (flat_map written_row rows)) = let l = ap length rest.2 in omega arith in
     ap (λ l. without_last_empty (slice_split (λ b. b == line_feed) l)) (append_assoc (line_of row) (line_feed ∷ []) (flat_map written_row rows))
-    ∙ ap without_last_empty (slice_split_at (λ b. b == line_feed) (line_of row) line_feed (flat_map written_row rows) (All-from_recursion _ _ (other-bytes line_feed (cut_row row) refl)) refl)
+    ∙ ap without_last_empty (slice_split_at (λ b. b == line_feed) (line_of row) line_feed (flat_map written_row rows)
+    (All-from_recursion _ _ (other-bytes line_feed (cut_row row) refl)) refl)
     ∙ last_empty-cons (line_of row) (slice_split (λ b. b == line_feed) (flat_map written_row rows)) some
     ∙ ap (λ ls. line_of row ∷ ls) (written-lines rows)
 
@@ -113,7 +118,9 @@ kept-whole c (b ∷ d ∷ bytes) all = ap (λ l. b ∷ l) (kept-whole c (d ∷ b
 
 lines-kept : (rows : List (List Cell)) → map (without_last carriage_return) (map line_of rows) ≡ map line_of rows
 lines-kept [] = refl
-lines-kept (row ∷ rows) = ap (λ l. l ∷ map (without_last carriage_return) (map line_of rows)) (kept-whole carriage_return (line_of row) (other-bytes carriage_return (cut_row row) refl)) ∙ ap (λ ls. line_of row ∷ ls) (lines-kept rows)
+lines-kept (row ∷ rows) =
+    ap (λ l. l ∷ map (without_last carriage_return) (map line_of rows))
+    (kept-whole carriage_return (line_of row) (other-bytes carriage_return (cut_row row) refl)) ∙ ap (λ ls. line_of row ∷ ls) (lines-kept rows)
 
 starts-not : (b : ℕ) (bytes : List ℕ) → (b == 0xEF) ≡ false → starts_with nat_eq (b ∷ bytes) (0xEF ∷ 0xBB ∷ 0xBF ∷ []) ≡ false
 starts-not b bytes e = let other : nat_eq 0xEF b ≡ false = ne_eqb 0xEF b (λ s. eqb-false b 0xEF e (sym s)) in rw other refl
@@ -131,7 +138,8 @@ first-byte row rest wall = front-byte (cut_row row) rest (cut-wall row wall)
 
 -- ---- the board of what is written
 
-before-cut : {A : Type 0} (test : A → Bool) (x : A) (ys : List A) (t : Bool) → test x ≡ t → cut_end test ys ≡ ys → cut_end test (before_rest t x ys) ≡ before_rest t x ys
+before-cut : {A : Type 0} (test : A → Bool) (x : A) (ys : List A) (t : Bool) → test x ≡ t → cut_end test ys ≡ ys →
+    cut_end test (before_rest t x ys) ≡ before_rest t x ys
 before-cut test x [] true e f = refl
 before-cut test x (y ∷ ys) true e f = ap (λ r. before_rest (test x) x r) f ∙ ap (λ t. before_rest t x (y ∷ ys)) e
 before-cut test x ys false e f = ap (λ r. before_rest (test x) x r) f ∙ ap (λ t. before_rest t x ys) e
@@ -142,7 +150,8 @@ cut-twice test (x ∷ xs) = before-cut test x (cut_end test xs) (test x) refl (c
 
 cols_of-cut : (rows : List (List Cell)) → cols_of (map (λ row. cut_row row) rows) ≡ cols_of rows
 cols_of-cut [] = refl
-cols_of-cut (row ∷ rows) = ap (λ n. max n (cols_of (map (λ row. cut_row row) rows))) (ap length (cut-twice is_floor row)) ∙ ap (λ n. max (length (cut_row row)) n) (cols_of-cut rows)
+cols_of-cut (row ∷ rows) = ap (λ n. max n (cols_of (map (λ row. cut_row row) rows))) (ap length (cut-twice is_floor row)) ∙
+    ap (λ n. max (length (cut_row row)) n) (cols_of-cut rows)
 
 -- all rows have a length
 abbrev AllLong : ℕ → List (List Cell) → Type 0
@@ -166,11 +175,13 @@ padded-cut : (cols : ℕ) (row : List Cell) → length row ≡ cols → padded c
 padded-cut cols row e =
     let short = length-cut_end is_floor row in
     ap (λ c. c ++ replicate (cols - length c) Floor) (cut-twice is_floor row) ∙ sym (filled-padded cols row (omega arith))
-    ∙ ap (λ n. take cols row ++ replicate n Floor) (let none : cols - length row ≡ 0 = omega arith in none) ∙ append-nil (take cols row) ∙ take_all cols row (omega arith)
+    ∙ ap (λ n. take cols row ++ replicate n Floor) (let none : cols - length row ≡ 0 = omega arith in none) ∙ append-nil (take cols row) ∙
+    take_all cols row (omega arith)
 
 padded-rows : (cols : ℕ) (rows : List (List Cell)) → AllLong cols rows → flat_map (padded cols) (map (λ row. cut_row row) rows) ≡ flat_map (λ row. row) rows
 padded-rows cols [] all = refl
-padded-rows cols (row ∷ rows) all = ap (λ l. l ++ flat_map (padded cols) (map (λ row. cut_row row) rows)) (padded-cut cols row all.0) ∙ ap (λ l. row ++ l) (padded-rows cols rows all.1)
+padded-rows cols (row ∷ rows) all = ap (λ l. l ++ flat_map (padded cols) (map (λ row. cut_row row) rows)) (padded-cut cols row all.0) ∙
+    ap (λ l. row ++ l) (padded-rows cols rows all.1)
 
 -- the rows of a list of cells
 rows_from-long : (n cols : ℕ) (cells : List Cell) → n * cols ≡ length cells → AllLong cols (rows_from n cols cells)
@@ -202,11 +213,13 @@ board-again board level full =
 
 -- ---- a collection of one board
 
-all-lines : (rows : List (List Cell)) → AllByRecursion (λ row. Contains row Wall) rows → AllByRecursion (λ line. (of : List (List Cell)) × IsRowLine line of) (map line_of rows)
+all-lines : (rows : List (List Cell)) → AllByRecursion (λ row. Contains row Wall) rows →
+    AllByRecursion (λ line. (of : List (List Cell)) × IsRowLine line of) (map line_of rows)
 all-lines [] walls = tt
 all-lines (row ∷ rows) walls = ((cut_row row ∷ [], row_line row (has-contains Wall row walls.0)), all-lines rows walls.1)
 
-each-line : (rows : List (List Cell)) → AllByRecursion (λ row. Contains row Wall) rows → AllZip IsRowLine (map line_of rows) (map (λ row. cut_row row ∷ []) rows)
+each-line : (rows : List (List Cell)) → AllByRecursion (λ row. Contains row Wall) rows →
+    AllZip IsRowLine (map line_of rows) (map (λ row. cut_row row ∷ []) rows)
 each-line [] walls = tt
 each-line (row ∷ rows) walls = (row_line row (has-contains Wall row walls.0), each-line rows walls.1)
 
@@ -214,7 +227,8 @@ join-rows : (rows : List (List Cell)) → map (λ row. cut_row row) rows ≡ fla
 join-rows [] = refl
 join-rows (row ∷ rows) = ap (λ l. cut_row row ∷ l) (join-rows rows)
 
-text-lines : (rows : List (List Cell)) → 0 < length rows → AllByRecursion (λ row. Contains row Wall) rows → lines_of_text (flat_map written_row rows) ≡ map line_of rows
+text-lines : (rows : List (List Cell)) → 0 < length rows → AllByRecursion (λ row. Contains row Wall) rows →
+    lines_of_text (flat_map written_row rows) ≡ map line_of rows
 unfolding lines_of_text
 text-lines [] some walls = absurd (omega arith)
 text-lines (row ∷ rows) some walls =
@@ -229,7 +243,8 @@ length-rows_from : (n cols : ℕ) (cells : List Cell) → length (rows_from n co
 length-rows_from zero cols cells = refl
 length-rows_from (suc n) cols cells = ap suc (length-rows_from n cols (drop cols cells))
 
-pub written-again : (board : Board) → IsLevel board → HasWallInEachRow board → HasFullRow board → IsCollection (written board) (record { name = []; first_line = 1; board = board } ∷ [])
+pub written-again : (board : Board) → IsLevel board → HasWallInEachRow board → HasFullRow board →
+    IsCollection (written board) (record { name = []; first_line = 1; board = board } ∷ [])
 unfolding IsCollection written name_of
 written-again board level walls full =
     let rows = rows_of_board board in
@@ -246,5 +261,17 @@ written-again board level walls full =
         boards = (record { some = omega arith; board = all-lines rows each; gap = tt }, tt);
         apart = tt;
       },
-      (record { name = refl; first_line = refl; board = (map (λ row. cut_row row ∷ []) rows, each-line rows each, sym (board-again board level full) ∙ ap board_of (join-rows rows)) }, tt),
+      (
+        record {
+          name = refl;
+          first_line = refl;
+          board = (
+            map (λ row. cut_row row ∷ []) rows,
+            each-line rows each,
+            sym (board-again board level full) ∙
+                ap board_of (join-rows rows),
+          );
+        },
+        tt,
+      ),
     )

@@ -1,5 +1,6 @@
 -- Rows: the items of a piece, one after the other.
-use Rattle.std.proofs.Common.{◌≡◌, ℕ, ◌+◌, ◌-◌, ◌^◌, ◌<◌, ◌≤◌, true, false, List, [], ◌∷◌, ◌++◌, length, replicate, take, min, refl, sym, ap, ◌∙◌, arith, length-append, append_assoc, subst}
+use Rattle.std.proofs.Common.{◌≡◌, ℕ, ◌+◌, ◌-◌, ◌^◌, ◌<◌, ◌≤◌, true, false, List, [], ◌∷◌, ◌++◌, length, replicate, take, min, refl, sym, ap, ◌∙◌, arith}
+use Rattle.std.proofs.Common.{length-append, append_assoc, subst}
 use Rattle.grid.specs.declared.cell.Cell.{Cell}
 use Rattle.grid.specs.declared.cell.Cell.TheVariants.{Floor}
 use Rattle.std.proofs.lemmas.List.{length-replicate, append-nil}
@@ -41,7 +42,8 @@ same-item {i} {j} {r} {s} a b e =
     }
 
 -- what follows the first item of a row is a row
-pub row-rest : {piece : List ℕ} {row : List Cell} → IsRow piece row → (item rest : List ℕ) (cells : List Cell) → IsItem item cells → piece ≡ item ++ rest → (after : List Cell) × IsRow rest after × (row ≡ cells ++ after)
+pub row-rest : {piece : List ℕ} {row : List Cell} → IsRow piece row → (item rest : List ℕ) (cells : List Cell) → IsItem item cells → piece ≡ item ++ rest →
+    (after : List Cell) × IsRow rest after × (row ≡ cells ++ after)
 row-rest done item rest cells is e = absurd (let some = item-some is in let l = ap length e in omega (arith, length-append item rest))
 row-rest (more i bytes x after first others) item rest cells is e =
     let same = same-item first is e in let bytes_are = same.rest in
@@ -77,7 +79,8 @@ pub IsFront-none : (piece : List ℕ) → IsFront piece piece []
 IsFront-none piece = record { onto = λ row is. is; after = λ row is. (row, is, refl) }
 
 -- one item more is read
-pub IsFront-more : {piece rest item after : List ℕ} {front cells : List Cell} → IsFront piece rest front → IsItem item cells → rest ≡ item ++ after → IsFront piece after (front ++ cells)
+pub IsFront-more : {piece rest item after : List ℕ} {front cells : List Cell} → IsFront piece rest front → IsItem item cells → rest ≡ item ++ after →
+    IsFront piece after (front ++ cells)
 IsFront-more {piece} {rest} {item} {after} {front} {cells} is first e = record {
   onto = λ row more_rows. let whole : IsRow rest (cells ++ row) = subst (λ r. IsRow r (cells ++ row)) (sym e) (more item after cells row first more_rows) in
       subst (λ r. IsRow piece r) (sym (append_assoc front cells row)) (is.onto (cells ++ row) whole);
@@ -99,7 +102,8 @@ pub IsMeasured-none : (piece : List ℕ) → IsMeasured piece piece [] 0 0
 IsMeasured-none piece = record { front_is = IsFront-none piece; size_is = refl; kept_is = refl }
 
 -- an item of floor more
-pub IsMeasured-floor : {piece rest after : List ℕ} {front : List Cell} {size kept more : ℕ} (run : Run) → IsMeasured piece rest front size kept → BeginsWithItem rest run after →
+pub IsMeasured-floor : {piece rest after : List ℕ} {front : List Cell} {size kept more : ℕ} (run : Run) → IsMeasured piece rest front size kept →
+    BeginsWithItem rest run after →
     more ≡ min (size + run.count) (2 ^ 64 - 1) → is_floor run.cell ≡ true → IsMeasured piece after (front ++ replicate run.count run.cell) more kept
 IsMeasured-floor {piece} {rest} {after} {front} {size} {kept} {more} run is begins e floor =
     let long = length-append front (replicate run.count run.cell) in let n = length-replicate run.count run.cell in let was = is.size_is in
@@ -110,7 +114,8 @@ IsMeasured-floor {piece} {rest} {after} {front} {size} {kept} {more} run is begi
     }
 
 -- an item of other cells more
-pub IsMeasured-other : {piece rest after : List ℕ} {front : List Cell} {size kept more : ℕ} (run : Run) → IsMeasured piece rest front size kept → BeginsWithItem rest run after →
+pub IsMeasured-other : {piece rest after : List ℕ} {front : List Cell} {size kept more : ℕ} (run : Run) → IsMeasured piece rest front size kept →
+    BeginsWithItem rest run after →
     more ≡ min (size + run.count) (2 ^ 64 - 1) → is_floor run.cell ≡ false → IsMeasured piece after (front ++ replicate run.count run.cell) more more
 IsMeasured-other {piece} {rest} {after} {front} {size} {kept} {more} run is begins e other =
     let long = length-append front (replicate run.count run.cell) in let n = length-replicate run.count run.cell in let was = is.size_is in
@@ -118,11 +123,13 @@ IsMeasured-other {piece} {rest} {after} {front} {size} {kept} {more} run is begi
     record {
       front_is = IsFront-more is.front_is begins.1 begins.2;
       size_is = size_is;
-      kept_is = rw (cut_end-kept is_floor front (replicate run.count run.cell) (item-cells begins.1) (cut_end-replicate is_floor run.count run.cell other)) size_is;
+      kept_is = rw (cut_end-kept is_floor front (replicate run.count run.cell) (item-cells begins.1) (cut_end-replicate is_floor run.count run.cell other))
+          size_is;
     }
 
 -- a row that is read to its end
-pub IsMeasured-all : {piece rest : List ℕ} {front : List Cell} {size kept : ℕ} → IsMeasured piece rest front size kept → length rest ≡ 0 → (row : List Cell) × IsRow piece row × (kept ≡ capped (length (cut_row row)))
+pub IsMeasured-all : {piece rest : List ℕ} {front : List Cell} {size kept : ℕ} → IsMeasured piece rest front size kept → length rest ≡ 0 → (row : List Cell) ×
+    IsRow piece row × (kept ≡ capped (length (cut_row row)))
 IsMeasured-all {piece} {rest} {front} is e = (front ++ [], is.front_is.onto [] (empty-row rest e), rw (append-nil front) is.kept_is)
 
 -- how far a row was appended: its cells so far, as far as there are columns, stand after what was there
@@ -132,10 +139,16 @@ pub record IsPushed (piece rest : List ℕ) (front : List Cell) (cols room : ℕ
   pub cells_are : new ≡ old ++ take cols front
 
 pub IsPushed-none : (piece : List ℕ) (cols : ℕ) (old : List Cell) → IsPushed piece piece [] cols cols old old
-IsPushed-none piece cols old = record { front_is = IsFront-none piece; room_is = omega arith; cells_are = sym (append-nil old) ∙ ap (λ t. old ++ t) (sym (take-nil cols)) }
+IsPushed-none piece cols old = record {
+  front_is = IsFront-none piece;
+  room_is = omega arith;
+  cells_are = sym (append-nil old) ∙
+      ap (λ t. old ++ t) (sym (take-nil cols));
+}
 
 -- the cells of one run more
-pub IsPushed-more : {piece rest after : List ℕ} {front : List Cell} {cols room n : ℕ} {old new newer : List Cell} (run : Run) → IsPushed piece rest front cols room old new → BeginsWithItem rest run after →
+pub IsPushed-more : {piece rest after : List ℕ} {front : List Cell} {cols room n : ℕ} {old new newer : List Cell} (run : Run) →
+    IsPushed piece rest front cols room old new → BeginsWithItem rest run after →
     n ≡ min run.count room → newer ≡ new ++ replicate n run.cell → IsPushed piece after (front ++ replicate run.count run.cell) cols (room - n) old newer
 IsPushed-more {piece} {rest} {after} {front} {cols} {room} {n} {old} {new} {newer} run is begins e made =
     let long = length-append front (replicate run.count run.cell) in let many = length-replicate run.count run.cell in let was = is.room_is in
@@ -147,11 +160,13 @@ IsPushed-more {piece} {rest} {after} {front} {cols} {room} {n} {old} {new} {newe
     }
 
 -- a row that is appended to its end, with floor up to the columns
-pub IsPushed-all : {piece rest : List ℕ} {front : List Cell} {cols room : ℕ} {old new newer : List Cell} → IsPushed piece rest front cols room old new → HasNoItem rest →
+pub IsPushed-all : {piece rest : List ℕ} {front : List Cell} {cols room : ℕ} {old new newer : List Cell} → IsPushed piece rest front cols room old new →
+    HasNoItem rest →
     newer ≡ new ++ replicate room Floor → (row : List Cell) → IsRow piece row → length (cut_row row) ≤ cols → newer ≡ old ++ padded cols row
 IsPushed-all {piece} {rest} {front} {cols} {room} {old} {new} {newer} is none made row whole short =
     let left = is.front_is.after row whole in
     let ended = row-empty left.1 (no-row left.1 none) in
     let all : row ≡ front = left.2 ∙ ap (λ l. front ++ l) ended ∙ append-nil front in
     made ∙ ap (λ t. t ++ replicate room Floor) is.cells_are ∙ append_assoc old (take cols front) (replicate room Floor)
-    ∙ ap (λ r. old ++ (take cols front ++ replicate r Floor)) is.room_is ∙ ap (λ r. old ++ filled cols r) (sym all) ∙ ap (λ t. old ++ t) (filled-padded cols row short)
+    ∙ ap (λ r. old ++ (take cols front ++ replicate r Floor)) is.room_is ∙ ap (λ r. old ++ filled cols r) (sym all) ∙
+    ap (λ t. old ++ t) (filled-padded cols row short)

@@ -1,5 +1,6 @@
 -- A row line has a wall, so its rows have a column.
-use Rattle.std.proofs.Common.{◌≡◌, ℕ, zero, suc, ◌<◌, ◌≤◌, Bool, true, false, cond, ◌==◌, List, [], ◌∷◌, ◌++◌, length, get_or, replicate, Contains, Some, refl, sym, ap, ◌∙◌, arith, subst, ◌⊎◌, inl, inr, ⊎_elim}
+use Rattle.std.proofs.Common.{◌≡◌, ℕ, zero, suc, ◌<◌, ◌≤◌, Bool, true, false, cond, ◌==◌, List, [], ◌∷◌, ◌++◌, length, get_or, replicate, Contains, Some, refl}
+use Rattle.std.proofs.Common.{sym, ap, ◌∙◌, arith, subst, ◌⊎◌, inl, inr, ⊎_elim}
 use Rattle.std.specs.List.{AllZip, slice_split, onto_first}
 use Rattle.std.specs.Char.{is_ascii_digit}
 use Rattle.std.proofs.lemmas.List.{length-replicate}
@@ -52,9 +53,12 @@ onto-later : (w b : ℕ) (parts : List (List ℕ)) → SomeHas w parts → SomeH
 onto-later w b [] h = absurd h
 onto-later w b (part ∷ parts) h = ⊎_elim (λ l. inl (inr l)) (λ r. inr r) h
 
-split-step : (b : ℕ) (bs : List ℕ) (t : Bool) → (b == bar) ≡ t → (b ≡ wall_byte) ⊎ SomeHas wall_byte (slice_split (λ b. b == bar) bs) → SomeHas wall_byte (cond t ([] ∷ slice_split (λ b. b == bar) bs) (onto_first b (slice_split (λ b. b == bar) bs)))
+split-step : (b : ℕ) (bs : List ℕ) (t : Bool) → (b == bar) ≡ t → (b ≡ wall_byte) ⊎ SomeHas wall_byte (slice_split (λ b. b == bar) bs) →
+    SomeHas wall_byte (cond t ([] ∷ slice_split (λ b. b == bar) bs) (onto_first b (slice_split (λ b. b == bar) bs)))
 split-step b bs true e h = ⊎_elim (λ is. absurd (let f : (wall_byte == bar) ≡ true = ap (λ c. c == bar) (sym is) ∙ e in false≢true f)) (λ l. inr l) h
-split-step b bs false e h = ⊎_elim (λ is. subst (λ c. SomeHas c (onto_first b (slice_split (λ b. b == bar) bs))) is (onto-here b (slice_split (λ b. b == bar) bs))) (λ l. onto-later wall_byte b (slice_split (λ b. b == bar) bs) l) h
+split-step b bs false e h =
+    ⊎_elim (λ is. subst (λ c. SomeHas c (onto_first b (slice_split (λ b. b == bar) bs))) is (onto-here b (slice_split (λ b. b == bar) bs)))
+    (λ l. onto-later wall_byte b (slice_split (λ b. b == bar) bs) l) h
 
 -- a wall of a line is a wall of one of its pieces
 split-has : (bs : List ℕ) → Has wall_byte bs → SomeHas wall_byte (slice_split (λ b. b == bar) bs)
@@ -66,11 +70,13 @@ some-has [] h = absurd h
 some-has ([] ∷ parts) h = ⊎_elim (λ l. absurd l) (λ r. some-has parts r) h
 some-has ((b ∷ part) ∷ parts) h =
     let later = λ (r : SomeHas wall_byte parts). some-has parts r in
-    subst (λ t. SomeHas wall_byte (cond t ((b ∷ part) ∷ some_of parts) (some_of parts))) (sym (has_byte-is (b ∷ part) (omega arith))) (⊎_elim (λ l. inl l) (λ r. inr (later r)) h)
+    subst (λ t. SomeHas wall_byte (cond t ((b ∷ part) ∷ some_of parts) (some_of parts))) (sym (has_byte-is (b ∷ part) (omega arith)))
+    (⊎_elim (λ l. inl l) (λ r. inr (later r)) h)
 
 no-wall-digit : (ds : List ℕ) → AreDigits ds → Has wall_byte ds → ⊥
 no-wall-digit [] are h = h
-no-wall-digit (d ∷ ds) are h = ⊎_elim (λ e. let f : is_ascii_digit wall_byte ≡ true = ap is_ascii_digit (sym e) ∙ are.0 in false≢true f) (λ l. no-wall-digit ds are.1 l) h
+no-wall-digit (d ∷ ds) are h = ⊎_elim (λ e. let f : is_ascii_digit wall_byte ≡ true = ap is_ascii_digit (sym e) ∙ are.0 in
+    false≢true f) (λ l. no-wall-digit ds are.1 l) h
 
 has-replicate : (n : ℕ) (c : Cell) → 0 < n → Has c (replicate n c)
 has-replicate zero c some = absurd (omega arith)
@@ -115,4 +121,6 @@ rows-wall (p ∷ pieces) (row ∷ rows) zip h = ⊎_elim
 
 -- the rows of a row line have a column
 pub cols_of-line : {line : List ℕ} {rows : List (List Cell)} → IsRowLine line rows → 1 ≤ cols_of rows
-cols_of-line {line} {rows} is = rows-wall (some_of (slice_split (λ b. b == bar) line)) rows is.pieces (some-has (slice_split (λ b. b == bar) line) (split-has line (has-contains wall_byte line is.wall)))
+cols_of-line {line} {rows} is =
+    rows-wall (some_of (slice_split (λ b. b == bar) line)) rows is.pieces
+    (some-has (slice_split (λ b. b == bar) line) (split-has line (has-contains wall_byte line is.wall)))

@@ -10,6 +10,15 @@
 //!   that is the number of columns, and shorter rows are padded with floor on the right.
 //! - **Names.** The last line of the gap before a board that begins with `;` names it; else the first line of the gap
 //!   after it that begins with `Title:`; else its name is empty. Spaces and tabs at both ends of a name are cut off.
+//!
+//! ```text
+//! let entries = xsb::read(alloc, b"; first\n#####\n#@$.#\n#####\n").expect(&rt, "memory");
+//! let [entry] = entries.as_slice() else {
+//!     panic!(&rt; "one board");
+//! };
+//! assert_eq!(&rt; entry.name.as_slice(), b"first".as_slice());
+//! assert!(&rt; entry.board.is_ok());
+//! ```
 #![tactic(auto)]
 
 mod boards;

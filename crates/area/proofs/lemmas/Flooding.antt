@@ -1,5 +1,6 @@
 -- What a flood by words finds: the area.
-use Rattle.std.proofs.Common.{◌≡◌, ℕ, ◌+◌, ◌*◌, ◌<◌, ◌≤◌, Bool, true, false, eqb, ◌||◌, ◌⊎◌, inl, inr, ◌↔◌, List, None, length, refl, sym, ap, subst, ◌∙◌, arith}
+use Rattle.std.proofs.Common.{◌≡◌, ℕ, ◌+◌, ◌*◌, ◌<◌, ◌≤◌, Bool, true, false, eqb, ◌||◌, ◌⊎◌, inl, inr, ◌↔◌, List, None, length, refl, sym, ap, subst, ◌∙◌}
+use Rattle.std.proofs.Common.{arith}
 use Rattle.std.proofs.lemmas.Bool.{eqb-true, and_from, or_left, or_right}
 use Rattle.grid.specs.declared.dir.Dir.{Dir}
 use Rattle.grid.specs.declared.dir.Dir.TheVariants.{D, L, R, U}
@@ -33,12 +34,18 @@ words_few n words e le = omega (arith, e, le)
 
 -- a square that comes by one of the directions is entered
 entered_by : (board : Board) (words : List ℕ) (d : Dir) (q : ℕ) → comes_by board words d q ≡ true → is_entered board words q ≡ true
-entered_by board words D q h = or_left (comes_by board words D q || comes_by board words L q) (comes_by board words R q || comes_by board words U q) (or_left (comes_by board words D q) (comes_by board words L q) h)
-entered_by board words L q h = or_left (comes_by board words D q || comes_by board words L q) (comes_by board words R q || comes_by board words U q) (or_right (comes_by board words D q) (comes_by board words L q) h)
-entered_by board words R q h = or_right (comes_by board words D q || comes_by board words L q) (comes_by board words R q || comes_by board words U q) (or_left (comes_by board words R q) (comes_by board words U q) h)
-entered_by board words U q h = or_right (comes_by board words D q || comes_by board words L q) (comes_by board words R q || comes_by board words U q) (or_right (comes_by board words R q) (comes_by board words U q) h)
+entered_by board words D q h = or_left (comes_by board words D q || comes_by board words L q) (comes_by board words R q ||
+    comes_by board words U q) (or_left (comes_by board words D q) (comes_by board words L q) h)
+entered_by board words L q h = or_left (comes_by board words D q || comes_by board words L q) (comes_by board words R q ||
+    comes_by board words U q) (or_right (comes_by board words D q) (comes_by board words L q) h)
+entered_by board words R q h = or_right (comes_by board words D q || comes_by board words L q) (comes_by board words R q ||
+    comes_by board words U q) (or_left (comes_by board words R q) (comes_by board words U q) h)
+entered_by board words U q h = or_right (comes_by board words D q || comes_by board words L q) (comes_by board words R q ||
+    comes_by board words U q) (or_right (comes_by board words R q) (comes_by board words U q) h)
 
-module _ (board : Board) (s : Scene) (boxes old new : List ℕ) (scene : IsScene board s) (stand : (q : ℕ) → is_wall board q ≡ false → has_bit boxes q ≡ contains s.boxes q) (begun : has_bit old s.player ≡ true) (within : (q : ℕ) → has_bit old q ≡ true → Area board s q) (growing : IsGrowing board boxes old new) where
+module _ (board : Board) (s : Scene) (boxes old new : List ℕ) (scene : IsScene board s) (stand : (q : ℕ) → is_wall board q ≡ false →
+    has_bit boxes q ≡ contains s.boxes q) (begun : has_bit old s.player ≡ true) (within : (q : ℕ) → has_bit old q ≡ true →
+    Area board s q) (growing : IsGrowing board boxes old new) where
   -- what is reached is of the area
   pub flood_inside : (q : ℕ) → has_bit new q ≡ true → Area board s q
   flood_inside q h = (test.1 q).0 (growing.sound test.0 keeps from_start q h)
@@ -50,57 +57,70 @@ module _ (board : Board) (s : Scene) (boxes old new : List ℕ) (scene : IsScene
       keeps d x clear can before =
           let back : next board (next board x (opposite d)) d ≡ x = enter_back board d x can in
           let free : IsFree board s.boxes x = ((enter_parts board d x can).0, sym (stand x (enter_parts board d x can).0) ∙ clear) in
-          (test.1 x).1 (subst (Area board s) back (area_step board s (next board x (opposite d)) d ((test.1 (next board x (opposite d))).0 before) (subst (IsFree board s.boxes) (sym back) free)))
+          (test.1 x).1 (subst (Area board s) back (area_step board s (next board x (opposite d)) d ((test.1 (next board x (opposite d))).0 before)
+          (subst (IsFree board s.boxes) (sym back) free)))
 
       from_start : (x : ℕ) → has_bit old x ≡ true → test.0 x ≡ true
       from_start x here = (test.1 x).1 (within x here)
 
   -- what is of the area is reached
   pub flood_whole : length new ≡ word_count (length board.cells) → IsFlooded board boxes old new → (q : ℕ) → Area board s q → has_bit new q ≡ true
-  flood_whole size found q w = (along_walks board s.boxes (λ (x : ℕ). (has_bit new x ≡ true) × (x < length board.cells)) step refl (first, inside_grid board s.player scene.player.0) w.1).0
+  flood_whole size found q w =
+      (along_walks board s.boxes (λ (x : ℕ). (has_bit new x ≡ true) ×
+      (x < length board.cells)) step refl (first, inside_grid board s.player scene.player.0) w.1).0
     where
       first : has_bit new s.player ≡ true
       first = growing.kept s.player begun
 
-      step : (x : ℕ) (d : Dir) → (has_bit new x ≡ true) × (x < length board.cells) → IsFree board s.boxes (next board x d) → (has_bit new (next board x d) ≡ true) × (next board x d < length board.cells)
+      step : (x : ℕ) (d : Dir) → (has_bit new x ≡ true) × (x < length board.cells) → IsFree board s.boxes (next board x d) →
+          (has_bit new (next board x d) ≡ true) × (next board x d < length board.cells)
       step x d here free =
           let n : ℕ = next board x d in
           let inside : n < length board.cells = inside_grid board n free.0 in
           let back : next board n (opposite d) ≡ x = next_back_inside board x d here.1 inside in
           let can : can_enter board d n ≡ true = enter_from board d n free.0 (subst (λ (y : ℕ). y < length board.cells) (sym back) here.1) in
-          let comes : comes_by board new d n ≡ true = and_from (can_enter board d n) (has_bit new (next board n (opposite d))) can (ap (has_bit new) back ∙ here.0) in
+          let comes : comes_by board new d n ≡ true = and_from (can_enter board d n) (has_bit new (next board n (opposite d))) can (ap (has_bit new) back ∙
+          here.0) in
           (found.settled n (words_enough (length board.cells) (length new) n size inside) (stand n free.0 ∙ free.1) (entered_by board new d n comes), inside)
 
 -- a set of the player's square alone is within the area
-pub player_alone : (board : Board) (s : Scene) (words : List ℕ) (player : ℕ) → player ≡ s.player → ((q : ℕ) → has_bit words q ≡ eqb player q) → (q : ℕ) → has_bit words q ≡ true → Area board s q
+pub player_alone : (board : Board) (s : Scene) (words : List ℕ) (player : ℕ) → player ≡ s.player → ((q : ℕ) → has_bit words q ≡ eqb player q) → (q : ℕ) →
+    has_bit words q ≡ true → Area board s q
 player_alone board s words player e alone q h = subst (Area board s) (sym e ∙ eqb-true player q (sym (alone q) ∙ h)) (area_here board s)
 
 -- without an aim, what is reached is the area
-pub whole_area : (board : Board) (s : Scene) (words : List ℕ) → ((q : ℕ) → has_bit words q ≡ true → Area board s q) → HasAim None words ⊎ ((q : ℕ) → Area board s q → has_bit words q ≡ true) → (q : ℕ) → (has_bit words q ≡ true) ↔ Area board s q
+pub whole_area : (board : Board) (s : Scene) (words : List ℕ) → ((q : ℕ) → has_bit words q ≡ true → Area board s q) → HasAim None words ⊎
+    ((q : ℕ) → Area board s q → has_bit words q ≡ true) → (q : ℕ) → (has_bit words q ≡ true) ↔ Area board s q
 whole_area board s words within (inl none) q = absurd none
 whole_area board s words within (inr whole) q = (within q, whole q)
 
 -- words that are the same hold the same area
-pub area_seen : (board : Board) (s : Scene) (words seen : List ℕ) → ((q : ℕ) → (has_bit words q ≡ true) ↔ Area board s q) → seen ≡ words → (q : ℕ) → (has_bit seen q ≡ true) ↔ Area board s q
+pub area_seen : (board : Board) (s : Scene) (words seen : List ℕ) → ((q : ℕ) → (has_bit words q ≡ true) ↔ Area board s q) → seen ≡ words → (q : ℕ) →
+    (has_bit seen q ≡ true) ↔ Area board s q
 area_seen board s words seen area same q = subst (λ (ws : List ℕ). (has_bit ws q ≡ true) ↔ Area board s q) (sym same) (area q)
 
 -- the list of the squares of words that hold the area
-pub listed_area : (board : Board) (s : Scene) (words seen : List ℕ) → ((q : ℕ) → (has_bit words q ≡ true) ↔ Area board s q) → seen ≡ words → (q : ℕ) → (contains (squares_of seen) q ≡ true) ↔ Area board s q
+pub listed_area : (board : Board) (s : Scene) (words seen : List ℕ) → ((q : ℕ) → (has_bit words q ≡ true) ↔ Area board s q) → seen ≡ words → (q : ℕ) →
+    (contains (squares_of seen) q ≡ true) ↔ Area board s q
 listed_area board s words seen area same q =
     let e : contains (squares_of seen) q ≡ has_bit words q = contains-squares_of seen q ∙ ap (λ (ws : List ℕ). has_bit ws q) same in
     (λ h. (area q).0 (sym e ∙ h), λ w. e ∙ (area q).1 w)
 
 -- the list of the squares of words that hold the boxes
-pub listed_boxes : (boxes : Squares) (words seen : List ℕ) → is_rising boxes ≡ true → ((q : ℕ) → has_bit words q ≡ contains boxes q) → seen ≡ words → squares_of seen ≡ boxes
+pub listed_boxes : (boxes : Squares) (words seen : List ℕ) → is_rising boxes ≡ true → ((q : ℕ) → has_bit words q ≡ contains boxes q) → seen ≡ words →
+    squares_of seen ≡ boxes
 listed_boxes boxes words seen rising stand same =
     same_set (squares_of seen) boxes (squares_of_rise seen) rising (λ q. contains-squares_of seen q ∙ (ap (λ (ws : List ℕ). has_bit ws q) same ∙ stand q))
 
 -- the least square of the area makes the normal form
-pub norm_of_least : (board : Board) (s : Scene) (words : List ℕ) (r : ℕ) → ((q : ℕ) → (has_bit words q ≡ true) ↔ Area board s q) → has_bit words r ≡ true → ((q : ℕ) → has_bit words q ≡ true → r ≤ q) → IsNorm board s (at s r)
+pub norm_of_least : (board : Board) (s : Scene) (words : List ℕ) (r : ℕ) → ((q : ℕ) → (has_bit words q ≡ true) ↔ Area board s q) → has_bit words r ≡ true →
+    ((q : ℕ) → has_bit words q ≡ true → r ≤ q) → IsNorm board s (at s r)
 norm_of_least board s words r area here least = norm_found board s (at s r) r refl ((area r).0 here) (λ q w. least q ((area q).1 w))
 
 -- the same of words that have a part of the area, with a square where there is one that nothing of it is less than
-pub norm_of_part : (board : Board) (s : Scene) (words : List ℕ) (aim r : ℕ) → ((q : ℕ) → has_bit words q ≡ true → Area board s q) → (has_bit words aim ≡ true) ⊎ ((q : ℕ) → Area board s q → has_bit words q ≡ true) → ((q : ℕ) → Area board s q → aim ≤ q) → has_bit words r ≡ true → ((q : ℕ) → has_bit words q ≡ true → r ≤ q) → IsNorm board s (at s r)
+pub norm_of_part : (board : Board) (s : Scene) (words : List ℕ) (aim r : ℕ) → ((q : ℕ) → has_bit words q ≡ true → Area board s q) → (has_bit words aim ≡ true) ⊎
+    ((q : ℕ) → Area board s q → has_bit words q ≡ true) → ((q : ℕ) → Area board s q → aim ≤ q) → has_bit words r ≡ true →
+    ((q : ℕ) → has_bit words q ≡ true → r ≤ q) → IsNorm board s (at s r)
 norm_of_part board s words aim r within (inl there) below here least =
     norm_found board s (at s r) r refl (within r here) (λ q w. let f = least aim there in let g = below q w in omega (arith, f, g))
 norm_of_part board s words aim r within (inr whole) below here least = norm_found board s (at s r) r refl (within r here) (λ q w. least q (whole q w))

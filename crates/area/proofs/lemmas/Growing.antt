@@ -92,12 +92,19 @@ down_twice test by mask twice same pass = λ i j e h start.
     pass (j + by) j refl p.0 (pass i (j + by) (omega arith) (shr_bit mask by j p.1) start))
 
 -- a run of up to three steps
-pub run_grown_down : (word one end mask : ℕ) → IsGrown word one (λ test. PassesDown test 1 mask) → IsGrown one end (λ test. PassesDown test 2 (bit_and mask (mask / 2 ^ 1))) → IsGrown word end (λ test. PassesDown test 1 mask)
+pub run_grown_down : (word one end mask : ℕ) → IsGrown word one (λ test. PassesDown test 1 mask) →
+    IsGrown one end (λ test. PassesDown test 2 (bit_and mask (mask / 2 ^ 1))) → IsGrown word end (λ test. PassesDown test 1 mask)
 run_grown_down word one end mask g h =
-    grown_then word one end (λ test. PassesDown test 1 mask) g (grown_by one end (λ test. PassesDown test 2 (bit_and mask (mask / 2 ^ 1))) (λ test. PassesDown test 1 mask) (λ test pass. down_twice test 1 mask 2 refl pass) h)
+    grown_then word one end (λ test. PassesDown test 1 mask) g
+    (grown_by one end (λ test. PassesDown test 2 (bit_and mask (mask / 2 ^ 1))) (λ test. PassesDown test 1 mask)
+    (λ test pass. down_twice test 1 mask 2 refl pass) h)
 
 -- a round of steps in all four directions
-pub round_grown : (first word down left right up by leftward rightward downward upward : ℕ) → IsGrown first word (λ test. PassesOn test by down left right up) → IsGrown word leftward (λ test. PassesDown test 1 left) → IsGrown word rightward (λ test. PassesUp test 1 right) → IsGrown (bit_or leftward rightward) downward (λ test. PassesUp test by down) → IsGrown (bit_or leftward rightward) upward (λ test. PassesDown test by up) → IsGrown word (bit_or downward upward) (λ test. PassesOn test by down left right up) × IsGrown first (bit_or downward upward) (λ test. PassesOn test by down left right up)
+pub round_grown : (first word down left right up by leftward rightward downward upward : ℕ) → IsGrown first word (λ test. PassesOn test by down left right up) →
+    IsGrown word leftward (λ test. PassesDown test 1 left) → IsGrown word rightward (λ test. PassesUp test 1 right) →
+    IsGrown (bit_or leftward rightward) downward (λ test. PassesUp test by down) → IsGrown (bit_or leftward rightward) upward (λ test. PassesDown test by up) →
+    IsGrown word (bit_or downward upward) (λ test. PassesOn test by down left right up) ×
+    IsGrown first (bit_or downward upward) (λ test. PassesOn test by down left right up)
 round_grown first word down left right up by leftward rightward downward upward g l r d u = (last, grown_then first word (bit_or downward upward) P g last)
   where
     P : (ℕ → Bool) → Type 0
@@ -108,5 +115,7 @@ round_grown first word down left right up by leftward rightward downward upward 
 
     last : IsGrown word (bit_or downward upward) P
     last = grown_then word row (bit_or downward upward) P
-        (grown_both word leftward rightward P (grown_by word leftward (λ test. PassesDown test 1 left) P (λ test pass. pass.on_left) l) (grown_by word rightward (λ test. PassesUp test 1 right) P (λ test pass. pass.on_right) r))
-        (grown_both row downward upward P (grown_by row downward (λ test. PassesUp test by down) P (λ test pass. pass.on_down) d) (grown_by row upward (λ test. PassesDown test by up) P (λ test pass. pass.on_up) u))
+        (grown_both word leftward rightward P (grown_by word leftward (λ test. PassesDown test 1 left) P (λ test pass. pass.on_left) l)
+        (grown_by word rightward (λ test. PassesUp test 1 right) P (λ test pass. pass.on_right) r))
+        (grown_both row downward upward P (grown_by row downward (λ test. PassesUp test by down) P (λ test pass. pass.on_down) d)
+        (grown_by row upward (λ test. PassesDown test by up) P (λ test pass. pass.on_up) u))

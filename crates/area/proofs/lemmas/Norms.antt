@@ -76,7 +76,8 @@ norm_along board s q n scene w = (
 )
 
 -- the same along a play without a push
-pub norm_along_walk : {board : Board} {s t : Scene} {ds : List Dir} (n : Scene) → IsScene board s → Play board Any s ds [] t → IsNorm board s n ↔ IsNorm board t n
+pub norm_along_walk : {board : Board} {s t : Scene} {ds : List Dir} (n : Scene) → IsScene board s → Play board Any s ds [] t → IsNorm board s n ↔
+    IsNorm board t n
 norm_along_walk {board = board} {s = s} {t = t} n scene p =
     subst (λ (x : Scene). IsNorm board s n ↔ IsNorm board x n) (sym (walk_at p)) (norm_along board s t.player n scene (walk_area p))
 
@@ -98,7 +99,8 @@ pub norm_itself : {board : Board} {s n : Scene} → IsScene board s → IsNorm b
 norm_itself {n = n} scene h = (norm_along_walk n scene (norm_walk h).1).0 h
 
 -- two states have one normal form exactly where a walk leads from one to the other
-pub norm_shared : {board : Board} {s t n : Scene} → IsScene board s → IsNorm board s n → IsScene board t → IsNorm board t n → (ds : List Dir) × Play board Any s ds [] t
+pub norm_shared : {board : Board} {s t n : Scene} → IsScene board s → IsNorm board s n → IsScene board t → IsNorm board t n → (ds : List Dir) ×
+    Play board Any s ds [] t
 norm_shared sc h tc k = let a = norm_walk h in let b = norm_walk_back tc k in (a.0 ++ b.0, play-append a.1 b.1)
 
 -- the state with its player on the least square of the area is a normal form

@@ -35,7 +35,8 @@ module _ {A : Type 0} {push_of : A → Push} where
   }
 
   -- the property in other words
-  pub all_same : (Has Other : A → Type 0) (xs : List A) → AreAll push_of Has xs → ((x : A) → Has x → Other x) → ((x : A) → Other x → Has x) → AreAll push_of Other xs
+  pub all_same : (Has Other : A → Type 0) (xs : List A) → AreAll push_of Has xs → ((x : A) → Has x → Other x) → ((x : A) → Other x → Has x) →
+      AreAll push_of Other xs
   all_same Has Other xs all on back = record {
     each = λ i x e. on x (all.each i x e);
     rise = all.rise;
@@ -43,12 +44,21 @@ module _ {A : Type 0} {push_of : A → Push} where
   }
 
   -- one more, after the others
-  pub all_push : (Has More : A → Type 0) (xs : List A) (z : A) → AreAll push_of Has xs → More z → ((x : A) → Has x → More x) → ((x : A) → More x → Has x ⊎ (x ≡ z)) → ((x : A) → Has x → push_cmp (push_of x) (push_of z) ≡ Less) → AreAll push_of More (xs ++ z ∷ [])
+  pub all_push : (Has More : A → Type 0) (xs : List A) (z : A) → AreAll push_of Has xs → More z → ((x : A) → Has x → More x) →
+      ((x : A) → More x → Has x ⊎ (x ≡ z)) → ((x : A) → Has x → push_cmp (push_of x) (push_of z) ≡ Less) → AreAll push_of More (xs ++ z ∷ [])
   all_push Has More xs z all new on back after = record {
     each = λ i x e. elim (pushed_at xs z x i e) [ inl h ↦ on x (all.each i x h) | inr h ↦ subst More (sym h.1) new ];
     rise = λ i j x y lt e f. elim (pushed_at xs z y j f) [
       | inl g ↦ elim (pushed_at xs z x i e) [ inl h ↦ all.rise i j x y lt h g | inr h ↦ absurd (let w = slice_get_within xs j y g in omega (arith, h.0, w)) ]
-      | inr g ↦ elim (pushed_at xs z x i e) [ inl h ↦ subst (λ (u : A). push_cmp (push_of x) (push_of u) ≡ Less) (sym g.1) (after x (all.each i x h)) | inr h ↦ absurd (omega (arith, h.0, g.0)) ]
+      | inr g ↦ elim (pushed_at xs z x i e) [
+        | inl h ↦ subst (λ (u : A). push_cmp (push_of x) (push_of u) ≡ Less) (sym g.1) (after x (all.each i x h))
+        | inr h ↦
+            absurd (omega (arith, h.0, g.0))
+      ]
     ];
-    whole = λ x h. elim (back x h) [ inl old ↦ (let w = all.whole x old in (w.0, kept_at xs (z ∷ []) x w.0 w.1)) | inr e ↦ (length xs, last_at xs z ∙ ap Some (sym e)) ];
+    whole = λ x h. elim (back x h) [
+      | inl old ↦ (let w = all.whole x old in (w.0, kept_at xs (z ∷ []) x w.0 w.1))
+      | inr e ↦
+          (length xs, last_at xs z ∙ ap Some (sym e))
+    ];
   }

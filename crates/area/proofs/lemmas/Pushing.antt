@@ -1,5 +1,6 @@
 -- Words of bits tell which boxes can be pushed.
-use Rattle.std.proofs.Common.{◌≡◌, ℕ, ◌+◌, ◌-◌, ◌*◌, ◌^◌, ◌<◌, ◌≤◌, Bool, true, false, not, ◌&&◌, ◌↔◌, List, length, get_or, inl, inr, refl, sym, ap, subst, ◌∙◌, arith}
+use Rattle.std.proofs.Common.{◌≡◌, ℕ, ◌+◌, ◌-◌, ◌*◌, ◌^◌, ◌<◌, ◌≤◌, Bool, true, false, not, ◌&&◌, ◌↔◌, List, length, get_or, inl, inr, refl, sym, ap, subst}
+use Rattle.std.proofs.Common.{◌∙◌, arith}
 use Rattle.std.specs.Int.{bit_not, w64}
 use Rattle.std.specs.Int.RustNames.{bit_and}
 use Rattle.std.proofs.lemmas.Bool.{cases_lt, cases_Bool, and_parts, and_from, not-true, not_from_false, true≢false}
@@ -39,11 +40,13 @@ back_up board by cols q h = let s = source_U board q h in omega arith
 -- ---- the open squares of a word
 
 module _ (board : Board) (masks : List StepMasks) (boxes : List ℕ) (d : Dir) (place : ℕ) (are : AreMasks board masks) (j : ℕ) (lt : j < WORD_BITS) where
-  pub open_bits : (e : StepMasks) (word held : ℕ) → place < length masks → word ≡ word_for d (get_or masks place e) → held ≡ get_or boxes place 0 → held < 2 ^ 64 → word_bit (bit_and word (bit_not w64 held)) j ≡ is_open board boxes d (WORD_BITS * place + j)
+  pub open_bits : (e : StepMasks) (word held : ℕ) → place < length masks → word ≡ word_for d (get_or masks place e) → held ≡ get_or boxes place 0 →
+      held < 2 ^ 64 → word_bit (bit_and word (bit_not w64 held)) j ≡ is_open board boxes d (WORD_BITS * place + j)
   open_bits e word held inside named at fits =
       word_bit-and word (bit_not w64 held) j
       ∙ (ap (λ (b : Bool). b && word_bit (bit_not w64 held) j) (ap (λ (w : ℕ). word_bit w j) named ∙ mask_bit board masks d place j e are inside lt)
-      ∙ ap (λ (b : Bool). can_enter board d (WORD_BITS * place + j) && b) (word_bit-not held j fits lt ∙ ap not (ap (λ (w : ℕ). word_bit w j) at ∙ sym (has_bit-at boxes place j lt))))
+      ∙ ap (λ (b : Bool). can_enter board d (WORD_BITS * place + j) && b) (word_bit-not held j fits lt ∙
+      ap not (ap (λ (w : ℕ). word_bit w j) at ∙ sym (has_bit-at boxes place j lt))))
 
   -- past the masks nothing is open
   pub open_none : length masks ≤ place → word_bit 0 j ≡ is_open board boxes d (WORD_BITS * place + j)
@@ -51,7 +54,8 @@ module _ (board : Board) (masks : List StepMasks) (boxes : List ℕ) (d : Dir) (
     where
       shut : can_enter board d (WORD_BITS * place + j) ≡ false
       shut = elim (cases_Bool (can_enter board d (WORD_BITS * place + j))) [
-        | inl h ↦ absurd (let below = has_bit_inside (words_for d masks) (WORD_BITS * place + j) (are.bits d (WORD_BITS * place + j) ∙ h) in let size = length-map masks (word_for d) in omega (arith, below, size, past))
+        | inl h ↦ absurd (let below = has_bit_inside (words_for d masks) (WORD_BITS * place + j) (are.bits d (WORD_BITS * place + j) ∙ h) in
+            let size = length-map masks (word_for d) in omega (arith, below, size, past))
         | inr h ↦ h
       ]
 
@@ -83,7 +87,8 @@ module _ (board : Board) (boxes : List ℕ) (d : Dir) (q : ℕ) (clear : is_wall
       let e : q + by ≡ next board q d = ap (λ (x : ℕ). x + by) (sym (ahead_back h)) ∙ on (next board q d) can in
       seen ∙ (ap (is_open board boxes d) e ∙ h)))
 
-  pub ahead_behind : (by : ℕ) (bit : Bool) → GoesBack board d by → ((i : ℕ) → i + by ≡ q → bit ≡ is_open board boxes d i) → (q < by → bit ≡ false) → bit ≡ is_open board boxes d (next board q d)
+  pub ahead_behind : (by : ℕ) (bit : Bool) → GoesBack board d by → ((i : ℕ) → i + by ≡ q → bit ≡ is_open board boxes d i) → (q < by → bit ≡ false) →
+      bit ≡ is_open board boxes d (next board q d)
   ahead_behind by bit back seen none = same_if bit (is_open board boxes d (next board q d))
       (λ h. elim (cases_lt q by) [
         | inl lt ↦ absurd (true≢false (sym h ∙ none lt))
@@ -104,22 +109,27 @@ module _ (board : Board) (boxes : List ℕ) (d : Dir) (q : ℕ) (clear : is_wall
 -- ---- a word's boxes that can be pushed
 
 -- what the bits of a word's boxes, of those entered and of those with an open square ahead say together
-pub push_bits : (board : Board) (masks : List StepMasks) (boxes reached : List ℕ) (place : ℕ) (d : Dir) (e : StepMasks) (j side word ahead : ℕ) → AreMasks board masks → place < length masks → j < WORD_BITS
+pub push_bits : (board : Board) (masks : List StepMasks) (boxes reached : List ℕ) (place : ℕ) (d : Dir) (e : StepMasks) (j side word ahead : ℕ) →
+    AreMasks board masks → place < length masks → j < WORD_BITS
     → word ≡ word_for d (get_or masks place e)
     → (can_enter board d (WORD_BITS * place + j) ≡ true → word_bit side j ≡ has_bit reached (next board (WORD_BITS * place + j) (opposite d)))
     → (is_wall board (WORD_BITS * place + j) ≡ false → word_bit ahead j ≡ is_open board boxes d (next board (WORD_BITS * place + j) d))
     → word_bit (bit_and (bit_and (get_or boxes place 0) (bit_and side word)) ahead) j ≡ can_push board boxes reached d (WORD_BITS * place + j)
 push_bits board masks boxes reached place d e j side word ahead are inside lt named come opens =
     word_bit-and (bit_and (get_or boxes place 0) (bit_and side word)) ahead j
-    ∙ (ap (λ (b : Bool). b && word_bit ahead j) (word_bit-and (get_or boxes place 0) (bit_and side word) j ∙ ap (λ (b : Bool). word_bit (get_or boxes place 0) j && b) (word_bit-and side word j))
-    ∙ joined (word_bit (get_or boxes place 0) j) (has_bit boxes q) (word_bit side j) (has_bit reached (next board q (opposite d))) (word_bit word j) (can_enter board d q) (word_bit ahead j) (is_open board boxes d (next board q d))
-    (sym (has_bit-at boxes place j lt)) (ap (λ (w : ℕ). word_bit w j) named ∙ mask_bit board masks d place j e are inside lt) come (λ can. opens (enter_parts board d q can).0))
+    ∙ (ap (λ (b : Bool). b && word_bit ahead j) (word_bit-and (get_or boxes place 0) (bit_and side word) j ∙
+    ap (λ (b : Bool). word_bit (get_or boxes place 0) j && b) (word_bit-and side word j))
+    ∙ joined (word_bit (get_or boxes place 0) j) (has_bit boxes q) (word_bit side j) (has_bit reached (next board q (opposite d))) (word_bit word j)
+    (can_enter board d q) (word_bit ahead j) (is_open board boxes d (next board q d))
+    (sym (has_bit-at boxes place j lt)) (ap (λ (w : ℕ). word_bit w j) named ∙
+    mask_bit board masks d place j e are inside lt) come (λ can. opens (enter_parts board d q can).0))
   where
     q : ℕ
     q = WORD_BITS * place + j
 
     joined : (a b s t m c x y : Bool) → a ≡ b → m ≡ c → (c ≡ true → s ≡ t) → (c ≡ true → x ≡ y) → ((a && (s && m)) && x) ≡ ((b && (c && t)) && y)
-    joined a b s t m true x y e f g h = let p = g refl in let r = h refl in ap (λ (z : Bool). (a && (s && z)) && x) f ∙ ap (λ (z : Bool). (a && z) && x) (and_true s) ∙ cc
+    joined a b s t m true x y e f g h = let p = g refl in let r = h refl in ap (λ (z : Bool). (a && (s && z)) && x) f ∙
+        ap (λ (z : Bool). (a && z) && x) (and_true s) ∙ cc
       where
         and_true : (z : Bool) → (z && true) ≡ z
         and_true true = refl
@@ -136,7 +146,9 @@ push_bits board masks boxes reached place d e j side word ahead are inside lt na
         gone false y = refl
 
 -- and what they say is that the box can be pushed
-pub pushable_from : (board : Board) (boxes reached : Squares) (held seen : List ℕ) (d : Dir) (q : ℕ) → ((x : ℕ) → contains boxes x ≡ has_bit held x) → ((x : ℕ) → contains reached x ≡ has_bit seen x) → ((x : ℕ) → contains boxes x ≡ true → is_wall board x ≡ false) → ((x : ℕ) → contains reached x ≡ true → x < length board.cells) → (can_push board held seen d q ≡ true) ↔ IsPushable board boxes reached d q
+pub pushable_from : (board : Board) (boxes reached : Squares) (held seen : List ℕ) (d : Dir) (q : ℕ) → ((x : ℕ) → contains boxes x ≡ has_bit held x) →
+    ((x : ℕ) → contains reached x ≡ has_bit seen x) → ((x : ℕ) → contains boxes x ≡ true → is_wall board x ≡ false) →
+    ((x : ℕ) → contains reached x ≡ true → x < length board.cells) → (can_push board held seen d q ≡ true) ↔ IsPushable board boxes reached d q
 pushable_from board boxes reached held seen d q as_held as_seen clear inside = (on, back)
   where
     ahead : ℕ
@@ -162,18 +174,24 @@ pushable_from board boxes reached held seen d q as_held as_seen clear inside = (
         let here : is_wall board q ≡ false = clear q h.there in
         let home : next board ahead (opposite d) ≡ q = next_back board q d here h.ahead.0 in
         let enter : can_enter board d q ≡ true = enter_from board d q here (inside behind h.behind) in
-        let onward : can_enter board d ahead ≡ true = enter_from board d ahead h.ahead.0 (subst (λ (x : ℕ). x < length board.cells) (sym home) (inside_grid board q here)) in
+        let onward : can_enter board d ahead ≡ true =
+        enter_from board d ahead h.ahead.0 (subst (λ (x : ℕ). x < length board.cells) (sym home) (inside_grid board q here)) in
         and_from (has_bit held q && comes_by board seen d q) (is_open board held d ahead)
-        (and_from (has_bit held q) (comes_by board seen d q) (sym (as_held q) ∙ h.there) (and_from (can_enter board d q) (has_bit seen behind) enter (sym (as_seen behind) ∙ h.behind)))
+        (and_from (has_bit held q) (comes_by board seen d q) (sym (as_held q) ∙
+        h.there) (and_from (can_enter board d q) (has_bit seen behind) enter (sym (as_seen behind) ∙ h.behind)))
         (and_from (can_enter board d ahead) (not (has_bit held ahead)) onward (not_from_false (has_bit held ahead) (sym (as_held ahead) ∙ h.ahead.1)))
 
-pub pushable_bit : (board : Board) (boxes reached : Squares) (held seen : List ℕ) (d : Dir) (q : ℕ) (bit : Bool) → ((x : ℕ) → contains boxes x ≡ has_bit held x) → ((x : ℕ) → contains reached x ≡ has_bit seen x) → ((x : ℕ) → contains boxes x ≡ true → is_wall board x ≡ false) → ((x : ℕ) → contains reached x ≡ true → x < length board.cells) → bit ≡ can_push board held seen d q → (bit ≡ true) ↔ IsPushable board boxes reached d q
+pub pushable_bit : (board : Board) (boxes reached : Squares) (held seen : List ℕ) (d : Dir) (q : ℕ) (bit : Bool) →
+    ((x : ℕ) → contains boxes x ≡ has_bit held x) → ((x : ℕ) → contains reached x ≡ has_bit seen x) →
+    ((x : ℕ) → contains boxes x ≡ true → is_wall board x ≡ false) → ((x : ℕ) → contains reached x ≡ true → x < length board.cells) →
+    bit ≡ can_push board held seen d q → (bit ≡ true) ↔ IsPushable board boxes reached d q
 pushable_bit board boxes reached held seen d q bit as_held as_seen clear inside e =
     let p = pushable_from board boxes reached held seen d q as_held as_seen clear inside in
     (λ h. p.0 (sym e ∙ h), λ h. e ∙ p.1 h)
 
 -- no box of a word without boxes can be pushed
-pub none_pushable : (board : Board) (boxes reached : Squares) (held : List ℕ) (place j : ℕ) (d : Dir) → ((x : ℕ) → contains boxes x ≡ has_bit held x) → get_or held place 0 ≡ 0 → j < WORD_BITS → (word_bit 0 j ≡ true) ↔ IsPushable board boxes reached d (WORD_BITS * place + j)
+pub none_pushable : (board : Board) (boxes reached : Squares) (held : List ℕ) (place j : ℕ) (d : Dir) → ((x : ℕ) → contains boxes x ≡ has_bit held x) →
+    get_or held place 0 ≡ 0 → j < WORD_BITS → (word_bit 0 j ≡ true) ↔ IsPushable board boxes reached d (WORD_BITS * place + j)
 none_pushable board boxes reached held place j d as_held none lt = (
   λ h. absurd (true≢false (sym h ∙ word_bit-zero j)),
   λ h. sym (ap (λ (w : ℕ). word_bit w j) none) ∙ (sym (has_bit-at held place j lt) ∙ (sym (as_held (WORD_BITS * place + j)) ∙ h.there)),
@@ -189,5 +207,6 @@ each_way P down left right up U = up
 -- ---- after a flood
 
 -- what is reached is in the grid
-pub reached_inside : (board : Board) (s : Scene) (reached : Squares) → IsScene board s → ((q : ℕ) → (contains reached q ≡ true) ↔ Area board s q) → (q : ℕ) → contains reached q ≡ true → q < length board.cells
+pub reached_inside : (board : Board) (s : Scene) (reached : Squares) → IsScene board s → ((q : ℕ) → (contains reached q ≡ true) ↔ Area board s q) → (q : ℕ) →
+    contains reached q ≡ true → q < length board.cells
 reached_inside board s reached scene area q h = let walked = (area q).0 h in inside_grid board q (walk_free board s walked.0 q scene walked.1).0

@@ -1,5 +1,6 @@
 -- Bits of words, and of sets of squares as words.
-use Rattle.std.proofs.Common.{◌≡◌, ℕ, zero, suc, ◌+◌, ◌-◌, ◌*◌, ◌/◌, ◌%◌, ◌^◌, ◌<◌, ◌≤◌, min, max, Bool, true, false, not, eqb, ◌&&◌, ◌||◌, List, length, get_or, inl, inr, refl, sym, ap, ◌∙◌, arith}
+use Rattle.std.proofs.Common.{◌≡◌, ℕ, zero, suc, ◌+◌, ◌-◌, ◌*◌, ◌/◌, ◌%◌, ◌^◌, ◌<◌, ◌≤◌, min, max, Bool, true, false, not, eqb, ◌&&◌, ◌||◌, List, length}
+use Rattle.std.proofs.Common.{get_or, inl, inr, refl, sym, ap, ◌∙◌, arith}
 use Rattle.std.specs.Int.{bit_at, bit_not, w64}
 use Rattle.std.specs.Int.RustNames.{bit_and, bit_or}
 use Rattle.std.proofs.lemmas.Bool.{cases_lt, eqb-true, true≢false}
@@ -96,8 +97,10 @@ word_bit-shr a by i j e = ap (λ (x : ℕ). eqb x 1)
 pub has_bit-at : (words : List ℕ) (k j : ℕ) → j < WORD_BITS → has_bit words (WORD_BITS * k + j) ≡ word_bit (get_or words k 0) j
 unfolding has_bit word_bit
 has_bit-at words k j lt =
-    let d : (WORD_BITS * k + j) / WORD_BITS ≡ k = ap (λ (x : ℕ). (x + j) / WORD_BITS) (let e : WORD_BITS * k ≡ k * WORD_BITS = omega arith in e) ∙ div-mul-add k WORD_BITS j lt in
-    let m : (WORD_BITS * k + j) % WORD_BITS ≡ j = ap (λ (x : ℕ). (x + j) % WORD_BITS) (let e : WORD_BITS * k ≡ k * WORD_BITS = omega arith in e) ∙ mod-mul-add k WORD_BITS j lt in
+    let d : (WORD_BITS * k + j) / WORD_BITS ≡ k = ap (λ (x : ℕ). (x + j) / WORD_BITS) (let e : WORD_BITS * k ≡ k * WORD_BITS = omega arith in e) ∙
+    div-mul-add k WORD_BITS j lt in
+    let m : (WORD_BITS * k + j) % WORD_BITS ≡ j = ap (λ (x : ℕ). (x + j) % WORD_BITS) (let e : WORD_BITS * k ≡ k * WORD_BITS = omega arith in e) ∙
+    mod-mul-add k WORD_BITS j lt in
     ap (λ (x : ℕ). eqb (bit_at (get_or words x 0) ((WORD_BITS * k + j) % WORD_BITS)) 1) d ∙ ap (λ (x : ℕ). eqb (bit_at (get_or words k 0) x) 1) m
 
 -- each square has a place and a bit
@@ -112,7 +115,8 @@ has_bit-parts words q = refl
 pub has_bit_inside : (words : List ℕ) (q : ℕ) → has_bit words q ≡ true → q < WORD_BITS * length words
 has_bit_inside words q h = elim (cases_lt (q / WORD_BITS) (length words)) [
   | inl lt ↦ omega (arith, square_parts q)
-  | inr le ↦ absurd (true≢false (sym h ∙ (has_bit-parts words q ∙ (ap (λ (w : ℕ). word_bit w (q % WORD_BITS)) (get_or_past words (q / WORD_BITS) 0 le) ∙ word_bit-zero (q % WORD_BITS)))))
+  | inr le ↦ absurd (true≢false (sym h ∙
+      (has_bit-parts words q ∙ (ap (λ (w : ℕ). word_bit w (q % WORD_BITS)) (get_or_past words (q / WORD_BITS) 0 le) ∙ word_bit-zero (q % WORD_BITS)))))
 ]
 
 -- ---- what a word shows of words before and after it
@@ -132,22 +136,27 @@ unfolding word_bit
 past_end a j fits le = ap (λ (x : ℕ). eqb x 1) (bit_at_above a WORD_BITS j fits le)
 
 -- the bits of two words in a row, slid up
-pub up_here : (here low near i j : ℕ) → low < 2 ^ 64 → j < WORD_BITS → i + near ≡ j → word_bit (bit_or (here * 2 ^ near % 2 ^ 64) (low / 2 / 2 ^ (WORD_BITS - 1 - near))) j ≡ word_bit here i
+pub up_here : (here low near i j : ℕ) → low < 2 ^ 64 → j < WORD_BITS → i + near ≡ j →
+    word_bit (bit_or (here * 2 ^ near % 2 ^ 64) (low / 2 / 2 ^ (WORD_BITS - 1 - near))) j ≡ word_bit here i
 up_here here low near i j fits lt e =
     word_bit-or (here * 2 ^ near % 2 ^ 64) (low / 2 / 2 ^ (WORD_BITS - 1 - near)) j
-    ∙ (or_right_none (word_bit (here * 2 ^ near % 2 ^ 64) j) (word_bit (low / 2 / 2 ^ (WORD_BITS - 1 - near)) j) (halved low (WORD_BITS - 1 - near) j ∙ past_end low (j + (WORD_BITS - 1 - near) + 1) fits (omega arith))
+    ∙ (or_right_none (word_bit (here * 2 ^ near % 2 ^ 64) j) (word_bit (low / 2 / 2 ^ (WORD_BITS - 1 - near)) j) (halved low (WORD_BITS - 1 - near) j ∙
+    past_end low (j + (WORD_BITS - 1 - near) + 1) fits (omega arith))
     ∙ word_bit-shl here near i j e lt)
 
-pub up_low : (here low near i j : ℕ) → near < WORD_BITS → i < WORD_BITS → i + near ≡ j + WORD_BITS → word_bit (bit_or (here * 2 ^ near % 2 ^ 64) (low / 2 / 2 ^ (WORD_BITS - 1 - near))) j ≡ word_bit low i
+pub up_low : (here low near i j : ℕ) → near < WORD_BITS → i < WORD_BITS → i + near ≡ j + WORD_BITS →
+    word_bit (bit_or (here * 2 ^ near % 2 ^ 64) (low / 2 / 2 ^ (WORD_BITS - 1 - near))) j ≡ word_bit low i
 up_low here low near i j small lt e =
     let same : j + (WORD_BITS - 1 - near) + 1 ≡ i = omega arith in
     word_bit-or (here * 2 ^ near % 2 ^ 64) (low / 2 / 2 ^ (WORD_BITS - 1 - near)) j
-    ∙ (or_left_none (word_bit (here * 2 ^ near % 2 ^ 64) j) (word_bit (low / 2 / 2 ^ (WORD_BITS - 1 - near)) j) (word_bit-shl_low here near j (omega arith) (omega arith))
+    ∙ (or_left_none (word_bit (here * 2 ^ near % 2 ^ 64) j) (word_bit (low / 2 / 2 ^ (WORD_BITS - 1 - near)) j)
+    (word_bit-shl_low here near j (omega arith) (omega arith))
     ∙ (halved low (WORD_BITS - 1 - near) j
     ∙ ap (word_bit low) same))
 
 -- and slid down
-pub down_here : (here high near i j : ℕ) → near < WORD_BITS → i < WORD_BITS → i ≡ j + near → word_bit (bit_or (here / 2 ^ near) (high * 2 % 2 ^ 64 * 2 ^ (WORD_BITS - 1 - near) % 2 ^ 64)) j ≡ word_bit here i
+pub down_here : (here high near i j : ℕ) → near < WORD_BITS → i < WORD_BITS → i ≡ j + near →
+    word_bit (bit_or (here / 2 ^ near) (high * 2 % 2 ^ 64 * 2 ^ (WORD_BITS - 1 - near) % 2 ^ 64)) j ≡ word_bit here i
 down_here here high near i j small lt e =
     word_bit-or (here / 2 ^ near) (high * 2 % 2 ^ 64 * 2 ^ (WORD_BITS - 1 - near) % 2 ^ 64) j
     ∙ (or_right_none (word_bit (here / 2 ^ near) j) (word_bit (high * 2 % 2 ^ 64 * 2 ^ (WORD_BITS - 1 - near) % 2 ^ 64) j) none_above
@@ -159,10 +168,12 @@ down_here here high near i j small lt e =
       | inr le ↦ word_bit-shl (high * 2 % 2 ^ 64) (WORD_BITS - 1 - near) 0 j (omega arith) (omega arith) ∙ word_bit-shl_low high 1 0 (omega arith) (omega arith)
     ]
 
-pub down_high : (here high near i j : ℕ) → near < WORD_BITS → here < 2 ^ 64 → j < WORD_BITS → i + WORD_BITS ≡ j + near → word_bit (bit_or (here / 2 ^ near) (high * 2 % 2 ^ 64 * 2 ^ (WORD_BITS - 1 - near) % 2 ^ 64)) j ≡ word_bit high i
+pub down_high : (here high near i j : ℕ) → near < WORD_BITS → here < 2 ^ 64 → j < WORD_BITS → i + WORD_BITS ≡ j + near →
+    word_bit (bit_or (here / 2 ^ near) (high * 2 % 2 ^ 64 * 2 ^ (WORD_BITS - 1 - near) % 2 ^ 64)) j ≡ word_bit high i
 down_high here high near i j small fits lt e =
     word_bit-or (here / 2 ^ near) (high * 2 % 2 ^ 64 * 2 ^ (WORD_BITS - 1 - near) % 2 ^ 64) j
-    ∙ (or_left_none (word_bit (here / 2 ^ near) j) (word_bit (high * 2 % 2 ^ 64 * 2 ^ (WORD_BITS - 1 - near) % 2 ^ 64) j) (word_bit-shr here near (j + near) j refl ∙ past_end here (j + near) fits (omega arith))
+    ∙ (or_left_none (word_bit (here / 2 ^ near) j) (word_bit (high * 2 % 2 ^ 64 * 2 ^ (WORD_BITS - 1 - near) % 2 ^ 64) j)
+    (word_bit-shr here near (j + near) j refl ∙ past_end here (j + near) fits (omega arith))
     ∙ (word_bit-shl (high * 2 % 2 ^ 64) (WORD_BITS - 1 - near) (i + 1) j (omega arith) lt
     ∙ word_bit-shl high 1 i (i + 1) refl (omega arith)))
 

@@ -1,5 +1,6 @@
 -- Sets of squares as words: one square more or less, the least square, and the list of the squares.
-use Rattle.std.proofs.Common.{◌≡◌, ◌≢◌, ℕ, zero, suc, ◌+◌, ◌*◌, ◌/◌, ◌%◌, ◌^◌, ◌<◌, ◌≤◌, min, Bool, true, false, not, cond, eqb, ◌&&◌, ◌||◌, ◌⊎◌, List, ◌∷◌, length, get_or, set, replicate, inl, inr, refl, sym, ap, subst, ◌∙◌, arith}
+use Rattle.std.proofs.Common.{◌≡◌, ◌≢◌, ℕ, zero, suc, ◌+◌, ◌*◌, ◌/◌, ◌%◌, ◌^◌, ◌<◌, ◌≤◌, min, Bool, true, false, not, cond, eqb, ◌&&◌, ◌||◌, ◌⊎◌, List, ◌∷◌}
+use Rattle.std.proofs.Common.{length, get_or, set, replicate, inl, inr, refl, sym, ap, subst, ◌∙◌, arith}
 use Rattle.std.specs.Int.{bit_at, bit_not, trailing_zeros, w64}
 use Rattle.std.specs.Int.RustNames.{bit_and, bit_or}
 use Rattle.std.proofs.lemmas.Bool.{cases_lt, cases_eq, cases_order, and_parts, not-true, cases_Bool, eq-eqb, ne_eqb, eqb-true, true≢false}
@@ -35,15 +36,19 @@ and_false false = refl
 set_bit : (w k j : ℕ) → k < WORD_BITS → word_bit (bit_or w (1 * 2 ^ k % 2 ^ 64)) j ≡ (word_bit w j || eqb k j)
 unfolding word_bit
 set_bit w k j lt = elim (cases_eq j k) [
-  | inl e ↦ ap (λ (x : ℕ). eqb x 1) (ap (bit_at (bit_or w (1 * 2 ^ k % 2 ^ 64))) e ∙ bit_at_set_same w64 w k lt) ∙ sym (ap (λ (b : Bool). eqb (bit_at w j) 1 || b) (eq-eqb k j (sym e)) ∙ or_true (eqb (bit_at w j) 1))
-  | inr ne ↦ ap (λ (x : ℕ). eqb x 1) (bit_at_set_other w64 w k lt j ne) ∙ sym (ap (λ (b : Bool). eqb (bit_at w j) 1 || b) (ne_eqb k j (λ e. ne (sym e))) ∙ or_false (eqb (bit_at w j) 1))
+  | inl e ↦ ap (λ (x : ℕ). eqb x 1) (ap (bit_at (bit_or w (1 * 2 ^ k % 2 ^ 64))) e ∙ bit_at_set_same w64 w k lt) ∙
+      sym (ap (λ (b : Bool). eqb (bit_at w j) 1 || b) (eq-eqb k j (sym e)) ∙ or_true (eqb (bit_at w j) 1))
+  | inr ne ↦ ap (λ (x : ℕ). eqb x 1) (bit_at_set_other w64 w k lt j ne) ∙
+      sym (ap (λ (b : Bool). eqb (bit_at w j) 1 || b) (ne_eqb k j (λ e. ne (sym e))) ∙ or_false (eqb (bit_at w j) 1))
 ]
 
 pub cleared_bit : (w k j : ℕ) → k < WORD_BITS → j < WORD_BITS → word_bit (bit_and w (bit_not w64 (1 * 2 ^ k % 2 ^ 64))) j ≡ (word_bit w j && not (eqb k j))
 unfolding word_bit
 cleared_bit w k j lt in_word = elim (cases_eq j k) [
-  | inl e ↦ ap (λ (x : ℕ). eqb x 1) (ap (bit_at (bit_and w (bit_not w64 (1 * 2 ^ k % 2 ^ 64)))) e ∙ bit_at_clear_same w64 w k lt) ∙ sym (ap (λ (b : Bool). eqb (bit_at w j) 1 && not b) (eq-eqb k j (sym e)) ∙ and_false (eqb (bit_at w j) 1))
-  | inr ne ↦ ap (λ (x : ℕ). eqb x 1) (bit_at_clear_other w64 w k lt j in_word ne) ∙ sym (ap (λ (b : Bool). eqb (bit_at w j) 1 && not b) (ne_eqb k j (λ e. ne (sym e))) ∙ and_true (eqb (bit_at w j) 1))
+  | inl e ↦ ap (λ (x : ℕ). eqb x 1) (ap (bit_at (bit_and w (bit_not w64 (1 * 2 ^ k % 2 ^ 64)))) e ∙ bit_at_clear_same w64 w k lt) ∙
+      sym (ap (λ (b : Bool). eqb (bit_at w j) 1 && not b) (eq-eqb k j (sym e)) ∙ and_false (eqb (bit_at w j) 1))
+  | inr ne ↦ ap (λ (x : ℕ). eqb x 1) (bit_at_clear_other w64 w k lt j in_word ne) ∙
+      sym (ap (λ (b : Bool). eqb (bit_at w j) 1 && not b) (ne_eqb k j (λ e. ne (sym e))) ∙ and_true (eqb (bit_at w j) 1))
 ]
 
 -- two tests for equal numbers that say the same
@@ -54,40 +59,50 @@ same_test a b c d f g = elim (cases_eq a b) [
 ]
 
 -- the set with one square more
-pub bit_put : (words : List ℕ) (read square q : ℕ) → read ≡ square → read / WORD_BITS < length words → has_bit (set words (read / WORD_BITS) (bit_or (get_or words (read / WORD_BITS) 0) (1 * 2 ^ (read % WORD_BITS) % 2 ^ 64))) q ≡ (has_bit words q || eqb square q)
+pub bit_put : (words : List ℕ) (read square q : ℕ) → read ≡ square → read / WORD_BITS < length words →
+    has_bit (set words (read / WORD_BITS) (bit_or (get_or words (read / WORD_BITS) 0) (1 * 2 ^ (read % WORD_BITS) % 2 ^ 64))) q ≡
+    (has_bit words q || eqb square q)
 bit_put words read square q at inside = elim (cases_eq (q / WORD_BITS) (read / WORD_BITS)) [
   | inl e ↦
       has_bit-parts new q
       ∙ (ap (λ (k : ℕ). word_bit (get_or new k 0) (q % WORD_BITS)) e
-      ∙ (ap (λ (w : ℕ). word_bit w (q % WORD_BITS)) (get_or-set_same words (read / WORD_BITS) (bit_or (get_or words (read / WORD_BITS) 0) (1 * 2 ^ (read % WORD_BITS) % 2 ^ 64)) 0 inside)
+      ∙ (ap (λ (w : ℕ). word_bit w (q % WORD_BITS))
+      (get_or-set_same words (read / WORD_BITS) (bit_or (get_or words (read / WORD_BITS) 0) (1 * 2 ^ (read % WORD_BITS) % 2 ^ 64)) 0 inside)
       ∙ (set_bit (get_or words (read / WORD_BITS) 0) (read % WORD_BITS) (q % WORD_BITS) (square_parts read).1
-      ∙ (ap (λ (b : Bool). b || eqb (read % WORD_BITS) (q % WORD_BITS)) (sym (has_bit-parts words q ∙ ap (λ (k : ℕ). word_bit (get_or words k 0) (q % WORD_BITS)) e))
+      ∙ (ap (λ (b : Bool). b ||
+      eqb (read % WORD_BITS) (q % WORD_BITS)) (sym (has_bit-parts words q ∙ ap (λ (k : ℕ). word_bit (get_or words k 0) (q % WORD_BITS)) e))
       ∙ ap (λ (b : Bool). has_bit words q || b) (same_test (read % WORD_BITS) (q % WORD_BITS) square q (λ f. omega arith) (λ f. omega arith))))))
   | inr ne ↦
       has_bit-parts new q
-      ∙ (ap (λ (w : ℕ). word_bit w (q % WORD_BITS)) (get_or-set_other words (read / WORD_BITS) (q / WORD_BITS) (bit_or (get_or words (read / WORD_BITS) 0) (1 * 2 ^ (read % WORD_BITS) % 2 ^ 64)) 0 ne)
+      ∙ (ap (λ (w : ℕ). word_bit w (q % WORD_BITS))
+      (get_or-set_other words (read / WORD_BITS) (q / WORD_BITS) (bit_or (get_or words (read / WORD_BITS) 0) (1 * 2 ^ (read % WORD_BITS) % 2 ^ 64)) 0 ne)
       ∙ (sym (has_bit-parts words q)
-      ∙ sym (ap (λ (b : Bool). has_bit words q || b) (ne_eqb square q (λ f. ne (ap (λ (x : ℕ). x / WORD_BITS) (sym f ∙ sym at)))) ∙ or_false (has_bit words q))))
+      ∙ sym (ap (λ (b : Bool). has_bit words q || b) (ne_eqb square q (λ f. ne (ap (λ (x : ℕ). x / WORD_BITS) (sym f ∙ sym at)))) ∙
+      or_false (has_bit words q))))
 ]
   where
     new : List ℕ
     new = set words (read / WORD_BITS) (bit_or (get_or words (read / WORD_BITS) 0) (1 * 2 ^ (read % WORD_BITS) % 2 ^ 64))
 
 -- the set with one square less
-pub bit_take : (words : List ℕ) (read square q : ℕ) → read ≡ square → read / WORD_BITS < length words → has_bit (set words (read / WORD_BITS) (bit_and (get_or words (read / WORD_BITS) 0) (bit_not w64 (1 * 2 ^ (read % WORD_BITS) % 2 ^ 64)))) q ≡ (has_bit words q && not (eqb square q))
+pub bit_take : (words : List ℕ) (read square q : ℕ) → read ≡ square → read / WORD_BITS < length words →
+    has_bit (set words (read / WORD_BITS) (bit_and (get_or words (read / WORD_BITS) 0) (bit_not w64 (1 * 2 ^ (read % WORD_BITS) % 2 ^ 64)))) q ≡
+    (has_bit words q && not (eqb square q))
 bit_take words read square q at inside = elim (cases_eq (q / WORD_BITS) (read / WORD_BITS)) [
   | inl e ↦
       has_bit-parts new q
       ∙ (ap (λ (k : ℕ). word_bit (get_or new k 0) (q % WORD_BITS)) e
       ∙ (ap (λ (w : ℕ). word_bit w (q % WORD_BITS)) (get_or-set_same words (read / WORD_BITS) left 0 inside)
       ∙ (cleared_bit (get_or words (read / WORD_BITS) 0) (read % WORD_BITS) (q % WORD_BITS) (square_parts read).1 (square_parts q).1
-      ∙ (ap (λ (b : Bool). b && not (eqb (read % WORD_BITS) (q % WORD_BITS))) (sym (has_bit-parts words q ∙ ap (λ (k : ℕ). word_bit (get_or words k 0) (q % WORD_BITS)) e))
+      ∙ (ap (λ (b : Bool). b &&
+      not (eqb (read % WORD_BITS) (q % WORD_BITS))) (sym (has_bit-parts words q ∙ ap (λ (k : ℕ). word_bit (get_or words k 0) (q % WORD_BITS)) e))
       ∙ ap (λ (b : Bool). has_bit words q && not b) (same_test (read % WORD_BITS) (q % WORD_BITS) square q (λ f. omega arith) (λ f. omega arith))))))
   | inr ne ↦
       has_bit-parts new q
       ∙ (ap (λ (w : ℕ). word_bit w (q % WORD_BITS)) (get_or-set_other words (read / WORD_BITS) (q / WORD_BITS) left 0 ne)
       ∙ (sym (has_bit-parts words q)
-      ∙ sym (ap (λ (b : Bool). has_bit words q && not b) (ne_eqb square q (λ f. ne (ap (λ (x : ℕ). x / WORD_BITS) (sym f ∙ sym at)))) ∙ and_true (has_bit words q))))
+      ∙ sym (ap (λ (b : Bool). has_bit words q && not b) (ne_eqb square q (λ f. ne (ap (λ (x : ℕ). x / WORD_BITS) (sym f ∙ sym at)))) ∙
+      and_true (has_bit words q))))
 ]
   where
     left : ℕ
@@ -110,7 +125,8 @@ none_set words n q e =
     ]
 
 -- a word without the bit of a square
-pub bit_without : (place word read square j : ℕ) → read ≡ square → place ≡ read / WORD_BITS → j < WORD_BITS → word_bit (bit_and word (bit_not w64 (1 * 2 ^ (read % WORD_BITS) % 2 ^ 64))) j ≡ (word_bit word j && not (eqb (WORD_BITS * place + j) square))
+pub bit_without : (place word read square j : ℕ) → read ≡ square → place ≡ read / WORD_BITS → j < WORD_BITS →
+    word_bit (bit_and word (bit_not w64 (1 * 2 ^ (read % WORD_BITS) % 2 ^ 64))) j ≡ (word_bit word j && not (eqb (WORD_BITS * place + j) square))
 bit_without place word read square j at same lt =
     cleared_bit word (read % WORD_BITS) j (square_parts read).1 lt
     ∙ ap (λ (b : Bool). word_bit word j && not b) (same_test (read % WORD_BITS) j (WORD_BITS * place + j) square (λ f. omega arith) (λ f. omega arith))
@@ -118,7 +134,8 @@ bit_without place word read square j at same lt =
 -- ---- the least square
 
 -- the lowest bit of a word
-pub lowest_bit : (word : ℕ) → 0 < word → word < 2 ^ 64 → (trailing_zeros w64 word < WORD_BITS) × (word_bit word (trailing_zeros w64 word) ≡ true) × ((j : ℕ) → word_bit word j ≡ true → trailing_zeros w64 word ≤ j)
+pub lowest_bit : (word : ℕ) → 0 < word → word < 2 ^ 64 → (trailing_zeros w64 word < WORD_BITS) × (word_bit word (trailing_zeros w64 word) ≡ true) ×
+    ((j : ℕ) → word_bit word j ≡ true → trailing_zeros w64 word ≤ j)
 unfolding word_bit
 lowest_bit word some fits =
     let t = bit_at-trailing_zeros w64 word some fits in (
@@ -131,13 +148,17 @@ lowest_bit word some fits =
     )
 
 -- what is less than a place's squares is of a word before it
-pub least_word : (words : List ℕ) (place r : ℕ) → ((k : ℕ) → k < place → get_or words k 0 ≡ 0) → 0 < get_or words place 0 → get_or words place 0 < 2 ^ 64 → r ≡ WORD_BITS * place + trailing_zeros w64 (get_or words place 0) → (has_bit words r ≡ true) × ((q : ℕ) → has_bit words q ≡ true → r ≤ q)
+pub least_word : (words : List ℕ) (place r : ℕ) → ((k : ℕ) → k < place → get_or words k 0 ≡ 0) → 0 < get_or words place 0 → get_or words place 0 < 2 ^ 64 →
+    r ≡ WORD_BITS * place + trailing_zeros w64 (get_or words place 0) → (has_bit words r ≡ true) × ((q : ℕ) → has_bit words q ≡ true → r ≤ q)
 least_word words place r none some fits e =
     let t = lowest_bit (get_or words place 0) some fits in (
       ap (has_bit words) e ∙ (has_bit-at words place (trailing_zeros w64 (get_or words place 0)) t.0 ∙ t.1),
       λ q h. elim (cases_order (q / WORD_BITS) place) [
-        | inl same ↦ (let p = t.2 (q % WORD_BITS) (sym (has_bit-parts words q ∙ ap (λ (k : ℕ). word_bit (get_or words k 0) (q % WORD_BITS)) same) ∙ h) in omega (arith, p))
-        | inr (inl less) ↦ absurd (true≢false (sym h ∙ (has_bit-parts words q ∙ (ap (λ (w : ℕ). word_bit w (q % WORD_BITS)) (none (q / WORD_BITS) less) ∙ word_bit-zero (q % WORD_BITS)))))
+        | inl same ↦ (let p = t.2 (q % WORD_BITS) (sym (has_bit-parts words q ∙ ap (λ (k : ℕ). word_bit (get_or words k 0) (q % WORD_BITS)) same) ∙ h) in
+            omega (arith, p))
+        | inr (inl less) ↦ absurd
+            (true≢false (sym h ∙ (has_bit-parts words q ∙
+            (ap (λ (w : ℕ). word_bit w (q % WORD_BITS)) (none (q / WORD_BITS) less) ∙ word_bit-zero (q % WORD_BITS)))))
         | inr (inr more) ↦ (let p = t.0 in omega (arith, p))
       ],
     )
@@ -146,7 +167,8 @@ least_word words place r none some fits e =
 pub none_there : (words : List ℕ) (n q : ℕ) → ((k : ℕ) → k < n → get_or words k 0 ≡ 0) → length words ≤ n → has_bit words q ≡ true → ⊥
 none_there words n q none all h =
     let lt = has_bit_inside words q h in
-    true≢false (sym h ∙ (has_bit-parts words q ∙ (ap (λ (w : ℕ). word_bit w (q % WORD_BITS)) (none (q / WORD_BITS) (omega arith)) ∙ word_bit-zero (q % WORD_BITS))))
+    true≢false (sym h ∙ (has_bit-parts words q ∙
+    (ap (λ (w : ℕ). word_bit w (q % WORD_BITS)) (none (q / WORD_BITS) (omega arith)) ∙ word_bit-zero (q % WORD_BITS))))
 
 -- ---- the list of the squares
 
@@ -155,7 +177,8 @@ passing_below : (test : ℕ → Bool) (k n q : ℕ) → q < k → contains (pass
 passing_below test k zero q lt = refl
 passing_below test k (suc n) q lt = skip (test k) (passing_below test (suc k) n q (omega arith))
   where
-    skip : (b : Bool) → contains (passing_from test (suc k) n) q ≡ false → contains (cond b (k ∷ passing_from test (suc k) n) (passing_from test (suc k) n)) q ≡ false
+    skip : (b : Bool) → contains (passing_from test (suc k) n) q ≡ false → contains (cond b (k ∷ passing_from test (suc k) n) (passing_from test (suc k) n)) q ≡
+        false
     skip true h = ap (λ (x : Bool). x || contains (passing_from test (suc k) n) q) (ne_eqb k q (λ e. omega arith)) ∙ h
     skip false h = h
 
@@ -170,7 +193,8 @@ passing_within test k (suc n) q ge lt = elim (cases_eq k q) [
     first true = ap (λ (x : Bool). x || contains (passing_from test (suc k) n) k) (eq-eqb k k refl)
     first false = passing_below test (suc k) n k (omega arith)
 
-    later : (b : Bool) → k ≢ q → contains (passing_from test (suc k) n) q ≡ test q → contains (cond b (k ∷ passing_from test (suc k) n) (passing_from test (suc k) n)) q ≡ test q
+    later : (b : Bool) → k ≢ q → contains (passing_from test (suc k) n) q ≡ test q →
+        contains (cond b (k ∷ passing_from test (suc k) n) (passing_from test (suc k) n)) q ≡ test q
     later true ne h = ap (λ (x : Bool). x || contains (passing_from test (suc k) n) q) (ne_eqb k q ne) ∙ h
     later false ne h = h
 
@@ -178,7 +202,8 @@ pub passing_past : (test : ℕ → Bool) (k n q : ℕ) → k + n ≤ q → conta
 passing_past test k zero q ge = refl
 passing_past test k (suc n) q ge = skip (test k) (passing_past test (suc k) n q (omega arith))
   where
-    skip : (b : Bool) → contains (passing_from test (suc k) n) q ≡ false → contains (cond b (k ∷ passing_from test (suc k) n) (passing_from test (suc k) n)) q ≡ false
+    skip : (b : Bool) → contains (passing_from test (suc k) n) q ≡ false → contains (cond b (k ∷ passing_from test (suc k) n) (passing_from test (suc k) n)) q ≡
+        false
     skip true h = ap (λ (x : Bool). x || contains (passing_from test (suc k) n) q) (ne_eqb k q (λ e. omega arith)) ∙ h
     skip false h = h
 
@@ -206,7 +231,8 @@ pub passing_rise : (test : ℕ → Bool) (k n : ℕ) → rises_from k (passing_f
 passing_rise test k zero = refl
 passing_rise test k (suc n) = with_first (test k) (passing_rise test (suc k) n)
   where
-    with_first : (b : Bool) → rises_from (suc k) (passing_from test (suc k) n) ≡ true → rises_from k (cond b (k ∷ passing_from test (suc k) n) (passing_from test (suc k) n)) ≡ true
+    with_first : (b : Bool) → rises_from (suc k) (passing_from test (suc k) n) ≡ true →
+        rises_from k (cond b (k ∷ passing_from test (suc k) n) (passing_from test (suc k) n)) ≡ true
     with_first true h = rises_from-cons k k (passing_from test (suc k) n) (omega arith) h
     with_first false h = rises_from-weaker k (suc k) (passing_from test (suc k) n) (omega arith) h
 
@@ -220,21 +246,28 @@ listed words seen squares q list same =
     ap (λ (xs : Squares). contains xs q) (sym list) ∙ (contains-squares_of words q ∙ ap (λ (ws : List ℕ). has_bit ws q) (sym same))
 
 -- the squares of the words before a place are none but `but`
-pub below_word : (words : List ℕ) (but place word rest : ℕ) → ((q : ℕ) → q < WORD_BITS * place → has_bit words q ≡ true → q ≡ but) → word ≡ get_or words place 0 → ((j : ℕ) → j < WORD_BITS → word_bit rest j ≡ (word_bit word j && not (eqb (WORD_BITS * place + j) but))) → rest ≡ 0 → (q : ℕ) → q < WORD_BITS * (place + 1) → has_bit words q ≡ true → q ≡ but
+pub below_word : (words : List ℕ) (but place word rest : ℕ) → ((q : ℕ) → q < WORD_BITS * place → has_bit words q ≡ true → q ≡ but) →
+    word ≡ get_or words place 0 → ((j : ℕ) → j < WORD_BITS → word_bit rest j ≡ (word_bit word j && not (eqb (WORD_BITS * place + j) but))) → rest ≡ 0 →
+    (q : ℕ) → q < WORD_BITS * (place + 1) → has_bit words q ≡ true → q ≡ but
 below_word words but place word rest below at bits none q lt h = elim (cases_lt q (WORD_BITS * place)) [
   | inl less ↦ below q less h
   | inr ge ↦
       (let same : q / WORD_BITS ≡ place = omega arith in
       let whole : WORD_BITS * place + q % WORD_BITS ≡ q = omega arith in
-      let here : word_bit word (q % WORD_BITS) ≡ true = ap (λ (w : ℕ). word_bit w (q % WORD_BITS)) at ∙ (sym (has_bit-parts words q ∙ ap (λ (k : ℕ). word_bit (get_or words k 0) (q % WORD_BITS)) same) ∙ h) in
+      let here : word_bit word (q % WORD_BITS) ≡ true = ap (λ (w : ℕ). word_bit w (q % WORD_BITS)) at ∙
+      (sym (has_bit-parts words q ∙ ap (λ (k : ℕ). word_bit (get_or words k 0) (q % WORD_BITS)) same) ∙ h) in
       elim (cases_eq (WORD_BITS * place + q % WORD_BITS) but) [
         | inl e ↦ sym whole ∙ e
-        | inr ne ↦ absurd (true≢false (sym (bits (q % WORD_BITS) (square_parts q).1 ∙ (ap (λ (b : Bool). b && not (eqb (WORD_BITS * place + q % WORD_BITS) but)) here ∙ ap not (ne_eqb (WORD_BITS * place + q % WORD_BITS) but ne))) ∙ (ap (λ (w : ℕ). word_bit w (q % WORD_BITS)) none ∙ word_bit-zero (q % WORD_BITS))))
+        | inr ne ↦ absurd (true≢false (sym (bits (q % WORD_BITS) (square_parts q).1 ∙
+            (ap (λ (b : Bool). b && not (eqb (WORD_BITS * place + q % WORD_BITS) but)) here ∙ ap not (ne_eqb (WORD_BITS * place + q % WORD_BITS) but ne))) ∙
+            (ap (λ (w : ℕ). word_bit w (q % WORD_BITS)) none ∙ word_bit-zero (q % WORD_BITS))))
       ])
 ]
 
 -- the least of a word's squares but for `but`, or one that is less, is the least of all
-pub least_rest : (words : List ℕ) (but more place word rest r : ℕ) → ((q : ℕ) → q < WORD_BITS * place → has_bit words q ≡ true → q ≡ but) → word ≡ get_or words place 0 → ((j : ℕ) → j < WORD_BITS → word_bit rest j ≡ (word_bit word j && not (eqb (WORD_BITS * place + j) but))) → 0 < rest → rest < 2 ^ 64 → r ≡ min (WORD_BITS * place + trailing_zeros w64 rest) more → IsLeastWith (squares_of words) but more r
+pub least_rest : (words : List ℕ) (but more place word rest r : ℕ) → ((q : ℕ) → q < WORD_BITS * place → has_bit words q ≡ true → q ≡ but) →
+    word ≡ get_or words place 0 → ((j : ℕ) → j < WORD_BITS → word_bit rest j ≡ (word_bit word j && not (eqb (WORD_BITS * place + j) but))) → 0 < rest →
+    rest < 2 ^ 64 → r ≡ min (WORD_BITS * place + trailing_zeros w64 rest) more → IsLeastWith (squares_of words) but more r
 least_rest words but more place word rest r below at bits some fits e = record {
   one = elim (cases_lt more first) [
     | inl lt ↦ inl (omega arith)
@@ -247,7 +280,8 @@ least_rest words but more place word rest r below at bits some fits e = record {
     first : ℕ
     first = WORD_BITS * place + trailing_zeros w64 rest
 
-    low : (trailing_zeros w64 rest < WORD_BITS) × (word_bit rest (trailing_zeros w64 rest) ≡ true) × ((j : ℕ) → word_bit rest j ≡ true → trailing_zeros w64 rest ≤ j)
+    low : (trailing_zeros w64 rest < WORD_BITS) × (word_bit rest (trailing_zeros w64 rest) ≡ true) ×
+        ((j : ℕ) → word_bit rest j ≡ true → trailing_zeros w64 rest ≤ j)
     low = lowest_bit rest some fits
 
     parts : (word_bit word (trailing_zeros w64 rest) ≡ true) × (not (eqb first but) ≡ true)
@@ -266,15 +300,19 @@ least_rest words but more place word rest r below at bits some fits e = record {
     no_less q h ne = elim (cases_order (q / WORD_BITS) place) [
       | inl same ↦
           (let whole : WORD_BITS * place + q % WORD_BITS ≡ q = omega arith in
-          let here : word_bit word (q % WORD_BITS) ≡ true = ap (λ (w : ℕ). word_bit w (q % WORD_BITS)) at ∙ (sym (has_bit-parts words q ∙ ap (λ (k : ℕ). word_bit (get_or words k 0) (q % WORD_BITS)) same) ∙ h) in
-          let p = low.2 (q % WORD_BITS) (bits (q % WORD_BITS) (square_parts q).1 ∙ (ap (λ (b : Bool). b && not (eqb (WORD_BITS * place + q % WORD_BITS) but)) here ∙ ap not (ne_eqb (WORD_BITS * place + q % WORD_BITS) but (λ f. ne (sym whole ∙ f))))) in
+          let here : word_bit word (q % WORD_BITS) ≡ true = ap (λ (w : ℕ). word_bit w (q % WORD_BITS)) at ∙
+          (sym (has_bit-parts words q ∙ ap (λ (k : ℕ). word_bit (get_or words k 0) (q % WORD_BITS)) same) ∙ h) in
+          let p = low.2 (q % WORD_BITS) (bits (q % WORD_BITS) (square_parts q).1 ∙
+          (ap (λ (b : Bool). b && not (eqb (WORD_BITS * place + q % WORD_BITS) but)) here ∙
+          ap not (ne_eqb (WORD_BITS * place + q % WORD_BITS) but (λ f. ne (sym whole ∙ f))))) in
           omega (arith, p))
       | inr (inl less) ↦ absurd (ne (below q (omega arith) h))
       | inr (inr more_than) ↦ (let p = low.0 in omega (arith, p))
     ]
 
 -- where nothing is in the set but `but`, the one more is the least
-pub least_none : (words : List ℕ) (but more n : ℕ) → ((q : ℕ) → q < WORD_BITS * n → has_bit words q ≡ true → q ≡ but) → length words ≤ n → IsLeastWith (squares_of words) but more more
+pub least_none : (words : List ℕ) (but more n : ℕ) → ((q : ℕ) → q < WORD_BITS * n → has_bit words q ≡ true → q ≡ but) → length words ≤ n →
+    IsLeastWith (squares_of words) but more more
 least_none words but more n below all = record {
   one = inl refl;
   most = omega arith;

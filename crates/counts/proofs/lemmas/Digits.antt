@@ -1,5 +1,6 @@
 -- The digits that bytes begin with, and whether they are a count.
-use Rattle.std.proofs.Common.{◌≡◌, ℕ, zero, suc, ◌+◌, ◌<◌, ◌≤◌, Bool, true, false, cond, List, [], ◌∷◌, ◌++◌, ◌⊎◌, length, take, drop, refl, sym, ap, subst, ◌∙◌, inl, inr, arith}
+use Rattle.std.proofs.Common.{◌≡◌, ℕ, zero, suc, ◌+◌, ◌<◌, ◌≤◌, Bool, true, false, cond, List, [], ◌∷◌, ◌++◌, ◌⊎◌, length, take, drop, refl, sym, ap, subst}
+use Rattle.std.proofs.Common.{◌∙◌, inl, inr, arith}
 use Rattle.std.specs.Char.{is_ascii_digit}
 use Rattle.std.specs.List.{prefix_len}
 use Rattle.std.proofs.lemmas.Bool.{cases_lt}
@@ -10,7 +11,8 @@ use Rattle.counts.specs.NoCount.{IsNoCount}
 abbrev pub digit_count : List ℕ → ℕ
 digit_count bytes = prefix_len is_ascii_digit bytes
 
-front_by : (b : ℕ) (bs : List ℕ) (v : Bool) → is_ascii_digit b ≡ v → AreDigits (take (digit_count bs) bs) → AreDigits (take (cond v (1 + digit_count bs) 0) (b ∷ bs))
+front_by : (b : ℕ) (bs : List ℕ) (v : Bool) → is_ascii_digit b ≡ v → AreDigits (take (digit_count bs) bs) →
+    AreDigits (take (cond v (1 + digit_count bs) 0) (b ∷ bs))
 front_by b bs true is rest = let f : suc (digit_count bs) ≡ 1 + digit_count bs = omega arith in subst (λ n. AreDigits (take n (b ∷ bs))) f (is, rest)
 front_by b bs false is rest = tt
 
@@ -19,7 +21,8 @@ pub digits_in_front : (bytes : List ℕ) → AreDigits (take (digit_count bytes)
 digits_in_front [] = tt
 digits_in_front (b ∷ bs) = front_by b bs (is_ascii_digit b) refl (digits_in_front bs)
 
-end_by : (b : ℕ) (bs : List ℕ) (v : Bool) → is_ascii_digit b ≡ v → begins_with_digit (drop (digit_count bs) bs) ≡ false → begins_with_digit (drop (cond v (1 + digit_count bs) 0) (b ∷ bs)) ≡ false
+end_by : (b : ℕ) (bs : List ℕ) (v : Bool) → is_ascii_digit b ≡ v → begins_with_digit (drop (digit_count bs) bs) ≡ false →
+    begins_with_digit (drop (cond v (1 + digit_count bs) 0) (b ∷ bs)) ≡ false
 end_by b bs true is rest = let f : suc (digit_count bs) ≡ 1 + digit_count bs = omega arith in subst (λ n. begins_with_digit (drop n (b ∷ bs)) ≡ false) f rest
 end_by b bs false is rest = is
 
@@ -33,7 +36,8 @@ pub record SameRun (ds es m n : List ℕ) : Type 0 where
   pub digits : ds ≡ es
   pub more : m ≡ n
 
-pub one_run : (ds es m n : List ℕ) → AreDigits ds → AreDigits es → begins_with_digit m ≡ false → begins_with_digit n ≡ false → ds ++ m ≡ es ++ n → SameRun ds es m n
+pub one_run : (ds es m n : List ℕ) → AreDigits ds → AreDigits es → begins_with_digit m ≡ false → begins_with_digit n ≡ false → ds ++ m ≡ es ++ n →
+    SameRun ds es m n
 one_run [] [] m n all each none nothing same = record { digits = refl; more = same }
 one_run [] (e ∷ es) m n all each none nothing same = let f = ap begins_with_digit same in let g = each.0 in absurd cc
 one_run (d ∷ ds) [] m n all each none nothing same = let f = ap begins_with_digit same in let g = all.0 in absurd cc

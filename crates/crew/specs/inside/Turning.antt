@@ -20,7 +20,8 @@ ArePausedBy config task books trail positions = AreBetweenTurns task config.limi
 -- the books of a search by the configuration were at work on the layer, and this is how its last ranks left them
 abbrev pub AreWorkedBy : Config → LayerView → Worked → List BookView → Type 0
 AreWorkedBy config layer worked books =
-    (before : List BookView) × AreDealt layer.level config.limit (config.workers + 1) config.locks before × AreWorkingOn layer before × AreFinished config.limit before layer worked books
+    (before : List BookView) × AreDealt layer.level config.limit (config.workers + 1) config.locks before × AreWorkingOn layer before
+    × AreFinished config.limit before layer worked books
 
 -- how a turn ends: the search goes on with books that have closed the next layer; or there is an answer; or other books
 -- came back

@@ -1,5 +1,6 @@
 -- The least numbers of pushes of lone boxes, and what a push does to their sum.
-use Rattle.std.proofs.Common.{◌≡◌, ◌<◌, ◌≤◌, ◌+◌, ℕ, zero, suc, Bool, true, false, cond, nat_lt, eqb, ◌||◌, List, [], ◌∷◌, length, refl, sym, ap, subst, ◌∙◌, ◌⊎◌, inl, inr, arith}
+use Rattle.std.proofs.Common.{◌≡◌, ◌<◌, ◌≤◌, ◌+◌, ℕ, zero, suc, Bool, true, false, cond, nat_lt, eqb, ◌||◌, List, [], ◌∷◌, length, refl, sym, ap, subst, ◌∙◌}
+use Rattle.std.proofs.Common.{◌⊎◌, inl, inr, arith}
 use Rattle.std.proofs.lemmas.Bool.{false≢true, true≢false, cases_lt, eqb-true, or_parts, or_right}
 use Rattle.grid.specs.declared.dir.Dir.{Dir}
 use Rattle.grid.specs.declared.dir.Dir.TheVariants.{D, L, R, U}
@@ -47,9 +48,11 @@ both (inr never) b = inr (λ p. never p.0)
 -- a way that begins with a push in the direction
 abbrev FirstPush : Board → ℕ → ℕ → Dir → Type 0
 FirstPush board n q d =
-    (is_wall board q ≡ false) × ((is_wall board (next board q d) ≡ false) × ((is_wall board (next board q (opposite d)) ≡ false) × HasWay board (next board q d) n))
+    (is_wall board q ≡ false) ×
+    ((is_wall board (next board q d) ≡ false) × ((is_wall board (next board q (opposite d)) ≡ false) × HasWay board (next board q d) n))
 
-first_push : (board : Board) (n q : ℕ) (d : Dir) → HasWay board (next board q d) n ⊎ ¬ (HasWay board (next board q d) n) → FirstPush board n q d ⊎ ¬ (FirstPush board n q d)
+first_push : (board : Board) (n q : ℕ) (d : Dir) → HasWay board (next board q d) n ⊎ ¬ (HasWay board (next board q d) n) → FirstPush board n q d ⊎
+    ¬ (FirstPush board n q d)
 first_push board n q d rest =
     both (is_open (is_wall board q)) (both (is_open (is_wall board (next board q d))) (both (is_open (is_wall board (next board q (opposite d)))) rest))
 
@@ -104,7 +107,9 @@ least_from board q zero k none there = by_way (ways board k q)
     by_way : HasWay board q k ⊎ ¬ (HasWay board q k) → (m : ℕ) × IsFar board q m × (m ≤ k + 0)
     by_way (inl here) = (k, (here, least here), omega arith)
     by_way (inr out) = absurd (out (subst (HasWay board q) (let e : k + 0 ≡ k = omega arith in e) there))
-least_from board q (suc more) k none there = by_way (λ later. least_from board q more (suc k) later (subst (HasWay board q) (let e : k + suc more ≡ suc k + more = omega arith in e) there)) (ways board k q)
+least_from board q (suc more) k none there =
+    by_way (λ later. least_from board q more (suc k) later (subst (HasWay board q) (let e : k + suc more ≡ suc k + more = omega arith in e) there))
+    (ways board k q)
   where
     least : HasWay board q k → (way : Live board q) → k ≤ pushes_of way
     least here way = elim (cases_lt (pushes_of way) k) [
@@ -118,7 +123,8 @@ least_from board q (suc more) k none there = by_way (λ later. least_from board 
       | inr le ↦ λ way. out (subst (HasWay board q) (let e : j ≡ k = omega (arith, lt, le) in e) way)
     ]
 
-    by_way : (((j : ℕ) → j < suc k → ¬ (HasWay board q j)) → (m : ℕ) × IsFar board q m × (m ≤ suc k + more)) → HasWay board q k ⊎ ¬ (HasWay board q k) → (m : ℕ) × IsFar board q m × (m ≤ k + suc more)
+    by_way : (((j : ℕ) → j < suc k → ¬ (HasWay board q j)) → (m : ℕ) × IsFar board q m × (m ≤ suc k + more)) → HasWay board q k ⊎ ¬ (HasWay board q k) →
+        (m : ℕ) × IsFar board q m × (m ≤ k + suc more)
     by_way onwards (inl here) = (k, (here, least here), omega arith)
     by_way onwards (inr out) = let (m, far, le) = onwards (later out) in (m, far, omega (arith, le))
 
@@ -132,13 +138,15 @@ nearest board q n way =
 -- ---- one box more or less
 
 -- the sum with one box more
-lower_inserted : (board : Board) (xs : Squares) (r n : ℕ) → contains xs r ≡ false → IsLower board (insert xs r) n → (a b : ℕ) × IsFar board r a × IsLower board xs b × (n ≡ a + b)
+lower_inserted : (board : Board) (xs : Squares) (r n : ℕ) → contains xs r ≡ false → IsLower board (insert xs r) n → (a b : ℕ) × IsFar board r a ×
+    IsLower board xs b × (n ≡ a + b)
 lower_inserted board [] r n out lower = lower
 lower_inserted board (x ∷ xs) r n out lower =
     let parts = or_parts (eqb x r) (contains xs r) out in
     at_head (λ b. lower_inserted board xs r b parts.1) (nat_lt r x) (eqb x r) parts.0 lower
   where
-    at_head : ((b : ℕ) → IsLower board (insert xs r) b → (c e : ℕ) × IsFar board r c × IsLower board xs e × (b ≡ c + e)) → (lt eq : Bool) → eq ≡ false → IsLower board (cond lt (r ∷ x ∷ xs) (cond eq (x ∷ xs) (x ∷ insert xs r))) n → (a b : ℕ) × IsFar board r a × IsLower board (x ∷ xs) b × (n ≡ a + b)
+    at_head : ((b : ℕ) → IsLower board (insert xs r) b → (c e : ℕ) × IsFar board r c × IsLower board xs e × (b ≡ c + e)) → (lt eq : Bool) → eq ≡ false →
+        IsLower board (cond lt (r ∷ x ∷ xs) (cond eq (x ∷ xs) (x ∷ insert xs r))) n → (a b : ℕ) × IsFar board r a × IsLower board (x ∷ xs) b × (n ≡ a + b)
     at_head tail true eq apart (a, b, far, rest, sum) = (a, b, far, rest, sum)
     at_head tail false true apart all = absurd (true≢false apart)
     at_head tail false false apart (a, b, far, rest, sum) =
@@ -146,13 +154,16 @@ lower_inserted board (x ∷ xs) r n out lower =
         (c, a + e, there, (a, e, far, left, refl), omega (arith, sum, split))
 
 -- the sum where one box is put back
-lower_put_back : (board : Board) (k : ℕ) (xs : Squares) (q a b : ℕ) → rises_from k xs ≡ true → contains xs q ≡ true → IsFar board q a → IsLower board (remove xs q) b → IsLower board xs (a + b)
+lower_put_back : (board : Board) (k : ℕ) (xs : Squares) (q a b : ℕ) → rises_from k xs ≡ true → contains xs q ≡ true → IsFar board q a →
+    IsLower board (remove xs q) b → IsLower board xs (a + b)
 lower_put_back board k [] q a b rises here far lower = absurd (false≢true here)
 lower_put_back board k (x ∷ xs) q a b rises here far lower =
     let parts = rises_from-parts k x xs rises in
-    at_head (λ there e. lower_put_back board (suc x) xs q a e parts.1 there far) (λ same. remove_out xs q (contains-below (suc x) xs q parts.1 (omega (arith, same)))) (eqb x q) (eqb-true x q) here lower
+    at_head (λ there e. lower_put_back board (suc x) xs q a e parts.1 there far)
+    (λ same. remove_out xs q (contains-below (suc x) xs q parts.1 (omega (arith, same)))) (eqb x q) (eqb-true x q) here lower
   where
-    at_head : (contains xs q ≡ true → (e : ℕ) → IsLower board (remove xs q) e → IsLower board xs (a + e)) → (x ≡ q → remove xs q ≡ xs) → (eq : Bool) → (eq ≡ true → x ≡ q) → (eq || contains xs q) ≡ true → IsLower board (cond eq (remove xs q) (x ∷ remove xs q)) b → IsLower board (x ∷ xs) (a + b)
+    at_head : (contains xs q ≡ true → (e : ℕ) → IsLower board (remove xs q) e → IsLower board xs (a + e)) → (x ≡ q → remove xs q ≡ xs) → (eq : Bool) →
+        (eq ≡ true → x ≡ q) → (eq || contains xs q) ≡ true → IsLower board (cond eq (remove xs q) (x ∷ remove xs q)) b → IsLower board (x ∷ xs) (a + b)
     at_head tail gone true same there rest =
         let e = same refl in
         (a, b, subst (λ y. IsFar board y a) (sym e) far, subst (λ ys. IsLower board ys b) (gone e) rest, refl)
@@ -185,7 +196,8 @@ pub solved_need_none : (board : Board) → SolvedNeedNone board
 solved_need_none board s solved = goals_need_none board s.boxes solved
 
 -- a play that ends solved has as many pushes as its first boxes need
-played : (board : Board) (s t : Scene) (ds : List Dir) (ps : List Push) → IsScene board s → Play board Any s ds ps t → IsSolved board t → (n : ℕ) × IsLower board s.boxes n × (n ≤ length ps)
+played : (board : Board) (s t : Scene) (ds : List Dir) (ps : List Push) → IsScene board s → Play board Any s ds ps t → IsSolved board t → (n : ℕ) ×
+    IsLower board s.boxes n × (n ≤ length ps)
 played board s t ds ps scene (stay ok) solved = (0, solved_need_none board s solved, omega arith)
 played board s t (d ∷ ds) ps scene (walk {m = m} ok step play) solved =
     let (n, lower, le) = played board m t ds ps (scene_after_walk board s d m scene step) play solved in

@@ -11,7 +11,8 @@ use Rattle.doom.proofs.Peeling.{held_by_more}
 use Rattle.doom.proofs.Ways.{live_floor}
 
 -- a box that came to rest where it is loose is in no frozen set
-free_of_frozen : (board : Board) (boxes members : Squares) (q r : ℕ) → IsLoose board boxes q → IsFrozen board boxes members → q ≡ r → ¬ (IsBlocked board members r)
+free_of_frozen : (board : Board) (boxes members : Squares) (q r : ℕ) → IsLoose board boxes q → IsFrozen board boxes members → q ≡ r →
+    ¬ (IsBlocked board members r)
 free_of_frozen board boxes members q r loose frozen same blocked =
     loose.free (λ d. held_by_more board members boxes q d frozen.some (subst (IsBlocked board members) (sym same) blocked d))
 
@@ -42,6 +43,7 @@ live_inside board q live = elim (cases_lt q (length board.cells)) [
 ]
 
 -- a square that is not dead is loose exactly where it is told that nothing blocks it
-pub loose_by : (board : Board) (boxes : Squares) (q : ℕ) (told : Bool) → ¬ (IsDead board q) → IsTrue told ↔ IsBlocked board boxes q → IsTrue (not told) ↔ IsLoose board boxes q
+pub loose_by : (board : Board) (boxes : Squares) (q : ℕ) (told : Bool) → ¬ (IsDead board q) → IsTrue told ↔ IsBlocked board boxes q → IsTrue (not told) ↔
+    IsLoose board boxes q
 loose_by board boxes q true live is = (λ no. absurd (false≢true no), λ loose. absurd (loose.free (is.0 refl)))
 loose_by board boxes q false live is = (λ yes. record { live = live; free = λ blocked. false≢true (is.1 blocked) }, λ loose. refl)

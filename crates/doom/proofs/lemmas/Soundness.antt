@@ -12,22 +12,29 @@ use Rattle.doom.specs.Deadlocks.{home, onward, IsDead, IsFrozen, Doomed}
 use Rattle.doom.specs.Lost.{IsLost, AreLost, LosesBox, SolvesSafely}
 
 -- a box pushed from a dead square lands on a dead square
-dead_lands : (board : Board) (s t : Scene) (d : Dir) → IsScene board s → Pushes board s d t → IsDead board (next board s.player d) → IsDead board (next board (next board s.player d) d)
+dead_lands : (board : Board) (s t : Scene) (d : Dir) → IsScene board s → Pushes board s d t → IsDead board (next board s.player d) →
+    IsDead board (next board (next board s.player d) d)
 dead_lands board s t d scene (there, free, e) dead live =
     let box = scene.boxes _ there in
     let back = next_back board s.player d scene.player.0 box in
     dead (onward d box free.0 (ap (is_wall board) back ∙ scene.player.0) live)
 
 -- a dead box stays dead: it stands still or is pushed onto a dead square
-dead_box_stays : (board : Board) (s t : Scene) (d : Dir) (x : ℕ) → IsScene board s → Pushes board s d t → contains s.boxes x ≡ true → IsDead board x → Doomed board t.boxes
+dead_box_stays : (board : Board) (s t : Scene) (d : Dir) (x : ℕ) → IsScene board s → Pushes board s d t → contains s.boxes x ≡ true → IsDead board x →
+    Doomed board t.boxes
 dead_box_stays board s t d x scene pushed there dead =
     elim (eqb_tells x (next board s.player d)) [
-      | inl same ↦ inl (next board (next board s.player d) d, push_arrived board s d t pushed, dead_lands board s t d scene pushed (subst (IsDead board) same.1 dead))
+      | inl same ↦ inl (
+        next board (next board s.player d) d,
+        push_arrived board s d t pushed,
+        dead_lands board s t d scene pushed (subst (IsDead board) same.1 dead),
+      )
       | inr other ↦ inl (x, push_kept board s d t pushed x (λ e. other.1 (sym e)) there, dead)
     ]
 
 -- a frozen set without the pushed box stays as it is
-others_stay : (board : Board) (s t : Scene) (d : Dir) (members : Squares) → Pushes board s d t → IsFrozen board s.boxes members → contains members (next board s.player d) ≡ false → Doomed board t.boxes
+others_stay : (board : Board) (s t : Scene) (d : Dir) (members : Squares) → Pushes board s d t → IsFrozen board s.boxes members →
+    contains members (next board s.player d) ≡ false → Doomed board t.boxes
 others_stay board s t d members pushed frozen out =
     inr (
       members,
@@ -39,7 +46,8 @@ others_stay board s t d members pushed frozen out =
     )
 
 -- a frozen box that is pushed stands between two dead squares, and lands on one of them
-frozen_lands : (board : Board) (s t : Scene) (d : Dir) (members : Squares) → IsScene board s → Pushes board s d t → IsFrozen board s.boxes members → contains members (next board s.player d) ≡ true → IsDead board (next board (next board s.player d) d)
+frozen_lands : (board : Board) (s t : Scene) (d : Dir) (members : Squares) → IsScene board s → Pushes board s d t → IsFrozen board s.boxes members →
+    contains members (next board s.player d) ≡ true → IsDead board (next board (next board s.player d) d)
 frozen_lands board s t d members scene pushed frozen member =
     let back = next_back board s.player d scene.player.0 (scene.boxes _ pushed.0) in
     elim (frozen.blocked _ member d) [
@@ -51,11 +59,16 @@ frozen_lands board s t d members scene pushed frozen member =
     ]
 
 -- a push leaves a frozen set in place, or brings a box onto a dead square
-frozen_stays : (board : Board) (s t : Scene) (d : Dir) (members : Squares) → IsScene board s → Pushes board s d t → IsFrozen board s.boxes members → Doomed board t.boxes
+frozen_stays : (board : Board) (s t : Scene) (d : Dir) (members : Squares) → IsScene board s → Pushes board s d t → IsFrozen board s.boxes members →
+    Doomed board t.boxes
 frozen_stays board s t d members scene pushed frozen = by_member (contains members (next board s.player d)) refl
   where
     by_member : (b : Bool) → contains members (next board s.player d) ≡ b → Doomed board t.boxes
-    by_member true member = inl (next board (next board s.player d) d, push_arrived board s d t pushed, frozen_lands board s t d members scene pushed frozen member)
+    by_member true member = inl (
+      next board (next board s.player d) d,
+      push_arrived board s d t pushed,
+      frozen_lands board s t d members scene pushed frozen member,
+    )
     by_member false out = others_stay board s t d members pushed frozen out
 
 -- doomed boxes are doomed after a push

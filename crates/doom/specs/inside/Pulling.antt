@@ -1,5 +1,6 @@
 -- How the distances of squares are found: from each goal backwards, by pulls, turn after turn.
-use Rattle.std.specs.Prelude.{◌≡◌, ◌↔◌, ◌⊎◌, ◌+◌, ◌<◌, ◌≤◌, ℕ, suc, Bool, true, false, cond, is_some, Option, Some, None, List, [], ◌∷◌, ◌++◌, length, slice_index_or, slice_set}
+use Rattle.std.specs.Prelude.{◌≡◌, ◌↔◌, ◌⊎◌, ◌+◌, ◌<◌, ◌≤◌, ℕ, suc, Bool, true, false, cond, is_some, Option, Some, None, List, [], ◌∷◌, ◌++◌, length}
+use Rattle.std.specs.Prelude.{slice_index_or, slice_set}
 use Rattle.grid.specs.declared.dir.Dir.{Dir}
 use Rattle.grid.specs.Squares.{contains}
 use Rattle.grid.specs.Board.{Board, is_wall, is_goal, next, dir_number}
@@ -56,7 +57,8 @@ pub record IsSpread (board : Board) (Asked : ℕ → Type 0) (Due : ℕ → Dir 
   pub most : (q n : ℕ) → far_at far q ≡ Some n → n ≤ k
   pub before : (q : ℕ) → contains due q ≡ true → (n : ℕ) × (far_at far q ≡ Some n) × (suc n ≡ k)
   pub last : (q : ℕ) → contains marked q ≡ true → far_at far q ≡ Some k
-  pub closed : (q n : ℕ) → far_at far q ≡ Some n → (contains due q ≡ true) ⊎ ((contains marked q ≡ true) ⊎ ((d : Dir) → Due q d → CanPull board q d → IsKnownWithin far (next board q d) (suc n)))
+  pub closed : (q n : ℕ) → far_at far q ≡ Some n → (contains due q ≡ true) ⊎
+      ((contains marked q ≡ true) ⊎ ((d : Dir) → Due q d → CanPull board q d → IsKnownWithin far (next board q d) (suc n)))
 
 -- all goals, and pulls in all directions
 abbrev pub IsFilling : Board → ℕ → List (Option ℕ) → List ℕ → List ℕ → Type 0

@@ -1,5 +1,6 @@
 -- Laws of lawful levels, and of the state in which a level begins.
-use Rattle.std.proofs.Common.{◌≡◌, ◌≢◌, ℕ, ◌+◌, ◌*◌, ◌%◌, ◌≤◌, Bool, true, false, cond, eqb, ltb, length, get_or, Option, Some, None, refl, sym, ◌∙◌, mul-le-mul, div-add-mod', arith}
+use Rattle.std.proofs.Common.{◌≡◌, ◌≢◌, ℕ, ◌+◌, ◌*◌, ◌%◌, ◌≤◌, Bool, true, false, cond, eqb, ltb, length, get_or, Option, Some, None, refl, sym, ◌∙◌}
+use Rattle.std.proofs.Common.{mul-le-mul, div-add-mod', arith}
 use Rattle.std.proofs.lemmas.Bool.{eqb-true, eqb-false, ltb-false, false≢true}
 use Rattle.grid.specs.declared.limits.TheConstants.{MAX_ROWS, MAX_COLS, MAX_SQUARES}
 use Rattle.grid.specs.declared.fault.LevelFault.TheVariants.{TooTall, TooWide, NoPlayer, TwoPlayers, NoBox, Counts}
@@ -38,9 +39,15 @@ pub counts_of : (board : Board) → cell_fault board ≡ None → HasCounts boar
 counts_of board e =
     let tall = guard_none (ltb MAX_ROWS (row_count board)) TooTall (cond (ltb MAX_COLS board.cols) (Some TooWide) (count_fault board)) e in
     let wide = guard_none (ltb MAX_COLS board.cols) TooWide (count_fault board) tall.1 in
-    let one = guard_none (eqb (player_count board) 0) NoPlayer (cond (ltb 1 (player_count board)) (Some TwoPlayers) (cond (eqb (box_count board) 0) (Some NoBox) (cond (eqb (box_count board) (goal_count board)) None (Some (Counts (box_count board) (goal_count board)))))) wide.1 in
-    let two = guard_none (ltb 1 (player_count board)) TwoPlayers (cond (eqb (box_count board) 0) (Some NoBox) (cond (eqb (box_count board) (goal_count board)) None (Some (Counts (box_count board) (goal_count board))))) one.1 in
-    let some = guard_none (eqb (box_count board) 0) NoBox (cond (eqb (box_count board) (goal_count board)) None (Some (Counts (box_count board) (goal_count board)))) two.1 in
+    let one = guard_none (eqb (player_count board) 0) NoPlayer
+    (cond (ltb 1 (player_count board)) (Some TwoPlayers)
+    (cond (eqb (box_count board) 0) (Some NoBox)
+    (cond (eqb (box_count board) (goal_count board)) None (Some (Counts (box_count board) (goal_count board)))))) wide.1 in
+    let two = guard_none (ltb 1 (player_count board)) TwoPlayers
+    (cond (eqb (box_count board) 0) (Some NoBox)
+    (cond (eqb (box_count board) (goal_count board)) None (Some (Counts (box_count board) (goal_count board))))) one.1 in
+    let some = guard_none (eqb (box_count board) 0) NoBox
+    (cond (eqb (box_count board) (goal_count board)) None (Some (Counts (box_count board) (goal_count board)))) two.1 in
     let same = last_guard_none (eqb (box_count board) (goal_count board)) (Counts (box_count board) (goal_count board)) some.1 in
     let there : player_count board ≢ 0 = eqb-false (player_count board) 0 one.0 in
     let few : player_count board ≤ 1 = ltb-false 1 (player_count board) two.0 in
@@ -122,7 +129,11 @@ start_is_scene_with board one =
     record {
       rising = is_rising-places_from box_cell 0 board.cells;
       boxes = λ q box. box_no_wall (get_or board.cells q Wall) (sym (contains-places box_cell board.cells q Wall refl) ∙ box);
-      player = (player_no_wall (get_or board.cells (start_player board) Wall) here, contains-places box_cell board.cells (start_player board) Wall refl ∙ player_no_box (get_or board.cells (start_player board) Wall) here);
+      player = (
+        player_no_wall (get_or board.cells (start_player board) Wall) here,
+        contains-places box_cell board.cells (start_player board) Wall refl ∙
+            player_no_box (get_or board.cells (start_player board) Wall) here,
+      );
     }
 
 -- a level begins in a state
@@ -136,4 +147,8 @@ start_fits board level = record { scene = start_is_scene board level; boxes = le
 
 -- a step keeps the number of boxes that fits
 pub fits_after_step : (board : Board) (s : Scene) (d : Dir) (did : Step) (t : Scene) → FitsLevel board s → Steps board s d did t → FitsLevel board t
-fits_after_step board s d did t fits h = record { scene = scene_after_step board s d did t fits.scene h; boxes = length-step board s d did t fits.scene h ∙ fits.boxes }
+fits_after_step board s d did t fits h = record {
+  scene = scene_after_step board s d did t fits.scene h;
+  boxes = length-step board s d did t fits.scene h ∙
+      fits.boxes;
+}

@@ -1,5 +1,6 @@
 -- Laws of the orders of directions, pushes, lists and solutions.
-use Rattle.std.proofs.Common.{◌≡◌, ℕ, suc, ◌+◌, ◌<◌, ◌≤◌, false, List, [], ◌∷◌, ◌++◌, length, ◌⊎◌, inl, inr, refl, sym, ap, subst, ◌∙◌, arith, Ordering, Less, Equal, Greater, nat_cmp, is_gt}
+use Rattle.std.proofs.Common.{◌≡◌, ℕ, suc, ◌+◌, ◌<◌, ◌≤◌, false, List, [], ◌∷◌, ◌++◌, length, ◌⊎◌, inl, inr, refl, sym, ap, subst, ◌∙◌, arith, Ordering, Less}
+use Rattle.std.proofs.Common.{Equal, Greater, nat_cmp, is_gt}
 use Rattle.std.specs.Ordering.{ordering_then, ordering_reverse}
 use Rattle.std.specs.Cmp.{IsTotalOrder}
 use Rattle.std.specs.Cmp.Lexicographic.{slice_cmp}
@@ -51,7 +52,8 @@ then-none Greater = refl
 -- ---- what the laws of an order give
 
 -- of two that don't come after each other each is the other
-pub same_since_tied : {K : Type 0} {C : K → K → Ordering} → IsTotalOrder C → CmpEqualImpliesEq C → (x y : K) → is_gt (C x y) ≡ false → is_gt (C y x) ≡ false → x ≡ y
+pub same_since_tied : {K : Type 0} {C : K → K → Ordering} → IsTotalOrder C → CmpEqualImpliesEq C → (x y : K) → is_gt (C x y) ≡ false → is_gt (C y x) ≡ false →
+    x ≡ y
 same_since_tied {C = C} order exact x y p q = exact x y (tied (C x y) (C y x) (order.antisymm x y) p q)
   where
     tied : (a b : Ordering) → a ≡ ordering_reverse b → is_gt a ≡ false → is_gt b ≡ false → a ≡ Equal
@@ -87,7 +89,8 @@ pub not_gt_itself : {K : Type 0} {C : K → K → Ordering} → IsTotalOrder C �
 not_gt_itself {C = C} order x = not_gt_since_equal (C x x) (tied_itself order x)
 
 -- what comes before something that does not come after a third comes before the third
-pub less_then_not_gt : {K : Type 0} {C : K → K → Ordering} → IsTotalOrder C → CmpEqualImpliesEq C → (x y z : K) → C x y ≡ Less → is_gt (C y z) ≡ false → C x z ≡ Less
+pub less_then_not_gt : {K : Type 0} {C : K → K → Ordering} → IsTotalOrder C → CmpEqualImpliesEq C → (x y z : K) → C x y ≡ Less → is_gt (C y z) ≡ false →
+    C x z ≡ Less
 less_then_not_gt {C = C} order exact x y z p q = by_second (C y z) refl q
   where
     by_second : (a : Ordering) → C y z ≡ a → is_gt a ≡ false → C x z ≡ Less
@@ -182,7 +185,8 @@ slice_cmp_exact {C = C} exact (x ∷ xs) (y ∷ ys) h =
     cc (heads, tails)
 
 -- fronts of one length are compared first
-pub slice_cmp-append : {K : Type 0} (C : K → K → Ordering) (xs ys us vs : List K) → length xs ≡ length ys → slice_cmp C (xs ++ us) (ys ++ vs) ≡ ordering_then (slice_cmp C xs ys) (slice_cmp C us vs)
+pub slice_cmp-append : {K : Type 0} (C : K → K → Ordering) (xs ys us vs : List K) → length xs ≡ length ys →
+    slice_cmp C (xs ++ us) (ys ++ vs) ≡ ordering_then (slice_cmp C xs ys) (slice_cmp C us vs)
 slice_cmp-append C [] [] us vs e = refl
 slice_cmp-append C [] (y ∷ ys) us vs e = absurd (omega arith)
 slice_cmp-append C (x ∷ xs) [] us vs e = absurd (omega arith)
@@ -191,7 +195,8 @@ slice_cmp-append C (x ∷ xs) (y ∷ ys) us vs e =
     ∙ sym (then-assoc (C x y) (slice_cmp C xs ys) (slice_cmp C us vs))
 
 -- one more element behind each of two lists of one length
-pub slice_cmp-push : {K : Type 0} (C : K → K → Ordering) (xs ys : List K) (x y : K) → length xs ≡ length ys → slice_cmp C (xs ++ x ∷ []) (ys ++ y ∷ []) ≡ ordering_then (slice_cmp C xs ys) (C x y)
+pub slice_cmp-push : {K : Type 0} (C : K → K → Ordering) (xs ys : List K) (x y : K) → length xs ≡ length ys →
+    slice_cmp C (xs ++ x ∷ []) (ys ++ y ∷ []) ≡ ordering_then (slice_cmp C xs ys) (C x y)
 slice_cmp-push C xs ys x y e =
     slice_cmp-append C xs ys (x ∷ []) (y ∷ []) e ∙ ap (λ (o : Ordering). ordering_then (slice_cmp C xs ys) o) (then-none (C x y))
 
@@ -218,7 +223,8 @@ pub shortlex-length : {K : Type 0} (C : K → K → Ordering) (xs ys : List K) �
 shortlex-length C xs ys h = nat_cmp-not_gt (length xs) (length ys) (then-first (nat_cmp (length xs) (length ys)) (slice_cmp C xs ys) h)
 
 -- one more element behind each of two lists
-pub shortlex-push : {K : Type 0} (C : K → K → Ordering) (xs ys : List K) (x y : K) → shortlex C (xs ++ x ∷ []) (ys ++ y ∷ []) ≡ ordering_then (shortlex C xs ys) (C x y)
+pub shortlex-push : {K : Type 0} (C : K → K → Ordering) (xs ys : List K) (x y : K) →
+    shortlex C (xs ++ x ∷ []) (ys ++ y ∷ []) ≡ ordering_then (shortlex C xs ys) (C x y)
 shortlex-push C xs ys x y = pushed (nat_cmp (length xs) (length ys)) refl
   where
     lengths : nat_cmp (length (xs ++ x ∷ [])) (length (ys ++ y ∷ [])) ≡ nat_cmp (length xs) (length ys)
@@ -230,14 +236,16 @@ shortlex-push C xs ys x y = pushed (nat_cmp (length xs) (length ys)) refl
     pushed Greater e = rw (lengths, e) refl
 
 -- parts of one length each are compared one after the other
-pub shortlex-append : {K : Type 0} (C : K → K → Ordering) (xs ys us vs : List K) → length xs ≡ length ys → length us ≡ length vs → shortlex C (xs ++ us) (ys ++ vs) ≡ ordering_then (shortlex C xs ys) (shortlex C us vs)
+pub shortlex-append : {K : Type 0} (C : K → K → Ordering) (xs ys us vs : List K) → length xs ≡ length ys → length us ≡ length vs →
+    shortlex C (xs ++ us) (ys ++ vs) ≡ ordering_then (shortlex C xs ys) (shortlex C us vs)
 shortlex-append C xs ys us vs e f =
     shortlex-even C (xs ++ us) (ys ++ vs) (let a = length-append xs us in let b = length-append ys vs in omega arith)
     ∙ (slice_cmp-append C xs ys us vs e
     ∙ rw (shortlex-even C xs ys e, shortlex-even C us vs f) refl)
 
 -- where neither part comes after the other list's, the whole does not
-pub shortlex-append_not_gt : {K : Type 0} (C : K → K → Ordering) (xs ys us vs : List K) → is_gt (shortlex C xs ys) ≡ false → is_gt (shortlex C us vs) ≡ false → is_gt (shortlex C (xs ++ us) (ys ++ vs)) ≡ false
+pub shortlex-append_not_gt : {K : Type 0} (C : K → K → Ordering) (xs ys us vs : List K) → is_gt (shortlex C xs ys) ≡ false → is_gt (shortlex C us vs) ≡ false →
+    is_gt (shortlex C (xs ++ us) (ys ++ vs)) ≡ false
 shortlex-append_not_gt C xs ys us vs p q = by_lengths (cases_order (length xs + length us) (length ys + length vs))
   where
     front : length xs ≤ length ys
@@ -252,8 +260,10 @@ shortlex-append_not_gt C xs ys us vs p q = by_lengths (cases_order (length xs + 
     other : length (ys ++ vs) ≡ length ys + length vs
     other = length-append ys vs
 
-    by_lengths : (length xs + length us ≡ length ys + length vs) ⊎ ((length xs + length us < length ys + length vs) ⊎ (length ys + length vs < length xs + length us)) → is_gt (shortlex C (xs ++ us) (ys ++ vs)) ≡ false
-    by_lengths (inl e) = rw (shortlex-append C xs ys us vs (omega (arith, front, behind)) (omega (arith, front, behind))) (then-not_gt (shortlex C xs ys) (shortlex C us vs) p q)
+    by_lengths : (length xs + length us ≡ length ys + length vs) ⊎
+        ((length xs + length us < length ys + length vs) ⊎ (length ys + length vs < length xs + length us)) → is_gt (shortlex C (xs ++ us) (ys ++ vs)) ≡ false
+    by_lengths (inl e) = rw (shortlex-append C xs ys us vs (omega (arith, front, behind)) (omega (arith, front, behind)))
+        (then-not_gt (shortlex C xs ys) (shortlex C us vs) p q)
     by_lengths (inr (inl lt)) = rw (shortlex-shorter C (xs ++ us) (ys ++ vs) (omega (arith, whole, other))) refl
     by_lengths (inr (inr gt)) = absurd (omega (arith, front, behind))
 
@@ -271,7 +281,8 @@ pair_cmp x y = solution_cmp x.0 x.1 y.0 y.1
 
 -- it is total
 pub solution_cmp_total : IsTotalOrder pair_cmp
-solution_cmp_total = then_total (on_total (λ (x : List Dir × List Push). x.1) (shortlex_total push_cmp_total)) (on_total (λ (x : List Dir × List Push). x.0) (shortlex_total dir_cmp_total))
+solution_cmp_total = then_total (on_total (λ (x : List Dir × List Push). x.1) (shortlex_total push_cmp_total))
+    (on_total (λ (x : List Dir × List Push). x.0) (shortlex_total dir_cmp_total))
 
 -- what it does not tell apart is equal
 pub solution_cmp_exact : (ds es : List Dir) (ps qs : List Push) → solution_cmp ds ps es qs ≡ Equal → (ds ≡ es) × (ps ≡ qs)
@@ -299,7 +310,8 @@ solutions_either ds es ps qs =
     ]
 
 -- of two solutions that don't come after each other each is the other
-pub same_solution : (ds es : List Dir) (ps qs : List Push) → is_gt (solution_cmp ds ps es qs) ≡ false → is_gt (solution_cmp es qs ds ps) ≡ false → (ds ≡ es) × (ps ≡ qs)
+pub same_solution : (ds es : List Dir) (ps qs : List Push) → is_gt (solution_cmp ds ps es qs) ≡ false → is_gt (solution_cmp es qs ds ps) ≡ false → (ds ≡ es) ×
+    (ps ≡ qs)
 same_solution ds es ps qs p q =
     let e = same_since_tied solution_cmp_total pair_cmp_exact (ds, ps) (es, qs) p q in
     (ap (λ (x : List Dir × List Push). x.0) e, ap (λ (x : List Dir × List Push). x.1) e)
@@ -313,5 +325,6 @@ pub solution_same : (board : Board) (ds : List Dir) (ps qs : List Push) → IsSo
 solution_same board ds ps qs one two = (play_same one.1 two.1).0
 
 -- there is one least solution
-pub least_solution_same : (board : Board) (ds es : List Dir) (ps qs : List Push) → IsLeastSolution board ds ps → IsLeastSolution board es qs → (ds ≡ es) × (ps ≡ qs)
+pub least_solution_same : (board : Board) (ds es : List Dir) (ps qs : List Push) → IsLeastSolution board ds ps → IsLeastSolution board es qs → (ds ≡ es) ×
+    (ps ≡ qs)
 least_solution_same board ds es ps qs one two = same_solution ds es ps qs (one.1 es qs two.0) (two.1 ds ps one.0)

@@ -1,5 +1,6 @@
 -- Steps of loops that collect places, and edits of rising lists at a place.
-use Rattle.std.proofs.Common.{◌≡◌, ◌≢◌, ℕ, zero, suc, ◌+◌, ◌<◌, ◌≤◌, Bool, true, false, cond, eqb, ltb, ◌||◌, List, [], ◌∷◌, ◌++◌, length, get_or, take, count_by, refl, sym, ap, subst, ◌∙◌, arith}
+use Rattle.std.proofs.Common.{◌≡◌, ◌≢◌, ℕ, zero, suc, ◌+◌, ◌<◌, ◌≤◌, Bool, true, false, cond, eqb, ltb, ◌||◌, List, [], ◌∷◌, ◌++◌, length, get_or, take}
+use Rattle.std.proofs.Common.{count_by, refl, sym, ap, subst, ◌∙◌, arith}
 use Rattle.std.specs.List.{prefix_len, list_any, insert as insert_at, remove as remove_at}
 use Rattle.std.proofs.lemmas.Bool.{eqb-true, eqb-false, eq-eqb, ltb-true, ltb-false, le-ltb, or_right, true≢false, false≢true}
 use Rattle.std.proofs.lemmas.List.{take_more, length-take-le}
@@ -35,7 +36,9 @@ remove_place_from k (x ∷ xs) q h here =
     let p = rises_from-parts k x xs h in
     at (ltb x q) (eqb x q) (ltb-true x q) (ltb-false x q) (eqb-true x q) (eqb-false x q) p.1 here (λ there. remove_place_from (suc x) xs q p.1 there)
   where
-    at : (lt eq : Bool) → (lt ≡ true → x < q) → (lt ≡ false → q ≤ x) → (eq ≡ true → x ≡ q) → (eq ≡ false → x ≢ q) → rises_from (suc x) xs ≡ true → (eq || contains xs q) ≡ true → (contains xs q ≡ true → remove_at xs (prefix_len (λ y. ltb y q) xs) ≡ remove xs q) → remove_at (x ∷ xs) (cond lt (1 + prefix_len (λ y. ltb y q) xs) 0) ≡ cond eq (remove xs q) (x ∷ remove xs q)
+    at : (lt eq : Bool) → (lt ≡ true → x < q) → (lt ≡ false → q ≤ x) → (eq ≡ true → x ≡ q) → (eq ≡ false → x ≢ q) → rises_from (suc x) xs ≡ true →
+        (eq || contains xs q) ≡ true → (contains xs q ≡ true → remove_at xs (prefix_len (λ y. ltb y q) xs) ≡ remove xs q) →
+        remove_at (x ∷ xs) (cond lt (1 + prefix_len (λ y. ltb y q) xs) 0) ≡ cond eq (remove xs q) (x ∷ remove xs q)
     at true true less more same apart rest here induct = absurd (omega (arith, less refl, same refl))
     at true false less more same apart rest here induct =
         let e : 1 + prefix_len (λ y. ltb y q) xs ≡ suc (prefix_len (λ y. ltb y q) xs) = omega arith in
@@ -49,9 +52,12 @@ remove_place xs q h here = remove_place_from 0 xs q h here
 -- what is no member is put in before the elements that are greater
 pub insert_place : (xs : Squares) (q : ℕ) → contains xs q ≡ false → insert_at xs (prefix_len (λ x. ltb x q) xs) q ≡ insert xs q
 insert_place [] q out = refl
-insert_place (x ∷ xs) q out = at (ltb x q) (ltb q x) (eqb x q) (ltb-true x q) (ltb-false x q) (ltb-true q x) (ltb-false q x) (eqb-false x q) out (insert_place xs q)
+insert_place (x ∷ xs) q out = at (ltb x q) (ltb q x) (eqb x q) (ltb-true x q) (ltb-false x q) (ltb-true q x) (ltb-false q x) (eqb-false x q) out
+    (insert_place xs q)
   where
-    at : (lt gt eq : Bool) → (lt ≡ true → x < q) → (lt ≡ false → q ≤ x) → (gt ≡ true → q < x) → (gt ≡ false → x ≤ q) → (eq ≡ false → x ≢ q) → (eq || contains xs q) ≡ false → (contains xs q ≡ false → insert_at xs (prefix_len (λ y. ltb y q) xs) q ≡ insert xs q) → insert_at (x ∷ xs) (cond lt (1 + prefix_len (λ y. ltb y q) xs) 0) q ≡ cond gt (q ∷ x ∷ xs) (cond eq (x ∷ xs) (x ∷ insert xs q))
+    at : (lt gt eq : Bool) → (lt ≡ true → x < q) → (lt ≡ false → q ≤ x) → (gt ≡ true → q < x) → (gt ≡ false → x ≤ q) → (eq ≡ false → x ≢ q) →
+        (eq || contains xs q) ≡ false → (contains xs q ≡ false → insert_at xs (prefix_len (λ y. ltb y q) xs) q ≡ insert xs q) →
+        insert_at (x ∷ xs) (cond lt (1 + prefix_len (λ y. ltb y q) xs) 0) q ≡ cond gt (q ∷ x ∷ xs) (cond eq (x ∷ xs) (x ∷ insert xs q))
     at lt gt true less le more ge apart out' induct = absurd (true≢false out')
     at true true false less le more ge apart out' induct = absurd (omega (arith, less refl, more refl))
     at true false false less le more ge apart out' induct =
@@ -65,7 +71,8 @@ pub place_inside : (xs : Squares) (q : ℕ) → contains xs q ≡ true → prefi
 place_inside [] q here = absurd (false≢true here)
 place_inside (x ∷ xs) q here = at (ltb x q) (eqb x q) (ltb-true x q) (eqb-true x q) here (place_inside xs q)
   where
-    at : (lt eq : Bool) → (lt ≡ true → x < q) → (eq ≡ true → x ≡ q) → (eq || contains xs q) ≡ true → (contains xs q ≡ true → prefix_len (λ y. ltb y q) xs < length xs) → cond lt (1 + prefix_len (λ y. ltb y q) xs) 0 < suc (length xs)
+    at : (lt eq : Bool) → (lt ≡ true → x < q) → (eq ≡ true → x ≡ q) → (eq || contains xs q) ≡ true →
+        (contains xs q ≡ true → prefix_len (λ y. ltb y q) xs < length xs) → cond lt (1 + prefix_len (λ y. ltb y q) xs) 0 < suc (length xs)
     at true true less same here' induct = absurd (omega (arith, less refl, same refl))
     at true false less same here' induct = let h = induct here' in omega arith
     at false eq less same here' induct = omega arith
@@ -75,7 +82,8 @@ pub no_wall : (board : Board) (xs : Squares) (q : ℕ) → list_any (is_wall boa
 no_wall board [] q h here = absurd (false≢true here)
 no_wall board (x ∷ xs) q h here = at (is_wall board x) (eqb x q) refl (eqb-true x q) h here (no_wall board xs q)
   where
-    at : (wall eq : Bool) → is_wall board x ≡ wall → (eq ≡ true → x ≡ q) → (wall || list_any (is_wall board) xs) ≡ false → (eq || contains xs q) ≡ true → (list_any (is_wall board) xs ≡ false → contains xs q ≡ true → is_wall board q ≡ false) → is_wall board q ≡ false
+    at : (wall eq : Bool) → is_wall board x ≡ wall → (eq ≡ true → x ≡ q) → (wall || list_any (is_wall board) xs) ≡ false → (eq || contains xs q) ≡ true →
+        (list_any (is_wall board) xs ≡ false → contains xs q ≡ true → is_wall board q ≡ false) → is_wall board q ≡ false
     at true eq we same h' here' induct = absurd (true≢false h')
     at false true we same h' here' induct = subst (λ (y : ℕ). is_wall board y ≡ false) (same refl) we
     at false false we same h' here' induct = induct h' here'
@@ -100,7 +108,9 @@ lesser_from : (k q : ℕ) (xs : Squares) → rises_from k xs ≡ true → count_
 lesser_from k q [] h = refl
 lesser_from k q (x ∷ xs) h =
     let p = rises_from-parts k x xs h in
-    sum_by-cons (λ (y : ℕ). cond {A = ℕ} (ltb y q) 1 0) x xs ∙ step (ltb x q) (count_by (λ (y : ℕ). ltb y q) xs) (prefix_len (λ (y : ℕ). ltb y q) xs) (lesser_from (suc x) q xs p.1) (λ e. (let ge = ltb-false x q e in none_less (suc x) q xs (omega (arith, ge)) p.1))
+    sum_by-cons (λ (y : ℕ). cond {A = ℕ} (ltb y q) 1 0) x xs ∙
+    step (ltb x q) (count_by (λ (y : ℕ). ltb y q) xs) (prefix_len (λ (y : ℕ). ltb y q) xs) (lesser_from (suc x) q xs p.1) (λ e. (let ge = ltb-false x q e in
+    none_less (suc x) q xs (omega (arith, ge)) p.1))
   where
     step : (b : Bool) (m n : ℕ) → m ≡ n → (b ≡ false → m ≡ 0) → cond {A = ℕ} b 1 0 + m ≡ cond b (1 + n) 0
     step true m n same none = omega (arith, same)
@@ -123,7 +133,8 @@ place_from k (x ∷ xs) (suc n) q h lt e =
     let there : contains xs q ≡ true = subst (λ (y : ℕ). contains xs y ≡ true) e (contains-get_or xs n 0 (omega (arith, lt))) in
     at (ltb x q) (ltb-false x q) p.1 there (place_from (suc x) xs n q p.1 (omega (arith, lt)) e)
   where
-    at : (b : Bool) → (b ≡ false → q ≤ x) → rises_from (suc x) xs ≡ true → contains xs q ≡ true → n ≡ prefix_len (λ y. ltb y q) xs → suc n ≡ cond b (1 + prefix_len (λ y. ltb y q) xs) 0
+    at : (b : Bool) → (b ≡ false → q ≤ x) → rises_from (suc x) xs ≡ true → contains xs q ≡ true → n ≡ prefix_len (λ y. ltb y q) xs →
+        suc n ≡ cond b (1 + prefix_len (λ y. ltb y q) xs) 0
     at true le rest there rec = omega (arith, rec)
     at false le rest there rec = absurd (false≢true (sym (contains-below (suc x) xs q rest (let l = le refl in omega (arith, l))) ∙ there))
 

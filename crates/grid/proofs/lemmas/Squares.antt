@@ -1,6 +1,8 @@
 -- Laws of sets of squares.
-use Rattle.std.proofs.Common.{◌≡◌, ◌≢◌, ℕ, zero, suc, ◌+◌, ◌<◌, ◌≤◌, Bool, true, false, not, cond, eqb, ltb, leb, ◌&&◌, ◌||◌, List, [], ◌∷◌, ◌++◌, length, get_or, ◌⊎◌, inl, inr, refl, sym, ap, subst, ◌∙◌, arith}
-use Rattle.std.proofs.lemmas.Bool.{eqb-true, eqb-false, eq-eqb, ne_eqb, ltb-true, ltb-false, leb-true, le-leb, and_parts, and_from, cases_eq, cases_order, true≢false, false≢true}
+use Rattle.std.proofs.Common.{◌≡◌, ◌≢◌, ℕ, zero, suc, ◌+◌, ◌<◌, ◌≤◌, Bool, true, false, not, cond, eqb, ltb, leb, ◌&&◌, ◌||◌, List, [], ◌∷◌, ◌++◌, length}
+use Rattle.std.proofs.Common.{get_or, ◌⊎◌, inl, inr, refl, sym, ap, subst, ◌∙◌, arith}
+use Rattle.std.proofs.lemmas.Bool.{eqb-true, eqb-false, eq-eqb, ne_eqb, ltb-true, ltb-false, leb-true, le-leb, and_parts, and_from, cases_eq, cases_order}
+use Rattle.std.proofs.lemmas.Bool.{true≢false, false≢true}
 use Rattle.grid.specs.Squares.{Squares, contains, remove, insert}
 use Rattle.grid.specs.Rising.{rises_from, is_rising}
 
@@ -43,7 +45,8 @@ contains_tail x xs q h = or_true (eqb x q) (contains xs q) h
     or_true true b e = refl
     or_true false b e = e
 
-insert_at : (x : ℕ) (xs : Squares) (q r : ℕ) (lt eq : Bool) → (eq ≡ true → x ≡ q) → contains (insert xs q) r ≡ (eqb q r || contains xs r) → contains (cond lt (q ∷ x ∷ xs) (cond eq (x ∷ xs) (x ∷ insert xs q))) r ≡ (eqb q r || (eqb x r || contains xs r))
+insert_at : (x : ℕ) (xs : Squares) (q r : ℕ) (lt eq : Bool) → (eq ≡ true → x ≡ q) → contains (insert xs q) r ≡ (eqb q r || contains xs r) →
+    contains (cond lt (q ∷ x ∷ xs) (cond eq (x ∷ xs) (x ∷ insert xs q))) r ≡ (eqb q r || (eqb x r || contains xs r))
 insert_at x xs q r true eq same h = refl
 insert_at x xs q r false true same h = rw (same refl) (or_twice (eqb q r) (contains xs r))
 insert_at x xs q r false false same h = rw h (or_swap (eqb x r) (eqb q r) (contains xs r))
@@ -75,7 +78,9 @@ contains-insert_cases xs q r h = cases_of (eqb q r) (contains xs r) (eqb-true q 
 
 -- ---- members after a remove
 
-remove_at : (x : ℕ) (xs : Squares) (q r : ℕ) (eq : Bool) → (eq ≡ true → x ≡ q) → (eq ≡ false → x ≢ q) → contains (remove xs q) r ≡ (not (eqb q r) && contains xs r) → contains (cond eq (remove xs q) (x ∷ remove xs q)) r ≡ (not (eqb q r) && (eqb x r || contains xs r))
+remove_at : (x : ℕ) (xs : Squares) (q r : ℕ) (eq : Bool) → (eq ≡ true → x ≡ q) → (eq ≡ false → x ≢ q) →
+    contains (remove xs q) r ≡ (not (eqb q r) && contains xs r) →
+    contains (cond eq (remove xs q) (x ∷ remove xs q)) r ≡ (not (eqb q r) && (eqb x r || contains xs r))
 remove_at x xs q r true same apart h = rw (same refl) (h ∙ without_twice (eqb q r) (contains xs r))
 remove_at x xs q r false same apart h = rw h (without_swap (eqb x r) (eqb q r) (contains xs r) (λ a b. apart refl (eqb-true x r a ∙ sym (eqb-true q r b))))
 
@@ -156,7 +161,8 @@ same_from k (x ∷ xs) (y ∷ ys) hx hy same =
     let r = rises_from-parts k y ys hy in
     let heads : x ≡ y = elim (cases_order x y) [
       | inl e ↦ e
-      | inr (inl lt) ↦ absurd (false≢true (sym (contains-below y (y ∷ ys) x (rises_from-cons y y ys (omega arith) r.1) lt) ∙ (sym (same x) ∙ contains_head x xs)))
+      | inr (inl lt) ↦ absurd (false≢true (sym (contains-below y (y ∷ ys) x (rises_from-cons y y ys (omega arith) r.1) lt) ∙
+          (sym (same x) ∙ contains_head x xs)))
       | inr (inr gt) ↦ absurd (false≢true (sym (contains-below x (x ∷ xs) y (rises_from-cons x x xs (omega arith) p.1) gt) ∙ (same y ∙ contains_head y ys)))
     ] in
     let rest : rises_from (suc x) ys ≡ true = rw heads r.1 in
@@ -174,11 +180,15 @@ pub same_set : (xs ys : Squares) → is_rising xs ≡ true → is_rising ys ≡ 
 same_set xs ys hx hy same = same_from 0 xs ys hx hy same
 
 -- two sets, each of which has the members of the other, are equal
-pub same_set_both : (xs ys : Squares) → is_rising xs ≡ true → is_rising ys ≡ true → ((q : ℕ) → contains xs q ≡ true → contains ys q ≡ true) → ((q : ℕ) → contains ys q ≡ true → contains xs q ≡ true) → xs ≡ ys
+pub same_set_both : (xs ys : Squares) → is_rising xs ≡ true → is_rising ys ≡ true → ((q : ℕ) → contains xs q ≡ true → contains ys q ≡ true) →
+    ((q : ℕ) → contains ys q ≡ true → contains xs q ≡ true) → xs ≡ ys
 same_set_both xs ys hx hy to from = same_set xs ys hx hy (λ q. same_bool (contains xs q) (contains ys q) (to q) (from q))
 
-insert_rises_at : (k x : ℕ) (xs : List ℕ) (q : ℕ) (lt eq : Bool) → k ≤ q → k ≤ x → rises_from (suc x) xs ≡ true → (lt ≡ true → q < x) → (lt ≡ false → x ≤ q) → (eq ≡ false → x ≢ q) → (suc x ≤ q → rises_from (suc x) (insert xs q) ≡ true) → rises_from k (cond lt (q ∷ x ∷ xs) (cond eq (x ∷ xs) (x ∷ insert xs q))) ≡ true
-insert_rises_at k x xs q true eq kq kx h less more apart rest = let lt : q < x = less refl in rises_from-cons k q (x ∷ xs) kq (rises_from-cons (suc q) x xs (omega arith) h)
+insert_rises_at : (k x : ℕ) (xs : List ℕ) (q : ℕ) (lt eq : Bool) → k ≤ q → k ≤ x → rises_from (suc x) xs ≡ true → (lt ≡ true → q < x) → (lt ≡ false → x ≤ q) →
+    (eq ≡ false → x ≢ q) → (suc x ≤ q → rises_from (suc x) (insert xs q) ≡ true) → rises_from k (cond lt (q ∷ x ∷ xs) (cond eq (x ∷ xs) (x ∷ insert xs q))) ≡
+    true
+insert_rises_at k x xs q true eq kq kx h less more apart rest = let lt : q < x = less refl in
+    rises_from-cons k q (x ∷ xs) kq (rises_from-cons (suc q) x xs (omega arith) h)
 insert_rises_at k x xs q false true kq kx h less more apart rest = rises_from-cons k x xs kx h
 insert_rises_at k x xs q false false kq kx h less more apart rest =
     let le : x ≤ q = more refl in
@@ -196,7 +206,8 @@ rises_from-insert k (x ∷ xs) q le h =
 pub is_rising-insert : (xs : List ℕ) (q : ℕ) → is_rising xs ≡ true → is_rising (insert xs q) ≡ true
 is_rising-insert xs q h = rises_from-insert 0 xs q (omega arith) h
 
-remove_rises_at : (k x : ℕ) (xs : List ℕ) (q : ℕ) (eq : Bool) → k ≤ x → rises_from (suc x) (remove xs q) ≡ true → rises_from k (cond eq (remove xs q) (x ∷ remove xs q)) ≡ true
+remove_rises_at : (k x : ℕ) (xs : List ℕ) (q : ℕ) (eq : Bool) → k ≤ x → rises_from (suc x) (remove xs q) ≡ true →
+    rises_from k (cond eq (remove xs q) (x ∷ remove xs q)) ≡ true
 remove_rises_at k x xs q true le h = rises_from-weaker k (suc x) (remove xs q) (omega arith) h
 remove_rises_at k x xs q false le h = rises_from-cons k x (remove xs q) le h
 
@@ -213,7 +224,8 @@ is_rising-remove xs q h = rises_from-remove 0 xs q h
 
 -- ---- sizes
 
-insert_length_at : (x : ℕ) (xs : List ℕ) (q : ℕ) (lt eq : Bool) → eq ≡ false → length (insert xs q) ≡ suc (length xs) → length (cond lt (q ∷ x ∷ xs) (cond eq (x ∷ xs) (x ∷ insert xs q))) ≡ suc (suc (length xs))
+insert_length_at : (x : ℕ) (xs : List ℕ) (q : ℕ) (lt eq : Bool) → eq ≡ false → length (insert xs q) ≡ suc (length xs) →
+    length (cond lt (q ∷ x ∷ xs) (cond eq (x ∷ xs) (x ∷ insert xs q))) ≡ suc (suc (length xs))
 insert_length_at x xs q true eq ne h = refl
 insert_length_at x xs q false true ne h = absurd (true≢false ne)
 insert_length_at x xs q false false ne h = ap suc h
@@ -243,8 +255,10 @@ insert_in xs q h here = same_set (insert xs q) xs (is_rising-insert xs q h) h (�
   | inr ne ↦ contains-insert_other xs q r ne
 ])
 
-remove_length_at : (k x : ℕ) (xs : List ℕ) (q : ℕ) (eq : Bool) → (eq ≡ true → x ≡ q) → rises_from (suc x) xs ≡ true → (eq || contains xs q) ≡ true → (contains xs q ≡ true → suc (length (remove xs q)) ≡ length xs) → suc (length (cond eq (remove xs q) (x ∷ remove xs q))) ≡ suc (length xs)
-remove_length_at k x xs q true same h here rest = ap (λ (zs : List ℕ). suc (length zs)) (remove_out xs q (contains-below (suc x) xs q h (let e = same refl in omega arith)))
+remove_length_at : (k x : ℕ) (xs : List ℕ) (q : ℕ) (eq : Bool) → (eq ≡ true → x ≡ q) → rises_from (suc x) xs ≡ true → (eq || contains xs q) ≡ true →
+    (contains xs q ≡ true → suc (length (remove xs q)) ≡ length xs) → suc (length (cond eq (remove xs q) (x ∷ remove xs q))) ≡ suc (length xs)
+remove_length_at k x xs q true same h here rest =
+    ap (λ (zs : List ℕ). suc (length zs)) (remove_out xs q (contains-below (suc x) xs q h (let e = same refl in omega arith)))
 remove_length_at k x xs q false same h here rest = ap suc (rest here)
 
 length-remove_from : (k : ℕ) (xs : Squares) (q : ℕ) → rises_from k xs ≡ true → contains xs q ≡ true → suc (length (remove xs q)) ≡ length xs
@@ -274,7 +288,8 @@ pub place_of_member : (xs : Squares) (q d : ℕ) → contains xs q ≡ true → 
 place_of_member [] q d here = absurd (false≢true here)
 place_of_member (x ∷ xs) q d here = at (eqb x q) (eqb-true x q) here (place_of_member xs q d)
   where
-    at : (a : Bool) → (a ≡ true → x ≡ q) → (a || contains xs q) ≡ true → (contains xs q ≡ true → (i : ℕ) × (i < length xs) × (get_or xs i d ≡ q)) → (i : ℕ) × (i < length (x ∷ xs)) × (get_or (x ∷ xs) i d ≡ q)
+    at : (a : Bool) → (a ≡ true → x ≡ q) → (a || contains xs q) ≡ true → (contains xs q ≡ true → (i : ℕ) × (i < length xs) × (get_or xs i d ≡ q)) → (i : ℕ) ×
+        (i < length (x ∷ xs)) × (get_or (x ∷ xs) i d ≡ q)
     at true same e later = (zero, omega arith, same refl)
     at false same e later = let l = later e in (suc l.0, omega (arith, l.1), l.2)
 

@@ -1,5 +1,6 @@
 -- Laws of squares beside each other, and of single steps.
-use Rattle.std.proofs.Common.{◌≡◌, ◌≢◌, ℕ, zero, suc, ◌+◌, ◌-◌, ◌%◌, ◌<◌, ◌≤◌, Bool, true, false, cond, eqb, ltb, length, ◌⊎◌, inl, inr, refl, sym, ap, subst, ◌∙◌, arith}
+use Rattle.std.proofs.Common.{◌≡◌, ◌≢◌, ℕ, zero, suc, ◌+◌, ◌-◌, ◌%◌, ◌<◌, ◌≤◌, Bool, true, false, cond, eqb, ltb, length, ◌⊎◌, inl, inr, refl, sym, ap, subst}
+use Rattle.std.proofs.Common.{◌∙◌, arith}
 use Rattle.std.proofs.Math.Nat.{zero-mod}
 use Rattle.std.proofs.lemmas.Bool.{eqb-false, ltb-true, ltb-false, lt-ltb, le-ltb, cases_lt, cond_both, true≢false}
 use Rattle.std.proofs.lemmas.List.{get_or_past}
@@ -11,7 +12,8 @@ use Rattle.grid.specs.declared.state.Step.TheVariants.{Blocked, Walked, Pushed}
 use Rattle.grid.specs.Squares.{Squares, contains, remove, insert}
 use Rattle.grid.specs.Board.{Board, Scene, IsFree, Walks, Pushes, is_wall, next, opposite}
 use Rattle.grid.specs.States.{IsScene, Steps}
-use Rattle.grid.proofs.lemmas.Squares.{contains-insert_here, contains-insert_other, contains-insert_cases, contains-remove_here, contains-remove_other, contains-remove_parts, is_rising-insert, is_rising-remove, length-moved}
+use Rattle.grid.proofs.lemmas.Squares.{contains-insert_here, contains-insert_other, contains-insert_cases, contains-remove_here, contains-remove_other}
+use Rattle.grid.proofs.lemmas.Squares.{contains-remove_parts, is_rising-insert, is_rising-remove, length-moved}
 
 -- ---- squares beside each other
 
@@ -34,9 +36,11 @@ wall_at_end board = wall_outside board (length board.cells) (omega arith)
 -- the next square of a square of the grid is in the grid, or the number of cells
 pub next_bound : (board : Board) (q : ℕ) (d : Dir) → q < length board.cells → next board q d ≤ length board.cells
 unfolding next
-next_bound board q D lt = cond_both (ltb (q + board.cols) (length board.cells)) (q + board.cols) (length board.cells) (λ x. x ≤ length board.cells) (λ e. let l = ltb-true _ _ e in omega arith) (λ e. omega arith)
+next_bound board q D lt = cond_both (ltb (q + board.cols) (length board.cells)) (q + board.cols) (length board.cells) (λ x. x ≤ length board.cells)
+    (λ e. let l = ltb-true _ _ e in omega arith) (λ e. omega arith)
 next_bound board q L lt = cond_both (eqb (q % board.cols) 0) (length board.cells) (q - 1) (λ x. x ≤ length board.cells) (λ e. omega arith) (λ e. omega arith)
-next_bound board q R lt = cond_both (eqb (suc q % board.cols) 0) (length board.cells) (suc q) (λ x. x ≤ length board.cells) (λ e. omega arith) (λ e. omega arith)
+next_bound board q R lt = cond_both (eqb (suc q % board.cols) 0) (length board.cells) (suc q) (λ x. x ≤ length board.cells) (λ e. omega arith)
+    (λ e. omega arith)
 next_bound board q U lt = cond_both (ltb q board.cols) (length board.cells) (q - board.cols) (λ x. x ≤ length board.cells) (λ e. omega arith) (λ e. omega arith)
 
 -- the opposite of the opposite is the direction itself
@@ -51,26 +55,30 @@ back_D : (cols len q : ℕ) (b : Bool) → cond b (q + cols) len < len → cond 
 back_D cols len q true lt = rw (le-ltb (q + cols) cols (omega arith)) (omega arith)
 back_D cols len q false lt = absurd (omega arith)
 
-back_U : (cols len q : ℕ) (b : Bool) → q < len → (b ≡ false → cols ≤ q) → cond b len (q - cols) < len → cond (ltb (cond b len (q - cols) + cols) len) (cond b len (q - cols) + cols) len ≡ q
+back_U : (cols len q : ℕ) (b : Bool) → q < len → (b ≡ false → cols ≤ q) → cond b len (q - cols) < len →
+    cond (ltb (cond b len (q - cols) + cols) len) (cond b len (q - cols) + cols) len ≡ q
 back_U cols len q true inside above lt = absurd (omega arith)
 back_U cols len q false inside above lt =
     let le : cols ≤ q = above refl in
     let e : q - cols + cols ≡ q = omega arith in
     rw (e, lt-ltb q len inside) refl
 
-back_L : (cols len q : ℕ) (b : Bool) → eqb (q % cols) 0 ≡ b → cond b len (q - 1) < len → cond (eqb (suc (cond b len (q - 1)) % cols) 0) len (suc (cond b len (q - 1))) ≡ q
+back_L : (cols len q : ℕ) (b : Bool) → eqb (q % cols) 0 ≡ b → cond b len (q - 1) < len →
+    cond (eqb (suc (cond b len (q - 1)) % cols) 0) len (suc (cond b len (q - 1))) ≡ q
 back_L cols len q true test lt = absurd (omega arith)
 back_L cols len zero false test lt = absurd (eqb-false (zero % cols) 0 test (zero-mod cols))
 back_L cols len (suc q) false test lt =
     let e : suc (suc q - 1) ≡ suc q = omega arith in
     rw (e, test) refl
 
-back_R : (cols len q : ℕ) (b : Bool) → eqb (suc q % cols) 0 ≡ b → cond b len (suc q) < len → cond (eqb (cond b len (suc q) % cols) 0) len (cond b len (suc q) - 1) ≡ q
+back_R : (cols len q : ℕ) (b : Bool) → eqb (suc q % cols) 0 ≡ b → cond b len (suc q) < len →
+    cond (eqb (cond b len (suc q) % cols) 0) len (cond b len (suc q) - 1) ≡ q
 back_R cols len q true test lt = absurd (omega arith)
 back_R cols len q false test lt = rw test (omega arith)
 
 -- from the next square one comes back, where both are in the grid
-pub next_back_inside : (board : Board) (q : ℕ) (d : Dir) → q < length board.cells → next board q d < length board.cells → next board (next board q d) (opposite d) ≡ q
+pub next_back_inside : (board : Board) (q : ℕ) (d : Dir) → q < length board.cells → next board q d < length board.cells →
+    next board (next board q d) (opposite d) ≡ q
 unfolding next
 next_back_inside board q D inside lt = back_D board.cols (length board.cells) q (ltb (q + board.cols) (length board.cells)) lt
 next_back_inside board q L inside lt = back_L board.cols (length board.cells) q (eqb (q % board.cols) 0) refl lt
@@ -78,7 +86,8 @@ next_back_inside board q R inside lt = back_R board.cols (length board.cells) q 
 next_back_inside board q U inside lt = back_U board.cols (length board.cells) q (ltb q board.cols) inside (ltb-false q board.cols) lt
 
 -- from the next square one comes back, where neither is a wall
-pub next_back : (board : Board) (q : ℕ) (d : Dir) → is_wall board q ≡ false → is_wall board (next board q d) ≡ false → next board (next board q d) (opposite d) ≡ q
+pub next_back : (board : Board) (q : ℕ) (d : Dir) → is_wall board q ≡ false → is_wall board (next board q d) ≡ false →
+    next board (next board q d) (opposite d) ≡ q
 next_back board q d here there = next_back_inside board q d (inside_grid board q here) (inside_grid board (next board q d) there)
 
 -- the same, where the next square has a name
@@ -104,7 +113,8 @@ pub push_player : (board : Board) (s : Scene) (d : Dir) (t : Scene) → Pushes b
 push_player board s d t h = ap (λ (x : Scene). x.player) h.2
 
 -- one box has moved
-pub push_boxes : (board : Board) (s : Scene) (d : Dir) (t : Scene) → Pushes board s d t → t.boxes ≡ insert (remove s.boxes (next board s.player d)) (next board (next board s.player d) d)
+pub push_boxes : (board : Board) (s : Scene) (d : Dir) (t : Scene) → Pushes board s d t →
+    t.boxes ≡ insert (remove s.boxes (next board s.player d)) (next board (next board s.player d) d)
 push_boxes board s d t h = ap (λ (x : Scene). x.boxes) h.2
 
 moved_arrived : (xs : Squares) (q r : ℕ) → contains (insert (remove xs q) r) r ≡ true
@@ -139,17 +149,22 @@ pub push_left : (board : Board) (s : Scene) (d : Dir) (t : Scene) → Pushes boa
 push_left board s d t h = rw (push_boxes board s d t h) (moved_left s.boxes (next board s.player d) (next board (next board s.player d) d) h.0 h.1.1)
 
 -- each other square has a box as before
-pub push_other : (board : Board) (s : Scene) (d : Dir) (t : Scene) → Pushes board s d t → (x : ℕ) → next board s.player d ≢ x → next board (next board s.player d) d ≢ x → contains t.boxes x ≡ contains s.boxes x
-push_other board s d t h x left arrived = rw (push_boxes board s d t h) (moved_other s.boxes (next board s.player d) (next board (next board s.player d) d) x left arrived)
+pub push_other : (board : Board) (s : Scene) (d : Dir) (t : Scene) → Pushes board s d t → (x : ℕ) → next board s.player d ≢ x →
+    next board (next board s.player d) d ≢ x → contains t.boxes x ≡ contains s.boxes x
+push_other board s d t h x left arrived =
+    rw (push_boxes board s d t h) (moved_other s.boxes (next board s.player d) (next board (next board s.player d) d) x left arrived)
 
 -- a box that the push did not take stays
-pub push_kept : (board : Board) (s : Scene) (d : Dir) (t : Scene) → Pushes board s d t → (x : ℕ) → next board s.player d ≢ x → contains s.boxes x ≡ true → contains t.boxes x ≡ true
+pub push_kept : (board : Board) (s : Scene) (d : Dir) (t : Scene) → Pushes board s d t → (x : ℕ) → next board s.player d ≢ x → contains s.boxes x ≡ true →
+    contains t.boxes x ≡ true
 push_kept board s d t h x left here =
     push_other board s d t h x left (λ e. true≢false (sym here ∙ (ap (λ (z : ℕ). contains s.boxes z) (sym e) ∙ h.1.1))) ∙ here
 
 -- a box after a push is the one that went there, or one that stood there before
-pub push_cases : (board : Board) (s : Scene) (d : Dir) (t : Scene) → Pushes board s d t → (x : ℕ) → contains t.boxes x ≡ true → (next board (next board s.player d) d ≡ x) ⊎ ((next board s.player d ≢ x) × (contains s.boxes x ≡ true))
-push_cases board s d t h x here = moved_cases s.boxes (next board s.player d) (next board (next board s.player d) d) x (ap (λ (xs : Squares). contains xs x) (sym (push_boxes board s d t h)) ∙ here)
+pub push_cases : (board : Board) (s : Scene) (d : Dir) (t : Scene) → Pushes board s d t → (x : ℕ) → contains t.boxes x ≡ true →
+    (next board (next board s.player d) d ≡ x) ⊎ ((next board s.player d ≢ x) × (contains s.boxes x ≡ true))
+push_cases board s d t h x here = moved_cases s.boxes (next board s.player d) (next board (next board s.player d) d) x
+    (ap (λ (xs : Squares). contains xs x) (sym (push_boxes board s d t h)) ∙ here)
 
 -- ---- states stay states
 
@@ -185,7 +200,8 @@ scene_after_step board s d Pushed t scene h = scene_after_push board s d t scene
 
 -- a push keeps the number of boxes
 pub length-push : (board : Board) (s : Scene) (d : Dir) (t : Scene) → IsScene board s → Pushes board s d t → length t.boxes ≡ length s.boxes
-length-push board s d t scene h = ap (λ (xs : Squares). length xs) (push_boxes board s d t h) ∙ length-moved s.boxes (next board s.player d) (next board (next board s.player d) d) scene.rising h.0 h.1.1
+length-push board s d t scene h = ap (λ (xs : Squares). length xs) (push_boxes board s d t h) ∙
+    length-moved s.boxes (next board s.player d) (next board (next board s.player d) d) scene.rising h.0 h.1.1
 
 -- no step changes the number of boxes
 pub length-step : (board : Board) (s : Scene) (d : Dir) (did : Step) (t : Scene) → IsScene board s → Steps board s d did t → length t.boxes ≡ length s.boxes
@@ -209,11 +225,14 @@ pub not_both : (board : Board) (s : Scene) (d : Dir) (t u : Scene) → Walks boa
 not_both board s d t u w p = true≢false (sym p.0 ∙ w.0.1)
 
 -- a step onto a free square
-pub walk_to : (board : Board) (s : Scene) (d : Dir) → IsFree board s.boxes (next board s.player d) → Walks board s d (record { boxes = s.boxes; player = next board s.player d })
+pub walk_to : (board : Board) (s : Scene) (d : Dir) → IsFree board s.boxes (next board s.player d) →
+    Walks board s d (record { boxes = s.boxes; player = next board s.player d })
 walk_to board s d free = (free, refl)
 
 -- a step onto a box with a free square beyond
-pub push_to : (board : Board) (s : Scene) (d : Dir) → contains s.boxes (next board s.player d) ≡ true → IsFree board s.boxes (next board (next board s.player d) d) → Pushes board s d (record { boxes = insert (remove s.boxes (next board s.player d)) (next board (next board s.player d) d); player = next board s.player d })
+pub push_to : (board : Board) (s : Scene) (d : Dir) → contains s.boxes (next board s.player d) ≡ true →
+    IsFree board s.boxes (next board (next board s.player d) d) →
+    Pushes board s d (record { boxes = insert (remove s.boxes (next board s.player d)) (next board (next board s.player d) d); player = next board s.player d })
 push_to board s d here free = (here, free, refl)
 
 -- what a step does, and the state after it

@@ -17,7 +17,8 @@ use Rattle.successors.specs.Reaching.{Reaches}
 use Rattle.successors.specs.Expansion.{IsSuccessor}
 
 -- along a play the least sum falls by no more than the number of its pushes
-pub play_lessens : (board : Board) (s t : Scene) (ds : List Dir) (ps : List Push) (low : ℕ) → IsScene board s → Play board Any s ds ps t → IsLower board t.boxes low → (n : ℕ) × IsLower board s.boxes n × (n ≤ length ps + low)
+pub play_lessens : (board : Board) (s t : Scene) (ds : List Dir) (ps : List Push) (low : ℕ) → IsScene board s → Play board Any s ds ps t →
+    IsLower board t.boxes low → (n : ℕ) × IsLower board s.boxes n × (n ≤ length ps + low)
 play_lessens board s t ds ps low scene (stay ok) lower = (low, lower, omega arith)
 play_lessens board s t (d ∷ ds) ps low scene (walk {m = m} ok step play) lower =
     let (n, before, le) = play_lessens board m t ds ps low (scene_after_walk board s d m scene step) play lower in
@@ -28,7 +29,8 @@ play_lessens board s t (d ∷ ds) (p ∷ ps) low scene (push {m = m} ok step pla
     (k, more, omega (arith, le, few))
 
 -- what an admitted successor comes from was admitted one push before
-pub admitted_before : (task : Task) → IsScene task.board (start task.board) → (k : ℕ) (ps : List Push) (n : Scene) (p : Push) (m : Scene) → Reaches task.board ps n → IsSuccessor task.board n p m → Admits task (suc k) m → Admits task k n
+pub admitted_before : (task : Task) → IsScene task.board (start task.board) → (k : ℕ) (ps : List Push) (n : Scene) (p : Push) (m : Scene) →
+    Reaches task.board ps n → IsSuccessor task.board n p m → Admits task (suc k) m → Admits task k n
 admitted_before task scene k ps n p m (ds, t, play, norm) (es, u, next, after) adm = go task.cap adm
   where
     here : IsScene task.board n

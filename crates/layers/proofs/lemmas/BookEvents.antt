@@ -1,5 +1,6 @@
 -- The events of a book keep it lawful.
-use Rattle.std.proofs.Common.{◌≡◌, ℕ, suc, ◌-◌, ◌<◌, ◌≤◌, Bool, true, false, List, [], ◌∷◌, ◌++◌, length, map, take, count_by, get_or, set, Some, inl, inr, refl, sym, ap, subst, ◌∙◌, arith}
+use Rattle.std.proofs.Common.{◌≡◌, ℕ, suc, ◌-◌, ◌<◌, ◌≤◌, Bool, true, false, List, [], ◌∷◌, ◌++◌, length, map, take, count_by, get_or, set, Some, inl, inr}
+use Rattle.std.proofs.Common.{refl, sym, ap, subst, ◌∙◌, arith}
 use Rattle.std.proofs.lemmas.Bool.{true≢false}
 use Rattle.std.proofs.lemmas.List.{length-append, length-set, length-replicate, get_or-set_same, length-map}
 use Rattle.std.proofs.lemmas.Option.{same_Some, none-some, slice_get_within, get_or_from_slice_get}
@@ -20,7 +21,8 @@ use Rattle.layers.specs.Origins.{HasOrigin}
 use Rattle.layers.specs.LayerView.{LayerView, IsWhole}
 use Rattle.successors.specs.ParcelView.{ParcelView, AreSuccessors, IsParcel}
 use Rattle.layers.specs.BookView.{BookView, last_layer, InShare, IsKept, HasClosedOrigin, IsShareOfLayer, IsLawfulBook}
-use Rattle.layers.specs.Books.{MayBegin, with_begun, all_entered, with_parcel, IsAtWork, PassesLimit, MayEnter, with_reopened, AllDone, with_closed, IsSortedOpen}
+use Rattle.layers.specs.Books.{MayBegin, with_begun, all_entered, with_parcel, IsAtWork, PassesLimit, MayEnter, with_reopened, AllDone, with_closed}
+use Rattle.layers.specs.Books.{IsSortedOpen}
 use Rattle.store.specs.Entering.{closed_entry}
 use Rattle.successors.proofs.lemmas.Lists.{at_map, map_at, Distinct, at-push, sum-set_more, count-set_true, count-all, take_short}
 use Rattle.layers.proofs.lemmas.Exchange.{lead_unique, entry_lead, next_layer}
@@ -28,7 +30,9 @@ use Rattle.store.proofs.lemmas.Offers.{open_places, listed-origin, origin-listed
 use Rattle.layers.proofs.lemmas.Layers.{layer_unique, recut}
 use Rattle.layers.proofs.Open.{reoffered, closed_next}
 use Rattle.layers.proofs.lemmas.Orders.{nat_cmp_equal}
-use Rattle.layers.proofs.lemmas.Books.{level_laws, one_successor, whole_layer, whole_layers, all_open, all_distinct, all_each, begun-since, open-distance, true_kept, true_cases, none_marked, none_counted, take_whole, total-push, total-take_more, read_push, layers_same, get_or_same}
+use Rattle.layers.proofs.lemmas.Books.{level_laws, one_successor, whole_layer, whole_layers, all_open, all_distinct, all_each, begun-since, open-distance}
+use Rattle.layers.proofs.lemmas.Books.{true_kept, true_cases, none_marked, none_counted, take_whole, total-push, total-take_more, read_push, layers_same}
+use Rattle.layers.proofs.lemmas.Books.{get_or_same}
 
 -- ---- begin
 
@@ -48,11 +52,18 @@ lawful_begin v layer book whole may =
         | inr last ↦ (let l : IsLayerOf v.level layer.number layer.places = subst (λ b. IsLayerOf b layer.number layer.places) may.0 whole.layer in
             subst (λ zs. IsLayerOf v.level j zs) (sym last.1) (subst (λ i. IsLayerOf v.level i layer.places) (same ∙ sym last.0) l))
       ];
-      few = omega (arith, total-push book.wholes layer.places, whole.most.3, ap total (layers_same v.level book.level book.wholes whole.most.0 book.whole (λ j xs at. subst (λ b. IsLayerOf b j xs) may.0 (whole.most.1 j xs at)) (sym same ∙ sym whole.most.2)));
+      few = omega (
+        arith,
+        total-push book.wholes layer.places,
+        whole.most.3,
+        ap total (layers_same v.level book.level book.wholes whole.most.0 book.whole (λ j xs at. subst (λ b. IsLayerOf b j xs) may.0 (whole.most.1 j xs at))
+            (sym same ∙ sym whole.most.2)),
+      );
       begun = λ e. (
         omega (arith, not.0, length-append book.wholes (layer.places ∷ [])),
         refl,
-        length-replicate (length layer.places) false ∙ ap length (sym (ap (λ k. get_or (book.wholes ++ layer.places ∷ []) k []) (sym not.0) ∙ read_push book.wholes layer.places)),
+        length-replicate (length layer.places) false ∙ ap length (sym (ap (λ k. get_or (book.wholes ++ layer.places ∷ []) k []) (sym not.0)
+            ∙ read_push book.wholes layer.places)),
       );
       not_begun = λ e. cc;
       waiting = λ e. record {
@@ -125,13 +136,20 @@ pub parcel-place : (v : BookView) (book : IsLawfulBook v) (begun : v.begun ≡ t
     (n : Scene) × (slice_get (whole_layer v book begun (last_layer v)) parcel.rank ≡ Some n) × AreSuccessors v.level (last_layer v) n parcel.successors
 parcel-place v book begun parcel is work =
     let some = book.some in
-    let layer : IsLayerOf v.level (last_layer v) is.places = subst (λ k. IsLayerOf v.level k is.places) work.1 (subst (λ b. IsLayerOf b parcel.layer is.places) work.0 is.layer) in
-    let e = layer_unique (level_laws v.level book.level) (last_layer v) is.places (whole_layer v book begun (last_layer v)) layer (whole_layers v book begun (last_layer v) (omega arith)) in
-    (is.place.0, ap (λ xs. slice_get xs parcel.rank) (sym e) ∙ is.place.1, subst (λ k. AreSuccessors v.level k is.place.0 parcel.successors) work.1 (subst (λ b. AreSuccessors b parcel.layer is.place.0 parcel.successors) work.0 is.place.2))
+    let layer : IsLayerOf v.level (last_layer v) is.places = subst (λ k. IsLayerOf v.level k is.places) work.1
+    (subst (λ b. IsLayerOf b parcel.layer is.places) work.0 is.layer) in
+    let e = layer_unique (level_laws v.level book.level) (last_layer v) is.places (whole_layer v book begun (last_layer v)) layer
+    (whole_layers v book begun (last_layer v) (omega arith)) in (
+      is.place.0,
+      ap (λ xs. slice_get xs parcel.rank) (sym e) ∙ is.place.1,
+      subst (λ k. AreSuccessors v.level k is.place.0 parcel.successors) work.1
+          (subst (λ b. AreSuccessors b parcel.layer is.place.0 parcel.successors) work.0 is.place.2),
+    )
 
 -- what stands open once the parcel's successors have entered
 pub parcel_open : (v : BookView) (book : IsLawfulBook v) (begun : v.begun ≡ true) (parcel : ParcelView) → IsParcel parcel → IsAtWork v parcel →
-    IsOpen push_cmp (IsSuccessor v.level.board) (IsKept v) (whole_layer v book begun) (last_layer v) (λ r p. get_or (set v.done parcel.rank true) r false ≡ true) (origin_of (all_entered v parcel.rank parcel.successors))
+    IsOpen push_cmp (IsSuccessor v.level.board) (IsKept v) (whole_layer v book begun) (last_layer v)
+    (λ r p. get_or (set v.done parcel.rank true) r false ≡ true) (origin_of (all_entered v parcel.rank parcel.successors))
 parcel_open v book begun parcel is work =
     let w = parcel-place v book begun parcel is work in
     let n = w.0 in
@@ -143,16 +161,20 @@ parcel_open v book begun parcel is work =
     ])
     (λ r p l m f at edge kept. elim (true_cases v.done parcel.rank r f) [
       | inl here ↦ (let e : l ≡ n = same_Some l n (sym at ∙ ap (slice_get (whole_layer v book begun (last_layer v))) here ∙ w.1) in
-          let i = w.2.whole p m (subst (λ x. IsSuccessor v.level.board x p m) e edge, subst (λ k. Admits v.level k m) (let some = book.some in let g : length v.closed ≡ suc (last_layer v) = omega arith in g) kept.1) in
-          inr (here, (i.0, record { push = p; position = m }, i.1, refl)))
+          let i = w.2.whole p m (
+            subst (λ x. IsSuccessor v.level.board x p m) e edge,
+            subst (λ k. Admits v.level k m) (let some = book.some in let g : length v.closed ≡ suc (last_layer v) = omega arith in g) kept.1,
+          ) in inr (here, (i.0, record { push = p; position = m }, i.1, refl)))
       | inr old ↦ inl old
     ])
     o
 
-pub parcel_distinct : (v : BookView) (book : IsLawfulBook v) (begun : v.begun ≡ true) (parcel : ParcelView) → Distinct (open_places (all_entered v parcel.rank parcel.successors))
+pub parcel_distinct : (v : BookView) (book : IsLawfulBook v) (begun : v.begun ≡ true) (parcel : ParcelView) →
+    Distinct (open_places (all_entered v parcel.rank parcel.successors))
 parcel_distinct v book begun parcel = all_distinct v book begun parcel.rank parcel.successors v.waiting book.distinct
 
-pub lawful_parcel : (v : BookView) (worker : ℕ) (parcel : ParcelView) → IsLawfulBook v → worker < v.workers → IsParcel parcel → MayEnter v parcel → IsLawfulBook (with_parcel v worker parcel)
+pub lawful_parcel : (v : BookView) (worker : ℕ) (parcel : ParcelView) → IsLawfulBook v → worker < v.workers → IsParcel parcel → MayEnter v parcel →
+    IsLawfulBook (with_parcel v worker parcel)
 lawful_parcel v worker parcel book lt is may =
     let work = may.0 in
     let begun = begun-since v book parcel.rank work.2 in
@@ -168,7 +190,8 @@ lawful_parcel v worker parcel book lt is may =
       not_begun = λ e. absurd (let f = begun in true≢false (sym f ∙ e));
       waiting = λ e. parcel_open v book begun parcel is work;
       distinct = parcel_distinct v book begun parcel;
-      fits = all_each v book begun (λ m. FitsLevel v.level.board m) parcel.rank parcel.successors v.waiting (λ i s at. subst (λ b. FitsLevel b.board s.position) work.0 (is.fits i s at)) book.fits;
+      fits = all_each v book begun (λ m. FitsLevel v.level.board m) parcel.rank parcel.successors v.waiting
+          (λ i s at. subst (λ b. FitsLevel b.board s.position) work.0 (is.fits i s at)) book.fits;
       tallies = (
         length-set v.tallies worker (suc (get_or v.tallies worker 0)) ∙ book.tallies.0,
         omega (arith, book.tallies.1, sum-set_more v.tallies worker (omega (arith, book.tallies.0)), count-set_true v.done parcel.rank may.1),
@@ -177,7 +200,8 @@ lawful_parcel v worker parcel book lt is may =
       over = λ e. absurd (true≢false (sym e ∙ may.2));
     }
 
-pub lawful_over : (v : BookView) (parcel : ParcelView) → IsLawfulBook v → IsParcel parcel → IsAtWork v parcel → slice_get v.done parcel.rank ≡ Some false → PassesLimit v parcel → IsLawfulBook (record v { over = true })
+pub lawful_over : (v : BookView) (parcel : ParcelView) → IsLawfulBook v → IsParcel parcel → IsAtWork v parcel → slice_get v.done parcel.rank ≡ Some false →
+    PassesLimit v parcel → IsLawfulBook (record v { over = true })
 lawful_over v parcel book is work free passes =
     let begun = begun-since v book parcel.rank work.2 in
     record {
@@ -201,7 +225,8 @@ lawful_over v parcel book is work free passes =
           | inr now ↦ record {
             places = open_places (all_entered v parcel.rank parcel.successors);
             distinct = parcel_distinct v book begun parcel;
-            next = open-distance v book begun (all_entered v parcel.rank parcel.successors) (parcel_open v book begun parcel is work) (parcel_distinct v book begun parcel);
+            next = open-distance v book begun (all_entered v parcel.rank parcel.successors) (parcel_open v book begun parcel is work)
+                (parcel_distinct v book begun parcel);
             passed = omega (arith, length-map (all_entered v parcel.rank parcel.successors) (λ (x : Entry Scene Push). x.0));
           }
         ],
@@ -227,7 +252,8 @@ lawful_closed v es book all sorted =
       some = omega (arith, length-append v.closed (es ∷ []));
       closed = λ k xs at. elim (at-push v.closed es k xs at) [
         | inl old ↦ book.closed k xs old
-        | inr last ↦ subst (λ zs. IsShareOfLayer v.level v.shares v.share k zs) (sym last.1) (subst (λ i. IsShareOfLayer v.level v.shares v.share i es) (sym last.0) sorted.next)
+        | inr last ↦ subst (λ zs. IsShareOfLayer v.level v.shares v.share k zs) (sym last.1)
+            (subst (λ i. IsShareOfLayer v.level v.shares v.share i es) (sym last.0) sorted.next)
       ];
       wholes = book.wholes;
       whole = book.whole;
@@ -259,7 +285,8 @@ places-closed (y ∷ ys) = ap (λ xs. y.0 ∷ xs) (places-closed ys)
 
 module _ (v : BookView) (book : IsLawfulBook v) (all : AllDone v) (ys : List (Entry Scene Push)) (distinct : Distinct (open_places ys))
     (same : (m : Scene) → origin_of ys m ≡ origin_of v.waiting m) (long : length ys ≡ length v.waiting)
-    (sorted : (i j : ℕ) (x y : Entry Scene Push) → i < j → slice_get ys i ≡ Some x → slice_get ys j ≡ Some y → is_gt (origin_cmp push_cmp x.1 y.1) ≡ false) where
+    (sorted : (i j : ℕ) (x y : Entry Scene Push) → i < j → slice_get ys i ≡ Some x → slice_get ys j ≡ Some y →
+    is_gt (origin_cmp push_cmp x.1 y.1) ≡ false) where
   listed : (i : ℕ) (m : Scene) (o : Origin Push) → slice_get ys i ≡ Some (m, o) → origin_of v.waiting m ≡ Some o
   listed i m o at = sym (same m) ∙ listed-origin ys distinct i m o at
 
@@ -277,9 +304,10 @@ module _ (v : BookView) (book : IsLawfulBook v) (all : AllDone v) (ys : List (En
           let b = ((book.waiting all.0).from y.0 y.1.0 y.1.1 (listed j y.0 y.1 at_j)).2 in
           let c = last_layer v in
           let n : b.0 ≡ a.0 = same_Some b.0 a.0 (sym b.1 ∙ ap (slice_get (whole_layer v book all.0 c)) (sym w.0) ∙ a.1) in
-          let edge : IsSuccessor v.level.board a.0 x.1.1 y.0 = subst (λ z. IsSuccessor v.level.board z x.1.1 y.0) n (subst (λ q. IsSuccessor v.level.board b.0 q y.0) (sym p) b.2) in
-          let m = one_successor v.level book.level c (whole_layer v book all.0 c) (whole_layers v book all.0 c (omega arith)) x.1.0 a.0 a.1 x.1.1 x.0 y.0 a.2 edge in
-          let i_is = distinct i j x.0 (map_at (λ z. z.0) ys i x at_i) (map_at (λ z. z.0) ys j y at_j ∙ ap (λ (z : Scene). Some z) m) in
+          let edge : IsSuccessor v.level.board a.0 x.1.1 y.0 = subst (λ z. IsSuccessor v.level.board z x.1.1 y.0) n
+          (subst (λ q. IsSuccessor v.level.board b.0 q y.0) (sym p) b.2) in
+          let m = one_successor v.level book.level c (whole_layer v book all.0 c) (whole_layers v book all.0 c (omega arith)) x.1.0 a.0 a.1 x.1.1 x.0 y.0 a.2
+          edge in let i_is = distinct i j x.0 (map_at (λ z. z.0) ys i x at_i) (map_at (λ z. z.0) ys j y at_j ∙ ap (λ (z : Scene). Some z) m) in
           absurd (omega arith)
       go Greater e f = cc
 

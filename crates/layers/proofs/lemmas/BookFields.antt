@@ -1,5 +1,6 @@
 -- The events of a book on its fields: what is taken, the limit, a hand back and a close.
-use Rattle.std.proofs.Common.{◌≡◌, ℕ, suc, ◌+◌, ◌<◌, ◌≤◌, Bool, true, false, ◌&&◌, ◌||◌, ◌==◌, not, List, [], ◌∷◌, ◌++◌, length, map, fold, get_or, set, ltb, Option, Some, None, inl, inr, refl, sym, ap, subst, ◌∙◌, arith}
+use Rattle.std.proofs.Common.{◌≡◌, ℕ, suc, ◌+◌, ◌<◌, ◌≤◌, Bool, true, false, ◌&&◌, ◌||◌, ◌==◌, not, List, [], ◌∷◌, ◌++◌, length, map, fold, get_or, set, ltb}
+use Rattle.std.proofs.Common.{Option, Some, None, inl, inr, refl, sym, ap, subst, ◌∙◌, arith}
 use Rattle.std.proofs.lemmas.Bool.{cases_lt, le-ltb}
 use Rattle.std.proofs.lemmas.Bool.Decides.{nat_tests}
 use Rattle.std.proofs.lemmas.List.{length-append, get_or-set_same, length-map}
@@ -34,10 +35,12 @@ use Rattle.layers.proofs.lemmas.BookEvents.{lawful_parcel, lawful_over, lawful_c
 -- ---- taken ranks
 
 -- once a rank is claimed, each rank up to it is taken
-pub claimed-taken : (v : BookView) (k : ℕ) → k < length v.claimed → ((r : ℕ) → r < k → IsTaken v r) → (r : ℕ) → r < k + 1 → IsTaken (record v { claimed = set v.claimed k true }) r
+pub claimed-taken : (v : BookView) (k : ℕ) → k < length v.claimed → ((r : ℕ) → r < k → IsTaken v r) → (r : ℕ) → r < k + 1 →
+    IsTaken (record v { claimed = set v.claimed k true }) r
 claimed-taken v k lt taken r le = elim (cases_lt r k) [
   | inl below ↦ elim (taken r below) [ inl c ↦ inl (true_kept v.claimed k r c) | inr d ↦ inr d ]
-  | inr above ↦ (let e : r ≡ k = omega arith in inl (subst (λ i. get_or (set v.claimed k true) i false ≡ true) (sym e) (get_or-set_same v.claimed k true false lt)))
+  | inr above ↦ (let e : r ≡ k = omega arith in
+      inl (subst (λ i. get_or (set v.claimed k true) i false ≡ true) (sym e) (get_or-set_same v.claimed k true false lt)))
 ]
 
 -- there are as many marks of either kind
@@ -55,8 +58,10 @@ pub wanted_same : (a : Inside) → AreCuts a.starts.items (length a.found.seen) 
 wanted_same a cuts = λ i m. (share_of a.shares m == a.share) && not (any-cuts (same_scene m) a.starts.items a.found.seen cuts i)
 
 -- the limit is passed by the fields where it is by the view
-pub limit_same : (a : Inside) → AreCuts a.starts.items (length a.found.seen) → (now : BookView) → book_view a ≡ now → (rank : ℕ) (ss successors : List Successor) → ss ≡ successors → (passes : Bool) →
-    passes ≡ ltb a.limit (length a.found.seen + length (fold (entered (is_wanted_in a.found.seen a.shares a.share) rank) a.found.waiting ss)) → passes ≡ ltb now.limit (total now.closed + length (all_entered now rank successors))
+pub limit_same : (a : Inside) → AreCuts a.starts.items (length a.found.seen) → (now : BookView) → book_view a ≡ now →
+    (rank : ℕ) (ss successors : List Successor) → ss ≡ successors → (passes : Bool) →
+    passes ≡ ltb a.limit (length a.found.seen + length (fold (entered (is_wanted_in a.found.seen a.shares a.share) rank) a.found.waiting ss)) →
+    passes ≡ ltb now.limit (total now.closed + length (all_entered now rank successors))
 limit_same a cuts now view rank ss successors same passes e =
     let held = sym (total-cuts a.starts.items a.found.seen cuts) in
     let wanted = sym (wanted_same a cuts) in
@@ -64,18 +69,20 @@ limit_same a cuts now view rank ss successors same passes e =
     ∙ (λ i. ltb (view i).limit (total (view i).closed + length (all_entered (view i) rank (same i))))
 
 -- where the new positions pass the limit, the book would hold too many
-pub over_limit : (now : BookView) (parcel : ParcelView) → true ≡ ltb now.limit (total now.closed + length (all_entered now parcel.rank parcel.successors)) → PassesLimit now parcel
+pub over_limit : (now : BookView) (parcel : ParcelView) → true ≡ ltb now.limit (total now.closed + length (all_entered now parcel.rank parcel.successors)) →
+    PassesLimit now parcel
 over_limit now parcel more = inr (below now.limit (total now.closed + length (all_entered now parcel.rank parcel.successors)) more)
   where
     below : (x y : ℕ) → true ≡ ltb x y → x < y
     below x y h = grind (arith, nat_tests)
 
 -- and where they don't, the parcel may enter
-pub may_enter : (now : BookView) (parcel : ParcelView) → IsAtWork now parcel × (slice_get now.done parcel.rank ≡ Some false) → now.over ≡ false → false ≡ ltb now.limit (total now.closed + length (all_entered now parcel.rank parcel.successors)) → MayEnter now parcel
-may_enter now parcel found over less = (found.0, found.1, over, not_below now.limit (total now.closed + length (all_entered now parcel.rank parcel.successors)) less)
-  where
-    not_below : (x y : ℕ) → false ≡ ltb x y → y ≤ x
-    not_below x y h = grind (arith, nat_tests)
+pub may_enter : (now : BookView) (parcel : ParcelView) → IsAtWork now parcel × (slice_get now.done parcel.rank ≡ Some false) → now.over ≡ false →
+    false ≡ ltb now.limit (total now.closed + length (all_entered now parcel.rank parcel.successors)) → MayEnter now parcel
+may_enter now parcel found over less =
+    (found.0, found.1, over, not_below now.limit (total now.closed + length (all_entered now parcel.rank parcel.successors)) less) where
+      not_below : (x y : ℕ) → false ≡ ltb x y → y ≤ x
+      not_below x y h = grind (arith, nat_tests)
 
 -- ---- a hand back, on the fields
 
@@ -85,23 +92,29 @@ module _ (a : Inside) (book : IsLawfulBook (book_view a)) (cuts : AreCuts a.star
   at_work = subst (λ v. IsAtWork v parcel × (slice_get v.done parcel.rank ≡ Some false)) (sym view) found
 
   -- the book after an accepted parcel is a function of the one before
-  pub handed_view : (worker rank tally : ℕ) (waiting : List (Entry Scene Push)) → rank ≡ parcel.rank → tally ≡ get_or a.tallies.items worker 0 + 1 → waiting ≡ fold (entered (is_wanted_in a.found.seen a.shares a.share) parcel.rank) a.found.waiting parcel.successors →
+  pub handed_view : (worker rank tally : ℕ) (waiting : List (Entry Scene Push)) → rank ≡ parcel.rank → tally ≡ get_or a.tallies.items worker 0 + 1 →
+      waiting ≡ fold (entered (is_wanted_in a.found.seen a.shares a.share) parcel.rank) a.found.waiting parcel.successors →
       record (book_view a) { done = set a.done rank true; waiting = waiting; tallies = set a.tallies.items worker tally } ≡ with_parcel now worker parcel
   handed_view worker rank tally waiting e f g =
       let h = g ∙ ap (λ w. fold (entered w parcel.rank) a.found.waiting parcel.successors) (sym (wanted_same a cuts)) in
       let k : tally ≡ suc (get_or a.tallies.items worker 0) = omega arith in
-      (λ i. record (book_view a) { done = set a.done (e i) true; waiting = h i; tallies = set a.tallies.items worker (k i) }) ∙ ap (λ v. with_parcel v worker parcel) view
+      (λ i. record (book_view a) { done = set a.done (e i) true; waiting = h i; tallies = set a.tallies.items worker (k i) })
+      ∙ ap (λ v. with_parcel v worker parcel) view
 
   -- and is lawful
-  pub handed : (worker rank tally : ℕ) (waiting : List (Entry Scene Push)) → rank ≡ parcel.rank → tally ≡ get_or a.tallies.items worker 0 + 1 → waiting ≡ fold (entered (is_wanted_in a.found.seen a.shares a.share) parcel.rank) a.found.waiting parcel.successors →
+  pub handed : (worker rank tally : ℕ) (waiting : List (Entry Scene Push)) → rank ≡ parcel.rank → tally ≡ get_or a.tallies.items worker 0 + 1 →
+      waiting ≡ fold (entered (is_wanted_in a.found.seen a.shares a.share) parcel.rank) a.found.waiting parcel.successors →
       worker < a.workers → a.over ≡ false → (false ≡ ltb now.limit (total now.closed + length (all_entered now parcel.rank parcel.successors))) →
       IsLawfulBook (record (book_view a) { done = set a.done rank true; waiting = waiting; tallies = set a.tallies.items worker tally })
   handed worker rank tally waiting e f g lt over below =
-      let may : MayEnter (book_view a) parcel = subst (λ v. MayEnter v parcel) (sym view) (may_enter now parcel found (ap (λ (v : BookView). v.over) (sym view) ∙ over) below) in
-      subst IsLawfulBook (sym (handed_view worker rank tally waiting e f g ∙ ap (λ v. with_parcel v worker parcel) (sym view))) (lawful_parcel (book_view a) worker parcel book lt is may)
+      let may : MayEnter (book_view a) parcel = subst (λ v. MayEnter v parcel) (sym view)
+      (may_enter now parcel found (ap (λ (v : BookView). v.over) (sym view) ∙ over) below) in
+      subst IsLawfulBook (sym (handed_view worker rank tally waiting e f g ∙ ap (λ v. with_parcel v worker parcel) (sym view)))
+      (lawful_parcel (book_view a) worker parcel book lt is may)
 
   -- where the limit is passed the book is over
-  pub over_lawful : (true ≡ ltb now.limit (total now.closed + length (all_entered now parcel.rank parcel.successors))) → IsLawfulBook (record (book_view a) { over = true })
+  pub over_lawful : (true ≡ ltb now.limit (total now.closed + length (all_entered now parcel.rank parcel.successors))) →
+      IsLawfulBook (record (book_view a) { over = true })
   over_lawful more = lawful_over (book_view a) parcel book is at_work.0 at_work.1 (subst (λ v. PassesLimit v parcel) (sym view) (over_limit now parcel more))
 
   -- both, on lists that have names
@@ -112,8 +125,11 @@ module _ (a : Inside) (book : IsLawfulBook (book_view a)) (cuts : AreCuts a.star
       IsLawfulBook (record (book_view a) { closed = cut_at a.starts.items seen; done = done; waiting = waiting; tallies = tallies })
       × (record (book_view a) { closed = cut_at a.starts.items seen; done = done; waiting = waiting; tallies = tallies } ≡ with_parcel now worker parcel)
   handed_all worker rank seen waiting done tallies s w d r t lt over below =
-      let e : record (book_view a) { closed = cut_at a.starts.items seen; done = done; waiting = waiting; tallies = tallies } ≡ record (book_view a) { done = set a.done rank true; waiting = waiting; tallies = set a.tallies.items worker (get_or a.tallies.items worker 0 + 1) } =
-      λ i. record (book_view a) { closed = cut_at a.starts.items (s i); done = d i; waiting = waiting; tallies = t i } in (
+      let e : record (book_view a) { closed = cut_at a.starts.items seen; done = done; waiting = waiting; tallies = tallies } ≡ record (book_view a) {
+        done = set a.done rank true;
+        waiting = waiting;
+        tallies = set a.tallies.items worker (get_or a.tallies.items worker 0 + 1);
+      } = λ i. record (book_view a) { closed = cut_at a.starts.items (s i); done = d i; waiting = waiting; tallies = t i } in (
         subst IsLawfulBook (sym e) (handed worker rank (get_or a.tallies.items worker 0 + 1) waiting r refl w lt over below),
         e ∙ handed_view worker rank (get_or a.tallies.items worker 0 + 1) waiting r refl w,
       )
@@ -129,16 +145,19 @@ none_entered seen shares share rank k (s ∷ ss) waiting none =
     later = share_places shares share (suc k) (map (λ s. scene_sum s.position) ss)
 
     go : (later ≡ [] → fold (entered (is_wanted_in seen shares share) rank) waiting ss ≡ waiting) → (b : Bool) → (if b then k ∷ later else later) ≡ [] →
-        fold (entered (is_wanted_in seen shares share) rank) (if b && not (is_some (lookup (same_scene s.position) seen)) then offered waiting s.position (rank, s.push) else waiting) ss ≡ waiting
+        fold (entered (is_wanted_in seen shares share) rank) (if b && not (is_some (lookup (same_scene s.position) seen)) then offered waiting s.position
+        (rank, s.push) else waiting) ss ≡ waiting
     go rest true none = cc
     go rest false none = rest none
 
 -- where nothing enters, the limit is not passed
-pub nothing_passes : (a : Inside) → IsLawfulBook (book_view a) → AreCuts a.starts.items (length a.found.seen) → (now : BookView) → book_view a ≡ now → (rank : ℕ) (ss : List Successor) →
-    fold (entered (is_wanted_in a.found.seen a.shares a.share) rank) a.found.waiting ss ≡ a.found.waiting → false ≡ ltb now.limit (total now.closed + length (all_entered now rank ss))
+pub nothing_passes : (a : Inside) → IsLawfulBook (book_view a) → AreCuts a.starts.items (length a.found.seen) → (now : BookView) → book_view a ≡ now →
+    (rank : ℕ) (ss : List Successor) → fold (entered (is_wanted_in a.found.seen a.shares a.share) rank) a.found.waiting ss ≡ a.found.waiting →
+    false ≡ ltb now.limit (total now.closed + length (all_entered now rank ss))
 nothing_passes a book cuts now view rank ss same =
     limit_same a cuts now view rank ss ss refl false
-    (sym (le-ltb a.limit (length a.found.seen + length (fold (entered (is_wanted_in a.found.seen a.shares a.share) rank) a.found.waiting ss)) (omega (arith, book.within, total-cuts a.starts.items a.found.seen cuts, ap length same))))
+    (sym (le-ltb a.limit (length a.found.seen + length (fold (entered (is_wanted_in a.found.seen a.shares a.share) rank) a.found.waiting ss))
+    (omega (arith, book.within, total-cuts a.starts.items a.found.seen cuts, ap length same))))
 
 contains_tail : (x : ℕ) (xs : List ℕ) (q : ℕ) → contains xs q ≡ true → contains (x ∷ xs) q ≡ true
 contains_tail x xs q here = or_true (x == q) (contains xs q) here
@@ -152,18 +171,22 @@ below_all : (board : Board) (xs : List ℕ) → ((q : ℕ) → contains xs q ≡
 below_all board [] clear = tt
 below_all board (x ∷ xs) clear = (inside_grid board x (clear x (contains_head x xs)), below_all board xs (λ q here. clear q (contains_tail x xs q here)))
 
-pub level_fits : (board : Board) (boxes squares : ℕ) (m : Scene) → boxes ≡ box_count board → squares ≡ length board.cells → FitsLevel board m → FitsGrid boxes squares m
+pub level_fits : (board : Board) (boxes squares : ℕ) (m : Scene) → boxes ≡ box_count board → squares ≡ length board.cells → FitsLevel board m →
+    FitsGrid boxes squares m
 level_fits board boxes squares m boxes_are squares_are fits = record {
   few = omega (arith, fits.boxes, boxes_are);
-  below = subst (λ n. AreBelow n (m.player ∷ m.boxes)) (sym squares_are) (inside_grid board m.player fits.scene.player.0, below_all board m.boxes fits.scene.boxes);
+  below = subst (λ n. AreBelow n (m.player ∷ m.boxes)) (sym squares_are)
+      (inside_grid board m.player fits.scene.player.0, below_all board m.boxes fits.scene.boxes);
 }
 
-pub first_fits : (board : Board) (boxes squares : ℕ) (first : Option Scene) → boxes ≡ box_count board → squares ≡ length board.cells → IfSome first (FitsLevel board) → IfSome first (FitsGrid boxes squares)
+pub first_fits : (board : Board) (boxes squares : ℕ) (first : Option Scene) → boxes ≡ box_count board → squares ≡ length board.cells →
+    IfSome first (FitsLevel board) → IfSome first (FitsGrid boxes squares)
 first_fits board boxes squares None boxes_are squares_are fits = tt
 first_fits board boxes squares (Some m) boxes_are squares_are fits = level_fits board boxes squares m boxes_are squares_are fits
 
 -- the successors of a parcel have as many boxes as its level, and stand on its grid
-pub fits_few : (parcel : ParcelView) → IsParcel parcel → (task : Task) → parcel.level ≡ task → (v : FoundView) → v.boxes ≡ box_count task.board → v.squares ≡ length task.board.cells → (ss : List Successor) → ss ≡ parcel.successors → AllFit v ss
+pub fits_few : (parcel : ParcelView) → IsParcel parcel → (task : Task) → parcel.level ≡ task → (v : FoundView) → v.boxes ≡ box_count task.board →
+    v.squares ≡ length task.board.cells → (ss : List Successor) → ss ≡ parcel.successors → AllFit v ss
 fits_few parcel is task same v boxes_are squares_are ss e = record {
   each = λ i s at.
       level_fits task.board v.boxes v.squares s.position boxes_are squares_are
@@ -176,17 +199,21 @@ taken_done v k r taken = elim taken [ inl c ↦ inl c | inr d ↦ inr (true_kept
 
 -- ---- a close, on the fields
 
-module _ (a : Inside) (book : IsLawfulBook (book_view a)) (cuts : AreCuts a.starts.items (length a.found.seen)) (all : AllDone (book_view a)) (ys : List (Entry Scene Push)) (same : AreReordered a.found.waiting ys) (rise : RiseByOrigin ys) where
+module _ (a : Inside) (book : IsLawfulBook (book_view a)) (cuts : AreCuts a.starts.items (length a.found.seen)) (all : AllDone (book_view a))
+    (ys : List (Entry Scene Push)) (same : AreReordered a.found.waiting ys) (rise : RiseByOrigin ys) where
   sorted_open : IsSortedOpen (book_view a) (map closed_entry ys)
   sorted_open = sorted_closed (book_view a) book all ys same.2 same.1 same.0 rise
 
-  module _ (starts : List ℕ) (seen : List Closed) (claimed done : List Bool) (waiting : List (Entry Scene Push)) (n : ℕ) (starts_are : starts ≡ a.starts.items ++ n ∷ []) (n_is : n ≡ length a.found.seen)
+  module _ (starts : List ℕ) (seen : List Closed) (claimed done : List Bool) (waiting : List (Entry Scene Push)) (n : ℕ)
+      (starts_are : starts ≡ a.starts.items ++ n ∷ []) (n_is : n ≡ length a.found.seen)
       (seen_are : seen ≡ a.found.seen ++ map closed_entry ys) (no_claims : claimed ≡ []) (none_done : done ≡ []) (none_waits : waiting ≡ []) where
     -- the book after a close is a function of the one before and the sorted entries
-    pub closed_view : record (book_view a) { closed = cut_at starts seen; begun = false; claimed = claimed; done = done; waiting = waiting } ≡ with_closed (book_view a) (map closed_entry ys)
+    pub closed_view : record (book_view a) { closed = cut_at starts seen; begun = false; claimed = claimed; done = done; waiting = waiting } ≡ with_closed
+        (book_view a) (map closed_entry ys)
     closed_view =
         let e : cut_at starts seen ≡ cut_at a.starts.items a.found.seen ++ map closed_entry ys ∷ [] =
-        (λ i. cut_at ((starts_are ∙ ap (λ k. a.starts.items ++ k ∷ []) n_is) i) (seen_are i)) ∙ cut_push a.starts.items a.found.seen (map closed_entry ys) cuts in
+        (λ i. cut_at ((starts_are ∙ ap (λ k. a.starts.items ++ k ∷ []) n_is) i) (seen_are i))
+        ∙ cut_push a.starts.items a.found.seen (map closed_entry ys) cuts in
         λ i. record (book_view a) { closed = e i; begun = false; claimed = no_claims i; done = none_done i; waiting = none_waits i }
 
     pub closed_lawful : IsLawfulBook (record (book_view a) { closed = cut_at starts seen; begun = false; claimed = claimed; done = done; waiting = waiting })
@@ -194,12 +221,24 @@ module _ (a : Inside) (book : IsLawfulBook (book_view a)) (cuts : AreCuts a.star
 
     pub closed_cuts : AreCuts starts (length seen)
     closed_cuts =
-        let long : length a.found.seen + length (map closed_entry ys) ≡ length seen = omega (arith, ap length seen_are, length-append a.found.seen (map closed_entry ys)) in
-        subst (λ s. AreCuts s (length seen)) (sym (starts_are ∙ ap (λ k. a.starts.items ++ k ∷ []) n_is)) (subst (AreCuts (a.starts.items ++ length a.found.seen ∷ [])) long (cuts_push a.starts.items (length a.found.seen) (length (map closed_entry ys)) cuts))
+        let long : length a.found.seen + length (map closed_entry ys) ≡ length seen = omega
+        (arith, ap length seen_are, length-append a.found.seen (map closed_entry ys)) in
+        subst (λ s. AreCuts s (length seen)) (sym (starts_are ∙ ap (λ k. a.starts.items ++ k ∷ []) n_is))
+        (subst (AreCuts (a.starts.items ++ length a.found.seen ∷ [])) long (cuts_push a.starts.items (length a.found.seen) (length (map closed_entry ys)) cuts))
 
     -- and so the close is as it should be
     pub closed_by : (now : BookView) → book_view a ≡ now → (layer count : ℕ) → layer ≡ length a.starts.items → count ≡ length a.found.waiting →
-        IsClosedBy now (record { layer = layer; count = count }) (record (book_view a) { closed = cut_at starts seen; begun = false; claimed = claimed; done = done; waiting = waiting })
+        IsClosedBy now (record { layer = layer; count = count })
+        (record (book_view a) { closed = cut_at starts seen; begun = false; claimed = claimed; done = done; waiting = waiting })
     closed_by now view layer count layer_is count_is =
-        subst (λ v. IsClosedBy v (record { layer = layer; count = count }) (record (book_view a) { closed = cut_at starts seen; begun = false; claimed = claimed; done = done; waiting = waiting })) view
-        (all, (map closed_entry ys, sorted_open, closed_view, layer_is ∙ sym (length-cut_at a.starts.items a.found.seen), count_is ∙ sym same.0 ∙ sym (length-map ys closed_entry)))
+        subst (λ v. IsClosedBy v (record { layer = layer; count = count })
+        (record (book_view a) { closed = cut_at starts seen; begun = false; claimed = claimed; done = done; waiting = waiting })) view (
+          all,
+          (
+            map closed_entry ys,
+            sorted_open,
+            closed_view,
+            layer_is ∙ sym (length-cut_at a.starts.items a.found.seen),
+            count_is ∙ sym same.0 ∙ sym (length-map ys closed_entry),
+          ),
+        )

@@ -1,5 +1,6 @@
 -- What a lawful book holds: the whole layers behind its lists, what stands open, its marks and its tallies.
-use Rattle.std.proofs.Common.{◌≡◌, ℕ, zero, suc, ◌+◌, ◌<◌, ◌≤◌, Bool, true, false, cond, ◌&&◌, ◌==◌, not, List, [], ◌∷◌, ◌++◌, length, fold, sum, take, replicate, count_by, get_or, set, Some, ◌⊎◌, inl, inr, refl, sym, ap, subst, ◌∙◌, if◌then◌else◌, arith}
+use Rattle.std.proofs.Common.{◌≡◌, ℕ, zero, suc, ◌+◌, ◌<◌, ◌≤◌, Bool, true, false, cond, ◌&&◌, ◌==◌, not, List, [], ◌∷◌, ◌++◌, length, fold, sum, take}
+use Rattle.std.proofs.Common.{replicate, count_by, get_or, set, Some, ◌⊎◌, inl, inr, refl, sym, ap, subst, ◌∙◌, if◌then◌else◌, arith}
 use Rattle.std.proofs.lemmas.Bool.{cases_lt}
 use Rattle.std.proofs.lemmas.Bool.Decides.{nat_tests}
 use Rattle.std.proofs.lemmas.List.Sums.{count_by-le-length}
@@ -38,7 +39,8 @@ pub level_laws : (task : Task) → IsLevel task.board → IsLayered push_cmp (Re
 level_laws task level = reaching_laws task (start_is_scene task.board level)
 
 -- a successor by a push is one place
-pub one_successor : (task : Task) → IsLevel task.board → (k : ℕ) (xs : List Scene) → IsLayerOf task k xs → (r : ℕ) (n : Scene) → slice_get xs r ≡ Some n → (p : Push) (m m' : Scene) → IsSuccessor task.board n p m → IsSuccessor task.board n p m' → m' ≡ m
+pub one_successor : (task : Task) → IsLevel task.board → (k : ℕ) (xs : List Scene) → IsLayerOf task k xs → (r : ℕ) (n : Scene) → slice_get xs r ≡ Some n →
+    (p : Push) (m m' : Scene) → IsSuccessor task.board n p m → IsSuccessor task.board n p m' → m' ≡ m
 one_successor task level k xs layer r n at p m m' a b =
     let laws = level_laws task level in
     let lead = (layer.leads r n at).1 in
@@ -90,9 +92,11 @@ module _ (v : BookView) (book : IsLawfulBook v) (begun : v.begun ≡ true) where
 
   -- an origin of a rank is offered: what stands open is so for the origins offered before and that one
   module _ (rank : ℕ) (n : Scene) (at : slice_get (whole_layer (last_layer v)) rank ≡ Some n) where
-    entered_open : {Offered : ℕ → Push → Type 0} (waiting : List (Entry Scene Push)) (s : Successor) → IsSuccessorIn v.level (last_layer v) n s.push s.position →
+    entered_open : {Offered : ℕ → Push → Type 0} (waiting : List (Entry Scene Push)) (s : Successor) →
+        IsSuccessorIn v.level (last_layer v) n s.push s.position →
         IsOpen push_cmp (IsSuccessor v.level.board) (IsKept v) whole_layer (last_layer v) Offered (origin_of waiting) →
-        IsOpen push_cmp (IsSuccessor v.level.board) (IsKept v) whole_layer (last_layer v) (λ r p. Offered r p ⊎ ((r ≡ rank) × (p ≡ s.push))) (origin_of (entered (is_wanted v) rank waiting s))
+        IsOpen push_cmp (IsSuccessor v.level.board) (IsKept v) whole_layer (last_layer v) (λ r p. Offered r p ⊎ ((r ≡ rank) × (p ≡ s.push)))
+        (origin_of (entered (is_wanted v) rank waiting s))
     entered_open {Offered} waiting s (edge, adm) o = go (share_of v.shares s.position == v.share) refl (is_closed v.closed s.position) refl
       where
         laws : IsLayered push_cmp (Reaches v.level.board) (IsSuccessor v.level.board) (Admits v.level)
@@ -109,7 +113,8 @@ module _ (v : BookView) (book : IsLawfulBook v) (begun : v.begun ≡ true) where
         admitted = let some = book.some in subst (λ k. Admits v.level k s.position) (let e : suc (last_layer v) ≡ length v.closed = omega arith in e) adm
 
         one : (m : Scene) → IsSuccessor v.level.board n s.push m → m ≡ s.position
-        one m other = one_successor v.level book.level (last_layer v) (whole_layer (last_layer v)) (whole_layers (last_layer v) (omega arith)) rank n at s.push s.position m edge other
+        one m other = one_successor v.level book.level (last_layer v) (whole_layer (last_layer v))
+            (whole_layers (last_layer v) (omega arith)) rank n at s.push s.position m edge other
 
         others : (m : Scene) → (origin_of (offered waiting s.position (rank, s.push)) m ≡ origin_of waiting m) ⊎ (m ≡ s.position)
         others m = by (same_scene m s.position) refl
@@ -119,7 +124,9 @@ module _ (v : BookView) (book : IsLawfulBook v) (begun : v.begun ≡ true) where
             by false e = inl (origin_of-other waiting s.position m (rank, s.push) e)
 
         go : (a : Bool) → (share_of v.shares s.position == v.share) ≡ a → (b : Bool) → is_closed v.closed s.position ≡ b →
-            IsOpen push_cmp (IsSuccessor v.level.board) (IsKept v) whole_layer (last_layer v) (λ r p. Offered r p ⊎ ((r ≡ rank) × (p ≡ s.push))) (origin_of (if (share_of v.shares s.position == v.share) && not (is_closed v.closed s.position) then offered waiting s.position (rank, s.push) else waiting))
+            IsOpen push_cmp (IsSuccessor v.level.board) (IsKept v) whole_layer (last_layer v) (λ r p. Offered r p ⊎ ((r ≡ rank) × (p ≡ s.push)))
+            (origin_of (if (share_of v.shares s.position == v.share) && not (is_closed v.closed s.position) then offered waiting s.position
+            (rank, s.push) else waiting))
         go true e false f = rw (e, f)
             (offer_one laws.total o rank s.push n s.position at edge one (of_share e, admitted)
             (λ j le i. let w = layer-closed s.position (of_share e) j le i in cc)
@@ -132,10 +139,13 @@ module _ (v : BookView) (book : IsLawfulBook v) (begun : v.begun ≡ true) where
     PushOf ss p = (i : ℕ) × (s : Successor) × (slice_get ss i ≡ Some s) × (s.push ≡ p)
 
     -- the same for all successors of a rank, one after the other
-    pub all_open : (ss : List Successor) {Offered : ℕ → Push → Type 0} (waiting : List (Entry Scene Push)) → ((i : ℕ) (s : Successor) → slice_get ss i ≡ Some s → IsSuccessorIn v.level (last_layer v) n s.push s.position) →
+    pub all_open : (ss : List Successor) {Offered : ℕ → Push → Type 0} (waiting : List (Entry Scene Push)) →
+        ((i : ℕ) (s : Successor) → slice_get ss i ≡ Some s → IsSuccessorIn v.level (last_layer v) n s.push s.position) →
         IsOpen push_cmp (IsSuccessor v.level.board) (IsKept v) whole_layer (last_layer v) Offered (origin_of waiting) →
-        IsOpen push_cmp (IsSuccessor v.level.board) (IsKept v) whole_layer (last_layer v) (λ r p. Offered r p ⊎ ((r ≡ rank) × PushOf ss p)) (origin_of (fold (entered (is_wanted v) rank) waiting ss))
-    all_open [] waiting edges o = reoffered (λ r p. _) (λ r p f. inl f) (λ r p l m f at_r edge kept. elim f [ inl old ↦ old | inr w ↦ absurd (none-some w.1.1 w.1.2) ]) o
+        IsOpen push_cmp (IsSuccessor v.level.board) (IsKept v) whole_layer (last_layer v) (λ r p. Offered r p ⊎ ((r ≡ rank) × PushOf ss p))
+        (origin_of (fold (entered (is_wanted v) rank) waiting ss))
+    all_open [] waiting edges o = reoffered (λ r p. _) (λ r p f. inl f) (λ r p l m f at_r edge kept. elim f
+        [ inl old ↦ old | inr w ↦ absurd (none-some w.1.1 w.1.2) ]) o
     all_open (s ∷ ss) {Offered} waiting edges o =
         let next = all_open ss (entered (is_wanted v) rank waiting s) (λ i t at_i. edges (suc i) t at_i) (entered_open waiting s (edges zero s refl) o) in
         reoffered (λ r p. Offered r p ⊎ ((r ≡ rank) × PushOf (s ∷ ss) p))
@@ -151,7 +161,8 @@ module _ (v : BookView) (book : IsLawfulBook v) (begun : v.begun ≡ true) where
         next
 
   -- the places that stand open stay distinct
-  pub all_distinct : (rank : ℕ) (ss : List Successor) (waiting : List (Entry Scene Push)) → Distinct (open_places waiting) → Distinct (open_places (fold (entered (is_wanted v) rank) waiting ss))
+  pub all_distinct : (rank : ℕ) (ss : List Successor) (waiting : List (Entry Scene Push)) → Distinct (open_places waiting) →
+      Distinct (open_places (fold (entered (is_wanted v) rank) waiting ss))
   all_distinct rank [] waiting distinct = distinct
   all_distinct rank (s ∷ ss) waiting distinct = all_distinct rank ss (entered (is_wanted v) rank waiting s) (go (is_wanted v s.position))
     where
@@ -160,13 +171,15 @@ module _ (v : BookView) (book : IsLawfulBook v) (begun : v.begun ≡ true) where
       go false = distinct
 
   -- and what holds of each place and of each successor holds of them
-  pub all_each : (Q : Scene → Type 0) (rank : ℕ) (ss : List Successor) (waiting : List (Entry Scene Push)) → ((i : ℕ) (s : Successor) → slice_get ss i ≡ Some s → Q s.position) → ((m : Scene) → IsIn (open_places waiting) m → Q m) → (m : Scene) → IsIn (open_places (fold (entered (is_wanted v) rank) waiting ss)) m → Q m
+  pub all_each : (Q : Scene → Type 0) (rank : ℕ) (ss : List Successor) (waiting : List (Entry Scene Push)) →
+      ((i : ℕ) (s : Successor) → slice_get ss i ≡ Some s → Q s.position) → ((m : Scene) → IsIn (open_places waiting) m → Q m) → (m : Scene) →
+      IsIn (open_places (fold (entered (is_wanted v) rank) waiting ss)) m → Q m
   all_each Q rank [] waiting new old = old
-  all_each Q rank (s ∷ ss) waiting new old = all_each Q rank ss (entered (is_wanted v) rank waiting s) (λ i t at. new (suc i) t at) (go (is_wanted v s.position))
-    where
-      go : (b : Bool) → (m : Scene) → IsIn (open_places (if b then offered waiting s.position (rank, s.push) else waiting)) m → Q m
-      go true = offered-each Q waiting s.position (rank, s.push) (new zero s refl) old
-      go false = old
+  all_each Q rank (s ∷ ss) waiting new old = all_each Q rank ss (entered (is_wanted v) rank waiting s) (λ i t at. new (suc i) t at)
+      (go (is_wanted v s.position)) where
+        go : (b : Bool) → (m : Scene) → IsIn (open_places (if b then offered waiting s.position (rank, s.push) else waiting)) m → Q m
+        go true = offered-each Q waiting s.position (rank, s.push) (new zero s refl) old
+        go false = old
 
 -- a book that has marks has begun
 pub begun-since : (v : BookView) → IsLawfulBook v → (r : ℕ) → r < length v.done → v.begun ≡ true
@@ -190,8 +203,8 @@ few_ranks v book r lt =
 
 -- the open places of a book that has begun are at the next distance
 pub open-distance : (v : BookView) (book : IsLawfulBook v) (begun : v.begun ≡ true) {Offered : ℕ → Push → Type 0} (waiting : List (Entry Scene Push)) →
-    IsOpen push_cmp (IsSuccessor v.level.board) (IsKept v) (whole_layer v book begun) (last_layer v) Offered (origin_of waiting) → Distinct (open_places waiting) →
-    (m : Scene) → IsIn (open_places waiting) m → InShare v m × IsAtDistance v.level m (length v.closed)
+    IsOpen push_cmp (IsSuccessor v.level.board) (IsKept v) (whole_layer v book begun) (last_layer v) Offered (origin_of waiting) →
+    Distinct (open_places waiting) → (m : Scene) → IsIn (open_places waiting) m → InShare v m × IsAtDistance v.level m (length v.closed)
 open-distance v book begun waiting o distinct m w =
     let x = at_map (λ e. e.0) waiting w.0 m w.1 in
     let r = x.0.1.0 in let p = x.0.1.1 in
@@ -206,8 +219,8 @@ open-distance v book begun waiting o distinct m w =
       (
         (lead.0 ++ p ∷ [], laws.grow lead.0 f.2.0 p x.0.0 lead.1.reached f.2.2, omega (arith, lead.2, length-append lead.0 (p ∷ []))),
         λ qs reach. elim (cases_lt (length qs) (length v.closed)) [
-          | inl lt ↦ (let i = found laws (whole_layer v book begun) (last_layer v) layers (length qs) qs x.0.0 (omega arith) (omega arith) reach (laws.earlier (length qs) (length v.closed) x.0.0 (omega arith) f.0.1) in
-              absurd (o.fresh x.0.0 r p e i.0 (omega (arith, i.1)) i.2))
+          | inl lt ↦ (let i = found laws (whole_layer v book begun) (last_layer v) layers (length qs) qs x.0.0 (omega arith) (omega arith) reach
+              (laws.earlier (length qs) (length v.closed) x.0.0 (omega arith) f.0.1) in absurd (o.fresh x.0.0 r p e i.0 (omega (arith, i.1)) i.2))
           | inr ge ↦ ge
         ],
         f.0.1,
@@ -251,7 +264,12 @@ total-push (ys ∷ xss) xs = omega (arith, sum_by_first length ys (xss ++ xs ∷
 pub total-take_more : {A : Type 0} (xss : List (List A)) (k : ℕ) → k < length xss → total (take (suc k) xss) ≡ total (take k xss) + length (get_or xss k [])
 total-take_more [] k lt = absurd (omega arith)
 total-take_more (ys ∷ xss) zero lt = omega (arith, sum_by_first length ys [])
-total-take_more (ys ∷ xss) (suc k) lt = omega (arith, sum_by_first length ys (take (suc k) xss), sum_by_first length ys (take k xss), total-take_more xss k (omega arith))
+total-take_more (ys ∷ xss) (suc k) lt = omega (
+  arith,
+  sum_by_first length ys (take (suc k) xss),
+  sum_by_first length ys (take k xss),
+  total-take_more xss k (omega arith),
+)
 
 pub read_push : {A : Type 0} (xss : List (List A)) (xs : List A) → get_or (xss ++ xs ∷ []) (length xss) [] ≡ xs
 read_push [] xs = refl
@@ -265,15 +283,19 @@ get_or_same (x ∷ xs) (suc i) a b lt = get_or_same xs i a b (omega arith)
 -- ---- whole layers
 
 -- lists of one length that agree at each place are equal
-pub same_places : {A : Type 0} (xs ys : List A) → length xs ≡ length ys → ((i : ℕ) (a b : A) → slice_get xs i ≡ Some a → slice_get ys i ≡ Some b → a ≡ b) → xs ≡ ys
+pub same_places : {A : Type 0} (xs ys : List A) → length xs ≡ length ys → ((i : ℕ) (a b : A) → slice_get xs i ≡ Some a → slice_get ys i ≡ Some b → a ≡ b) →
+    xs ≡ ys
 same_places [] [] long same = refl
 same_places [] (y ∷ ys) long same = absurd (omega arith)
 same_places (x ∷ xs) [] long same = absurd (omega arith)
-same_places (x ∷ xs) (y ∷ ys) long same = let e = same zero x y refl refl in let f = same_places xs ys (omega arith) (λ i a b. same (suc i) a b) in λ n. e n ∷ f n
+same_places (x ∷ xs) (y ∷ ys) long same = let e = same zero x y refl refl in let f = same_places xs ys (omega arith) (λ i a b. same (suc i) a b) in
+    λ n. e n ∷ f n
 
 -- the first layers of a level are one list of lists
-pub layers_same : (task : Task) → IsLevel task.board → (xss yss : List (List Scene)) → AreLayersOf task xss → AreLayersOf task yss → length xss ≡ length yss → xss ≡ yss
-layers_same task level xss yss a b long = same_places xss yss long (λ j xs ys at_x at_y. layer_unique (level_laws task level) j xs ys (a j xs at_x) (b j ys at_y))
+pub layers_same : (task : Task) → IsLevel task.board → (xss yss : List (List Scene)) → AreLayersOf task xss → AreLayersOf task yss → length xss ≡ length yss →
+    xss ≡ yss
+layers_same task level xss yss a b long = same_places xss yss long (λ j xs ys at_x at_y. layer_unique (level_laws task level) j xs ys (a j xs at_x)
+    (b j ys at_y))
 
 -- ---- tallies
 
@@ -304,6 +326,7 @@ tally_bound v book begun w =
 pub begun_ranks : (v : BookView) (layer : LayerView) → IsLawfulBook v → IsWhole layer → HasBegun v layer → length v.done ≡ length layer.places
 begun_ranks v layer book whole (level, number, begun) =
     let some = book.some in
-    let here : IsLayerOf v.level (last_layer v) layer.places = subst (λ k. IsLayerOf v.level k layer.places) number (subst (λ b. IsLayerOf b layer.number layer.places) level whole.layer) in
-    let e = layer_unique (level_laws v.level book.level) (last_layer v) layer.places (whole_layer v book begun (last_layer v)) here (whole_layers v book begun (last_layer v) (omega arith)) in
-    omega (arith, (book.begun begun).2, ap length e)
+    let here : IsLayerOf v.level (last_layer v) layer.places = subst (λ k. IsLayerOf v.level k layer.places) number
+    (subst (λ b. IsLayerOf b layer.number layer.places) level whole.layer) in
+    let e = layer_unique (level_laws v.level book.level) (last_layer v) layer.places (whole_layer v book begun (last_layer v)) here
+    (whole_layers v book begun (last_layer v) (omega arith)) in omega (arith, (book.begun begun).2, ap length e)

@@ -1,5 +1,6 @@
 -- How many: lists without repetition, and lists of lists cut short.
-use Rattle.std.proofs.Common.{◌≡◌, ℕ, zero, suc, ◌+◌, ◌*◌, ◌^◌, ◌<◌, ◌≤◌, List, [], ◌∷◌, ◌++◌, length, map, take, sum_by, Some, ◌⊎◌, inl, inr, refl, sym, ap, ◌∙◌, arith}
+use Rattle.std.proofs.Common.{◌≡◌, ℕ, zero, suc, ◌+◌, ◌*◌, ◌^◌, ◌<◌, ◌≤◌, List, [], ◌∷◌, ◌++◌, length, map, take, sum_by, Some, ◌⊎◌, inl, inr, refl, sym, ap}
+use Rattle.std.proofs.Common.{◌∙◌, arith}
 use Rattle.std.proofs.lemmas.List.{length-append}
 use Rattle.std.proofs.lemmas.Option.{same_Some, none-some}
 use Rattle.std.specs.Prelude.{slice_get}
@@ -32,19 +33,22 @@ in_without (suc r) (suc s) (x ∷ xs) a e = elim (in_without r s xs a e) [ inl s
 pub length-distinct : {A : Type 0} (ms xs : List A) → Distinct ms → ((a : A) → IsIn ms a → IsIn xs a) → length ms ≤ length xs
 length-distinct [] xs distinct each = omega arith
 length-distinct {A} (m ∷ ms) xs distinct each =
-    omega (arith, length-without first.0 xs m first.1, length-distinct ms (without first.0 xs) (λ i j a at_i at_j. omega (arith, distinct (suc i) (suc j) a at_i at_j)) others)
-  where
-    first : IsIn xs m
-    first = each m (zero, refl)
+    omega (
+      arith,
+      length-without first.0 xs m first.1,
+      length-distinct ms (without first.0 xs) (λ i j a at_i at_j. omega (arith, distinct (suc i) (suc j) a at_i at_j)) others,
+    ) where
+      first : IsIn xs m
+      first = each m (zero, refl)
 
-    others : (a : A) → IsIn ms a → IsIn (without first.0 xs) a
-    others a w =
-        let there = each a (suc w.0, w.1) in
-        elim (in_without first.0 there.0 xs a there.1) [
-          | inl same ↦ (let e : a ≡ m = same_Some a m (sym there.1 ∙ ap (slice_get xs) same ∙ first.1) in
-              absurd (omega (arith, distinct zero (suc w.0) a (ap (λ b. Some b) (sym e)) w.1)))
-          | inr rest ↦ rest
-        ]
+      others : (a : A) → IsIn ms a → IsIn (without first.0 xs) a
+      others a w =
+          let there = each a (suc w.0, w.1) in
+          elim (in_without first.0 there.0 xs a there.1) [
+            | inl same ↦ (let e : a ≡ m = same_Some a m (sym there.1 ∙ ap (slice_get xs) same ∙ first.1) in
+                absurd (omega (arith, distinct zero (suc w.0) a (ap (λ b. Some b) (sym e)) w.1)))
+            | inr rest ↦ rest
+          ]
 
 -- ---- lists of lists
 
@@ -56,22 +60,40 @@ total-take zero (xs ∷ xss) = omega arith
 total-take (suc n) (xs ∷ xss) = omega (arith, sum_by_first length xs (take n xss), sum_by_first length xs xss, total-take n xss)
 
 -- and as many where all later ones are empty
-pub total-front : {A : Type 0} (n : ℕ) (xss : List (List A)) → ((j : ℕ) (xs : List A) → n ≤ j → slice_get xss j ≡ Some xs → length xs ≡ 0) → total xss ≡ total (take n xss)
+pub total-front : {A : Type 0} (n : ℕ) (xss : List (List A)) → ((j : ℕ) (xs : List A) → n ≤ j → slice_get xss j ≡ Some xs → length xs ≡ 0) →
+    total xss ≡ total (take n xss)
 total-front zero [] empty = refl
 total-front (suc n) [] empty = refl
-total-front zero (xs ∷ xss) empty = omega (arith, sum_by_first length xs xss, empty zero xs (omega arith) refl, total-front zero xss (λ j ys le at_j. empty (suc j) ys (omega arith) at_j), none xss)
-  where
-    none : {A : Type 0} (yss : List (List A)) → total (take zero yss) ≡ 0
-    none [] = refl
-    none (ys ∷ yss) = refl
-total-front (suc n) (xs ∷ xss) empty = omega (arith, sum_by_first length xs xss, sum_by_first length xs (take n xss), total-front n xss (λ j ys le at_j. empty (suc j) ys (omega arith) at_j))
+total-front zero (xs ∷ xss) empty = omega (
+  arith,
+  sum_by_first length xs xss,
+  empty zero xs (omega arith) refl,
+  total-front zero xss (λ j ys le at_j. empty (suc j) ys (omega arith) at_j),
+  none xss,
+) where
+  none : {A : Type 0} (yss : List (List A)) → total (take zero yss) ≡ 0
+  none [] = refl
+  none (ys ∷ yss) = refl
+total-front (suc n) (xs ∷ xss) empty = omega (
+  arith,
+  sum_by_first length xs xss,
+  sum_by_first length xs (take n xss),
+  total-front n xss (λ j ys le at_j. empty (suc j) ys (omega arith) at_j),
+)
 
 -- lists have no more elements together than longer ones, place by place, and more of them
-pub totals_upto : {A B : Type 0} (xss : List (List A)) (yss : List (List B)) → length xss ≤ length yss → ((j : ℕ) (xs : List A) (ys : List B) → slice_get xss j ≡ Some xs → slice_get yss j ≡ Some ys → length xs ≤ length ys) → total xss ≤ total yss
+pub totals_upto : {A B : Type 0} (xss : List (List A)) (yss : List (List B)) → length xss ≤ length yss →
+    ((j : ℕ) (xs : List A) (ys : List B) → slice_get xss j ≡ Some xs → slice_get yss j ≡ Some ys → length xs ≤ length ys) → total xss ≤ total yss
 totals_upto [] yss few each = omega arith
 totals_upto (xs ∷ xss) [] few each = absurd (omega arith)
 totals_upto (xs ∷ xss) (ys ∷ yss) few each =
-    omega (arith, sum_by_first length xs xss, sum_by_first length ys yss, each zero xs ys refl refl, totals_upto xss yss (omega arith) (λ j us vs at_u at_v. each (suc j) us vs at_u at_v))
+    omega (
+      arith,
+      sum_by_first length xs xss,
+      sum_by_first length ys yss,
+      each zero xs ys refl refl,
+      totals_upto xss yss (omega arith) (λ j us vs at_u at_v. each (suc j) us vs at_u at_v),
+    )
 
 -- ---- all elements of a list of lists
 
@@ -84,7 +106,8 @@ length-flat [] = refl
 length-flat (xs ∷ xss) = omega (arith, length-append xs (flat xss), length-flat xss, sum_by_first length xs xss)
 
 -- what stands in two lists, one after the other
-at-append : {A : Type 0} (xs ys : List A) (i : ℕ) (a : A) → slice_get (xs ++ ys) i ≡ Some a → (slice_get xs i ≡ Some a) ⊎ ((j : ℕ) × (i ≡ length xs + j) × (slice_get ys j ≡ Some a))
+at-append : {A : Type 0} (xs ys : List A) (i : ℕ) (a : A) → slice_get (xs ++ ys) i ≡ Some a →
+    (slice_get xs i ≡ Some a) ⊎ ((j : ℕ) × (i ≡ length xs + j) × (slice_get ys j ≡ Some a))
 at-append [] ys i a e = inr (i, omega arith, e)
 at-append (x ∷ xs) ys zero a e = inl e
 at-append (x ∷ xs) ys (suc i) a e = elim (at-append xs ys i a e) [ inl w ↦ inl w | inr w ↦ inr (w.0, omega (arith, w.1), w.2) ]
@@ -117,8 +140,8 @@ flat_distinct {A} (xs ∷ xss) each apart i j a at_i at_j = elim (at-append xs (
   ]
   | inr first ↦ elim (at-append xs (flat xss) j a at_j) [
     | inl second ↦ absurd (other j second (first.0, first.2))
-    | inr second ↦ (let e = flat_distinct xss (λ k. each (suc k)) (λ k l us vs b at_u at_v in_u in_v. omega (arith, apart (suc k) (suc l) us vs b at_u at_v in_u in_v)) first.0 second.0 a first.2 second.2 in
-        omega (arith, first.1, second.1, e))
+    | inr second ↦ (let e = flat_distinct xss (λ k. each (suc k)) (λ k l us vs b at_u at_v in_u in_v. omega
+        (arith, apart (suc k) (suc l) us vs b at_u at_v in_u in_v)) first.0 second.0 a first.2 second.2 in omega (arith, first.1, second.1, e))
   ]
 ]
   where

@@ -44,7 +44,8 @@ module _ (books : List BookView) (all : AreAllShares books) (lawful : AreLawfulB
   all_open = map open_in books
 
   -- what stands open in the book of a share is of that share, and at the distance of the next layer
-  away : (t : ℕ) (ms : List Scene) → slice_get all_open t ≡ Some ms → (m : Scene) → IsIn ms m → (share_of all.first.shares m ≡ t) × IsAtDistance all.first.level m (length all.first.closed)
+  away : (t : ℕ) (ms : List Scene) → slice_get all_open t ≡ Some ms → (m : Scene) → IsIn ms m →
+      (share_of all.first.shares m ≡ t) × IsAtDistance all.first.level m (length all.first.closed)
   away t ms at m i =
       let x = at_map open_in books t ms at in
       let v : BookView = x.0 in
@@ -59,10 +60,11 @@ module _ (books : List BookView) (all : AreAllShares books) (lawful : AreLawfulB
   open_many = record {
     places = flat all_open;
     distinct = flat_distinct all_open
-        (λ t ms at. let x = at_map open_in books t ms at in subst (λ zs. (i j : ℕ) (m : Scene) → slice_get zs i ≡ Some m → slice_get zs j ≡ Some m → i ≡ j) x.2 (lawful t x.0 x.1).distinct)
-        (λ s t ms ns m at_m at_n in_m in_n. sym (away s ms at_m m in_m).0 ∙ (away t ns at_n m in_n).0);
+        (λ t ms at. let x = at_map open_in books t ms at in subst (λ zs. (i j : ℕ) (m : Scene) → slice_get zs i ≡ Some m → slice_get zs j ≡ Some m →
+        i ≡ j) x.2 (lawful t x.0 x.1).distinct) (λ s t ms ns m at_m at_n in_m in_n. sym (away s ms at_m m in_m).0 ∙ (away t ns at_n m in_n).0);
     away = λ m i. (let w = of_flat all_open m i in (away w.0 w.1 w.2 m w.3).1);
-    count = length-flat all_open ∙ total-map open_in books ∙ sum_by-same (λ (v : BookView). length (open_in v)) (λ v. length v.waiting) books (λ v. length-map v.waiting (λ e. e.0));
+    count = length-flat all_open ∙ total-map open_in books ∙ sum_by-same (λ (v : BookView). length (open_in v)) (λ v. length v.waiting) books
+        (λ v. length-map v.waiting (λ e. e.0));
   }
 
   -- and so all that they hold are the layers and these

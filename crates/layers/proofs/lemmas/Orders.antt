@@ -10,7 +10,8 @@ use Rattle.std.specs.Cmp.Lexicographic.{slice_cmp}
 use Rattle.grid.specs.Plays.{shortlex}
 
 -- the pushes before the last decide first
-pub slice_cmp-snoc : {P : Type 0} (cmp : P → P → Ordering) (ps qs : List P) (p q : P) → length ps ≡ length qs → slice_cmp cmp (ps ++ p ∷ []) (qs ++ q ∷ []) ≡ ordering_then (slice_cmp cmp ps qs) (cmp p q)
+pub slice_cmp-snoc : {P : Type 0} (cmp : P → P → Ordering) (ps qs : List P) (p q : P) → length ps ≡ length qs →
+    slice_cmp cmp (ps ++ p ∷ []) (qs ++ q ∷ []) ≡ ordering_then (slice_cmp cmp ps qs) (cmp p q)
 slice_cmp-snoc cmp [] [] p q e = then-Equal (cmp p q)
   where
     then-Equal : (o : Ordering) → ordering_then o Equal ≡ o

@@ -23,7 +23,8 @@ use Rattle.successors.proofs.lemmas.Lists.{at_map, map_at, Distinct}
 use Rattle.layers.proofs.lemmas.Joins.{total-places}
 
 -- a share of a layer has no more positions than the layer
-pub share_upto : (task : Task) → IsLevel task.board → (shares share k : ℕ) (es : List Closed) (xs : List Scene) → IsShareOfLayer task shares share k es → IsLayerOf task k xs → length es ≤ length xs
+pub share_upto : (task : Task) → IsLevel task.board → (shares share k : ℕ) (es : List Closed) (xs : List Scene) → IsShareOfLayer task shares share k es →
+    IsLayerOf task k xs → length es ≤ length xs
 share_upto task level shares share k es xs part whole =
     omega (
       arith,
@@ -33,17 +34,20 @@ share_upto task level shares share k es xs part whole =
     )
 
 -- a book has closed no more positions than lie in the layers that it has closed
-pub closed_upto : (v : BookView) → IsLawfulBook v → (layers : List (List Scene)) → AreLayersOf v.level layers → length v.closed ≤ length layers → total v.closed ≤ total layers
+pub closed_upto : (v : BookView) → IsLawfulBook v → (layers : List (List Scene)) → AreLayersOf v.level layers → length v.closed ≤ length layers →
+    total v.closed ≤ total layers
 closed_upto v book layers are few =
     totals_upto v.closed layers few (λ j es xs at_es at_xs. share_upto v.level book.level v.shares v.share j es xs (book.closed j es at_es) (are j xs at_xs))
 
 -- the share and the lead of a position of a share, which is admitted
-share_lead : (task : Task) (shares t k : ℕ) (es : List Closed) → IsShareOfLayer task shares t k es → (m : Scene) → IsIn (places_of es) m → ((share_of shares m ≡ t) × Admits task k m) × ((ps : List Push) × IsLeadOf task.board m ps × (length ps ≡ k))
+share_lead : (task : Task) (shares t k : ℕ) (es : List Closed) → IsShareOfLayer task shares t k es → (m : Scene) → IsIn (places_of es) m →
+    ((share_of shares m ≡ t) × Admits task k m) × ((ps : List Push) × IsLeadOf task.board m ps × (length ps ≡ k))
 share_lead task shares t k es part m (i, at) = part.layer.leads i m at
 
 -- ---- all the shares of a layer
 
-module _ (task : Task) (level : IsLevel task.board) (shares k : ℕ) (lists : List (List Closed)) (are : AreSharesOfLayer task shares k lists) (xs : List Scene) (whole : IsLayerOf task k xs) where
+module _ (task : Task) (level : IsLevel task.board) (shares k : ℕ) (lists : List (List Closed)) (are : AreSharesOfLayer task shares k lists) (xs : List Scene)
+    (whole : IsLayerOf task k xs) where
   abbrev all_places : List (List Scene)
   all_places = map places_of lists
 
@@ -51,7 +55,8 @@ module _ (task : Task) (level : IsLevel task.board) (shares k : ℕ) (lists : Li
   share_places : (t : ℕ) (ms : List Scene) → slice_get all_places t ≡ Some ms → (es : List Closed) × IsShareOfLayer task shares t k es × (places_of es ≡ ms)
   share_places t ms at = let x = at_map places_of lists t ms at in (x.0, are.each t x.0 x.1, x.2)
 
-  lead_among : (t : ℕ) (ms : List Scene) → slice_get all_places t ≡ Some ms → (m : Scene) → IsIn ms m → ((share_of shares m ≡ t) × Admits task k m) × ((ps : List Push) × IsLeadOf task.board m ps × (length ps ≡ k))
+  lead_among : (t : ℕ) (ms : List Scene) → slice_get all_places t ≡ Some ms → (m : Scene) → IsIn ms m →
+      ((share_of shares m ≡ t) × Admits task k m) × ((ps : List Push) × IsLeadOf task.board m ps × (length ps ≡ k))
   lead_among t ms at m i = let x = share_places t ms at in share_lead task shares t k x.0 x.1 m (i.0, ap (λ zs. slice_get zs i.0) x.2 ∙ i.1)
 
   shares_distinct : Distinct (flat all_places)
@@ -99,10 +104,12 @@ module _ (books : List BookView) (all : AreAllShares books) (lawful : AreLawfulB
   some_shares = omega (arith, slice_get_within books 0 first all.head, all.all)
 
   -- each closed list of a book is its share of that layer
-  closed_share : (t : ℕ) (v : BookView) → slice_get books t ≡ Some v → (j : ℕ) (es : List Closed) → slice_get v.closed j ≡ Some es → IsShareOfLayer first.level first.shares t j es
+  closed_share : (t : ℕ) (v : BookView) → slice_get books t ≡ Some v → (j : ℕ) (es : List Closed) → slice_get v.closed j ≡ Some es →
+      IsShareOfLayer first.level first.shares t j es
   closed_share t v at j es at_j =
       let e = all.each t v at in
-      subst (λ s. IsShareOfLayer first.level first.shares s j es) e.0 (subst (λ n. IsShareOfLayer first.level n v.share j es) e.3 (subst (λ b. IsShareOfLayer b v.shares v.share j es) e.1 ((lawful t v at).closed j es at_j)))
+      subst (λ s. IsShareOfLayer first.level first.shares s j es) e.0 (subst (λ n. IsShareOfLayer first.level n v.share j es) e.3
+      (subst (λ b. IsShareOfLayer b v.shares v.share j es) e.1 ((lawful t v at).closed j es at_j)))
 
   -- and so the last ones are all the shares of the last closed layer
   pub last_shares : AreSharesOfLayer first.level first.shares (last_layer first) (map last_list books)
@@ -124,18 +131,23 @@ module _ (books : List BookView) (all : AreAllShares books) (lawful : AreLawfulB
   length-book_places v = length-flat (map places_of v.closed) ∙ total-places v.closed
 
   -- a closed list of positions
-  list_of : (t : ℕ) (v : BookView) → slice_get books t ≡ Some v → (j : ℕ) (ms : List Scene) → slice_get (map places_of v.closed) j ≡ Some ms → (es : List Closed) × IsShareOfLayer first.level first.shares t j es × (places_of es ≡ ms)
+  list_of : (t : ℕ) (v : BookView) → slice_get books t ≡ Some v → (j : ℕ) (ms : List Scene) → slice_get (map places_of v.closed) j ≡ Some ms →
+      (es : List Closed) × IsShareOfLayer first.level first.shares t j es × (places_of es ≡ ms)
   list_of t v at j ms at_j = let x = at_map places_of v.closed j ms at_j in (x.0, closed_share t v at j x.0 x.1, x.2)
 
   book_distinct : (t : ℕ) (v : BookView) → slice_get books t ≡ Some v → Distinct (book_places v)
   book_distinct t v at = flat_distinct (map places_of v.closed)
-      (λ j ms at_j. let x = list_of t v at j ms at_j in subst (λ zs. Distinct zs) x.2 (place_unique (level_laws first.level first_book.level) j (places_of x.0) x.1.layer))
+      (λ j ms at_j. let x = list_of t v at j ms at_j in subst (λ zs. Distinct zs) x.2
+      (place_unique (level_laws first.level first_book.level) j (places_of x.0) x.1.layer))
       (λ i j ms ns m at_m at_n in_m in_n. let x = list_of t v at i ms at_m in
       let y = list_of t v at j ns at_n in
-      layers_apart (level_laws first.level first_book.level) i j (places_of x.0) (places_of y.0) x.1.layer y.1.layer m (in_m.0, ap (λ zs. slice_get zs in_m.0) x.2 ∙ in_m.1) (in_n.0, ap (λ zs. slice_get zs in_n.0) y.2 ∙ in_n.1))
+      layers_apart (level_laws first.level first_book.level) i j (places_of x.0) (places_of y.0) x.1.layer y.1.layer m
+      (in_m.0, ap (λ zs. slice_get zs in_m.0) x.2 ∙ in_m.1) (in_n.0, ap (λ zs. slice_get zs in_n.0) y.2 ∙ in_n.1))
 
   -- a position that a book has closed is of its share, and its lead is as long as its layer's number
-  lead_closed : (t : ℕ) (v : BookView) → slice_get books t ≡ Some v → (m : Scene) → IsIn (book_places v) m → (share_of first.shares m ≡ t) × ((j : ℕ) × (j < length v.closed) × Admits first.level j m × ((ps : List Push) × IsLeadOf first.level.board m ps × (length ps ≡ j)))
+  lead_closed : (t : ℕ) (v : BookView) → slice_get books t ≡ Some v → (m : Scene) → IsIn (book_places v) m →
+      (share_of first.shares m ≡ t) × ((j : ℕ) × (j < length v.closed) × Admits first.level j m
+      × ((ps : List Push) × IsLeadOf first.level.board m ps × (length ps ≡ j)))
   lead_closed t v at m i =
       let w = of_flat (map places_of v.closed) m i in
       let x = list_of t v at w.0 w.1 w.2 in
@@ -150,7 +162,8 @@ module _ (books : List BookView) (all : AreAllShares books) (lawful : AreLawfulB
       (λ t ms at. let x = at_map book_places books t ms at in subst (λ zs. Distinct zs) x.2 (book_distinct t x.0 x.1))
       (λ s t ms ns m at_m at_n in_m in_n. let x = at_map book_places books s ms at_m in
       let y = at_map book_places books t ns at_n in
-      sym (lead_closed s x.0 x.1 m (in_m.0, ap (λ zs. slice_get zs in_m.0) x.2 ∙ in_m.1)).0 ∙ (lead_closed t y.0 y.1 m (in_n.0, ap (λ zs. slice_get zs in_n.0) y.2 ∙ in_n.1)).0)
+      sym (lead_closed s x.0 x.1 m (in_m.0, ap (λ zs. slice_get zs in_m.0) x.2 ∙ in_m.1)).0
+      ∙ (lead_closed t y.0 y.1 m (in_n.0, ap (λ zs. slice_get zs in_n.0) y.2 ∙ in_n.1)).0)
 
   module _ (layers : List (List Scene)) (are : AreLayersOf first.level layers) (long : length layers ≡ length first.closed) where
     layers_distinct : Distinct (flat layers)
@@ -164,7 +177,8 @@ module _ (books : List BookView) (all : AreAllShares books) (lawful : AreLawfulB
         let x = at_map book_places books w.0 w.1 w.2 in
         let l = (lead_closed w.0 x.0 x.1 m (w.3.0, ap (λ zs. slice_get zs w.3.0) x.2 ∙ w.3.1)).1 in
         let at = read_at layers l.0 (omega (arith, l.1, long, (all.each w.0 x.0 x.1).4)) in
-        in_flat layers l.0 (get_or layers l.0 []) m at (member (level_laws first.level first_book.level) l.0 (get_or layers l.0 []) (are l.0 (get_or layers l.0 []) at) m l.3.0 l.3.1 l.3.2 l.2)
+        in_flat layers l.0 (get_or layers l.0 []) m at (member (level_laws first.level first_book.level) l.0 (get_or layers l.0 [])
+        (are l.0 (get_or layers l.0 []) at) m l.3.0 l.3.1 l.3.2 l.2)
 
     layers_in : (m : Scene) → IsIn (flat layers) m → IsIn (flat all_closed) m
     layers_in m i =

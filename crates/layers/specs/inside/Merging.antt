@@ -18,7 +18,8 @@ first_origin (e ∷ es) = Some (origin_in e.1)
 -- the list at the place s begins with e, and no list with an entry of a lesser origin
 pub record IsLeastFirst (rests : List (List Closed)) (s : ℕ) (e : Closed) (rest : List Closed) : Type 0 where
   pub here : slice_get rests s ≡ Some (e ∷ rest)
-  pub least : (t : ℕ) (f : Closed) (more : List Closed) → slice_get rests t ≡ Some (f ∷ more) → is_gt (origin_cmp push_cmp (origin_in e.1) (origin_in f.1)) ≡ false
+  pub least : (t : ℕ) (f : Closed) (more : List Closed) → slice_get rests t ≡ Some (f ∷ more) →
+      is_gt (origin_cmp push_cmp (origin_in e.1) (origin_in f.1)) ≡ false
 
 -- the list at the place s has the least first entry
 abbrev pub HasLeastFirst : List (List Closed) → ℕ → Type 0
@@ -27,7 +28,8 @@ HasLeastFirst rests s = (e : Closed) × (rest : List Closed) × IsLeastFirst res
 -- the entries were taken from the lists, one after the other, each the least first one, and the rests are left
 pub data Takes (lists : List (List Closed)) : List Closed → List (List Closed) → Type 0 where
   nothing : Takes lists [] lists
-  one : {taken : List Closed} {rests : List (List Closed)} {s : ℕ} {e : Closed} {rest : List Closed} → Takes lists taken rests → IsLeastFirst rests s e rest → Takes lists (taken ++ e ∷ []) (slice_set rests s rest)
+  one : {taken : List Closed} {rests : List (List Closed)} {s : ℕ} {e : Closed} {rest : List Closed} → Takes lists taken rests → IsLeastFirst rests s e rest →
+      Takes lists (taken ++ e ∷ []) (slice_set rests s rest)
 
 -- the entries are the lists merged: so they were taken, and nothing is left
 abbrev pub IsMerged : List (List Closed) → List Closed → Type 0

@@ -8,7 +8,8 @@ use Rattle.grid.specs.Rising.{rises_from, is_rising}
 use Rattle.grid.specs.Board.{Board, Scene, IsSolved, Walks, Pushes, next}
 use Rattle.grid.specs.States.{IsScene}
 use Rattle.grid.specs.Plays.{Play, Any, stay, walk, push}
-use Rattle.grid.proofs.lemmas.Squares.{contains_head, contains-remove_out, contains-remove_parts, contains-remove_other, contains-below, contains-from, remove_out, rises_from-parts, is_rising-remove}
+use Rattle.grid.proofs.lemmas.Squares.{contains_head, contains-remove_out, contains-remove_parts, contains-remove_other, contains-below, contains-from}
+use Rattle.grid.proofs.lemmas.Squares.{remove_out, rises_from-parts, is_rising-remove}
 use Rattle.grid.proofs.lemmas.Steps.{scene_after_walk, scene_after_push}
 use Rattle.prices.specs.Prices.{goals_of, sum_over, CanStand, IsNeed, total_need, NeedsHold, NeedsRefuse, least_of, TollsAreFree}
 use Rattle.prices.proofs.lemmas.Goals.{contains-goals, is_rising-goals}
@@ -63,7 +64,8 @@ sum_within f k [] ys rises rising within = omega arith
 sum_within f k (x ∷ xs) ys rises rising within =
     let parts = rises_from-parts k x xs rises in
     let rest = sum_within f (suc x) xs (remove ys x) parts.1 (is_rising-remove ys x rising)
-    (λ q there. contains-remove_other ys x q (let ge = contains-from (suc x) xs q parts.1 there in λ e. omega (arith, e, ge)) ∙ within q (in_tail x xs q there)) in
+    (λ q there. contains-remove_other ys x q (let ge = contains-from (suc x) xs q parts.1 there in λ e. omega (arith, e, ge)) ∙
+    within q (in_tail x xs q there)) in
     let put = sum_put_back f 0 ys x rising (within x (contains_head x xs)) in
     omega (arith, rest, put)
 

@@ -54,14 +54,17 @@ search_finds board most k (suc m) all s closed (i, x, at, same, le) few solvable
     by_solved (λ t seen rest. search_finds board most (suc x.pushes) m all t closed seen (omega (arith, few, le)) rest) (solved_or_not board s)
   where
     kept : ¬ (IsSolved board s) → (t : Scene) × IsSeen all (suc x.pushes) t × SolvableWithin board m t
-    kept unsolved = closed i x at m (omega (arith, few, le)) (λ h. unsolved (subst (IsSolved board) same h)) (subst (SolvableWithin board (suc m)) (sym same) solvable)
+    kept unsolved = closed i x at m (omega (arith, few, le)) (λ h. unsolved (subst (IsSolved board) same h))
+        (subst (SolvableWithin board (suc m)) (sym same) solvable)
 
-    by_solved : ((t : Scene) → IsSeen all (suc x.pushes) t → SolvableWithin board m t → HasFound board all) → IsSolved board s ⊎ ¬ (IsSolved board s) → HasFound board all
+    by_solved : ((t : Scene) → IsSeen all (suc x.pushes) t → SolvableWithin board m t → HasFound board all) → IsSolved board s ⊎ ¬ (IsSolved board s) →
+        HasFound board all
     by_solved onwards (inl solved) = found_here board k all s (i, x, at, same, le) solved
     by_solved onwards (inr unsolved) = let (t, seen, rest) = kept unsolved in onwards t seen rest
 
 pub search_decides : (board : Board) → SearchDecides board
 search_decides board level most all n norm seen closed none ds ps t play solved = elim (cases_lt most (length ps)) [
   | inl lt ↦ lt
-  | inr le ↦ absurd (none (search_finds board most 0 most all n closed seen (omega arith) ((norms_change_nothing board (start board) n (start_is_scene board level) norm most).0 (ds, ps, t, play, solved, le))))
+  | inr le ↦ absurd (none (search_finds board most 0 most all n closed seen (omega arith)
+      ((norms_change_nothing board (start board) n (start_is_scene board level) norm most).0 (ds, ps, t, play, solved, le))))
 ]

@@ -1,5 +1,6 @@
 -- Each push changes the sum of rows and columns of the boxes by one.
-use Rattle.std.proofs.Common.{◌≡◌, ◌≢◌, ℕ, zero, suc, ◌+◌, ◌*◌, ◌/◌, ◌%◌, ◌≤◌, ◌<◌, ◌⊎◌, Bool, true, false, not, cond, eqb, ltb, List, [], ◌∷◌, length, refl, sym, ap, subst, ◌∙◌, inl, inr, arith}
+use Rattle.std.proofs.Common.{◌≡◌, ◌≢◌, ℕ, zero, suc, ◌+◌, ◌*◌, ◌/◌, ◌%◌, ◌≤◌, ◌<◌, ◌⊎◌, Bool, true, false, not, cond, eqb, ltb, List, [], ◌∷◌, length, refl}
+use Rattle.std.proofs.Common.{sym, ap, subst, ◌∙◌, inl, inr, arith}
 use Rattle.std.proofs.Math.Nat.{add-div_right, add-mod_right, mul-add-div_right, mod-lt, div-eq_of_lt}
 use Rattle.std.proofs.lemmas.Nat.{div-add-mod'}
 use Rattle.std.proofs.lemmas.Bool.{false≢true, true≢false, eqb-true, eqb-false, or_right}
@@ -14,7 +15,8 @@ use Rattle.grid.specs.Plays.{Play, Any, stay, walk, push}
 use Rattle.grid.specs.Lawful.{IsLevel}
 use Rattle.grid.proofs.lemmas.Levels.{level_counts, start_fits}
 use Rattle.grid.proofs.lemmas.Plays.{length-play, play_scene}
-use Rattle.grid.proofs.lemmas.Squares.{contains_head, contains-from, contains-remove_other, contains-remove_out, is_rising-remove, length-remove, rises_from-parts, same_set_both}
+use Rattle.grid.proofs.lemmas.Squares.{contains_head, contains-from, contains-remove_other, contains-remove_out, is_rising-remove, length-remove}
+use Rattle.grid.proofs.lemmas.Squares.{rises_from-parts, same_set_both}
 use Rattle.grid.proofs.lemmas.Steps.{next_back, scene_after_walk, scene_after_push, wall_at_end, walk_boxes}
 use Rattle.prover.specs.Parity.{is_odd, SolutionsAlike, TwoLessDecide, FewDecide}
 use Rattle.prices.specs.Prices.{goals_of, sum_over}
@@ -44,7 +46,8 @@ odd_cancel a b zero same =
     let e : a + zero ≡ a = omega arith in
     let f : b + zero ≡ b = omega arith in
     sym (ap is_odd e) ∙ (same ∙ ap is_odd f)
-odd_cancel a b (suc c) same = odd_cancel a b c (sym (not_twice (is_odd (a + c))) ∙ (ap not (sym (odd_more a c) ∙ (same ∙ odd_more b c)) ∙ not_twice (is_odd (b + c))))
+odd_cancel a b (suc c) same = odd_cancel a b c (sym (not_twice (is_odd (a + c))) ∙
+    (ap not (sym (odd_more a c) ∙ (same ∙ odd_more b c)) ∙ not_twice (is_odd (b + c))))
 
 -- ---- squares next to one another
 
@@ -72,7 +75,8 @@ same_row q cols some column =
     let less : suc q % cols < cols = mod-lt (suc q) (omega (arith, some)) in
     let low : q % cols + 1 < cols = omega (arith, less, column) in
     let none : (q % cols + 1) / cols ≡ 0 = div-eq_of_lt low in
-    let cut : (q / cols * cols + (q % cols + 1)) / cols ≡ q / cols + (q % cols + 1) / cols = mul-add-div_right (omega (arith, some)) (q / cols) (q % cols + 1) in
+    let cut : (q / cols * cols + (q % cols + 1)) / cols ≡ q / cols + (q % cols + 1) / cols =
+    mul-add-div_right (omega (arith, some)) (q / cols) (q % cols + 1) in
     ap (λ (n : ℕ). n / cols) whole ∙ (cut ∙ omega (arith, none))
 
 after : (board : Board) (q : ℕ) → 1 ≤ board.cols → suc q % board.cols ≢ 0 → row_and_column board (suc q) ≡ suc (row_and_column board q)
@@ -81,27 +85,33 @@ after board q some more =
     let rows = same_row q board.cols some column in
     omega (arith, rows, column)
 
-down_by : (board : Board) (q : ℕ) (b : Bool) → 1 ≤ board.cols → is_wall board (cond b (q + board.cols) (length board.cells)) ≡ false → Beside (row_and_column board q) (row_and_column board (cond b (q + board.cols) (length board.cells)))
+down_by : (board : Board) (q : ℕ) (b : Bool) → 1 ≤ board.cols → is_wall board (cond b (q + board.cols) (length board.cells)) ≡ false →
+    Beside (row_and_column board q) (row_and_column board (cond b (q + board.cols) (length board.cells)))
 down_by board q true some ahead = inl (below board q some)
 down_by board q false some ahead = absurd (true≢false (sym (wall_at_end board) ∙ ahead))
 
-right_by : (board : Board) (q : ℕ) (b : Bool) → eqb (suc q % board.cols) 0 ≡ b → 1 ≤ board.cols → is_wall board (cond b (length board.cells) (suc q)) ≡ false → Beside (row_and_column board q) (row_and_column board (cond b (length board.cells) (suc q)))
+right_by : (board : Board) (q : ℕ) (b : Bool) → eqb (suc q % board.cols) 0 ≡ b → 1 ≤ board.cols → is_wall board (cond b (length board.cells) (suc q)) ≡ false →
+    Beside (row_and_column board q) (row_and_column board (cond b (length board.cells) (suc q)))
 right_by board q true test some ahead = absurd (true≢false (sym (wall_at_end board) ∙ ahead))
 right_by board q false test some ahead = inl (after board q some (eqb-false (suc q % board.cols) 0 test))
 
-down_beside : (board : Board) (q : ℕ) → 1 ≤ board.cols → is_wall board (next board q D) ≡ false → Beside (row_and_column board q) (row_and_column board (next board q D))
+down_beside : (board : Board) (q : ℕ) → 1 ≤ board.cols → is_wall board (next board q D) ≡ false →
+    Beside (row_and_column board q) (row_and_column board (next board q D))
 unfolding next
 down_beside board q some ahead = down_by board q (ltb (q + board.cols) (length board.cells)) some ahead
 
-right_beside : (board : Board) (q : ℕ) → 1 ≤ board.cols → is_wall board (next board q R) ≡ false → Beside (row_and_column board q) (row_and_column board (next board q R))
+right_beside : (board : Board) (q : ℕ) → 1 ≤ board.cols → is_wall board (next board q R) ≡ false →
+    Beside (row_and_column board q) (row_and_column board (next board q R))
 unfolding next
 right_beside board q some ahead = right_by board q (eqb (suc q % board.cols) 0) refl some ahead
 
 -- the other two directions come back
-back_beside : (board : Board) (q r : ℕ) (d : Dir) → next board r d ≡ q → Beside (row_and_column board r) (row_and_column board (next board r d)) → Beside (row_and_column board q) (row_and_column board r)
+back_beside : (board : Board) (q r : ℕ) (d : Dir) → next board r d ≡ q → Beside (row_and_column board r) (row_and_column board (next board r d)) →
+    Beside (row_and_column board q) (row_and_column board r)
 back_beside board q r d e beside = turned (subst (λ (x : ℕ). Beside (row_and_column board r) (row_and_column board x)) e beside)
 
-pub next_beside : (board : Board) (q : ℕ) (d : Dir) → 1 ≤ board.cols → is_wall board q ≡ false → is_wall board (next board q d) ≡ false → Beside (row_and_column board q) (row_and_column board (next board q d))
+pub next_beside : (board : Board) (q : ℕ) (d : Dir) → 1 ≤ board.cols → is_wall board q ≡ false → is_wall board (next board q d) ≡ false →
+    Beside (row_and_column board q) (row_and_column board (next board q d))
 next_beside board q D some here ahead = down_beside board q some ahead
 next_beside board q R some here ahead = right_beside board q some ahead
 next_beside board q L some here ahead =
@@ -116,7 +126,8 @@ next_beside board q U some here ahead =
 abbrev sum_of : Board → Squares → ℕ
 sum_of board xs = sum_over (row_and_column board) xs
 
-pushed_beside : (board : Board) (s t : Scene) (d : Dir) → 1 ≤ board.cols → IsScene board s → Pushes board s d t → Beside (sum_of board s.boxes) (sum_of board t.boxes)
+pushed_beside : (board : Board) (s t : Scene) (d : Dir) → 1 ≤ board.cols → IsScene board s → Pushes board s d t →
+    Beside (sum_of board s.boxes) (sum_of board t.boxes)
 pushed_beside board s t d some scene step =
     subst (λ (x : Scene). Beside (sum_of board s.boxes) (sum_of board x.boxes)) (sym step.2) (by (next_beside board q d some (scene.boxes q step.0) step.1.0))
   where
@@ -140,22 +151,28 @@ odd_step : (n a b c : ℕ) → Beside a b → is_odd c ≡ is_odd (n + b) → is
 odd_step n a b c (inl e) same = same ∙ (let f : n + b ≡ suc n + a = omega (arith, e) in ap is_odd f)
 odd_step n a b c (inr e) same = same ∙ (sym (not_twice (is_odd (n + b))) ∙ (let f : suc (suc (n + b)) ≡ suc n + a = omega (arith, e) in ap is_odd f))
 
-odd_played : (board : Board) (s t : Scene) (ds : List Dir) (ps : List Push) → 1 ≤ board.cols → IsScene board s → Play board Any s ds ps t → is_odd (sum_of board t.boxes) ≡ is_odd (length ps + sum_of board s.boxes)
+odd_played : (board : Board) (s t : Scene) (ds : List Dir) (ps : List Push) → 1 ≤ board.cols → IsScene board s → Play board Any s ds ps t →
+    is_odd (sum_of board t.boxes) ≡ is_odd (length ps + sum_of board s.boxes)
 odd_played board s t ds ps some scene (stay ok) = let e : sum_of board s.boxes ≡ 0 + sum_of board s.boxes = omega arith in ap is_odd e
 odd_played board s t (d ∷ ds) ps some scene (walk {m = m} ok step play) =
-    odd_played board m t ds ps some (scene_after_walk board s d m scene step) play ∙ ap (λ (xs : Squares). is_odd (length ps + sum_of board xs)) (walk_boxes board s d m step)
+    odd_played board m t ds ps some (scene_after_walk board s d m scene step) play ∙
+    ap (λ (xs : Squares). is_odd (length ps + sum_of board xs)) (walk_boxes board s d m step)
 odd_played board s t (d ∷ ds) (p ∷ ps) some scene (push {m = m} ok step play) =
-    odd_step (length ps) (sum_of board s.boxes) (sum_of board m.boxes) (sum_of board t.boxes) (pushed_beside board s m d some scene step) (odd_played board m t ds ps some (scene_after_push board s d m scene step) play)
+    odd_step (length ps) (sum_of board s.boxes) (sum_of board m.boxes) (sum_of board t.boxes) (pushed_beside board s m d some scene step)
+    (odd_played board m t ds ps some (scene_after_push board s d m scene step) play)
 
 -- ---- solved boxes stand on all the goals
 
-all_of_them : (k : ℕ) (xs ys : Squares) → rises_from k xs ≡ true → is_rising ys ≡ true → ((q : ℕ) → contains xs q ≡ true → contains ys q ≡ true) → length ys ≤ length xs → (q : ℕ) → contains ys q ≡ true → contains xs q ≡ true
+all_of_them : (k : ℕ) (xs ys : Squares) → rises_from k xs ≡ true → is_rising ys ≡ true → ((q : ℕ) → contains xs q ≡ true → contains ys q ≡ true) →
+    length ys ≤ length xs → (q : ℕ) → contains ys q ≡ true → contains xs q ≡ true
 all_of_them k [] [] rises rising within few q there = there
 all_of_them k [] (y ∷ ys) rises rising within few q there = absurd (omega (arith, few))
 all_of_them k (x ∷ xs) ys rises rising within few q there =
     let parts = rises_from-parts k x xs rises in
     let size = length-remove ys x rising (within x (contains_head x xs)) in
-    let rest = all_of_them (suc x) xs (remove ys x) parts.1 (is_rising-remove ys x rising) (λ z h. contains-remove_other ys x z (let ge = contains-from (suc x) xs z parts.1 h in λ e. omega (arith, e, ge)) ∙ within z (in_tail x xs z h)) (omega (arith, size, few)) q in
+    let rest = all_of_them (suc x) xs (remove ys x) parts.1 (is_rising-remove ys x rising)
+    (λ z h. contains-remove_other ys x z (let ge = contains-from (suc x) xs z parts.1 h in λ e. omega (arith, e, ge)) ∙
+    within z (in_tail x xs z h)) (omega (arith, size, few)) q in
     by_eq rest (eqb x q) refl
   where
     by_eq : (contains (remove ys x) q ≡ true → contains xs q ≡ true) → (b : Bool) → eqb x q ≡ b → contains (x ∷ xs) q ≡ true
@@ -168,7 +185,8 @@ solved_are_goals board s level fits solved =
     let within : (q : ℕ) → contains s.boxes q ≡ true → contains (goals_of board) q ≡ true = λ q there. contains-goals board q ∙ solved q there in
     let counts = (level_counts board level).boxes in
     let size = length-goals board in
-    same_set_both s.boxes (goals_of board) fits.scene.rising rising within (all_of_them 0 s.boxes (goals_of board) fits.scene.rising rising within (omega (arith, counts, size, fits.boxes)))
+    same_set_both s.boxes (goals_of board) fits.scene.rising rising within
+    (all_of_them 0 s.boxes (goals_of board) fits.scene.rising rising within (omega (arith, counts, size, fits.boxes)))
 
 -- ---- two solutions
 

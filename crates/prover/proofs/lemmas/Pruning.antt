@@ -26,30 +26,40 @@ module _ (board : Board) (s : Scene) (p : Push) (scene : IsScene board s) (can :
   behind = next board p.square (opposite p.dir)
 
   there : next board behind p.dir ≡ p.square
-  there = ap (λ (d : Dir). next board behind d) (sym (opposite_twice p.dir)) ∙ next_back board p.square (opposite p.dir) (scene.boxes p.square can.there) (area_scene board s behind scene can.behind).player.0
+  there = ap (λ (d : Dir). next board behind d) (sym (opposite_twice p.dir)) ∙
+      next_back board p.square (opposite p.dir) (scene.boxes p.square can.there) (area_scene board s behind scene can.behind).player.0
 
   pub pushed_from : Pushes board (at s behind) p.dir (after_push board s p)
-  pushed_from = subst (λ (k : ℕ). (contains s.boxes k ≡ true) × IsFree board s.boxes (next board k p.dir) × (after_push board s p ≡ record { boxes = insert (remove s.boxes k) (next board k p.dir); player = k })) (sym there) (can.there, can.ahead, refl)
+  pushed_from = subst (λ (k : ℕ). (contains s.boxes k ≡ true) × IsFree board s.boxes (next board k p.dir) ×
+      (after_push board s p ≡ record { boxes = insert (remove s.boxes k) (next board k p.dir); player = k })) (sym there) (can.there, can.ahead, refl)
 
   pub after_scene : IsScene board (after_push board s p)
   after_scene = scene_after_push board (at s behind) p.dir (after_push board s p) (area_scene board s behind scene can.behind) pushed_from
 
   pub after_fits : FitsLevel board s → FitsLevel board (after_push board s p)
-  after_fits fits = fits_after_step board (at s behind) p.dir Pushed (after_push board s p) (record { scene = area_scene board s behind scene can.behind; boxes = fits.boxes }) pushed_from
+  after_fits fits = fits_after_step board (at s behind) p.dir Pushed (after_push board s p) (record {
+    scene = area_scene board s behind scene can.behind;
+    boxes = fits.boxes;
+  }) pushed_from
 
 -- a push after a walk leads to the state after the push
 pub moved : (board : Board) (s b t : Scene) (d : Dir) → b.boxes ≡ s.boxes → Pushes board b d t → t ≡ after_push board s (push_at board b d)
-moved board s b t d same pushed = pushed.2 ∙ same_scene (ap (λ (xs : Squares). insert (remove xs (next board b.player d)) (next board (next board b.player d) d)) same) refl
+moved board s b t d same pushed = pushed.2 ∙
+    same_scene (ap (λ (xs : Squares). insert (remove xs (next board b.player d)) (next board (next board b.player d) d)) same) refl
 
 -- ---- what an expansion keeps
 
 -- what is kept of one push
-pub done_keeps : (board : Board) (Kept : Scene → Type 0) (most k m : ℕ) (s : Scene) (p : Push) → IsScene board s → CanPush board s p → k + suc m ≤ most → SolvableWithin board m (after_push board s p) → IsDone board most Kept k s p → (t : Scene) × Kept t × SolvableWithin board m t
-done_keeps board Kept most k m s p scene can few rest (inl (n, norm, kept)) = (n, kept, (norms_change_nothing board (after_push board s p) n (after_scene board s p scene can) norm m).0 rest)
-done_keeps board Kept most k m s p scene can few (ds, ps, t, play, solved, le) (inr (j, more, none)) = absurd (let lt = none ds ps t play solved in omega (arith, lt, le, few, more))
+pub done_keeps : (board : Board) (Kept : Scene → Type 0) (most k m : ℕ) (s : Scene) (p : Push) → IsScene board s → CanPush board s p → k + suc m ≤ most →
+    SolvableWithin board m (after_push board s p) → IsDone board most Kept k s p → (t : Scene) × Kept t × SolvableWithin board m t
+done_keeps board Kept most k m s p scene can few rest (inl (n, norm, kept)) =
+    (n, kept, (norms_change_nothing board (after_push board s p) n (after_scene board s p scene can) norm m).0 rest)
+done_keeps board Kept most k m s p scene can few (ds, ps, t, play, solved, le) (inr (j, more, none)) = absurd (let lt = none ds ps t play solved in
+    omega (arith, lt, le, few, more))
 
 -- what is kept of all pushes
-pub all_keep : (board : Board) (Kept : Scene → Type 0) (most k : ℕ) (s : Scene) → IsScene board s → ((p : Push) → CanPush board s p → IsDone board most Kept k s p) → Keeps board most Kept k s
+pub all_keep : (board : Board) (Kept : Scene → Type 0) (most k : ℕ) (s : Scene) → IsScene board s →
+    ((p : Push) → CanPush board s p → IsDone board most Kept k s p) → Keeps board most Kept k s
 all_keep board Kept most k s scene done m few unsolved solvable =
     let first = first_push_leads board (suc m) s scene unsolved solvable in
     let p : Push = push_at board first.before first.dir in
@@ -62,5 +72,6 @@ pub all_done : (board : Board) → AllDone board
 all_done board most k kept s scene done = all_keep board (IsAmong kept) most k s scene done
 
 -- what is kept may be told in other words
-pub keeps_so : (board : Board) (Kept Other : Scene → Type 0) (most k : ℕ) (s : Scene) → ((t : Scene) → Kept t → Other t) → Keeps board most Kept k s → Keeps board most Other k s
+pub keeps_so : (board : Board) (Kept Other : Scene → Type 0) (most k : ℕ) (s : Scene) → ((t : Scene) → Kept t → Other t) → Keeps board most Kept k s →
+    Keeps board most Other k s
 keeps_so board Kept Other most k s so keeps m few unsolved solvable = let (t, kept, rest) = keeps m few unsolved solvable in (t, so t kept, rest)

@@ -9,7 +9,10 @@ use Rattle.prover.specs.Frame.{Seen, IsSeen}
 -- the positions of so many boxes, one for each label, read from their squares
 abbrev pub seen_of : ℕ → List ℕ → List Label → List Seen
 seen_of boxes xs [] = []
-seen_of boxes xs (l ∷ ls) = record { scene = record { boxes = take boxes xs; player = slice_index_or xs boxes 0 }; pushes = l.pushes } ∷ seen_of boxes (drop (suc boxes) xs) ls
+seen_of boxes xs (l ∷ ls) = record {
+  scene = record { boxes = take boxes xs; player = slice_index_or xs boxes 0 };
+  pushes = l.pushes;
+} ∷ seen_of boxes (drop (suc boxes) xs) ls
 
 -- positions of so many boxes each
 pub record EntriesView : Type 0 where

@@ -23,7 +23,8 @@ AllFit board all = (i : ℕ) (x : Seen) → slice_get all i ≡ Some x → FitsL
 
 -- the positions at these places have been expanded: what is kept was seen, or is to be entered
 abbrev pub AreExpanded : Board → ℕ → List Seen → List Seen → ℕ → ℕ → Type 0
-AreExpanded board most all more from to = (i : ℕ) (x : Seen) → from ≤ i → i < to → slice_get all i ≡ Some x → Keeps board most (IsReached all more (suc x.pushes)) x.pushes x.scene
+AreExpanded board most all more from to = (i : ℕ) (x : Seen) → from ≤ i → i < to → slice_get all i ≡ Some x →
+    Keeps board most (IsReached all more (suc x.pushes)) x.pushes x.scene
 
 -- the positions before the place have been expanded: what is kept was seen
 abbrev pub AreClosed : Board → ℕ → List Seen → ℕ → Type 0

@@ -27,11 +27,14 @@ use Rattle.solo.proofs.lemmas.Turns.{over_limit}
 
 -- where the books of all shares hold more positions together than the limit, and the layers that they have closed were looked
 -- at, the answer is the limit
-pub more_limit : (task : Task) (limit positions : ℕ) (trail : List (List (Origin Push))) (books : List BookView) (all : AreAllShares books) → IsLookedAt task limit trail positions → AreLawfulBooks books → all.first.level ≡ task → length all.first.closed ≡ length trail → limit < all_held books → IsAnswer task limit Limit
+pub more_limit : (task : Task) (limit positions : ℕ) (trail : List (List (Origin Push))) (books : List BookView) (all : AreAllShares books) →
+    IsLookedAt task limit trail positions → AreLawfulBooks books → all.first.level ≡ task → length all.first.closed ≡ length trail → limit < all_held books →
+    IsAnswer task limit Limit
 more_limit task limit positions trail books all looked lawful level long more =
     let layers = looked.layers in
     let searched = looked.searched in
-    let lists : length (places_of layers) ≡ length all.first.closed = length-map layers (λ (x : LayerView). x.places) ∙ trail_long task layers trail looked.trailed ∙ sym long in
+    let lists : length (places_of layers) ≡ length all.first.closed = length-map layers (λ (x : LayerView). x.places)
+    ∙ trail_long task layers trail looked.trailed ∙ sym long in
     let are : AreLayersOf all.first.level (places_of layers) = λ j xs at. subst (λ b. IsLayerOf b j xs) (sym level) (searched.are j xs at) in
     let h = held_all books all lawful (places_of layers) are lists in
     record {
@@ -45,7 +48,9 @@ more_limit task limit positions trail books all looked lawful level long more =
     }
 
 -- books that are dealt and at work on one layer are all the shares
-pub dealt_shares : (task : Task) (limit workers shares : ℕ) (books : List BookView) (layer : LayerView) → 1 ≤ shares → AreDealt task limit workers shares books → AreWorkingOn layer books → (all : AreAllShares books) × (all.first.level ≡ task) × (length all.first.closed ≡ suc layer.number)
+pub dealt_shares : (task : Task) (limit workers shares : ℕ) (books : List BookView) (layer : LayerView) → 1 ≤ shares →
+    AreDealt task limit workers shares books → AreWorkingOn layer books → (all : AreAllShares books) × (all.first.level ≡ task)
+    × (length all.first.closed ≡ suc layer.number)
 dealt_shares task limit workers shares [] layer some dealt working = absurd (omega (arith, dealt.all))
 dealt_shares task limit workers shares (first ∷ books) layer some dealt working =
     let d = dealt.each 0 first refl in (
@@ -60,13 +65,16 @@ dealt_shares task limit workers shares (first ∷ books) layer some dealt workin
     )
 
 -- where books at work pass the limit together, and their layer was looked at, the answer is the limit
-pub together_limit : (task : Task) (limit workers shares : ℕ) (books : List BookView) (trail : List (List (Origin Push))) (count : ℕ) (layer : LayerView) → 1 ≤ shares → (layer.level ≡ task) × (layer.number ≡ length trail) → IsLookedAt layer.level limit (trail ++ layer.origins ∷ []) count →
+pub together_limit : (task : Task) (limit workers shares : ℕ) (books : List BookView) (trail : List (List (Origin Push))) (count : ℕ) (layer : LayerView) →
+    1 ≤ shares → (layer.level ≡ task) × (layer.number ≡ length trail) → IsLookedAt layer.level limit (trail ++ layer.origins ∷ []) count →
     AreDealt task limit workers shares books → AreWorkingOn layer books → PassTogether limit books → IsAnswer task limit Limit
 together_limit task limit workers shares books trail count layer some next looked dealt working (lawful, passed) = elim passed [
   | inl over ↦ (let i = over.0 in let v = over.1 in let d = dealt.each i v over.2 in
-      over_limit task limit count (trail ++ layer.origins ∷ []) v here (lawful i v over.2) d.0 d.1 over.3 (omega (arith, (working i v over.2).1, next.1, length-append trail (layer.origins ∷ []))))
+      over_limit task limit count (trail ++ layer.origins ∷ []) v here (lawful i v over.2) d.0 d.1 over.3
+      (omega (arith, (working i v over.2).1, next.1, length-append trail (layer.origins ∷ []))))
   | inr more ↦ (let a = dealt_shares task limit workers shares books layer some dealt working in
-      more_limit task limit count (trail ++ layer.origins ∷ []) books a.0 here lawful a.1 (omega (arith, a.2, next.1, length-append trail (layer.origins ∷ []))) more)
+      more_limit task limit count (trail ++ layer.origins ∷ []) books a.0 here lawful a.1
+      (omega (arith, a.2, next.1, length-append trail (layer.origins ∷ []))) more)
 ]
   where
     here : IsLookedAt task limit (trail ++ layer.origins ∷ []) count
@@ -75,7 +83,8 @@ together_limit task limit workers shares books trail count layer some next looke
 -- ---- books that are still at work
 
 -- which book it was
-pub back_to : (layer : LayerView) (before after : List BookView) → AreStill layer before after → (i : ℕ) (u : BookView) → slice_get after i ≡ Some u → (v : BookView) × (slice_get before i ≡ Some v) × IsStill layer v u
+pub back_to : (layer : LayerView) (before after : List BookView) → AreStill layer before after → (i : ℕ) (u : BookView) → slice_get after i ≡ Some u →
+    (v : BookView) × (slice_get before i ≡ Some v) × IsStill layer v u
 back_to layer before after (same, each) i u at =
     let v = get_or before i u in
     let there : slice_get before i ≡ Some v = slice_get-get_or before i u (omega (arith, slice_get_within after i u at, same)) in
@@ -88,13 +97,15 @@ still_working layer before after working still i u at =
     let b = back_to layer before after still i u at in
     (b.2.2, ap length b.2.1 ∙ (working i b.0 b.1).1)
 
-pub still_workers : (layer : LayerView) (before after : List BookView) (worker : ℕ) → AreStill layer before after → ((i : ℕ) (v : BookView) → slice_get before i ≡ Some v → worker < v.workers) → (i : ℕ) (u : BookView) → slice_get after i ≡ Some u → worker < u.workers
+pub still_workers : (layer : LayerView) (before after : List BookView) (worker : ℕ) → AreStill layer before after →
+    ((i : ℕ) (v : BookView) → slice_get before i ≡ Some v → worker < v.workers) → (i : ℕ) (u : BookView) → slice_get after i ≡ Some u → worker < u.workers
 still_workers layer before after worker still member i u at =
     let b = back_to layer before after still i u at in
     subst (λ n. worker < n) b.2.0.2 (member i b.0 b.1)
 
 -- and dealt as before
-pub still_dealt : (task : Task) (limit workers shares : ℕ) (layer : LayerView) (before after : List BookView) → AreDealt task limit workers shares before → AreStill layer before after → AreDealt task limit workers shares after
+pub still_dealt : (task : Task) (limit workers shares : ℕ) (layer : LayerView) (before after : List BookView) → AreDealt task limit workers shares before →
+    AreStill layer before after → AreDealt task limit workers shares after
 still_dealt task limit workers shares layer before after dealt still = record {
   all = still.0 ∙ dealt.all;
   each = λ i u at. (let b = back_to layer before after still i u at in
@@ -105,10 +116,12 @@ still_dealt task limit workers shares layer before after dealt still = record {
 
 -- what their last ranks leave of them, they leave of the books before
 since : (layer : LayerView) (v u w : BookView) (worked : Worked) → IsStill layer v u → WorkAnswer u worked w → WorkAnswer v worked w
-since layer v u w Through (a, closed, begun) (b, paused, long) = ((a.0 ∙ b.0, a.1 ∙ b.1, a.2 ∙ b.2, a.3 ∙ b.3, a.4 ∙ b.4), paused, omega (arith, long, ap length closed))
+since layer v u w Through (a, closed, begun) (b, paused, long) =
+    ((a.0 ∙ b.0, a.1 ∙ b.1, a.2 ∙ b.2, a.3 ∙ b.3, a.4 ∙ b.4), paused, omega (arith, long, ap length closed))
 since layer v u w Over (a, closed, begun) (b, over, long) = ((a.0 ∙ b.0, a.1 ∙ b.1, a.2 ∙ b.2, a.3 ∙ b.3, a.4 ∙ b.4), over, long ∙ ap length closed)
 
-pub still_worked : (limit : ℕ) (layer : LayerView) (before mid after : List BookView) (worked : Worked) → AreStill layer before mid → WorkAnswers mid worked after → AreFinished limit before layer worked after
+pub still_worked : (limit : ℕ) (layer : LayerView) (before mid after : List BookView) (worked : Worked) → AreStill layer before mid →
+    WorkAnswers mid worked after → AreFinished limit before layer worked after
 still_worked limit layer before mid after Through still (same, left) = (
   same ∙ still.0,
   λ i v at. (let u = still.1 i v at in let w = left i u.0 u.1 in (w.0, w.1, since layer v u.0 w.0 Through u.2 w.2, w.3)),

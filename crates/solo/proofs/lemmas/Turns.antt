@@ -32,7 +32,8 @@ none_looked task limit = record {
 }
 
 -- new books are before the first turn
-pub first_turn : (task : Task) (limit workers shares : ℕ) (books : List BookView) → length books ≡ shares → ((i : ℕ) (v : BookView) → slice_get books i ≡ Some v → IsNew task limit workers i shares v) → AreBetweenTurns task limit workers shares books [] 0
+pub first_turn : (task : Task) (limit workers shares : ℕ) (books : List BookView) → length books ≡ shares →
+    ((i : ℕ) (v : BookView) → slice_get books i ≡ Some v → IsNew task limit workers i shares v) → AreBetweenTurns task limit workers shares books [] 0
 first_turn task limit workers shares books all new = record {
   dealt = record { all = all; each = λ i v at. (new i v at).made_with };
   paused = λ i v at. ((new i v at).begun, ap length (new i v at).closed.1);
@@ -42,31 +43,46 @@ first_turn task limit workers shares books all new = record {
 -- ---- between two turns
 
 -- the books can be joined
-pub all_shares : (task : Task) (limit workers shares : ℕ) (books : List BookView) (trail : List (List (Origin Push))) (positions : ℕ) → 1 ≤ shares → AreBetweenTurns task limit workers shares books trail positions → AreAllShares books
+pub all_shares : (task : Task) (limit workers shares : ℕ) (books : List BookView) (trail : List (List (Origin Push))) (positions : ℕ) → 1 ≤ shares →
+    AreBetweenTurns task limit workers shares books trail positions → AreAllShares books
 all_shares task limit workers shares [] trail positions some turn = absurd (omega (arith, turn.dealt.all))
 all_shares task limit workers shares (first ∷ books) trail positions some turn =
     let d = turn.dealt.each 0 first refl in record {
       first = first;
       head = refl;
       all = turn.dealt.all ∙ sym d.4;
-      each = λ i v at. (let e = turn.dealt.each i v at in (e.3, e.0 ∙ sym d.0, e.1 ∙ sym d.1, e.4 ∙ sym d.4, (turn.paused i v at).1 ∙ sym (turn.paused 0 first refl).1));
+      each = λ i v at. (let e = turn.dealt.each i v at in (
+        e.3,
+        e.0 ∙ sym d.0,
+        e.1 ∙ sym d.1,
+        e.4 ∙ sym d.4,
+        (turn.paused i v at).1 ∙ sym (turn.paused 0 first refl).1,
+      ));
     }
 
 -- the layer that they have closed last is the next one of the level
-pub next_of : (task : Task) (limit workers shares : ℕ) (books : List BookView) (trail : List (List (Origin Push))) (positions : ℕ) (layer : LayerView) → 1 ≤ shares → AreBetweenTurns task limit workers shares books trail positions → IsJoinOf books layer → (layer.level ≡ task) × (layer.number ≡ length trail)
+pub next_of : (task : Task) (limit workers shares : ℕ) (books : List BookView) (trail : List (List (Origin Push))) (positions : ℕ) (layer : LayerView) →
+    1 ≤ shares → AreBetweenTurns task limit workers shares books trail positions → IsJoinOf books layer → (layer.level ≡ task) × (layer.number ≡ length trail)
 next_of task limit workers shares [] trail positions layer some turn join = absurd (omega (arith, turn.dealt.all))
 next_of task limit workers shares (first ∷ books) trail positions layer some turn join =
     let last = join.1 first refl in (last.0 ∙ (turn.dealt.each 0 first refl).0, omega (arith, last.1, (turn.paused 0 first refl).1))
 
 -- and each of them may begin it
-pub may_begin : (task : Task) (limit workers shares : ℕ) (books : List BookView) (trail : List (List (Origin Push))) (positions : ℕ) (layer : LayerView) → AreBetweenTurns task limit workers shares books trail positions → (layer.level ≡ task) × (layer.number ≡ length trail) → (i : ℕ) (v : BookView) → slice_get books i ≡ Some v → MayBegin v layer
+pub may_begin : (task : Task) (limit workers shares : ℕ) (books : List BookView) (trail : List (List (Origin Push))) (positions : ℕ) (layer : LayerView) →
+    AreBetweenTurns task limit workers shares books trail positions → (layer.level ≡ task) × (layer.number ≡ length trail) → (i : ℕ) (v : BookView) →
+    slice_get books i ≡ Some v → MayBegin v layer
 may_begin task limit workers shares books trail positions layer turn next i v at =
     (next.0 ∙ sym (turn.dealt.each i v at).0, omega (arith, next.1, (turn.paused i v at).1), (turn.paused i v at).0)
 
 -- then they are at work on it
-pub at_work : (task : Task) (limit workers shares : ℕ) (books after : List BookView) (trail : List (List (Origin Push))) (positions ranks : ℕ) (layer : LayerView) → AreBetweenTurns task limit workers shares books trail positions → (layer.level ≡ task) × (layer.number ≡ length trail) → HaveBegun books ranks after → AreDealt task limit workers shares after × AreWorkingOn layer after
+pub at_work : (task : Task) (limit workers shares : ℕ) (books after : List BookView) (trail : List (List (Origin Push))) (positions ranks : ℕ)
+    (layer : LayerView) → AreBetweenTurns task limit workers shares books trail positions → (layer.level ≡ task) × (layer.number ≡ length trail) →
+    HaveBegun books ranks after → AreDealt task limit workers shares after × AreWorkingOn layer after
 at_work task limit workers shares books after trail positions ranks layer turn next begun = (
-  record { all = begun.0 ∙ turn.dealt.all; each = λ i w at. subst (IsDealt task limit workers shares i) (from i w at).2 (turn.dealt.each i (from i w at).0 (from i w at).1) },
+  record {
+    all = begun.0 ∙ turn.dealt.all;
+    each = λ i w at. subst (IsDealt task limit workers shares i) (from i w at).2 (turn.dealt.each i (from i w at).0 (from i w at).1);
+  },
   λ i w at. subst (IsWorkingOn layer) (from i w at).2 (working i (from i w at).0 (from i w at).1),
 )
   where
@@ -76,22 +92,36 @@ at_work task limit workers shares books after trail positions ranks layer turn n
         (get_or books i w, there, same_Some (with_begun (get_or books i w) ranks) w (sym (begun.1 i (get_or books i w) there) ∙ at))
 
     working : (i : ℕ) (v : BookView) → slice_get books i ≡ Some v → IsWorkingOn layer (with_begun v ranks)
-    working i v at = (((may_begin task limit workers shares books trail positions layer turn next i v at).0, (may_begin task limit workers shares books trail positions layer turn next i v at).1, refl), omega (arith, next.1, (turn.paused i v at).1))
+    working i v at = (
+      (
+        (may_begin task limit workers shares books trail positions layer turn next i v at).0,
+        (may_begin task limit workers shares books trail positions layer turn next i v at).1,
+        refl,
+      ),
+      omega (arith, next.1, (turn.paused i v at).1),
+    )
 
 -- once the next layer was looked at and its ranks are done, the books are between two turns again
-pub turn_on : (task : Task) (limit workers shares : ℕ) (after : List BookView) (trail : List (List (Origin Push))) (count : ℕ) (layer : LayerView) → (layer.level ≡ task) × (layer.number ≡ length trail) → IsLookedAt layer.level limit (trail ++ layer.origins ∷ []) count → AreWorked task limit workers shares layer Through after → AreBetweenTurns task limit workers shares after (trail ++ layer.origins ∷ []) count
+pub turn_on : (task : Task) (limit workers shares : ℕ) (after : List BookView) (trail : List (List (Origin Push))) (count : ℕ) (layer : LayerView) →
+    (layer.level ≡ task) × (layer.number ≡ length trail) → IsLookedAt layer.level limit (trail ++ layer.origins ∷ []) count →
+    AreWorked task limit workers shares layer Through after → AreBetweenTurns task limit workers shares after (trail ++ layer.origins ∷ []) count
 turn_on task limit workers shares after trail count layer next looked (before, dealt, working, (same, left)) = record {
   dealt = record { all = same ∙ dealt.all; each = λ i w at. (through i w at).0 };
   paused = λ i w at. ((through i w at).1, (through i w at).2);
   looked = subst (λ b. IsLookedAt b limit (trail ++ layer.origins ∷ []) count) next.0 looked;
 }
   where
-    left_so : (i : ℕ) (v w : BookView) → slice_get before i ≡ Some v → WorkAnswer v Through w → IsDealt task limit workers shares i w × (w.begun ≡ false) × (length w.closed ≡ suc (length (trail ++ layer.origins ∷ [])))
+    left_so : (i : ℕ) (v w : BookView) → slice_get before i ≡ Some v → WorkAnswer v Through w →
+        IsDealt task limit workers shares i w × (w.begun ≡ false) × (length w.closed ≡ suc (length (trail ++ layer.origins ∷ [])))
     left_so i v w at (alike, begun, closed) =
-        let d = dealt.each i v at in
-        ((sym alike.0 ∙ d.0, sym alike.1 ∙ d.1, sym alike.2 ∙ d.2, sym alike.3 ∙ d.3, sym alike.4 ∙ d.4), begun, omega (arith, closed, (working i v at).1, next.1, length-append trail (layer.origins ∷ [])))
+        let d = dealt.each i v at in (
+          (sym alike.0 ∙ d.0, sym alike.1 ∙ d.1, sym alike.2 ∙ d.2, sym alike.3 ∙ d.3, sym alike.4 ∙ d.4),
+          begun,
+          omega (arith, closed, (working i v at).1, next.1, length-append trail (layer.origins ∷ [])),
+        )
 
-    through : (i : ℕ) (w : BookView) → slice_get after i ≡ Some w → IsDealt task limit workers shares i w × (w.begun ≡ false) × (length w.closed ≡ suc (length (trail ++ layer.origins ∷ [])))
+    through : (i : ℕ) (w : BookView) → slice_get after i ≡ Some w → IsDealt task limit workers shares i w × (w.begun ≡ false)
+        × (length w.closed ≡ suc (length (trail ++ layer.origins ∷ [])))
     through i w at =
         let v = get_or before i w in
         let there : slice_get before i ≡ Some v = slice_get-get_or before i w (omega (arith, slice_get_within after i w at, same)) in
@@ -99,30 +129,40 @@ turn_on task limit workers shares after trail count layer next looked (before, d
         left_so i v w there (subst (WorkAnswer v Through) (same_Some l.0 w (sym l.1 ∙ at)) l.2)
 
 -- with the parents that were kept
-pub trail_grown : (task : Task) (limit workers shares : ℕ) (after : List BookView) (trail all : List (List (Origin Push))) (parents : List (Origin Push)) (count : ℕ) (layer : LayerView) → all ≡ trail ++ parents ∷ [] → parents ≡ layer.origins → AreBetweenTurns task limit workers shares after (trail ++ layer.origins ∷ []) count → AreBetweenTurns task limit workers shares after all count
+pub trail_grown : (task : Task) (limit workers shares : ℕ) (after : List BookView) (trail all : List (List (Origin Push))) (parents : List (Origin Push))
+    (count : ℕ) (layer : LayerView) → all ≡ trail ++ parents ∷ [] → parents ≡ layer.origins →
+    AreBetweenTurns task limit workers shares after (trail ++ layer.origins ∷ []) count → AreBetweenTurns task limit workers shares after all count
 trail_grown task limit workers shares after trail all parents count layer is same turn =
     subst (λ ls. AreBetweenTurns task limit workers shares after ls count) (sym (is ∙ ap (λ (o : List (Origin Push)). trail ++ o ∷ []) same)) turn
 
 -- where a book is over, and the layers that it has closed were looked at, the answer is the limit
-pub over_limit : (task : Task) (limit positions : ℕ) (trail : List (List (Origin Push))) (book : BookView) → IsLookedAt task limit trail positions → IsLawfulBook book → book.level ≡ task → book.limit ≡ limit → book.over ≡ true → length book.closed ≡ length trail → IsAnswer task limit Limit
+pub over_limit : (task : Task) (limit positions : ℕ) (trail : List (List (Origin Push))) (book : BookView) → IsLookedAt task limit trail positions →
+    IsLawfulBook book → book.level ≡ task → book.limit ≡ limit → book.over ≡ true → length book.closed ≡ length trail → IsAnswer task limit Limit
 over_limit task limit positions trail book looked lawful level same over long =
     let layers = looked.layers in
     let p = (lawful.over over).0 in
     let searched = looked.searched in
-    let lists : length (places_of layers) ≡ length book.closed = length-map layers (λ (x : LayerView). x.places) ∙ trail_long task layers trail looked.trailed ∙ sym long in
-    record {
+    let lists : length (places_of layers) ≡ length book.closed = length-map layers (λ (x : LayerView). x.places) ∙ trail_long task layers trail looked.trailed
+    ∙ sym long in record {
       layers = places_of layers;
       are = searched.are;
       more = p.places;
       distinct = p.distinct;
       next = λ n i. subst (λ k. IsAtDistance task n k) (sym lists) (subst (λ b. IsAtDistance b n (length book.closed)) level (p.next n i).1);
-      passed = omega (arith, same, p.passed, closed_upto book lawful (places_of layers) (λ j xs at. subst (λ b. IsLayerOf b j xs) (sym level) (searched.are j xs at)) (omega (arith, lists)));
+      passed = omega (
+        arith,
+        same,
+        p.passed,
+        closed_upto book lawful (places_of layers) (λ j xs at. subst (λ b. IsLayerOf b j xs) (sym level) (searched.are j xs at)) (omega (arith, lists)),
+      );
       unsolved = searched_bound task (places_of layers) (subst (λ (t : Task). IsLevel t.board) level lawful.level) searched;
     }
 
 -- so it is where the ranks of the layer that was looked at last were done until one of the books was over
-pub turn_over : (task : Task) (limit workers shares : ℕ) (after : List BookView) (trail : List (List (Origin Push))) (count : ℕ) (layer : LayerView) → (layer.level ≡ task) × (layer.number ≡ length trail) → IsLookedAt layer.level limit (trail ++ layer.origins ∷ []) count → AreWorked task limit workers shares layer Over after → IsAnswer task limit Limit
+pub turn_over : (task : Task) (limit workers shares : ℕ) (after : List BookView) (trail : List (List (Origin Push))) (count : ℕ) (layer : LayerView) →
+    (layer.level ≡ task) × (layer.number ≡ length trail) → IsLookedAt layer.level limit (trail ++ layer.origins ∷ []) count →
+    AreWorked task limit workers shares layer Over after → IsAnswer task limit Limit
 turn_over task limit workers shares after trail count layer next looked (before, dealt, working, (i, v, at, (w, there, (alike, over, closed), lawful))) =
     let d = dealt.each i v at in
-    over_limit task limit count (trail ++ layer.origins ∷ []) w (subst (λ b. IsLookedAt b limit (trail ++ layer.origins ∷ []) count) next.0 looked) lawful (sym alike.0 ∙ d.0) (sym alike.1 ∙ d.1) over
-    (omega (arith, closed, (working i v at).1, next.1, length-append trail (layer.origins ∷ [])))
+    over_limit task limit count (trail ++ layer.origins ∷ []) w (subst (λ b. IsLookedAt b limit (trail ++ layer.origins ∷ []) count) next.0 looked) lawful
+    (sym alike.0 ∙ d.0) (sym alike.1 ∙ d.1) over (omega (arith, closed, (working i v at).1, next.1, length-append trail (layer.origins ∷ [])))

@@ -112,7 +112,8 @@ IsDoneBy worker before after = (ranks : ℕ) × (left_ranks before ≡ left_rank
 -- so it is with each of several books
 abbrev pub AreDoneBy : ℕ → List BookView → List BookView → Type 0
 AreDoneBy worker before after =
-    (length after ≡ length before) × ((i : ℕ) (v : BookView) → slice_get before i ≡ Some v → (w : BookView) × (slice_get after i ≡ Some w) × IsDoneBy worker v w)
+    (length after ≡ length before) × ((i : ℕ) (v : BookView) → slice_get before i ≡ Some v →
+    (w : BookView) × (slice_get after i ≡ Some w) × IsDoneBy worker v w)
 
 -- the parcel is of a rank of the layer
 abbrev pub IsOfRank : LayerView → ℕ → ParcelView → Type 0

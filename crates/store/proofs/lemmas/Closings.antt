@@ -39,8 +39,11 @@ pub rise_from_sorted : {A : Type 0} (origin : A → Origin Push) (xs : List A) �
     (i j : ℕ) (x y : A) → i < j → slice_get xs i ≡ Some x → slice_get xs j ≡ Some y → is_gt (origin_cmp push_cmp (origin x) (origin y)) ≡ false
 rise_from_sorted {A} origin xs sorted i j x y lt at_i at_j =
     let total = origin_total push_cmp_total in
-    let far = sorted_far (λ a b. is_lt (origin_cmp push_cmp (origin a) (origin b))) (ranks_by total (λ (z : A). origin z)) xs sorted i j x (omega arith) (slice_get_within xs j y at_j) in
-    let read : is_lt (origin_cmp push_cmp (origin y) (origin x)) ≡ false = (λ n. is_lt (origin_cmp push_cmp (origin (sym (get_or_from_slice_get xs j y x at_j) n)) (origin (sym (get_or_from_slice_get xs i x x at_i) n)))) ∙ far in
+    let far = sorted_far (λ a b. is_lt (origin_cmp push_cmp (origin a) (origin b))) (ranks_by total (λ (z : A). origin z)) xs sorted i j x (omega arith)
+    (slice_get_within xs j y at_j) in
+    let read : is_lt (origin_cmp push_cmp (origin y) (origin x)) ≡ false =
+    (λ n. is_lt (origin_cmp push_cmp (origin (sym (get_or_from_slice_get xs j y x at_j) n)) (origin (sym (get_or_from_slice_get xs i x x at_i) n)))) ∙
+    far in
     ap is_gt (total.antisymm (origin x) (origin y)) ∙ turned (origin_cmp push_cmp (origin y) (origin x)) read
   where
     turned : (o : Ordering) → is_lt o ≡ false → is_gt (ordering_reverse o) ≡ false
@@ -62,7 +65,8 @@ reordered es ys distinct same = (length_permutation es ys same, λ m. look m (or
     before = distinct_from (open_places es) distinct
 
     after : Distinct (open_places ys)
-    after = distinct_from (open_places ys) (IsDistinct-IsPermutation same_scene same_flipped (open_places es) (open_places ys) (IsPermutation-map (λ (e : Entry Scene Push). e.0) es ys same) distinct)
+    after = distinct_from (open_places ys) (IsDistinct-IsPermutation same_scene same_flipped (open_places es) (open_places ys)
+        (IsPermutation-map (λ (e : Entry Scene Push). e.0) es ys same) distinct)
 
     look : (m : Scene) (a : Option (Origin Push)) → origin_of es m ≡ a → (b : Option (Origin Push)) → origin_of ys m ≡ b → origin_of ys m ≡ origin_of es m
     look m (Some o) e b f =

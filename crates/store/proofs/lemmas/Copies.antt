@@ -22,7 +22,8 @@ drop-push (x ∷ xs) zero a le = refl
 drop-push (x ∷ xs) (suc n) a le = drop-push xs n a (omega arith)
 
 -- one more entry is copied
-pub copied_more : (es : List Closed) (from place : ℕ) (e : Closed) → from ≤ place → slice_get es place ≡ Some e → drop from (take (suc place) es) ≡ drop from (take place es) ++ e ∷ []
+pub copied_more : (es : List Closed) (from place : ℕ) (e : Closed) → from ≤ place → slice_get es place ≡ Some e →
+    drop from (take (suc place) es) ≡ drop from (take place es) ++ e ∷ []
 copied_more es from place e le at =
     let long = length-take_all es place (omega (arith, slice_get_within es place e at)) in
     ap (drop from) (take_push es place e at) ∙ drop-push (take place es) from e (omega arith)

@@ -1,5 +1,6 @@
 -- Positions that are offered to what stands open, one after the other.
-use Rattle.std.proofs.Common.{◌≡◌, ℕ, zero, suc, ◌+◌, Bool, true, false, cond, ◌&&◌, ◌||◌, fold, nat_eq, ◌==◌, List, [], ◌∷◌, ◌++◌, length, map, Option, Some, None, is_some, Result, Ok, Err, IsOk, not, refl, sym, ap, subst, ◌∙◌, if◌then◌else◌, arith}
+use Rattle.std.proofs.Common.{◌≡◌, ℕ, zero, suc, ◌+◌, Bool, true, false, cond, ◌&&◌, ◌||◌, fold, nat_eq, ◌==◌, List, [], ◌∷◌, ◌++◌, length, map, Option, Some}
+use Rattle.std.proofs.Common.{None, is_some, Result, Ok, Err, IsOk, not, refl, sym, ap, subst, ◌∙◌, if◌then◌else◌, arith}
 use Rattle.std.proofs.lemmas.Option.{same_Some, none-some}
 use Rattle.std.proofs.lemmas.Bool.Decides.{nat_tests}
 use lib.Pointwise.{pointwise, bytes_decides}
@@ -77,7 +78,8 @@ pub origin-listed : (es : List (Entry Scene Push)) (m : Scene) (o : Origin Push)
 origin-listed [] m o e = cc
 origin-listed (x ∷ es) m o e = go (same_scene m x.0) refl e (origin-listed es m o)
   where
-    go : (b : Bool) → same_scene m x.0 ≡ b → cond b (Some x.1) (origin_of es m) ≡ Some o → (origin_of es m ≡ Some o → (i : ℕ) × (slice_get es i ≡ Some (m, o))) → (i : ℕ) × (slice_get (x ∷ es) i ≡ Some (m, o))
+    go : (b : Bool) → same_scene m x.0 ≡ b → cond b (Some x.1) (origin_of es m) ≡ Some o →
+        (origin_of es m ≡ Some o → (i : ℕ) × (slice_get es i ≡ Some (m, o))) → (i : ℕ) × (slice_get (x ∷ es) i ≡ Some (m, o))
     go true f g t = (zero, let h = sym (same_true m x.0 f) in let k = same_Some x.1 o g in λ i. Some (h i, k i))
     go false f g t = let w = t g in (suc w.0, w.1)
 
@@ -92,7 +94,8 @@ unlisted (x ∷ es) m e (suc i, at) = go (same_scene m x.0) e (unlisted es m)
     go false f t = t f (i, at)
 
 -- what stands at a place is what is found, where no position stands twice
-pub listed-origin : (es : List (Entry Scene Push)) → Distinct (open_places es) → (i : ℕ) (m : Scene) (o : Origin Push) → slice_get es i ≡ Some (m, o) → origin_of es m ≡ Some o
+pub listed-origin : (es : List (Entry Scene Push)) → Distinct (open_places es) → (i : ℕ) (m : Scene) (o : Origin Push) → slice_get es i ≡ Some (m, o) →
+    origin_of es m ≡ Some o
 listed-origin es distinct i m o at = go (origin_of es m) refl
   where
     place : (xs : List (Entry Scene Push)) (j : ℕ) (x : Entry Scene Push) → slice_get xs j ≡ Some x → slice_get (open_places xs) j ≡ Some x.0
@@ -113,7 +116,8 @@ offered-new : (es : List (Entry Scene Push)) (m : Scene) (o : Origin Push) → o
 offered-new [] m o e = refl
 offered-new (x ∷ es) m o e = go (same_scene m x.0) refl e (offered-new es m o)
   where
-    go : (b : Bool) → same_scene m x.0 ≡ b → cond b (Some x.1) (origin_of es m) ≡ None → (origin_of es m ≡ None → open_places (offered es m o) ≡ open_places es ++ m ∷ []) →
+    go : (b : Bool) → same_scene m x.0 ≡ b → cond b (Some x.1) (origin_of es m) ≡ None →
+        (origin_of es m ≡ None → open_places (offered es m o) ≡ open_places es ++ m ∷ []) →
         open_places (if b then (x.0, lesser push_cmp x.1 o) ∷ es else x ∷ offered es m o) ≡ x.0 ∷ (open_places es ++ m ∷ [])
     go true f g t = absurd (none-some x.1 (sym g))
     go false f g t = ap (λ xs. x.0 ∷ xs) (t g)
@@ -122,7 +126,8 @@ offered-present : (es : List (Entry Scene Push)) (m : Scene) (o p : Origin Push)
 offered-present [] m o p e = cc
 offered-present (x ∷ es) m o p e = go (same_scene m x.0) refl e (offered-present es m o p)
   where
-    go : (b : Bool) → same_scene m x.0 ≡ b → cond b (Some x.1) (origin_of es m) ≡ Some p → (origin_of es m ≡ Some p → open_places (offered es m o) ≡ open_places es) →
+    go : (b : Bool) → same_scene m x.0 ≡ b → cond b (Some x.1) (origin_of es m) ≡ Some p →
+        (origin_of es m ≡ Some p → open_places (offered es m o) ≡ open_places es) →
         open_places (if b then (x.0, lesser push_cmp x.1 o) ∷ es else x ∷ offered es m o) ≡ x.0 ∷ open_places es
     go true f g t = refl
     go false f g t = ap (λ xs. x.0 ∷ xs) (t g)
@@ -135,7 +140,8 @@ offered-distinct es m o distinct = go (origin_of es m) refl
     go (Some p) e = subst Distinct (sym (offered-present es m o p e)) distinct
 
 -- what holds of each place and of the offered position holds of each place after
-pub offered-each : (P : Scene → Type 0) (es : List (Entry Scene Push)) (m : Scene) (o : Origin Push) → P m → ((n : Scene) → IsIn (open_places es) n → P n) → (n : Scene) → IsIn (open_places (offered es m o)) n → P n
+pub offered-each : (P : Scene → Type 0) (es : List (Entry Scene Push)) (m : Scene) (o : Origin Push) → P m → ((n : Scene) → IsIn (open_places es) n → P n) →
+    (n : Scene) → IsIn (open_places (offered es m o)) n → P n
 offered-each P es m o here each n = go (origin_of es m) refl
   where
     last : (xs : List Scene) → ((x : Scene) → IsIn xs x → P x) → IsIn (xs ++ m ∷ []) n → P n
@@ -151,20 +157,24 @@ offered-each P es m o here each n = go (origin_of es m) refl
 -- ---- the same by a map's insert
 
 -- an offer that is no less than what is there changes nothing
-pub offered-kept : (es : List (Entry Scene Push)) (m : Scene) (o a : Origin Push) → origin_of es m ≡ Some a → is_lt (origin_cmp push_cmp o a) ≡ false → offered es m o ≡ es
+pub offered-kept : (es : List (Entry Scene Push)) (m : Scene) (o a : Origin Push) → origin_of es m ≡ Some a → is_lt (origin_cmp push_cmp o a) ≡ false →
+    offered es m o ≡ es
 offered-kept [] m o a e f = cc
 offered-kept (x ∷ es) m o a e f = go (same_scene m x.0) e (offered-kept es m o a)
   where
-    go : (b : Bool) → cond b (Some x.1) (origin_of es m) ≡ Some a → (origin_of es m ≡ Some a → is_lt (origin_cmp push_cmp o a) ≡ false → offered es m o ≡ es) → (if b then (x.0, lesser push_cmp x.1 o) ∷ es else x ∷ offered es m o) ≡ x ∷ es
+    go : (b : Bool) → cond b (Some x.1) (origin_of es m) ≡ Some a → (origin_of es m ≡ Some a → is_lt (origin_cmp push_cmp o a) ≡ false → offered es m o ≡ es) →
+        (if b then (x.0, lesser push_cmp x.1 o) ∷ es else x ∷ offered es m o) ≡ x ∷ es
     go true h t = let k = ap (λ y. is_lt (origin_cmp push_cmp o y)) (same_Some x.1 a h) ∙ f in λ i. (x.0, if k i then o else x.1) ∷ es
     go false h t = ap (λ ys. x ∷ ys) (t h f)
 
 -- a lesser offer, or one of a new position, is what an insert leaves
-pub offered-less : (es : List (Entry Scene Push)) (m : Scene) (o a : Origin Push) → origin_of es m ≡ Some a → is_lt (origin_cmp push_cmp o a) ≡ true → insert_entry same_scene es m o ≡ offered es m o
+pub offered-less : (es : List (Entry Scene Push)) (m : Scene) (o a : Origin Push) → origin_of es m ≡ Some a → is_lt (origin_cmp push_cmp o a) ≡ true →
+    insert_entry same_scene es m o ≡ offered es m o
 offered-less [] m o a e f = refl
 offered-less (x ∷ es) m o a e f = go (same_scene m x.0) e (offered-less es m o a)
   where
-    go : (b : Bool) → cond b (Some x.1) (origin_of es m) ≡ Some a → (origin_of es m ≡ Some a → is_lt (origin_cmp push_cmp o a) ≡ true → insert_entry same_scene es m o ≡ offered es m o) →
+    go : (b : Bool) → cond b (Some x.1) (origin_of es m) ≡ Some a →
+        (origin_of es m ≡ Some a → is_lt (origin_cmp push_cmp o a) ≡ true → insert_entry same_scene es m o ≡ offered es m o) →
         (if b then (x.0, o) ∷ es else x ∷ insert_entry same_scene es m o) ≡ (if b then (x.0, lesser push_cmp x.1 o) ∷ es else x ∷ offered es m o)
     go true h t = let k = ap (λ y. is_lt (origin_cmp push_cmp o y)) (same_Some x.1 a h) ∙ f in λ i. (x.0, if sym k i then o else x.1) ∷ es
     go false h t = ap (λ ys. x ∷ ys) (t h f)
@@ -188,11 +198,23 @@ pub length-offered : (es : List (Entry Scene Push)) (m : Scene) (o : Origin Push
 length-offered es m o = go (origin_of es m) refl
   where
     go : (found : Option (Origin Push)) → origin_of es m ≡ found → length (offered es m o) ≡ length es + cond (is_some found) 0 1
-    go None e = omega (arith, length-map (offered es m o) (λ (x : Entry Scene Push). x.0), length-map es (λ (x : Entry Scene Push). x.0), ap length (offered-new es m o e), length-append (open_places es) (m ∷ []))
-    go (Some p) e = omega (arith, length-map (offered es m o) (λ (x : Entry Scene Push). x.0), length-map es (λ (x : Entry Scene Push). x.0), ap length (offered-present es m o p e))
+    go None e = omega (
+      arith,
+      length-map (offered es m o) (λ (x : Entry Scene Push). x.0),
+      length-map es (λ (x : Entry Scene Push). x.0),
+      ap length (offered-new es m o e),
+      length-append (open_places es) (m ∷ []),
+    )
+    go (Some p) e = omega (
+      arith,
+      length-map (offered es m o) (λ (x : Entry Scene Push). x.0),
+      length-map es (λ (x : Entry Scene Push). x.0),
+      ap length (offered-present es m o p e),
+    )
 
 -- a wanted position stands open after a successor has entered if it did before or is the successor's
-open-entered : (wanted : Scene → Bool) (rank : ℕ) (es : List (Entry Scene Push)) (s : Successor) (m : Scene) → wanted m ≡ true → is_some (origin_of (entered wanted rank es s) m) ≡ (is_some (origin_of es m) || same_scene s.position m)
+open-entered : (wanted : Scene → Bool) (rank : ℕ) (es : List (Entry Scene Push)) (s : Successor) (m : Scene) → wanted m ≡ true →
+    is_some (origin_of (entered wanted rank es s) m) ≡ (is_some (origin_of es m) || same_scene s.position m)
 open-entered wanted rank es s m want = go (same_scene s.position m) refl
   where
     or_true : (b : Bool) → (b || true) ≡ true
@@ -205,9 +227,11 @@ open-entered wanted rank es s m want = go (same_scene s.position m) refl
 
     there : s.position ≡ m → is_some (origin_of (entered wanted rank es s) m) ≡ true
     there e = subst (λ x. is_some (origin_of (entered wanted rank es s) x) ≡ true) e
-        (ap (λ b. is_some (origin_of (if b then offered es s.position (rank, s.push) else es) s.position)) (ap wanted e ∙ want) ∙ ap is_some (origin_of-offered es s.position (rank, s.push)))
+        (ap (λ b. is_some (origin_of (if b then offered es s.position (rank, s.push) else es) s.position)) (ap wanted e ∙ want) ∙
+        ap is_some (origin_of-offered es s.position (rank, s.push)))
 
-    other : same_scene m s.position ≡ false → (b : Bool) → is_some (origin_of (if b then offered es s.position (rank, s.push) else es) m) ≡ is_some (origin_of es m)
+    other : same_scene m s.position ≡ false → (b : Bool) → is_some (origin_of (if b then offered es s.position (rank, s.push) else es) m) ≡
+        is_some (origin_of es m)
     other e true = ap is_some (origin_of-other es s.position m (rank, s.push) e)
     other e false = refl
 
@@ -220,23 +244,27 @@ open-entered wanted rank es s m want = go (same_scene s.position m) refl
     go false e = other (apart (same_scene m s.position) refl e) (wanted s.position) ∙ sym (or_false (is_some (origin_of es m)))
 
 -- what stands open is wanted after a successor has entered, if it was before
-pub entered_wanted : (wanted : Scene → Bool) (rank : ℕ) (es : List (Entry Scene Push)) (s : Successor) → AreWanted wanted es → AreWanted wanted (entered wanted rank es s)
+pub entered_wanted : (wanted : Scene → Bool) (rank : ℕ) (es : List (Entry Scene Push)) (s : Successor) → AreWanted wanted es →
+    AreWanted wanted (entered wanted rank es s)
 entered_wanted wanted rank es s are m there = go (wanted s.position) refl (same_scene m s.position) refl there
   where
-    go : (a : Bool) → wanted s.position ≡ a → (b : Bool) → same_scene m s.position ≡ b → is_some (origin_of (if a then offered es s.position (rank, s.push) else es) m) ≡ true → wanted m ≡ true
+    go : (a : Bool) → wanted s.position ≡ a → (b : Bool) → same_scene m s.position ≡ b →
+        is_some (origin_of (if a then offered es s.position (rank, s.push) else es) m) ≡ true → wanted m ≡ true
     go true want true e f = ap wanted (same_true m s.position e) ∙ want
     go true want false e f = are m (ap is_some (sym (origin_of-other es s.position m (rank, s.push) e)) ∙ f)
     go false want b e f = are m f
 
 -- after some have entered, if it did before or is one of theirs
-pub open-after : (wanted : Scene → Bool) (rank : ℕ) (ss : List Successor) (es : List (Entry Scene Push)) (m : Scene) → wanted m ≡ true → is_some (origin_of (fold (entered wanted rank) es ss) m) ≡ (is_some (origin_of es m) || list_any (λ s. same_scene s.position m) ss)
+pub open-after : (wanted : Scene → Bool) (rank : ℕ) (ss : List Successor) (es : List (Entry Scene Push)) (m : Scene) → wanted m ≡ true →
+    is_some (origin_of (fold (entered wanted rank) es ss) m) ≡ (is_some (origin_of es m) || list_any (λ s. same_scene s.position m) ss)
 open-after wanted rank [] es m want = or_false (is_some (origin_of es m))
   where
     or_false : (b : Bool) → b ≡ (b || false)
     or_false true = refl
     or_false false = refl
 open-after wanted rank (s ∷ ss) es m want =
-    open-after wanted rank ss (entered wanted rank es s) m want ∙ ap (λ b. b || list_any (λ t. same_scene t.position m) ss) (open-entered wanted rank es s m want)
+    open-after wanted rank ss (entered wanted rank es s) m want ∙
+    ap (λ b. b || list_any (λ t. same_scene t.position m) ss) (open-entered wanted rank es s m want)
     ∙ or_or (is_some (origin_of es m)) (same_scene s.position m) (list_any (λ t. same_scene t.position m) ss)
   where
     or_or : (a b c : Bool) → ((a || b) || c) ≡ (a || (b || c))
@@ -244,22 +272,27 @@ open-after wanted rank (s ∷ ss) es m want =
     or_or false b c = refl
 
 -- one more successor enters after the others
-pub entered_more : (wanted : Scene → Bool) (rank : ℕ) (ss : List Successor) (es : List (Entry Scene Push)) (s : Successor) → fold (entered wanted rank) es (ss ++ s ∷ []) ≡ entered wanted rank (fold (entered wanted rank) es ss) s
+pub entered_more : (wanted : Scene → Bool) (rank : ℕ) (ss : List Successor) (es : List (Entry Scene Push)) (s : Successor) →
+    fold (entered wanted rank) es (ss ++ s ∷ []) ≡ entered wanted rank (fold (entered wanted rank) es ss) s
 entered_more wanted rank [] es s = refl
 entered_more wanted rank (t ∷ ss) es s = entered_more wanted rank ss (entered wanted rank es t) s
 
 -- so one more successor makes one position more if it is wanted, did not stand open and is no earlier one's
 pub length-entered : (wanted : Scene → Bool) (rank : ℕ) (ss : List Successor) (es : List (Entry Scene Push)) (s : Successor) →
-    length (fold (entered wanted rank) es (ss ++ s ∷ [])) ≡ length (fold (entered wanted rank) es ss) + cond (wanted s.position && not (is_some (origin_of es s.position) || list_any (λ t. same_scene t.position s.position) ss)) 1 0
+    length (fold (entered wanted rank) es (ss ++ s ∷ [])) ≡ length (fold (entered wanted rank) es ss) + cond (wanted s.position &&
+    not (is_some (origin_of es s.position) || list_any (λ t. same_scene t.position s.position) ss)) 1 0
 length-entered wanted rank ss es s = ap length (entered_more wanted rank ss es s) ∙ go (wanted s.position) refl
   where
     flip : (b : Bool) → ◌≡◌ {A = ℕ} (cond b 0 1) (cond (not b) 1 0)
     flip true = refl
     flip false = refl
 
-    go : (b : Bool) → wanted s.position ≡ b → length (if b then offered (fold (entered wanted rank) es ss) s.position (rank, s.push) else fold (entered wanted rank) es ss) ≡
-        length (fold (entered wanted rank) es ss) + cond (b && not (is_some (origin_of es s.position) || list_any (λ t. same_scene t.position s.position) ss)) 1 0
+    go : (b : Bool) → wanted s.position ≡ b →
+        length (if b then offered (fold (entered wanted rank) es ss) s.position (rank, s.push) else fold (entered wanted rank) es ss) ≡
+        length (fold (entered wanted rank) es ss) + cond (b &&
+        not (is_some (origin_of es s.position) || list_any (λ t. same_scene t.position s.position) ss)) 1 0
     go true e =
         length-offered (fold (entered wanted rank) es ss) s.position (rank, s.push)
-        ∙ ap (λ n. length (fold (entered wanted rank) es ss) + n) (flip (is_some (origin_of (fold (entered wanted rank) es ss) s.position)) ∙ ap {B = ℕ} (λ b. cond (not b) 1 0) (open-after wanted rank ss es s.position e))
+        ∙ ap (λ n. length (fold (entered wanted rank) es ss) + n) (flip (is_some (origin_of (fold (entered wanted rank) es ss) s.position)) ∙
+        ap {B = ℕ} (λ b. cond (not b) 1 0) (open-after wanted rank ss es s.position e))
     go false e = omega arith

@@ -12,4 +12,5 @@ squares_of (m ∷ ms) = m.boxes ++ m.player ∷ squares_of ms
 
 -- the squares of one more entry's position are appended, and its origin if it has one
 abbrev pub IsCopied : Closed → List ℕ → List ℕ → List (Origin Push) → List (Origin Push) → Type 0
-IsCopied e squares more_squares origins more_origins = (more_squares ≡ squares ++ (e.0.boxes ++ e.0.player ∷ [])) × (more_origins ≡ origins ++ option_to_list e.1)
+IsCopied e squares more_squares origins more_origins = (more_squares ≡ squares ++ (e.0.boxes ++ e.0.player ∷ [])) ×
+    (more_origins ≡ origins ++ option_to_list e.1)

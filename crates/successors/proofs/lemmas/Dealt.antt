@@ -1,7 +1,9 @@
 -- Successors that are dealt to the shares.
-use Rattle.std.proofs.Common.{◌≡◌, ◌≢◌, ℕ, zero, suc, ◌+◌, ◌*◌, ◌%◌, ◌<◌, ◌≤◌, ◌==◌, Bool, true, false, List, [], ◌∷◌, ◌++◌, length, take, drop, map, get_or, set, replicate, Some, inl, inr, refl, sym, ap, subst, ◌∙◌, if◌then◌else◌, arith}
+use Rattle.std.proofs.Common.{◌≡◌, ◌≢◌, ℕ, zero, suc, ◌+◌, ◌*◌, ◌%◌, ◌<◌, ◌≤◌, ◌==◌, Bool, true, false, List, [], ◌∷◌, ◌++◌, length, take, drop, map, get_or}
+use Rattle.std.proofs.Common.{set, replicate, Some, inl, inr, refl, sym, ap, subst, ◌∙◌, if◌then◌else◌, arith}
 use Rattle.std.proofs.lemmas.Bool.{cases_lt, cases_eq, eq-eqb, ne_eqb}
-use Rattle.std.proofs.lemmas.List.{append-nil, length-map, length-replicate, length-set, length-take-le, take_all, take-set-le, take_more, take_more_set, drop-append-le, drop-set-lt, get_or-replicate, get_or-set_same, get_or-set_other}
+use Rattle.std.proofs.lemmas.List.{append-nil, length-map, length-replicate, length-set, length-take-le, take_all, take-set-le, take_more, take_more_set}
+use Rattle.std.proofs.lemmas.List.{drop-append-le, drop-set-lt, get_or-replicate, get_or-set_same, get_or-set_other}
 use Rattle.std.proofs.Math.Seq.{take-set-lt}
 use Rattle.std.proofs.lemmas.Slice.{between_is}
 use Rattle.std.proofs.lemmas.Option.{none-some, same_Some}
@@ -65,7 +67,8 @@ pub record AreListed (shares place : ℕ) (rows lens sums : List ℕ) : Type 0 w
   pub size : length rows ≡ MAX_SHARES * MOST_DEALT
   pub long : length lens ≡ MAX_SHARES
   pub few : (share : ℕ) → share < shares → get_or lens share 0 ≤ place
-  pub listed : (share : ℕ) → share < shares → drop (share * MOST_DEALT) (take (share * MOST_DEALT + get_or lens share 0) rows) ≡ share_places shares share 0 (take place sums)
+  pub listed : (share : ℕ) → share < shares → drop (share * MOST_DEALT) (take (share * MOST_DEALT + get_or lens share 0) rows) ≡
+      share_places shares share 0 (take place sums)
 
 none_from : (n m : ℕ) (xs : List ℕ) → m ≡ n → drop n (take m xs) ≡ []
 none_from zero zero xs e = refl
@@ -75,7 +78,8 @@ none_from (suc n) (suc m) [] e = refl
 none_from (suc n) (suc m) (x ∷ xs) e = none_from n m xs (omega (arith, e))
 
 -- at first there are none
-pub none_listed : (shares : ℕ) (rows lens sums : List ℕ) → length rows ≡ MAX_SHARES * MOST_DEALT → lens ≡ replicate MAX_SHARES 0 → shares ≤ MAX_SHARES → AreListed shares 0 rows lens sums
+pub none_listed : (shares : ℕ) (rows lens sums : List ℕ) → length rows ≡ MAX_SHARES * MOST_DEALT → lens ≡ replicate MAX_SHARES 0 → shares ≤ MAX_SHARES →
+    AreListed shares 0 rows lens sums
 none_listed shares rows lens sums size e most = record {
   size = size;
   long = ap length e ∙ length-replicate {A = ℕ} MAX_SHARES 0;
@@ -86,7 +90,8 @@ none_listed shares rows lens sums size e most = record {
     zeros : (share : ℕ) → share < shares → get_or lens share 0 ≡ 0
     zeros share lt = ap (λ (xs : List ℕ). get_or xs share 0) e ∙ get_or-replicate MAX_SHARES share 0 0 (omega (arith, lt, most))
 
-module _ (shares place share : ℕ) (rows lens sums : List ℕ) (held : AreListed shares place rows lens sums) (most : shares ≤ MAX_SHARES) (lt : place < length sums)
+module _ (shares place share : ℕ) (rows lens sums : List ℕ) (held : AreListed shares place rows lens sums) (most : shares ≤ MAX_SHARES)
+    (lt : place < length sums)
     (few : length sums ≤ MOST_DEALT) (is : share ≡ get_or sums place 0 % shares) (own : share < shares) where
   -- the places of a share with one more sum
   more : (other : ℕ) → share_places shares other 0 (take (place + 1) sums)
@@ -123,12 +128,14 @@ module _ (shares place share : ℕ) (rows lens sums : List ℕ) (held : AreListe
       let end : share * MOST_DEALT + get_or lens_after share 0 ≡ share * MOST_DEALT + len + 1 = omega (arith, len_own) in
       ap (λ (n : ℕ). drop (share * MOST_DEALT) (take n rows_after)) end
       ∙ ap (drop (share * MOST_DEALT)) (take_more_set rows (share * MOST_DEALT + len) place inside)
-      ∙ drop-append-le (share * MOST_DEALT) (take (share * MOST_DEALT + len) rows) (place ∷ []) (omega (arith, length-take-le (share * MOST_DEALT + len) rows (omega (arith, inside))))
+      ∙ drop-append-le (share * MOST_DEALT) (take (share * MOST_DEALT + len) rows) (place ∷ [])
+      (omega (arith, length-take-le (share * MOST_DEALT + len) rows (omega (arith, inside))))
       ∙ ap (λ (ps : List ℕ). ps ++ place ∷ []) (held.listed share own)
       ∙ sym (more share ∙ ap (λ (b : Bool). share_places shares share 0 (take place sums) ++ put_if b place []) (eq-eqb share share refl))
 
   -- and that of another one stays
-  row_kept : (other : ℕ) → other < shares → other ≢ share → drop (other * MOST_DEALT) (take (other * MOST_DEALT + get_or lens other 0) rows_after) ≡ drop (other * MOST_DEALT) (take (other * MOST_DEALT + get_or lens other 0) rows)
+  row_kept : (other : ℕ) → other < shares → other ≢ share → drop (other * MOST_DEALT) (take (other * MOST_DEALT + get_or lens other 0) rows_after) ≡
+      drop (other * MOST_DEALT) (take (other * MOST_DEALT + get_or lens other 0) rows)
   row_kept other less ne =
       let n = other * MOST_DEALT + get_or lens other 0 in
       let small = held.few other less in
@@ -139,7 +146,8 @@ module _ (shares place share : ℕ) (rows lens sums : List ℕ) (held : AreListe
             ∙ drop-set-lt (other * MOST_DEALT) (take n rows) (share * MOST_DEALT + len) place (omega (arith, apart, len_small, lt, few)))
       ]
 
-  row_other : (other : ℕ) → other < shares → other ≢ share → drop (other * MOST_DEALT) (take (other * MOST_DEALT + get_or lens_after other 0) rows_after) ≡ share_places shares other 0 (take (place + 1) sums)
+  row_other : (other : ℕ) → other < shares → other ≢ share → drop (other * MOST_DEALT) (take (other * MOST_DEALT + get_or lens_after other 0) rows_after) ≡
+      share_places shares other 0 (take (place + 1) sums)
   row_other other less ne =
       ap (λ (n : ℕ). drop (other * MOST_DEALT) (take (other * MOST_DEALT + n) rows_after)) (len_other other ne)
       ∙ row_kept other less ne
@@ -156,13 +164,15 @@ module _ (shares place share : ℕ) (rows lens sums : List ℕ) (held : AreListe
       | inr ne ↦ omega (arith, len_other other ne, held.few other less)
     ];
     listed = λ other less. elim (cases_eq other share) [
-      | inl e ↦ subst (λ (s : ℕ). drop (s * MOST_DEALT) (take (s * MOST_DEALT + get_or lens_after s 0) rows_after) ≡ share_places shares s 0 (take (place + 1) sums)) (sym e) row_own
+      | inl e ↦ subst (λ (s : ℕ). drop (s * MOST_DEALT) (take (s * MOST_DEALT + get_or lens_after s 0) rows_after) ≡
+          share_places shares s 0 (take (place + 1) sums)) (sym e) row_own
       | inr ne ↦ row_other other less ne
     ];
   }
 
 -- once all sums are looked at, they are dealt
-pub all_listed : (shares place : ℕ) (rows lens sums : List ℕ) → AreListed shares place rows lens sums → shares ≤ MAX_SHARES → length sums ≡ place → length sums ≤ MOST_DEALT → IsDealt shares rows lens sums
+pub all_listed : (shares place : ℕ) (rows lens sums : List ℕ) → AreListed shares place rows lens sums → shares ≤ MAX_SHARES → length sums ≡ place →
+    length sums ≤ MOST_DEALT → IsDealt shares rows lens sums
 all_listed shares place rows lens sums held most all few = (
   most,
   λ share lt. record {
@@ -173,7 +183,8 @@ all_listed shares place rows lens sums held most all few = (
 
 -- what stands in the row of a share
 pub places_there : (dealt shares share from end : ℕ) (rows lens sums : List ℕ) (before ss : List Successor) →
-    share < shares → dealt ≡ shares → IsDealt dealt rows lens sums → AreSums before sums → before ≡ ss → from ≡ share * MOST_DEALT → end ≡ from + get_or lens share 0 →
+    share < shares → dealt ≡ shares → IsDealt dealt rows lens sums → AreSums before sums → before ≡ ss → from ≡ share * MOST_DEALT →
+    end ≡ from + get_or lens share 0 →
     between from end rows ≡ successor_places shares share ss
 places_there dealt shares share from end rows lens sums before ss lt all held are same from_is end_is =
     let here : IsListed shares share rows lens sums = (subst (λ n. IsDealt n rows lens sums) all held).1 share lt in

@@ -1,5 +1,7 @@
 -- Lists by their places: one more element at the end, lists without repetition, lists in a strict order.
-use Rattle.std.proofs.Common.{◌≡◌, ℕ, zero, suc, ◌+◌, ◌-◌, ◌<◌, Bool, true, false, cond, List, [], ◌∷◌, ◌++◌, length, sum, sum_by, count_by, fold, ◌||◌, get_or, set, take, replicate, Bor, Result, Ok, Err, is_ok, is_err, if◌then◌else◌, Some, None, ◌⊎◌, inl, inr, refl, sym, ap, subst, ◌∙◌, arith, map, ◌≤◌, ◌≢◌}
+use Rattle.std.proofs.Common.{◌≡◌, ℕ, zero, suc, ◌+◌, ◌-◌, ◌<◌, Bool, true, false, cond, List, [], ◌∷◌, ◌++◌, length, sum, sum_by, count_by, fold, ◌||◌, get_or}
+use Rattle.std.proofs.Common.{set, take, replicate, Bor, Result, Ok, Err, is_ok, is_err, if◌then◌else◌, Some, None, ◌⊎◌, inl, inr, refl, sym, ap, subst, ◌∙◌}
+use Rattle.std.proofs.Common.{arith, map, ◌≤◌, ◌≢◌}
 use Rattle.std.proofs.lemmas.Option.{same_Some, none-some, slice_get_read, slice_get_past}
 use Rattle.std.specs.Prelude.{slice_get}
 use Rattle.std.specs.List.{list_any}
@@ -31,7 +33,8 @@ module _ {A : Type 0} {Lt : A → A → Type 0} (asym : (a b : A) → Lt a b →
   same_lists (x ∷ xs) [] rx ry f g = let w = f x (zero, refl) in absurd (none-some x w.1)
   same_lists (x ∷ xs) (y ∷ ys) rx ry f g =
       let e = same_heads x y xs ys rx ry (f x (zero, refl)) (g y (zero, refl)) in
-      let rest = same_lists xs ys (λ i j a b lt at_a at_b. rx (suc i) (suc j) a b (omega arith) at_a at_b) (λ i j a b lt at_a at_b. ry (suc i) (suc j) a b (omega arith) at_a at_b)
+      let rest = same_lists xs ys (λ i j a b lt at_a at_b. rx (suc i) (suc j) a b (omega arith) at_a at_b)
+      (λ i j a b lt at_a at_b. ry (suc i) (suc j) a b (omega arith) at_a at_b)
       (λ a at. in_tail x y a xs ys rx e at (f a (suc at.0, at.1))) (λ a at. in_tail y x a ys xs ry (sym e) at (g a (suc at.0, at.1))) in
       λ i. e i ∷ rest i
 
@@ -82,16 +85,27 @@ sum_by_first f x xs = omega (arith, sum_by_from f (0 + f x) xs)
 pub sum-set_more : (xs : List ℕ) (i : ℕ) → i < length xs → sum (set xs i (suc (get_or xs i 0))) ≡ suc (sum xs)
 sum-set_more [] i lt = absurd (omega arith)
 sum-set_more (x ∷ xs) zero lt = omega (arith, sum_by_first (λ y. y) (suc x) xs, sum_by_first (λ y. y) x xs)
-sum-set_more (x ∷ xs) (suc i) lt = omega (arith, sum_by_first (λ y. y) x (set xs i (suc (get_or xs i 0))), sum_by_first (λ y. y) x xs, sum-set_more xs i (omega arith))
+sum-set_more (x ∷ xs) (suc i) lt = omega (
+  arith,
+  sum_by_first (λ y. y) x (set xs i (suc (get_or xs i 0))),
+  sum_by_first (λ y. y) x xs,
+  sum-set_more xs i (omega arith),
+)
 
 pub count-set_true : (bs : List Bool) (i : ℕ) → slice_get bs i ≡ Some false → count_by (λ b. b) (set bs i true) ≡ suc (count_by (λ b. b) bs)
 count-set_true [] i e = cc
-count-set_true (b ∷ bs) zero e = let f : b ≡ false = same_Some b false e in omega (arith, sum_by_first (λ c. cond c 1 0) true bs, sum_by_first (λ c. cond c 1 0) b bs, ap {B = ℕ} (λ c. cond c 1 0) f)
+count-set_true (b ∷ bs) zero e = let f : b ≡ false = same_Some b false e in
+    omega (arith, sum_by_first (λ c. cond c 1 0) true bs, sum_by_first (λ c. cond c 1 0) b bs, ap {B = ℕ} (λ c. cond c 1 0) f)
 count-set_true (b ∷ bs) (suc i) e = omega (arith, sum_by_first (λ c. cond c 1 0) b (set bs i true), sum_by_first (λ c. cond c 1 0) b bs, count-set_true bs i e)
 
 pub count-all : (bs : List Bool) → ((i : ℕ) (b : Bool) → slice_get bs i ≡ Some b → b ≡ true) → count_by (λ b. b) bs ≡ length bs
 count-all [] all = refl
-count-all (b ∷ bs) all = omega (arith, sum_by_first (λ c. cond c 1 0) b bs, ap {B = ℕ} (λ c. cond c 1 0) (all zero b refl), count-all bs (λ i c at. all (suc i) c at))
+count-all (b ∷ bs) all = omega (
+  arith,
+  sum_by_first (λ c. cond c 1 0) b bs,
+  ap {B = ℕ} (λ c. cond c 1 0) (all zero b refl),
+  count-all bs (λ i c at. all (suc i) c at),
+)
 
 -- ---- tests on some element
 
@@ -99,7 +113,9 @@ pub any-find : {A : Type 0} (test : A → Bool) (xs : List A) → list_any test 
 any-find test [] e = cc
 any-find {A} test (x ∷ xs) e = go (test x) refl e (any-find test xs)
   where
-    go : (b : Bool) → test x ≡ b → (b || list_any test xs) ≡ true → (list_any test xs ≡ true → (i : ℕ) × (y : A) × (slice_get xs i ≡ Some y) × (test y ≡ true)) → (i : ℕ) × (y : A) × (slice_get (x ∷ xs) i ≡ Some y) × (test y ≡ true)
+    go : (b : Bool) → test x ≡ b → (b || list_any test xs) ≡ true →
+        (list_any test xs ≡ true → (i : ℕ) × (y : A) × (slice_get xs i ≡ Some y) × (test y ≡ true)) → (i : ℕ) × (y : A) × (slice_get (x ∷ xs) i ≡ Some y) ×
+        (test y ≡ true)
     go true f g t = (zero, x, refl, f)
     go false f g t = let w = t g in (suc w.0, w.1, w.2, w.3)
 
@@ -125,8 +141,10 @@ take_none : (A : Type 0) (k : ℕ) → ◌≡◌ {A = List A} (take k []) []
 take_none A zero = refl
 take_none A (suc k) = refl
 
-pub resized : {A U E : Type 0} (r : Result U E) (n m : ℕ) (a : A) (old new : List A) → old ≡ [] → m ≡ length old → false ≡ is_err r → new ≡ (if is_ok r then take n old ++ replicate (n - m) a else old) → new ≡ replicate n a
-resized {A} (Ok u) n m a old new none long ok e = e ∙ (λ i. take n (none i) ++ replicate (n - m) a) ∙ ap (λ xs. xs ++ replicate (n - m) a) (take_none A n) ∙ ap (λ k. replicate k a) minus
+pub resized : {A U E : Type 0} (r : Result U E) (n m : ℕ) (a : A) (old new : List A) → old ≡ [] → m ≡ length old → false ≡ is_err r →
+    new ≡ (if is_ok r then take n old ++ replicate (n - m) a else old) → new ≡ replicate n a
+resized {A} (Ok u) n m a old new none long ok e = e ∙ (λ i. take n (none i) ++ replicate (n - m) a) ∙ ap (λ xs. xs ++ replicate (n - m) a) (take_none A n) ∙
+    ap (λ k. replicate k a) minus
   where
     minus : n - m ≡ n
     minus = omega (arith, ap length none)

@@ -9,7 +9,8 @@ use Rattle.area.proofs.Detours.{still_reached, none_below, norm_after, least_rea
 use Rattle.area.proofs.lemmas.Norms.{norm_fits}
 use Rattle.area.proofs.Reached.{walk_free}
 use Rattle.area.proofs.after.normalise_after.Goals as goal
-use Rattle.area.proofs.after.normalise_after.Goals.{then-gains_nothing+then-joined, then-gains_nothing+else-joined, else-gains_nothing+then-joined-2, else-gains_nothing+else-joined-2}
+use Rattle.area.proofs.after.normalise_after.Goals.{then-gains_nothing+then-joined, then-gains_nothing+else-joined, else-gains_nothing+then-joined-2}
+use Rattle.area.proofs.after.normalise_after.Goals.{else-gains_nothing+else-joined-2}
 
 pub next-ahead-requires : goal.next-ahead-requires
 next-ahead-requires c = inside_grid c.args.level.now c.args.push.square (c.requires.fits_before.scene.boxes c.args.push.square c.requires.pushed.there)
@@ -21,7 +22,8 @@ gains_nothing-requires c = record {
 }
 
 pub stays_joined-joined-requires-clause-inside : goal.stays_joined-joined-requires-clause-inside
-stays_joined-joined-requires-clause-inside c = inside_grid c.args.level.now c.args.push.square (c.requires.fits_before.scene.boxes c.args.push.square c.requires.pushed.there)
+stays_joined-joined-requires-clause-inside c =
+    inside_grid c.args.level.now c.args.push.square (c.requires.fits_before.scene.boxes c.args.push.square c.requires.pushed.there)
 
 pub stays_joined-joined-requires-clause-reached : goal.stays_joined-joined-requires-clause-reached
 stays_joined-joined-requires-clause-reached c = λ q there.
@@ -29,32 +31,45 @@ stays_joined-joined-requires-clause-reached c = λ q there.
     inside_grid c.args.level.now q (walk_free c.args.level.now c.args.before.now walked.0 q c.requires.fits_before.scene walked.1).0
 
 pub least_grown-requires-clause-inside : goal.least_grown-requires-clause-inside
-least_grown-requires-clause-inside c = inside_grid c.args.level.now c.args.push.square (c.requires.fits_before.scene.boxes c.args.push.square c.requires.pushed.there)
+least_grown-requires-clause-inside c =
+    inside_grid c.args.level.now c.args.push.square (c.requires.fits_before.scene.boxes c.args.push.square c.requires.pushed.there)
 
 pub least_grown-requires-clause-ahead : goal.least_grown-requires-clause-ahead
-least_grown-requires-clause-ahead c = subst (λ (x : ℕ). x < length c.args.level.now.cells) (sym c.next-ahead.ensures) (inside_grid c.args.level.now _ c.requires.pushed.ahead.0)
+least_grown-requires-clause-ahead c =
+    subst (λ (x : ℕ). x < length c.args.level.now.cells) (sym c.next-ahead.ensures) (inside_grid c.args.level.now _ c.requires.pushed.ahead.0)
 
 pub least_left-requires-clause-inside : goal.least_left-requires-clause-inside
-least_left-requires-clause-inside c = inside_grid c.args.level.now c.args.push.square (c.requires.fits_before.scene.boxes c.args.push.square c.requires.pushed.there)
+least_left-requires-clause-inside c =
+    inside_grid c.args.level.now c.args.push.square (c.requires.fits_before.scene.boxes c.args.push.square c.requires.pushed.there)
 
 pub least_left-requires-clause-ahead : goal.least_left-requires-clause-ahead
-least_left-requires-clause-ahead c = subst (λ (x : ℕ). x < length c.args.level.now.cells) (sym c.next-ahead.ensures) (inside_grid c.args.level.now _ c.requires.pushed.ahead.0)
+least_left-requires-clause-ahead c =
+    subst (λ (x : ℕ). x < length c.args.level.now.cells) (sym c.next-ahead.ensures) (inside_grid c.args.level.now _ c.requires.pushed.ahead.0)
 
 pub least_aside-requires-clause-inside : goal.least_aside-requires-clause-inside
-least_aside-requires-clause-inside c = inside_grid c.args.level.now c.args.push.square (c.requires.fits_before.scene.boxes c.args.push.square c.requires.pushed.there)
+least_aside-requires-clause-inside c =
+    inside_grid c.args.level.now c.args.push.square (c.requires.fits_before.scene.boxes c.args.push.square c.requires.pushed.there)
 
 pub least_aside-requires-clause-ahead : goal.least_aside-requires-clause-ahead
-least_aside-requires-clause-ahead c = subst (λ (x : ℕ). x < length c.args.level.now.cells) (sym c.next-ahead.ensures) (inside_grid c.args.level.now _ c.requires.pushed.ahead.0)
+least_aside-requires-clause-ahead c =
+    subst (λ (x : ℕ). x < length c.args.level.now.cells) (sym c.next-ahead.ensures) (inside_grid c.args.level.now _ c.requires.pushed.ahead.0)
 
 pub least_grown-requires-clause-known : goal.least_grown-requires-clause-known
 least_grown-requires-clause-known c = λ q there other.
-    let joined = subst (λ (x : ℕ). StaysJoined c.args.level.now c.args.scratch.now.reached x c.args.push.square) c.next-ahead.ensures (c.stays_joined-joined.ensures c.if-joined-2.true) in
-    still_reached c.args.level.now c.args.before.now c.args.push c.args.after.now c.requires.fits_before.scene c.requires.pushed c.args.scratch.now.reached c.requires.flooded joined q there (λ e. other (e ∙ sym c.next-ahead.ensures))
+    let joined = subst (λ (x : ℕ). StaysJoined c.args.level.now c.args.scratch.now.reached x c.args.push.square) c.next-ahead.ensures
+    (c.stays_joined-joined.ensures c.if-joined-2.true) in
+    still_reached c.args.level.now c.args.before.now c.args.push c.args.after.now c.requires.fits_before.scene c.requires.pushed c.args.scratch.now.reached
+    c.requires.flooded joined q there (λ e. other (e ∙ sym c.next-ahead.ensures))
 
 pub least_left-requires-clause-least : goal.least_left-requires-clause-least
 least_left-requires-clause-least c =
-    let least = subst (λ (x : ℕ). IsLeastWith c.args.scratch.now.reached x c.args.push.square c.least_with-least.result) c.next-ahead.ensures c.least_with-least.ensures in
-    none_below c.args.level.now c.args.before.now c.args.push c.args.after.now c.requires.fits_before.scene c.requires.pushed c.args.scratch.now.reached c.requires.flooded c.requires.fits.scene (subst (λ (bs : Squares). GainsNothing c.args.level.now bs c.args.scratch.now.reached (next c.args.level.now c.args.push.square c.args.push.dir) c.args.push.square) c.requires.boxes (c.if-gains_nothing.ensures refl)) c.least_with-least.result least
+    let least = subst (λ (x : ℕ). IsLeastWith c.args.scratch.now.reached x c.args.push.square c.least_with-least.result) c.next-ahead.ensures
+    c.least_with-least.ensures in
+    none_below c.args.level.now c.args.before.now c.args.push c.args.after.now c.requires.fits_before.scene c.requires.pushed c.args.scratch.now.reached
+    c.requires.flooded c.requires.fits.scene
+    (subst (λ (bs : Squares). GainsNothing c.args.level.now bs c.args.scratch.now.reached
+    (next c.args.level.now c.args.push.square c.args.push.dir) c.args.push.square) c.requires.boxes (c.if-gains_nothing.ensures refl))
+    c.least_with-least.result least
 
 pub least_left-requires-clause-player : goal.least_left-requires-clause-player
 least_left-requires-clause-player c = ap (λ (x : Scene). x.player) c.requires.pushed.after
@@ -69,8 +84,10 @@ least_left-requires-clause-met c = λ sides.
     let board = c.args.level.now in
     let reached = c.args.scratch.now.reached in
     let least = subst (λ (x : ℕ). IsLeastWith reached x c.args.push.square c.least_with-least.result) c.next-ahead.ensures c.least_with-least.ensures in
-    let beside = subst (λ (x : ℕ). (d : Dir) → contains reached (next board x d) ≡ true → Area board c.args.after.now (next board x d)) c.next-ahead.ensures sides in
-    least_reached board c.args.before.now c.args.push c.args.after.now c.requires.fits_before.scene c.requires.pushed reached c.requires.flooded beside c.least_with-least.result least
+    let beside = subst (λ (x : ℕ). (d : Dir) → contains reached (next board x d) ≡ true →
+    Area board c.args.after.now (next board x d)) c.next-ahead.ensures sides in
+    least_reached board c.args.before.now c.args.push c.args.after.now c.requires.fits_before.scene c.requires.pushed reached c.requires.flooded beside
+    c.least_with-least.result least
 
 pub returns-clause-norm : goal.returns-clause-norm
 returns-clause-norm c =
@@ -80,15 +97,21 @@ returns-clause-norm c =
     elim c.if-gains_nothing.branch [
       | then-gains_nothing+then-joined w ↦
           (let known = subst (λ (bs : Squares). GainsNothing board bs reached ahead c.args.push.square) c.requires.boxes (w.if-gains_nothing.ensures refl) in
-          let joined = subst (λ (x : ℕ). StaysJoined board reached x c.args.push.square) c.next-ahead.ensures (c.stays_joined-joined.ensures w.if-joined.true) in
+          let joined = subst (λ (x : ℕ). StaysJoined board reached x c.args.push.square) c.next-ahead.ensures
+          (c.stays_joined-joined.ensures w.if-joined.true) in
           let least = subst (λ (x : ℕ). IsLeastWith reached x c.args.push.square w.least_with-least.result) c.next-ahead.ensures w.least_with-least.ensures in
-          norm_after board c.args.before.now c.args.push c.args.after.now c.requires.fits_before.scene c.requires.pushed reached c.requires.flooded c.requires.fits.scene known joined c.set_player.new.self w.least_with-least.result (c.set_player.ensures ∙ ap (λ (q : ℕ). at c.args.after.now q) w.player-is) least)
+          norm_after board c.args.before.now c.args.push c.args.after.now c.requires.fits_before.scene c.requires.pushed reached c.requires.flooded
+          c.requires.fits.scene known joined c.set_player.new.self w.least_with-least.result (c.set_player.ensures ∙
+          ap (λ (q : ℕ). at c.args.after.now q) w.player-is) least)
       | then-gains_nothing+else-joined w ↦
-          subst (λ (n : Scene). IsNorm board c.args.after.now n) (sym (c.set_player.ensures ∙ ap (λ (q : ℕ). at c.args.after.now q) w.player-is)) w.least_left.ensures.norm
+          subst (λ (n : Scene). IsNorm board c.args.after.now n) (sym (c.set_player.ensures ∙
+          ap (λ (q : ℕ). at c.args.after.now q) w.player-is)) w.least_left.ensures.norm
       | else-gains_nothing+then-joined-2 w ↦
-          subst (λ (n : Scene). IsNorm board c.args.after.now n) (sym (c.set_player.ensures ∙ ap (λ (q : ℕ). at c.args.after.now q) w.player-is)) w.least_grown.ensures.norm
+          subst (λ (n : Scene). IsNorm board c.args.after.now n) (sym (c.set_player.ensures ∙
+          ap (λ (q : ℕ). at c.args.after.now q) w.player-is)) w.least_grown.ensures.norm
       | else-gains_nothing+else-joined-2 w ↦
-          subst (λ (n : Scene). IsNorm board c.args.after.now n) (sym (c.set_player.ensures ∙ ap (λ (q : ℕ). at c.args.after.now q) w.player-is)) w.least_aside.ensures.norm
+          subst (λ (n : Scene). IsNorm board c.args.after.now n) (sym (c.set_player.ensures ∙
+          ap (λ (q : ℕ). at c.args.after.now q) w.player-is)) w.least_aside.ensures.norm
     ]
 
 pub returns-clause-fits : goal.returns-clause-fits

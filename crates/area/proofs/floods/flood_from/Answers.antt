@@ -5,18 +5,22 @@ use Rattle.area.proofs.lemmas.Flooding.{flood_inside, flood_whole}
 use Rattle.area.proofs.floods.flood_from.Goals as goal
 
 pub grow_in_room-requires-clause-inside : goal.grow_in_room-requires-clause-inside
-grow_in_room-requires-clause-inside c = λ q h. area_in_room c.args.level.now c.args.position.now c.player.result c.player.ensures (c.in_room.ensures.0 c.if-in_room.true) q (c.requires.within q h)
+grow_in_room-requires-clause-inside c = λ q h. area_in_room c.args.level.now c.args.position.now c.player.result c.player.ensures
+    (c.in_room.ensures.0 c.if-in_room.true) q (c.requires.within q h)
 
 pub returns-then-in_room-clause-begun : goal.returns-then-in_room-clause-begun
 returns-then-in_room-clause-begun c = c.grow_in_room.ensures.growing.kept _ c.requires.begun
 
 pub returns-then-in_room-clause-within : goal.returns-then-in_room-clause-within
-returns-then-in_room-clause-within c = flood_inside c.args.level.now c.args.position.now c.args.boxes.now c.args.reached.now c.grow_in_room.new.reached c.requires.fits.scene (λ x clear. c.requires.boxes x) c.requires.begun c.requires.within c.grow_in_room.ensures.growing
+returns-then-in_room-clause-within c =
+    flood_inside c.args.level.now c.args.position.now c.args.boxes.now c.args.reached.now c.grow_in_room.new.reached c.requires.fits.scene
+    (λ x clear. c.requires.boxes x) c.requires.begun c.requires.within c.grow_in_room.ensures.growing
 
 pub returns-then-in_room-clause-whole : goal.returns-then-in_room-clause-whole
 returns-then-in_room-clause-whole c = elim c.grow_in_room.ensures.ended [
   | inl there ↦ inl there
-  | inr found ↦ inr (flood_whole c.args.level.now c.args.position.now c.args.boxes.now c.args.reached.now c.grow_in_room.new.reached c.requires.fits.scene (λ x clear. c.requires.boxes x) c.requires.begun c.requires.within c.grow_in_room.ensures.growing size found)
+  | inr found ↦ inr (flood_whole c.args.level.now c.args.position.now c.args.boxes.now c.args.reached.now c.grow_in_room.new.reached c.requires.fits.scene
+      (λ x clear. c.requires.boxes x) c.requires.begun c.requires.within c.grow_in_room.ensures.growing size found)
 ]
   where
     size : length c.grow_in_room.new.reached ≡ word_count (length c.args.level.now.cells)
@@ -26,12 +30,15 @@ pub returns-else-in_room-clause-begun : goal.returns-else-in_room-clause-begun
 returns-else-in_room-clause-begun c = c.grow.ensures.growing.kept _ c.requires.begun
 
 pub returns-else-in_room-clause-within : goal.returns-else-in_room-clause-within
-returns-else-in_room-clause-within c = flood_inside c.args.level.now c.args.position.now c.args.boxes.now c.args.reached.now c.grow.new.reached c.requires.fits.scene (λ x clear. c.requires.boxes x) c.requires.begun c.requires.within c.grow.ensures.growing
+returns-else-in_room-clause-within c =
+    flood_inside c.args.level.now c.args.position.now c.args.boxes.now c.args.reached.now c.grow.new.reached c.requires.fits.scene
+    (λ x clear. c.requires.boxes x) c.requires.begun c.requires.within c.grow.ensures.growing
 
 pub returns-else-in_room-clause-whole : goal.returns-else-in_room-clause-whole
 returns-else-in_room-clause-whole c = elim c.grow.ensures.ended [
   | inl there ↦ inl there
-  | inr found ↦ inr (flood_whole c.args.level.now c.args.position.now c.args.boxes.now c.args.reached.now c.grow.new.reached c.requires.fits.scene (λ x clear. c.requires.boxes x) c.requires.begun c.requires.within c.grow.ensures.growing size found)
+  | inr found ↦ inr (flood_whole c.args.level.now c.args.position.now c.args.boxes.now c.args.reached.now c.grow.new.reached c.requires.fits.scene
+      (λ x clear. c.requires.boxes x) c.requires.begun c.requires.within c.grow.ensures.growing size found)
 ]
   where
     size : length c.grow.new.reached ≡ word_count (length c.args.level.now.cells)

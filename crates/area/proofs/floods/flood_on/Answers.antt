@@ -9,11 +9,14 @@ use Rattle.area.proofs.lemmas.Norms.{area_here}
 use Rattle.area.proofs.floods.flood_on.Goals as goal
 
 pub take_out-requires : goal.take_out-requires
-take_out-requires c = words_enough (length c.args.level.now.cells) (length c.copy_from.new.self) c.args.but (ap length c.copy_from.ensures ∙ c.requires.words) c.requires.inside
+take_out-requires c = words_enough (length c.args.level.now.cells) (length c.copy_from.new.self) c.args.but (ap length c.copy_from.ensures ∙
+    c.requires.words) c.requires.inside
 
 pub put-requires : goal.put-requires
 put-requires c =
-    words_enough (length c.args.level.now.cells) (length c.take_out.new.self) c.player.result (c.take_out.ensures.size ∙ (ap length c.copy_from.ensures ∙ c.requires.words)) (inside_grid c.args.level.now c.player.result (ap (is_wall c.args.level.now) c.player.ensures ∙ c.requires.fits.scene.player.0))
+    words_enough (length c.args.level.now.cells) (length c.take_out.new.self) c.player.result (c.take_out.ensures.size ∙
+    (ap length c.copy_from.ensures ∙ c.requires.words)) (inside_grid c.args.level.now c.player.result (ap (is_wall c.args.level.now) c.player.ensures ∙
+    c.requires.fits.scene.player.0))
 
 pub flood_from-requires-clause-within : goal.flood_from-requires-clause-within
 flood_from-requires-clause-within c = λ q h. elim (or_cases (has_bit c.take_out.new.self q) (eqb c.player.result q) (sym (c.put.ensures.put q) ∙ h)) [

@@ -8,7 +8,8 @@ use Rattle.area.proofs.floods.flood_round.Goals as goal
 
 pub put-requires : goal.put-requires
 put-requires c =
-    words_enough (length c.args.level.now.cells) (length c.clear.new.self) c.player.result (c.clear.ensures.size ∙ c.requires.room) (inside_grid c.args.level.now c.player.result (ap (is_wall c.args.level.now) c.player.ensures ∙ c.requires.fits.scene.player.0))
+    words_enough (length c.args.level.now.cells) (length c.clear.new.self) c.player.result (c.clear.ensures.size ∙
+    c.requires.room) (inside_grid c.args.level.now c.player.result (ap (is_wall c.args.level.now) c.player.ensures ∙ c.requires.fits.scene.player.0))
 
 pub flood_from-requires : goal.flood_from-requires
 flood_from-requires c = record {

@@ -7,10 +7,12 @@ use Rattle.area.proofs.floods.flood_sets.Goals as goal
 
 pub put_all-requires : goal.put_all-requires
 put_all-requires c = λ q h.
-    words_enough (length c.args.level.now.cells) (length c.args.boxes.now) q c.requires.places (inside_grid c.args.level.now q (c.requires.fits.scene.boxes q (subst (λ (b : Squares). contains b q ≡ true) c.boxes.ensures.squares h)))
+    words_enough (length c.args.level.now.cells) (length c.args.boxes.now) q c.requires.places
+    (inside_grid c.args.level.now q (c.requires.fits.scene.boxes q (subst (λ (b : Squares). contains b q ≡ true) c.boxes.ensures.squares h)))
 
 pub flood_round-requires-clause-boxes : goal.flood_round-requires-clause-boxes
-flood_round-requires-clause-boxes c = λ q. ap (λ (ws : List ℕ). has_bit ws q) c.copy_from.ensures ∙ (c.put_all.ensures.put q ∙ ap (λ (b : Squares). contains b q) c.boxes.ensures.squares)
+flood_round-requires-clause-boxes c = λ q. ap (λ (ws : List ℕ). has_bit ws q) c.copy_from.ensures ∙
+    (c.put_all.ensures.put q ∙ ap (λ (b : Squares). contains b q) c.boxes.ensures.squares)
 
 pub returns-clause-reached : goal.returns-clause-reached
 returns-clause-reached c = whole_area c.args.level.now c.args.position.now c.flood_round.new.reached c.flood_round.ensures.within c.flood_round.ensures.whole

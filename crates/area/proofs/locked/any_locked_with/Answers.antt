@@ -13,7 +13,9 @@ has_locked-requires-clause-among c = λ q h. hanging_box ((c.group.ensures.group
 
 pub has_locked-requires-clause-inside : goal.has_locked-requires-clause-inside
 has_locked-requires-clause-inside c = λ q there.
-    words_enough (length c.args.level.now.cells) (length c.group.new.members) q (c.group.ensures.room ∙ (c.scratch.invariant.spare_words ∙ ap word_count (ap (λ (r : Reach). r.size) c.scratch.view_is ∙ c.requires.room))) (inside_grid c.args.level.now q (c.requires.clear q there))
+    words_enough (length c.args.level.now.cells) (length c.group.new.members) q (c.group.ensures.room ∙
+    (c.scratch.invariant.spare_words ∙ ap word_count (ap (λ (r : Reach). r.size) c.scratch.view_is ∙ c.requires.room)))
+    (inside_grid c.args.level.now q (c.requires.clear q there))
 
 pub returns-clause-locked : goal.returns-clause-locked
 returns-clause-locked c = (

@@ -7,4 +7,5 @@ use Rattle.area.proofs.locked.has_locked_words.Goals as goal
 pub returns : goal.returns
 returns c =
     locked_by_bits c.args.holds.now c.args.cols (squares_of c.args.members.now) c.keep_held.new.members c.has_other.result c.keep_held.ensures
-    (subst (λ (goals : List ℕ). IsTrue c.has_other.result ↔ ((q : ℕ) × (has_bit c.keep_held.new.members q ≡ true) × (has_bit goals q ≡ false))) c.as_words.ensures c.has_other.ensures)
+    (subst (λ (goals : List ℕ). IsTrue c.has_other.result ↔
+    ((q : ℕ) × (has_bit c.keep_held.new.members q ≡ true) × (has_bit goals q ≡ false))) c.as_words.ensures c.has_other.ensures)

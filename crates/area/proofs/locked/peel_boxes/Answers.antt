@@ -15,8 +15,11 @@ peel_word-went-requires-clause-place c =
 
 pub loop-square-preserved : goal.loop-square-preserved
 loop-square-preserved c =
-    pass_box c.args.holds.now c.args.cols c.args.boxes.now c.loop-square.square-index c.square.inside.0 c.args.members.now c.loop-square.members c.peel_word-went.new.members c.loop-square.went c.peel_word-went.result _
-    (let at = get_or_read c.args.boxes.now c.loop-square.square-index c.square-item.result c.loop-square-test.true c.square-item.is 0 in omega (arith, at, c.square.view_is)) refl c.peel_word-went.ensures c.loop-square.invariant
+    pass_box c.args.holds.now c.args.cols c.args.boxes.now c.loop-square.square-index c.square.inside.0 c.args.members.now c.loop-square.members
+    c.peel_word-went.new.members c.loop-square.went c.peel_word-went.result _
+    (let at = get_or_read c.args.boxes.now c.loop-square.square-index c.square-item.result c.loop-square-test.true c.square-item.is 0 in
+    omega (arith, at, c.square.view_is)) refl c.peel_word-went.ensures c.loop-square.invariant
 
 pub returns : goal.returns
-returns c = pass_boxes c.args.holds.now c.args.cols c.args.boxes.now c.loop-square.square-index c.args.members.now c.loop-square.members c.loop-square.went c.loop-square-test.false c.requires.among c.loop-square.invariant
+returns c = pass_boxes c.args.holds.now c.args.cols c.args.boxes.now c.loop-square.square-index c.args.members.now c.loop-square.members c.loop-square.went
+    c.loop-square-test.false c.requires.among c.loop-square.invariant

@@ -5,9 +5,12 @@ use Rattle.area.proofs.PushLists.{all_allowed, words_cover}
 use Rattle.area.proofs.possible.possible_pushes.Goals as goal
 
 pub push_word-requires-clause-reached : goal.push_word-requires-clause-reached
-push_word-requires-clause-reached c = reached_inside c.args.level.now c.args.position.now c.flood.new.scratch.reached c.requires.fits.scene c.flood.ensures.reached
+push_word-requires-clause-reached c =
+    reached_inside c.args.level.now c.args.position.now c.flood.new.scratch.reached c.requires.fits.scene c.flood.ensures.reached
 
 pub returns-clause-pushes : goal.returns-clause-pushes
 returns-clause-pushes c =
-    all_allowed c.args.level.now c.args.position.now c.flood.new.scratch (WORD_BITS * c.loop-place.place) c.loop-place.pushes.items c.requires.fits.scene c.flood.ensures.boxes c.flood.ensures.reached
-    (words_cover (length c.args.level.now.cells) c.loop-place.place (let size = c.step_masks-words.ensures.size in omega (arith, size, c.loop-place-test.false))) c.loop-place.invariant.0
+    all_allowed c.args.level.now c.args.position.now c.flood.new.scratch
+    (WORD_BITS * c.loop-place.place) c.loop-place.pushes.items c.requires.fits.scene c.flood.ensures.boxes c.flood.ensures.reached
+    (words_cover (length c.args.level.now.cells) c.loop-place.place (let size = c.step_masks-words.ensures.size in
+    omega (arith, size, c.loop-place-test.false))) c.loop-place.invariant.0

@@ -17,4 +17,5 @@ returns-then-word-bit-eq1-clause-pushes c = λ board reach tells before.
 pub returns-else-word-bit-eq1-clause-pushes : goal.returns-else-word-bit-eq1-clause-pushes
 returns-else-word-bit-eq1-clause-pushes c = λ board reach tells before.
     before_same board reach c.args.square c.args.pushes.now.items (dir_number c.args.dir) c.args.dir refl before
-    (λ can. true≢false (sym (tells.1 can) ∙ (sym (word_bit_tested c.args.word c.args.bit) ∙ ne_eqb (bit_and (c.args.word / 2 ^ c.args.bit) 1) 1 c.if-word-bit-eq1.false)))
+    (λ can. true≢false (sym (tells.1 can) ∙
+    (sym (word_bit_tested c.args.word c.args.bit) ∙ ne_eqb (bit_and (c.args.word / 2 ^ c.args.bit) 1) 1 c.if-word-bit-eq1.false)))

@@ -6,7 +6,8 @@ use Rattle.area.proofs.pushes.open_before.Goals as goal
 
 pub returns-clause-there : goal.returns-clause-there
 returns-clause-there c = λ board are i j lt e.
-    seen_before (is_open board c.args.boxes.now c.args.dir) c.args.place (c.args.by / WORD_BITS) (c.args.by % WORD_BITS) c.args.by _ _ _ (omega arith) (omega arith)
+    seen_before (is_open board c.args.boxes.now c.args.dir) c.args.place (c.args.by / WORD_BITS) (c.args.by % WORD_BITS) c.args.by _ _ _ (omega arith)
+    (omega arith)
     (c.open_back-here.ensures.there board are) (c.open_back-low.ensures.there board are) c.slid_up.ensures.here c.slid_up.ensures.low i j lt e
 
 pub returns-clause-none : goal.returns-clause-none

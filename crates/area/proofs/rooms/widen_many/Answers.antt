@@ -9,12 +9,17 @@ loop-place-init c = (record { widened = widened_none c.args.cols c.args.free.now
 
 pub loop-place-preserved-then-visit : goal.loop-place-preserved-then-visit
 loop-place-preserved-then-visit c =
-    let e : c.loop-place.place - (c.args.cols / WORD_BITS + 1) ≡ c.saturating_sub-place.result = sym c.saturating_sub-place.ensures in
-    (subst (λ (n : ℕ). IsWidening c.args.cols c.args.free.now n c.args.reached.now c.visit.new.words) e (widening_back c.args.cols c.args.free.now c.args.reached.now c.loop-place.reached c.visit.new.words c.loop-place.place _ c.visit.result (omega arith) c.loop-place.invariant.0 c.visit.ensures), omega (arith, e, c.loop-place.invariant.1))
+    let e : c.loop-place.place - (c.args.cols / WORD_BITS + 1) ≡ c.saturating_sub-place.result = sym c.saturating_sub-place.ensures in (
+      subst (λ (n : ℕ). IsWidening c.args.cols c.args.free.now n c.args.reached.now c.visit.new.words) e
+          (widening_back c.args.cols c.args.free.now c.args.reached.now c.loop-place.reached c.visit.new.words c.loop-place.place _ c.visit.result
+          (omega arith) c.loop-place.invariant.0 c.visit.ensures),
+      omega (arith, e, c.loop-place.invariant.1),
+    )
 
 pub loop-place-preserved : goal.loop-place-preserved
 loop-place-preserved c = (
-  widening_on c.args.cols c.args.free.now c.args.reached.now c.loop-place.reached c.visit.new.words c.loop-place.place c.visit.result c.loop-place.invariant.0 c.visit.ensures c.if-visit.false,
+  widening_on c.args.cols c.args.free.now c.args.reached.now c.loop-place.reached c.visit.new.words c.loop-place.place c.visit.result c.loop-place.invariant.0
+      c.visit.ensures c.if-visit.false,
   omega arith,
 )
 

@@ -27,24 +27,40 @@ index-requires c =
 
 pub returns-then-index-base-clause-walk : goal.returns-then-index-base-clause-walk
 returns-then-index-base-clause-walk c =
-    let inside : c.player.inside.0 < c.scratch.inside.marks.len = (let lt = inside_grid c.args.level.now c.args.state.now.player c.requires.scene.player.0 in let size = ap (λ (r : Reach). r.size) c.scratch.view_is in omega (arith, lt, size, c.player-player.ensures, c.player.view_is, c.requires.room)) in
-    let mark = read_written c.search_from-base.new.marks (drop (length c.search_from-base.new.marks) c.scratch.inside.marks.items) c.scratch.inside.marks.len c.player.inside.0 c.args.state.now.player c.index.result.now (omega arith) inside c.index.ensures (c.player.view_is ∙ c.player-player.ensures) in
-    (no_way c.args.level.now c.args.state.now c.args.square c.search_from-base.result c.args.state.now.player c.search_from-base.new.marks _ c.search_from-base.ensures.searched refl refl c.requires.scene (omega (arith, mark, c.if-index-base.true)), refl)
+    let inside : c.player.inside.0 < c.scratch.inside.marks.len = (let lt = inside_grid c.args.level.now c.args.state.now.player c.requires.scene.player.0 in
+    let size = ap (λ (r : Reach). r.size) c.scratch.view_is in omega (arith, lt, size, c.player-player.ensures, c.player.view_is, c.requires.room)) in
+    let mark = read_written c.search_from-base.new.marks
+    (drop (length c.search_from-base.new.marks) c.scratch.inside.marks.items) c.scratch.inside.marks.len c.player.inside.0 c.args.state.now.player
+    c.index.result.now (omega arith) inside c.index.ensures (c.player.view_is ∙ c.player-player.ensures) in (
+      no_way c.args.level.now c.args.state.now c.args.square c.search_from-base.result c.args.state.now.player c.search_from-base.new.marks _
+          c.search_from-base.ensures.searched refl refl c.requires.scene (omega (arith, mark, c.if-index-base.true)),
+      refl,
+    )
 
 pub descend-outcome-requires-clause-reached : goal.descend-outcome-requires-clause-reached
 descend-outcome-requires-clause-reached c =
-    let inside : c.player.inside.0 < c.scratch.inside.marks.len = (let lt = inside_grid c.args.level.now c.args.state.now.player c.requires.scene.player.0 in let size = ap (λ (r : Reach). r.size) c.scratch.view_is in omega (arith, lt, size, c.player-player.ensures, c.player.view_is, c.requires.room)) in
-    let mark = read_written c.search_from-base.new.marks (drop (length c.search_from-base.new.marks) c.scratch.inside.marks.items) c.scratch.inside.marks.len c.player.inside.0 c.player-player.result c.index.result.now (omega arith) inside c.index.ensures c.player.view_is in
-    let same = ap (λ (ms : List ℕ). get_or ms c.player-player.result 0) (c.deref.ensures.value ∙ written c.search_from-base.new.marks (drop (length c.search_from-base.new.marks) c.scratch.inside.marks.items) c.scratch.inside.marks.len (omega arith)) in
+    let inside : c.player.inside.0 < c.scratch.inside.marks.len = (let lt = inside_grid c.args.level.now c.args.state.now.player c.requires.scene.player.0 in
+    let size = ap (λ (r : Reach). r.size) c.scratch.view_is in omega (arith, lt, size, c.player-player.ensures, c.player.view_is, c.requires.room)) in
+    let mark = read_written c.search_from-base.new.marks
+    (drop (length c.search_from-base.new.marks) c.scratch.inside.marks.items) c.scratch.inside.marks.len c.player.inside.0 c.player-player.result
+    c.index.result.now (omega arith) inside c.index.ensures c.player.view_is in
+    let same = ap (λ (ms : List ℕ). get_or ms c.player-player.result 0) (c.deref.ensures.value ∙
+    written c.search_from-base.new.marks (drop (length c.search_from-base.new.marks) c.scratch.inside.marks.items) c.scratch.inside.marks.len
+    (omega arith)) in
     omega (arith, mark, same, c.if-index-base.false)
 
 pub descend-outcome-requires-clause-spread : goal.descend-outcome-requires-clause-spread
 descend-outcome-requires-clause-spread c =
-    let same = c.deref.ensures.value ∙ written c.search_from-base.new.marks (drop (length c.search_from-base.new.marks) c.scratch.inside.marks.items) c.scratch.inside.marks.len (omega arith) in
-    subst (λ (ms : List ℕ). IsSpread c.args.level.now c.search_from-base.result c.args.square (λ (q : ℕ). get_or ms q 0)) (sym same) c.search_from-base.ensures.searched.spread
+    let same = c.deref.ensures.value ∙
+    written c.search_from-base.new.marks (drop (length c.search_from-base.new.marks) c.scratch.inside.marks.items) c.scratch.inside.marks.len
+    (omega arith) in
+    subst (λ (ms : List ℕ). IsSpread c.args.level.now c.search_from-base.result c.args.square (λ (q : ℕ). get_or ms q 0))
+    (sym same) c.search_from-base.ensures.searched.spread
 
 pub returns-clause-walk : goal.returns-clause-walk
 returns-clause-walk c =
-    let same = c.deref.ensures.value ∙ written c.search_from-base.new.marks (drop (length c.search_from-base.new.marks) c.scratch.inside.marks.items) c.scratch.inside.marks.len (omega arith) in
+    let same = c.deref.ensures.value ∙
+    written c.search_from-base.new.marks (drop (length c.search_from-base.new.marks) c.scratch.inside.marks.items) c.scratch.inside.marks.len
+    (omega arith) in
     let x = ok_gives c.descend-outcome.result c.if-is_err.ensures.negation c.descend-outcome.ensures.ok in
     (x.0, least_way _ _ _ _ _ _ _ _ c.search_from-base.ensures.searched same c.player-player.ensures c.requires.scene x.1, x.2)

@@ -10,4 +10,5 @@ pub loop-place-preserved : goal.loop-place-preserved
 loop-place-preserved c = lack_next c.args.words.now c.args.others.now c.loop-place.place c.loop-place.lacks (omega arith) c.loop-place.invariant
 
 pub returns : goal.returns
-returns c = λ yes. lack_last c.args.words.now c.args.others.now c.loop-place.place (omega arith) c.requires (c.loop-place.invariant (not-true c.loop-place.lacks yes))
+returns c = λ yes. lack_last c.args.words.now c.args.others.now c.loop-place.place (omega arith) c.requires
+    (c.loop-place.invariant (not-true c.loop-place.lacks yes))

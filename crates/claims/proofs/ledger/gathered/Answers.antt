@@ -13,7 +13,8 @@ pub join_seat-requires : goal.join_seat-requires
 join_seat-requires c =
     let gives = c.into_iter-drawer-iterator.ensures.into_iter_gives in
     let all = YieldsList-from_vec {s = c.into_iter-drawer-iterator.result} c.args.drawers.items gives.0 (gives.1 ∙ c.args.drawers.ok.0) in
-    let turn = YieldsList-turn all c.loop-drawer.yielded c.loop-drawer.drawer-iterator c.loop-drawer.yielded_by c.next.result c.next.new.self c.in-Some.drawer c.in-Some.is c.next.ensures.steps in
+    let turn = YieldsList-turn all c.loop-drawer.yielded c.loop-drawer.drawer-iterator c.loop-drawer.yielded_by c.next.result c.next.new.self c.in-Some.drawer
+    c.in-Some.is c.next.ensures.steps in
     let fits = subst (λ (d : DrawerView). (d.ledger.table ≡ c.args.shared.now.table_id) × (d.ledger.len ≡ c.args.shared.now.key)) (sym turn.1)
     (c.requires.drawers (length c.loop-drawer.yielded) c.in-Some.drawer turn.0) in
     let words = c.requires.words in (
@@ -27,5 +28,7 @@ join_seat-requires c =
 pub loop-drawer-preserved : goal.loop-drawer-preserved
 loop-drawer-preserved c = record {
   table = c.join_seat.ensures.0 ∙ c.loop-drawer.invariant.table;
-  hands = c.join_seat.ensures.2 ∙ gathered_more _ c.loop-drawer.seat.me c.loop-drawer.yielded c.drawer.inside c.in-Some.drawer c.loop-drawer.invariant.hands c.drawer.view_is c.drawer.invariant;
+  hands = c.join_seat.ensures.2 ∙
+      gathered_more _ c.loop-drawer.seat.me c.loop-drawer.yielded c.drawer.inside c.in-Some.drawer c.loop-drawer.invariant.hands c.drawer.view_is
+      c.drawer.invariant;
 }

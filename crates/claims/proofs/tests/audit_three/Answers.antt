@@ -10,4 +10,5 @@ audit-requires g c =
     let second = c.args.drawers.1 in
     let third = c.args.drawers.2 in
     All-same P _ (first ∷ second ∷ third ∷ []) c.listed-all.ensures
-    (All-cons P first (second ∷ third ∷ []) c.requires.first (All-cons P second (third ∷ []) c.requires.second (All-cons P third [] c.requires.third (All-nil P))))
+    (All-cons P first (second ∷ third ∷ []) c.requires.first
+    (All-cons P second (third ∷ []) c.requires.second (All-cons P third [] c.requires.third (All-nil P))))

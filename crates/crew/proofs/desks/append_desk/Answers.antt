@@ -8,4 +8,5 @@ returns-in_err-push-clause-room c = λ roomy. subst (AreRoomy (length c.args.lev
 
 pub returns-clause-room : goal.returns-clause-room
 returns-clause-room c =
-    λ roomy. subst (AreRoomy (length c.args.level.now.cells)) (sym c.in_ok-push.ensures.items) (roomy_push (length c.args.level.now.cells) c.args.desks.now.items _ c.in_ok-scratch.ensures roomy)
+    λ roomy. subst (AreRoomy (length c.args.level.now.cells)) (sym c.in_ok-push.ensures.items)
+    (roomy_push (length c.args.level.now.cells) c.args.desks.now.items _ c.in_ok-scratch.ensures roomy)

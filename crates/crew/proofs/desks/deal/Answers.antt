@@ -14,6 +14,7 @@ loop-place-preserved c =
     record {
       same = length-set desks place c.give.new.desk ∙ c.loop-place.invariant.same;
       rest = c.split-kept.ensures.0 ∙ c.loop-place.invariant.rest;
-      drawers = drawers_set c.args.ledger.now place desks c.give.new.desk (c.give.ensures.drawer ∙ ap (λ (x : DrawerView). Some x) c.split-kept.ensures.1) c.loop-place.invariant.drawers;
+      drawers = drawers_set c.args.ledger.now place desks c.give.new.desk (c.give.ensures.drawer ∙
+          ap (λ (x : DrawerView). Some x) c.split-kept.ensures.1) c.loop-place.invariant.drawers;
       room = λ size roomy. roomy_set size desks place (get_or desks place d) c.give.new.desk here c.give.ensures.kept (c.loop-place.invariant.room size roomy);
     }

@@ -16,7 +16,8 @@ returns-in_err-hand_to-clause-hand g c = let ended = c.in_err-hand_to.ensures.ha
 pub returns-in_err-guard-clause-gate : goal.returns-in_err-guard-clause-gate
 returns-in_err-guard-clause-gate g c =
     let may = g.G.Gate.may_answer c.args.shift.now.gate c.args.shift.now.layer.number c.args.worker in let place = c.loop-parcel.parcel-index in
-    let ended = works_until may place 0 (length c.args.lot.now) c.args.drawer.now.hand c.loop-parcel.drawer.hand c.lock_or_draw.new.drawer.hand c.args.nth.now c.loop-parcel.nth c.lock_or_draw.new.nth c.in_err-guard.field-0.0 (omega (arith, c.loop-parcel-test.true))
+    let ended = works_until may place 0 (length c.args.lot.now) c.args.drawer.now.hand c.loop-parcel.drawer.hand c.lock_or_draw.new.drawer.hand c.args.nth.now
+    c.loop-parcel.nth c.lock_or_draw.new.nth c.in_err-guard.field-0.0 (omega (arith, c.loop-parcel-test.true))
     c.loop-parcel.invariant.works c.in_err-guard.ensures.gate in
     search (rules, ended)
 
@@ -24,17 +25,22 @@ pub returns-in_err-hand_to-clause-gate : goal.returns-in_err-hand_to-clause-gate
 returns-in_err-hand_to-clause-gate g c =
     let may = g.G.Gate.may_answer c.args.shift.now.gate c.args.shift.now.layer.number c.args.worker in let place = c.loop-parcel.parcel-index in
     let first = c.args.drawer.now.hand in let later = c.lock_or_draw.new.drawer.hand in let nth = c.lock_or_draw.new.nth in let after = c.hand_to.new.nth in
-    let drawn = works_twice may place 0 (place + 0) first c.loop-parcel.drawer.hand later c.args.nth.now c.loop-parcel.nth nth refl c.loop-parcel.invariant.works c.in_ok-guard.ensures.works in
-    let ended = works_until may (place + 0) 1 (length c.args.lot.now) first later later c.args.nth.now nth after c.in_err-hand_to.field-0.0 (omega (arith, c.loop-parcel-test.true)) drawn
+    let drawn = works_twice may place 0 (place + 0) first c.loop-parcel.drawer.hand later c.args.nth.now c.loop-parcel.nth nth refl
+    c.loop-parcel.invariant.works c.in_ok-guard.ensures.works in
+    let ended = works_until may (place + 0) 1 (length c.args.lot.now) first later later c.args.nth.now nth after c.in_err-hand_to.field-0.0
+    (omega (arith, c.loop-parcel-test.true)) drawn
     (works_cut_off may later 1 nth after c.in_err-hand_to.field-0.0 (ends_at_once may nth after c.in_err-hand_to.field-0.0 c.in_err-hand_to.ensures.gate)) in
     search (rules, ended)
 
 pub loop-parcel-preserved : goal.loop-parcel-preserved
 loop-parcel-preserved g c = record {
-  grown = grown_twice c.args.shift.now.layer c.args.drawer.now.hand c.loop-parcel.drawer.hand c.lock_or_draw.new.drawer.hand c.args.next.now c.loop-parcel.next c.lock_or_draw.new.next c.loop-parcel.invariant.grown c.in_ok-guard.ensures.grown;
+  grown = grown_twice c.args.shift.now.layer c.args.drawer.now.hand c.loop-parcel.drawer.hand c.lock_or_draw.new.drawer.hand c.args.next.now c.loop-parcel.next
+      c.lock_or_draw.new.next c.loop-parcel.invariant.grown c.in_ok-guard.ensures.grown;
   works =
-      let may = g.G.Gate.may_answer c.args.shift.now.gate c.args.shift.now.layer.number c.args.worker in let place = c.loop-parcel.parcel-index in let first = c.args.drawer.now.hand in let later = c.lock_or_draw.new.drawer.hand in
-      let drawn = works_twice may place 0 (place + 0) first c.loop-parcel.drawer.hand later c.args.nth.now c.loop-parcel.nth c.lock_or_draw.new.nth refl c.loop-parcel.invariant.works c.in_ok-guard.ensures.works in
+      let may = g.G.Gate.may_answer c.args.shift.now.gate c.args.shift.now.layer.number c.args.worker in let place = c.loop-parcel.parcel-index in
+      let first = c.args.drawer.now.hand in let later = c.lock_or_draw.new.drawer.hand in
+      let drawn = works_twice may place 0 (place + 0) first c.loop-parcel.drawer.hand later c.args.nth.now c.loop-parcel.nth c.lock_or_draw.new.nth refl
+      c.loop-parcel.invariant.works c.in_ok-guard.ensures.works in
       works_twice may (place + 0) 1 (place + 1) first later later c.args.nth.now c.lock_or_draw.new.nth c.hand_to.new.nth (omega arith) drawn
       (works_accepted may later 1 c.lock_or_draw.new.nth c.hand_to.new.nth (c.lock_or_draw.new.nth, refl, c.in_ok-hand_to.ensures.goes_on));
   place = c.in_ok-guard.ensures.place;

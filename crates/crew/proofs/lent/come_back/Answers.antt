@@ -11,8 +11,8 @@ loop-place-preserved c = λ i v lt at. elim (cases_lt i c.loop-place.place) [
   | inl less ↦ c.loop-place.invariant i v less at
   | inr more ↦ (let place = c.loop-place.place in let config = c.args.config in let layer = c.args.layer.now in
       let b : BookView = c.index-books-place.result in
-      let here : slice_get c.args.books.now place ≡ Some b = slice_get-get_or c.args.books.now place b c.loop-place-test.true ∙ ap (λ (x : BookView). Some x) (sym c.index-books-place.is) in
-      let e : place ≡ i = omega arith in
+      let here : slice_get c.args.books.now place ≡ Some b = slice_get-get_or c.args.books.now place b c.loop-place-test.true
+      ∙ ap (λ (x : BookView). Some x) (sym c.index-books-place.is) in let e : place ≡ i = omega arith in
       let same : b ≡ v = same_Some b v (sym here ∙ ap (slice_get c.args.books.now) e ∙ at) in
       subst (λ k. ComesBack config layer k v) e (subst (ComesBack config layer place) same (c.if-not-comes_back.ensures.0 refl)))
 ]

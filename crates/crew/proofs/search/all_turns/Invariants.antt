@@ -1,13 +1,13 @@
-use Rattle.std.proofs.Common.{◌≡◌, ◌-◌}
+use Rattle.std.proofs.Common.{◌-◌}
+use Rattle.crew.specs.inside.Crews.{IsCrewOf}
 use Rattle.crew.specs.inside.Turning.{ArePausedBy}
 use Rattle.crew.proofs.search.all_turns.Given as goal
 
-abbrev pub invariant-loop-trail : goal.invariant-loop-trail
-invariant-loop-trail g l = record {
-  turn : ArePausedBy l.config l.pruner l.books.items l.trail.items l.positions;
-  size : l.scratch.size ≡ l.fn.scratch.size;
-  desks : l.desks ≡ l.fn.desks;
+abbrev pub invariant-loop-history : goal.invariant-loop-history
+invariant-loop-history g l = record {
+  turn : ArePausedBy l.terms.config l.terms.pruner.now l.books.items l.history.trail.items l.history.positions;
+  crew : IsCrewOf l.terms.pruner.now.board l.crew;
 }
 
-abbrev pub decreases-loop-trail : goal.decreases-loop-trail
-decreases-loop-trail g l = l.config.limit - l.positions
+abbrev pub decreases-loop-history : goal.decreases-loop-history
+decreases-loop-history g l = l.terms.config.limit - l.history.positions

@@ -7,7 +7,8 @@ use Rattle.solo.proofs.lemmas.Turns.{first_turn}
 use Rattle.crew.proofs.search.search.Goals as goal
 
 pub returns : goal.returns
-returns g c = subst (λ task. IfOk c.all_turns.result (λ found. IfSome found (λ answer. IsAnswer task c.args.config.limit answer))) (c.in_ok-pruner.ensures ∙ ap (λ (board : Board). capped board c.args.config.cap) c.deref.ensures) c.all_turns.ensures
+returns g c = subst (λ task. IfOk c.all_turns.result (λ found. IfSome found (λ answer. IsAnswer task c.args.config.limit answer))) (c.in_ok-pruner.ensures
+    ∙ ap (λ (board : Board). capped board c.args.config.cap) c.deref.ensures) c.all_turns.ensures
 
 pub all_turns-requires-clause-first : goal.all_turns-requires-clause-first
 all_turns-requires-clause-first g c κs within =

@@ -5,7 +5,8 @@ use Rattle.crew.proofs.spreading.+rest.Goals as goal
 pub spread_from-first_and_rest-requires-clause-accepts : goal.spread_from-first_and_rest-requires-clause-accepts
 spread_from-first_and_rest-requires-clause-accepts g t c κs within =
     let cut = c.split_at_mut-one in
-    holds_rest (AcceptsAt g.F.Fn c.args.f.now) c.args.base c.args.s.now cut.result.0.now cut.result.1.now cut.ensures.value cut.ensures.front_len c.requires.accepts
+    holds_rest (AcceptsAt g.F.Fn c.args.f.now) c.args.base c.args.s.now cut.result.0.now cut.result.1.now cut.ensures.value cut.ensures.front_len
+    c.requires.accepts
 
 pub spread_from-returns : goal.spread_from-returns
 spread_from-returns g t c =

@@ -9,79 +9,94 @@ use Rattle.crew.proofs.Turning.{begins, ends_over, goes_on, joinable, looked_bef
 use Rattle.crew.proofs.turns.turn.Goals as goal
 
 pub join_layer-requires : goal.join_layer-requires
-join_layer-requires g c =
-    (search rules, subst AreAllShares (sym c.as_slice.ensures.value) (joinable c.args.config c.args.pruner.now c.args.books.items c.args.trail.now.items c.args.positions.now c.requires.limits c.requires.turn))
+join_layer-requires g c = (
+  search rules,
+  subst AreAllShares (sym c.as_slice.ensures.value)
+      (joinable c.args.terms.now.config c.args.terms.now.pruner.now c.args.books.items c.args.history.now.trail.items c.args.history.now.positions
+      c.requires.limits c.requires.turn),
+)
 
 pub look-requires-clause-looked : goal.look-requires-clause-looked
 look-requires-clause-looked g c =
     let layer = c.in_ok-layer.layer in
     let join : IsJoinOf c.args.books.items layer = subst (λ bs. IsJoinOf bs layer) c.as_slice.ensures.value c.in_ok-layer.ensures in
-    subst (λ ls. IsLookedAt layer.level c.args.config.limit ls c.args.positions.now) (sym c.as_slice-2.ensures.value)
-    (looked_before c.args.config c.args.pruner.now c.args.books.items c.args.trail.now.items c.args.positions.now c.requires.limits c.requires.turn layer join)
+    subst (λ ls. IsLookedAt layer.level c.args.terms.now.config.limit ls c.args.history.now.positions) (sym c.as_slice-2.ensures.value)
+    (looked_before c.args.terms.now.config c.args.terms.now.pruner.now c.args.books.items c.args.history.now.trail.items c.args.history.now.positions
+    c.requires.limits c.requires.turn layer join)
 
 pub look-requires-clause-next : goal.look-requires-clause-next
 look-requires-clause-next g c =
     let layer = c.in_ok-layer.layer in
     let join : IsJoinOf c.args.books.items layer = subst (λ bs. IsJoinOf bs layer) c.as_slice.ensures.value c.in_ok-layer.ensures in
-    (next_layer c.args.config c.args.pruner.now c.args.books.items c.args.trail.now.items c.args.positions.now c.requires.limits c.requires.turn layer join).1 ∙ ap length (sym c.as_slice-2.ensures.value)
+    (next_layer c.args.terms.now.config c.args.terms.now.pruner.now c.args.books.items c.args.history.now.trail.items c.args.history.now.positions
+    c.requires.limits c.requires.turn layer join).1 ∙ ap length (sym c.as_slice-2.ensures.value)
 
 pub look-requires-clause-room : goal.look-requires-clause-room
 look-requires-clause-room g c =
     let layer = c.in_ok-layer.layer in
     let join : IsJoinOf c.args.books.items layer = subst (λ bs. IsJoinOf bs layer) c.as_slice.ensures.value c.in_ok-layer.ensures in
-    c.requires.room ∙ ap (λ (t : Task). length t.board.cells) (sym (next_layer c.args.config c.args.pruner.now c.args.books.items c.args.trail.now.items c.args.positions.now c.requires.limits c.requires.turn layer join).0)
+    c.requires.crew.0 ∙ ap (λ (t : Task). length t.board.cells)
+    (sym (next_layer c.args.terms.now.config c.args.terms.now.pruner.now c.args.books.items c.args.history.now.trail.items c.args.history.now.positions
+    c.requires.limits c.requires.turn layer join).0)
 
 pub returns-in-Some-clause-turned : goal.returns-in-Some-clause-turned
 returns-in-Some-clause-turned g c =
-    let layer = c.in_ok-layer.layer in let limit = c.args.config.limit in
+    let layer = c.in_ok-layer.layer in let limit = c.args.terms.now.config.limit in
     let join : IsJoinOf c.args.books.items layer = subst (λ bs. IsJoinOf bs layer) c.as_slice.ensures.value c.in_ok-layer.ensures in
-    let next = next_layer c.args.config c.args.pruner.now c.args.books.items c.args.trail.now.items c.args.positions.now c.requires.limits c.requires.turn layer join in
-    subst (λ b. IsAnswer b limit c.in-Some.answer) next.0 (subst (λ found. IfSome found (λ answer. IsAnswer layer.level limit answer)) c.in-Some.is c.in_ok-found.ensures.answer)
+    let next = next_layer c.args.terms.now.config c.args.terms.now.pruner.now c.args.books.items c.args.history.now.trail.items c.args.history.now.positions
+    c.requires.limits c.requires.turn layer join in
+    subst (λ b. IsAnswer b limit c.in-Some.answer) next.0 (subst (λ found. IfSome found (λ answer. IsAnswer layer.level limit answer)) c.in-Some.is
+    c.in_ok-found.ensures.answer)
 
 pub work_through-requires-clause-may : goal.work_through-requires-clause-may
 work_through-requires-clause-may g c κs within =
     let layer = c.in_ok-layer.layer in
     let join : IsJoinOf c.args.books.items layer = subst (λ bs. IsJoinOf bs layer) c.as_slice.ensures.value c.in_ok-layer.ensures in
-    begins c.args.config c.args.pruner.now c.args.books.items c.args.trail.now.items c.args.positions.now c.requires.limits c.requires.turn layer join
+    begins c.args.terms.now.config c.args.terms.now.pruner.now c.args.books.items c.args.history.now.trail.items c.args.history.now.positions c.requires.limits
+    c.requires.turn layer join
 
 pub work_through-requires-clause-pruner_of_level : goal.work_through-requires-clause-pruner_of_level
 work_through-requires-clause-pruner_of_level g c κs within =
     let layer = c.in_ok-layer.layer in
     let join : IsJoinOf c.args.books.items layer = subst (λ bs. IsJoinOf bs layer) c.as_slice.ensures.value c.in_ok-layer.ensures in
-    sym (next_layer c.args.config c.args.pruner.now c.args.books.items c.args.trail.now.items c.args.positions.now c.requires.limits c.requires.turn layer join).0
+    sym (next_layer c.args.terms.now.config c.args.terms.now.pruner.now c.args.books.items c.args.history.now.trail.items c.args.history.now.positions
+    c.requires.limits c.requires.turn layer join).0
 
-pub work_through-requires-clause-desks : goal.work_through-requires-clause-desks
-work_through-requires-clause-desks g c κs within =
-    let layer = c.in_ok-layer.layer in
-    let join : IsJoinOf c.args.books.items layer = subst (λ bs. IsJoinOf bs layer) c.as_slice.ensures.value c.in_ok-layer.ensures in
-    c.requires.desks ∙ ap (λ (t : Task). t.board) (sym (next_layer c.args.config c.args.pruner.now c.args.books.items c.args.trail.now.items c.args.positions.now c.requires.limits c.requires.turn layer join).0)
-
-pub work_through-requires-clause-room : goal.work_through-requires-clause-room
-work_through-requires-clause-room g c κs within =
-    let layer = c.in_ok-layer.layer in
-    let join : IsJoinOf c.args.books.items layer = subst (λ bs. IsJoinOf bs layer) c.as_slice.ensures.value c.in_ok-layer.ensures in
-    c.look.ensures.size ∙ c.requires.room ∙ ap (λ (t : Task). length t.board.cells) (sym (next_layer c.args.config c.args.pruner.now c.args.books.items c.args.trail.now.items c.args.positions.now c.requires.limits c.requires.turn layer join).0)
+pub work_through-requires-clause-crew : goal.work_through-requires-clause-crew
+work_through-requires-clause-crew g c κs within = (c.look.ensures.size ∙ c.requires.crew.0, c.requires.crew.1)
 
 pub returns-in-Over-clause-turned : goal.returns-in-Over-clause-turned
 returns-in-Over-clause-turned g c =
-    let config = c.args.config in let layer = c.in_ok-layer.layer in let trail = c.args.trail.now.items in let count = c.look.new.positions in let worked = c.in-Some-back.worked in let after = c.in-Some-back.after in
+    let config = c.args.terms.now.config in let layer = c.in_ok-layer.layer in let trail = c.args.history.now.trail.items in let count = c.look.new.positions in
+    let worked = c.in-Some-back.worked in let after = c.in-Some-back.after in
     let join : IsJoinOf c.args.books.items layer = subst (λ bs. IsJoinOf bs layer) c.as_slice.ensures.value c.in_ok-layer.ensures in
-    let found : IsLookedAt layer.level config.limit (c.as_slice-2.result.now ++ layer.origins ∷ []) count = subst (λ found. IfNone found (IsLookedAt layer.level config.limit (c.as_slice-2.result.now ++ layer.origins ∷ []) count)) c.in_default.is c.in_ok-found.ensures.looked in
-    let looked : IsLookedAt layer.level config.limit (trail ++ layer.origins ∷ []) count = subst (λ ls. IsLookedAt layer.level config.limit (ls ++ layer.origins ∷ []) count) c.as_slice-2.ensures.value found in
-    let work : AreWorkedBy config layer worked after.items = subst (λ back. IfSome back (λ b. AreWorkedBy config layer b.0 b.1.items)) c.in-Some-back.is c.in_ok-back.ensures.worked in
-    ends_over config c.args.pruner.now c.args.books.items trail c.args.positions.now c.requires.limits c.requires.turn layer count after.items join looked
-    (subst (λ w. AreWorkedBy config layer w after.items) c.in-Over.is work)
+    let found : IsLookedAt layer.level config.limit (c.as_slice-2.result.now ++ layer.origins ∷ []) count = subst
+    (λ found. IfNone found (IsLookedAt layer.level config.limit (c.as_slice-2.result.now ++ layer.origins ∷ []) count)) c.in_default.is
+    c.in_ok-found.ensures.looked in let looked : IsLookedAt layer.level config.limit (trail ++ layer.origins ∷ []) count = subst
+    (λ ls. IsLookedAt layer.level config.limit (ls ++ layer.origins ∷ []) count) c.as_slice-2.ensures.value found in
+    let work : AreWorkedBy config layer worked after.items = subst (λ back. IfSome back (λ b. AreWorkedBy config layer b.0 b.1.items)) c.in-Some-back.is
+    c.in_ok-back.ensures.worked in
+    ends_over config c.args.terms.now.pruner.now c.args.books.items trail c.args.history.now.positions c.requires.limits c.requires.turn layer count
+    after.items join looked (subst (λ w. AreWorkedBy config layer w after.items) c.in-Over.is work)
 
 pub returns-in-Through-clause-turned : goal.returns-in-Through-clause-turned
 returns-in-Through-clause-turned g c =
-    let config = c.args.config in let layer = c.in_ok-layer.layer in let trail = c.args.trail.now.items in let positions = c.args.positions.now in let count = c.look.new.positions in let worked = c.in-Some-back.worked in let after = c.in-Some-back.after in
+    let config = c.args.terms.now.config in let layer = c.in_ok-layer.layer in let trail = c.args.history.now.trail.items in
+    let positions = c.args.history.now.positions in
+    let count = c.look.new.positions in let worked = c.in-Some-back.worked in let after = c.in-Some-back.after in
     let join : IsJoinOf c.args.books.items layer = subst (λ bs. IsJoinOf bs layer) c.as_slice.ensures.value c.in_ok-layer.ensures in
-    let found : IsLookedAt layer.level config.limit (c.as_slice-2.result.now ++ layer.origins ∷ []) count = subst (λ found. IfNone found (IsLookedAt layer.level config.limit (c.as_slice-2.result.now ++ layer.origins ∷ []) count)) c.in_default.is c.in_ok-found.ensures.looked in
-    let looked : IsLookedAt layer.level config.limit (trail ++ layer.origins ∷ []) count = subst (λ ls. IsLookedAt layer.level config.limit (ls ++ layer.origins ∷ []) count) c.as_slice-2.ensures.value found in
-    let some : (0 < length layer.places) × (length layer.places ≤ config.limit) = subst (λ found. IfNone found ((0 < length layer.places) × (length layer.places ≤ config.limit))) c.in_default.is c.in_ok-found.ensures.ranks in
-    let counted : count ≡ positions + length layer.places = subst (λ found. IfNone found (count ≡ positions + length layer.places)) c.in_default.is c.in_ok-found.ensures.count in
-    let work : AreWorkedBy config layer worked after.items = subst (λ back. IfSome back (λ b. AreWorkedBy config layer b.0 b.1.items)) c.in-Some-back.is c.in_ok-back.ensures.worked in (
-      goes_on config c.args.pruner.now c.args.books.items trail positions c.requires.limits c.requires.turn layer count after.items c.push.new.self.items c.of.result join looked
-          (subst (λ w. AreWorkedBy config layer w after.items) c.in-Through.is work) c.in_ok-push.ensures.items c.of.ensures,
+    let found : IsLookedAt layer.level config.limit (c.as_slice-2.result.now ++ layer.origins ∷ []) count =
+    subst (λ found. IfNone found (IsLookedAt layer.level config.limit (c.as_slice-2.result.now ++ layer.origins ∷ []) count)) c.in_default.is
+    c.in_ok-found.ensures.looked in let looked : IsLookedAt layer.level config.limit (trail ++ layer.origins ∷ []) count =
+    subst (λ ls. IsLookedAt layer.level config.limit (ls ++ layer.origins ∷ []) count) c.as_slice-2.ensures.value found in
+    let some : (0 < length layer.places) × (length layer.places ≤ config.limit) = subst
+    (λ found. IfNone found ((0 < length layer.places) × (length layer.places ≤ config.limit))) c.in_default.is c.in_ok-found.ensures.ranks in
+    let counted : count ≡ positions + length layer.places = subst (λ found. IfNone found (count ≡ positions + length layer.places)) c.in_default.is
+    c.in_ok-found.ensures.count in
+    let work : AreWorkedBy config layer worked after.items = subst (λ back. IfSome back (λ b. AreWorkedBy config layer b.0 b.1.items)) c.in-Some-back.is
+    c.in_ok-back.ensures.worked in (
+      goes_on config c.args.terms.now.pruner.now c.args.books.items trail positions c.requires.limits c.requires.turn layer count after.items
+          c.push.new.self.items
+          c.of.result join looked (subst (λ w. AreWorkedBy config layer w after.items) c.in-Through.is work) c.in_ok-push.ensures.items c.of.ensures,
       omega (arith, some.0, counted),
     )

@@ -6,5 +6,6 @@ use Rattle.crew.proofs.worker.by_ones.Given as goal
 
 abbrev pub invariant-loop : goal.invariant-loop
 invariant-loop g l =
-    (goal.iterator-loop g).can_next l.iterator' × (goal.iterator-loop g).is_finite l.iterator' × IsOfLayer l.shift.layer l.parcel × IsAtPlace l.fn.shift.ledger l.fn.worker l.drawer × (l.scratch.size ≡ l.fn.scratch.size)
+    (goal.iterator-loop g).can_next l.iterator' × (goal.iterator-loop g).is_finite l.iterator' × IsOfLayer l.shift.layer l.parcel
+    × IsAtPlace l.fn.shift.ledger l.fn.worker l.drawer × (l.scratch.size ≡ l.fn.scratch.size)
     × HasLeft (answers_to g.G.Gate.may_answer l.fn.shift l.fn.worker) l.fn.shift.books 1 l.fn.drawer.hand l.drawer.hand l.nth

@@ -17,7 +17,8 @@ pub returns-else-is_dead-clause-from : goal.returns-else-is_dead-clause-from
 returns-else-is_dead-clause-from c = (
   λ told. inr (c.is_group_frozen.ensures.group.0 told),
   λ doomed. elim doomed [
-    | inl dead ↦ absurd (false≢true (sym c.if-is_dead.false ∙ c.is_dead.ensures.dead.1 (subst (λ (b : Board). IsDead b c.args.square) (sym c.requires.dead_of_level) dead)))
+    | inl dead ↦ absurd (false≢true (sym c.if-is_dead.false ∙
+        c.is_dead.ensures.dead.1 (subst (λ (b : Board). IsDead b c.args.square) (sym c.requires.dead_of_level) dead)))
     | inr group ↦ c.is_group_frozen.ensures.group.1 group
   ],
 )

@@ -17,8 +17,10 @@ pub returns-then-is_dead-clause-same : goal.returns-then-is_dead-clause-same
 returns-then-is_dead-clause-same c =
     let ahead : ℕ = c.next-ahead.result in
     let before : Squares = c.args.scratch.now.boxes in
-    let moved : c.args.position.now.boxes ≡ insert (remove before c.args.push.square) ahead = c.requires.pushed ∙ ap (insert (remove before c.args.push.square)) (sym c.next-ahead.ensures) in
-    let there : contains c.args.position.now.boxes ahead ≡ true = ap (λ (xs : Squares). contains xs ahead) moved ∙ contains-insert_here (remove before c.args.push.square) ahead in
+    let moved : c.args.position.now.boxes ≡ insert (remove before c.args.push.square) ahead = c.requires.pushed ∙
+    ap (insert (remove before c.args.push.square)) (sym c.next-ahead.ensures) in
+    let there : contains c.args.position.now.boxes ahead ≡ true = ap (λ (xs : Squares). contains xs ahead) moved ∙
+    contains-insert_here (remove before c.args.push.square) ahead in
     let dead : IsDead c.args.level.now ahead = subst (λ (b : Board). IsDead b ahead) c.requires.dead_of_level (c.is_dead.ensures.dead.0 c.if-is_dead.true) in
     (λ _. inl (ahead, there, dead), λ _. refl)
 
@@ -26,15 +28,21 @@ pub locked_after_push-requires-clause-to : goal.locked_after_push-requires-claus
 locked_after_push-requires-clause-to c =
     let ahead : ℕ = c.next-ahead.result in
     let before : Squares = c.args.scratch.now.boxes in
-    let moved : c.args.position.now.boxes ≡ insert (remove before c.args.push.square) ahead = c.requires.pushed ∙ ap (insert (remove before c.args.push.square)) (sym c.next-ahead.ensures) in
-    inside_grid c.args.level.now ahead (c.requires.fits.scene.boxes ahead (ap (λ (xs : Squares). contains xs ahead) moved ∙ contains-insert_here (remove before c.args.push.square) ahead))
+    let moved : c.args.position.now.boxes ≡ insert (remove before c.args.push.square) ahead = c.requires.pushed ∙
+    ap (insert (remove before c.args.push.square)) (sym c.next-ahead.ensures) in
+    inside_grid c.args.level.now ahead (c.requires.fits.scene.boxes ahead (ap (λ (xs : Squares). contains xs ahead) moved ∙
+    contains-insert_here (remove before c.args.push.square) ahead))
 
 pub locked_after_push-requires-clause-loose : goal.locked_after_push-requires-clause-loose
 locked_after_push-requires-clause-loose c = λ part locked.
     let board : Board = c.args.level.now in
     let are : AreHolds board c.holds.result.now = subst (λ (b : Board). AreHolds b c.holds.result.now) c.requires.dead_of_level c.holds.ensures in
     let stand : StandInside board c.args.position.now.boxes = λ q h. inside_grid board q (c.requires.fits.scene.boxes q h) in
-    c.requires.undoomed (inr (part, frozen_as_locked board c.holds.result.now are c.args.scratch.now.boxes (stood_inside board c.args.scratch.now.boxes c.args.position.now.boxes c.args.push.square _ c.requires.pushed c.requires.inside stand) part locked))
+    c.requires.undoomed (inr (
+      part,
+      frozen_as_locked board c.holds.result.now are c.args.scratch.now.boxes
+          (stood_inside board c.args.scratch.now.boxes c.args.position.now.boxes c.args.push.square _ c.requires.pushed c.requires.inside stand) part locked,
+    ))
 
 pub doomed_after-requires-clause-moved : goal.doomed_after-requires-clause-moved
 doomed_after-requires-clause-moved c =
@@ -47,12 +55,15 @@ returns-in-Some-clause-from c =
     let ahead : ℕ = c.next-ahead.result in
     let before : Squares = c.args.scratch.now.boxes in
     let after : Squares = c.args.position.now.boxes in
-    let moved : after ≡ insert (remove before c.args.push.square) ahead = c.requires.pushed ∙ ap (insert (remove before c.args.push.square)) (sym c.next-ahead.ensures) in
+    let moved : after ≡ insert (remove before c.args.push.square) ahead = c.requires.pushed ∙
+    ap (insert (remove before c.args.push.square)) (sym c.next-ahead.ensures) in
     let there : contains after ahead ≡ true = ap (λ (xs : Squares). contains xs ahead) moved ∙ contains-insert_here (remove before c.args.push.square) ahead in
     let are : AreHolds board c.holds.result.now = subst (λ (b : Board). AreHolds b c.holds.result.now) c.requires.dead_of_level c.holds.ensures in
     let stand : StandInside board after = λ q h. inside_grid board q (c.requires.fits.scene.boxes q h) in
-    let live : ¬ (IsDead board ahead) = λ dead. false≢true (sym c.if-is_dead.false ∙ c.is_dead.ensures.dead.1 (subst (λ (b : Board). IsDead b ahead) (sym c.requires.dead_of_level) dead)) in
-    let tells = frozen_told board c.holds.result.now are after stand c.in-Some.locked (subst (λ (xs : Squares). TellsLocked c.holds.result.now board.cols xs c.in-Some.locked) (sym moved) c.in-Some.ensures) in
+    let live : ¬ (IsDead board ahead) = λ dead. false≢true (sym c.if-is_dead.false ∙
+    c.is_dead.ensures.dead.1 (subst (λ (b : Board). IsDead b ahead) (sym c.requires.dead_of_level) dead)) in
+    let tells = frozen_told board c.holds.result.now are after stand c.in-Some.locked
+    (subst (λ (xs : Squares). TellsLocked c.holds.result.now board.cols xs c.in-Some.locked) (sym moved) c.in-Some.ensures) in
     subst (λ (q : ℕ). IsTrue c.in-Some.locked ↔ DoomedFrom board after q) c.next-ahead.ensures
     (from_frozen board before after c.args.push.square ahead moved there c.requires.undoomed c.requires.fits.scene.boxes c.in-Some.locked live tells)
 
@@ -62,12 +73,15 @@ returns-in-Some-clause-same c =
     let ahead : ℕ = c.next-ahead.result in
     let before : Squares = c.args.scratch.now.boxes in
     let after : Squares = c.args.position.now.boxes in
-    let moved : after ≡ insert (remove before c.args.push.square) ahead = c.requires.pushed ∙ ap (insert (remove before c.args.push.square)) (sym c.next-ahead.ensures) in
+    let moved : after ≡ insert (remove before c.args.push.square) ahead = c.requires.pushed ∙
+    ap (insert (remove before c.args.push.square)) (sym c.next-ahead.ensures) in
     let there : contains after ahead ≡ true = ap (λ (xs : Squares). contains xs ahead) moved ∙ contains-insert_here (remove before c.args.push.square) ahead in
     let are : AreHolds board c.holds.result.now = subst (λ (b : Board). AreHolds b c.holds.result.now) c.requires.dead_of_level c.holds.ensures in
     let stand : StandInside board after = λ q h. inside_grid board q (c.requires.fits.scene.boxes q h) in
-    let live : ¬ (IsDead board ahead) = λ dead. false≢true (sym c.if-is_dead.false ∙ c.is_dead.ensures.dead.1 (subst (λ (b : Board). IsDead b ahead) (sym c.requires.dead_of_level) dead)) in
-    let tells = frozen_told board c.holds.result.now are after stand c.in-Some.locked (subst (λ (xs : Squares). TellsLocked c.holds.result.now board.cols xs c.in-Some.locked) (sym moved) c.in-Some.ensures) in
+    let live : ¬ (IsDead board ahead) = λ dead. false≢true (sym c.if-is_dead.false ∙
+    c.is_dead.ensures.dead.1 (subst (λ (b : Board). IsDead b ahead) (sym c.requires.dead_of_level) dead)) in
+    let tells = frozen_told board c.holds.result.now are after stand c.in-Some.locked
+    (subst (λ (xs : Squares). TellsLocked c.holds.result.now board.cols xs c.in-Some.locked) (sym moved) c.in-Some.ensures) in
     doomed_frozen board before after c.args.push.square ahead moved there c.requires.undoomed c.requires.fits.scene.boxes c.in-Some.locked live tells
 
 pub returns-in-None-clause-same : goal.returns-in-None-clause-same

@@ -14,16 +14,28 @@ any_frozen-requires-clause-inside c = λ q there.
 pub returns-then-any_dead-clause-lost : goal.returns-then-any_dead-clause-lost
 returns-then-any_dead-clause-lost c found =
     let (q, there, dead) = c.any_dead.ensures.0 found in
-    doomed_are_lost c.args.level.now c.args.position.now.boxes (inl (q, ap (λ boxes. contains boxes q) (sym c.boxes-boxes.ensures.squares) ∙ there, subst (λ board. IsDead board q) c.requires.dead_of_level dead))
+    doomed_are_lost c.args.level.now c.args.position.now.boxes (inl (
+      q,
+      ap (λ boxes. contains boxes q) (sym c.boxes-boxes.ensures.squares) ∙
+          there,
+      subst (λ board. IsDead board q) c.requires.dead_of_level dead,
+    ))
 
 -- the boxes are doomed exactly where the answer is yes
 decided : (c : goal.After-any_frozen) → IsTrue c.any_frozen.result ↔ Doomed c.args.level.now c.args.position.now.boxes
 decided c =
-    let tells = subst (λ (given : Squares). IsTrue c.any_frozen.result ↔ ((members : Squares) × IsFrozen c.args.level.now given members)) c.boxes-boxes.ensures.squares
+    let tells = subst (λ (given : Squares). IsTrue c.any_frozen.result ↔
+    ((members : Squares) × IsFrozen c.args.level.now given members)) c.boxes-boxes.ensures.squares
     c.any_frozen.ensures.frozen in (
       λ found. inr (tells.0 found),
       λ lost. elim lost [
-        | inl (q, there, dead) ↦ absurd (false≢true (c.if-any_dead.ensures.1 (q, ap (λ given. contains given q) c.boxes-boxes.ensures.squares ∙ there, subst (λ given. IsDead given q) (sym c.requires.dead_of_level) dead)))
+        | inl (q, there, dead) ↦ absurd
+            (false≢true (c.if-any_dead.ensures.1 (
+              q,
+              ap (λ given. contains given q) c.boxes-boxes.ensures.squares ∙
+                  there,
+              subst (λ given. IsDead given q) (sym c.requires.dead_of_level) dead,
+            )))
         | inr frozen ↦ tells.1 frozen
       ],
     )

@@ -6,7 +6,12 @@ use Rattle.doom.proofs.Holding.{filled_none}
 use Rattle.doom.proofs.holds.goal_squares.Goals as goal
 
 pub loop-index-init : goal.loop-index-init
-loop-index-init c = (c.in_ok-set.ensures.size ∙ ap word_count c.squares-squares.ensures, filled_none (λ q. is_goal c.args.level.now q ≡ true) _ c.in_ok-set.ensures.none)
+loop-index-init c = (
+  c.in_ok-set.ensures.size ∙
+      ap word_count c.squares-squares.ensures,
+  filled_none (λ q. is_goal c.args.level.now q ≡ true) _ c.in_ok-set.ensures.none,
+)
 
 pub put-requires : goal.put-requires
-put-requires c = words_enough (length c.args.level.now.cells) (length c.loop-index.set) c.loop-index.index c.loop-index.invariant.0 (omega (arith, c.loop-index-test.true, c.squares-squares.ensures))
+put-requires c = words_enough (length c.args.level.now.cells) (length c.loop-index.set) c.loop-index.index c.loop-index.invariant.0
+    (omega (arith, c.loop-index-test.true, c.squares-squares.ensures))

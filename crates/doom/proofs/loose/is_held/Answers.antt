@@ -8,8 +8,10 @@ use Rattle.doom.proofs.Beside.{held_fast, held_cases}
 use Rattle.doom.proofs.loose.is_held.Goals as goal
 
 pub returns-then-fast : goal.returns-then-fast
-returns-then-fast c =
-    (λ _. held_fast c.args.level.now (insert (remove c.args.scratch.now.boxes c.args.from) c.args.to) c.args.to c.args.dir (c.requires.fast.0 c.if-fast.true), λ _. c.if-fast.true)
+returns-then-fast c = (
+  λ _. held_fast c.args.level.now (insert (remove c.args.scratch.now.boxes c.args.from) c.args.to) c.args.to c.args.dir (c.requires.fast.0 c.if-fast.true),
+  λ _. c.if-fast.true,
+)
 
 pub returns-else-fast : goal.returns-else-fast
 returns-else-fast c =

@@ -9,11 +9,14 @@ use Rattle.doom.proofs.loose.is_loose.Goals as goal
 
 pub is_blocked-requires-clause-inside : goal.is_blocked-requires-clause-inside
 is_blocked-requires-clause-inside c = live_inside c.args.level.now c.next-ahead.result
-    (λ dead. false≢true (sym c.if-not-is_dead.true ∙ c.is_dead.ensures.dead.1 (subst (λ (b : Board). IsDead b c.next-ahead.result) (sym c.requires.dead_of_level) dead)))
+    (λ dead. false≢true (sym c.if-not-is_dead.true ∙
+    c.is_dead.ensures.dead.1 (subst (λ (b : Board). IsDead b c.next-ahead.result) (sym c.requires.dead_of_level) dead)))
 
 pub returns-then-not-is_dead : goal.returns-then-not-is_dead
 returns-then-not-is_dead c =
-    subst (λ (q : ℕ). IsTrue (not c.is_blocked.result) ↔ IsLoose c.args.level.now (insert (remove c.args.scratch.now.boxes c.args.push.square) q) q) c.next-ahead.ensures
+    subst (λ (q : ℕ). IsTrue (not c.is_blocked.result) ↔
+    IsLoose c.args.level.now (insert (remove c.args.scratch.now.boxes c.args.push.square) q) q) c.next-ahead.ensures
     (loose_by c.args.level.now (insert (remove c.args.scratch.now.boxes c.args.push.square) c.next-ahead.result) c.next-ahead.result c.is_blocked.result
-    (λ dead. false≢true (sym c.if-not-is_dead.true ∙ c.is_dead.ensures.dead.1 (subst (λ (b : Board). IsDead b c.next-ahead.result) (sym c.requires.dead_of_level) dead)))
+    (λ dead. false≢true (sym c.if-not-is_dead.true ∙
+    c.is_dead.ensures.dead.1 (subst (λ (b : Board). IsDead b c.next-ahead.result) (sym c.requires.dead_of_level) dead)))
     c.is_blocked.ensures)

@@ -1,4 +1,5 @@
-use Rattle.std.proofs.Common.{◌≡◌, ◌<◌, Bool, true, List, [], ◌∷◌, ◌++◌, length, get_or, take, false, vec_capacity, refl, sym, ap, subst, ◌∙◌, append_assoc, append-nil, arith}
+use Rattle.std.proofs.Common.{◌≡◌, ◌<◌, Bool, true, List, [], ◌∷◌, ◌++◌, length, get_or, take, false, vec_capacity, refl, sym, ap, subst, ◌∙◌, append_assoc}
+use Rattle.std.proofs.Common.{append-nil, arith}
 use Rattle.std.proofs.lemmas.List.{take_all}
 use Rattle.grid.specs.Squares.{Squares}
 use Rattle.grid.specs.Marks.{marked}
@@ -30,11 +31,13 @@ loop-place-preserved c =
     elim c.if-flag.branch [
       | then-flag w ↦ record {
         listed = ap (λ v. v.items) w.listed-is ∙ (w.push_reserved.ensures.items ∙ (ap (λ (xs : Squares). xs ++ place ∷ []) c.loop-place.invariant.listed
-            ∙ (append_assoc old (marked (take place flags)) (place ∷ []) ∙ ap (λ (xs : Squares). old ++ xs) (sym (marked_more_yes flags place c.loop-place-test.true w.if-flag.true)))));
+            ∙ (append_assoc old (marked (take place flags)) (place ∷ []) ∙
+            ap (λ (xs : Squares). old ++ xs) (sym (marked_more_yes flags place c.loop-place-test.true w.if-flag.true)))));
         room = ap (λ v. vec_capacity v) w.listed-is ∙ (w.push_reserved.ensures.capacity ∙ c.loop-place.invariant.room);
       }
       | else-flag w ↦ record {
-        listed = ap (λ v. v.items) w.listed-is ∙ (c.loop-place.invariant.listed ∙ ap (λ (xs : Squares). old ++ xs) (sym (marked_more_no flags place c.loop-place-test.true w.if-flag.false)));
+        listed = ap (λ v. v.items) w.listed-is ∙
+            (c.loop-place.invariant.listed ∙ ap (λ (xs : Squares). old ++ xs) (sym (marked_more_no flags place c.loop-place-test.true w.if-flag.false)));
         room = ap (λ v. vec_capacity v) w.listed-is ∙ c.loop-place.invariant.room;
       }
     ]

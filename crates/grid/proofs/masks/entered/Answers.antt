@@ -18,7 +18,8 @@ returns c = λ d j.
     let right : c.lt-3.result ≡ ltb c.args.around.l c.args.end = grind (arith, nat_tests) in
     let up : c.lt-4.result ≡ ltb c.args.around.d c.args.end = grind (arith, nat_tests) in
     let more : StepMasks = record { d = c.with_bit.result; l = c.with_bit-2.result; r = c.with_bit-3.result; u = c.with_bit-4.result } in
-    elim d as (λ (k : Dir). eqb (bit_at (word_for k more) j) 1 ≡ (eqb (bit_at (word_for k masks) j) 1 || (ltb (square_to (opposite k) c.args.around) c.args.end && eqb j bit))) [
+    elim d as (λ (k : Dir). eqb (bit_at (word_for k more) j) 1 ≡ (eqb (bit_at (word_for k masks) j) 1 ||
+    (ltb (square_to (opposite k) c.args.around) c.args.end && eqb j bit))) [
       | D ↦ set_where (c.lt.result && eqb j bit) _ _ (c.with_bit.ensures j) ∙ ap (λ b. eqb (bit_at masks.d j) 1 || (b && eqb j bit)) down
       | L ↦ set_where (c.lt-2.result && eqb j bit) _ _ (c.with_bit-2.ensures j) ∙ ap (λ b. eqb (bit_at masks.l j) 1 || (b && eqb j bit)) left
       | R ↦ set_where (c.lt-3.result && eqb j bit) _ _ (c.with_bit-3.ensures j) ∙ ap (λ b. eqb (bit_at masks.r j) 1 || (b && eqb j bit)) right

@@ -23,7 +23,8 @@ loop-place-preserved c =
             let here : q / WORD_BITS ≡ place = omega (arith, lt, ge) in
             let low : q % WORD_BITS < WORD_BITS = omega arith in
             let same : WORD_BITS * place + q % WORD_BITS ≡ q = omega (arith, here) in
-            has_bit-more d masks more c.word_masks.result place q size items here ∙ (c.word_masks.ensures c.args.cols c.requires.around d (q % WORD_BITS) low ∙ ap (can_enter board d) same)
+            has_bit-more d masks more c.word_masks.result place q size items here ∙
+            (c.word_masks.ensures c.args.cols c.requires.around d (q % WORD_BITS) low ∙ ap (can_enter board d) same)
       ];
     }
 

@@ -11,7 +11,8 @@ loop-place-preserved c =
     let items = c.in_ok-push.ensures.items in
     record {
       size = omega (arith, size, ap length items, length-append mask (c.room_word.result ∷ []));
-      bits = room_more c.args.board.now mask c.push.new.self.items c.room_word.result c.loop-place.place size items c.loop-place.invariant.bits c.room_word.ensures;
+      bits = room_more c.args.board.now mask c.push.new.self.items c.room_word.result c.loop-place.place size items c.loop-place.invariant.bits
+          c.room_word.ensures;
     }
 
 pub returns : goal.returns

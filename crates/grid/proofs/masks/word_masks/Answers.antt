@@ -19,9 +19,11 @@ loop-bit-preserved c = λ cols near d j.
       | then-not-is_wall w ↦
           let floor : is_wall board (first + bit) ≡ false = sym c.is_wall.ensures ∙ w.if-not-is_wall.true in
           let inside : first + bit < length c.args.cells.now = omega arith in
-          let around : w.index-around-first.result ≡ around_of board (first + bit) = w.index-around-first.is ∙ near (first + bit) w.index-around-first.result inside in
+          let around : w.index-around-first.result ≡ around_of board (first + bit) = w.index-around-first.is ∙
+          near (first + bit) w.index-around-first.result inside in
           let behind = ap (λ a. square_to (opposite d) a) around ∙ square_to-around_of board (first + bit) (opposite d) in
-          ap (λ m. eqb (bit_at (word_for d m) j) 1) w.masks-is ∙ bit_added board d first bit j old _ _ floor (c.loop-bit.invariant cols near d j) behind (w.entered-masks.ensures d j)
+          ap (λ m. eqb (bit_at (word_for d m) j) 1) w.masks-is ∙
+          bit_added board d first bit j old _ _ floor (c.loop-bit.invariant cols near d j) behind (w.entered-masks.ensures d j)
       | else-not-is_wall w ↦
           let wall : is_wall board (first + bit) ≡ true = sym c.is_wall.ensures ∙ w.if-not-is_wall.false in
           ap (λ m. eqb (bit_at (word_for d m) j) 1) w.masks-is ∙ bit_left_out board d first bit j old wall (c.loop-bit.invariant cols near d j)

@@ -17,6 +17,8 @@ pub loop-i-preserved : goal.loop-i-preserved
 loop-i-preserved c =
     let cells = c.cells-cells.result.now in
     elim c.if-has_box.branch [
-      | then-has_box w ↦ let e = places_more_yes box_cell cells c.loop-i.i _ c.loop-i-test.true (sym c.has_box.ensures ∙ w.if-has_box.true) in let i = c.loop-i.invariant in cc (w.push.ensures.items)
-      | else-has_box w ↦ let e = places_more_no box_cell cells c.loop-i.i _ c.loop-i-test.true (sym c.has_box.ensures ∙ w.if-has_box.false) in let i = c.loop-i.invariant in cc
+      | then-has_box w ↦ let e = places_more_yes box_cell cells c.loop-i.i _ c.loop-i-test.true (sym c.has_box.ensures ∙ w.if-has_box.true) in
+          let i = c.loop-i.invariant in cc (w.push.ensures.items)
+      | else-has_box w ↦ let e = places_more_no box_cell cells c.loop-i.i _ c.loop-i-test.true (sym c.has_box.ensures ∙ w.if-has_box.false) in
+          let i = c.loop-i.invariant in cc
     ]

@@ -7,7 +7,8 @@ use Rattle.grid.proofs.lemmas.Places.{place_inside, remove_place}
 use Rattle.grid.proofs.position.move_square.Goals as goal
 
 -- the squares without the one at a member's place
-left_out : (xs : Squares) (from place : ℕ) → is_rising xs ≡ true → contains xs from ≡ true → place ≡ prefix_len (λ x. ltb x from) xs → remove_at xs place ≡ remove xs from
+left_out : (xs : Squares) (from place : ℕ) → is_rising xs ≡ true → contains xs from ≡ true → place ≡ prefix_len (λ x. ltb x from) xs →
+    remove_at xs place ≡ remove xs from
 left_out xs from place rising there is = ap (remove_at xs) is ∙ remove_place xs from rising there
 
 pub settle-requires-clause-inside : goal.settle-requires-clause-inside
@@ -20,8 +21,10 @@ settle-requires-clause-rising c =
 
 pub settle-requires-clause-free : goal.settle-requires-clause-free
 settle-requires-clause-free c =
-    subst (λ (xs : Squares). contains xs c.args.to ≡ false) (sym (left_out c.args.squares.now c.args.from _ c.requires.rising c.requires.there c.place_of-left.ensures))
+    subst (λ (xs : Squares). contains xs c.args.to ≡ false)
+    (sym (left_out c.args.squares.now c.args.from _ c.requires.rising c.requires.there c.place_of-left.ensures))
     (contains-remove_out c.args.squares.now c.args.from c.args.to c.requires.free)
 
 pub returns : goal.returns
-returns c = c.settle.ensures ∙ ap (λ (xs : Squares). insert xs c.args.to) (left_out c.args.squares.now c.args.from _ c.requires.rising c.requires.there c.place_of-left.ensures)
+returns c = c.settle.ensures ∙
+    ap (λ (xs : Squares). insert xs c.args.to) (left_out c.args.squares.now c.args.from _ c.requires.rising c.requires.there c.place_of-left.ensures)

@@ -9,7 +9,8 @@ pub returns : goal.returns
 returns c =
     let q = c.args.square in
     let xs = c.greater_up-hole.new.squares in
-    let others : remove_at xs c.greater_up-hole.result ≡ remove_at c.args.squares.now c.args.place = c.greater_up-hole.ensures.others ∙ c.lesser_down-hole.ensures.others in
+    let others : remove_at xs c.greater_up-hole.result ≡ remove_at c.args.squares.now c.args.place = c.greater_up-hole.ensures.others ∙
+    c.lesser_down-hole.ensures.others in
     let rising = subst (λ (ys : Squares). is_rising ys ≡ true) (sym others) c.requires.rising in
     let free = subst (λ (ys : Squares). contains ys q ≡ false) (sym others) c.requires.free in
     settled xs c.greater_up-hole.result q c.greater_up-hole.ensures.inside rising free c.greater_up-hole.ensures.before c.greater_up-hole.ensures.after

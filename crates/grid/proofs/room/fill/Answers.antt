@@ -13,21 +13,25 @@ pub loop-square-init : goal.loop-square-init
 loop-square-init c =
     let board : Board = board_of c.args.cols c.args.cells.now in
     let floor = subst (λ (q : ℕ). is_wall board q ≡ false) c.requires.start c.requires.floor in
-    fill_start board c.args.room.now c.in_ok-pending.pending.items c.requires.size c.requires.clear (c.in_ok-pending.ensures ∙ ap (λ (q : ℕ). q ∷ []) c.requires.start) floor
+    fill_start board c.args.room.now c.in_ok-pending.pending.items c.requires.size c.requires.clear (c.in_ok-pending.ensures ∙
+    ap (λ (q : ℕ). q ∷ []) c.requires.start) floor
 
 pub fill_from-requires-clause-filling : goal.fill_from-requires-clause-filling
 fill_from-requires-clause-filling c =
     let board : Board = board_of c.args.cols c.args.cells.now in
-    last_first board c.loop-square.room c.pop.new.self.items c.in-Some.square (subst (IsFilling board c.loop-square.room) c.in-Some.ensures.items c.loop-square.invariant)
+    last_first board c.loop-square.room c.pop.new.self.items c.in-Some.square
+    (subst (IsFilling board c.loop-square.room) c.in-Some.ensures.items c.loop-square.invariant)
 
 pub returns-clause-marked : goal.returns-clause-marked
 returns-clause-marked c =
     let board : Board = board_of c.args.cols c.args.cells.now in
-    let none : c.loop-square.pending.items ≡ [] = nil_from_length c.loop-square.pending.items (omega (arith, c.in_default.ensures.cases.0, c.loop-square.pending.ok.0)) in
+    let none : c.loop-square.pending.items ≡ [] =
+    nil_from_length c.loop-square.pending.items (omega (arith, c.in_default.ensures.cases.0, c.loop-square.pending.ok.0)) in
     fill_done board c.loop-square.room (done board c.loop-square.room c.loop-square.pending.items none c.loop-square.invariant)
 
 pub returns-clause-closed : goal.returns-clause-closed
 returns-clause-closed c =
     let board : Board = board_of c.args.cols c.args.cells.now in
-    let none : c.loop-square.pending.items ≡ [] = nil_from_length c.loop-square.pending.items (omega (arith, c.in_default.ensures.cases.0, c.loop-square.pending.ok.0)) in
+    let none : c.loop-square.pending.items ≡ [] =
+    nil_from_length c.loop-square.pending.items (omega (arith, c.in_default.ensures.cases.0, c.loop-square.pending.ok.0)) in
     fill_closed board c.loop-square.room (done board c.loop-square.room c.loop-square.pending.items none c.loop-square.invariant)

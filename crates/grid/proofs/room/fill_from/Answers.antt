@@ -30,7 +30,8 @@ pub returns-then-start-first-clause-err : goal.returns-then-start-first-clause-e
 returns-then-start-first-clause-err c =
     let board : Board = board_of c.args.cols c.args.cells.now in
     let floor : is_wall board c.args.square ≡ false = sym c.is_wall.ensures ∙ c.if-is_wall.false in
-    let there : InRoom board c.args.square = first_in_room board c.args.room.now c.args.square (length board.cells) c.args.pending.now.items c.requires.filling floor in
+    let there : InRoom board c.args.square =
+    first_in_room board c.args.room.now c.args.square (length board.cells) c.args.pending.now.items c.requires.filling floor in
     let start = c.run_start-start.result in
     let r : InRoom board start = c.run_start-start.ensures.room (subst (InRoom board) (sym c.square.view_is) there) in
     elim c.then-start-first.branch [

@@ -26,7 +26,8 @@ loop-cols-preserved c =
     let v = c.loop-cols.invariant in
     let place = c.loop-cols.place in
     let marks = c.loop-cols.room in
-    let parts : (is_wall board place ≡ false) × (get_or marks place false ≡ false) = fresh_parts _ _ c.is_fresh.result c.is_fresh.ensures c.loop-cols-test.true in
+    let parts : (is_wall board place ≡ false) ×
+    (get_or marks place false ≡ false) = fresh_parts _ _ c.is_fresh.result c.is_fresh.ensures c.loop-cols-test.true in
     let more = row_more c.args.cols c.args.first place c.requires.columns v.row c.if-place-last.false in
     let wider : 0 < place % c.args.cols = omega (arith, v.row, v.edge) in
     let low : place + c.args.cols < length c.args.cells.now = omega (arith, c.if-cells-place.false) in
@@ -45,11 +46,15 @@ loop-cols-preserved c =
       top = omega (arith, v.top);
       inside = omega (arith, low, c.requires.columns);
       size = length-set marks place true ∙ v.size;
-      filling = run_more board marks p0 p1 p2 place a b aa bb c.requires.columns wider more.0 v.top low v.filling parts.0 parts.1 v.behind v.above v.below c.in_ok-above.ensures c.in_ok-below.ensures;
+      filling = run_more board marks p0 p1 p2 place a b aa bb c.requires.columns wider more.0 v.top low v.filling parts.0 parts.1 v.behind v.above v.below
+          c.in_ok-above.ensures c.in_ok-below.ensures;
       behind = λ _. subst (λ (x : ℕ). IsMarked (set marks place true) x) one (get_or-set_same marks place true false lies);
-      above = run_above board marks p0 p1 p2 place a b aa bb c.requires.columns wider more.0 v.top low v.filling parts.0 parts.1 v.behind v.above v.below c.in_ok-above.ensures c.in_ok-below.ensures;
-      below = run_below board marks p0 p1 p2 place a b aa bb c.requires.columns wider more.0 v.top low v.filling parts.0 parts.1 v.behind v.above v.below c.in_ok-above.ensures c.in_ok-below.ensures;
-      work = (let w = run_work board marks p0 p1 p2 place a b aa bb c.requires.columns wider more.0 v.top low v.filling parts.0 parts.1 v.behind v.above v.below c.in_ok-above.ensures c.in_ok-below.ensures in omega (arith, w, v.work));
+      above = run_above board marks p0 p1 p2 place a b aa bb c.requires.columns wider more.0 v.top low v.filling parts.0 parts.1 v.behind v.above v.below
+          c.in_ok-above.ensures c.in_ok-below.ensures;
+      below = run_below board marks p0 p1 p2 place a b aa bb c.requires.columns wider more.0 v.top low v.filling parts.0 parts.1 v.behind v.above v.below
+          c.in_ok-above.ensures c.in_ok-below.ensures;
+      work = (let w = run_work board marks p0 p1 p2 place a b aa bb c.requires.columns wider more.0 v.top low v.filling parts.0 parts.1 v.behind v.above v.below
+          c.in_ok-above.ensures c.in_ok-below.ensures in omega (arith, w, v.work));
     }
 
 pub returns-clause-filling : goal.returns-clause-filling

@@ -13,8 +13,10 @@ invariant-loop-cols l = record {
   size : length l.room ≡ length l.cells;
   filling : IsRunning (board_of l.cols l.cells) l.room (l.place ∷ l.pending.items) l.place;
   behind : is_wall (board_of l.cols l.cells) (l.place - 1) ≡ false → IsMarked l.room (l.place - 1);
-  above : l.above ≡ true → is_wall (board_of l.cols l.cells) (next (board_of l.cols l.cells) l.place U) ≡ false → Awaits (board_of l.cols l.cells) l.pending.items (next (board_of l.cols l.cells) l.place U);
-  below : l.below ≡ true → is_wall (board_of l.cols l.cells) (next (board_of l.cols l.cells) l.place D) ≡ false → Awaits (board_of l.cols l.cells) l.pending.items (next (board_of l.cols l.cells) l.place D);
+  above : l.above ≡ true → is_wall (board_of l.cols l.cells) (next (board_of l.cols l.cells) l.place U) ≡ false →
+      Awaits (board_of l.cols l.cells) l.pending.items (next (board_of l.cols l.cells) l.place U);
+  below : l.below ≡ true → is_wall (board_of l.cols l.cells) (next (board_of l.cols l.cells) l.place D) ≡ false →
+      Awaits (board_of l.cols l.cells) l.pending.items (next (board_of l.cols l.cells) l.place D);
   work : work l.room l.pending.items ≤ work l.fn.room l.fn.pending.items;
 }
 

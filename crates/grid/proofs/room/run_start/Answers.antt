@@ -14,7 +14,8 @@ loop-start-init c = record {
 }
 
 pub is_wall_at-requires : goal.is_wall_at-requires
-is_wall_at-requires c = (let lt = inside_grid (board_of c.args.cols c.args.cells.now) c.loop-start.start c.loop-start.invariant.floor in record { inside = omega (arith, lt) })
+is_wall_at-requires c = (let lt = inside_grid (board_of c.args.cols c.args.cells.now) c.loop-start.start c.loop-start.invariant.floor in
+    record { inside = omega (arith, lt) })
 
 pub loop-start-preserved : goal.loop-start-preserved
 loop-start-preserved c =

@@ -7,5 +7,6 @@ returns-clause-first c = (
   search rules,
   search rules,
   search rules,
-  admitted_alike c.args.task.now 0 c.args.position.now c.normal-normal.result (sym c.normal-normal.ensures.norm.boxes) (c.is_admitted.ensures.0 c.if-not-is_admitted.false),
+  admitted_alike c.args.task.now 0 c.args.position.now c.normal-normal.result (sym c.normal-normal.ensures.norm.boxes)
+      (c.is_admitted.ensures.0 c.if-not-is_admitted.false),
 )

@@ -3,4 +3,5 @@ use Rattle.layers.proofs.expanding.source_of.Goals as goal
 
 pub returns-clause-source : goal.returns-clause-source
 returns-clause-source c =
-    is_source c.args.layer.now c.tell.ensures c.args.level.now c.cap.result c.number.result c.args.rank c.place.result c.requires.level c.cap.ensures c.number.ensures c.place.ensures.place c.place.ensures.fits c.place.ensures.undoomed
+    is_source c.args.layer.now c.tell.ensures c.args.level.now c.cap.result c.number.result c.args.rank c.place.result c.requires.level c.cap.ensures
+    c.number.ensures c.place.ensures.place c.place.ensures.fits c.place.ensures.undoomed

@@ -23,13 +23,19 @@ invariant_of-result c =
     let b = box_count a.task.board in
     let task : c.in_ok-task.task ≡ a.task = c.in_ok-task.ensures in
     let level : a.task ≡ all.first.level = ap (λ (v : BookView). v.level) (c.first.view_is ∙ same) in
-    let have : HaveBoxes b ms = subst (λ (l : Task). HaveBoxes (box_count l.board) ms) (sym level) (joined_boxes books all c.tell_all.ensures es merged.merged) in
+    let have : HaveBoxes b ms = subst (λ (l : Task). HaveBoxes (box_count l.board) ms) (sym level)
+    (joined_boxes books all c.tell_all.ensures es merged.merged) in
     let count : c.args.rows.0 ≡ length ms = merged.counted ∙ sym (length-map es (λ (e : Closed). e.0)) in
     let read : scenes_of (box_count c.in_ok-task.task.board) c.args.rows.0 c.args.rows.1.items ≡ ms =
     (λ i. scenes_of (box_count (task i).board) (count i) (merged.squares_are i)) ∙ scenes-squares b ms have in
     record {
-      whole = joined_whole books all c.tell_all.ensures es merged.merged (layer_view (record { task = c.in_ok-task.task; number = c.layer-number.result; count = c.args.rows.0; squares = c.args.rows.1; origins = c.args.rows.2 }))
-          (task ∙ level) (c.layer-number.ensures ∙ ap last_layer same) read merged.origins_are;
+      whole = joined_whole books all c.tell_all.ensures es merged.merged (layer_view (record {
+        task = c.in_ok-task.task;
+        number = c.layer-number.result;
+        count = c.args.rows.0;
+        squares = c.args.rows.1;
+        origins = c.args.rows.2;
+      })) (task ∙ level) (c.layer-number.ensures ∙ ap last_layer same) read merged.origins_are;
       few = subst (λ (l : Task). box_count l.board ≤ MAX_BOXES) (sym task) c.first.invariant.few;
       squares = ap length merged.squares_are ∙ length-squares_of b ms have ∙ (λ i. sym count i * suc (box_count (sym task i).board));
     }

@@ -8,7 +8,8 @@ use Rattle.layers.proofs.merging.merge.Given as goal
 
 abbrev pub invariant-loop-place : goal.invariant-loop-place
 invariant-loop-place l =
-    (taken : List Closed) × Takes (map last_list l.books) taken l.rests.items × (l.squares.items ≡ squares_of (places_of taken)) × (l.origins.items ≡ origins_of taken)
+    (taken : List Closed) × Takes (map last_list l.books) taken l.rests.items × (l.squares.items ≡ squares_of (places_of taken))
+    × (l.origins.items ≡ origins_of taken)
 
 abbrev pub decreases-loop-place : goal.decreases-loop-place
 decreases-loop-place l = total l.rests.items

@@ -6,7 +6,8 @@ use Rattle.layers.proofs.stretch.append_each.Goals as goal
 
 pub loop-place-init : goal.loop-place-init
 loop-place-init c = (
-  none_taken c.args.books.now c.in_ok-vec.field-0.items c.new.result.items c.new-2.result.items (length c.args.books.now) (c.in_ok-vec.ensures.items_if_clones_equal (λ y e. e)) c.new.ensures.items c.new-2.ensures.items,
+  none_taken c.args.books.now c.in_ok-vec.field-0.items c.new.result.items c.new-2.result.items (length c.args.books.now)
+      (c.in_ok-vec.ensures.items_if_clones_equal (λ y e. e)) c.new.ensures.items c.new-2.ensures.items,
   c.requires.stretches,
 )
 
@@ -18,7 +19,8 @@ append_stretch-requires-clause-stretch c =
 pub loop-place-preserved : goal.loop-place-preserved
 loop-place-preserved c = (
   search rules,
-  each_kept (IsStretchOf c.args.books.now) c.loop-place.stretches c.loop-place.place c.append_stretch.new.stretch c.append_stretch.ensures.stretch c.loop-place.invariant.1,
+  each_kept (IsStretchOf c.args.books.now) c.loop-place.stretches c.loop-place.place c.append_stretch.new.stretch c.append_stretch.ensures.stretch
+      c.loop-place.invariant.1,
 )
 
 pub returns : goal.returns

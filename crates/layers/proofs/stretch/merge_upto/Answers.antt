@@ -10,8 +10,14 @@ use Rattle.layers.proofs.stretch.merge_upto.Goals as goal
 
 pub loop-place-init : goal.loop-place-init
 loop-place-init c = (
-  ([], subst (Takes (left_of c.args.books.now c.args.starts.now) []) (sym c.in_ok-rests.ensures) nothing, c.in_ok-squares.ensures.items, c.in_ok-origins.ensures.items),
-  c.in_ok-rests.ensures ∙ ap (left_of c.args.books.now) (sym (c.in_ok-extend_from_slice.ensures.items ∙ ap (λ xs. xs ++ c.args.starts.now) c.new-ends.ensures.items)),
+  (
+    [],
+    subst (Takes (left_of c.args.books.now c.args.starts.now) []) (sym c.in_ok-rests.ensures) nothing,
+    c.in_ok-squares.ensures.items,
+    c.in_ok-origins.ensures.items,
+  ),
+  c.in_ok-rests.ensures ∙ ap (left_of c.args.books.now) (sym (c.in_ok-extend_from_slice.ensures.items
+      ∙ ap (λ xs. xs ++ c.args.starts.now) c.new-ends.ensures.items)),
   ap length (c.in_ok-extend_from_slice.ensures.items ∙ ap (λ xs. xs ++ c.args.starts.now) c.new-ends.ensures.items) ∙ c.requires,
 )
 
@@ -31,22 +37,34 @@ pub index_mut-requires-in-Some : goal.index_mut-requires-in-Some
 index_mut-requires-in-Some c =
     let rests = c.loop-place.rests.items in let s = c.in-Some.place in
     let has : HasLeastFirst rests s = subst (λ xs. HasLeastFirst xs s) c.as_slice.ensures.value c.in-Some.ensures in
-    omega (arith, slice_get_within rests s (has.0 ∷ has.1) has.2.here, ap length c.loop-place.invariant.1, length-left c.args.books.now c.loop-place.ends.items, c.loop-place.invariant.2)
+    omega (
+      arith,
+      slice_get_within rests s (has.0 ∷ has.1) has.2.here,
+      ap length c.loop-place.invariant.1,
+      length-left c.args.books.now c.loop-place.ends.items,
+      c.loop-place.invariant.2,
+    )
 
 pub overflow_add-index_mut : goal.overflow_add-index_mut
 overflow_add-index_mut c =
     let rests = c.loop-place.rests.items in let s = c.in-Some.place in let ends = c.loop-place.ends.items in let n = c.index_mut-in-Some.result.now in
     let has : HasLeastFirst rests s = subst (λ xs. HasLeastFirst xs s) c.as_slice.ensures.value c.in-Some.ensures in
     let left = ap (λ xs. slice_get xs s) (sym c.loop-place.invariant.1) ∙ has.2.here in
-    let lt : s < length ends = omega (arith, slice_get_within rests s (has.0 ∷ has.1) has.2.here, ap length c.loop-place.invariant.1, length-left c.args.books.now ends, c.loop-place.invariant.2) in
-    let at : slice_get ends s ≡ Some n = slice_get-get_or ends s n lt ∙ ap (λ m. Some m) (sym c.index_mut-in-Some.ensures.value) in
+    let lt : s < length ends = omega (
+      arith,
+      slice_get_within rests s (has.0 ∷ has.1) has.2.here,
+      ap length c.loop-place.invariant.1,
+      length-left c.args.books.now ends,
+      c.loop-place.invariant.2,
+    ) in let at : slice_get ends s ≡ Some n = slice_get-get_or ends s n lt ∙ ap (λ m. Some m) (sym c.index_mut-in-Some.ensures.value) in
     omega (arith, left_small c.args.books.now c.tell_all.ensures ends s n has.0 has.1 left at)
 
 pub loop-place-smaller : goal.loop-place-smaller
 loop-place-smaller c =
     let rests = c.loop-place.rests.items in let s = c.in-Some.place in
     let has : HasLeastFirst rests s = subst (λ xs. HasLeastFirst xs s) c.as_slice.ensures.value c.in-Some.ensures in
-    (one_more (left_of c.args.books.now c.args.starts.now) rests s c.index_mut.result.now c.take.new.self c.loop-place.squares.items c.take.new.squares.items c.loop-place.origins.items c.take.new.origins.items has c.index_mut.ensures.value (λ e rest is. c.in_ok-take.ensures e rest is) c.loop-place.invariant.0).1
+    (one_more (left_of c.args.books.now c.args.starts.now) rests s c.index_mut.result.now c.take.new.self c.loop-place.squares.items c.take.new.squares.items
+    c.loop-place.origins.items c.take.new.origins.items has c.index_mut.ensures.value (λ e rest is. c.in_ok-take.ensures e rest is) c.loop-place.invariant.0).1
 
 pub loop-place-preserved : goal.loop-place-preserved
 loop-place-preserved c =
@@ -54,11 +72,18 @@ loop-place-preserved c =
     let books = c.args.books.now in
     let has : HasLeastFirst rests s = subst (λ xs. HasLeastFirst xs s) c.as_slice.ensures.value c.in-Some.ensures in
     let left : slice_get (left_of books ends) s ≡ Some (has.0 ∷ has.1) = ap (λ xs. slice_get xs s) (sym c.loop-place.invariant.1) ∙ has.2.here in
-    let lt : s < length ends = omega (arith, slice_get_within rests s (has.0 ∷ has.1) has.2.here, ap length c.loop-place.invariant.1, length-left books ends, c.loop-place.invariant.2) in
-    let at : slice_get ends s ≡ Some n = slice_get-get_or ends s n lt ∙ ap (λ m. Some m) (sym c.index_mut-in-Some.ensures.value) in
+    let lt : s < length ends = omega (
+      arith,
+      slice_get_within rests s (has.0 ∷ has.1) has.2.here,
+      ap length c.loop-place.invariant.1,
+      length-left books ends,
+      c.loop-place.invariant.2,
+    ) in let at : slice_get ends s ≡ Some n = slice_get-get_or ends s n lt ∙ ap (λ m. Some m) (sym c.index_mut-in-Some.ensures.value) in
     let list = c.index_mut.result.now in
-    let now : c.take.new.self ≡ has.1 = (c.in_ok-take.ensures has.0 has.1 (c.index_mut.ensures.value ∙ get_or_from_slice_get rests s (has.0 ∷ has.1) list has.2.here)).0 in (
-      (one_more (left_of books c.args.starts.now) rests s list c.take.new.self c.loop-place.squares.items c.take.new.squares.items c.loop-place.origins.items c.take.new.origins.items has c.index_mut.ensures.value (λ e rest is. c.in_ok-take.ensures e rest is) c.loop-place.invariant.0).0,
+    let now : c.take.new.self ≡ has.1 = (c.in_ok-take.ensures has.0 has.1 (c.index_mut.ensures.value
+    ∙ get_or_from_slice_get rests s (has.0 ∷ has.1) list has.2.here)).0 in (
+      (one_more (left_of books c.args.starts.now) rests s list c.take.new.self c.loop-place.squares.items c.take.new.squares.items c.loop-place.origins.items
+          c.take.new.origins.items has c.index_mut.ensures.value (λ e rest is. c.in_ok-take.ensures e rest is) c.loop-place.invariant.0).0,
       (λ i. set (c.loop-place.invariant.1 i) s (now i)) ∙ left_taken books ends s n has.0 has.1 left at,
       length-set ends s (n + 1) ∙ c.loop-place.invariant.2,
     )

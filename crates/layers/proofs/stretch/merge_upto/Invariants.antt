@@ -7,8 +7,8 @@ use Rattle.layers.proofs.stretch.merge_upto.Given as goal
 
 abbrev pub invariant-loop-place : goal.invariant-loop-place
 invariant-loop-place l =
-    ((taken : List Closed) × Takes (left_of l.books l.starts) taken l.rests.items × (l.squares.items ≡ squares_of (places_of taken)) × (l.origins.items ≡ origins_of taken))
-    × (l.rests.items ≡ left_of l.books l.ends.items) × (length l.ends.items ≡ length l.books)
+    ((taken : List Closed) × Takes (left_of l.books l.starts) taken l.rests.items × (l.squares.items ≡ squares_of (places_of taken))
+    × (l.origins.items ≡ origins_of taken)) × (l.rests.items ≡ left_of l.books l.ends.items) × (length l.ends.items ≡ length l.books)
 
 abbrev pub decreases-loop-place : goal.decreases-loop-place
 decreases-loop-place l = total l.rests.items

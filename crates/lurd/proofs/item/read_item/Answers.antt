@@ -23,8 +23,11 @@ returns-then-digits-eq0-clause-err c =
     let bytes = c.args.bytes.now in
     let n = c.digit_count-digits.result in
     let zero_digits : n ≡ 0 = c.if-digits-eq0.true in
-    let none : ¬ (BeginsWithLetter (drop n bytes)) = no_letter_behind bytes n (c.in_default.ensures.none) in
-    (refl, bad_byte bytes c.requires.some c.requires.no_blank (sym c.digit_count-digits.ensures.count ∙ zero_digits) (subst (λ k. ¬ (BeginsWithLetter (drop k bytes))) zero_digits none))
+    let none : ¬ (BeginsWithLetter (drop n bytes)) = no_letter_behind bytes n (c.in_default.ensures.none) in (
+      refl,
+      bad_byte bytes c.requires.some c.requires.no_blank (sym c.digit_count-digits.ensures.count ∙
+          zero_digits) (subst (λ k. ¬ (BeginsWithLetter (drop k bytes))) zero_digits none),
+    )
 
 pub returns-else-digits-eq0-clause-err : goal.returns-else-digits-eq0-clause-err
 returns-else-digits-eq0-clause-err c =

@@ -36,5 +36,6 @@ loop-place-preserved c =
     (subst (λ ys. TakesItem c.len.result ys x.letter x.times x.len) (take_rest bytes n) told) in
     record {
       within = item_within bytes n (length moves) x.times x.len c.loop-place.invariant.within there;
-      text = subst (λ ls. IsText (take (n + x.len) bytes) ls) (sym c.in_ok-append.ensures) (text_and_item bytes n x.times x.len c.loop-place.invariant.text there);
+      text = subst (λ ls. IsText (take (n + x.len) bytes) ls) (sym c.in_ok-append.ensures)
+          (text_and_item bytes n x.times x.len c.loop-place.invariant.text there);
     }

@@ -19,14 +19,17 @@ loop-index-init c = record {
 pub returns-in-Blocked : goal.returns-in-Blocked
 returns-in-Blocked c =
     let steps = c.in-Blocked.ensures.steps in
-    stops_there (IsBlocked c.args.level.now) c.as_slice-letter-items.result.now c.loop-index.index none c.as_slice-letter-items.ensures c.loop-index-test.true c.loop-index.invariant.leads (steps.1, steps.2)
+    stops_there (IsBlocked c.args.level.now) c.as_slice-letter-items.result.now c.loop-index.index none c.as_slice-letter-items.ensures c.loop-index-test.true
+    c.loop-index.invariant.leads (steps.1, steps.2)
 
 pub returns-in-Walked : goal.returns-in-Walked
 returns-in-Walked c =
-    stops_there (HasWrongCase c.args.level.now) c.as_slice-letter-items.result.now c.loop-index.index none c.as_slice-letter-items.ensures c.loop-index-test.true c.loop-index.invariant.leads
+    stops_there (HasWrongCase c.args.level.now) c.as_slice-letter-items.result.now c.loop-index.index none c.as_slice-letter-items.ensures
+    c.loop-index-test.true c.loop-index.invariant.leads
     (walk_against_upper c.args.level.now c.loop-index.state _ c.if-letter.true c.in-Walked.ensures.steps)
 
 pub returns-in-Pushed : goal.returns-in-Pushed
 returns-in-Pushed c =
-    stops_there (HasWrongCase c.args.level.now) c.as_slice-letter-items.result.now c.loop-index.index none c.as_slice-letter-items.ensures c.loop-index-test.true c.loop-index.invariant.leads
+    stops_there (HasWrongCase c.args.level.now) c.as_slice-letter-items.result.now c.loop-index.index none c.as_slice-letter-items.ensures
+    c.loop-index-test.true c.loop-index.invariant.leads
     (push_against_lower c.args.level.now c.loop-index.state _ c.if-not-letter.true c.in-Pushed.ensures.steps)

@@ -10,7 +10,8 @@ use Rattle.prover.proofs.expansion.expand_all.Goals as goal
 pub expand-requires-clause-fits : goal.expand-requires-clause-fits
 expand-requires-clause-fits c =
     let x : Seen = record { scene = c.get-position.result.0; pushes = c.get-position.result.1 } in
-    let here : slice_get c.args.store.now.seen c.loop-place.place ≡ Some x = subst (λ (v : EntriesView). slice_get v.seen c.loop-place.place ≡ Some x) c.entries.ensures c.get-position.ensures in
+    let here : slice_get c.args.store.now.seen c.loop-place.place ≡ Some x =
+    subst (λ (v : EntriesView). slice_get v.seen c.loop-place.place ≡ Some x) c.entries.ensures c.get-position.ensures in
     c.requires.fit c.loop-place.place x here
 
 pub loop-place-preserved : goal.loop-place-preserved
@@ -22,15 +23,17 @@ loop-place-preserved c =
     let was = c.loop-place.invariant in
     let x : Seen = record { scene = c.get-position.result.0; pushes = c.get-position.result.1 } in
     let here : slice_get all place ≡ Some x = subst (λ (v : EntriesView). slice_get v.seen place ≡ Some x) c.entries.ensures c.get-position.ensures in
-    let P : EntriesView → Type 0 = λ m. AreExpanded board most all m.seen c.args.from (place + 1) × AllFit board m.seen × (m.boxes ≡ c.args.more.now.boxes) in
+    let P : EntriesView → Type 0 = λ m. AreExpanded board most all m.seen c.args.span.from (place + 1) × AllFit board m.seen ×
+    (m.boxes ≡ c.args.more.now.boxes) in
     elim c.if-pushes-most.branch [
       | then-pushes-most+in_ok-expand w ↦
           (let grows = w.expand.ensures.grows in
           let enough : most ≤ suc x.pushes + (most - x.pushes - 1) = omega (arith, w.if-pushes-most.true) in
           let label : x.pushes + 1 ≡ suc x.pushes = omega arith in
-          let keeps : Keeps board most (IsReached all w.expand.new.more.seen (suc x.pushes)) x.pushes x.scene = w.in_ok-expand.ensures.keeps most x.pushes enough label in
+          let keeps : Keeps board most (IsReached all w.expand.new.more.seen (suc x.pushes)) x.pushes x.scene =
+          w.in_ok-expand.ensures.keeps most x.pushes enough label in
           let stepped : P c.if-pushes-most.more = subst P (sym w.more-is) (
-            expanded_more board most all c.loop-place.more w.expand.new.more c.args.from place x grows here was.expanded keeps,
+            expanded_more board most all c.loop-place.more w.expand.new.more c.args.span.from place x grows here was.expanded keeps,
             w.in_ok-expand.ensures.fit,
             grows.0 ∙ was.boxes,
           ) in
@@ -38,7 +41,9 @@ loop-place-preserved c =
       | else-pushes-most w ↦
           (let over : most ≤ x.pushes = omega (arith, w.if-pushes-most.false) in
           let stepped : P c.if-pushes-most.more = subst P (sym w.more-is) (
-            expanded_more board most all c.loop-place.more c.loop-place.more c.args.from place x (grows_none c.loop-place.more c.loop-place.more refl) here was.expanded (nothing_left board (IsReached all c.loop-place.more.seen (suc x.pushes)) most x.pushes x.scene over),
+            expanded_more board most all c.loop-place.more c.loop-place.more c.args.span.from place x
+                (grows_none c.loop-place.more c.loop-place.more refl) here was.expanded
+                (nothing_left board (IsReached all c.loop-place.more.seen (suc x.pushes)) most x.pushes x.scene over),
             was.fit,
             was.boxes,
           ) in

@@ -17,8 +17,11 @@ returns-then-is_dead-clause-lost c = λ no.
     let board = c.args.level.now in
     let n = c.args.position.now in
     let ahead : ℕ = next board c.args.push.square c.args.push.dir in
-    let loses : LosesBox board ahead = subst (λ (q : ℕ). LosesBox board q) c.next-ahead.ensures (subst (λ b. LosesBox b c.next-ahead.result) c.requires.dead_of_level (c.is_dead.ensures.lost c.if-is_dead.true)) in
-    loses (after_push board n c.args.push) (after_scene board n c.args.push c.requires.fits.scene c.requires.possible) (contains-insert_here (remove n.boxes c.args.push.square) ahead)
+    let loses : LosesBox board ahead =
+    subst (λ (q : ℕ). LosesBox board q) c.next-ahead.ensures
+    (subst (λ b. LosesBox b c.next-ahead.result) c.requires.dead_of_level (c.is_dead.ensures.lost c.if-is_dead.true)) in
+    loses (after_push board n c.args.push) (after_scene board n c.args.push c.requires.fits.scene c.requires.possible)
+    (contains-insert_here (remove n.boxes c.args.push.square) ahead)
 
 pub is_loose-requires-clause-inside : goal.is_loose-requires-clause-inside
 is_loose-requires-clause-inside c = inside_grid c.args.level.now c.args.push.square (c.requires.fits.scene.boxes c.args.push.square c.requires.possible.there)
@@ -26,10 +29,12 @@ is_loose-requires-clause-inside c = inside_grid c.args.level.now c.args.push.squ
 pub doomed_after-requires-clause-fits : goal.doomed_after-requires-clause-fits
 doomed_after-requires-clause-fits c =
     let moved : c.push.new.self ≡ after_push c.args.level.now c.args.position.now c.args.push = cc in
-    subst (FitsLevel c.args.level.now) (sym moved) (after_fits c.args.level.now c.args.position.now c.args.push c.requires.fits.scene c.requires.possible c.requires.fits)
+    subst (FitsLevel c.args.level.now) (sym moved)
+    (after_fits c.args.level.now c.args.position.now c.args.push c.requires.fits.scene c.requires.possible c.requires.fits)
 
 pub doomed_after-requires-clause-inside : goal.doomed_after-requires-clause-inside
-doomed_after-requires-clause-inside c = inside_grid c.args.level.now c.args.push.square (c.requires.fits.scene.boxes c.args.push.square c.requires.possible.there)
+doomed_after-requires-clause-inside c =
+    inside_grid c.args.level.now c.args.push.square (c.requires.fits.scene.boxes c.args.push.square c.requires.possible.there)
 
 pub doomed_after-requires-clause-moved : goal.doomed_after-requires-clause-moved
 doomed_after-requires-clause-moved c =
@@ -48,4 +53,5 @@ returns-then-doomed_after-clause-lost c = λ no.
 pub normalise_after-requires-clause-fits : goal.normalise_after-requires-clause-fits
 normalise_after-requires-clause-fits c =
     let moved : c.push.new.self ≡ after_push c.args.level.now c.args.position.now c.args.push = cc in
-    subst (FitsLevel c.args.level.now) (sym moved) (after_fits c.args.level.now c.args.position.now c.args.push c.requires.fits.scene c.requires.possible c.requires.fits)
+    subst (FitsLevel c.args.level.now) (sym moved)
+    (after_fits c.args.level.now c.args.position.now c.args.push c.requires.fits.scene c.requires.possible c.requires.fits)

@@ -18,5 +18,8 @@ pub returns-then-refused-clause-left_out : goal.returns-then-refused-clause-left
 returns-then-refused-clause-left_out c = λ no.
     let board = c.args.pruner.now in
     let n = c.args.position.now in
-    let norm : IsNorm board (after_push board n c.args.push) c.make_after-made.new.after = subst (λ (b : Board). IsNorm b (after_push b n c.args.push) c.make_after-made.new.after) c.level.ensures (c.make_after-made.ensures.norm c.if-not-made.false) in
-    norm_none board c.args.left (after_push board n c.args.push) c.make_after-made.new.after (after_scene board n c.args.push c.requires.fits.scene c.requires.possible) norm (c.refuses-refused.ensures c.if-refused.true)
+    let norm : IsNorm board (after_push board n c.args.push) c.make_after-made.new.after =
+    subst (λ (b : Board). IsNorm b (after_push b n c.args.push) c.make_after-made.new.after) c.level.ensures
+    (c.make_after-made.ensures.norm c.if-not-made.false) in
+    norm_none board c.args.left (after_push board n c.args.push) c.make_after-made.new.after
+    (after_scene board n c.args.push c.requires.fits.scene c.requires.possible) norm (c.refuses-refused.ensures c.if-refused.true)

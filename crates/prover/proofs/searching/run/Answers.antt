@@ -8,7 +8,7 @@ use Rattle.prover.proofs.Progressing.{none_is_left}
 use Rattle.prover.proofs.searching.run.Goals as goal
 
 pub returns-then-from-end-clause-through : goal.returns-then-from-end-clause-through
-returns-then-from-end-clause-through c = λ through.
+returns-then-from-end-clause-through g c = λ through.
     let board = c.args.pruner.now in
     let level : IsLevel board = subst IsLevel c.level.ensures c.tell.ensures in
     let size = ap (λ (v : EntriesView). length v.seen) c.entries.ensures in
@@ -16,6 +16,6 @@ returns-then-from-end-clause-through c = λ through.
     none_is_left board c.args.asked.most c.loop.store.seen c.loop.from level c.loop.invariant.under_way over
 
 pub first_solved-requires-clause-fit : goal.first_solved-requires-clause-fit
-first_solved-requires-clause-fit c = λ i x at.
+first_solved-requires-clause-fit g c = λ i x at.
     subst (λ (b : Board). FitsLevel b x.scene) (sym c.level-in-loop.ensures)
     (c.loop.invariant.under_way.fit i x (subst (λ (v : EntriesView). slice_get v.seen i ≡ Some x) c.entries-in-loop.ensures at))

@@ -1,12 +1,14 @@
-use Rattle.std.proofs.Common.{◌≡◌, ◌≤◌, length}
+use Rattle.std.proofs.Common.{◌<◌, ◌≤◌, length}
+use Rattle.prover.specs.inside.Benches.{AreRoomy}
 use Rattle.prover.specs.inside.Entries.{Grows}
 use Rattle.prover.specs.inside.Progress.{IsUnderWay}
 use Rattle.prover.proofs.searching.run.Given as goal
 
 abbrev pub invariant-loop : goal.invariant-loop
-invariant-loop l = record {
+invariant-loop g l = record {
   under_way : IsUnderWay l.pruner l.asked.most l.store.seen l.from;
   within : l.from ≤ length l.store.seen;
   grows : Grows l.fn.store l.store;
-  room : l.desk.scratch.size ≡ l.fn.desk.scratch.size;
+  many : 0 < length l.benches;
+  roomy : AreRoomy l.pruner l.benches;
 }

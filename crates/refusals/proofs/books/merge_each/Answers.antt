@@ -11,4 +11,9 @@ loop-place-preserved c = λ i s lt at. elim (at-set c.loop-place.stretches c.loo
 ]
 
 pub returns : goal.returns
-returns c = λ i s at. c.loop-place.invariant i s (omega (arith, slice_get_within c.loop-place.stretches i s at, c.loop-place.auto.stretches, c.loop-place-test.false)) at
+returns c = λ i s at. c.loop-place.invariant i s (omega (
+  arith,
+  slice_get_within c.loop-place.stretches i s at,
+  c.loop-place.auto.stretches,
+  c.loop-place-test.false,
+)) at

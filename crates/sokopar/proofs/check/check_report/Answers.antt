@@ -15,7 +15,8 @@ boards-preserved-in_ok-put_line c =
     (c.in_ok-entry.ensures.next c.args.bytes.now so_far.so_far.founds so_far.so_far.read) in
     let grown : c.if-is_good.good ≡ cond c.is_good.result (good + 1) good = search rules in
     let line : c.put_line.new.text ≡ c.boards.text ++ check_line (c.boards.levels + 1) (listed_of c.in-Some.entry) = search rules in
-    checked-more c.next_board.new.self c.in-Some.entry c.put_line.new.text c.if-is_good.good c.is_good.result so_far next (search rules) c.is_good.ensures grown line
+    checked-more c.next_board.new.self c.in-Some.entry c.put_line.new.text c.if-is_good.good c.is_good.result so_far next
+    (search rules) c.is_good.ensures grown line
 
 pub boards-preserved : goal.boards-preserved
 boards-preserved c =
@@ -25,7 +26,8 @@ boards-preserved c =
     (c.in_ok-entry.ensures.next c.args.bytes.now so_far.so_far.founds so_far.so_far.read) in
     let grown : c.if-is_good.good ≡ cond c.is_good.result (good + 1) good = search rules in
     let line : c.put_line.new.text ≡ c.boards.text ++ check_line (c.boards.levels + 1) (listed_of c.in-Some.entry) = search rules in
-    checked-more c.next_board.new.self c.in-Some.entry c.put_line.new.text c.if-is_good.good c.is_good.result so_far next (search rules) c.is_good.ensures grown line
+    checked-more c.next_board.new.self c.in-Some.entry c.put_line.new.text c.if-is_good.good c.is_good.result so_far next
+    (search rules) c.is_good.ensures grown line
 
 pub returns : goal.returns
 returns c =

@@ -9,7 +9,8 @@ boards-preserved-then-count-number c =
     let so_far = c.boards.invariant in
     let next = subst (λ n. GivesNext c.args.bytes.now so_far.so_far.founds c.next_board.new.self n) c.in-Some.is
     (c.in_ok-entry.ensures.next c.args.bytes.now so_far.so_far.founds so_far.so_far.read) in
-    looked-here c.next_board.new.self c.in-Some.entry so_far next (search rules) c.if-count-number.true c.in_ok-listed.listed.board (ap (λ e. e.board) c.in_ok-listed.ensures)
+    looked-here c.next_board.new.self c.in-Some.entry so_far next (search rules) c.if-count-number.true c.in_ok-listed.listed.board
+    (ap (λ e. e.board) c.in_ok-listed.ensures)
 
 pub boards-preserved-else-count-number : goal.boards-preserved-else-count-number
 boards-preserved-else-count-number c =

@@ -26,5 +26,6 @@ returns-in_err-extend_from_slice-clause-err g c =
     let buffer = c.read.new.buffer in
     let some : 1 ≤ n = search rules in
     let room : length c.loop-chunk.bytes.items + length buffer ≤ suc MAX_FILE = search rules in
-    let stops = stops_within _ _ _ c.loop-chunk.bytes.items buffer n c.loop-chunk.invariant.given c.loop-chunk.invariant.first c.in-Ok.ensures.ok c.in-Ok.ensures.bytes.0 some c.in-Ok.ensures.bound room in
+    let stops = stops_within _ _ _ c.loop-chunk.bytes.items buffer n c.loop-chunk.invariant.given c.loop-chunk.invariant.first c.in-Ok.ensures.ok
+    c.in-Ok.ensures.bytes.0 some c.in-Ok.ensures.bound room in
     search (rules, stops)

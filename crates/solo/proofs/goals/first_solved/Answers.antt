@@ -28,4 +28,5 @@ loop-rank-preserved c = unsolved_more c.args.layer.now.level.board c.args.layer.
     false≢true (sym c.if-is_solved.false ∙ (c.is_solved.ensures n (c.boxes_at.ensures n at)).1 here))
 
 pub returns : goal.returns
-returns c = unsolved_all c.args.layer.now.level.board c.args.layer.now.places c.loop-rank.rank c.loop-rank.invariant (let e = c.len-rank-end.ensures in let f = c.loop-rank-test.false in omega arith)
+returns c = unsolved_all c.args.layer.now.level.board c.args.layer.now.places c.loop-rank.rank c.loop-rank.invariant (let e = c.len-rank-end.ensures in
+    let f = c.loop-rank-test.false in omega arith)

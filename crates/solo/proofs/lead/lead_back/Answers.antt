@@ -12,5 +12,7 @@ returns-in_default c =
 pub returns : goal.returns
 returns c =
     subst (IsLeadAt c.args.layer.now.level c.args.layer.now.places c.args.rank) (sym c.in_ok-push.ensures.items)
-    (back_on c.args.trail.now c.args.layer.now c.requires.next c.tell.ensures c.args.rank c.requires.rank (c.in-Some.parent, c.in-Some.push) (sym c.parent.ensures ∙ c.in-Some.is) c.in_ok-pushes.pushes.items
-    (λ board layers trailed lt. c.in_ok-pushes.ensures board layers (subst (AreTrailed board layers) (sym (told_same _ (λ o. refl) c.args.trail.now)) trailed) lt))
+    (back_on c.args.trail.now c.args.layer.now c.requires.next c.tell.ensures c.args.rank c.requires.rank (c.in-Some.parent, c.in-Some.push)
+    (sym c.parent.ensures ∙ c.in-Some.is) c.in_ok-pushes.pushes.items
+    (λ board layers trailed lt. c.in_ok-pushes.ensures board layers (subst (AreTrailed board layers) (sym (told_same _ (λ o. refl) c.args.trail.now)) trailed)
+    lt))

@@ -11,4 +11,5 @@ loop-layer-preserved c =
     whole_upto c.args.layers.now c.loop-layer.layer-index c.layer-item.result c.loop-layer-test.true c.layer-item.is c.tell.ensures c.loop-layer.invariant
 
 pub returns : goal.returns
-returns c = λ j layer at. c.loop-layer.invariant j layer (let within = slice_get_within c.args.layers.now j layer at in omega (arith, within, c.loop-layer-test.false)) at
+returns c = λ j layer at. c.loop-layer.invariant j layer (let within = slice_get_within c.args.layers.now j layer at in
+    omega (arith, within, c.loop-layer-test.false)) at

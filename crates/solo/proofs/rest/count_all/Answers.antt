@@ -20,7 +20,12 @@ loop-place-preserved c =
     record {
       same = ap (set books place) c.positions-all.ensures.same ∙ set-get_or books place e ∙ same;
       lawful = lawful_more before place (get_or books place d) (ap (λ bs. slice_get bs place) (sym same) ∙ there) c.tell.ensures c.loop-place.invariant.lawful;
-      count = omega (arith, c.loop-place.invariant.count, c.positions-all.ensures.count, held_more before place (get_or books place e) (ap (λ bs. slice_get bs place) (sym same) ∙ here));
+      count = omega (
+        arith,
+        c.loop-place.invariant.count,
+        c.positions-all.ensures.count,
+        held_more before place (get_or books place e) (ap (λ bs. slice_get bs place) (sym same) ∙ here),
+      );
       few = omega (arith, c.loop-place.invariant.few, c.positions-all.ensures.count, few);
     }
 
@@ -29,14 +34,15 @@ overflow_add-all c =
     let books = c.loop-place.books in let place = c.loop-place.place in
     let d = c.index-books-place.result in let e = c.index-books-place-in-loop-place.result in
     let lt : place < length books = omega (arith, c.loop-place-test.true, ap length c.loop-place.invariant.same) in
-    let is : get_or books place d ≡ get_or books place e = same_Some (get_or books place d) (get_or books place e) (sym (slice_get-get_or books place d lt) ∙ slice_get-get_or books place e lt) in
-    let few = held_few (get_or books place e) (subst IsLawfulBook is c.tell.ensures) in
+    let is : get_or books place d ≡ get_or books place e = same_Some (get_or books place d) (get_or books place e) (sym (slice_get-get_or books place d lt)
+    ∙ slice_get-get_or books place e lt) in let few = held_few (get_or books place e) (subst IsLawfulBook is c.tell.ensures) in
     omega (arith, c.loop-place.invariant.few, c.positions-all.ensures.count, few, lt, ap length c.loop-place.invariant.same, c.requires)
 
 pub returns-clause-lawful : goal.returns-clause-lawful
 returns-clause-lawful c =
     let before = c.args.books.now in
-    subst AreLawfulBooks (sym c.loop-place.invariant.same) (λ i v at. c.loop-place.invariant.lawful i v (omega (arith, slice_get_within before i v at, c.loop-place-test.false)) at)
+    subst AreLawfulBooks (sym c.loop-place.invariant.same) (λ i v at. c.loop-place.invariant.lawful i v
+    (omega (arith, slice_get_within before i v at, c.loop-place-test.false)) at)
 
 pub returns-clause-count : goal.returns-clause-count
 returns-clause-count c =

@@ -11,21 +11,24 @@ loop-place-init c = record { still = still_first c.args.layer.now c.args.books.n
 
 pub do_rest_of-requires-clause-begun : goal.do_rest_of-requires-clause-begun
 do_rest_of-requires-clause-begun c =
-    let layer = c.args.layer.now in let before = c.args.books.now in let books = c.left_of.new.books in let place = c.loop-place.place in let d = c.index-books-place.result in
+    let layer = c.args.layer.now in let before = c.args.books.now in let books = c.left_of.new.books in let place = c.loop-place.place in
+    let d = c.index-books-place.result in
     let still : AreStill layer before books = subst (AreStill layer before) (sym c.left_of.ensures.same) c.loop-place.invariant.still in
     let lt : place < length books = omega (arith, c.loop-place-test.true, still.0) in
     still_begun layer before books still place (get_or books place d) (slice_get-get_or books place d lt)
 
 pub do_rest_of-requires-clause-worker : goal.do_rest_of-requires-clause-worker
 do_rest_of-requires-clause-worker c =
-    let layer = c.args.layer.now in let before = c.args.books.now in let books = c.left_of.new.books in let place = c.loop-place.place in let d = c.index-books-place.result in
+    let layer = c.args.layer.now in let before = c.args.books.now in let books = c.left_of.new.books in
+    let place = c.loop-place.place in let d = c.index-books-place.result in
     let still : AreStill layer before books = subst (AreStill layer before) (sym c.left_of.ensures.same) c.loop-place.invariant.still in
     let lt : place < length books = omega (arith, c.loop-place-test.true, still.0) in
     still_workers layer before books c.args.worker still c.requires.worker place (get_or books place d) (slice_get-get_or books place d lt)
 
 pub loop-place-preserved : goal.loop-place-preserved
 loop-place-preserved c =
-    let layer = c.args.layer.now in let before = c.args.books.now in let books = c.left_of.new.books in let place = c.loop-place.place in let d = c.index-books-place.result in let after = c.do_rest_of.new.book in
+    let layer = c.args.layer.now in let before = c.args.books.now in let books = c.left_of.new.books in let place = c.loop-place.place in
+    let d = c.index-books-place.result in let after = c.do_rest_of.new.book in
     let still : AreStill layer before books = subst (AreStill layer before) (sym c.left_of.ensures.same) c.loop-place.invariant.still in
     let lt : place < length books = omega (arith, c.loop-place-test.true, still.0) in
     record {

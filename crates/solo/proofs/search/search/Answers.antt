@@ -14,4 +14,5 @@ all_turns-requires-clause-first c =
     (first_turn c.in_ok-pruner.pruner limit 1 1 books c.in_ok-books.ensures.books.0 c.in_ok-books.ensures.books.1)
 
 pub returns : goal.returns
-returns c = subst (λ task. IfOk c.all_turns.result (λ answer. IsAnswer task c.args.limit answer)) (c.in_ok-pruner.ensures ∙ ap (λ (board : Board). capped board c.args.cap) c.deref.ensures) c.all_turns.ensures
+returns c = subst (λ task. IfOk c.all_turns.result (λ answer. IsAnswer task c.args.limit answer)) (c.in_ok-pruner.ensures
+    ∙ ap (λ (board : Board). capped board c.args.cap) c.deref.ensures) c.all_turns.ensures

@@ -7,18 +7,21 @@ use Rattle.solo.proofs.turn.finish_each.Goals as goal
 pub finish-requires-clause-begun : goal.finish-requires-clause-begun
 finish-requires-clause-begun c =
     let books = c.loop-place.books in let place = c.loop-place.place in let d = c.index-books-place.result in
-    c.requires.begun place (get_or books place d) (next_kept IsThrough c.args.books.now place books d (omega (arith, c.loop-place-test.true)) c.loop-place.invariant.through)
+    c.requires.begun place (get_or books place d) (next_kept IsThrough c.args.books.now place books d
+    (omega (arith, c.loop-place-test.true)) c.loop-place.invariant.through)
 
 pub finish-requires-clause-worker : goal.finish-requires-clause-worker
 finish-requires-clause-worker c =
     let books = c.loop-place.books in let place = c.loop-place.place in let d = c.index-books-place.result in
-    c.requires.worker place (get_or books place d) (next_kept IsThrough c.args.books.now place books d (omega (arith, c.loop-place-test.true)) c.loop-place.invariant.through)
+    c.requires.worker place (get_or books place d) (next_kept IsThrough c.args.books.now place books d
+    (omega (arith, c.loop-place-test.true)) c.loop-place.invariant.through)
 
 pub returns-in_err-worked-clause-err : goal.returns-in_err-worked-clause-err
 returns-in_err-worked-clause-err c =
     let books = c.loop-place.books in let place = c.loop-place.place in let d = c.index-books-place.result in
     on_err c.from_residual.result (may_be_worked c.args.books.now c.args.layer.now place books (get_or books place d) c.finish.new.book
-    (next_kept IsThrough c.args.books.now place books d (omega (arith, c.loop-place-test.true)) c.loop-place.invariant.through) c.in_err-worked.ensures.err c.loop-place.invariant.through)
+    (next_kept IsThrough c.args.books.now place books d (omega (arith, c.loop-place-test.true)) c.loop-place.invariant.through) c.in_err-worked.ensures.err
+    c.loop-place.invariant.through)
 
 pub returns-in-Over-clause-worked : goal.returns-in-Over-clause-worked
 returns-in-Over-clause-worked c =
@@ -26,8 +29,8 @@ returns-in-Over-clause-worked c =
     one_over c.args.books.now place books (get_or books place d) after
     (next_kept IsThrough c.args.books.now place books d (omega (arith, c.loop-place-test.true)) c.loop-place.invariant.through)
     (subst (λ worked. WorkAnswer (get_or books place d) worked after) c.in-Over.is c.in_ok-worked.ensures.worked)
-    (read_back c.args.books.now place books after c.index-books-place-in-loop-place.result (omega (arith, c.loop-place-test.true)) c.loop-place.invariant.through.same c.tell.ensures)
-    c.loop-place.invariant.through
+    (read_back c.args.books.now place books after c.index-books-place-in-loop-place.result
+    (omega (arith, c.loop-place-test.true)) c.loop-place.invariant.through.same c.tell.ensures) c.loop-place.invariant.through
 
 pub loop-place-preserved : goal.loop-place-preserved
 loop-place-preserved c =
@@ -35,16 +38,19 @@ loop-place-preserved c =
       through = one_changed IsThrough c.args.books.now place books (get_or books place d) after c.loop-place.invariant.through
           (next_kept IsThrough c.args.books.now place books d (omega (arith, c.loop-place-test.true)) c.loop-place.invariant.through) (
             subst (λ worked. WorkAnswer (get_or books place d) worked after) c.in-Through.is c.in_ok-worked.ensures.worked,
-            read_back c.args.books.now place books after c.index-books-place-in-loop-place.result (omega (arith, c.loop-place-test.true)) c.loop-place.invariant.through.same c.tell.ensures,
+            read_back c.args.books.now place books after c.index-books-place-in-loop-place.result
+                (omega (arith, c.loop-place-test.true)) c.loop-place.invariant.through.same c.tell.ensures,
           );
       credited = one_changed (IsDoneBy c.args.worker) c.args.books.now place books (get_or books place d) after c.loop-place.invariant.credited
-          (next_kept (IsDoneBy c.args.worker) c.args.books.now place books d (omega (arith, c.loop-place-test.true)) c.loop-place.invariant.credited) c.finish.ensures.credited;
+          (next_kept (IsDoneBy c.args.worker) c.args.books.now place books d (omega (arith, c.loop-place-test.true)) c.loop-place.invariant.credited)
+          c.finish.ensures.credited;
       size = c.finish.ensures.size ∙ c.loop-place.invariant.size;
     }
 
 pub returns-clause-worked : goal.returns-clause-worked
 returns-clause-worked c =
-    are_through c.args.books.now c.loop-place.place c.loop-place.books (omega (arith, c.loop-place-test.false, c.loop-place.invariant.through.same)) c.loop-place.invariant.through
+    are_through c.args.books.now c.loop-place.place c.loop-place.books (omega (arith, c.loop-place-test.false, c.loop-place.invariant.through.same))
+    c.loop-place.invariant.through
 
 pub returns-clause-credited : goal.returns-clause-credited
 returns-clause-credited c = are_done_by c.args.worker c.args.books.now c.loop-place.place c.loop-place.books c.loop-place.invariant.credited
@@ -53,10 +59,12 @@ pub returns-in_err-worked-clause-credited : goal.returns-in_err-worked-clause-cr
 returns-in_err-worked-clause-credited c =
     let books = c.loop-place.books in let place = c.loop-place.place in let d = c.index-books-place.result in
     are_done_by_now c.args.worker c.args.books.now place books (get_or books place d) c.finish.new.book c.loop-place.invariant.credited
-    (next_kept (IsDoneBy c.args.worker) c.args.books.now place books d (omega (arith, c.loop-place-test.true)) c.loop-place.invariant.credited) c.finish.ensures.credited
+    (next_kept (IsDoneBy c.args.worker) c.args.books.now place books d (omega (arith, c.loop-place-test.true)) c.loop-place.invariant.credited)
+    c.finish.ensures.credited
 
 pub returns-in-Over-clause-credited : goal.returns-in-Over-clause-credited
 returns-in-Over-clause-credited c =
     let books = c.loop-place.books in let place = c.loop-place.place in let d = c.index-books-place.result in
     are_done_by_now c.args.worker c.args.books.now place books (get_or books place d) c.finish.new.book c.loop-place.invariant.credited
-    (next_kept (IsDoneBy c.args.worker) c.args.books.now place books d (omega (arith, c.loop-place-test.true)) c.loop-place.invariant.credited) c.finish.ensures.credited
+    (next_kept (IsDoneBy c.args.worker) c.args.books.now place books d (omega (arith, c.loop-place-test.true))
+    c.loop-place.invariant.credited) c.finish.ensures.credited

@@ -5,19 +5,21 @@ use Rattle.solo.proofs.turn.look.Goals as goal
 
 pub returns-then-count-limit-clause-answer : goal.returns-then-count-limit-clause-answer
 returns-then-count-limit-clause-answer c =
-    look_limit c.args.limit c.args.positions.now c.args.trail.now c.args.layer.now c.requires.looked c.requires.next c.tell.ensures (omega (arith, c.len.ensures, c.if-count-limit.true))
+    look_limit c.args.limit c.args.positions.now c.args.trail.now c.args.layer.now c.requires.looked c.requires.next c.tell.ensures
+    (omega (arith, c.len.ensures, c.if-count-limit.true))
 
 pub solved-requires-clause-looked : goal.solved-requires-clause-looked
 solved-requires-clause-looked c =
-    have_before c.args.limit c.args.positions.now (c.args.positions.now + c.len.result) c.args.trail.now c.args.layer.now c.requires.looked (omega (arith, c.len.ensures))
+    have_before c.args.limit c.args.positions.now (c.args.positions.now + c.len.result) c.args.trail.now c.args.layer.now c.requires.looked
+    (omega (arith, c.len.ensures))
 
 pub returns-then-is_empty-clause-answer : goal.returns-then-is_empty-clause-answer
 returns-then-is_empty-clause-answer c = c.none_of.ensures.answer c.args.limit
-    (look_none c.args.limit c.args.positions.now (c.args.positions.now + c.len.result) c.args.trail.now c.args.layer.now c.requires.looked c.requires.next c.tell.ensures
-    (eqb-true _ _ (sym c.is_empty.ensures ∙ c.if-is_empty.true)) (omega (arith, c.len.ensures)))
+    (look_none c.args.limit c.args.positions.now (c.args.positions.now + c.len.result) c.args.trail.now c.args.layer.now c.requires.looked c.requires.next
+    c.tell.ensures (eqb-true _ _ (sym c.is_empty.ensures ∙ c.if-is_empty.true)) (omega (arith, c.len.ensures)))
 
 pub returns-clause-looked : goal.returns-clause-looked
 returns-clause-looked c =
     let filled : length c.args.layer.now.places ≢ 0 = eqb-false _ _ (sym c.is_empty.ensures ∙ c.if-is_empty.false) in
-    look_on c.args.limit c.args.positions.now (c.args.positions.now + c.len.result) c.args.trail.now c.args.layer.now c.requires.looked c.requires.next c.tell.ensures
-    (omega arith) c.in_default.ensures (omega (arith, c.len.ensures)) (omega (arith, c.if-count-limit.false))
+    look_on c.args.limit c.args.positions.now (c.args.positions.now + c.len.result) c.args.trail.now c.args.layer.now c.requires.looked c.requires.next
+    c.tell.ensures (omega arith) c.in_default.ensures (omega (arith, c.len.ensures)) (omega (arith, c.if-count-limit.false))

@@ -15,5 +15,7 @@ moves_back-requires-clause-rank c =
 
 pub returns-clause-answer : goal.returns-clause-answer
 returns-clause-answer c =
-    subst (λ k. (limit : ℕ) → c.args.positions ≤ limit → IsAnswer c.args.layer.now.level limit (Solved c.in_ok-moves.moves k c.args.positions)) (sym c.number.ensures)
-    (solved_here c.args.trail.now c.args.layer.now c.args.rank c.args.positions c.in_ok-moves.moves c.tell.ensures c.requires.looked c.requires.next c.requires.first c.in_ok-moves.ensures.lead)
+    subst (λ k. (limit : ℕ) → c.args.positions ≤ limit → IsAnswer c.args.layer.now.level limit (Solved c.in_ok-moves.moves k c.args.positions))
+    (sym c.number.ensures)
+    (solved_here c.args.trail.now c.args.layer.now c.args.rank c.args.positions c.in_ok-moves.moves c.tell.ensures c.requires.looked c.requires.next
+    c.requires.first c.in_ok-moves.ensures.lead)

@@ -9,4 +9,5 @@ loop-place-init g c = c.in_ok-rows.ensures.items ∙ ap (rows_of 0) (sym (open_n
 
 pub loop-place-preserved : goal.loop-place-preserved
 loop-place-preserved g c =
-    one_row c.args.start c.loop-place.place c.args.table.now.entries c.loop-place.rows.items c.push.new.self.items c.origin_at.result (omega arith) (omega (arith, c.loop-place-test.true, c.len-place-end.ensures.len)) c.loop-place.invariant c.origin_at.ensures c.in_ok-push.ensures.items
+    one_row c.args.start c.loop-place.place c.args.table.now.entries c.loop-place.rows.items c.push.new.self.items c.origin_at.result (omega arith)
+    (omega (arith, c.loop-place-test.true, c.len-place-end.ensures.len)) c.loop-place.invariant c.origin_at.ensures c.in_ok-push.ensures.items

@@ -17,8 +17,10 @@ loop-place-preserved g c =
           let more = copied_more es from place e (omega arith) at in
           let old = drop from (take place es) in
           let later : drop from (take (place + 1) es) ≡ old ++ e ∷ [] = ap (λ k. drop from (take k es)) (add-one place) ∙ more in (
-            ap (λ v. v.items) w.squares-is ∙ w.in_ok-copy_entry.ensures.0 ∙ ap (λ xs. xs ++ (e.0.boxes ++ e.0.player ∷ [])) c.loop-place.invariant.0 ∙ sym (squares-push (places_of old) e.0) ∙ ap squares_of (sym (places-push old e) ∙ ap places_of (sym later)),
-            ap (λ v. v.items) w.origins-is ∙ w.in_ok-copy_entry.ensures.1 ∙ ap (λ xs. xs ++ option_to_list e.1) c.loop-place.invariant.1 ∙ sym (origins-push old e) ∙ ap origins_of (sym later),
+            ap (λ v. v.items) w.squares-is ∙ w.in_ok-copy_entry.ensures.0 ∙ ap (λ xs. xs ++ (e.0.boxes ++ e.0.player ∷ [])) c.loop-place.invariant.0 ∙
+                sym (squares-push (places_of old) e.0) ∙ ap squares_of (sym (places-push old e) ∙ ap places_of (sym later)),
+            ap (λ v. v.items) w.origins-is ∙ w.in_ok-copy_entry.ensures.1 ∙ ap (λ xs. xs ++ option_to_list e.1) c.loop-place.invariant.1 ∙
+                sym (origins-push old e) ∙ ap origins_of (sym later),
           ))
       | in_default w ↦ absurd (true≢false (sym (c.get_index.ensures.found.1 lt) ∙ ap is_some w.in_default.is))
     ]

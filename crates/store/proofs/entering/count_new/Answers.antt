@@ -15,7 +15,8 @@ loop-place-preserved g c =
     let ws = open_of c.args.start c.args.table.now.entries in
     let wanted = is_wanted_in (seen_of c.args.start c.args.table.now.entries) c.args.shares c.args.share in
     let s : Successor = c.index-successors-place.result in
-    let e : take (place + 1) ss ≡ take place ss ++ s ∷ [] = take_more ss place s c.loop-place-test.true ∙ ap (λ (x : Successor). take place ss ++ x ∷ []) (sym c.index-successors-place.is) in
+    let e : take (place + 1) ss ≡ take place ss ++ s ∷ [] = take_more ss place s c.loop-place-test.true ∙
+    ap (λ (x : Successor). take place ss ++ x ∷ []) (sym c.index-successors-place.is) in
     let step : (rank : ℕ) → length (fold (entered wanted rank) ws (take (place + 1) ss)) ≡ length ws + c.loop-place.count + cond c.is_new.result 1 0 =
     λ rank. ap (λ ts. length (fold (entered wanted rank) ws ts)) e ∙ length-entered wanted rank (take place ss) ws s
     ∙ ap {B = ℕ} (λ b. length (fold (entered wanted rank) ws (take place ss)) + cond b 1 0) (sym c.is_new.ensures)
@@ -27,11 +28,25 @@ loop-place-preserved g c =
 
 pub is_new-requires : goal.is_new-requires
 is_new-requires g c =
-    let ss = c.args.successors.now in let place = c.loop-place.place in let s : Successor = c.index-successors-place.result in
-    (search rules, (c.requires.width, (c.requires.shares, (c.requires.few place s (slice_get-get_or ss place s c.loop-place-test.true ∙ ap (λ (x : Successor). Some x) (sym c.index-successors-place.is)), c.requires.found))))
+    let ss = c.args.successors.now in let place = c.loop-place.place in let s : Successor = c.index-successors-place.result in (
+      search rules,
+      (
+        c.requires.width,
+        (
+          c.requires.shares,
+          (
+            c.requires.few place s (slice_get-get_or ss place s c.loop-place-test.true ∙
+                ap (λ (x : Successor). Some x) (sym c.index-successors-place.is)),
+            c.requires.found,
+          ),
+        ),
+      ),
+    )
 
 pub returns : goal.returns
 returns g c = λ rank.
     let ws = open_of c.args.start c.args.table.now.entries in
     let wanted = is_wanted_in (seen_of c.args.start c.args.table.now.entries) c.args.shares c.args.share in
-    ap (λ ts. length (fold (entered wanted rank) ws ts)) (sym (take_short c.args.successors.now c.loop-place.place (omega (arith, c.loop-place-test.false, c.loop-place.auto.place-end)))) ∙ c.loop-place.invariant.0 rank
+    ap (λ ts. length (fold (entered wanted rank) ws ts))
+    (sym (take_short c.args.successors.now c.loop-place.place (omega (arith, c.loop-place-test.false, c.loop-place.auto.place-end)))) ∙
+    c.loop-place.invariant.0 rank

@@ -5,5 +5,6 @@ use Rattle.store.proofs.entering.count_new.Given as goal
 
 abbrev pub invariant-loop-place : goal.invariant-loop-place
 invariant-loop-place g l =
-    ((rank : ℕ) → length (fold (entered (is_wanted_in (seen_of l.start l.table.entries) l.shares l.share) rank) (open_of l.start l.table.entries) (take l.place l.successors)) ≡ length (open_of l.start l.table.entries) + l.count)
+    ((rank : ℕ) → length (fold (entered (is_wanted_in (seen_of l.start l.table.entries) l.shares l.share) rank) (open_of l.start l.table.entries)
+    (take l.place l.successors)) ≡ length (open_of l.start l.table.entries) + l.count)
     × (l.count ≤ l.place)

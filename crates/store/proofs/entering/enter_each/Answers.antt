@@ -12,7 +12,8 @@ loop-offer-preserved g c =
     let os = c.args.offers.now in let i = c.loop-offer.offer-index in let start = c.args.start in
     let es = c.args.table.now.entries in
     let e : Entry Scene Push = c.offer-item.result in
-    let more : take (i + 1) os ≡ take i os ++ e ∷ [] = take_more os i e c.loop-offer-test.true ∙ ap (λ (x : Entry Scene Push). take i os ++ x ∷ []) (sym c.offer-item.is) in (
+    let more : take (i + 1) os ≡ take i os ++ e ∷ [] = take_more os i e c.loop-offer-test.true ∙
+    ap (λ (x : Entry Scene Push). take i os ++ x ∷ []) (sym c.offer-item.is) in (
       c.enter.ensures.waiting
           ∙ (λ n. let_in (c.loop-offer.invariant.3 n) (c.loop-offer.invariant.0 n) e)
           ∙ sym (let_in_more (seen_of start es) (open_of start es) (take i os) e) ∙ ap (λ xs. all_let_in (seen_of start es) (open_of start es) xs) (sym more),

@@ -5,7 +5,8 @@ use Rattle.store.proofs.entering.enter_each.Given as goal
 
 abbrev pub invariant-loop-offer : goal.invariant-loop-offer
 invariant-loop-offer g l =
-    (open_of l.start l.table.entries ≡ all_let_in (seen_of l.start l.initial.table.entries) (open_of l.start l.initial.table.entries) (take l.offer-index l.offers))
+    (open_of l.start l.table.entries ≡ all_let_in (seen_of l.start l.initial.table.entries) (open_of l.start l.initial.table.entries)
+    (take l.offer-index l.offers))
     × (length l.offers ≤ spare l.table + l.offer-index)
     × IsFound l.start l.table.entries
     × (seen_of l.start l.table.entries ≡ seen_of l.start l.initial.table.entries)

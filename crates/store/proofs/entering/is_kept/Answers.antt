@@ -25,7 +25,8 @@ returns-then-index-start-clause-kept g c =
     let told = c.index.ensures in
     let stood : c.index.result ≡ position_or_len (same_scene c.copy.result) (keys_of es) = search (rules, place, told) in
     let at = stood ∙ ap (λ k. position_or_len (same_scene k) (keys_of es)) c.copy.ensures in
-    closed_kept c.args.key.now c.args.origin c.args.start es c.index.result (stands c.args.key.now c.get-known.result.now es c.index.result here at) c.if-index-start.true
+    closed_kept c.args.key.now c.args.origin c.args.start es c.index.result
+    (stands c.args.key.now c.get-known.result.now es c.index.result here at) c.if-index-start.true
 
 pub returns-then-not-is_before-clause-kept : goal.returns-then-not-is_before-clause-kept
 returns-then-not-is_before-clause-kept g c =
@@ -34,7 +35,8 @@ returns-then-not-is_before-clause-kept g c =
     let read = c.get-known.ensures in
     let there : lookup (same_scene c.copy.result) es ≡ Some c.get-known.result.now = search (rules, value, read) in
     let here = ap (λ k. lookup (same_scene k) es) (sym c.copy.ensures) ∙ there in
-    late_kept c.args.key.now c.args.origin c.args.start es c.requires.found c.get-known.result.now c.args.last here c.requires.last (sym c.is_before.ensures ∙ c.if-not-is_before.true)
+    late_kept c.args.key.now c.args.origin c.args.start es c.requires.found c.get-known.result.now c.args.last here c.requires.last (sym c.is_before.ensures ∙
+    c.if-not-is_before.true)
 
 pub returns-then-not-exceeds-clause-kept : goal.returns-then-not-exceeds-clause-kept
 returns-then-not-exceeds-clause-kept g c =
@@ -48,7 +50,8 @@ returns-then-not-exceeds-clause-kept g c =
     let stood : c.index.result ≡ position_or_len (same_scene c.copy.result) (keys_of es) = search (rules, place, told) in
     let at = stood ∙ ap (λ k. position_or_len (same_scene k) (keys_of es)) c.copy.ensures in
     ap not (sym c.if-not-exceeds.true) ∙ ap (λ b. b || not c.exceeds.result) (sym (not_below c.index.result c.args.start c.if-index-start.false)) ∙
-    there_kept c.args.key.now c.args.origin c.args.start es c.requires.found c.index.result c.get-known.result.now c.exceeds.result (stands c.args.key.now c.get-known.result.now es c.index.result here at) here c.exceeds.ensures
+    there_kept c.args.key.now c.args.origin c.args.start es c.requires.found c.index.result c.get-known.result.now c.exceeds.result
+    (stands c.args.key.now c.get-known.result.now es c.index.result here at) here c.exceeds.ensures
 
 pub returns-else-not-exceeds-clause-kept : goal.returns-else-not-exceeds-clause-kept
 returns-else-not-exceeds-clause-kept g c =
@@ -62,4 +65,5 @@ returns-else-not-exceeds-clause-kept g c =
     let stood : c.index.result ≡ position_or_len (same_scene c.copy.result) (keys_of es) = search (rules, place, told) in
     let at = stood ∙ ap (λ k. position_or_len (same_scene k) (keys_of es)) c.copy.ensures in
     ap not (sym c.if-not-exceeds.false) ∙ ap (λ b. b || not c.exceeds.result) (sym (not_below c.index.result c.args.start c.if-index-start.false)) ∙
-    there_kept c.args.key.now c.args.origin c.args.start es c.requires.found c.index.result c.get-known.result.now c.exceeds.result (stands c.args.key.now c.get-known.result.now es c.index.result here at) here c.exceeds.ensures
+    there_kept c.args.key.now c.args.origin c.args.start es c.requires.found c.index.result c.get-known.result.now c.exceeds.result
+    (stands c.args.key.now c.get-known.result.now es c.index.result here at) here c.exceeds.ensures

@@ -13,7 +13,8 @@ loop-place-preserved g c =
     let s : Successor = c.index-successors-place.result in
     let before = c.args.inbox.now.items in
     let offers = offers_of c.args.shares c.args.share c.args.rank in
-    let more : take (i + 1) ss ≡ take i ss ++ s ∷ [] = take_more ss i s c.loop-place-test.true ∙ ap (λ (x : Successor). take i ss ++ x ∷ []) (sym c.index-successors-place.is) in (
+    let more : take (i + 1) ss ≡ take i ss ++ s ∷ [] = take_more ss i s c.loop-place-test.true ∙
+    ap (λ (x : Successor). take i ss ++ x ∷ []) (sym c.index-successors-place.is) in (
       c.append.ensures.items ∙ ap (λ xs. xs ++ offer_of c.args.shares c.args.share c.args.rank s) c.loop-place.invariant.0
           ∙ append_assoc before (offers (take i ss)) (offer_of c.args.shares c.args.share c.args.rank s)
           ∙ ap (λ xs. before ++ xs) (sym (offers_more c.args.shares c.args.share c.args.rank (take i ss) s) ∙ ap offers (sym more)),
@@ -23,7 +24,8 @@ loop-place-preserved g c =
 pub append-requires : goal.append-requires
 append-requires g c =
     let ss = c.args.successors.now in let place = c.loop-place.place in let s : Successor = c.index-successors-place.result in
-    let at : slice_get ss place ≡ Some s = slice_get-get_or ss place s c.loop-place-test.true ∙ ap (λ (x : Successor). Some x) (sym c.index-successors-place.is) in (
+    let at : slice_get ss place ≡ Some s = slice_get-get_or ss place s c.loop-place-test.true ∙
+    ap (λ (x : Successor). Some x) (sym c.index-successors-place.is) in (
       search rules,
       (
         c.requires.width,

@@ -9,4 +9,5 @@ returns-then-place-high c =
 
 pub returns : goal.returns
 returns c =
-    joined_at c.args.low.now c.args.high.now c.args.place c.byte_at-least.result c.byte_at-most.result c.byte_at-least.ensures c.byte_at-most.ensures ∙ ap Some (sym c.square_of-2.ensures)
+    joined_at c.args.low.now c.args.high.now c.args.place c.byte_at-least.result c.byte_at-most.result c.byte_at-least.ensures c.byte_at-most.ensures ∙
+    ap Some (sym c.square_of-2.ensures)

@@ -14,20 +14,23 @@ use Rattle.successors.proofs.expansion.successors_of.Goals as goal
 pub returns-in_default-clause-successors : goal.returns-in_default-clause-successors
 returns-in_default-clause-successors c =
     let s = c.args.source.now in let board = c.args.level.now in
-    under_cap (capped board s.cap) board None refl (search rules) s.layer s.position (take c.successors_by-count.result c.successors_by-count.new.slots.successors.items) (c.successors_by-count.ensures.successors s.layer)
+    under_cap (capped board s.cap) board None refl (search rules) s.layer s.position
+    (take c.successors_by-count.result c.successors_by-count.new.slots.successors.items) (c.successors_by-count.ensures.successors s.layer)
 
 pub returns-in_default-clause-parcel : goal.returns-in_default-clause-parcel
 returns-in_default-clause-parcel c =
     let s = c.args.source.now in let board = c.args.level.now in
     is_parcel board s c.requires.source (take c.successors_by-count.result c.successors_by-count.new.slots.successors.items)
-    (under_cap (capped board s.cap) board None refl (search rules) s.layer s.position (take c.successors_by-count.result c.successors_by-count.new.slots.successors.items) (c.successors_by-count.ensures.successors s.layer))
+    (under_cap (capped board s.cap) board None refl (search rules) s.layer s.position
+    (take c.successors_by-count.result c.successors_by-count.new.slots.successors.items) (c.successors_by-count.ensures.successors s.layer))
     c.successors_by-count.ensures.fits
 
 pub keep_admitted-requires-clause-fits : goal.keep_admitted-requires-clause-fits
 keep_admitted-requires-clause-fits c = λ i s at.
     let same : c.in-Some-bound.bound.now ≡ c.args.level.now = search rules in
     subst (λ (b : Board). FitsLevel b s.position) (sym same)
-    (c.successors_by-count.ensures.fits i s (subst (λ (xs : List Successor). slice_get (take c.successors_by-count.result xs) i ≡ Some s) c.as_mut_slice.ensures.value at))
+    (c.successors_by-count.ensures.fits i s (subst (λ (xs : List Successor). slice_get (take c.successors_by-count.result xs) i ≡
+    Some s) c.as_mut_slice.ensures.value at))
 
 pub returns-clause-parcel : goal.returns-clause-parcel
 returns-clause-parcel c =
@@ -38,7 +41,9 @@ returns-clause-parcel c =
     let capped_by : s.cap ≡ Some c.in-Some.most = search rules in
     let given = subst (λ (xs : List Successor). AreSuccessors (uncapped bound) s.layer s.position (take count xs)) (sym c.as_mut_slice.ensures.value)
     (subst (λ (b : Board). AreSuccessors (uncapped b) s.layer s.position (take count items)) (sym same) (c.successors_by-count.ensures.successors s.layer)) in
-    let come = under_cap (capped board s.cap) bound (Some c.in-Some.most) same capped_by s.layer s.position (take kept back) (c.keep_admitted.ensures.successors s.position given) in
+    let come = under_cap (capped board s.cap) bound (Some c.in-Some.most) same capped_by s.layer s.position (take kept back)
+    (c.keep_admitted.ensures.successors s.position given) in
     subst (λ (xs : List Successor). IsParcel (parcel_of (capped board s.cap) s.layer s.rank xs kept))
     (sym (slots_refilled items c.as_mut_slice.result.now back c.keep_admitted.auto.slots c.as_mut_slice.ensures.value))
-    (is_parcel board s c.requires.source (take kept back) come (λ i x at. subst (λ (b : Board). FitsLevel b x.position) same (c.keep_admitted.ensures.fits i x at)))
+    (is_parcel board s c.requires.source (take kept back) come
+    (λ i x at. subst (λ (b : Board). FitsLevel b x.position) same (c.keep_admitted.ensures.fits i x at)))

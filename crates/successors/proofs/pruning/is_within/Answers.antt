@@ -4,7 +4,8 @@ use Rattle.successors.proofs.pruning.is_within.Goals as goal
 pub returns-in-Some : goal.returns-in-Some
 returns-in-Some c = (
   λ le. (c.in-Some.low, c.in-Some.ensures.lower, told_least c.in-Some.low c.args.most le),
-  λ within. tell_least c.in-Some.low c.args.most (sum_within c.args.bound.now c.args.position.now.boxes c.in-Some.low c.args.most c.in-Some.ensures.lower within),
+  λ within. tell_least c.in-Some.low c.args.most
+      (sum_within c.args.bound.now c.args.position.now.boxes c.in-Some.low c.args.most c.in-Some.ensures.lower within),
 )
 
 pub returns-in-None : goal.returns-in-None

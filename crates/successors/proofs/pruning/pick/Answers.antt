@@ -12,7 +12,8 @@ loop-place-init c = (none_picked c.args.bound.now c.args.most c.args.slots.now, 
 
 pub is_within-requires : goal.is_within-requires
 is_within-requires c =
-    stood_fits c.args.bound.now c.args.most c.args.slots.now c.loop-place.slots c.loop-place.kept c.loop-place.place c.args.count c.loop-place.invariant.0 c.loop-place-test.true c.requires.filled c.requires.fits c.index-slots-place.result c.index-slots-place.is
+    stood_fits c.args.bound.now c.args.most c.args.slots.now c.loop-place.slots c.loop-place.kept c.loop-place.place c.args.count c.loop-place.invariant.0
+    c.loop-place-test.true c.requires.filled c.requires.fits c.index-slots-place.result c.index-slots-place.is
 
 pub bring-requires-clause-order : goal.bring-requires-clause-order
 bring-requires-clause-order c = c.loop-place.invariant.0.order
@@ -23,8 +24,10 @@ bring-requires-clause-slots c = omega (arith, c.loop-place-test.true, c.requires
 pub bring-requires-clause-sums : goal.bring-requires-clause-sums
 bring-requires-clause-sums c =
     let s = c.index-slots-place.result in
-    let was = stood c.args.bound.now c.args.most c.args.slots.now c.loop-place.slots c.loop-place.kept c.loop-place.place c.loop-place.invariant.0 (omega (arith, c.loop-place-test.true, c.requires.filled)) s c.index-slots-place.is in
-    brought_within c.loop-place.slots c.args.sums.now c.loop-place.sums c.loop-place.kept c.loop-place.place s c.loop-place.invariant.0.order (c.loop-place.invariant.0.rest c.loop-place.place s (omega arith) was)
+    let was = stood c.args.bound.now c.args.most c.args.slots.now c.loop-place.slots c.loop-place.kept c.loop-place.place c.loop-place.invariant.0
+    (omega (arith, c.loop-place-test.true, c.requires.filled)) s c.index-slots-place.is in
+    brought_within c.loop-place.slots c.args.sums.now c.loop-place.sums c.loop-place.kept c.loop-place.place s c.loop-place.invariant.0.order
+    (c.loop-place.invariant.0.rest c.loop-place.place s (omega arith) was)
     (sum_at c.args.count c.args.slots.now c.args.sums.now c.requires.sums c.loop-place.place s c.loop-place-test.true was) c.loop-place.invariant.1
 
 pub loop-place-preserved : goal.loop-place-preserved
@@ -32,12 +35,14 @@ loop-place-preserved c =
     let board = c.args.bound.now in let most = c.args.most in let before = c.args.slots.now in let now = c.loop-place.slots in
     let front = c.loop-place.kept in let place = c.loop-place.place in
     let s = c.index-slots-place.result in
-    let was = stood board most before now front place c.loop-place.invariant.0 (omega (arith, c.loop-place-test.true, c.requires.filled)) s c.index-slots-place.is in
+    let was = stood board most before now front place c.loop-place.invariant.0
+    (omega (arith, c.loop-place-test.true, c.requires.filled)) s c.index-slots-place.is in
     let order = c.loop-place.invariant.0.order in
     let there = c.loop-place.invariant.0.rest place s (omega arith) was in
     let beside = sum_at c.args.count before c.args.sums.now c.requires.sums place s c.loop-place-test.true was in
     elim c.if-is_within.branch [
-      | then-is_within w ↦ (let holds : IsWithin board s.position.boxes most = subst (λ (x : Successor). IsWithin board x.position.boxes most) (sym c.index-slots-place.is) (c.is_within.ensures.0 w.if-is_within.true) in
+      | then-is_within w ↦ (let holds : IsWithin board s.position.boxes most =
+          subst (λ (x : Successor). IsWithin board x.position.boxes most) (sym c.index-slots-place.is) (c.is_within.ensures.0 w.if-is_within.true) in
           let picked = one_picked board most before now front place s c.loop-place.invariant.0 was holds in
           let brought = one_brought now c.args.sums.now c.loop-place.sums front place s order there beside c.loop-place.invariant.1 in
           let slots = w.slots-is ∙ w.bring.ensures.slots in
@@ -48,7 +53,9 @@ loop-place-preserved c =
                 (subst (λ xs. AreBrought c.if-is_within.slots c.args.sums.now xs (front + 1) (place + 1)) (sym sums)
                 (subst (λ xs. AreBrought xs c.args.sums.now (swap c.loop-place.sums front place) (front + 1) (place + 1)) (sym slots) brought)),
           ))
-      | else-is_within w ↦ (let fails : ¬ (IsWithin board s.position.boxes most) = λ holds. (let e = c.is_within.ensures.1 (subst (λ (x : Successor). IsWithin board x.position.boxes most) c.index-slots-place.is holds) in let f = w.if-is_within.false in cc) in
+      | else-is_within w ↦ (let fails : ¬ (IsWithin board s.position.boxes most) =
+          λ holds. (let e = c.is_within.ensures.1 (subst (λ (x : Successor). IsWithin board x.position.boxes most) c.index-slots-place.is holds) in
+          let f = w.if-is_within.false in cc) in
           let picked = one_left_out board most before now front place s c.loop-place.invariant.0 was fails in
           let brought = one_passed now c.args.sums.now c.loop-place.sums front place s order there beside c.loop-place.invariant.1 in (
             subst (λ k. IsPicking board most before c.if-is_within.slots k (place + 1)) (sym w.kept-is)

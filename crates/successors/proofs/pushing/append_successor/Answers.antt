@@ -18,12 +18,19 @@ returns-then-is_dead-clause-appended c =
     let board = c.args.level.now in
     let n = c.args.position.now in
     let ahead : ℕ = next board c.args.push.square c.args.push.dir in
-    let dead : IsDead board ahead = subst (λ (q : ℕ). IsDead board q) c.next-ahead.ensures (subst (λ b. IsDead b c.next-ahead.result) c.requires.dead_of_level (c.is_dead.ensures.dead.0 c.if-is_dead.true)) in
-    inr (refl, λ m come. (come_by board n c.requires.fits.scene c.args.push m come).safe (inl (ahead, contains-insert_here (remove n.boxes c.args.push.square) ahead, dead)))
+    let dead : IsDead board ahead =
+    subst (λ (q : ℕ). IsDead board q) c.next-ahead.ensures
+    (subst (λ b. IsDead b c.next-ahead.result) c.requires.dead_of_level (c.is_dead.ensures.dead.0 c.if-is_dead.true)) in
+    inr (
+      refl,
+      λ m come. (come_by board n c.requires.fits.scene c.args.push m come).safe
+          (inl (ahead, contains-insert_here (remove n.boxes c.args.push.square) ahead, dead)),
+    )
 
 pub returns-then-not-made-clause-appended : goal.returns-then-not-made-clause-appended
 returns-then-not-made-clause-appended c = inr (
-  slot_same c.args.slots.now.successors.items c.have_slot.new.slots.items c.as_mut_slice.result.now c.args.count c.make_successor-made.new.slot c.have_slot.ensures.place c.have_slot.ensures.kept c.as_mut_slice.ensures.value,
+  slot_same c.args.slots.now.successors.items c.have_slot.new.slots.items c.as_mut_slice.result.now c.args.count c.make_successor-made.new.slot
+      c.have_slot.ensures.place c.have_slot.ensures.kept c.as_mut_slice.ensures.value,
   c.make_successor-made.ensures.none c.if-not-made.true,
 )
 
@@ -32,7 +39,8 @@ returns-clause-appended c =
     let come = c.make_successor-made.ensures.some c.if-not-made.false in
     inl (
       c.make_successor-made.new.slot,
-      slot_more c.args.slots.now.successors.items c.have_slot.new.slots.items c.as_mut_slice.result.now c.args.count c.make_successor-made.new.slot c.have_slot.ensures.place c.have_slot.ensures.kept c.as_mut_slice.ensures.value,
+      slot_more c.args.slots.now.successors.items c.have_slot.new.slots.items c.as_mut_slice.result.now c.args.count c.make_successor-made.new.slot
+          c.have_slot.ensures.place c.have_slot.ensures.kept c.as_mut_slice.ensures.value,
       c.make_successor-made.ensures.push,
       come.0,
       come.1,
@@ -45,7 +53,8 @@ sum_after-sum-requires-clause-moved c =
     let come = c.make_successor-made.ensures.some c.if-not-made.false in
     let read = c.index-as_slice-count.result in
     let there : read ≡ c.make_successor-made.new.slot = c.index-as_slice-count.is
-    ∙ slot_read c.args.slots.now.successors.items c.have_slot.new.slots.items c.as_mut_slice.result.now c.args.count c.make_successor-made.new.slot c.have_slot.ensures.place c.have_slot.ensures.kept c.as_mut_slice.ensures.value c.as_slice.result.now c.as_slice.ensures.value read in
+    ∙ slot_read c.args.slots.now.successors.items c.have_slot.new.slots.items c.as_mut_slice.result.now c.args.count c.make_successor-made.new.slot
+    c.have_slot.ensures.place c.have_slot.ensures.kept c.as_mut_slice.ensures.value c.as_slice.result.now c.as_slice.ensures.value read in
     let boxes : sum read.position.boxes ≡ sum c.make_successor-made.new.slot.position.boxes = ap (λ (s : Successor). sum s.position.boxes) there in
     let ahead : c.next-ahead.result ≡ next board c.args.push.square c.args.push.dir = c.next-ahead.ensures in
     let sums = pushed_sums board n c.requires.fits.scene c.args.push c.make_successor-made.new.slot.position come.0 in

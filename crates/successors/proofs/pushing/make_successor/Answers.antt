@@ -20,13 +20,15 @@ next-ahead-requires c = inside_grid c.args.level.now c.args.push.square (c.requi
 
 pub push_at-requires-clause-free : goal.push_at-requires-clause-free
 push_at-requires-clause-free c =
-    let e : contains c.copy_from.new.self.boxes c.next-ahead.result ≡ contains c.args.position.now.boxes (next c.args.level.now c.args.push.square c.args.push.dir) = cc in
+    let e : contains c.copy_from.new.self.boxes c.next-ahead.result ≡
+    contains c.args.position.now.boxes (next c.args.level.now c.args.push.square c.args.push.dir) = cc in
     e ∙ c.requires.possible.ahead.1
 
 pub push_dooms-requires-clause-fits : goal.push_dooms-requires-clause-fits
 push_dooms-requires-clause-fits c =
     let moved : c.push_at.new.self ≡ after_push c.args.level.now c.args.position.now c.args.push = cc in
-    subst (FitsLevel c.args.level.now) (sym moved) (after_fits c.args.level.now c.args.position.now c.requires.fits.scene c.args.push c.requires.fits c.requires.possible)
+    subst (FitsLevel c.args.level.now) (sym moved)
+    (after_fits c.args.level.now c.args.position.now c.requires.fits.scene c.args.push c.requires.fits c.requires.possible)
 
 pub push_dooms-requires-clause-inside : goal.push_dooms-requires-clause-inside
 push_dooms-requires-clause-inside c = inside_grid c.args.level.now c.args.push.square (c.requires.fits.scene.boxes c.args.push.square c.requires.possible.there)
@@ -34,7 +36,8 @@ push_dooms-requires-clause-inside c = inside_grid c.args.level.now c.args.push.s
 pub push_dooms-requires-clause-pushed : goal.push_dooms-requires-clause-pushed
 push_dooms-requires-clause-pushed c =
     let moved : c.push_at.new.self ≡ after_push c.args.level.now c.args.position.now c.args.push = cc in
-    ap (λ (s : Scene). s.boxes) moved ∙ ap (λ (boxes : Squares). insert (remove boxes c.args.push.square) (next c.args.level.now c.args.push.square c.args.push.dir)) (sym c.requires.boxes)
+    ap (λ (s : Scene). s.boxes) moved ∙
+    ap (λ (boxes : Squares). insert (remove boxes c.args.push.square) (next c.args.level.now c.args.push.square c.args.push.dir)) (sym c.requires.boxes)
 
 pub push_dooms-requires-clause-undoomed : goal.push_dooms-requires-clause-undoomed
 push_dooms-requires-clause-undoomed c = subst (λ (boxes : Squares). ¬ (Doomed c.args.level.now boxes)) (sym c.requires.boxes) c.requires.undoomed
@@ -43,7 +46,8 @@ pub returns-then-push_dooms-clause-none : goal.returns-then-push_dooms-clause-no
 returns-then-push_dooms-clause-none c = λ no m come.
     let moved : c.push_at.new.self ≡ after_push c.args.level.now c.args.position.now c.args.push = cc in
     let bad : Doomed c.args.level.now c.push_at.new.self.boxes = c.if-push_dooms.ensures.same.0 refl in
-    (come_by c.args.level.now c.args.position.now c.requires.fits.scene c.args.push m come).safe (subst (λ (s : Scene). Doomed c.args.level.now s.boxes) moved bad)
+    (come_by c.args.level.now c.args.position.now c.requires.fits.scene c.args.push m come).safe
+    (subst (λ (s : Scene). Doomed c.args.level.now s.boxes) moved bad)
 
 pub is_loose-requires-clause-inside : goal.is_loose-requires-clause-inside
 is_loose-requires-clause-inside c = inside_grid c.args.level.now c.args.push.square (c.requires.fits.scene.boxes c.args.push.square c.requires.possible.there)
@@ -51,7 +55,8 @@ is_loose-requires-clause-inside c = inside_grid c.args.level.now c.args.push.squ
 pub normalise_after-requires-clause-fits : goal.normalise_after-requires-clause-fits
 normalise_after-requires-clause-fits c =
     let moved : c.push_at.new.self ≡ after_push c.args.level.now c.args.position.now c.args.push = cc in
-    subst (FitsLevel c.args.level.now) (sym moved) (after_fits c.args.level.now c.args.position.now c.requires.fits.scene c.args.push c.requires.fits c.requires.possible)
+    subst (FitsLevel c.args.level.now) (sym moved)
+    (after_fits c.args.level.now c.args.position.now c.requires.fits.scene c.args.push c.requires.fits c.requires.possible)
 
 pub returns-clause-some : goal.returns-clause-some
 returns-clause-some c =
@@ -65,9 +70,14 @@ returns-clause-some c =
       | else-not-is_loose-via-else-not-is_loose w ↦
           let loose = c.is_loose.ensures.0 w.if-not-is_loose.false in
           loose_dooms_nothing board n.boxes c.args.push.square (next board c.args.push.square c.args.push.dir) c.requires.undoomed
-          (subst (λ (boxes : Squares). IsLoose board (insert (remove boxes c.args.push.square) (next board c.args.push.square c.args.push.dir)) (next board c.args.push.square c.args.push.dir)) c.requires.boxes loose)
+          (subst (λ (boxes : Squares). IsLoose board (insert (remove boxes c.args.push.square) (next board c.args.push.square c.args.push.dir))
+          (next board c.args.push.square c.args.push.dir)) c.requires.boxes loose)
     ] in
-    λ done. (successor_is board n c.requires.fits.scene c.args.push c.requires.undoomed c.requires.possible safe c.normalise_after.new.after (subst (λ (s : Scene). IsNorm board s c.normalise_after.new.after) moved c.normalise_after.ensures.norm), c.normalise_after.ensures.fits)
+    λ done. (
+      successor_is board n c.requires.fits.scene c.args.push c.requires.undoomed c.requires.possible safe c.normalise_after.new.after
+          (subst (λ (s : Scene). IsNorm board s c.normalise_after.new.after) moved c.normalise_after.ensures.norm),
+      c.normalise_after.ensures.fits,
+    )
 
 pub normalise_after-requires-clause-pushed : goal.normalise_after-requires-clause-pushed
 normalise_after-requires-clause-pushed c =

@@ -18,12 +18,14 @@ loop-push-preserved c =
     let n = c.args.position.now in
     let scene = c.requires.fits.scene in
     let ss = take c.loop-push.count c.loop-push.slots.successors.items in
-    let here = slice_get_read c.args.pushes.now (length c.args.pushes.now) c.loop-push.push-index c.push-item.result refl c.loop-push-test.true c.push-item.is in
+    let here = slice_get_read c.args.pushes.now
+    (length c.args.pushes.now) c.loop-push.push-index c.push-item.result refl c.loop-push-test.true c.push-item.is in
     let kept = c.append_successor-count.ensures.kept ∙ c.loop-push.invariant.kept in
     let bound = c.append_successor-count.ensures.bound in
     elim c.append_successor-count.ensures.appended [
       | inl (s, grown, named, come, fits) ↦
-          (let more = by_more board n scene c.args.pushes.now c.loop-push.push-index c.push-item.result ss s c.requires.pushes here c.loop-push.invariant.successors named come in
+          (let more = by_more board n scene c.args.pushes.now c.loop-push.push-index c.push-item.result ss s c.requires.pushes here
+          c.loop-push.invariant.successors named come in
           let fit = fit_more board ss s c.loop-push.invariant.fits fits in
           record {
             successors = subst (AreSuccessorsBy board n (c.loop-push.push-index + 1) c.args.pushes.now) (sym grown) more;
@@ -47,7 +49,8 @@ loop-push-preserved c =
 
 pub returns-clause-successors : goal.returns-clause-successors
 returns-clause-successors c =
-    by_all c.args.level.now c.args.position.now c.requires.fits.scene c.args.pushes.now c.loop-push.push-index (take c.loop-push.count c.loop-push.slots.successors.items) c.loop-push-test.false c.requires.pushes
+    by_all c.args.level.now c.args.position.now c.requires.fits.scene c.args.pushes.now c.loop-push.push-index
+    (take c.loop-push.count c.loop-push.slots.successors.items) c.loop-push-test.false c.requires.pushes
     (λ p m come. (come_by c.args.level.now c.args.position.now c.requires.fits.scene p m come).can) c.loop-push.invariant.successors
 
 pub append_successor-count-requires-clause-flooded : goal.append_successor-count-requires-clause-flooded

@@ -7,8 +7,11 @@ texts-init c = ([], ReadsTexts-none _ _ c.new-gap.ensures)
 
 pub texts-preserved : goal.texts-preserved
 texts-preserved c =
-    let text = text-none c.line_size.result c.in-Some.line.now c.line_size.ensures (sym c.is_some.ensures ∙ c.if-is_some.false) in
-    (_, ReadsTexts-more c.skip.new.self c.with-gap.result c.in-Some.line.now c.texts.invariant.1 c.in-Some.ensures text c.skip.ensures.rest c.skip.ensures.number c.with-gap.ensures)
+    let text = text-none c.line_size.result c.in-Some.line.now c.line_size.ensures (sym c.is_some.ensures ∙ c.if-is_some.false) in (
+      _,
+      ReadsTexts-more c.skip.new.self c.with-gap.result c.in-Some.line.now c.texts.invariant.1 c.in-Some.ensures text c.skip.ensures.rest
+          c.skip.ensures.number c.with-gap.ensures,
+    )
 
 pub returns-in_default : goal.returns-in_default
 returns-in_default c = ReadsGap-end c.texts.invariant.1 c.in_default.ensures

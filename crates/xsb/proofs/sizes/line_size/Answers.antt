@@ -9,7 +9,8 @@ use Rattle.xsb.proofs.sizes.line_size.Goals as goal
 
 pub returns-in_err-cols : goal.returns-in_err-cols
 returns-in_err-cols c =
-    let turn = YieldsList-turn (YieldsList-from_slice_split _ (λ b. b == bar) c.args.line.now (cc) (cc) (cc) (λ x b q k. search rules)) c.loop-piece.yielded _ c.loop-piece.yielded_by _ _ c.in-Some.piece c.in-Some.is c.next.ensures.steps in
+    let turn = YieldsList-turn (YieldsList-from_slice_split _ (λ b. b == bar) c.args.line.now (cc) (cc) (cc) (λ x b q k. search rules)) c.loop-piece.yielded _
+    c.loop-piece.yielded_by _ _ c.in-Some.piece c.in-Some.is c.next.ensures.steps in
     let some : 0 < length c.in-Some.piece.now = grind (arith, nat_tests) in
     rw c.from_residual.ensures (text-piece c.in-Some.piece.now turn some c.in_err-cols.ensures)
 
@@ -21,6 +22,7 @@ loop-piece-preserved-then-not-is_empty c =
 
 pub returns : goal.returns
 returns c =
-    let all = YieldsList-end (YieldsList-from_slice_split _ (λ b. b == bar) c.args.line.now (cc) (cc) (cc) (λ x b q k. search rules)) c.loop-piece.yielded _ c.loop-piece.yielded_by _ _ c.in-None.is c.next.ensures.steps in
+    let all = YieldsList-end (YieldsList-from_slice_split _ (λ b. b == bar) c.args.line.now (cc) (cc) (cc) (λ x b q k. search rules)) c.loop-piece.yielded _
+    c.loop-piece.yielded_by _ _ c.in-None.is c.next.ensures.steps in
     let wall : Contains c.args.line.now wall_byte = search rules in
     IsRowLine-counted c.loop-piece.invariant.1 all.0 wall

@@ -8,6 +8,8 @@ pub returns-clause-ok : goal.returns-clause-ok
 returns-clause-ok c =
     let cells = c.args.level.now.cells in
     let all : c.loop-col.col ≡ c.kept_cells-kept.result = omega arith in
-    c.in_ok-push-2.ensures.items ∙ ap (λ l. l ++ line_feed ∷ []) (c.loop-col.invariant ∙ ap (λ n. c.args.out.now.items ++ map byte_of (take n (drop c.args.start cells))) all
-    ∙ ap (λ r. c.args.out.now.items ++ map byte_of r) (kept-cells cells c.args.start c.args.level.now.cols c.kept_cells-kept.result c.kept_cells-kept.ensures.kept c.kept_cells-kept.ensures.within))
+    c.in_ok-push-2.ensures.items ∙
+    ap (λ l. l ++ line_feed ∷ []) (c.loop-col.invariant ∙ ap (λ n. c.args.out.now.items ++ map byte_of (take n (drop c.args.start cells))) all
+    ∙ ap (λ r. c.args.out.now.items ++ map byte_of r)
+    (kept-cells cells c.args.start c.args.level.now.cols c.kept_cells-kept.result c.kept_cells-kept.ensures.kept c.kept_cells-kept.ensures.within))
     ∙ append_assoc c.args.out.now.items _ (line_feed ∷ [])

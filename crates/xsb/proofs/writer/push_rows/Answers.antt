@@ -14,5 +14,9 @@ loop-row-preserved c =
     let pushed = c.in_ok-push_row.ensures.ok ∙ ap (λ n. c.loop-row.out.items ++ written_row (take board.cols (drop (row * n) board.cells))) width in (
       ap (λ o. o ++ left_from board (row + 1)) pushed ∙ append_assoc c.loop-row.out.items _ (left_from board (row + 1))
           ∙ ap (λ l. c.loop-row.out.items ++ l) (sym (left-more board row (omega arith))) ∙ c.loop-row.invariant.0,
-      (_, pushed ∙ ap (λ o. o ++ written_row (take board.cols (drop (row * board.cols) board.cells))) c.loop-row.invariant.1.1 ∙ append_assoc c.args.out.now.items c.loop-row.invariant.1.0 _),
+      (
+        _,
+        pushed ∙ ap (λ o. o ++ written_row (take board.cols (drop (row * board.cols) board.cells))) c.loop-row.invariant.1.1 ∙
+            append_assoc c.args.out.now.items c.loop-row.invariant.1.0 _,
+      ),
     )

@@ -5,4 +5,5 @@ use Rattle.area.proofs.scratch.Scratch.reaches.Goals as goal
 
 pub returns : goal.returns
 returns c =
-    c.has.ensures ∙ sym (listed c.self.inside.reached c.self.inside.reached c.args.self.now.reached c.args.square (ap (λ (r : Reach). r.reached) c.self.view_is) refl)
+    c.has.ensures ∙ sym (listed c.self.inside.reached c.self.inside.reached c.args.self.now.reached c.args.square
+    (ap (λ (r : Reach). r.reached) c.self.view_is) refl)

@@ -9,4 +9,8 @@ draw_next-found-requires c =
     let sound = c.drawer.invariant in
     let len = agrees c.drawer.inside c.self.inside c.args.drawer.now c.args.self.now c.drawer.view_is c.self.view_is c.requires c.self.invariant in
     let words = c.self.invariant.0 in
-    record { seat = (search rules, omega arith); step = draws_seat _ _ _ c.drawer.inside.seat.me sound.seated len (ap is_some (sym sound.place) ∙ c.if-is_none.ensures) (sym sound.spent ∙ c.if-drawer.false) }
+    record {
+      seat = (search rules, omega arith);
+      step = draws_seat _ _ _ c.drawer.inside.seat.me sound.seated len (ap is_some (sym sound.place) ∙
+          c.if-is_none.ensures) (sym sound.spent ∙ c.if-drawer.false);
+    }

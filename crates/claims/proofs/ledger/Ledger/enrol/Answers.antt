@@ -11,5 +11,9 @@ swap-is_free-requires c =
     let near = c.if-place-ge-PLACES.false in
     let is = c.from-word.ensures in
     let words = c.self.invariant.0 in
-    let word : 1 + c.from-word.result ≡ suc c.args.place = omega arith in
-    (search rules, omega arith, swaps_seat _ _ _ c.args.place (1 + c.from-word.result) c.drawer.inside.seat.me word sound.seated len near (ap is_some (sym sound.place) ∙ sym c.if-is_some.ensures))
+    let word : 1 + c.from-word.result ≡ suc c.args.place = omega arith in (
+      search rules,
+      omega arith,
+      swaps_seat _ _ _ c.args.place (1 + c.from-word.result) c.drawer.inside.seat.me word sound.seated len near
+          (ap is_some (sym sound.place) ∙ sym c.if-is_some.ensures),
+    )

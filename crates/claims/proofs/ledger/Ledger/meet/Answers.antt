@@ -14,7 +14,8 @@ load-requires c =
     let h = first_hand c.drawer.inside.seat.me.0.hands in
     let k = first_hand c.other.inside.seat.me.0.hands in
     let len = agrees c.drawer.inside c.self.inside c.args.drawer c.args.self.now c.drawer.view_is c.self.view_is c.requires.0 c.self.invariant in
-    let is = c.join_seat.ensures.2 ∙ met_is c.self.inside.table.shared.key c.drawer.inside.seat.me c.other.inside.seat.me c.drawer.invariant.seated c.other.invariant.seated len in
+    let is = c.join_seat.ensures.2 ∙
+    met_is c.self.inside.table.shared.key c.drawer.inside.seat.me c.other.inside.seat.me c.drawer.invariant.seated c.other.invariant.seated len in
     (search rules, search rules, loads_meeting _ _ _ c.join_seat.new.seat.me h k is)
 
 pub split_seat-other_seat-requires : goal.split_seat-other_seat-requires

@@ -7,11 +7,13 @@ use Rattle.doom.specs.Lost.{AreLost}
 use Rattle.doom.proofs.lemmas.Bounds.{lower_needed, lower_lessened, dead_are_lost}
 use Rattle.doom.proofs.bound.Bound.lower.Goals as goal
 
-needed : (board : Board) (boxes : Squares) (o : Option ℕ) → MatchOption o (HaveDead board boxes) (λ low. IsLower board boxes low) → IfSome o (λ low. NeedAtLeast board boxes low)
+needed : (board : Board) (boxes : Squares) (o : Option ℕ) → MatchOption o (HaveDead board boxes) (λ low. IsLower board boxes low) →
+    IfSome o (λ low. NeedAtLeast board boxes low)
 needed board boxes None dead = tt
 needed board boxes (Some n) lower = lower_needed board boxes n lower
 
-pushed : (board : Board) (boxes : Squares) (o : Option ℕ) → MatchOption o (HaveDead board boxes) (λ low. IsLower board boxes low) → IfSome o (λ low. LessenByOne board boxes low)
+pushed : (board : Board) (boxes : Squares) (o : Option ℕ) → MatchOption o (HaveDead board boxes) (λ low. IsLower board boxes low) →
+    IfSome o (λ low. LessenByOne board boxes low)
 pushed board boxes None dead = tt
 pushed board boxes (Some n) lower = lower_lessened board boxes n lower
 

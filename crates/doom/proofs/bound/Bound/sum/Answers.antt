@@ -15,8 +15,10 @@ loop-square-preserved c =
     let next : i + 1 ≡ suc i = omega arith in
     let split = drop-cons boxes i 0 c.loop-square-test.true in
     record {
-      sum = λ b rest. subst (λ n. IsLower board boxes n) (let e : c.loop-square.sum + (a + b) ≡ c.loop-square.sum + c.from.result + b = omega (arith, c.from.ensures) in e)
-          (c.loop-square.invariant.sum (a + b) (subst (λ ys. IsLower board ys (a + b)) (sym split) (a, b, far, subst (λ n. IsLower board (drop n boxes) b) next rest, refl)));
+      sum = λ b rest. subst (λ n. IsLower board boxes n) (let e : c.loop-square.sum + (a + b) ≡ c.loop-square.sum + c.from.result + b =
+          omega (arith, c.from.ensures) in e)
+          (c.loop-square.invariant.sum (a + b)
+          (subst (λ ys. IsLower board ys (a + b)) (sym split) (a, b, far, subst (λ n. IsLower board (drop n boxes) b) next rest, refl)));
       few = omega (arith, c.from.ensures, c.loop-square.invariant.few);
     }
 

@@ -9,7 +9,8 @@ use Rattle.doom.proofs.pulls.Found.goals.Goals.{then-is_goal+in_ok-mark, else-is
 pub loop-index-init : goal.loop-index-init
 loop-index-init c =
     let board = c.args.level.now in (
-      spread_along board (λ q. q < 0) (λ _ _. Unit {0}) 0 (replicate (length board.cells) None) c.in_ok-vec.field-0.items [] [] c.in_ok-with_capacity-2.field-0.items
+      spread_along board (λ q. q < 0) (λ _ _. Unit {0}) 0
+          (replicate (length board.cells) None) c.in_ok-vec.field-0.items [] [] c.in_ok-with_capacity-2.field-0.items
           (c.in_ok-vec.ensures.items_if_clones_equal (only_none _ (λ n no. no)) ∙ ap (λ n. replicate n None) c.squares-squares.ensures)
           c.in_ok-with_capacity-2.ensures.items
           (spread_none board),
@@ -30,8 +31,12 @@ loop-index-preserved c =
           let still : marked' ≡ w.mark.new.self.marked.items = cc in
           let marks : Marks 0 i far marked far' marked' = (same ∙ w.in_ok-mark.ensures.marks.0, still ∙ w.in_ok-mark.ensures.marks.1) in
           let lt : i < length far = omega (arith, c.loop-index.invariant.0.size, c.loop-index-test.true) in (
-            spread_more board i far' marked' (λ _. marks_here board (λ q. q < i) (λ _ _. Unit {0}) 0 i far far' [] marked marked' lt marks c.loop-index.invariant.0)
-                (spread_mark board (λ q. q < i) (λ _ _. Unit {0}) 0 i far far' [] marked marked' lt (home (sym w.if-is_goal.ensures), refl) marks c.loop-index.invariant.0),
+            spread_more board i far' marked'
+                (λ _. marks_here board (λ q. q < i) (λ _ _. Unit {0}) 0 i far far' [] marked marked' lt marks c.loop-index.invariant.0)
+                (spread_mark board (λ q. q < i) (λ _ _. Unit {0}) 0 i far far' [] marked marked' lt (
+                  home (sym w.if-is_goal.ensures),
+                  refl,
+                ) marks c.loop-index.invariant.0),
             cc,
           )
       | else-is_goal w ↦ (
@@ -42,7 +47,8 @@ loop-index-preserved c =
     ]
 
 pub returns-clause-filling : goal.returns-clause-filling
-returns-clause-filling c = spread_goals c.args.level.now c.loop-index.index c.loop-index.found.far.items c.loop-index.found.marked.items (omega arith) c.loop-index.invariant.0
+returns-clause-filling c = spread_goals c.args.level.now c.loop-index.index c.loop-index.found.far.items c.loop-index.found.marked.items
+    (omega arith) c.loop-index.invariant.0
 
 pub returns-clause-due : goal.returns-clause-due
 returns-clause-due c = c.loop-index.invariant.1

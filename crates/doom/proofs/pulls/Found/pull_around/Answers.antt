@@ -21,7 +21,8 @@ loop-dir-preserved c =
     let less = pull_count board k s d far far' marked marked' before.due.spread.size pulls in
     let still : due' ≡ c.loop-dir.self.due.items = c.pull.ensures.due in
     record {
-      due = subst (λ ys. IsDue board k s (i + 1) far' ys marked') (sym still) (spread_pull board k s i d far far' c.loop-dir.self.due.items marked marked' (dir_at i c.loop-dir-test.true) pulls before.due);
+      due = subst (λ ys. IsDue board k s (i + 1) far' ys marked') (sym still)
+          (spread_pull board k s i d far far' c.loop-dir.self.due.items marked marked' (dir_at i c.loop-dir-test.true) pulls before.due);
       same = still ∙ before.same;
       count = omega (arith, less, before.count);
     }

@@ -7,4 +7,7 @@ pull_around-requires c =
     let due = c.loop-square.self.due.items in
     let due' = c.pop.new.self.items in
     let popped : due ≡ due' ++ c.in-Some.square ∷ [] = c.in-Some.ensures.items in
-    record { before = spread_pop c.args.level.now c.args.steps c.in-Some.square c.loop-square.self.far.items due due' c.loop-square.self.marked.items popped c.loop-square.invariant.filling }
+    record {
+      before = spread_pop c.args.level.now c.args.steps c.in-Some.square c.loop-square.self.far.items due due' c.loop-square.self.marked.items popped
+          c.loop-square.invariant.filling;
+    }

@@ -30,4 +30,5 @@ invariant_of-result c =
 
 pub returns : goal.returns
 returns c =
-    marked_first c.args.level.now c.in_ok-flags.flags.items c.in_ok-listed.listed.items (c.in_ok-flags.ensures ∙ ap (map box_cell) c.cells.ensures.value) c.in_ok-listed.ensures.items
+    marked_first c.args.level.now c.in_ok-flags.flags.items c.in_ok-listed.listed.items (c.in_ok-flags.ensures ∙
+    ap (map box_cell) c.cells.ensures.value) c.in_ok-listed.ensures.items

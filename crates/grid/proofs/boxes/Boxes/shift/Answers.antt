@@ -10,7 +10,8 @@ pub index_mut-requires : goal.index_mut-requires
 index_mut-requires c =
     let flags = c.self.inside.flags.items in
     let lt : c.to.inside.0 < length flags = omega (arith, c.if-to-len.true, c.len.ensures, c.self.inside.flags.ok.0) in
-    let from = comes_from flags c.self.inside.listed.items c.self.invariant.apart c.args.self.now c.args.from c.to.inside.0 c.self.view_is c.requires.there lt in
+    let from = comes_from flags c.self.inside.listed.items c.self.invariant.apart c.args.self.now c.args.from c.to.inside.0 c.self.view_is c.requires.there lt
+    in
     omega (arith, from, c.from.view_is, c.self.inside.flags.ok.0)
 
 pub invariant_of-self : goal.invariant_of-self
@@ -20,8 +21,10 @@ invariant_of-self c =
     let from = c.from.inside.0 in
     let to = c.to.inside.0 in
     let lt : to < length flags = omega (arith, c.if-to-len.true, c.len.ensures, c.self.inside.flags.ok.0) in
-    let there : contains (marked flags ++ listed) from ≡ true = ap (λ (xs : Squares). contains xs from) c.self.view_is ∙ (ap (contains c.args.self.now) c.from.view_is ∙ c.requires.there) in
-    let free : contains (marked flags ++ listed) to ≡ false = ap (λ (xs : Squares). contains xs to) c.self.view_is ∙ (ap (contains c.args.self.now) c.to.view_is ∙ c.requires.free) in
+    let there : contains (marked flags ++ listed) from ≡ true = ap (λ (xs : Squares). contains xs from) c.self.view_is ∙
+    (ap (contains c.args.self.now) c.from.view_is ∙ c.requires.there) in
+    let free : contains (marked flags ++ listed) to ≡ false = ap (λ (xs : Squares). contains xs to) c.self.view_is ∙
+    (ap (contains c.args.self.now) c.to.view_is ∙ c.requires.free) in
     let after = marked_after flags listed c.self.invariant.apart (marked flags ++ listed) from to refl lt in
     let kept = moved_boxes (marked flags ++ listed) (marked (set (set flags from false) to true) ++ listed) from to c.self.invariant.rising there free after in
     record {
@@ -40,7 +43,8 @@ returns-then-to-len c =
     ∙ (ap (λ q. insert (remove c.args.self.now q) c.to.inside.0) c.from.view_is ∙ ap (insert (remove c.args.self.now c.args.from)) c.to.view_is)
 
 -- the boxes after the move, all of them listed
-moved : (c : goal.After-self-else-to-len-1) → (with_items c.list_all.new.listed c.move_square.new.squares).items ≡ insert (remove (marked c.self.inside.flags.items ++ c.self.inside.listed.items) c.args.from) c.args.to
+moved : (c : goal.After-self-else-to-len-1) → (with_items c.list_all.new.listed c.move_square.new.squares).items ≡
+    insert (remove (marked c.self.inside.flags.items ++ c.self.inside.listed.items) c.args.from) c.args.to
 moved c =
     with_items_is c.list_all.new.listed c.move_square.new.squares (omega (arith, c.move_square.auto.squares, c.as_mut_slice.ensures.len))
     ∙ (c.move_square.ensures ∙ ap (λ (xs : Squares). insert (remove xs c.args.from) c.args.to) (c.as_mut_slice.ensures.value ∙ c.list_all.ensures.listed))
@@ -64,4 +68,5 @@ invariant_of-self-else-to-len c =
 
 pub returns-else-to-len : goal.returns-else-to-len
 returns-else-to-len c =
-    only_listed c.list_all.new.flags.items _ _ c.list_all.ensures.flags (moved c) ∙ ap (λ (xs : Squares). insert (remove xs c.args.from) c.args.to) c.self.view_is
+    only_listed c.list_all.new.flags.items _ _ c.list_all.ensures.flags (moved c) ∙
+    ap (λ (xs : Squares). insert (remove xs c.args.from) c.args.to) c.self.view_is

@@ -12,13 +12,16 @@ move_square_at-requires-clause-rising c = subst (λ (xs : Squares). is_rising xs
 
 pub move_square_at-requires-clause-there : goal.move_square_at-requires-clause-there
 move_square_at-requires-clause-there c =
-    subst (λ (xs : Squares). contains xs c.args.from ≡ true) (sym c.as_mut_slice.ensures.value) (subst (λ (s : Scene). contains s.boxes c.args.from ≡ true) (sym c.self.view_is) c.requires.box_there)
+    subst (λ (xs : Squares). contains xs c.args.from ≡ true) (sym c.as_mut_slice.ensures.value)
+    (subst (λ (s : Scene). contains s.boxes c.args.from ≡ true) (sym c.self.view_is) c.requires.box_there)
 
 pub move_square_at-requires-clause-free : goal.move_square_at-requires-clause-free
 move_square_at-requires-clause-free c =
-    subst (λ (xs : Squares). contains xs c.args.to ≡ false) (sym c.as_mut_slice.ensures.value) (subst (λ (s : Scene). contains s.boxes c.args.to ≡ false) (sym c.self.view_is) c.requires.free)
+    subst (λ (xs : Squares). contains xs c.args.to ≡ false) (sym c.as_mut_slice.ensures.value)
+    (subst (λ (s : Scene). contains s.boxes c.args.to ≡ false) (sym c.self.view_is) c.requires.free)
 
-moved : (c : goal.After-from-1) → (with_items c.self.inside.boxes c.move_square_at.new.squares).items ≡ insert (remove c.self.inside.boxes.items c.args.from) c.args.to
+moved : (c : goal.After-from-1) → (with_items c.self.inside.boxes c.move_square_at.new.squares).items ≡
+    insert (remove c.self.inside.boxes.items c.args.from) c.args.to
 moved c =
     items-with_items c.self.inside.boxes c.move_square_at.new.squares (omega (arith, c.move_square_at.auto.squares, ap length c.as_mut_slice.ensures.value))
     ∙ (c.move_square_at.ensures ∙ ap (λ (xs : Squares). insert (remove xs c.args.from) c.args.to) c.as_mut_slice.ensures.value)
@@ -26,7 +29,8 @@ moved c =
 pub invariant_of-self : goal.invariant_of-self
 invariant_of-self c =
     let xs = c.self.inside.boxes.items in
-    subst (λ (ys : Squares). is_rising ys ≡ true) (sym (moved c)) (is_rising-insert (remove xs c.args.from) c.args.to (is_rising-remove xs c.args.from c.self.invariant))
+    subst (λ (ys : Squares). is_rising ys ≡ true) (sym (moved c))
+    (is_rising-insert (remove xs c.args.from) c.args.to (is_rising-remove xs c.args.from c.self.invariant))
 
 pub returns : goal.returns
 returns c =

@@ -12,7 +12,8 @@ returns-then-not-has_goal c = (
   λ solved.
       let q = c.loop-i.i in
       let here = sym c.has_box.ensures ∙ c.if-has_box.true in
-      let goal_there : goal_cell (get_or c.cells-cells.result.now q Wall) ≡ true = subst (λ xs. goal_cell (get_or xs q Wall) ≡ true) (sym c.cells-cells.ensures.value) (solved q here) in
+      let goal_there : goal_cell (get_or c.cells-cells.result.now q Wall) ≡ true =
+      subst (λ xs. goal_cell (get_or xs q Wall) ≡ true) (sym c.cells-cells.ensures.value) (solved q here) in
       absurd (true≢false (sym goal_there ∙ (sym c.has_goal.ensures ∙ c.if-not-has_goal.true))),
 )
 

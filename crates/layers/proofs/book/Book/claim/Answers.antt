@@ -30,7 +30,8 @@ invariant_of-self-then-not-is_set-2 c =
       few = sound.few;
       boxes = sound.boxes;
       cuts = sound.cuts;
-      taken = subst (λ bs. (r : ℕ) → r < rank + 1 → IsTaken (record v { claimed = bs }) r) (sym c.set.ensures) (claimed-taken v rank lt c.loop-rank.invariant.1);
+      taken = subst (λ bs. (r : ℕ) → r < rank + 1 → IsTaken (record v { claimed = bs }) r) (sym c.set.ensures)
+          (claimed-taken v rank lt c.loop-rank.invariant.1);
     }
 
 pub returns-then-not-is_set-2 : goal.returns-then-not-is_set-2
@@ -42,10 +43,13 @@ returns-then-not-is_set-2 c =
     let long = marks_long v sound.lawful in
     let same = ap (λ x. length (book_view x).done) c.loop-rank.invariant.0 in
     let lt : rank < length v.claimed = omega (arith, c.len-rank-end.ensures) in
-    let free : slice_get v.claimed rank ≡ Some false = slice_get-get_or v.claimed rank false lt ∙ ap (λ (b : Bool). Some b) (sym c.is_set.ensures ∙ c.if-not-is_set.true) in
-    let undone : slice_get v.done rank ≡ Some false = slice_get-get_or v.done rank false (omega arith) ∙ ap (λ (b : Bool). Some b) (sym c.is_set-then-not-is_set.ensures ∙ c.if-not-is_set-2.true) in (
+    let free : slice_get v.claimed rank ≡ Some false = slice_get-get_or v.claimed rank false lt
+    ∙ ap (λ (b : Bool). Some b) (sym c.is_set.ensures ∙ c.if-not-is_set.true) in
+    let undone : slice_get v.done rank ≡ Some false = slice_get-get_or v.done rank false (omega arith)
+    ∙ ap (λ (b : Bool). Some b) (sym c.is_set-then-not-is_set.ensures ∙ c.if-not-is_set-2.true) in (
       c.layer-layer.ensures,
       subst (λ w. IsFreeRank w rank) e (free, undone),
       subst (λ w. (r : ℕ) → r < rank → IsTaken w r) e c.loop-rank.invariant.1,
-      ap (λ (bs : List Bool). record v { claimed = bs }) c.set.ensures ∙ subst (λ w. record v { claimed = set v.claimed rank true } ≡ record w { claimed = set w.claimed rank true }) e refl,
+      ap (λ (bs : List Bool). record v { claimed = bs }) c.set.ensures
+          ∙ subst (λ w. record v { claimed = set v.claimed rank true } ≡ record w { claimed = set w.claimed rank true }) e refl,
     )

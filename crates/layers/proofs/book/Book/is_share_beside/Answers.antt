@@ -14,9 +14,10 @@ told x y e = grind (arith, nat_tests)
 pub returns : goal.returns
 returns c =
     let a = c.self.inside in let b = c.first.inside in
-    let lists_a : length c.args.self.now.closed ≡ length a.starts.items = ap (λ (v : BookView). length v.closed) (sym c.self.view_is) ∙ length-cut_at a.starts.items a.found.seen in
-    let lists_b : length c.args.first.now.closed ≡ length b.starts.items = ap (λ (v : BookView). length v.closed) (sym c.first.view_is) ∙ length-cut_at b.starts.items b.found.seen in
-    let long_a : c.len.result ≡ length c.args.self.now.closed = omega (arith, c.len.ensures, lists_a) in
+    let lists_a : length c.args.self.now.closed ≡ length a.starts.items = ap (λ (v : BookView). length v.closed) (sym c.self.view_is)
+    ∙ length-cut_at a.starts.items a.found.seen in
+    let lists_b : length c.args.first.now.closed ≡ length b.starts.items = ap (λ (v : BookView). length v.closed) (sym c.first.view_is)
+    ∙ length-cut_at b.starts.items b.found.seen in let long_a : c.len.result ≡ length c.args.self.now.closed = omega (arith, c.len.ensures, lists_a) in
     let long_b : c.len-2.result ≡ length c.args.first.now.closed = omega (arith, c.len-2.ensures, lists_b) in (
       λ same. (
         ap (λ (v : BookView). v.share) (sym c.self.view_is) ∙ c.if-self-place.false,

@@ -13,10 +13,10 @@ pub returns : goal.returns
 returns c =
     let a = c.self.inside in
     let from = c.last_start-from.result in
-    let at : slice_get a.starts.items (length a.starts.items - 1) ≡ Some from = subst (λ xs. slice_get xs (length xs - 1) ≡ Some from) c.as_slice.ensures.value c.last_start-from.ensures in
-    let list : List Closed = last_list c.args.self.now in
-    let is : drop from a.found.seen ≡ list = sym (last_seen a from (omega (arith, c.self.invariant.lawful.some, length-cut_at a.starts.items a.found.seen)) at) ∙ ap last_list c.self.view_is in
-    record {
+    let at : slice_get a.starts.items (length a.starts.items - 1) ≡ Some from = subst
+    (λ xs. slice_get xs (length xs - 1) ≡ Some from) c.as_slice.ensures.value c.last_start-from.ensures in let list : List Closed = last_list c.args.self.now in
+    let is : drop from a.found.seen ≡ list = sym (last_seen a from (omega (arith, c.self.invariant.lawful.some, length-cut_at a.starts.items a.found.seen)) at)
+    ∙ ap last_list c.self.view_is in record {
       entries = list;
       merged = one_merged list;
       counted = omega (arith, c.closed_len.ensures, length-drop from a.found.seen, ap length is);

@@ -6,4 +6,5 @@ use Rattle.layers.proofs.layer.Layer.is_empty.Goals as goal
 pub returns : goal.returns
 returns c =
     let a = c.self.inside in
-    subst (λ v. (a.count == 0) ≡ (length v.places == 0)) c.self.view_is (ap (λ n. n == 0) (sym (length-scenes_of (box_count a.task.board) a.count a.squares.items)))
+    subst (λ v. (a.count == 0) ≡ (length v.places == 0)) c.self.view_is
+    (ap (λ n. n == 0) (sym (length-scenes_of (box_count a.task.board) a.count a.squares.items)))

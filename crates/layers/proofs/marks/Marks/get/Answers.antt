@@ -6,7 +6,11 @@ pub returns-then-rank-self : goal.returns-then-rank-self
 returns-then-rank-self c = told_none c.self.inside.words.items c.self.inside.len c.args.self.now c.self.view_is c.args.rank c.if-rank-self.true
 
 pub has_mark-requires : goal.has_mark-requires
-has_mark-requires c = omega (arith, enough_words c.self.inside.words.items c.self.inside.len c.self.inside.set c.args.rank c.self.invariant (omega (arith, c.if-rank-self.false)))
+has_mark-requires c = omega (
+  arith,
+  enough_words c.self.inside.words.items c.self.inside.len c.self.inside.set c.args.rank c.self.invariant (omega (arith, c.if-rank-self.false)),
+)
 
 pub returns : goal.returns
-returns c = told_mark c.self.inside.words.items c.self.inside.len c.args.self.now c.self.view_is _ c.args.rank c.has_mark.result c.as_slice.ensures.value (omega (arith, c.if-rank-self.false)) c.has_mark.ensures
+returns c = told_mark c.self.inside.words.items c.self.inside.len c.args.self.now c.self.view_is _ c.args.rank c.has_mark.result c.as_slice.ensures.value
+    (omega (arith, c.if-rank-self.false)) c.has_mark.ensures

@@ -10,4 +10,5 @@ has_mark-requires c =
 pub returns : goal.returns
 returns c =
     let long = marks_long c.self.inside.words.items c.self.inside.len c.args.self.now c.self.view_is in
-    read_mark c.self.inside.words.items c.self.inside.len c.args.self.now c.self.view_is _ c.args.rank c.has_mark.result c.as_slice.ensures.value (omega (arith, long, c.requires)) c.has_mark.ensures
+    read_mark c.self.inside.words.items c.self.inside.len c.args.self.now c.self.view_is _ c.args.rank c.has_mark.result c.as_slice.ensures.value
+    (omega (arith, long, c.requires)) c.has_mark.ensures

@@ -20,7 +20,8 @@ invariant_of-self c =
     let long : length c.set_mark.new.words ≡ length c.as_mut_slice.result.now = search rules in
     let over = over_words a.words.len c.set_mark.new.words a.words.items a.words.ok.0 (long ∙ ap length c.as_mut_slice.ensures.value) in
     subst (λ (ws : List ℕ). AreMarks ws a.len (a.set + 1)) (sym over)
-    (are_more a.words.items a.len c.args.self.now c.self.view_is a.set c.self.invariant c.args.rank c.requires c.as_mut_slice.result.now c.set_mark.new.words c.as_mut_slice.ensures.value c.set_mark.ensures long)
+    (are_more a.words.items a.len c.args.self.now c.self.view_is a.set c.self.invariant c.args.rank c.requires c.as_mut_slice.result.now c.set_mark.new.words
+    c.as_mut_slice.ensures.value c.set_mark.ensures long)
 
 pub returns : goal.returns
 returns c =
@@ -28,4 +29,5 @@ returns c =
     let long : length c.set_mark.new.words ≡ length c.as_mut_slice.result.now = search rules in
     let over = over_words a.words.len c.set_mark.new.words a.words.items a.words.ok.0 (long ∙ ap length c.as_mut_slice.ensures.value) in
     ap (λ (ws : List ℕ). marks_of ws a.len) over
-    ∙ marks_more a.words.items a.len c.args.self.now c.self.view_is a.set c.self.invariant c.args.rank c.requires c.as_mut_slice.result.now c.set_mark.new.words c.as_mut_slice.ensures.value c.set_mark.ensures long
+    ∙ marks_more a.words.items a.len c.args.self.now c.self.view_is a.set c.self.invariant c.args.rank c.requires c.as_mut_slice.result.now
+    c.set_mark.new.words c.as_mut_slice.ensures.value c.set_mark.ensures long

@@ -17,4 +17,9 @@ returns c = λ e rest is.
     (ap (λ n. drop n es) (add-one p) ∙ w.1, c.in_ok-copy_at.ensures e w.0)
 
 pub overflow_add-self : goal.overflow_add-self
-overflow_add-self c = omega (arith, first_left c.self.inside.found.now.seen c.self.inside.place c.args.self.now c.self.view_is c.requires, c.self.invariant.1, c.self.ranges)
+overflow_add-self c = omega (
+  arith,
+  first_left c.self.inside.found.now.seen c.self.inside.place c.args.self.now c.self.view_is c.requires,
+  c.self.invariant.1,
+  c.self.ranges,
+)

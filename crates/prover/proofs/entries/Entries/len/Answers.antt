@@ -6,5 +6,6 @@ use Rattle.prover.proofs.entries.Entries.len.Goals as goal
 pub returns : goal.returns
 returns c =
     let a = c.self.inside in
-    let e : length a.labels.items ≡ length c.args.self.now.seen = sym (length-seen_of a.boxes a.squares.items a.labels.items) ∙ ap (λ (v : EntriesView). length v.seen) c.self.view_is in
+    let e : length a.labels.items ≡ length c.args.self.now.seen = sym (length-seen_of a.boxes a.squares.items a.labels.items) ∙
+    ap (λ (v : EntriesView). length v.seen) c.self.view_is in
     search (rules, e)

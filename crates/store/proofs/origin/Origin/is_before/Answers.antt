@@ -7,4 +7,5 @@ use Rattle.store.proofs.origin.Origin.is_before.Goals as goal
 
 pub returns : goal.returns
 returns c =
-    less_word c.self.inside.0 c.other.inside.0 ∙ ap is_lt (word_order c.self.inside.0 c.other.inside.0) ∙ (λ i. is_lt (origin_cmp push_cmp (c.self.view_is i) (c.other.view_is i)))
+    less_word c.self.inside.0 c.other.inside.0 ∙ ap is_lt (word_order c.self.inside.0 c.other.inside.0) ∙
+    (λ i. is_lt (origin_cmp push_cmp (c.self.view_is i) (c.other.view_is i)))

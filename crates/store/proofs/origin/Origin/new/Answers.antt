@@ -8,4 +8,5 @@ pub returns : goal.returns
 returns c =
     let r = c.args.rank in let s = c.from.result in let d = c.args.push.dir in
     let lt : s < SQUARES = search rules in
-    (λ i. parted ((r * SQUARES + s) * DIRECTIONS + c.number_of.ensures i)) ∙ parted_packed r s d lt ∙ (λ i. (r, record { square = (c.from.ensures ∙ c.square.view_is) i; dir = d }))
+    (λ i. parted ((r * SQUARES + s) * DIRECTIONS + c.number_of.ensures i)) ∙ parted_packed r s d lt ∙
+    (λ i. (r, record { square = (c.from.ensures ∙ c.square.view_is) i; dir = d }))

@@ -16,7 +16,8 @@ append_parcel-requires g c =
           (
             c.requires.rank,
             (
-              found_suit g.row.N g.row.M a.boxes a.squares a.start a.table.entries a.inbox.items c.args.self.now p.successors c.self.invariant.1 c.self.view_is c.requires.few,
+              found_suit g.row.N g.row.M a.boxes a.squares a.start a.table.entries a.inbox.items c.args.self.now p.successors c.self.invariant.1 c.self.view_is
+                  c.requires.few,
               omega (arith, c.in_ok-make_room.ensures.ok.1, ap length c.successors-successors.ensures),
             ),
           ),

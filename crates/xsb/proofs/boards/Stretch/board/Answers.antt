@@ -25,4 +25,6 @@ pub returns-else-is_want_of_memory : goal.returns-else-is_want_of_memory
 returns-else-is_want_of_memory c = λ rows has.
     let few = c.if-self-gt-MAX_COLS.false in
     let exact = cols-exact rows has few in
-    judged-fault c.in-Err.fault c.is_want_of_memory.result (same-board rows c.in_ok-cells.cells.items has few (c.in_ok-cells.ensures rows has (omega arith))) c.in-Err.ensures.err c.is_want_of_memory.ensures c.if-is_want_of_memory.false
+    judged-fault c.in-Err.fault c.is_want_of_memory.result
+    (same-board rows c.in_ok-cells.cells.items has few (c.in_ok-cells.ensures rows has (omega arith))) c.in-Err.ensures.err c.is_want_of_memory.ensures
+    c.if-is_want_of_memory.false

@@ -6,4 +6,5 @@ use Rattle.xsb.proofs.BoardCells.{Filling}
 use Rattle.xsb.proofs.boards.Stretch.cells.Given as goal
 
 abbrev pub invariant-lines : goal.invariant-lines
-invariant-lines l = (rows : List (List Cell)) → HasRows l.self rows → cols_of rows ≤ l.self.size.cols → Filling l.self.size.cols l.self.count l.counter l.lines l.cells.items rows
+invariant-lines l = (rows : List (List Cell)) → HasRows l.self rows → cols_of rows ≤ l.self.size.cols →
+    Filling l.self.size.cols l.self.count l.counter l.lines l.cells.items rows

@@ -14,4 +14,5 @@ returns-clause-next c = λ bytes founds has.
 
 pub returns-clause-fewer : goal.returns-clause-fewer
 returns-clause-fewer c =
-    reads-fewer (ReadsBoard-copy {first = c.args.self.now.lines} c.copy-lines.result c.copy-lines.ensures.rest c.copy-lines.ensures.number c.in-Some.ensures) c.read_gap-after.ensures
+    reads-fewer (ReadsBoard-copy {first = c.args.self.now.lines} c.copy-lines.result c.copy-lines.ensures.rest c.copy-lines.ensures.number c.in-Some.ensures)
+    c.read_gap-after.ensures

@@ -3,4 +3,5 @@ use Rattle.xsb.proofs.reader.Collection.of.Goals as goal
 
 pub returns-clause-begins : goal.returns-clause-begins
 returns-clause-begins c =
-    HasRead-none (record { lines = c.read_gap-before.new.lines; before = c.read_gap-before.result }) c.read_gap-before.ensures c.of-lines.ensures.lines c.of-lines.ensures.first
+    HasRead-none (record { lines = c.read_gap-before.new.lines; before = c.read_gap-before.result }) c.read_gap-before.ensures c.of-lines.ensures.lines
+    c.of-lines.ensures.first

@@ -2,7 +2,7 @@ use Rattle.std.proofs.Common.{sym, ◌∙◌, arith}
 use Rattle.std.proofs.lemmas.Option.{slice_get_within}
 use Rattle.prover.specs.Frame.{Seen}
 use Rattle.prover.proofs.Progressing.{entered_fit, entered_grows, entered_more, entered_seen, grows_on}
-use Rattle.prover.proofs.searching.enter_all.Goals as goal
+use Rattle.prover.proofs.rounds.enter_all.Goals as goal
 
 pub enter-requires : goal.enter-requires
 enter-requires c =

@@ -4,7 +4,7 @@ use Rattle.grid.specs.Board.{Board}
 use Rattle.prover.specs.Frame.{Seen, IsSeen}
 use Rattle.prover.specs.inside.Entries.{Grows}
 use Rattle.prover.specs.inside.Progress.{AllFit}
-use Rattle.prover.proofs.searching.enter_all.Given as goal
+use Rattle.prover.proofs.rounds.enter_all.Given as goal
 
 abbrev pub invariant-loop-place : goal.invariant-loop-place
 invariant-loop-place l = record {

@@ -1,0 +1,30 @@
+//! What a search goes by, what it has looked at, and who works on its layers.
+use crate::config::Config;
+use crate::desks::Desks;
+use crate::gate::Gate;
+use area::Scratch;
+use layers::{Parents, Pruner};
+use std::alloc::Global;
+
+/// What a search goes by: the allocator, what leaves positions out, the configuration and the gate.
+#[derive(Drop)]
+pub(crate) struct Terms<'s, G: Gate> {
+    pub(crate) alloc: Global,
+    pub(crate) pruner: &'s Pruner,
+    pub(crate) config: Config,
+    pub(crate) gate: &'s G,
+}
+
+/// The layers that were looked at: the parents of the positions of each, and how many positions they have together.
+#[derive(Drop)]
+pub(crate) struct History {
+    pub(crate) trail: Vec<Parents>,
+    pub(crate) positions: u64,
+}
+
+/// Who works on the layers of a level: the caller in its scratch, and the workers at their desks.
+#[derive(Drop)]
+pub(crate) struct Crew<'a> {
+    pub(crate) scratch: Scratch,
+    pub(crate) desks: Desks<'a>,
+}

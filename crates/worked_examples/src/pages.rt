@@ -1,0 +1,131 @@
+//! The examples on the pages of the crates, at the head of each `lib.rt`. `tests/cited` holds each page to the text here.
+use crate::boards::{CORNER, ONE};
+use crate::books::level_of;
+use area::Scratch;
+use claims::Ledger;
+use crew::{Config, Free};
+use doom::Dead;
+use grid::{Dir, Position, Square, State, Step};
+use layers::{Book, Layer};
+use lurd::Verdict;
+use prices::{Distances, Matching};
+use solo::{Answer, solve_alone};
+use std::slice;
+
+#[test]
+fn page_of_grid(rt: HostRuntime) {
+    let alloc = rt.alloc();
+    let level = level_of(&rt, alloc, ONE);
+    let mut state = State::start(alloc, &level).expect(&rt, "memory");
+    assert_eq!(&rt; state.step(&level, Dir::L), Step::Blocked);
+    assert_eq!(&rt; state.step(&level, Dir::R), Step::Pushed);
+    assert!(&rt; state.is_solved(&level));
+}
+
+#[test]
+fn page_of_counts(rt: HostRuntime) {
+    assert_eq!(&rt; counts::digit_count(b"12#"), 2);
+    assert_eq!(&rt; counts::times(b"12"), Some(12));
+}
+
+#[test]
+fn page_of_xsb(rt: HostRuntime) {
+    let alloc = rt.alloc();
+    let entries = xsb::read(alloc, b"; first\n#####\n#@$.#\n#####\n").expect(&rt, "memory");
+    let [entry] = entries.as_slice() else {
+        panic!(&rt; "one board");
+    };
+    assert_eq!(&rt; entry.name.as_slice(), b"first".as_slice());
+    assert!(&rt; entry.board.is_ok());
+}
+
+#[test]
+fn page_of_lurd(rt: HostRuntime) {
+    let alloc = rt.alloc();
+    let level = level_of(&rt, alloc, ONE);
+    let moves = lurd::parse(alloc, b"R").expect(&rt, "letters");
+    let verdict = lurd::replay(alloc, &level, &moves).expect(&rt, "memory");
+    assert!(&rt;
+        matches!(
+            verdict,
+            Verdict::Solved {
+                pushes: 1,
+                moves: 1
+            }
+        )
+    );
+}
+
+#[test]
+fn page_of_area(rt: HostRuntime) {
+    let alloc = rt.alloc();
+    let level = level_of(&rt, alloc, CORNER);
+    level.tell_start();
+    let start = Position::start(&level).expect(&rt, "few boxes");
+    let mut scratch = Scratch::new(alloc, &level).expect(&rt, "memory");
+    let normal = area::normal(&level, &start, &mut scratch);
+    assert_eq!(&rt; normal.player(), Square(6));
+}
+
+#[test]
+fn page_of_doom(rt: HostRuntime) {
+    let alloc = rt.alloc();
+    let level = level_of(&rt, alloc, CORNER);
+    let dead = Dead::of(alloc, &level).expect(&rt, "memory");
+    assert!(&rt; dead.is_dead(Square(8)));
+    assert!(&rt; !dead.is_dead(Square(7)));
+}
+
+#[test]
+fn page_of_prices(rt: HostRuntime) {
+    let alloc = rt.alloc();
+    let level = level_of(&rt, alloc, CORNER);
+    level.tell_start();
+    let start = Position::start(&level).expect(&rt, "few boxes");
+    let distances = Distances::of(alloc, &level).expect(&rt, "memory");
+    let mut matching = Matching::new();
+    // the box is two pushes from its goal
+    assert!(&rt; distances.needs_more(&start, 1, &mut matching));
+    assert!(&rt; !distances.needs_more(&start, 2, &mut matching));
+}
+
+#[test]
+fn page_of_layers(rt: HostRuntime) {
+    let alloc = rt.alloc();
+    let level = level_of(&rt, alloc, CORNER);
+    let book = Book::of(alloc, level, None, 1_000, 1, 0, 1).expect(&rt, "memory");
+    let layer = Layer::join(alloc, slice::from_ref(&book)).expect(&rt, "memory");
+    assert_eq!(&rt; (layer.number(), layer.len()), (0, 1));
+}
+
+#[test]
+fn page_of_solo(rt: HostRuntime) {
+    let alloc = rt.alloc();
+    let level = level_of(&rt, alloc, CORNER);
+    let answer = solve_alone(alloc, &level, None, 1_000).expect(&rt, "memory");
+    assert!(&rt; matches!(&answer, Answer::Solved { pushes: 2, .. }));
+}
+
+#[test]
+fn page_of_claims(rt: HostRuntime) {
+    let alloc = rt.alloc();
+    let (ledger, mut drawer) = Ledger::new(alloc, 2).expect(&rt, "memory");
+    assert!(&rt; ledger.enrol(&mut drawer, 0));
+    assert_eq!(&rt; ledger.draw(&mut drawer), Some(0));
+    assert_eq!(&rt; ledger.draw(&mut drawer), Some(1));
+    assert_eq!(&rt; ledger.draw(&mut drawer), None);
+}
+
+#[test]
+fn page_of_crew(rt: HostRuntime) {
+    let alloc = rt.alloc();
+    let level = level_of(&rt, alloc, CORNER);
+    let config = Config {
+        workers: 2,
+        locks: 2,
+        limit: 1_000,
+        cap: None,
+    };
+    let answer = crew::solve(&rt, alloc, &level, config, &Free).expect(&rt, "memory");
+    assert!(&rt; matches!(&answer, Answer::Solved { pushes: 2, .. }));
+}
