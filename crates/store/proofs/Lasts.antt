@@ -1,8 +1,9 @@
 -- The last of the origins of what stands open, and what it tells of an offer.
-use Rattle.std.proofs.Common.{◌≡◌, ℕ, zero, suc, ◌<◌, ◌≤◌, Bool, true, false, ◌||◌, not, is_some, List, [], ◌∷◌, length, position, Option, Some, None, refl}
-use Rattle.std.proofs.Common.{sym, ap, subst, ◌∙◌, if◌then◌else◌, arith}
+use Rattle.std.proofs.Common.{◌≡◌, ℕ, zero, suc, ◌+◌, ◌<◌, ◌≤◌, Bool, true, false, cond, ◌||◌, not, is_some, List, [], ◌∷◌, length, position, Option, Some}
+use Rattle.std.proofs.Common.{None, refl, sym, ap, subst, ◌∙◌, if◌then◌else◌, arith}
 use Rattle.std.proofs.lemmas.Option.{same_Some, none-some}
 use Rattle.std.specs.Prelude.{slice_get}
+use Rattle.std.specs.List.{position_or_len}
 use Rattle.std.specs.Cmp.{IsTotalOrder}
 use Rattle.std.specs.declared.cmp.Ordering.{Ordering}
 use Rattle.std.specs.declared.cmp.Ordering.TheVariants.{Less, Equal, Greater}
@@ -114,3 +115,22 @@ less_least a b e = go (origin_cmp push_cmp a b) e
 
 pub other_least : (a b : Origin Push) → false ≡ is_lt (origin_cmp push_cmp a b) → is_gt (origin_cmp push_cmp b a) ≡ false
 other_least a b e = not_greater b a (sym e)
+
+-- ---- where what is there stands
+
+stands_within : (m : Scene) (v : Option (Origin Push)) (es : List Closed) → lookup (same_scene m) es ≡ Some v →
+    position_or_len (same_scene m) (keys_of es) < length (keys_of es)
+stands_within m v [] e = absurd (none-some v e)
+stands_within m v (x ∷ es) e = go (same_scene m x.0) e (stands_within m v es)
+  where
+    go : (b : Bool) → cond b (Some x.1) (lookup (same_scene m) es) ≡ Some v →
+        (lookup (same_scene m) es ≡ Some v → position_or_len (same_scene m) (keys_of es) < length (keys_of es)) →
+        cond (not b) (1 + position_or_len (same_scene m) (keys_of es)) 0 < suc (length (keys_of es))
+    go true f t = omega arith
+    go false f t = omega (arith, t f)
+
+-- a position that has an entry stands where it would be put
+pub stands : (m : Scene) (v : Option (Origin Push)) (es : List Closed) (i : ℕ) → lookup (same_scene m) es ≡ Some v →
+    i ≡ position_or_len (same_scene m) (keys_of es) → position (same_scene m) (keys_of es) ≡ Some i
+stands m v es i e at = ap (λ b. cond b (Some (position_or_len (same_scene m) (keys_of es))) None)
+    (below (position_or_len (same_scene m) (keys_of es)) (length (keys_of es)) (stands_within m v es e)) ∙ ap Some (sym at)

@@ -1,6 +1,6 @@
 //! Offers that enter what stands open, in the map that holds it behind what is closed.
-ghost use Rattle.std.specs.Prelude.{◌≡◌, ℕ, ◌+◌, ◌<◌, ◌≤◌, ◌&&◌, ◌||◌, [], not, is_some, length, fold};
-ghost use Rattle.indexmap.specs.IndexMap.{spare};
+ghost use Rattle.std.specs.Prelude.{◌≡◌, ℕ, ◌+◌, ◌<◌, ◌≤◌, ◌&&◌, ◌||◌, [], IsTrue, Some, false, not, is_some, length, fold};
+ghost use Rattle.indexmap.specs.IndexMap.{insert_entry, spare};
 ghost use Rattle.std.specs.List.{list_any};
 ghost use Rattle.store.specs.Entries.{origin_of, same_scene};
 ghost use Rattle.successors.specs.Shares.{share_of};
@@ -12,34 +12,49 @@ use crate::key::Key;
 use crate::origin::{ClosedOrigin, Origin};
 use grid::{MAX_BOXES, Position};
 use indexmap::IndexMap;
+use indexmap::map::Entry;
 use successors::{Successor, share_of};
 
-// Whether an offer of a position changes nothing: it is closed, or stands open with an origin that is no greater. Those
-// before the start are closed, and no origin of the others comes after the last one, so that mostly no origin is read.
+// Puts an offer of a position into the map by one look-up, unless it changes nothing: the position is closed, or stands open
+// with an origin that is no greater. Says whether it changes nothing. Those before the start are closed, and no origin of the
+// others comes after the last one, so that mostly no origin is read.
 #[inline(always)]
 fn is_kept<const N: usize, const M: usize>(
-    table: &IndexMap<Key<N, M>, ClosedOrigin>,
+    table: &mut IndexMap<Key<N, M>, ClosedOrigin>,
     start: usize,
     last: Origin,
     key: &Key<N, M>,
     origin: Origin,
 ) -> bool
     requires width { (N ≤ MAX_BOXES + 1) × (M ≤ MAX_BOXES + 1) }
-    requires found { IsFound start table.now.entries }
-    requires last { NoneExceed (open_of start table.now.entries) last }
-    ensures { result ≡ keeps (seen_of start table.now.entries) (open_of start table.now.entries) key.now origin }
+    requires room { 0 < spare table.old }
+    requires found { IsFound start table.old.entries }
+    requires last { NoneExceed (open_of start table.old.entries) last }
+    ensures kept { result ≡ keeps (seen_of start table.old.entries) (open_of start table.old.entries) key.now origin }
+    ensures same { IsTrue result → table.new.entries ≡ table.old.entries }
+    ensures put { result ≡ false → table.new.entries ≡ insert_entry same_scene table.old.entries key.now (Some origin) }
+    ensures room { spare table.old ≤ spare table.new + 1 }
 {
-    match table.get_full(key) {
-        None => false,
-        Some((place, _, known)) => {
-            if place < start {
+    match table.entry(key.copy()) {
+        Ok(Entry::Vacant(entry)) => {
+            let _ = entry.insert_entry(ClosedOrigin::of(Some(origin)));
+            false
+        }
+        Ok(Entry::Occupied(mut entry)) => {
+            let known = entry.get();
+            if entry.index() < start {
                 return true;
             }
-            if origin.is_before(last) {
-                return !known.exceeds(origin);
+            if !origin.is_before(last) {
+                return true;
             }
-            true
+            if !known.exceeds(origin) {
+                return true;
+            }
+            let _ = entry.insert(ClosedOrigin::of(Some(origin)));
+            false
         }
+        Err(_) => unreachable!(),
     }
 }
 
@@ -65,7 +80,6 @@ fn enter<const N: usize, const M: usize>(
     if is_kept(table, start, *last, key, origin) {
         return;
     }
-    let _ = table.insert(key.copy(), ClosedOrigin::of(Some(origin)));
     *last = last.later(origin);
 }
 

@@ -1,8 +1,5 @@
-use Rattle.std.proofs.Common.{sym, subst, ◌∙◌}
-use Rattle.indexmap.specs.IndexMap.{insert_entry}
-use Rattle.store.specs.Entries.{same_scene}
+use Rattle.std.proofs.Common.{refl, sym, ap, subst, ◌∙◌}
 use Rattle.store.specs.FoundView.{NoneExceed, seen_of, open_of, let_in}
-use Rattle.store.proofs.lemmas.Offers.{on_ok}
 use Rattle.store.proofs.Lasts.{let_in_last}
 use Rattle.store.proofs.Tails.{joined, let_in_kept, let_in_put}
 use Rattle.store.proofs.entering.enter.Goals as goal
@@ -10,45 +7,42 @@ use Rattle.store.proofs.entering.enter.Goals as goal
 pub returns-then-is_kept-clause-waiting : goal.returns-then-is_kept-clause-waiting
 returns-then-is_kept-clause-waiting g c =
     let start = c.args.start in let es = c.args.table.now.entries in
-    let_in_kept (seen_of start es) (open_of start es) c.args.key.now c.args.origin c.if-is_kept.ensures
+    ap (open_of start) (c.if-is_kept.ensures.same refl) ∙
+    let_in_kept (seen_of start es) (open_of start es) c.args.key.now c.args.origin c.if-is_kept.ensures.kept
 
 pub returns-clause-found : goal.returns-clause-found
 returns-clause-found g c =
     let start = c.args.start in let es = c.args.table.now.entries in
-    let put = on_ok c.insert.result (c.insert.ensures.succeeds c.requires.room) c.insert.ensures.entries ∙
-    (λ i. insert_entry same_scene es (c.copy.ensures i) (c.of.ensures i)) in
-    let all = let_in_put start es c.insert.new.self.entries c.args.key.now c.args.origin c.requires.found c.if-is_kept.ensures put in
-    let parts = joined start es c.insert.new.self.entries
+    let all = let_in_put start es c.is_kept.new.table.entries c.args.key.now c.args.origin c.requires.found c.if-is_kept.ensures.kept
+    (c.if-is_kept.ensures.put refl) in
+    let parts = joined start es c.is_kept.new.table.entries
     (let_in (seen_of start es) (open_of start es) (c.args.key.now, c.args.origin)) c.requires.found.within all in
     parts.2
 
 pub returns-clause-seen : goal.returns-clause-seen
 returns-clause-seen g c =
     let start = c.args.start in let es = c.args.table.now.entries in
-    let put = on_ok c.insert.result (c.insert.ensures.succeeds c.requires.room) c.insert.ensures.entries ∙
-    (λ i. insert_entry same_scene es (c.copy.ensures i) (c.of.ensures i)) in
-    let all = let_in_put start es c.insert.new.self.entries c.args.key.now c.args.origin c.requires.found c.if-is_kept.ensures put in
-    let parts = joined start es c.insert.new.self.entries
+    let all = let_in_put start es c.is_kept.new.table.entries c.args.key.now c.args.origin c.requires.found c.if-is_kept.ensures.kept
+    (c.if-is_kept.ensures.put refl) in
+    let parts = joined start es c.is_kept.new.table.entries
     (let_in (seen_of start es) (open_of start es) (c.args.key.now, c.args.origin)) c.requires.found.within all in
     parts.0
 
 pub returns-clause-waiting : goal.returns-clause-waiting
 returns-clause-waiting g c =
     let start = c.args.start in let es = c.args.table.now.entries in
-    let put = on_ok c.insert.result (c.insert.ensures.succeeds c.requires.room) c.insert.ensures.entries ∙
-    (λ i. insert_entry same_scene es (c.copy.ensures i) (c.of.ensures i)) in
-    let all = let_in_put start es c.insert.new.self.entries c.args.key.now c.args.origin c.requires.found c.if-is_kept.ensures put in
-    let parts = joined start es c.insert.new.self.entries
+    let all = let_in_put start es c.is_kept.new.table.entries c.args.key.now c.args.origin c.requires.found c.if-is_kept.ensures.kept
+    (c.if-is_kept.ensures.put refl) in
+    let parts = joined start es c.is_kept.new.table.entries
     (let_in (seen_of start es) (open_of start es) (c.args.key.now, c.args.origin)) c.requires.found.within all in
     parts.1
 
 pub returns-clause-last : goal.returns-clause-last
 returns-clause-last g c =
     let start = c.args.start in let es = c.args.table.now.entries in
-    let put = on_ok c.insert.result (c.insert.ensures.succeeds c.requires.room) c.insert.ensures.entries ∙
-    (λ i. insert_entry same_scene es (c.copy.ensures i) (c.of.ensures i)) in
-    let all = let_in_put start es c.insert.new.self.entries c.args.key.now c.args.origin c.requires.found c.if-is_kept.ensures put in
-    let parts = joined start es c.insert.new.self.entries
+    let all = let_in_put start es c.is_kept.new.table.entries c.args.key.now c.args.origin c.requires.found c.if-is_kept.ensures.kept
+    (c.if-is_kept.ensures.put refl) in
+    let parts = joined start es c.is_kept.new.table.entries
     (let_in (seen_of start es) (open_of start es) (c.args.key.now, c.args.origin)) c.requires.found.within all in
     subst (λ ws. NoneExceed ws c.later.result) (sym parts.1)
     (let_in_last (seen_of start es) (open_of start es) c.args.key.now c.args.origin c.args.last.now c.later.result c.requires.last c.later.ensures.this

@@ -1,23 +1,69 @@
-use Rattle.std.proofs.Common.{false, sym, ap, not, ltb, ◌||◌, ◌∙◌}
-use Rattle.store.proofs.Lasts.{closed_kept, late_kept}
+use Rattle.std.proofs.Common.{rules, ◌≡◌, None, sym, ap, not, Some, ltb, ◌||◌, ◌∙◌}
+use Rattle.indexmap.specs.Entry.{MatchEntry, entry_index, entry_value}
+use Rattle.std.specs.Map.{lookup, keys_of}
+use Rattle.std.specs.List.{position_or_len}
+use Rattle.store.specs.Entries.{same_scene}
+use Rattle.store.proofs.Lasts.{closed_kept, late_kept, stands}
 use Rattle.store.proofs.Tails.{absent_not_kept, there_kept, not_below}
 use Rattle.store.proofs.entering.is_kept.Goals as goal
-use Rattle.std.proofs.Common.{sym}
 
-pub returns-in-None : goal.returns-in-None
-returns-in-None g c = absent_not_kept c.args.key.now c.args.origin c.args.start c.args.table.now.entries c.requires.found (sym c.in-None.ensures.value)
+pub returns-in-Ok-Vacant-clause-kept : goal.returns-in-Ok-Vacant-clause-kept
+returns-in-Ok-Vacant-clause-kept g c =
+    let es = c.args.table.now.entries in
+    let none = c.in-Ok-Vacant.ensures.found in
+    let there : lookup (same_scene c.copy.result) es ≡ None = search (rules, none) in
+    absent_not_kept c.args.key.now c.args.origin c.args.start es c.requires.found (ap (λ k. lookup (same_scene k) es) (sym c.copy.ensures) ∙ there)
 
-pub returns-then-place-start : goal.returns-then-place-start
-returns-then-place-start g c = closed_kept c.args.key.now c.args.origin c.args.start c.args.table.now.entries c.in-Some.place
-    (sym c.in-Some.ensures.index) c.if-place-start.true
+pub returns-then-index-start-clause-kept : goal.returns-then-index-start-clause-kept
+returns-then-index-start-clause-kept g c =
+    let es = c.args.table.now.entries in
+    let value = c.in-Ok-Occupied.ensures.value in
+    let read = c.get-known.ensures in
+    let there : lookup (same_scene c.copy.result) es ≡ Some c.get-known.result.now = search (rules, value, read) in
+    let here = ap (λ k. lookup (same_scene k) es) (sym c.copy.ensures) ∙ there in
+    let place = c.in-Ok-Occupied.ensures.index in
+    let told = c.index.ensures in
+    let stood : c.index.result ≡ position_or_len (same_scene c.copy.result) (keys_of es) = search (rules, place, told) in
+    let at = stood ∙ ap (λ k. position_or_len (same_scene k) (keys_of es)) c.copy.ensures in
+    closed_kept c.args.key.now c.args.origin c.args.start es c.index.result
+    (stands c.args.key.now c.get-known.result.now es c.index.result here at) c.if-index-start.true
 
-pub returns-then-is_before : goal.returns-then-is_before
-returns-then-is_before g c =
-    ap (λ b. b || not c.exceeds.result) (sym (not_below c.in-Some.place c.args.start c.if-place-start.false))
-    ∙ there_kept c.args.key.now c.args.origin c.args.start c.args.table.now.entries c.requires.found c.in-Some.place c.in-Some.known.now c.exceeds.result
-    (sym c.in-Some.ensures.index) (sym c.in-Some.ensures.value) c.exceeds.ensures
+pub returns-then-not-is_before-clause-kept : goal.returns-then-not-is_before-clause-kept
+returns-then-not-is_before-clause-kept g c =
+    let es = c.args.table.now.entries in
+    let value = c.in-Ok-Occupied.ensures.value in
+    let read = c.get-known.ensures in
+    let there : lookup (same_scene c.copy.result) es ≡ Some c.get-known.result.now = search (rules, value, read) in
+    let here = ap (λ k. lookup (same_scene k) es) (sym c.copy.ensures) ∙ there in
+    late_kept c.args.key.now c.args.origin c.args.start es c.requires.found c.get-known.result.now c.args.last here c.requires.last (sym c.is_before.ensures ∙
+    c.if-not-is_before.true)
 
-pub returns-else-is_before : goal.returns-else-is_before
-returns-else-is_before g c =
-    late_kept c.args.key.now c.args.origin c.args.start c.args.table.now.entries c.requires.found c.in-Some.known.now c.args.last
-    (sym c.in-Some.ensures.value) c.requires.last (sym c.if-is_before.ensures)
+pub returns-then-not-exceeds-clause-kept : goal.returns-then-not-exceeds-clause-kept
+returns-then-not-exceeds-clause-kept g c =
+    let es = c.args.table.now.entries in
+    let value = c.in-Ok-Occupied.ensures.value in
+    let read = c.get-known.ensures in
+    let there : lookup (same_scene c.copy.result) es ≡ Some c.get-known.result.now = search (rules, value, read) in
+    let here = ap (λ k. lookup (same_scene k) es) (sym c.copy.ensures) ∙ there in
+    let place = c.in-Ok-Occupied.ensures.index in
+    let told = c.index.ensures in
+    let stood : c.index.result ≡ position_or_len (same_scene c.copy.result) (keys_of es) = search (rules, place, told) in
+    let at = stood ∙ ap (λ k. position_or_len (same_scene k) (keys_of es)) c.copy.ensures in
+    ap not (sym c.if-not-exceeds.true) ∙ ap (λ b. b || not c.exceeds.result) (sym (not_below c.index.result c.args.start c.if-index-start.false)) ∙
+    there_kept c.args.key.now c.args.origin c.args.start es c.requires.found c.index.result c.get-known.result.now c.exceeds.result
+    (stands c.args.key.now c.get-known.result.now es c.index.result here at) here c.exceeds.ensures
+
+pub returns-else-not-exceeds-clause-kept : goal.returns-else-not-exceeds-clause-kept
+returns-else-not-exceeds-clause-kept g c =
+    let es = c.args.table.now.entries in
+    let value = c.in-Ok-Occupied.ensures.value in
+    let read = c.get-known.ensures in
+    let there : lookup (same_scene c.copy.result) es ≡ Some c.get-known.result.now = search (rules, value, read) in
+    let here = ap (λ k. lookup (same_scene k) es) (sym c.copy.ensures) ∙ there in
+    let place = c.in-Ok-Occupied.ensures.index in
+    let told = c.index.ensures in
+    let stood : c.index.result ≡ position_or_len (same_scene c.copy.result) (keys_of es) = search (rules, place, told) in
+    let at = stood ∙ ap (λ k. position_or_len (same_scene k) (keys_of es)) c.copy.ensures in
+    ap not (sym c.if-not-exceeds.false) ∙ ap (λ b. b || not c.exceeds.result) (sym (not_below c.index.result c.args.start c.if-index-start.false)) ∙
+    there_kept c.args.key.now c.args.origin c.args.start es c.requires.found c.index.result c.get-known.result.now c.exceeds.result
+    (stands c.args.key.now c.get-known.result.now es c.index.result here at) here c.exceeds.ensures
