@@ -122,9 +122,11 @@ impl Choice {
     fn keep_outcome(&mut self, outcome: u8) {
         for square in self.squares.as_slice() {
             if let Some(place) = self.outcomes.get_mut(square.0 as usize) {
+                if *place == 0 {
+                    let _ = self.tried.push(*square);
+                }
                 *place = outcome;
             }
-            let _ = self.tried.push(*square);
         }
     }
 
