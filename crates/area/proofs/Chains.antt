@@ -22,11 +22,6 @@ use Rattle.area.proofs.lemmas.Norms.{area_here}
 use Rattle.area.proofs.lemmas.WordBits.{has_bit-parts, word_bit-not}
 use Rattle.area.proofs.lemmas.WordSets.{passing_within, passing_past, passing_rise}
 
--- a box hangs together with boxes alone
-pub hanging_box : {board : Board} {boxes : Squares} {p q : ℕ} → HangsWith board boxes p q → contains boxes q ≡ true
-hanging_box (itself h) = h
-hanging_box (onto d w h) = h
-
 module _ (board : Board) (boxes : Squares) (clear : (q : ℕ) → contains boxes q ≡ true → is_wall board q ≡ false) where
   -- the squares that are neither walls nor boxes
   pub others : Squares

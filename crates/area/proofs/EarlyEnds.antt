@@ -22,7 +22,7 @@ use Rattle.area.specs.inside.RoomFloods.{AreFree, FindsLeast, is_left, HasSides,
 use Rattle.area.proofs.Gathers.{from_left, from_right, from_above, from_below}
 use Rattle.area.proofs.Widening.{widened_none, widened_then, widened_grows, widened_whole}
 use Rattle.area.proofs.Arrays.{AreBits, bits_next}
-use Rattle.area.proofs.Moving.{moved_bit}
+use Rattle.area.proofs.lemmas.Moving.{moved_bit}
 use Rattle.area.proofs.lemmas.Flooding.{flood_inside, flood_whole, words_enough}
 use Rattle.area.proofs.lemmas.WordBits.{word_bit-and, word_bit-or, word_bit-not, has_bit-at, has_bit-parts, has_bit_inside, square_parts}
 use Rattle.area.proofs.lemmas.WordSets.{bit_take, bit_put, same_test}

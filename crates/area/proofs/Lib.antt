@@ -2,12 +2,10 @@ pub mod lemmas
 pub mod Descents
 pub mod Detours
 pub mod Gathers
-pub mod Moving
 pub mod Nearness
 pub mod Reached
 pub mod Rings
 pub mod Seams
-pub mod Gathered
 pub mod Spreading
 pub mod UnderWay
 pub mod Visiting
@@ -16,5 +14,4 @@ pub mod Arrays
 pub mod Widening
 pub mod EarlyEnds
 pub mod Chains
-pub mod Passes
 pub mod PushLists

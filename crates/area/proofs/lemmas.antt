@@ -4,6 +4,7 @@ pub mod WordBits
 pub mod Norms
 pub mod Pushing
 pub mod Growing
+pub mod Moving
 pub mod Hanging
 pub mod Flooding
 pub mod PushOrder

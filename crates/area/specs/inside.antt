@@ -5,9 +5,7 @@ pub mod Spread
 pub mod Detours
 pub mod Flooding
 pub mod RoomFloods
-pub mod Gathering
 pub mod PushWords
 pub mod Pushable
 pub mod PushLists
 pub mod Written
-pub mod Locking

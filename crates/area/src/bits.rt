@@ -8,27 +8,27 @@ ghost use Rattle.area.specs.Words.{squares_of, word_bit};
 
 use grid::{MAX_SQUARES, Square, WORD_BITS};
 
-// Whether the set has the square.
+/// Whether the set has the square.
 #[inline(always)]
-pub(crate) fn has(words: &[u64], square: Square) -> bool
+pub fn has(words: &[u64], square: Square) -> bool
     ensures { result ≡ has_bit words.now square }
 {
     let place = square.0 as usize / WORD_BITS;
     place < words.len() && ((words[place] >> (square.0 as usize % WORD_BITS)) & 1) == 1
 }
 
-// Puts a square into the set.
+/// Puts a square into the set.
 #[inline(always)]
-pub(crate) fn put(square: Square, words: &mut [u64])
+pub fn put(square: Square, words: &mut [u64])
     requires { square < WORD_BITS * length words.old }
     ensures { (q : ℕ) → has_bit words.new q ≡ (has_bit words.old q || square == q) }
 {
     words[square.0 as usize / WORD_BITS] |= 1 << (square.0 as usize % WORD_BITS);
 }
 
-// Takes a square out of the set.
+/// Takes a square out of the set.
 #[inline(always)]
-pub(crate) fn take_out(square: Square, words: &mut [u64])
+pub fn take_out(square: Square, words: &mut [u64])
     requires { square < WORD_BITS * length words.old }
     ensures { (q : ℕ) → has_bit words.new q ≡ (has_bit words.old q && not (square == q)) }
 {
@@ -119,10 +119,10 @@ pub(crate) fn bit_at(square: Square, place: usize) -> u64
     }
 }
 
-// For each square of a word, whether the set has the square so many numbers before it; none does where there is no such
-// number.
+/// For each square of a word, whether the set has the square so many numbers before it; none does where there is no such
+/// number.
 #[inline(always)]
-pub(crate) fn before(words: &[u64], place: usize, by: usize) -> u64
+pub fn before(words: &[u64], place: usize, by: usize) -> u64
     requires { place < length words.now }
     ensures there { (i j : ℕ) → j < WORD_BITS → i + by ≡ WORD_BITS * place + j → word_bit result j ≡ has_bit words.now i }
     ensures none { (j : ℕ) → j < WORD_BITS → WORD_BITS * place + j < by → word_bit result j ≡ false }
@@ -134,9 +134,9 @@ pub(crate) fn before(words: &[u64], place: usize, by: usize) -> u64
     slid_up(here, low, near)
 }
 
-// For each square of a word, whether the set has the square so many numbers after it.
+/// For each square of a word, whether the set has the square so many numbers after it.
 #[inline(always)]
-pub(crate) fn after(words: &[u64], place: usize, by: usize) -> u64
+pub fn after(words: &[u64], place: usize, by: usize) -> u64
     requires { place < length words.now }
     ensures { (i j : ℕ) → j < WORD_BITS → i ≡ WORD_BITS * place + j + by → word_bit result j ≡ has_bit words.now i }
 {

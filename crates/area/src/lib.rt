@@ -13,11 +13,10 @@
 #![tactic(auto)]
 
 mod after;
-mod bits;
+pub mod bits;
 mod floods;
 mod groups;
 pub mod laws;
-mod locked;
 mod possible;
 mod pushes;
 mod rooms;
@@ -25,7 +24,6 @@ mod route;
 mod scratch;
 mod seeking;
 mod set;
-mod small;
 mod spread;
 #[cfg(test)]
 mod tests;
@@ -33,9 +31,7 @@ mod tests;
 pub use after::normalise_after;
 pub use floods::{flood, normal};
 pub use groups::group;
-pub use locked::{Holds, any_locked, any_locked_with};
 pub use possible::{MAX_PUSHES, possible_pushes};
 pub use route::walk;
 pub use scratch::Scratch;
 pub use set::SquareSet;
-pub use small::locked_after_push;

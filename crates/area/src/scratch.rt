@@ -1,9 +1,16 @@
-ghost use Rattle.std.specs.Prelude.{◌≡◌, ℕ, ◌+◌, ◌<◌, ◌≤◌, true, IfOk, length, slice_index};
+ghost use Rattle.std.specs.Prelude.{◌≡◌, ℕ, ◌+◌, ◌<◌, ◌≤◌, ◌↔◌, true, false, IfOk, length, slice_index};
+ghost use Rattle.std.specs.Borrow.{Lends, sem, Array, u64 as word};
+ghost use Rattle.grid.specs.Board.{is_wall};
+ghost use Rattle.grid.specs.Masks.{has_bit, word_count};
 ghost use Rattle.grid.specs.Squares.{contains};
+ghost use Rattle.area.specs.Groups.{HangsWith};
+ghost use Rattle.area.specs.Words.{squares_of};
+ghost use Rattle.area.specs.contracts.scratch.Scratch.{the_row};
 ghost use Rattle.area.specs.inside.Detours.{IsLeastWith};
 ghost use Rattle.area.specs.inside.Spread.{AreWithin};
 
 use crate::bits::{least_but, least_of};
+use crate::groups::group;
 use crate::set::SquareSet;
 use grid::{Level, MAX_SQUARES, Square};
 use std::alloc::{AllocError, Global};
@@ -77,6 +84,39 @@ impl Scratch {
         ensures { result ≡ contains self.now.boxes square }
     {
         self.boxes.has(square)
+    }
+
+    /// The boxes round which the last flood went, as a set. Nothing is said of it once the memory was lent to another call.
+    pub fn boxes(&self) -> &SquareSet
+        ensures boxes { squares_of result.now ≡ self.now.boxes }
+        ensures size { length result.now ≡ word_count self.now.size }
+    {
+        &self.boxes
+    }
+
+    /// Words of bits for squares aside from the last flood, of just these boxes. They may be written; another call that
+    /// works aside from the last flood does so too.
+    pub fn boxes_aside(&mut self, boxes: &[Square]) -> &mut [u64]
+        requires inside { (q : ℕ) → contains boxes.now q ≡ true → q < self.old.size }
+        ensures* writes_back { sem 𝓛 (Lends the_row (Array word 0) self.entry result (λ w. self.old)) }
+        ensures boxes { (q : ℕ) → has_bit result.now q ≡ contains boxes.now q }
+        ensures size { length result.now ≡ word_count self.old.size }
+    {
+        self.spare.put_all(boxes);
+        self.spare.as_words_mut()
+    }
+
+    /// The same of the boxes that hang together with the one on the square: see [`group`](crate::group).
+    pub fn group_aside(&mut self, level: &Level, boxes: &[Square], square: Square) -> &mut [u64]
+        requires clear { (q : ℕ) → contains boxes.now q ≡ true → is_wall level.now q ≡ false }
+        requires there { contains boxes.now square ≡ true }
+        requires room { self.old.size ≡ length level.now.cells }
+        ensures* writes_back { sem 𝓛 (Lends the_row (Array word 0) self.entry result (λ w. self.old)) }
+        ensures group { (q : ℕ) → (has_bit result.now q ≡ true) ↔ HangsWith level.now boxes.now square q }
+        ensures size { length result.now ≡ word_count self.old.size }
+    {
+        group(level, boxes, square, &mut self.spare_boxes, &mut self.spare);
+        self.spare.as_words_mut()
     }
 
     // The least square that the last flood reached.

@@ -101,9 +101,9 @@ impl SquareSet {
         self.as_words_mut().copy_from_slice(other.as_words());
     }
 
-    // The words of bits: bit i of word k is the square `WORD_BITS * k + i`.
+    /// The words of bits: bit i of word k is the square `WORD_BITS * k + i`.
     #[inline(always)]
-    pub(crate) fn as_words(&self) -> &[u64]
+    pub fn as_words(&self) -> &[u64]
         ensures { result.now ≡ self.now }
     {
         self.words.as_slice()

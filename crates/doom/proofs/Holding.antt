@@ -8,8 +8,8 @@ use Rattle.grid.specs.Board.{Board, next, opposite}
 use Rattle.grid.specs.Masks.{has_bit, word_count}
 use Rattle.grid.proofs.lemmas.Steps.{inside_grid}
 use Rattle.grid.specs.Squares.{Squares, contains}
-use Rattle.area.specs.declared.locked.Holds.{Holds}
-use Rattle.area.specs.inside.Locking.{AreLocked, HaveRoom, IsHeldBy}
+use Rattle.doom.specs.declared.holds.Holds.{Holds}
+use Rattle.doom.specs.inside.Locking.{AreLocked, HaveRoom, IsHeldBy}
 use Rattle.doom.specs.Deadlocks.{IsFrozen, IsHeld}
 use Rattle.doom.specs.inside.Holding.{IsFast, AreFast, AreHolds, IsApart}
 use Rattle.doom.specs.inside.Peeling.{StandInside}

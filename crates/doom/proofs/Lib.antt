@@ -6,3 +6,5 @@ pub mod Pulling
 pub mod Holding
 pub mod Beside
 pub mod Parting
+pub mod Passes
+pub mod Gathered

@@ -2,3 +2,5 @@
 pub mod Holding
 pub mod Peeling
 pub mod Pulling
+pub mod Locking
+pub mod Gathering

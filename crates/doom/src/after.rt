@@ -7,6 +7,8 @@ ghost use Rattle.doom.specs.Deadlocks.{Doomed, IsFrozen};
 ghost use Rattle.doom.specs.Pushed.{AreOthersFrozen, ComeUndoomed, DoomedFrom, IsGroupFrozen};
 
 use crate::dead::Dead;
+use crate::locked::any_locked_with;
+use crate::small::locked_after_push;
 use area::Scratch;
 use grid::{Level, Position, Push, Square};
 
@@ -66,7 +68,7 @@ pub fn push_dooms(
     if dead.is_dead(ahead) {
         return true;
     }
-    match area::locked_after_push(level, dead.holds(), square, ahead, scratch) {
+    match locked_after_push(level, dead.holds(), square, ahead, scratch) {
         Some(locked) => locked,
         None => doomed_after(level, dead, position, Push { square, dir }, scratch),
     }
@@ -108,5 +110,5 @@ fn is_group_frozen(
     ensures others { (members : Squares) → IsFrozen level.now boxes.now members → IsTrue result ⊎ AreOthersFrozen level.now boxes.now square }
     ensures kept { scratch.new ≡ scratch.old }
 {
-    area::any_locked_with(level, dead.holds(), boxes, square, scratch)
+    any_locked_with(level, dead.holds(), boxes, square, scratch)
 }

@@ -4,9 +4,8 @@ ghost use Rattle.doom.specs.Deadlocks.{IsDead};
 ghost use Rattle.doom.specs.Lost.{LosesBox};
 ghost use Rattle.doom.specs.inside.Holding.{IsFast, AreHolds};
 
-use crate::holds::holds_of;
+use crate::holds::{Holds, holds_of};
 use crate::pulls::live_flags;
-use area::Holds;
 use grid::{Level, Square};
 use std::alloc::{AllocError, Global};
 use std::marker::Model;

@@ -6,6 +6,7 @@ ghost use Rattle.doom.specs.Lost.{AreLost};
 ghost use Rattle.doom.specs.inside.Peeling.{StandInside};
 
 use crate::dead::Dead;
+use crate::locked::any_locked;
 use area::Scratch;
 use grid::{Level, Position, Square};
 
@@ -39,5 +40,5 @@ fn any_frozen(level: &Level, dead: &Dead, boxes: &[Square], scratch: &mut Scratc
     ensures frozen { IsTrue result ↔ ((members : Squares) × IsFrozen level.now boxes.now members) }
     ensures kept { scratch.new ≡ scratch.old }
 {
-    area::any_locked(level, dead.holds(), boxes, scratch)
+    any_locked(level, dead.holds(), boxes, scratch)
 }

@@ -2,9 +2,20 @@ ghost use Rattle.std.specs.Prelude.{◌≡◌, ◌<◌, ◌↔◌, IsTrue, IfOk,
 ghost use Rattle.doom.specs.inside.Pulling.{AreLiveFlags, is_marked};
 ghost use Rattle.doom.specs.inside.Holding.{IsFast, AreFast, AreGoals, AreHolds};
 
-use area::{Holds, SquareSet};
+use area::SquareSet;
 use grid::{Dir, Level, Square};
 use std::alloc::{AllocError, Global};
+
+/// Where boxes of a level are held whatever other boxes there are, and where they may be.
+#[derive(Debug, Drop)]
+pub struct Holds {
+    /// The squares on which a box is held on the axis across.
+    pub across: SquareSet,
+    /// The squares on which a box is held on the axis along.
+    pub along: SquareSet,
+    /// The squares on which a box may be held.
+    pub goals: SquareSet,
+}
 
 /// Where walls or dead squares alone hold a box on each axis, and the goals. The only error is that memory was refused.
 pub(crate) fn holds_of(alloc: Global, level: &Level, live: &[bool]) -> Result<Holds, AllocError>

@@ -16,8 +16,10 @@ mod dead;
 mod freeze;
 mod holds;
 pub mod laws;
+mod locked;
 mod loose;
 mod pulls;
+mod small;
 #[cfg(test)]
 mod tests;
 
@@ -25,4 +27,7 @@ pub use after::{doomed_after, push_dooms};
 pub use bound::Bound;
 pub use dead::Dead;
 pub use freeze::doomed;
+pub use holds::Holds;
+pub use locked::{any_locked, any_locked_with};
 pub use loose::is_loose;
+pub use small::locked_after_push;

@@ -4,7 +4,7 @@ use Rattle.grid.specs.declared.dir.Dir.{Dir}
 use Rattle.grid.specs.declared.dir.Dir.TheVariants.{D, R}
 use Rattle.grid.specs.Board.{Board, is_goal, next, opposite}
 use Rattle.grid.specs.Masks.{has_bit, word_count}
-use Rattle.area.specs.declared.locked.Holds.{Holds}
+use Rattle.doom.specs.declared.holds.Holds.{Holds}
 use Rattle.doom.specs.Deadlocks.{IsHeld}
 
 -- a wall, or two dead squares, hold a box on the square on the axis of d

@@ -3,7 +3,7 @@ use Rattle.area.proofs.lemmas.Flooding.{words_enough, words_few, area_seen, norm
 use Rattle.area.proofs.lemmas.Norms.{area_here}
 use Rattle.grid.specs.Masks.{word_count}
 use Rattle.area.specs.Reach.{Reach}
-use Rattle.area.proofs.Moving.{moved_boxes}
+use Rattle.area.proofs.lemmas.Moving.{moved_boxes}
 use Rattle.area.proofs.after.least_aside.Goals as goal
 
 pub least_of-requires-clause-some : goal.least_of-requires-clause-some

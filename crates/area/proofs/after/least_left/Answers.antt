@@ -6,7 +6,7 @@ use Rattle.grid.specs.Squares.{Squares, insert, remove}
 use Rattle.area.specs.Words.{squares_of}
 use Rattle.area.specs.Reach.{Reach}
 use Rattle.area.proofs.lemmas.WordSets.{listed}
-use Rattle.area.proofs.Moving.{moved_boxes}
+use Rattle.area.proofs.lemmas.Moving.{moved_boxes}
 use Rattle.area.proofs.after.least_left.Goals as goal
 
 pub least_of-requires-clause-some : goal.least_of-requires-clause-some

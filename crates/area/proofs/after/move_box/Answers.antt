@@ -1,4 +1,4 @@
-use Rattle.area.proofs.Moving.{moved_bit}
+use Rattle.area.proofs.lemmas.Moving.{moved_bit}
 use Rattle.area.proofs.after.move_box.Goals as goal
 
 pub returns-clause-moved : goal.returns-clause-moved

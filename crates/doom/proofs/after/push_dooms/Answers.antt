@@ -4,7 +4,7 @@ use Rattle.grid.specs.Board.{Board, next}
 use Rattle.grid.specs.Squares.{Squares, contains, insert, remove}
 use Rattle.grid.proofs.lemmas.Squares.{contains-insert_here}
 use Rattle.grid.proofs.lemmas.Steps.{inside_grid}
-use Rattle.area.specs.inside.Locking.{TellsLocked}
+use Rattle.doom.specs.inside.Locking.{TellsLocked}
 use Rattle.doom.specs.Deadlocks.{IsDead}
 use Rattle.doom.specs.Pushed.{DoomedFrom}
 use Rattle.doom.specs.inside.Holding.{AreHolds}

@@ -1,7 +1,0 @@
-use Rattle.std.proofs.Common.{◌≡◌, ℕ, ◌<◌, get_or}
-use Rattle.std.specs.Int.{bit_not, w64}
-use Rattle.std.specs.Int.RustNames.{bit_and}
-use Rattle.area.proofs.locked.is_other_word.Given as goal
-
-abbrev pub invariant-loop-place : goal.invariant-loop-place
-invariant-loop-place l = (k : ℕ) → k < l.place → bit_and (get_or l.members k 0) (bit_not w64 (get_or l.others k 0)) ≡ 0

@@ -1,5 +1,0 @@
-use Rattle.area.proofs.Passes.{IsPassOver, IsPlaceOf}
-use Rattle.area.proofs.locked.peel_boxes.Given as goal
-
-abbrev pub invariant-loop-square : goal.invariant-loop-square
-invariant-loop-square l = IsPassOver l.holds l.cols (IsPlaceOf l.boxes l.square-index) l.fn.members l.members l.went

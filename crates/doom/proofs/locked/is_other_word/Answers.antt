@@ -1,0 +1,20 @@
+use Rattle.std.proofs.Common.{arith, refl}
+use Rattle.std.proofs.lemmas.Bool.{false≢true}
+use Rattle.doom.proofs.Passes.{other_there, other_nowhere}
+use Rattle.doom.proofs.locked.is_other_word.Goals as goal
+
+pub returns-then-members-place-ne0 : goal.returns-then-members-place-ne0
+returns-then-members-place-ne0 c =
+    let members_fit = c.type_inv.members c.loop-place.place in
+    let others_fit = c.type_inv.others c.loop-place.place in (
+      λ _. other_there c.args.members.now c.args.others.now c.loop-place.place (omega (arith, members_fit))
+          (omega (arith, others_fit)) c.if-members-place-ne0.true,
+      λ _. refl,
+    )
+
+pub returns : goal.returns
+returns c = (
+  λ yes. absurd (false≢true yes),
+  λ (q, here, off). absurd (other_nowhere c.args.members.now c.args.others.now c.loop-place.place q c.loop-place-test.false
+      (λ k. (let fit = c.type_inv.others k in omega (arith, fit))) c.loop-place.invariant here off),
+)

@@ -1,0 +1,153 @@
+//! Locked boxes after a push in rooms of few words, where sets of squares stand in registers.
+ghost use Rattle.std.specs.Prelude.{◌≡◌, ℕ, ◌*◌, ◌<◌, ◌≤◌, IfSome, true, false, length};
+ghost use Rattle.grid.specs.Masks.{has_bit, word_count};
+ghost use Rattle.grid.specs.Squares.{Squares, contains, insert, remove};
+ghost use Rattle.area.specs.Words.{squares_of};
+ghost use Rattle.doom.specs.inside.Gathering.{AreJoined, IsGathered, IsJoined};
+ghost use Rattle.doom.specs.inside.Locking.{AreLocked, HaveRoom, TellsLocked};
+
+use crate::holds::Holds;
+use crate::locked::{held, is_other_word, peel_words};
+use area::Scratch;
+use area::bits::{put, take_out};
+use grid::{Level, Square, WORD_BITS};
+
+/// The greatest number of words that a small room has.
+const MOST_WORDS: usize = 4;
+
+/// Whether some of the boxes are locked once one of them was pushed from one square to another, where of the boxes round
+/// which the last flood went none were. Only boxes that hang together with the pushed one are asked, and the search ends as
+/// soon as nothing holds that one. `None` where the room is too large for that. Takes no memory.
+pub fn locked_after_push(
+    level: &Level,
+    holds: &Holds,
+    from: Square,
+    to: Square,
+    scratch: &Scratch,
+) -> Option<bool>
+    requires from { from < length level.now.cells }
+    requires to { to < length level.now.cells }
+    requires holds { HaveRoom holds.now (word_count (length level.now.cells)) }
+    requires room { scratch.now.size ≡ length level.now.cells }
+    requires loose { (part : Squares) → ¬ (AreLocked holds.now level.now.cols scratch.now.boxes part) }
+    ensures { IfSome result (λ told. TellsLocked holds.now level.now.cols (insert (remove scratch.now.boxes from) to) told) }
+{
+    let cols = level.cols();
+    let boxes = scratch.boxes().as_words();
+    if cols >= WORD_BITS {
+        return None;
+    }
+    match boxes.len() {
+        1 => Some(is_locked::<1>(holds, cols, from, to, boxes)),
+        2 => Some(is_locked::<2>(holds, cols, from, to, boxes)),
+        3 => Some(is_locked::<3>(holds, cols, from, to, boxes)),
+        4 => Some(is_locked::<4>(holds, cols, from, to, boxes)),
+        _ => None,
+    }
+}
+
+// The same where the boxes stand in so many words, and the columns are so many.
+fn is_locked<const W: usize>(
+    holds: &Holds,
+    cols: usize,
+    from: Square,
+    to: Square,
+    boxes: &[u64],
+) -> bool
+    requires few { W ≤ MOST_WORDS }
+    requires narrow { cols < WORD_BITS }
+    requires words { length boxes.now ≡ W }
+    requires from { from < WORD_BITS * W }
+    requires to { to < WORD_BITS * W }
+    requires holds { HaveRoom holds.now W }
+    requires loose { (part : Squares) → ¬ (AreLocked holds.now cols (squares_of boxes.now) part) }
+    ensures { TellsLocked holds.now cols (insert (remove (squares_of boxes.now) from) to) result }
+{
+    // known to be less than a word has bits, so that no word but the next is looked at
+    let cols = cols % WORD_BITS;
+    let mut moved = [0; W];
+    moved.copy_from_slice(boxes);
+    take_out(from, &mut moved);
+    put(to, &mut moved);
+    let mut pushed = [0; W];
+    put(to, &mut pushed);
+    let mut members = pushed;
+    gather(holds, cols, &moved, &mut members);
+    has_locked_round(holds, cols, &pushed, &mut members)
+}
+
+// Adds to some of the boxes the others that hang together with them by way of boxes that are held on both axes.
+#[inline(always)]
+fn gather<const W: usize>(holds: &Holds, cols: usize, boxes: &[u64; W], members: &mut [u64; W])
+    requires few { W ≤ MOST_WORDS }
+    requires holds { HaveRoom holds.now W }
+    ensures { AreJoined holds.now cols boxes.now members.old members.new }
+{
+    while gather_words(holds, cols, boxes, members) {}
+}
+
+// Looks at each word once, and adds the boxes beside the members that are held on both axes; says whether one came.
+#[inline(always)]
+fn gather_words<const W: usize>(
+    holds: &Holds,
+    cols: usize,
+    boxes: &[u64; W],
+    members: &mut [u64; W],
+) -> bool
+    requires few { W ≤ MOST_WORDS }
+    requires holds { HaveRoom holds.now W }
+    ensures { IsGathered holds.now cols W boxes.now members.old members.new result }
+{
+    let mut grew = false;
+    for place in 0..W {
+        grew |= gather_word(holds, cols, boxes, members, place);
+    }
+    grew
+}
+
+// Adds to one word the boxes beside the members that are held on both axes; says whether one came.
+#[inline(always)]
+fn gather_word(holds: &Holds, cols: usize, boxes: &[u64], members: &mut [u64], place: usize) -> bool
+    requires inside { place < length members.old }
+    requires room { length boxes.now ≡ length members.old }
+    requires holds { HaveRoom holds.now (length members.old) }
+    ensures { IsJoined holds.now cols place boxes.now members.old members.new result }
+{
+    let old = members[place];
+    let near = held(members, members, place, 1) | held(members, members, place, cols);
+    let across = held(holds.across.as_words(), boxes, place, 1);
+    let along = held(holds.along.as_words(), boxes, place, cols);
+    let new = old | (((near & boxes[place]) & across) & along);
+    members[place] = new;
+    new != old
+}
+
+// Whether some squares of the set are locked, where none are without one of another set.
+#[inline(always)]
+fn has_locked_round(holds: &Holds, cols: usize, pushed: &[u64], members: &mut [u64]) -> bool
+    requires holds { HaveRoom holds.now (length members.old) }
+    requires room { length pushed.now ≡ length members.old }
+    requires round { (part : Squares) → AreLocked holds.now cols (squares_of members.old) part →
+        (q : ℕ) × (has_bit pushed.now q ≡ true) × (contains part q ≡ true) }
+    ensures { TellsLocked holds.now cols (squares_of members.old) result }
+{
+    while peel_words(holds, cols, members) {
+        if !meets(pushed, members) {
+            return false;
+        }
+    }
+    is_other_word(members, holds.goals.as_words())
+}
+
+// Whether two sets have a square in common.
+#[inline(always)]
+fn meets(few: &[u64], more: &[u64]) -> bool
+    requires { length few.now ≡ length more.now }
+    ensures { result ≡ false → (q : ℕ) → has_bit few.now q ≡ true → has_bit more.now q ≡ false }
+{
+    let mut met = false;
+    for place in 0..few.len() {
+        met |= (few[place] & more[place]) != 0;
+    }
+    met
+}
