@@ -1,8 +1,10 @@
 -- Floods over one set of free squares, by their numbers: visits to words, rounds of them, and what they find on a board.
-use Rattle.std.proofs.Common.{◌≡◌, ◌≢◌, ℕ, ◌+◌, ◌-◌, ◌*◌, ◌/◌, ◌%◌, ◌^◌, ◌<◌, ◌≤◌, Bool, true, false, not, eqb, ◌&&◌, ◌||◌, ◌⊎◌, ◌↔◌, List, length, get_or, set, inl, inr, refl, sym, ap, subst, ◌∙◌, arith}
+use Rattle.std.proofs.Common.{◌≡◌, ◌≢◌, ℕ, ◌+◌, ◌-◌, ◌*◌, ◌/◌, ◌%◌, ◌^◌, ◌<◌, ◌≤◌, Bool, true, false, not, eqb, ◌&&◌, ◌||◌, ◌⊎◌, ◌↔◌, List, length, get_or}
+use Rattle.std.proofs.Common.{set, inl, inr, refl, sym, ap, subst, ◌∙◌, arith}
 use Rattle.std.specs.Int.{bit_not, w64}
 use Rattle.std.specs.Int.RustNames.{bit_and, bit_or}
-use Rattle.std.proofs.lemmas.Bool.{cases_Bool, cases_lt, cases_eq, and_parts, and_from, not-true, not_from_false, eqb-true, eqb-false, or_cases, true≢false, false≢true}
+use Rattle.std.proofs.lemmas.Bool.{cases_Bool, cases_lt, cases_eq, and_parts, and_from, not-true, not_from_false, eqb-true, eqb-false, or_cases, true≢false}
+use Rattle.std.proofs.lemmas.Bool.{false≢true}
 use Rattle.std.proofs.lemmas.List.{get_or-set_same, get_or-set_other, length-set, ext_get_or}
 use Rattle.std.proofs.lemmas.List.Sums.{sum_by-set}
 use Rattle.std.proofs.lemmas.Nat.{le_or_l}
@@ -64,8 +66,12 @@ beside_bits words cols q j a b d e left none_left right up none_up down = (there
     back w = from w.0 w.1 w.2
 
 -- runs to the right, and then steps to the left
-pub grown_along : (word right left last free : ℕ) → IsGrown word right (λ test. PassesUp test 1 free) → IsGrown right left (λ test. PassesDown test 1 free) → IsGrown left last (λ test. PassesDown test 1 free) → IsGrown word last (λ test. PassesAlong test free)
-grown_along word right left last free r l m = grown_then word right last P (grown_by word right (λ test. PassesUp test 1 free) P (λ test pass. pass.on_right) r) (grown_then right left last P (grown_by right left (λ test. PassesDown test 1 free) P (λ test pass. pass.on_left) l) (grown_by left last (λ test. PassesDown test 1 free) P (λ test pass. pass.on_left) m))
+pub grown_along : (word right left last free : ℕ) → IsGrown word right (λ test. PassesUp test 1 free) → IsGrown right left (λ test. PassesDown test 1 free) →
+    IsGrown left last (λ test. PassesDown test 1 free) → IsGrown word last (λ test. PassesAlong test free)
+grown_along word right left last free r l m = grown_then word right last P
+    (grown_by word right (λ test. PassesUp test 1 free) P (λ test pass. pass.on_right) r)
+    (grown_then right left last P (grown_by right left (λ test. PassesDown test 1 free) P (λ test pass. pass.on_left) l)
+    (grown_by left last (λ test. PassesDown test 1 free) P (λ test pass. pass.on_left) m))
   where
     P : (ℕ → Bool) → Type 0
     P = λ test. PassesAlong test free
@@ -84,14 +90,17 @@ widened_then cols free a b c g h = record {
 -- where a word is written over with itself, nothing changes
 pub set_itself : (words : List ℕ) (place word : ℕ) → word ≡ get_or words place 0 → set words place word ≡ words
 set_itself words place word same = ext_get_or 0 (set words place word) words (length-set words place word) (λ k lt. elim (cases_eq k place) [
-  | inl e ↦ ap (λ (x : ℕ). get_or (set words place word) x 0) e ∙ (get_or-set_same words place word 0 (let z = length-set words place word in omega (arith, z, e, lt)) ∙ (same ∙ ap (λ (x : ℕ). get_or words x 0) (sym e)))
+  | inl e ↦ ap (λ (x : ℕ). get_or (set words place word) x 0) e ∙
+      (get_or-set_same words place word 0 (let z = length-set words place word in omega (arith, z, e, lt)) ∙ (same ∙ ap (λ (x : ℕ). get_or words x 0) (sym e)))
   | inr ne ↦ get_or-set_other words place k word 0 ne
 ])
 
 -- a word of free numbers passes a test on within it as the set of free numbers does
 module _ (cols : ℕ) (free : List ℕ) (place : ℕ) (fits : get_or free place 0 < 2 ^ 64) (test : ℕ → Bool) (passes : PassesOver cols free test) where
-  onto : (i j : ℕ) → IsBeside cols (WORD_BITS * place + i) (WORD_BITS * place + j) → word_bit (get_or free place 0) j ≡ true → test (WORD_BITS * place + i) ≡ true → test (WORD_BITS * place + j) ≡ true
-  onto i j near bit old = passes (WORD_BITS * place + i) (WORD_BITS * place + j) near (has_bit-at free place j (word_bit_inside (get_or free place 0) j fits bit) ∙ bit) old
+  onto : (i j : ℕ) → IsBeside cols (WORD_BITS * place + i) (WORD_BITS * place + j) → word_bit (get_or free place 0) j ≡ true →
+      test (WORD_BITS * place + i) ≡ true → test (WORD_BITS * place + j) ≡ true
+  onto i j near bit old = passes (WORD_BITS * place + i) (WORD_BITS * place + j) near
+      (has_bit-at free place j (word_bit_inside (get_or free place 0) j fits bit) ∙ bit) old
 
   pub along : PassesAlong (λ j. test (WORD_BITS * place + j)) (get_or free place 0)
   along = record {
@@ -110,17 +119,20 @@ module _ (cols : ℕ) (free : List ℕ) (place : ℕ) (fits : get_or free place 
 -- ---- a visit
 
 -- where a word has each of its free numbers, it is full
-pub visit_full : (cols : ℕ) (free old : List ℕ) (place : ℕ) → bit_or (get_or old place 0) (get_or free place 0) ≡ get_or old place 0 → IsVisit cols free place old old false
+pub visit_full : (cols : ℕ) (free old : List ℕ) (place : ℕ) → bit_or (get_or old place 0) (get_or free place 0) ≡ get_or old place 0 →
+    IsVisit cols free place old old false
 visit_full cols free old place same = record {
   widened = widened_none cols free old;
   others = λ k ne. refl;
   less = λ h. absurd (false≢true h);
   same = λ h. refl;
   full = λ h p j lt near vacant there.
-      has_bit-at old place j lt ∙ (ap (λ (w : ℕ). word_bit w j) (sym same) ∙ bit_or_right (get_or old place 0) (get_or free place 0) j (sym (has_bit-at free place j lt) ∙ vacant));
+      has_bit-at old place j lt ∙ (ap (λ (w : ℕ). word_bit w j) (sym same) ∙
+      bit_or_right (get_or old place 0) (get_or free place 0) j (sym (has_bit-at free place j lt) ∙ vacant));
 }
 
-module _ (cols : ℕ) (free old : List ℕ) (place came : ℕ) (inside : place < length old) (old_fits : get_or old place 0 < 2 ^ 64) (free_fits : get_or free place 0 < 2 ^ 64)
+module _ (cols : ℕ) (free old : List ℕ) (place came : ℕ) (inside : place < length old) (old_fits : get_or old place 0 < 2 ^ 64)
+    (free_fits : get_or free place 0 < 2 ^ 64)
     (bits : (j : ℕ) → j < WORD_BITS → (word_bit came j ≡ true) ↔ ((p : ℕ) × IsBeside cols p (WORD_BITS * place + j) × (has_bit old p ≡ true))) where
   abbrev pub first_bits : ℕ
   first_bits = bit_or (get_or old place 0) (bit_and came (get_or free place 0))
@@ -129,7 +141,8 @@ module _ (cols : ℕ) (free old : List ℕ) (place came : ℕ) (inside : place <
   still_full same p j lt near vacant there =
       has_bit-at old place j lt
       ∙ (ap (λ (w : ℕ). word_bit w j) (sym same)
-      ∙ bit_or_right (get_or old place 0) (bit_and came (get_or free place 0)) j (bit_and_from came (get_or free place 0) j ((bits j lt).1 (p, near, there)) (sym (has_bit-at free place j lt) ∙ vacant)))
+      ∙ bit_or_right (get_or old place 0) (bit_and came (get_or free place 0)) j
+      (bit_and_from came (get_or free place 0) j ((bits j lt).1 (p, near, there)) (sym (has_bit-at free place j lt) ∙ vacant)))
 
   -- where a visit adds nothing to a word, it is full
   pub visit_still : first_bits ≡ get_or old place 0 → IsVisit cols free place old old false
@@ -152,16 +165,21 @@ module _ (cols : ℕ) (free old : List ℕ) (place came : ℕ) (inside : place <
         passes w.0 (WORD_BITS * place + j) w.1 (has_bit-at free place j lt ∙ p.1) (all w.0 w.2))
   ]
 
-  module _ (filled : ℕ) (Passes : (ℕ → Bool) → Type 0) (fits : filled < 2 ^ 64) (weaker : (test : ℕ → Bool) → PassesOver cols free test → Passes (λ j. test (WORD_BITS * place + j))) (grown : IsGrown first_bits filled Passes) where
+  module _ (filled : ℕ) (Passes : (ℕ → Bool) → Type 0) (fits : filled < 2 ^ 64) (weaker : (test : ℕ → Bool) → PassesOver cols free test →
+      Passes (λ j. test (WORD_BITS * place + j))) (grown : IsGrown first_bits filled Passes) where
     -- a number's bit is of the word that was written, or as before
-    bit_now : (q : ℕ) → (q / WORD_BITS ≡ place) × (has_bit (set old place filled) q ≡ word_bit filled (q % WORD_BITS)) × (has_bit old q ≡ word_bit (get_or old place 0) (q % WORD_BITS)) ⊎ (has_bit (set old place filled) q ≡ has_bit old q)
+    bit_now : (q : ℕ) → (q / WORD_BITS ≡ place) × (has_bit (set old place filled) q ≡ word_bit filled (q % WORD_BITS)) ×
+        (has_bit old q ≡ word_bit (get_or old place 0) (q % WORD_BITS)) ⊎ (has_bit (set old place filled) q ≡ has_bit old q)
     bit_now q = elim (cases_eq (q / WORD_BITS) place) [
       | inl at ↦ inl (
         at,
-        has_bit-parts (set old place filled) q ∙ (ap (λ (k : ℕ). word_bit (get_or (set old place filled) k 0) (q % WORD_BITS)) at ∙ ap (λ (w : ℕ). word_bit w (q % WORD_BITS)) (get_or-set_same old place filled 0 inside)),
+        has_bit-parts (set old place filled) q ∙
+            (ap (λ (k : ℕ). word_bit (get_or (set old place filled) k 0) (q % WORD_BITS)) at ∙
+            ap (λ (w : ℕ). word_bit w (q % WORD_BITS)) (get_or-set_same old place filled 0 inside)),
         has_bit-parts old q ∙ ap (λ (k : ℕ). word_bit (get_or old k 0) (q % WORD_BITS)) at,
       )
-      | inr ne ↦ inr (has_bit-parts (set old place filled) q ∙ (ap (λ (w : ℕ). word_bit w (q % WORD_BITS)) (get_or-set_other old place (q / WORD_BITS) filled 0 ne) ∙ sym (has_bit-parts old q)))
+      | inr ne ↦ inr (has_bit-parts (set old place filled) q ∙
+          (ap (λ (w : ℕ). word_bit w (q % WORD_BITS)) (get_or-set_other old place (q / WORD_BITS) filled 0 ne) ∙ sym (has_bit-parts old q)))
     ]
 
     widens : IsWidened cols free old (set old place filled)
@@ -174,7 +192,8 @@ module _ (cols : ℕ) (free old : List ℕ) (place came : ℕ) (inside : place <
       sound = λ test passes all q h. elim (bit_now q) [
         | inl now ↦
             (let at : WORD_BITS * place + q % WORD_BITS ≡ q = (let p = now.0 in omega arith) in
-            sym (ap test at) ∙ grown.sound (λ j. test (WORD_BITS * place + j)) (weaker test passes) (first_pass test passes all) (q % WORD_BITS) (sym now.1 ∙ h))
+            sym (ap test at) ∙ grown.sound (λ j. test (WORD_BITS * place + j)) (weaker test passes) (first_pass test passes all) (q % WORD_BITS)
+            (sym now.1 ∙ h))
         | inr same ↦ all q (sym same ∙ h)
       ];
     }
@@ -192,7 +211,8 @@ module _ (cols : ℕ) (free old : List ℕ) (place came : ℕ) (inside : place <
     visit_grown more = record {
       widened = widens;
       others = λ k ne. get_or-set_other old place k filled 0 ne;
-      less = λ h. shrinks (λ e. more (let first = le_or_l (get_or old place 0) (bit_and came (get_or free place 0)) in let last = grown.most in omega (arith, first, last, e)));
+      less = λ h. shrinks (λ e. more (let first = le_or_l (get_or old place 0) (bit_and came (get_or free place 0)) in let last = grown.most in
+          omega (arith, first, last, e)));
       same = λ h. absurd (true≢false h);
       full = λ h. absurd (true≢false h);
     }
@@ -204,7 +224,8 @@ module _ (cols : ℕ) (free old : List ℕ) (place came : ℕ) (inside : place <
       others = λ k ne. get_or-set_other old place k filled 0 ne;
       less = λ h. shrinks (eqb-false filled (get_or old place 0) (not-true (eqb filled (get_or old place 0)) h));
       same = λ h. set_itself old place filled (even h);
-      full = λ h. still_full (let first = le_or_l (get_or old place 0) (bit_and came (get_or free place 0)) in let last = grown.most in let e = even h in omega (arith, first, last, e));
+      full = λ h. still_full (let first = le_or_l (get_or old place 0) (bit_and came (get_or free place 0)) in let last = grown.most in let e = even h in
+          omega (arith, first, last, e));
     }
       where
         even : not (eqb filled (get_or old place 0)) ≡ false → filled ≡ get_or old place 0
@@ -228,7 +249,8 @@ either_none : (a b : Bool) → (a || b) ≡ false → (a ≡ false) × (b ≡ fa
 either_none true b h = absurd (true≢false h)
 either_none false b h = (refl, h)
 
-pub passing_next : (cols : ℕ) (free : List ℕ) (place : ℕ) (old now new : List ℕ) (grew more : Bool) → IsPassing cols free place old now grew → IsVisit cols free place now new more → IsPassing cols free (place + 1) old new (grew || more)
+pub passing_next : (cols : ℕ) (free : List ℕ) (place : ℕ) (old now new : List ℕ) (grew more : Bool) → IsPassing cols free place old now grew →
+    IsVisit cols free place now new more → IsPassing cols free (place + 1) old new (grew || more)
 passing_next cols free place old now new grew more f v = record {
   widened = widened_then cols free old now new f.widened v.widened;
   less = λ h. elim (or_cases grew more h) [
@@ -240,7 +262,8 @@ passing_next cols free place old now new grew more f v = record {
       (let n = either_none grew more h in
       elim (cases_lt k place) [
         | inl early ↦ f.full n.0 k early
-        | inr late ↦ subst (λ (x : ℕ). IsFull cols free x old) (let e : place ≡ k = omega (arith, late, lt) in e) (subst (λ (ws : List ℕ). IsFull cols free place ws) (f.same n.0) (v.full n.1))
+        | inr late ↦ subst (λ (x : ℕ). IsFull cols free x old) (let e : place ≡ k = omega (arith, late, lt) in
+            e) (subst (λ (ws : List ℕ). IsFull cols free place ws) (f.same n.0) (v.full n.1))
       ]);
 }
   where
@@ -252,7 +275,8 @@ passing_next cols free place old now new grew more f v = record {
     before true e = (let l = f.less e in omega (arith, l))
     before false e = (let l = ap room_left (f.same e) in omega (arith, l))
 
-pub passing_last : (cols : ℕ) (free : List ℕ) (place : ℕ) (old new : List ℕ) (grew : Bool) → length free ≤ place → IsPassing cols free place old new grew → IsRound cols free old new grew
+pub passing_last : (cols : ℕ) (free : List ℕ) (place : ℕ) (old new : List ℕ) (grew : Bool) → length free ≤ place → IsPassing cols free place old new grew →
+    IsRound cols free old new grew
 passing_last cols free place old new grew all f = record {
   widened = f.widened;
   less = f.less;
@@ -268,7 +292,8 @@ passing_last cols free place old new grew all f = record {
 
 -- ---- visits that go back
 
-pub widening_on : (cols : ℕ) (free old now new : List ℕ) (place : ℕ) (grew : Bool) → IsWidening cols free place old now → IsVisit cols free place now new grew → grew ≡ false → IsWidening cols free (place + 1) old new
+pub widening_on : (cols : ℕ) (free old now new : List ℕ) (place : ℕ) (grew : Bool) → IsWidening cols free place old now →
+    IsVisit cols free place now new grew → grew ≡ false → IsWidening cols free (place + 1) old new
 widening_on cols free old now new place grew f v even = record {
   widened = widened_then cols free old now new f.widened v.widened;
   full = λ k lt. subst (λ (ws : List ℕ). IsFull cols free k ws) (sym (v.same even)) (elim (cases_lt k place) [
@@ -278,10 +303,12 @@ widening_on cols free old now new place grew f v even = record {
 }
 
 -- a visit that added numbers changed no word that is so far before it, nor what is beside its own there
-pub widening_back : (cols : ℕ) (free old now new : List ℕ) (place back : ℕ) (grew : Bool) → cols / WORD_BITS + 1 ≤ back → IsWidening cols free place old now → IsVisit cols free place now new grew → IsWidening cols free (place - back) old new
+pub widening_back : (cols : ℕ) (free old now new : List ℕ) (place back : ℕ) (grew : Bool) → cols / WORD_BITS + 1 ≤ back → IsWidening cols free place old now →
+    IsVisit cols free place now new grew → IsWidening cols free (place - back) old new
 widening_back cols free old now new place back grew far f v = record {
   widened = widened_then cols free old now new f.widened v.widened;
-  full = λ k lt p j inner near vacant there. v.widened.kept (WORD_BITS * k + j) (f.full k (omega (arith, lt)) p j inner near vacant (sym (before p (low k p j lt inner near)) ∙ there));
+  full = λ k lt p j inner near vacant there. v.widened.kept (WORD_BITS * k + j)
+      (f.full k (omega (arith, lt)) p j inner near vacant (sym (before p (low k p j lt inner near)) ∙ there));
 }
   where
     low : (k p j : ℕ) → k < place - back → j < WORD_BITS → IsBeside cols p (WORD_BITS * k + j) → p < WORD_BITS * place
@@ -291,9 +318,11 @@ widening_back cols free old now new place back grew far f v = record {
     low k p j lt inner (inr (inr e)) = omega (arith, lt, inner, e, far)
 
     before : (x : ℕ) → x < WORD_BITS * place → has_bit new x ≡ has_bit now x
-    before x lt = has_bit-parts new x ∙ (ap (λ (w : ℕ). word_bit w (x % WORD_BITS)) (v.others (x / WORD_BITS) (λ e. omega (arith, e, lt))) ∙ sym (has_bit-parts now x))
+    before x lt = has_bit-parts new x ∙
+        (ap (λ (w : ℕ). word_bit w (x % WORD_BITS)) (v.others (x / WORD_BITS) (λ e. omega (arith, e, lt))) ∙ sym (has_bit-parts now x))
 
-pub widening_last : (cols : ℕ) (free old new : List ℕ) (place : ℕ) → length free ≤ place → IsWidening cols free place old new → PassesOver cols free (has_bit new)
+pub widening_last : (cols : ℕ) (free old new : List ℕ) (place : ℕ) → length free ≤ place → IsWidening cols free place old new →
+    PassesOver cols free (has_bit new)
 widening_last cols free old new place all f p q near vacant there =
     let at = square_parts q in
     let lt = has_bit_inside free q vacant in
@@ -309,14 +338,16 @@ AreCleared squares words place now =
     × ((k j : ℕ) → k < place → j < WORD_BITS → word_bit (get_or now k 0) j ≡ (word_bit (get_or squares k 0) j && not (word_bit (get_or words k 0) j)))
     × ((k : ℕ) → place ≤ k → get_or now k 0 ≡ get_or words k 0)
 
-pub cleared_on : (squares words now : List ℕ) (place word : ℕ) → AreCleared squares words place now → place < length now → word ≡ get_or now place 0 → word < 2 ^ 64 → AreCleared squares words (place + 1) (set now place (bit_and (get_or squares place 0) (bit_not w64 word)))
+pub cleared_on : (squares words now : List ℕ) (place word : ℕ) → AreCleared squares words place now → place < length now → word ≡ get_or now place 0 →
+    word < 2 ^ 64 → AreCleared squares words (place + 1) (set now place (bit_and (get_or squares place 0) (bit_not w64 word)))
 cleared_on squares words now place word (size, before, rest) inside read fits = (
   length-set now place new ∙ size,
   λ k j lt below. elim (cases_eq k place) [
     | inl e ↦
         ap (λ (w : ℕ). word_bit w j) (ap (λ (x : ℕ). get_or (set now place new) x 0) e ∙ get_or-set_same now place new 0 inside)
         ∙ (word_bit-and (get_or squares place 0) (bit_not w64 word) j
-        ∙ (ap (λ (b : Bool). word_bit (get_or squares place 0) j && b) (word_bit-not word j fits below ∙ ap (λ (w : ℕ). not (word_bit w j)) (read ∙ rest place (omega arith)))
+        ∙ (ap (λ (b : Bool). word_bit (get_or squares place 0) j && b) (word_bit-not word j fits below ∙
+        ap (λ (w : ℕ). not (word_bit w j)) (read ∙ rest place (omega arith)))
         ∙ ap (λ (x : ℕ). word_bit (get_or squares x 0) j && not (word_bit (get_or words x 0) j)) (sym e)))
     | inr ne ↦ ap (λ (w : ℕ). word_bit w j) (get_or-set_other now place k new 0 ne) ∙ before k j (omega (arith, lt, ne)) below
   ],
@@ -332,10 +363,13 @@ none_past words q past = elim (cases_Bool (has_bit words q)) [
   | inr h ↦ h
 ]
 
-pub cleared_bit : (squares words now : List ℕ) (place q : ℕ) → AreCleared squares words place now → length squares ≡ length words → length words ≤ place → has_bit now q ≡ (has_bit squares q && not (has_bit words q))
+pub cleared_bit : (squares words now : List ℕ) (place q : ℕ) → AreCleared squares words place now → length squares ≡ length words → length words ≤ place →
+    has_bit now q ≡ (has_bit squares q && not (has_bit words q))
 cleared_bit squares words now place q (size, before, rest) room whole = elim (cases_lt q (WORD_BITS * length words)) [
-  | inl lt ↦ has_bit-parts now q ∙ (before (q / WORD_BITS) (q % WORD_BITS) (omega (arith, lt, whole)) (omega arith) ∙ cc2 (has_bit-parts squares q) (has_bit-parts words q))
-  | inr past ↦ none_past now q (omega (arith, past, size)) ∙ sym (ap (λ (b : Bool). b && not (has_bit words q)) (none_past squares q (omega (arith, past, room))))
+  | inl lt ↦ has_bit-parts now q ∙
+      (before (q / WORD_BITS) (q % WORD_BITS) (omega (arith, lt, whole)) (omega arith) ∙ cc2 (has_bit-parts squares q) (has_bit-parts words q))
+  | inr past ↦ none_past now q (omega (arith, past, size)) ∙
+      sym (ap (λ (b : Bool). b && not (has_bit words q)) (none_past squares q (omega (arith, past, room))))
 ]
   where
     cc2 : {a b c d : Bool} → a ≡ b → c ≡ d → (b && not d) ≡ (a && not c)
@@ -344,7 +378,8 @@ cleared_bit squares words now place q (size, before, rest) room whole = elim (ca
 -- ---- on a board
 
 -- the free squares are those of the room's mask where no box stands
-pub are_free : (board : Board) (boxes room free : List ℕ) → IsRoomMask board room → ((q : ℕ) → has_bit free q ≡ (has_bit room q && not (has_bit boxes q))) → AreFree board boxes free
+pub are_free : (board : Board) (boxes room free : List ℕ) → IsRoomMask board room → ((q : ℕ) → has_bit free q ≡ (has_bit room q && not (has_bit boxes q))) →
+    AreFree board boxes free
 are_free board boxes room free mask bits q = (
   λ h. (let p = and_parts (has_bit room q) (not (has_bit boxes q)) (sym (bits q) ∙ h) in ((mask.bits q).0 p.0, not-true (has_bit boxes q) p.1)),
   λ w. bits q ∙ and_from (has_bit room q) (not (has_bit boxes q)) ((mask.bits q).1 w.0) (not_from_false (has_bit boxes q) w.1),
@@ -392,17 +427,20 @@ module _ (board : Board) (boxes free : List ℕ) (level : IsLevel board) (are : 
       (mask.bits q).1 (subst (InRoom board) back (beside d r floor))
 
   -- where no free number is beside a set of the room's squares, no step leads out of it
-  pub widened_whole : (room old new : List ℕ) → IsRoomMask board room → ((q : ℕ) → has_bit old q ≡ true → InRoom board q) → IsWidened board.cols free old new → PassesOver board.cols free (has_bit new) → IsFlooded board boxes old new
+  pub widened_whole : (room old new : List ℕ) → IsRoomMask board room → ((q : ℕ) → has_bit old q ≡ true → InRoom board q) →
+      IsWidened board.cols free old new → PassesOver board.cols free (has_bit new) → IsFlooded board boxes old new
   widened_whole room old new mask inside f whole = record {
     growing = widened_grows old new f;
     settled = λ q lt clear entered.
         (let w = came_one_way board new q entered in
         let c = and_parts (can_enter board w.0 q) (has_bit new (next board q (opposite w.0))) w.1 in
-        let from : has_bit room (next board q (opposite w.0)) ≡ true = (widened_grows old new f).sound (has_bit room) (room_kept room mask) (λ x h. (mask.bits x).1 (inside x h)) (next board q (opposite w.0)) c.1 in
+        let from : has_bit room (next board q (opposite w.0)) ≡ true = (widened_grows old new f).sound (has_bit room) (room_kept room mask)
+        (λ x h. (mask.bits x).1 (inside x h)) (next board q (opposite w.0)) c.1 in
         let here : InRoom board q = (mask.bits q).0 (room_kept room mask w.0 q clear c.0 from) in
         whole (next board q (opposite w.0)) q (near_source w.0 q c.0) ((are q).1 (here, clear)) c.1);
   }
 
 -- the player does not leave the room
 pub area_in_room : (board : Board) (s : Scene) (player : ℕ) → player ≡ s.player → InRoom board player → (q : ℕ) → Area board s q → InRoom board q
-area_in_room board s player same start q w = along_walks board s.boxes (InRoom board) (λ (x : ℕ) d r free. beside d r free.0) refl (subst (InRoom board) same start) w.1
+area_in_room board s player same start q w = along_walks board s.boxes (InRoom board) (λ (x : ℕ) d r free. beside d r free.0) refl
+    (subst (InRoom board) same start) w.1

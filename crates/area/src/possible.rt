@@ -7,7 +7,7 @@ ghost use Rattle.area.specs.After.{IsAreaOf};
 ghost use Rattle.area.specs.Pushes.{ArePushes};
 ghost use Rattle.area.specs.Reach.{Reach};
 ghost use Rattle.area.specs.Words.{word_bit};
-ghost use Rattle.area.specs.inside.PushLists.{Allows, AreAllowedBefore, TellsPushes, count_below};
+ghost use Rattle.area.specs.inside.PushLists.{Allows, AreAllowedBefore, AreAllowedBelow, TellsPushes};
 
 use crate::floods::flood;
 use crate::pushes::{PushMasks, pushable};
@@ -62,10 +62,8 @@ fn push_word(
     requires boxes { (q : ℕ) → contains scratch.now.boxes q ≡ true → is_wall level.now q ≡ false }
     requires reached { (q : ℕ) → contains scratch.now.reached q ≡ true → q < length level.now.cells }
     requires few { length scratch.now.boxes ≤ MAX_BOXES }
-    requires before { AreAllowedBefore level.now scratch.now (WORD_BITS * place) 0 pushes.old.items }
-    requires bound { length pushes.old.items ≤ 4 * count_below scratch.now.boxes (WORD_BITS * place) }
-    ensures before { AreAllowedBefore level.now scratch.now (WORD_BITS * (place + 1)) 0 pushes.new.items }
-    ensures bound { length pushes.new.items ≤ 4 * count_below scratch.now.boxes (WORD_BITS * (place + 1)) }
+    requires before { AreAllowedBelow level.now scratch.now (WORD_BITS * place) pushes.old.items }
+    ensures { AreAllowedBelow level.now scratch.now (WORD_BITS * (place + 1)) pushes.new.items }
 {
     level.tell();
     let masks = pushable(level, scratch, place);

@@ -6,7 +6,7 @@ ghost use Rattle.grid.specs.States.{IsScene};
 ghost use Rattle.grid.specs.Squares.{contains};
 ghost use Rattle.area.specs.LeastWalks.{WalkAnswer, walk_letters};
 ghost use Rattle.area.specs.inside.Descent.{IsDown, IsFirstDown, IsDescent};
-ghost use Rattle.area.specs.inside.Spread.{AreBlocked, AreWithin, IsSearched, IsSpread};
+ghost use Rattle.area.specs.inside.Spread.{AreBlocked, AreWithin, IsMemory, IsSearched, IsSpread};
 
 use crate::scratch::{GREATEST_BASE, Scratch, renewed};
 use crate::spread::spread;
@@ -66,11 +66,7 @@ fn search_from(
 ) -> u32
     requires scene { IsScene level.now state.now }
     requires free { IsFree level.now state.now.boxes from }
-    requires room { length marks.old ≡ length level.now.cells }
-    requires places { length queue.old ≡ length level.now.cells }
-    requires small { length marks.old ≤ MAX_SQUARES }
-    requires base { base ≤ GREATEST_BASE }
-    requires within { AreWithin base (length marks.old) marks.old }
+    requires memory { IsMemory level.now base marks.old queue.old }
     ensures searched { IsSearched level.now state.now.boxes result from marks.new }
     ensures base { result ≤ GREATEST_BASE }
     ensures within { AreWithin result (length marks.old) marks.new }

@@ -65,7 +65,7 @@ impl Boxes {
             self.flags[to.0 as usize] = true;
         } else {
             list_all(&mut self.flags, &mut self.listed);
-            move_square(self.listed.as_mut_slice(), from, to);
+            move_square(self.listed.as_mut_slice(), 0, from, to);
         }
     }
 }

@@ -34,15 +34,12 @@ pub fn a_step_is_decided()
     ensures boxes { (board : Board) (s : Scene) (d : Dir) (did : Step) (t : Scene) → IsScene board s → Steps board s d did t → HasAsManyBoxes s t }
 {}
 
-/// A step without a push is undone by the step the other way.
-pub fn a_walk_step_can_be_undone()
-    ensures { (board : Board) (s : Scene) (d : Dir) (t : Scene) → IsScene board s → Walks board s d t → Walks board t (opposite d) s }
-{}
-
-/// A walk, which is a play without a push, can be walked back in as many steps.
+/// A step without a push is undone by the step the other way, and a walk, which is a play without a push, can be walked
+/// back in as many steps.
 #[tactic(auto, using(crate::proofs::lemmas::Plays::walk_backwards))]
-pub fn a_walk_can_be_walked_back()
-    ensures { (board : Board) (s t : Scene) (ds : List Dir) → IsScene board s → Play board Any s ds [] t
+pub fn walks_can_be_walked_back()
+    ensures step { (board : Board) (s : Scene) (d : Dir) (t : Scene) → IsScene board s → Walks board s d t → Walks board t (opposite d) s }
+    ensures walk { (board : Board) (s t : Scene) (ds : List Dir) → IsScene board s → Play board Any s ds [] t
         → (es : List Dir) × (length es ≡ length ds) × Play board Any t es [] s }
 {}
 
@@ -53,28 +50,22 @@ pub fn a_play_keeps_states()
     ensures pushes { (board : Board) (s t : Scene) (ds : List Dir) (ps : List Push) → Play board Any s ds ps t → length ps ≤ length ds }
 {}
 
-/// The directions of a play decide its pushes and where it ends.
+/// The directions of a play decide its pushes and where it ends; its pushes decide where it ends, up to a walk.
 #[tactic(auto, using(crate::proofs::lemmas::Plays::play_same))]
-pub fn directions_decide_a_play()
-    ensures { (board : Board) (s t u : Scene) (ds : List Dir) (ps qs : List Push) → Play board Any s ds ps t → Play board Any s ds qs u → (ps ≡ qs) × (t ≡ u) }
-{}
-
-/// The pushes of a play decide where it ends, up to a walk.
-pub fn pushes_decide_an_area()
-    ensures { (board : Board) (s t u : Scene) (ds es : List Dir) (ps : List Push) → IsScene board s → Play board Any s ds ps t → Play board Any s es ps u
+pub fn a_play_is_decided()
+    ensures directions { (board : Board) (s t u : Scene) (ds : List Dir) (ps qs : List Push) → Play board Any s ds ps t → Play board Any s ds qs u
+        → (ps ≡ qs) × (t ≡ u) }
+    ensures pushes { (board : Board) (s t u : Scene) (ds es : List Dir) (ps : List Push) → IsScene board s → Play board Any s ds ps t → Play board Any s es ps u
         → (fs : List Dir) × Play board Any t fs [] u }
 {}
 
-/// Directions are ordered down, left, right, up, [`Dir::ALL`] has them in this order, and the default is the first.
-pub fn directions_are_ordered()
+/// Directions are ordered down, left, right, up, [`Dir::ALL`] has them in this order, and the default is the first. Pushes
+/// are ordered by the square that the box left, then by the direction.
+pub fn directions_and_pushes_are_ordered()
     ensures order { (d e : Dir) → ⟦<Dir as Ord>⟧.cmp d e ≡ dir_cmp d e }
     ensures all { Dir.ALL ≡ D ∷ L ∷ R ∷ U ∷ [] }
     ensures default { (d : Dir) → ⟦<Dir as Default>⟧.is_default d → d ≡ D }
-{}
-
-/// Pushes are ordered by the square that the box left, then by the direction.
-pub fn pushes_are_ordered()
-    ensures { (p q : Push) → ⟦<Push as Ord>⟧.cmp p q ≡ push_cmp p q }
+    ensures pushes { (p q : Push) → ⟦<Push as Ord>⟧.cmp p q ≡ push_cmp p q }
 {}
 
 /// Positions are ordered by the boxes, square by square, then by the player's square.
@@ -83,14 +74,11 @@ pub fn positions_are_ordered()
 {}
 
 /// The order of solutions is total: of two solutions one does not come after the other, what does not come after
-/// what does not come after a third does not come after the third, and two that do not come after each other are one.
+/// what does not come after a third does not come after the third, and two that do not come after each other are one. So a
+/// level has at most one least solution.
 pub fn solutions_are_ordered()
     ensures either { (ds es : List Dir) (ps qs : List Push) → NotAfter ds ps es qs ⊎ NotAfter es qs ds ps }
     ensures onward { (ds es fs : List Dir) (ps qs rs : List Push) → NotAfter ds ps es qs → NotAfter es qs fs rs → NotAfter ds ps fs rs }
     ensures same { (ds es : List Dir) (ps qs : List Push) → NotAfter ds ps es qs → NotAfter es qs ds ps → (ds ≡ es) × (ps ≡ qs) }
-{}
-
-/// A level has at most one least solution.
-pub fn a_least_solution_is_the_only_one()
-    ensures { (board : Board) (ds es : List Dir) (ps qs : List Push) → IsLeastSolution board ds ps → IsLeastSolution board es qs → (ds ≡ es) × (ps ≡ qs) }
+    ensures least { (board : Board) (ds es : List Dir) (ps qs : List Push) → IsLeastSolution board ds ps → IsLeastSolution board es qs → (ds ≡ es) × (ps ≡ qs) }
 {}

@@ -160,7 +160,7 @@ impl Position {
         requires free { contains self.old.boxes to ≡ false }
         ensures { self.new ≡ record { boxes = insert (remove self.old.boxes from) to; player = from } }
     {
-        move_square_at(self.boxes.as_mut_slice(), place, from, to);
+        move_square(self.boxes.as_mut_slice(), place, from, to);
         self.player = from;
     }
 
@@ -170,8 +170,7 @@ impl Position {
         requires free { contains self.old.boxes to ≡ false }
         ensures { self.new ≡ record { boxes = insert (remove self.old.boxes from) to; player = from } }
     {
-        move_square(self.boxes.as_mut_slice(), from, to);
-        self.player = from;
+        self.push_at(0, from, to);
     }
 }
 
@@ -247,20 +246,8 @@ fn rises(squares: &[Square]) -> bool
     true
 }
 
-// Puts one square in the place of another, where the list rises.
-pub(crate) fn move_square(squares: &mut [Square], from: Square, to: Square)
-    requires rising { is_rising squares.old ≡ true }
-    requires bound { length squares.old ≤ MAX_SQUARES }
-    requires there { contains squares.old from ≡ true }
-    requires free { contains squares.old to ≡ false }
-    ensures { squares.new ≡ insert (remove squares.old from) to }
-{
-    let left = place_of(squares, from);
-    settle(squares, left, to);
-}
-
-// The same where the one is looked for at a place first.
-fn move_square_at(squares: &mut [Square], place: usize, from: Square, to: Square)
+// Puts one square in the place of another, where the list rises. The one is looked for at a place first.
+pub(crate) fn move_square(squares: &mut [Square], place: usize, from: Square, to: Square)
     requires rising { is_rising squares.old ≡ true }
     requires bound { length squares.old ≤ MAX_SQUARES }
     requires there { contains squares.old from ≡ true }

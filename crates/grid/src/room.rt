@@ -1,11 +1,11 @@
 ghost use Rattle.std.specs.Prelude.{◌≡◌, ℕ, ◌+◌, ◌-◌, ◌%◌, ◌<◌, ◌≤◌, ◌∷◌, [], ◌↔◌, ◌&&◌, not, IfOk, IfErr, OnOk, true, false, length, slice_index_or};
 ghost use Rattle.grid.specs.Board.{is_wall, start_player};
 ghost use Rattle.grid.specs.Lawful.{InRoom, IsOpen};
-ghost use Rattle.grid.specs.inside.Filling.{Awaits, IsFilling, IsMarked, IsRoomFault, IsRunning, Seeds, board_of, work};
+ghost use Rattle.grid.specs.inside.Filling.{Awaits, BeginsRun, IsFilling, IsMarked, IsRoomFault, IsRunning, IsSized, Seeds, board_of, work};
 
 use crate::cell::Cell;
 use crate::fault::LevelFault;
-use crate::limits::{MAX_COLS, MAX_SQUARES};
+use crate::limits::MAX_SQUARES;
 use crate::square::Square;
 use std::alloc::{AllocError, Global};
 
@@ -17,9 +17,7 @@ pub(crate) fn room_of(
     cells: &[Cell],
     player: Square,
 ) -> Result<Vec<bool>, LevelFault>
-    requires columns { 1 ≤ cols }
-    requires wide { cols ≤ MAX_COLS }
-    requires bound { length cells.now ≤ MAX_SQUARES }
+    requires sized { IsSized cols cells.now }
     requires start { player ≡ start_player (board_of cols cells.now) }
     requires floor { is_wall (board_of cols cells.now) player ≡ false }
     ensures marked { IfOk result (λ room. (q : ℕ) → IsMarked room.items q ↔ InRoom (board_of cols cells.now) q) }
@@ -40,9 +38,7 @@ fn fill(
     room: &mut [bool],
     player: Square,
 ) -> Result<(), LevelFault>
-    requires columns { 1 ≤ cols }
-    requires wide { cols ≤ MAX_COLS }
-    requires bound { length cells.now ≤ MAX_SQUARES }
+    requires sized { IsSized cols cells.now }
     requires start { player ≡ start_player (board_of cols cells.now) }
     requires floor { is_wall (board_of cols cells.now) player ≡ false }
     requires size { length room.old ≡ length cells.now }
@@ -75,9 +71,7 @@ fn fill_from(
     pending: &mut Vec<Square>,
     square: Square,
 ) -> Result<(), LevelFault>
-    requires columns { 1 ≤ cols }
-    requires wide { cols ≤ MAX_COLS }
-    requires bound { length cells.now ≤ MAX_SQUARES }
+    requires sized { IsSized cols cells.now }
     requires filling { IsFilling (board_of cols cells.now) room.old (square ∷ pending.old.items) }
     ensures filling { OnOk result (IsFilling (board_of cols cells.now) room.new pending.new.items) }
     ensures work { OnOk result (work room.new pending.new.items ≤ work room.old pending.old.items) }
@@ -128,14 +122,8 @@ fn fill_run(
     first: usize,
     start: usize,
 ) -> Result<(), LevelFault>
-    requires columns { 1 ≤ cols }
-    requires wide { cols ≤ MAX_COLS }
-    requires bound { length cells.now ≤ MAX_SQUARES }
-    requires row { start ≡ first + start % cols }
-    requires edge { first < start }
-    requires top { cols ≤ start }
-    requires inside { start < length cells.now }
-    requires behind { is_wall (board_of cols cells.now) (start - 1) ≡ true }
+    requires sized { IsSized cols cells.now }
+    requires begins { BeginsRun (board_of cols cells.now) first start }
     requires filling { IsRunning (board_of cols cells.now) room.old (start ∷ pending.old.items) start }
     ensures filling { OnOk result (IsFilling (board_of cols cells.now) room.new pending.new.items) }
     ensures work { OnOk result (work room.new pending.new.items ≤ work room.old pending.old.items) }

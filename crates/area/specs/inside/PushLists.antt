@@ -1,5 +1,5 @@
 -- Lists of the pushes that a flood allows, as they grow square by square and direction by direction.
-use Rattle.std.specs.Prelude.{◌≡◌, ℕ, ◌+◌, ◌<◌, ◌⊎◌, ◌↔◌, true, cond, nat_lt, List, [], ◌∷◌}
+use Rattle.std.specs.Prelude.{◌≡◌, ℕ, ◌+◌, ◌*◌, ◌<◌, ◌≤◌, ◌⊎◌, ◌↔◌, true, cond, nat_lt, List, [], ◌∷◌, length}
 use Rattle.grid.specs.declared.dir.Dir.{Dir}
 use Rattle.grid.specs.declared.square.Push.{Push}
 use Rattle.grid.specs.Squares.{Squares}
@@ -31,3 +31,7 @@ TellsPushes board reach masks bit square = (d : Dir) → (word_bit (push_word d 
 abbrev pub count_below : Squares → ℕ → ℕ
 count_below [] q = 0
 count_below (x ∷ xs) q = cond (nat_lt x q) 1 0 + count_below xs q
+
+-- ps is the pushes that a flood allows, of lesser squares than this one, each once, in their order: at most four a box
+abbrev pub AreAllowedBelow : Board → Reach → ℕ → List Push → Type 0
+AreAllowedBelow board reach square ps = AreAllowedBefore board reach square 0 ps × (length ps ≤ 4 * count_below reach.boxes square)

@@ -3,6 +3,8 @@ use Rattle.std.specs.Prelude.{◌≡◌, ◌≢◌, ℕ, suc, ◌+◌, ◌<◌, 
 use Rattle.grid.specs.declared.dir.Dir.{Dir}
 use Rattle.grid.specs.Board.{Board, is_wall, next, dir_number}
 use Rattle.grid.specs.Squares.{Squares, contains}
+use Rattle.grid.specs.declared.limits.TheConstants.{MAX_SQUARES}
+use Rattle.area.specs.declared.scratch.TheConstants.{GREATEST_BASE}
 
 -- A mark of `base` says that a box stands on the square, a lesser mark that the search did not come upon it, and
 -- the mark `base + 1 + n` that it is reached, n steps from the square where the search began.
@@ -42,6 +44,15 @@ KeepsBlocked base old new = (q : ℕ) → (slice_index old q ≡ base) ↔ (slic
 -- no mark is more than `most` above `base`
 abbrev pub AreWithin : ℕ → ℕ → List ℕ → Type 0
 AreWithin base most marks = (q : ℕ) → slice_index marks q ≤ base + most
+
+-- memory in which a search may begin: a mark and a place for each square, and no mark more than one for each square above
+-- the last one of a box, which is not too great for one more search
+pub record IsMemory (board : Board) (base : ℕ) (marks queue : List ℕ) : Type 0 where
+  pub room : length marks ≡ length board.cells
+  pub places : length queue ≡ length board.cells
+  pub small : length marks ≤ MAX_SQUARES
+  pub low : base ≤ GREATEST_BASE
+  pub within : AreWithin base (length marks) marks
 
 -- In the midst of a search the reached squares stand in a queue, in the order in which they were reached: those
 -- before `head` were looked round from, of the one at `head` the directions whose number is less than `seen`.

@@ -1,17 +1,32 @@
 -- What happens to marks, and to the list of squares to look at, while an area is filled.
-use Rattle.std.specs.Prelude.{◌≡◌, ℕ, ◌+◌, ◌*◌, ◌≤◌, Bool, true, false, not, List, length, count_by, slice_index_or, ◌⊎◌}
+use Rattle.std.specs.Prelude.{◌≡◌, ℕ, ◌+◌, ◌-◌, ◌*◌, ◌%◌, ◌<◌, ◌≤◌, Bool, true, false, not, List, length, count_by, slice_index_or, ◌⊎◌}
 use Rattle.grid.specs.declared.cell.Cell.{Cell}
 use Rattle.grid.specs.declared.fault.LevelFault.{LevelFault}
 use Rattle.grid.specs.declared.fault.LevelFault.TheVariants.{Open, OutOfMemory}
 use Rattle.grid.specs.Squares.{contains}
 use Rattle.grid.specs.Board.{Board, is_wall, next, start_player}
 use Rattle.grid.specs.Lawful.{InRoom, IsOpen}
+use Rattle.grid.specs.declared.limits.TheConstants.{MAX_COLS, MAX_SQUARES}
 use Rattle.grid.specs.declared.dir.Dir.{Dir}
 use Rattle.grid.specs.declared.dir.Dir.TheVariants.{R}
 
 -- the board of these columns and cells, row by row
 abbrev pub board_of : ℕ → List Cell → Board
 board_of cols cells = record { cols = cols; cells = cells }
+
+-- a grid of these columns and cells is none too large
+pub record IsSized (cols : ℕ) (cells : List Cell) : Type 0 where
+  pub columns : 1 ≤ cols
+  pub wide : cols ≤ MAX_COLS
+  pub bound : length cells ≤ MAX_SQUARES
+
+-- a run begins on the square, in the row that begins on another one, and off the edges of the grid
+pub record BeginsRun (board : Board) (first start : ℕ) : Type 0 where
+  pub row : start ≡ first + start % board.cols
+  pub edge : first < start
+  pub top : board.cols ≤ start
+  pub inside : start < length board.cells
+  pub behind : is_wall board (start - 1) ≡ true
 
 -- why no room is found: it lies open, or memory was refused
 abbrev pub IsRoomFault : Board → LevelFault → Type 0

@@ -52,12 +52,7 @@ loop-left-preserved c =
     (c.push_box.ensures.pushes c.args.level.now c.args.scratch.now (λ d. c.pushable-masks.ensures d t low.0) before) c.push_box.ensures.bound
     (λ j lt. cleared_bit c.loop-left.left t j low.0 lt)
 
-pub returns-clause-before : goal.returns-clause-before
-returns-clause-before c =
-    (word_last c.args.level.now c.args.scratch.now c.pushable-masks.result c.args.place c.pushable-masks.ensures c.loop-left.left c.loop-left.pushes.items
-    c.loop-left.invariant (omega (arith, c.loop-left-test.false))).0
-
-pub returns-clause-bound : goal.returns-clause-bound
-returns-clause-bound c =
-    (word_last c.args.level.now c.args.scratch.now c.pushable-masks.result c.args.place c.pushable-masks.ensures c.loop-left.left c.loop-left.pushes.items
-    c.loop-left.invariant (omega (arith, c.loop-left-test.false))).1
+pub returns : goal.returns
+returns c =
+    word_last c.args.level.now c.args.scratch.now c.pushable-masks.result c.args.place c.pushable-masks.ensures c.loop-left.left c.loop-left.pushes.items
+    c.loop-left.invariant (omega (arith, c.loop-left-test.false))

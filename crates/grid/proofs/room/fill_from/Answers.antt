@@ -39,8 +39,17 @@ returns-then-start-first-clause-err c =
       | then-start-first-via-else-start-first+then-start-cols w ↦ inr (refl, open_above board start w.if-start-cols.true r)
     ]
 
-pub fill_run-requires-clause-inside : goal.fill_run-requires-clause-inside
-fill_run-requires-clause-inside c = inside_grid (board_of c.args.cols c.args.cells.now) c.run_start-start.result c.run_start-start.ensures.floor
+pub fill_run-requires-clause-begins : goal.fill_run-requires-clause-begins
+fill_run-requires-clause-begins c =
+    let start = c.run_start-start.result in
+    let row = c.run_start-start.ensures.row in
+    record {
+      row = row;
+      edge = omega (arith, c.if-start-first.false, row);
+      top = omega (arith, c.if-start-cols.false);
+      inside = inside_grid (board_of c.args.cols c.args.cells.now) start c.run_start-start.ensures.floor;
+      behind = c.run_start-start.ensures.behind (omega (arith, c.if-start-first.false, row));
+    }
 
 pub fill_run-requires-clause-filling : goal.fill_run-requires-clause-filling
 fill_run-requires-clause-filling c =

@@ -16,7 +16,7 @@ returns-then-place-last-clause-err c =
     let floor = (fresh_parts _ _ c.is_fresh.result c.is_fresh.ensures c.loop-cols-test.true).0 in
     let r : InRoom board place = first_in_room board c.loop-cols.room place place c.loop-cols.pending.items v.filling floor in
     elim c.then-place-last.branch [
-      | then-place-last-via-then-place-last w ↦ inr (refl, open_right board c.args.first place c.requires.columns v.row w.if-place-last.true r)
+      | then-place-last-via-then-place-last w ↦ inr (refl, open_right board c.args.first place c.requires.sized.columns v.row w.if-place-last.true r)
       | then-place-last-via-else-place-last+then-cells-place w ↦ inr (refl, open_below board place w.if-cells-place.true r)
     ]
 
@@ -28,7 +28,7 @@ loop-cols-preserved c =
     let marks = c.loop-cols.room in
     let parts : (is_wall board place ≡ false) ×
     (get_or marks place false ≡ false) = fresh_parts _ _ c.is_fresh.result c.is_fresh.ensures c.loop-cols-test.true in
-    let more = row_more c.args.cols c.args.first place c.requires.columns v.row c.if-place-last.false in
+    let more = row_more c.args.cols c.args.first place c.requires.sized.columns v.row c.if-place-last.false in
     let wider : 0 < place % c.args.cols = omega (arith, v.row, v.edge) in
     let low : place + c.args.cols < length c.args.cells.now = omega (arith, c.if-cells-place.false) in
     let one : place ≡ place + 1 - 1 = omega arith in
@@ -44,16 +44,17 @@ loop-cols-preserved c =
       row = more.1;
       edge = omega (arith, v.edge);
       top = omega (arith, v.top);
-      inside = omega (arith, low, c.requires.columns);
+      inside = omega (arith, low, c.requires.sized.columns);
       size = length-set marks place true ∙ v.size;
-      filling = run_more board marks p0 p1 p2 place a b aa bb c.requires.columns wider more.0 v.top low v.filling parts.0 parts.1 v.behind v.above v.below
+      filling = run_more board marks p0 p1 p2 place a b aa bb c.requires.sized.columns wider more.0 v.top low v.filling parts.0 parts.1 v.behind v.above v.below
           c.in_ok-above.ensures c.in_ok-below.ensures;
       behind = λ _. subst (λ (x : ℕ). IsMarked (set marks place true) x) one (get_or-set_same marks place true false lies);
-      above = run_above board marks p0 p1 p2 place a b aa bb c.requires.columns wider more.0 v.top low v.filling parts.0 parts.1 v.behind v.above v.below
+      above = run_above board marks p0 p1 p2 place a b aa bb c.requires.sized.columns wider more.0 v.top low v.filling parts.0 parts.1 v.behind v.above v.below
           c.in_ok-above.ensures c.in_ok-below.ensures;
-      below = run_below board marks p0 p1 p2 place a b aa bb c.requires.columns wider more.0 v.top low v.filling parts.0 parts.1 v.behind v.above v.below
+      below = run_below board marks p0 p1 p2 place a b aa bb c.requires.sized.columns wider more.0 v.top low v.filling parts.0 parts.1 v.behind v.above v.below
           c.in_ok-above.ensures c.in_ok-below.ensures;
-      work = (let w = run_work board marks p0 p1 p2 place a b aa bb c.requires.columns wider more.0 v.top low v.filling parts.0 parts.1 v.behind v.above v.below
+      work = (let w = run_work board marks p0 p1 p2 place a b aa bb c.requires.sized.columns wider more.0 v.top low v.filling parts.0 parts.1 v.behind
+          v.above v.below
           c.in_ok-above.ensures c.in_ok-below.ensures in omega (arith, w, v.work));
     }
 

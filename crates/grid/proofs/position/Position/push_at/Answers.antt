@@ -7,24 +7,24 @@ use Rattle.grid.specs.Rising.{is_rising}
 use Rattle.grid.proofs.lemmas.Squares.{is_rising-insert, is_rising-remove}
 use Rattle.grid.proofs.position.Position.push_at.Goals as goal
 
-pub move_square_at-requires-clause-rising : goal.move_square_at-requires-clause-rising
-move_square_at-requires-clause-rising c = subst (λ (xs : Squares). is_rising xs ≡ true) (sym c.as_mut_slice.ensures.value) c.self.invariant
+pub move_square-requires-clause-rising : goal.move_square-requires-clause-rising
+move_square-requires-clause-rising c = subst (λ (xs : Squares). is_rising xs ≡ true) (sym c.as_mut_slice.ensures.value) c.self.invariant
 
-pub move_square_at-requires-clause-there : goal.move_square_at-requires-clause-there
-move_square_at-requires-clause-there c =
+pub move_square-requires-clause-there : goal.move_square-requires-clause-there
+move_square-requires-clause-there c =
     subst (λ (xs : Squares). contains xs c.args.from ≡ true) (sym c.as_mut_slice.ensures.value)
     (subst (λ (s : Scene). contains s.boxes c.args.from ≡ true) (sym c.self.view_is) c.requires.box_there)
 
-pub move_square_at-requires-clause-free : goal.move_square_at-requires-clause-free
-move_square_at-requires-clause-free c =
+pub move_square-requires-clause-free : goal.move_square-requires-clause-free
+move_square-requires-clause-free c =
     subst (λ (xs : Squares). contains xs c.args.to ≡ false) (sym c.as_mut_slice.ensures.value)
     (subst (λ (s : Scene). contains s.boxes c.args.to ≡ false) (sym c.self.view_is) c.requires.free)
 
-moved : (c : goal.After-from-1) → (with_items c.self.inside.boxes c.move_square_at.new.squares).items ≡
+moved : (c : goal.After-from-1) → (with_items c.self.inside.boxes c.move_square.new.squares).items ≡
     insert (remove c.self.inside.boxes.items c.args.from) c.args.to
 moved c =
-    items-with_items c.self.inside.boxes c.move_square_at.new.squares (omega (arith, c.move_square_at.auto.squares, ap length c.as_mut_slice.ensures.value))
-    ∙ (c.move_square_at.ensures ∙ ap (λ (xs : Squares). insert (remove xs c.args.from) c.args.to) c.as_mut_slice.ensures.value)
+    items-with_items c.self.inside.boxes c.move_square.new.squares (omega (arith, c.move_square.auto.squares, ap length c.as_mut_slice.ensures.value))
+    ∙ (c.move_square.ensures ∙ ap (λ (xs : Squares). insert (remove xs c.args.from) c.args.to) c.as_mut_slice.ensures.value)
 
 pub invariant_of-self : goal.invariant_of-self
 invariant_of-self c =
