@@ -2,6 +2,7 @@
 use Rattle.std.proofs.Common.{◌≡◌, ℕ, suc, ◌+◌, ◌<◌, Bool, true, false, List, [], ◌∷◌, ◌++◌, length, take, drop, get_or, refl, sym, ap, subst, ◌∙◌, arith}
 use Rattle.std.proofs.Common.{drop-cons}
 use Rattle.std.proofs.lemmas.List.{take_more, take-append-drop, length-take-le}
+use Rattle.std.proofs.lemmas.List.Sums.{count_by_more_no, count_by_more_yes}
 use Rattle.grid.specs.declared.dir.Dir.{Dir}
 use Rattle.grid.specs.declared.square.Push.{Push}
 use Rattle.grid.specs.declared.moves.Letter.{Letter}
@@ -91,3 +92,6 @@ stops_there {board} {s} {letters} Wrong xs i d same inside leads wrong = record 
   leads = leads;
   wrong = wrong;
 }
+
+-- what one more letter does to where the letters lead and to the number of those in upper case
+pub ruleset one_letter_on = (leads_on_lower, leads_on_upper, count_by_more_no, count_by_more_yes)

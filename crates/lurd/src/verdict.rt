@@ -20,7 +20,7 @@ pub enum Verdict {
 }
 
 /// The verdict on the letters, played on the level from its start. The first letter that is wrong decides.
-#[tactic(auto, using(crate::proofs::Leading::leads_on_lower, crate::proofs::Leading::leads_on_upper, std::proofs::lemmas::List::Sums::count_by_more_no, std::proofs::lemmas::List::Sums::count_by_more_yes))]
+#[tactic(auto, using(crate::proofs::Leading::one_letter_on))]
 pub fn replay(alloc: Global, level: &Level, moves: &Moves) -> Result<Verdict, AllocError>
     ensures { IfOk result (λ verdict. IsVerdict level.now moves.now verdict) }
 {
