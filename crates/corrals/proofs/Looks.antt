@@ -72,7 +72,7 @@ module _ (board : Board) (s : Scene) (held room : ℕ → Bool) (boxes squares :
 
   pub closure_found : (m : ℕ) → room s.player ≡ false → has_to_change board boxes squares ≡ true
       → list_all (λ q. shut_round board s.boxes held room q) squares ≡ true
-      → ((b : ℕ) → contains boxes b ≡ true → IsReadyBox board held room s b)
+      → ((b : ℕ) → contains boxes b ≡ true → IsReadyBox board m held room s b)
       → IsClosure board m held room s
   closure_found m out change shut ready =
       let at = λ (q : ℕ) (inside : room q ≡ true). shut_at q (all_pass (λ x. shut_round board s.boxes held room x) squares q shut (listed_square q inside)) in
@@ -84,7 +84,7 @@ module _ (board : Board) (s : Scene) (held room : ℕ → Bool) (boxes squares :
           shut = λ q d inside. beside q d ((at q inside).1 d);
         };
         change = changes change;
-        ready = λ b d member. (ready b (listed_box b member)).1 m d;
+        ready = λ b d member. (ready b (listed_box b member)).1 d;
       }
 
 -- what holds for each direction where the four tests say so

@@ -1,14 +1,12 @@
 -- Corrals: rooms that boxes shut, and those boxes, of which one has to be pushed, and may as well be pushed first.
-use Rattle.std.specs.Prelude.{◌≡◌, ℕ, suc, ◌+◌, ◌≤◌, ◌⊎◌, Bool, true, false, List, length}
+use Rattle.std.specs.Prelude.{◌≡◌, ℕ, suc, ◌⊎◌, Bool, true, false}
 use Rattle.grid.specs.declared.dir.Dir.{Dir}
-use Rattle.grid.specs.declared.square.Push.{Push}
 use Rattle.grid.specs.Squares.{contains}
-use Rattle.grid.specs.Board.{Board, Scene, Pushes, is_goal, is_wall, next, opposite}
+use Rattle.grid.specs.Board.{Board, Scene, is_goal, is_wall, next, opposite}
 use Rattle.grid.specs.States.{FitsLevel}
-use Rattle.grid.specs.Plays.{Play}
 use Rattle.grid.specs.Lawful.{IsLevel}
 use Rattle.area.specs.Area.{Area}
-use Rattle.prices.specs.Solving.{SolvableWithin}
+use Rattle.prices.specs.Helping.{NeverHelps}
 use Rattle.corrals.specs.Trying.{Suffice}
 
 -- on each held square stands a box; in the room is neither a box nor the player; beside it are only walls, held boxes and the room itself
@@ -22,11 +20,6 @@ pub record IsCorral (board : Board) (held room : ℕ → Bool) (s : Scene) : Typ
 -- a held box is off goal, or the room has a goal: so some held box has to be pushed
 abbrev pub HasToChange : Board → (ℕ → Bool) → (ℕ → Bool) → Type 0
 HasToChange board held room = ((q : ℕ) × (held q ≡ true) × (is_goal board q ≡ false)) ⊎ ((q : ℕ) × (room q ≡ true) × (is_goal board q ≡ true))
-
--- no play of at most m pushes that ends solved pushes the box on the square in the direction, where it has stood there all the time
-abbrev pub NeverHelps : Board → ℕ → Scene → ℕ → Dir → Type 0
-NeverHelps board m s b d = (x y : Scene) (ds : List Dir) (ps : List Push) (n : ℕ) → Play board (λ z. contains z.boxes b ≡ true) s ds ps x
-    → Pushes board x d y → next board x.player d ≡ b → length ps + suc n ≤ m → ¬ (SolvableWithin board n y)
 
 -- what is behind a held box, or ahead of it, bars its push while no held box was pushed: a wall, a held box, or for the player the room
 abbrev pub IsBarred : Board → (ℕ → Bool) → (ℕ → Bool) → ℕ → Dir → Type 0

@@ -1,5 +1,5 @@
 //! Whether what was chosen is a corral.
-ghost use Rattle.std.specs.Prelude.{◌≡◌, ℕ, ◌<◌, ◌&&◌, ◌||◌, not, true, IsTrue, length};
+ghost use Rattle.std.specs.Prelude.{◌≡◌, ℕ, suc, ◌<◌, ◌&&◌, ◌||◌, not, true, IsTrue, length};
 ghost use Rattle.std.specs.List.{list_all, list_any};
 ghost use Rattle.grid.specs.Board.{is_goal};
 ghost use Rattle.grid.specs.Masks.{has_bit};
@@ -21,7 +21,7 @@ pub(crate) fn is_closure(
     sets: &mut Sets,
 ) -> bool
     requires room { HasRoom (length ground.now.board.cells) sets.old }
-    ensures closure { IsTrue result → (m : ℕ) → IsClosure ground.now.board m (has_bit sets.new.held) (has_bit sets.new.room) ground.now.scene }
+    ensures closure { IsTrue result → IsClosure ground.now.board (suc ground.now.left) (has_bit sets.new.held) (has_bit sets.new.room) ground.now.scene }
     ensures room { HasRoom (length ground.now.board.cells) sets.new }
 {
     if !are_inside(ground, boxes) {
@@ -47,7 +47,7 @@ fn are_inside(ground: &Ground<'_>, squares: &[Square]) -> bool
 fn is_found(ground: &Ground<'_>, boxes: &[Square], squares: &[Square], sets: &Sets) -> bool
     requires held { (q : ℕ) → has_bit sets.now.held q ≡ contains boxes.now q }
     requires room { (q : ℕ) → has_bit sets.now.room q ≡ contains squares.now q }
-    ensures { IsTrue result → (m : ℕ) → IsClosure ground.now.board m (has_bit sets.now.held) (has_bit sets.now.room) ground.now.scene }
+    ensures { IsTrue result → IsClosure ground.now.board (suc ground.now.left) (has_bit sets.now.held) (has_bit sets.now.room) ground.now.scene }
 {
     let outside = !sets.room.has(ground.position().player());
     let changes = has_to_change(ground, boxes, squares);
@@ -117,7 +117,7 @@ fn is_shut_beside(ground: &Ground<'_>, square: Square, dir: Dir, sets: &Sets) ->
 // Whether on each of the squares stands a box, and all its pushes that could be the first of a held box are ready.
 fn are_ready(ground: &Ground<'_>, boxes: &[Square], sets: &Sets) -> bool
     ensures { IsTrue result → (b : ℕ) → contains boxes.now b ≡ true →
-        IsReadyBox ground.now.board (has_bit sets.now.held) (has_bit sets.now.room) ground.now.scene b }
+        IsReadyBox ground.now.board (suc ground.now.left) (has_bit sets.now.held) (has_bit sets.now.room) ground.now.scene b }
 {
     for square in boxes {
         if !is_ready_round(ground, *square, sets) {
@@ -129,7 +129,7 @@ fn are_ready(ground: &Ground<'_>, boxes: &[Square], sets: &Sets) -> bool
 
 // The same of one square.
 fn is_ready_round(ground: &Ground<'_>, square: Square, sets: &Sets) -> bool
-    ensures { IsTrue result → IsReadyBox ground.now.board (has_bit sets.now.held) (has_bit sets.now.room) ground.now.scene square }
+    ensures { IsTrue result → IsReadyBox ground.now.board (suc ground.now.left) (has_bit sets.now.held) (has_bit sets.now.room) ground.now.scene square }
 {
     if !ground.has(square) || !ground.has_box(square) {
         return false;
@@ -144,7 +144,7 @@ fn is_ready_round(ground: &Ground<'_>, square: Square, sets: &Sets) -> bool
 // Whether the push of a held box in a direction is ready, if it could be the first.
 fn is_ready_along(ground: &Ground<'_>, square: Square, dir: Dir, sets: &Sets) -> bool
     requires { square < length ground.now.board.cells }
-    ensures { IsTrue result → (m : ℕ) → IsReady ground.now.board m (has_bit sets.now.held) (has_bit sets.now.room) ground.now.scene square dir }
+    ensures { IsTrue result → IsReady ground.now.board (suc ground.now.left) (has_bit sets.now.held) (has_bit sets.now.room) ground.now.scene square dir }
 {
     let behind = ground.next(square, dir.opposite());
     let ahead = ground.next(square, dir);
@@ -153,8 +153,8 @@ fn is_ready_along(ground: &Ground<'_>, square: Square, dir: Dir, sets: &Sets) ->
     if shut || barred {
         return true;
     }
-    let dead = ground.is_dead(ahead);
-    if dead {
+    let useless = ground.never_helps(square, dir);
+    if useless {
         return true;
     }
     let inside = sets.room.has(ahead);

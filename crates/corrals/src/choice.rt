@@ -1,35 +1,23 @@
 //! Which boxes and which squares may be a corral: a guess, of which nothing is proved.
 
 use crate::ground::Ground;
+use crate::sketch::{Beside, Sketch, bit};
 use grid::{Dir, Square};
 use std::alloc::{AllocError, Global};
 
-/// The mark of a square that is in the room.
-const ROOM: u8 = 1;
-
-/// The mark of a square whose box is held.
-const HELD: u8 = 2;
-
-/// The mark of a square whose room was grown, so that none is grown from it again.
-const GROWN: u8 = 1;
-
-/// The mark of a square whose room is in no corral.
-const FAILED: u8 = 2;
-
-/// The boxes and the squares that were chosen, with a mark for each square, and how many of them were looked at. Of a whole
-/// position it keeps from which squares rooms were grown, and the best corral so far.
+/// The boxes and the squares that were chosen. Of a position it keeps which boxes are in no corral, each by its bit, the boxes
+/// and the rooms that grow, and those of the corral with the fewest pushes so far.
 #[derive(Debug, Drop)]
 pub(crate) struct Choice {
     pub(crate) boxes: Vec<Square>,
     pub(crate) squares: Vec<Square>,
-    marks: Vec<u8>,
-    boxes_done: usize,
-    squares_done: usize,
-    most: usize,
-    start: Square,
-    tried: Vec<Square>,
-    outcomes: Vec<u8>,
-    best: Option<(u32, Square)>,
+    sketch: Sketch,
+    bad: u64,
+    held: u64,
+    rooms: u64,
+    least: u32,
+    best_held: u64,
+    best_rooms: u64,
 }
 
 impl Choice {
@@ -38,259 +26,245 @@ impl Choice {
         Ok(Choice {
             boxes: Vec::with_capacity(alloc, squares)?,
             squares: Vec::with_capacity(alloc, squares)?,
-            marks: vec![in alloc; 0; squares]?,
-            boxes_done: 0,
-            squares_done: 0,
-            most: 0,
-            start: Square(0),
-            tried: Vec::with_capacity(alloc, squares)?,
-            outcomes: vec![in alloc; 0; squares]?,
-            best: None,
+            sketch: Sketch::new(alloc, squares)?,
+            bad: 0,
+            held: 0,
+            rooms: 0,
+            least: u32::MAX,
+            best_held: 0,
+            best_rooms: 0,
         })
     }
 
-    /// Begins with a position of so many boxes. A corral that holds all of them spares nothing.
-    pub(crate) fn begin(&mut self, most: usize) {
-        unmark(self.tried.as_slice(), self.outcomes.as_mut_slice());
-        self.tried.clear();
-        self.most = most;
-        self.best = None;
-    }
-
-    /// Grows the room of a square, once for each room, and notes the corral if it seems to be one.
-    pub(crate) fn try_from(&mut self, ground: &Ground<'_>, start: Square) {
-        if self.outcome_of(start) != 0 {
-            return;
-        }
-        self.clear(start);
-        let settled = self.grow_room(ground, start);
-        let outcome = if settled { GROWN } else { FAILED };
-        self.keep_outcome(outcome);
-        if settled && self.settle(ground) && self.has_to_change(ground) {
-            self.note(self.count(ground), start);
-        }
-    }
-
-    /// Chooses the best of the corrals that were noted; `false` where there is none.
-    pub(crate) fn choose_best(&mut self, ground: &Ground<'_>) -> bool {
-        let Some((_, start)) = self.best else {
-            return false;
-        };
-        if start == self.start {
-            return true;
-        }
-        self.clear(start);
-        self.grow_room(ground, start) && self.settle(ground)
-    }
-
-    // Notes a corral with so many pushes that are possible, if there is none with fewer.
-    fn note(&mut self, count: u32, start: Square) {
-        match self.best {
-            Some((least, _)) if least <= count => {}
-            _ => self.best = Some((count, start)),
-        }
-    }
-
-    // Forgets what was chosen.
-    fn clear(&mut self, start: Square) {
-        unmark(self.boxes.as_slice(), self.marks.as_mut_slice());
-        unmark(self.squares.as_slice(), self.marks.as_mut_slice());
-        self.boxes.clear();
-        self.squares.clear();
-        self.boxes_done = 0;
-        self.squares_done = 0;
-        self.start = start;
-    }
-
-    // Takes the square and all round it up to walls and boxes; `false` where one of these boxes is loose.
-    fn grow_room(&mut self, ground: &Ground<'_>, start: Square) -> bool {
-        if !self.take(ground, start) {
+    /// Chooses of the corrals that seem to be there the one with the fewest pushes that are possible; `false` where none is.
+    pub(crate) fn choose(&mut self, ground: &Ground<'_>) -> bool {
+        self.sketch.draw(ground);
+        self.find_loose(ground);
+        self.least = u32::MAX;
+        self.try_rooms(ground);
+        self.try_boxes(ground);
+        if self.least == u32::MAX {
             return false;
         }
-        for _ in 0..self.marks.len() {
-            if self.squares_done >= self.squares.len() {
-                return true;
-            }
-            if !self.look_round(ground) {
-                return false;
-            }
-        }
+        self.list_boxes();
+        self.list_squares();
         true
     }
 
-    // Keeps of each square that was taken what came of its room.
-    fn keep_outcome(&mut self, outcome: u8) {
-        for square in self.squares.as_slice() {
-            if let Some(place) = self.outcomes.get_mut(square.0 as usize) {
-                if *place == 0 {
-                    let _ = self.tried.push(*square);
-                }
-                *place = outcome;
+    // Finds the boxes that are loose, which no corral holds.
+    fn find_loose(&mut self, ground: &Ground<'_>) {
+        self.bad = 0;
+        for place in 0..self.sketch.count() {
+            if self.is_loose(ground, place) {
+                self.bad |= bit(place);
             }
         }
     }
 
-    fn outcome_of(&self, square: Square) -> u8 {
-        match self.outcomes.get(square.0 as usize) {
-            Some(outcome) => *outcome,
-            None => 0,
+    // Whether a box has a push from a square that the player comes to, onto another such square.
+    fn is_loose(&mut self, ground: &Ground<'_>, place: usize) -> bool {
+        self.is_loose_along(ground, place, Dir::D) || self.is_loose_along(ground, place, Dir::R)
+    }
+
+    // The same of the pushes in a direction and against it.
+    fn is_loose_along(&mut self, ground: &Ground<'_>, place: usize, dir: Dir) -> bool {
+        let behind = self.sketch.beside(place, dir.opposite());
+        let ahead = self.sketch.beside(place, dir);
+        is_reached(behind)
+            && is_reached(ahead)
+            && !(self.sketch.never_helps(ground, place, dir)
+                && self.sketch.never_helps(ground, place, dir.opposite()))
+    }
+
+    // Tries the corral that grows from each room.
+    fn try_rooms(&mut self, ground: &Ground<'_>) {
+        for room in 0..self.sketch.rooms() {
+            self.held = self.sketch.around(room);
+            self.rooms = bit(room);
+            if self.least > 0 && self.grow(ground) {
+                self.note(ground);
+            }
         }
     }
 
-    fn mark(&mut self, square: Square, mark: u8) {
-        if let Some(place) = self.marks.get_mut(square.0 as usize) {
-            *place = mark;
+    // Tries the corral that grows from each box off goal.
+    fn try_boxes(&mut self, ground: &Ground<'_>) {
+        for place in 0..self.sketch.count() {
+            self.held = bit(place) & self.sketch.off_goal();
+            self.rooms = 0;
+            if self.least > 0 && self.held != 0 {
+                if self.grow(ground) {
+                    self.note(ground);
+                } else {
+                    self.bad |= bit(place);
+                }
+            }
         }
     }
 
-    fn mark_of(&self, square: Square) -> u8 {
-        match self.marks.get(square.0 as usize) {
-            Some(mark) => *mark,
-            None => 0,
-        }
-    }
-
-    // Holds the box on the square, or else takes the square into the room; `false` where no corral has it.
-    fn take(&mut self, ground: &Ground<'_>, square: Square) -> bool {
-        if self.mark_of(square) != 0 {
-            return true;
-        }
-        if ground.has_box(square) {
-            self.mark(square, HELD);
-            let _ = self.boxes.push(square);
-            return self.boxes.len() < self.most && !is_loose(ground, square);
-        }
-        self.mark(square, ROOM);
-        let _ = self.squares.push(square);
-        self.outcome_of(square) != FAILED
-    }
-
-    // Takes what bars the boxes and what shuts the room, until nothing is left to take; `false` where a push leads out.
-    fn settle(&mut self, ground: &Ground<'_>) -> bool {
-        for _ in 0..self.marks.len().saturating_mul(2) {
-            let sound = if self.squares_done < self.squares.len() {
-                self.look_round(ground)
-            } else if self.boxes_done < self.boxes.len() {
-                self.bar_round(ground)
-            } else {
-                return true;
-            };
-            if !sound {
+    // Takes what bars the boxes and what shuts the rooms, until nothing is left to take; `false` where a push leads out.
+    fn grow(&mut self, ground: &Ground<'_>) -> bool {
+        let mut done = 0;
+        for _ in 0..64u32 {
+            let rest = self.held & !done;
+            if rest == 0 || self.held & self.bad != 0 {
+                break;
+            }
+            let place = rest.trailing_zeros() as usize;
+            if !self.bar_round(ground, place) {
                 return false;
             }
+            done |= bit(place);
         }
-        false
+        self.held & !done == 0 && self.held & self.bad == 0
     }
 
-    // Takes what is beside the next square of the room.
-    fn look_round(&mut self, ground: &Ground<'_>) -> bool {
-        if self.squares_done >= self.squares.len() {
-            return true;
-        }
-        let square = self.squares[self.squares_done];
-        self.squares_done = self.squares_done.saturating_add(1);
-        self.shut(ground, square, Dir::D)
-            && self.shut(ground, square, Dir::L)
-            && self.shut(ground, square, Dir::R)
-            && self.shut(ground, square, Dir::U)
-    }
-
-    // Takes what bars the pushes of the next box.
-    fn bar_round(&mut self, ground: &Ground<'_>) -> bool {
-        if self.boxes_done >= self.boxes.len() {
-            return true;
-        }
-        let square = self.boxes[self.boxes_done];
-        self.boxes_done = self.boxes_done.saturating_add(1);
-        self.bar(ground, square, Dir::D)
-            && self.bar(ground, square, Dir::L)
-            && self.bar(ground, square, Dir::R)
-            && self.bar(ground, square, Dir::U)
-    }
-
-    // Takes what is beside a square of the room.
-    fn shut(&mut self, ground: &Ground<'_>, square: Square, dir: Dir) -> bool {
-        if !ground.has(square) {
-            return false;
-        }
-        let beside = ground.next(square, dir);
-        ground.is_wall(beside) || self.take(ground, beside)
+    // Takes what bars the pushes of a box; `false` where nothing does.
+    fn bar_round(&mut self, ground: &Ground<'_>, place: usize) -> bool {
+        self.bar(ground, place, Dir::D)
+            && self.bar(ground, place, Dir::L)
+            && self.bar(ground, place, Dir::R)
+            && self.bar(ground, place, Dir::U)
     }
 
     // Takes what bars a push of a held box that is not ready; `false` where nothing does.
-    fn bar(&mut self, ground: &Ground<'_>, square: Square, dir: Dir) -> bool {
-        if !ground.has(square) {
+    fn bar(&mut self, ground: &Ground<'_>, place: usize, dir: Dir) -> bool {
+        let behind = self.sketch.beside(place, dir.opposite());
+        let ahead = self.sketch.beside(place, dir);
+        if self.is_shut(behind) || self.is_stopped(ahead) || self.leads_in(behind, ahead) {
             return true;
         }
-        let behind = ground.next(square, dir.opposite());
-        let ahead = ground.next(square, dir);
-        if ground.is_wall(behind) || ground.is_wall(ahead) || ground.is_dead(ahead) {
+        if self.sketch.never_helps(ground, place, dir) {
             return true;
         }
-        if self.mark_of(behind) != 0 || self.mark_of(ahead) == HELD {
-            return true;
+        if is_reached(behind) || (self.is_good_box(ahead) && !self.is_good(behind)) {
+            self.take(ahead)
+        } else {
+            self.take(behind)
         }
-        if !ground.reaches(behind) {
-            return self.take(ground, behind);
-        }
-        if self.mark_of(ahead) == ROOM {
-            return true;
-        }
-        !ground.reaches(ahead) && self.take(ground, ahead)
     }
 
-    // Whether a held box is off goal, or a goal in the room.
-    fn has_to_change(&self, ground: &Ground<'_>) -> bool {
-        let off = self.boxes.iter().any(|square| !ground.is_goal(*square));
-        off || self.squares.iter().any(|square| ground.is_goal(*square))
+    // Whether the player can't stand there while no held box was pushed.
+    fn is_shut(&self, behind: Beside) -> bool {
+        match behind {
+            Beside::Room(room) => bit(room) & self.rooms != 0,
+            it => self.is_stopped(it),
+        }
+    }
+
+    // Whether no box can be pushed there while no held box was pushed.
+    fn is_stopped(&self, ahead: Beside) -> bool {
+        match ahead {
+            Beside::Wall => true,
+            Beside::Box(it) => bit(it) & self.held != 0,
+            _ => false,
+        }
+    }
+
+    // Whether a push leads into the room and can be made now.
+    fn leads_in(&self, behind: Beside, ahead: Beside) -> bool {
+        match ahead {
+            Beside::Room(room) => bit(room) & self.rooms != 0 && is_reached(behind),
+            _ => false,
+        }
+    }
+
+    // Whether it is a box that may be held.
+    fn is_good_box(&self, it: Beside) -> bool {
+        match it {
+            Beside::Box(place) => bit(place) & self.bad == 0,
+            _ => false,
+        }
+    }
+
+    // Whether it is such a box, or a room with only such boxes round it.
+    fn is_good(&self, it: Beside) -> bool {
+        match it {
+            Beside::Room(room) => self.sketch.around(room) & self.bad == 0,
+            other => self.is_good_box(other),
+        }
+    }
+
+    // Holds a box, or takes a room with all boxes round it; `false` where it is neither.
+    fn take(&mut self, it: Beside) -> bool {
+        match it {
+            Beside::Box(place) => {
+                self.held |= bit(place);
+                true
+            }
+            Beside::Room(room) => {
+                let around = self.sketch.around(room);
+                self.held |= around;
+                self.rooms |= bit(room);
+                true
+            }
+            _ => false,
+        }
+    }
+
+    // Notes what was grown, if something has to change there and it has fewer pushes than all before.
+    fn note(&mut self, ground: &Ground<'_>) {
+        if self.held & self.sketch.off_goal() == 0 && self.rooms & self.sketch.goals() == 0 {
+            return;
+        }
+        let count = self.count_pushes(ground);
+        if count < self.least {
+            self.least = count;
+            self.best_held = self.held;
+            self.best_rooms = self.rooms;
+        }
     }
 
     // How many pushes of held boxes are possible.
-    fn count(&self, ground: &Ground<'_>) -> u32 {
+    fn count_pushes(&mut self, ground: &Ground<'_>) -> u32 {
         let mut count: u32 = 0;
-        for square in self.boxes.as_slice() {
-            for dir in Dir::ALL {
-                if self.is_possible(ground, *square, dir) {
-                    count = count.saturating_add(1);
-                }
+        for place in 0..self.sketch.count() {
+            if bit(place) & self.held != 0 {
+                count = count.saturating_add(self.count_round(ground, place));
             }
         }
         count
     }
 
-    // Whether the push of a held box is possible.
-    fn is_possible(&self, ground: &Ground<'_>, square: Square, dir: Dir) -> bool {
-        if !ground.has(square) {
-            return false;
+    // How many pushes of a held box are possible.
+    fn count_round(&mut self, ground: &Ground<'_>, place: usize) -> u32 {
+        let mut count: u32 = 0;
+        for dir in Dir::ALL {
+            let behind = self.sketch.beside(place, dir.opposite());
+            let ahead = self.sketch.beside(place, dir);
+            if self.leads_in(behind, ahead) && !self.sketch.never_helps(ground, place, dir) {
+                count = count.saturating_add(1);
+            }
         }
-        let behind = ground.next(square, dir.opposite());
-        let ahead = ground.next(square, dir);
-        self.mark_of(ahead) == ROOM && !ground.is_dead(ahead) && ground.reaches(behind)
+        count
+    }
+
+    // Lists the boxes of the best corral.
+    fn list_boxes(&mut self) {
+        self.boxes.clear();
+        for place in 0..self.sketch.count() {
+            if bit(place) & self.best_held != 0 {
+                let square = self.sketch.square(place);
+                let _ = self.boxes.push(square);
+            }
+        }
+    }
+
+    // Lists the squares of the best corral's rooms.
+    fn list_squares(&mut self) {
+        self.squares.clear();
+        for room in 0..self.sketch.rooms() {
+            if bit(room) & self.best_rooms != 0 {
+                self.sketch.append_room(room, &mut self.squares);
+            }
+        }
     }
 }
 
-// Whether the box on the square has a push from a square that the player comes to, onto another such square.
-fn is_loose(ground: &Ground<'_>, square: Square) -> bool {
-    is_loose_along(ground, square, Dir::D) || is_loose_along(ground, square, Dir::R)
-}
-
-// The same of the pushes in a direction and against it.
-fn is_loose_along(ground: &Ground<'_>, square: Square, dir: Dir) -> bool {
-    if !ground.has(square) {
-        return true;
-    }
-    let behind = ground.next(square, dir.opposite());
-    let ahead = ground.next(square, dir);
-    ground.reaches(behind)
-        && ground.reaches(ahead)
-        && !(ground.is_dead(behind) && ground.is_dead(ahead))
-}
-
-// Takes the marks of squares away.
-fn unmark(squares: &[Square], marks: &mut [u8]) {
-    for square in squares {
-        if let Some(mark) = marks.get_mut(square.0 as usize) {
-            *mark = 0;
-        }
+// Whether the player comes there.
+fn is_reached(it: Beside) -> bool {
+    match it {
+        Beside::Reached => true,
+        _ => false,
     }
 }

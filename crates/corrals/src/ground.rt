@@ -1,25 +1,28 @@
 //! Where a corral is looked for.
-ghost use Rattle.std.specs.Prelude.{◌≡◌, ℕ, ◌<◌, IsTrue, length, nat_lt};
+ghost use Rattle.std.specs.Prelude.{◌≡◌, ℕ, suc, ◌<◌, IsTrue, length, nat_lt};
 ghost use Rattle.grid.specs.declared.dir.Dir.{Dir as Direction};
 ghost use Rattle.grid.specs.Board.{is_wall, is_goal, next};
 ghost use Rattle.grid.specs.Squares.{contains};
 ghost use Rattle.grid.specs.States.{FitsLevel};
 ghost use Rattle.area.specs.After.{IsAreaOf};
 ghost use Rattle.area.specs.Area.{Area};
-ghost use Rattle.corrals.specs.Corrals.{NeverHelps};
+ghost use Rattle.prices.specs.Helping.{NeverHelps};
 
 use area::Scratch;
 use doom::Dead;
 use grid::{Dir, Level, Position, Square};
+use prices::Slack;
 use std::marker::Model;
 
-/// A position of a level, of which the last flood in the scratch was. Contracts see the level and the position.
+/// A position of a level, of which the last flood in the scratch was. Contracts see the level, the position, and how many
+/// pushes are left after the next.
 #[derive(Debug, Drop)]
 pub(crate) struct Ground<'a> {
     level: &'a Level,
     dead: &'a Dead,
     position: &'a Position,
     scratch: &'a Scratch,
+    slack: &'a Slack<'a>,
 }
 
 impl<'a> Model for Ground<'a> {
@@ -39,18 +42,21 @@ impl<'a> Ground<'a> {
         dead: &'a Dead,
         position: &'a Position,
         scratch: &'a Scratch,
+        slack: &'a Slack<'a>,
     ) -> Ground<'a>
         requires fits { FitsLevel level.now position.now }
         requires dead_of_level { dead.now ≡ level.now }
         requires flooded { IsAreaOf level.now position.now scratch.now.reached }
         requires boxes { scratch.now.boxes ≡ position.now.boxes }
-        ensures { result ≡ record { board = level.now; scene = position.now } }
+        requires slack { (slack.now.board ≡ level.now) × (slack.now.scene ≡ position.now) }
+        ensures { result ≡ record { board = level.now; scene = position.now; left = slack.now.left } }
     {
         Ground {
             level,
             dead,
             position,
             scratch,
+            slack,
         }
     }
 
@@ -95,6 +101,21 @@ impl<'a> Ground<'a> {
         ensures { IsTrue result → (m b : ℕ) (d : Direction) → next self.now.board b d ≡ square → NeverHelps self.now.board m self.now.scene b d }
     {
         self.dead.is_dead(square)
+    }
+
+    /// Whether a push of the box on the square never helps, where one stands there: it leads onto a dead square, or costs more
+    /// than is left.
+    pub(crate) fn never_helps(&self, square: Square, dir: Dir) -> bool
+        ensures { IsTrue result → NeverHelps self.now.board (suc self.now.left) self.now.scene square dir }
+    {
+        if !self.has(square) || !self.has_box(square) {
+            return false;
+        }
+        let ahead = self.next(square, dir);
+        if self.is_dead(ahead) {
+            return true;
+        }
+        self.slack.never_helps(square, dir)
     }
 
     /// Whether a box stands on the square.

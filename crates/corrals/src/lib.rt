@@ -13,6 +13,7 @@ mod corral;
 mod finding;
 mod ground;
 pub mod laws;
+mod sketch;
 
 pub use corral::Corral;
 pub use finding::find;

@@ -3,3 +3,4 @@ pub mod Goals
 pub mod Checking
 pub mod Sums
 pub mod Counts
+pub mod Slacks

@@ -1,6 +1,7 @@
 -- What boxes need by a table and a list of tolls is a need, and so the code's sums are bounds.
-use Rattle.std.proofs.Common.{◌≡◌, ◌+◌, ◌-◌, ◌<◌, ◌≤◌, ℕ, suc, Bool, true, false, cond, eqb, eq-eqb, List, [], ◌∷◌, length, get_or, refl, ap, subst, ◌∙◌, arith}
-use Rattle.std.proofs.lemmas.Bool.{false≢true, ne_eqb, true≢false}
+use Rattle.std.proofs.Common.{◌≡◌, ◌+◌, ◌-◌, ◌<◌, ◌≤◌, ◌==◌, ℕ, zero, suc, Bool, true, false, cond, eqb, eq-eqb}
+use Rattle.std.proofs.Common.{List, [], ◌∷◌, length, get_or, refl, ap, subst, ◌∙◌, arith}
+use Rattle.std.proofs.lemmas.Bool.{eqb-true, false≢true, ne_eqb, true≢false}
 use Rattle.grid.specs.Board.{Board, Scene}
 use Rattle.grid.specs.States.{IsScene}
 use Rattle.grid.specs.Squares.{contains}
@@ -10,7 +11,7 @@ use Rattle.prices.specs.declared.table.Table.{Table}
 use Rattle.prices.specs.Solving.{NoneWithin}
 use Rattle.prices.specs.Prices.{AreFar, goals_of, least_of, need_of, sum_over, total_need}
 use Rattle.prices.specs.inside.Tables.{far_in, number_of, place_in, row_in}
-use Rattle.prices.specs.inside.Sums.{greatest, need_by, total}
+use Rattle.prices.specs.inside.Sums.{greatest, least_sum, need_by, need_seen, total}
 use Rattle.prices.proofs.lemmas.Goals.{is_rising-goals}
 use Rattle.prices.proofs.Checking.{place_inside}
 use Rattle.prices.proofs.lemmas.Prices.{in_tail, needs_refuse, sum_le, tolls_are_free}
@@ -33,8 +34,31 @@ need_least t tolls row b p n is same size each le =
     subst (λ (xs : List ℕ). n ≤ get_or xs i 0 + get_or tolls i 0) is (each i (omega (arith, inside, same, size)))
     )) le
 
+-- the least sum is at most each, and at most the greatest number
+least_sum_le : (xs ys : List ℕ) (i : ℕ) → length xs ≡ length ys → i < length xs → least_sum xs ys ≤ get_or xs i 0 + get_or ys i 0
+least_sum_le [] ys i same lt = absurd (omega (arith, lt))
+least_sum_le (x ∷ xs) [] i same lt = absurd (omega (arith, same))
+least_sum_le (x ∷ xs) (y ∷ ys) zero same lt = omega arith
+least_sum_le (x ∷ xs) (y ∷ ys) (suc i) same lt = let rest = least_sum_le xs ys i (omega (arith, same)) (omega (arith, lt)) in omega (arith, rest)
+
+pub least_sum_most : (xs ys : List ℕ) → least_sum xs ys ≤ greatest
+least_sum_most [] ys = omega arith
+least_sum_most (x ∷ xs) [] = omega arith
+least_sum_most (x ∷ xs) (y ∷ ys) = let rest = least_sum_most xs ys in omega (arith, rest)
+
+-- what the code finds is no more than what the box needs
+pub seen_low : (t : Table) (tolls : List ℕ) (b p : ℕ) → length tolls ≡ length t.goals.items → need_seen t tolls b p ≤ need_by t tolls b p
+seen_low t tolls b p size = by_eq (length (row_in t b p) == length tolls) refl
+  where
+    by_eq : (e : Bool) → (length (row_in t b p) == length tolls) ≡ e → cond e (least_sum (row_in t b p) tolls) 0 ≤ need_by t tolls b p
+    by_eq false is = omega arith
+    by_eq true is =
+        let same : length (row_in t b p) ≡ length tolls = eqb-true (length (row_in t b p)) (length tolls) is in
+        need_least t tolls (row_in t b p) b p (least_sum (row_in t b p) tolls) refl same size
+        (λ i lt. least_sum_le (row_in t b p) tolls i same lt) (least_sum_most (row_in t b p) tolls)
+
 -- the tolls of goals that rise are no more than all numbers
-tolls_le : (k : ℕ) (gs xs : List ℕ) → rises_from k gs ≡ true → length xs ≡ length gs → sum_over (number_of gs xs) gs ≤ total xs
+pub tolls_le : (k : ℕ) (gs xs : List ℕ) → rises_from k gs ≡ true → length xs ≡ length gs → sum_over (number_of gs xs) gs ≤ total xs
 tolls_le k [] xs rises same = omega arith
 tolls_le k (g ∷ gs) [] rises same = absurd (omega (arith, same))
 tolls_le k (g ∷ gs) (x ∷ xs) rises same =

@@ -1,3 +1,4 @@
 pub mod Solving
 pub mod Prices
+pub mod Helping
 pub mod inside

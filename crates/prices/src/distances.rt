@@ -21,8 +21,8 @@ use std::marker::Model;
 /// sides are told apart at the first thousand squares that cut the room, and in rooms of up to 8,192 squares at all.
 #[derive(Debug, Drop)]
 pub struct Distances {
-    level: Level,
-    table: Table,
+    pub(crate) level: Level,
+    pub(crate) table: Table,
 }
 
 impl Model for Distances {
@@ -61,6 +61,11 @@ impl Distances {
         ensures { IsTrue result → NoneWithin self.now most position.now }
     {
         u64::from(most) < self.lower(position, matching)
+    }
+
+    /// Matches the boxes of a position with the goals, for what asks for the matching's tolls. Takes no memory.
+    pub fn meet(&self, position: &Position, matching: &mut Matching) {
+        matching.meet(&self.table, position);
     }
 
     /// How many pushes the boxes need at least: no play from the position with fewer ends solved. It is

@@ -1,6 +1,7 @@
 //! Laws of plays with few pushes that callers may rely on. Each is the contract of a function that does nothing.
 ghost use Rattle.prices.specs.Solving.{FirstPushLeads, NoneIsNotSolvable, NormsChangeNothing, WalksChangeNothing};
 ghost use Rattle.prices.specs.Prices.{NeedsHold, NeedsRefuse, TollsAreFree};
+ghost use Rattle.prices.specs.Helping.{CostsTell, NeverLeadsOn};
 
 use grid::Level;
 
@@ -19,4 +20,10 @@ pub fn needs_are_bounds(level: &Level)
     ensures hold { NeedsHold level.now }
     ensures refuse { NeedsRefuse level.now }
     ensures tolls { TollsAreFree level.now }
+{}
+
+/// The laws of pushes that never help: one that costs more than is left is such a push, and made at once it leads to nothing.
+pub fn costs_tell_what_never_helps(level: &Level)
+    ensures costs { CostsTell level.now }
+    ensures leads { NeverLeadsOn level.now }
 {}

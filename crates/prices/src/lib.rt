@@ -28,6 +28,7 @@ mod needs;
 mod numbering;
 mod pulls;
 mod sides;
+mod slack;
 mod table;
 #[cfg(test)]
 mod tests;
@@ -35,3 +36,4 @@ mod tests;
 pub use distances::Distances;
 pub use matching::Matching;
 pub use pulls::NEVER;
+pub use slack::Slack;

@@ -1,7 +1,7 @@
 //! What boxes need by the distances of a table and the tolls of the goals.
-ghost use Rattle.std.specs.Prelude.{◌≡◌, ℕ, ◌+◌, ◌<◌, ◌≤◌, length, slice_index_or};
+ghost use Rattle.std.specs.Prelude.{◌≡◌, ℕ, ◌+◌, ◌*◌, ◌<◌, ◌≤◌, length, slice_index_or};
 ghost use Rattle.prices.specs.Prices.{sum_over};
-ghost use Rattle.prices.specs.inside.Sums.{greatest, need_by, total};
+ghost use Rattle.prices.specs.inside.Sums.{greatest, least_sum, need_by, need_seen, total};
 
 use crate::table::Table;
 use grid::{MAX_BOXES, Square};
@@ -11,7 +11,7 @@ impl Table {
     pub(crate) fn needs(&self, boxes: &[Square], player: Square, tolls: &[u32]) -> u64
         requires few { length boxes.now ≤ MAX_BOXES }
         requires tolls { length tolls.now ≡ length self.now.goals.items }
-        ensures { result ≤ sum_over (λ b. need_by self.now tolls.now b player) boxes.now }
+        ensures { result ≡ sum_over (λ b. need_seen self.now tolls.now b player) boxes.now }
     {
         let mut needs = 0;
         for square in boxes {
@@ -20,10 +20,12 @@ impl Table {
         needs
     }
 
-    // A lower bound of what a box on the square needs.
-    fn need(&self, square: Square, player: Square, tolls: &[u32]) -> u32
+    /// A lower bound of what a box on the square needs.
+    pub(crate) fn need(&self, square: Square, player: Square, tolls: &[u32]) -> u32
         requires { length tolls.now ≡ length self.now.goals.items }
-        ensures { result ≤ need_by self.now tolls.now square player }
+        ensures seen { result ≡ need_seen self.now tolls.now square player }
+        ensures low { result ≤ need_by self.now tolls.now square player }
+        ensures most { result ≤ greatest }
     {
         let row = self.row(square, player);
         if row.len() != tolls.len() {
@@ -33,10 +35,12 @@ impl Table {
     }
 }
 
+#[tactic(auto, using(crate::proofs::Sums::least_sum_most))]
 // The least sum of a number and the other at its place; the greatest number where that is less or there are none.
 fn least_sum(numbers: &[u32], others: &[u32]) -> u32
     requires { length numbers.now ≡ length others.now }
     ensures most { result ≤ greatest }
+    ensures value { result ≡ least_sum numbers.now others.now }
     ensures each { (i : ℕ) → i < length numbers.now → result ≤ slice_index_or numbers.now i 0 + slice_index_or others.now i 0 }
 {
     let mut least = u32::MAX;
@@ -49,7 +53,8 @@ fn least_sum(numbers: &[u32], others: &[u32]) -> u32
 /// The sum of the numbers.
 pub(crate) fn sum(numbers: &[u32]) -> u64
     requires { length numbers.now ≤ MAX_BOXES }
-    ensures { result ≡ total numbers.now }
+    ensures value { result ≡ total numbers.now }
+    ensures few { result ≤ MAX_BOXES * greatest }
 {
     let mut sum = 0;
     for number in numbers {

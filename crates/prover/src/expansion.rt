@@ -13,6 +13,7 @@ use crate::pruner::Pruner;
 use crate::pushing::try_chosen;
 use crate::store::Store;
 use grid::Position;
+use prices::Slack;
 use std::alloc::AllocError;
 
 /// The places from one up to another.
@@ -90,16 +91,19 @@ fn expand(
         &mut desk.pushes,
     );
     pruner.level().tell();
+    pruner.distances().meet(position, &mut desk.matching);
+    let slack = Slack::of(pruner.distances(), position, left, &desk.matching);
     let only = corrals::find(
         pruner.level(),
         pruner.dead(),
         position,
         &desk.scratch,
+        &slack,
         &mut desk.corral,
     );
     for index in 0..desk.pushes.len() {
         let push = desk.pushes.as_slice()[index];
-        let kept = try_chosen(pruner, position, push, left, only, desk);
+        let kept = try_chosen(pruner, position, push, &slack, only, desk);
         if kept {
             keep(store, &desk.after, label, more)?;
         }

@@ -58,6 +58,13 @@ impl<'a> Pruner<'a> {
         &self.dead
     }
 
+    /// The distances to each goal.
+    pub(crate) fn distances(&self) -> &Distances
+        ensures { result.now ≡ self.now }
+    {
+        &self.distances
+    }
+
     /// Whether the boxes of the position need more pushes than so many; `false` says nothing. What each box needs to the
     /// nearest goal is looked at first, and only then what all need, no two at one goal.
     pub(crate) fn refuses(&self, position: &Position, left: u32, matching: &mut Matching) -> bool

@@ -14,23 +14,26 @@ use crate::pruner::Pruner;
 use area::Scratch;
 use doom::Dead;
 use grid::{Level, Position, Push};
+use prices::Slack;
 
-/// The same as [`try_push`], where with `only` a push of another box than the corral's is left out too.
+/// The same as [`try_push`], where a push that costs more than is left is left out before anything else is made, and with
+/// `only` a push of another box than the corral's is left out too.
 pub(crate) fn try_chosen(
     pruner: &Pruner<'_>,
     position: &Position,
     push: Push,
-    left: u32,
+    slack: &Slack<'_>,
     only: bool,
     desk: &mut Desk,
 ) -> bool
     requires fits { FitsLevel pruner.now position.now }
     requires room { desk.old.scratch.size ≡ length pruner.now.cells }
-    requires flooded { IsAreaOf pruner.now position.now desk.old.scratch.reached }
-    requires boxes { desk.old.scratch.boxes ≡ position.now.boxes }
+    requires flooded { IsAreaOf pruner.now position.now desk.old.scratch.reached × (desk.old.scratch.boxes ≡ position.now.boxes) }
     requires possible { CanPush pruner.now position.now push }
+    requires slack { (slack.now.board ≡ pruner.now) × (slack.now.scene ≡ position.now) }
     ensures made { IsTrue result → IsNorm pruner.now (after_push pruner.now position.now push) desk.new.after × FitsLevel pruner.now desk.new.after }
-    ensures left_out { IsFalse result → IsChosen only desk.old.corral.held push → NoneWithin pruner.now left (after_push pruner.now position.now push) }
+    ensures left_out { IsFalse result → IsChosen only desk.old.corral.held push →
+        NoneWithin pruner.now slack.now.left (after_push pruner.now position.now push) }
     ensures kept { (desk.new.scratch ≡ desk.old.scratch) × (desk.new.pushes ≡ desk.old.pushes) × (desk.new.corral ≡ desk.old.corral) }
 {
     let Push { square, dir } = push;
@@ -38,6 +41,11 @@ pub(crate) fn try_chosen(
     if only && !held {
         return false;
     }
+    let useless = slack.never_helps(square, dir);
+    if useless {
+        return false;
+    }
+    let left = slack.left();
     let kept = try_push(pruner, position, Push { square, dir }, left, desk);
     kept
 }

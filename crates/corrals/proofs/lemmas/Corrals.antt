@@ -15,7 +15,8 @@ use Rattle.doom.specs.Lost.{LosesBox}
 use Rattle.prices.proofs.lemmas.Goals.{contains-goals}
 use Rattle.prices.proofs.lemmas.Solved.{solved_are_goals}
 use Rattle.corrals.specs.Trying.{LeadsOn}
-use Rattle.corrals.specs.Corrals.{IsCorral, HasToChange, NeverHelps, IsReady, CorralsSuffice}
+use Rattle.prices.specs.Helping.{NeverHelps}
+use Rattle.corrals.specs.Corrals.{IsCorral, HasToChange, IsReady, CorralsSuffice}
 use Rattle.corrals.proofs.Exchange.{Good, Cut, not_held, stays_or_cut, exchanged}
 
 module _ (board : Board) (held room : ℕ → Bool) where

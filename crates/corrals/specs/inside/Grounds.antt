@@ -1,21 +1,24 @@
 -- What contracts see of where a corral is looked for.
-use Rattle.std.specs.Prelude.{◌≡◌}
+use Rattle.std.specs.Prelude.{◌≡◌, ℕ}
 use Rattle.grid.specs.Board.{Board, Scene}
 use Rattle.grid.specs.States.{FitsLevel}
 use Rattle.area.specs.After.{IsAreaOf}
 use Rattle.corrals.specs.declared.ground.Ground.TheInside.{Inside}
 
--- a level and a position of it
+-- a level, a position of it, and how many pushes are left after the next
 pub record GroundView : Type 0 where
   pub board : Board
   pub scene : Scene
+  pub left : ℕ
 
 abbrev pub ground_view : Inside → GroundView
-ground_view a = record { board = a.level.now; scene = a.position.now }
+ground_view a = record { board = a.level.now; scene = a.position.now; left = a.slack.now.left }
 
--- the position is one of the level; the dead squares are the level's, and the last flood was that of the position
+-- the position is one of the level; the dead squares are the level's, and the last flood was that of the position, and so
+-- is the slack
 pub record IsFlooded (a : Inside) : Type 0 where
   pub fits : FitsLevel a.level.now a.position.now
   pub dead_of_level : a.dead.now ≡ a.level.now
   pub flooded : IsAreaOf a.level.now a.position.now a.scratch.now.reached
   pub boxes : a.scratch.now.boxes ≡ a.position.now.boxes
+  pub slack : (a.slack.now.board ≡ a.level.now) × (a.slack.now.scene ≡ a.position.now)

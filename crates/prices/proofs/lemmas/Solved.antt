@@ -1,5 +1,5 @@
 -- Solved boxes stand on all the goals.
-use Rattle.std.proofs.Common.{◌≡◌, ℕ, suc, ◌≤◌, Bool, true, false, eqb, [], ◌∷◌, length, refl, sym, subst, ◌∙◌, arith}
+use Rattle.std.proofs.Common.{◌≡◌, ℕ, suc, ◌≤◌, Bool, true, false, eqb, [], ◌∷◌, length, refl, subst, ◌∙◌, arith}
 use Rattle.std.proofs.lemmas.Bool.{eqb-true, eqb-false}
 use Rattle.grid.specs.Squares.{Squares, contains, remove}
 use Rattle.grid.specs.Rising.{rises_from, is_rising}

@@ -1,4 +1,4 @@
-use Rattle.std.proofs.Common.{◌≡◌, ℕ, ◌<◌, Some}
+use Rattle.std.proofs.Common.{◌≡◌, ℕ, suc, ◌<◌, Some}
 use Rattle.std.specs.Prelude.{slice_get}
 use Rattle.grid.specs.Masks.{has_bit}
 use Rattle.corrals.specs.inside.Checking.{IsReadyBox}
@@ -6,4 +6,5 @@ use Rattle.corrals.proofs.checking.are_ready.Given as goal
 
 abbrev pub invariant-loop-square : goal.invariant-loop-square
 invariant-loop-square l =
-    (i b : ℕ) → i < l.square-index → slice_get l.boxes i ≡ Some b → IsReadyBox l.ground.board (has_bit l.sets.held) (has_bit l.sets.room) l.ground.scene b
+    (i b : ℕ) → i < l.square-index → slice_get l.boxes i ≡ Some b →
+    IsReadyBox l.ground.board (suc l.ground.left) (has_bit l.sets.held) (has_bit l.sets.room) l.ground.scene b

@@ -1,5 +1,5 @@
-use Rattle.std.proofs.Common.{inl, inr, refl, sym}
+use Rattle.std.proofs.Common.{inl, inr, refl}
 use Rattle.corrals.proofs.checking.is_ready_along.Goals as goal
 
-pub returns-then-dead : goal.returns-then-dead
-returns-then-dead c told m = inr (inl (c.if-dead.ensures refl m c.args.square c.args.dir (sym c.next-ahead.ensures)))
+pub returns-then-useless : goal.returns-then-useless
+returns-then-useless c told = inr (inl (c.if-useless.ensures refl))

@@ -1,4 +1,4 @@
-use Rattle.std.proofs.Common.{ℕ, sym, ◌∙◌}
+use Rattle.std.proofs.Common.{suc, sym, ◌∙◌}
 use Rattle.grid.specs.declared.dir.Dir.{Dir}
 use Rattle.grid.specs.Masks.{has_bit}
 use Rattle.corrals.specs.Corrals.{IsReady}
@@ -8,8 +8,8 @@ use Rattle.corrals.proofs.checking.is_ready_round.Goals as goal
 pub returns : goal.returns
 returns c told = (
   sym c.has_box.ensures ∙ c.if-not-has_box.false,
-  λ m d. each_way (λ (x : Dir). (k : ℕ) →
-      IsReady c.args.ground.now.board k (has_bit c.args.sets.now.held) (has_bit c.args.sets.now.room) c.args.ground.now.scene c.args.square x)
+  λ d. each_way (λ (x : Dir). IsReady c.args.ground.now.board (suc c.args.ground.now.left) (has_bit c.args.sets.now.held) (has_bit c.args.sets.now.room)
+      c.args.ground.now.scene c.args.square x)
       c.is_ready_along-down.result c.is_ready_along-left.result c.is_ready_along-right.result c.is_ready_along-up.result
-      c.is_ready_along-down.ensures c.is_ready_along-left.ensures c.is_ready_along-right.ensures c.is_ready_along-up.ensures told d m,
+      c.is_ready_along-down.ensures c.is_ready_along-left.ensures c.is_ready_along-right.ensures c.is_ready_along-up.ensures told d,
 )

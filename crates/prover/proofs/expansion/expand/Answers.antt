@@ -8,7 +8,10 @@ use Rattle.corrals.specs.Corrals.{IsClosure}
 use Rattle.corrals.specs.Sets.{SetsView}
 use Rattle.area.specs.After.{IsAreaOf}
 use Rattle.area.specs.Pushes.{ArePushes}
+use Rattle.prices.specs.Helping.{SlackView}
+use Rattle.prices.specs.Solving.{NoneWithin}
 use Rattle.prover.specs.Frame.{Keeps}
+use Rattle.prover.specs.Pruning.{after_push}
 use Rattle.prover.specs.inside.Entries.{EntriesView, Grows, IsReached}
 use Rattle.prover.specs.inside.Progress.{AllFit, AreDoneWith, IsChosen}
 use Rattle.prover.proofs.Progressing.{chosen_suffice, done_more, expansion_keeps, grows_none, grows_on, read_push}
@@ -64,7 +67,9 @@ loop-index-preserved c =
       | else-kept w ↦
           subst P (sym w.more-is) (
             done_more board left all Tried c.loop-index.more c.loop-index.more k s ps c.loop-index.index p
-                (grows_none c.loop-index.more c.loop-index.more refl) here was.done (λ tried. inr (c.try_chosen-kept.ensures.left_out w.if-kept.false tried)),
+                (grows_none c.loop-index.more c.loop-index.more refl) here was.done (λ tried. inr (subst (λ (j : ℕ). NoneWithin board j (after_push board s p))
+                (ap (λ (v : SlackView). v.left) c.of-slack.ensures)
+                (c.try_chosen-kept.ensures.left_out w.if-kept.false tried))),
             was.fit,
             was.grows,
           )
@@ -98,7 +103,8 @@ returns-clause-keeps c = λ most k enough label.
       has_bit c.find-only.new.corral.room,
       subst (λ (v : SetsView). IsClosure board (suc c.args.left) (has_bit v.held) (has_bit c.find-only.new.corral.room) s) (sym was.corral)
           (subst (λ (b : Board). IsClosure b (suc c.args.left) (has_bit c.find-only.new.corral.held) (has_bit c.find-only.new.corral.room) s) c.level-3.ensures
-          (c.find-only.ensures told (suc c.args.left))),
+          (subst (λ (j : ℕ). IsClosure c.level-3.result.now (suc j) (has_bit c.find-only.new.corral.held) (has_bit c.find-only.new.corral.room) s)
+          (ap (λ (v : SlackView). v.left) c.of-slack.ensures) (c.find-only.ensures told))),
     ) in
     let level : IsLevel board = subst (λ (b : Board). IsLevel b) c.level-2.ensures c.tell.ensures in
     let suffice = chosen_suffice board c.args.left s only held level c.requires.fits closure in

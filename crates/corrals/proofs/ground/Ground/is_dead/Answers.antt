@@ -1,7 +1,7 @@
 use Rattle.std.proofs.Common.{◌≡◌, ap, sym, ◌∙◌, subst}
 use Rattle.grid.specs.Board.{Board, next}
 use Rattle.doom.specs.Lost.{LosesBox}
-use Rattle.corrals.specs.Corrals.{NeverHelps}
+use Rattle.prices.specs.Helping.{NeverHelps}
 use Rattle.corrals.specs.inside.Grounds.{GroundView}
 use Rattle.corrals.proofs.lemmas.Corrals.{losing_never_helps}
 use Rattle.corrals.proofs.ground.Ground.is_dead.Goals as goal

@@ -1,0 +1,90 @@
+ghost use Rattle.std.specs.Prelude.{◌≡◌, ℕ, suc, IsTrue, true};
+ghost use Rattle.grid.specs.Squares.{contains};
+ghost use Rattle.grid.specs.States.{IsScene};
+ghost use Rattle.prices.specs.Helping.{NeverHelps};
+
+use crate::distances::Distances;
+use crate::matching::Matching;
+use crate::needs::sum;
+use crate::table::{Table, part};
+use grid::{Dir, Level, MAX_BOXES, Position, Square};
+use std::marker::Model;
+
+/// How many more pushes are left than the boxes of a position need, by the tolls of a matching. Contracts see the level, the
+/// position, and how many pushes are left after the next.
+#[derive(Debug, Drop)]
+pub struct Slack<'a> {
+    level: &'a Level,
+    table: &'a Table,
+    position: &'a Position,
+    tolls: [u32; MAX_BOXES],
+    left: u32,
+    // what a box may need more after its push than before, so much and no more
+    spare: u64,
+}
+
+impl<'a> Model for Slack<'a> {
+    ghost use Rattle.prices.specs.inside.Slacks.{slack_view, IsSlack};
+    ghost use Rattle.prices.specs.Helping.{SlackView};
+
+    ghost Value = { SlackView };
+
+    ghost view = { slack_view };
+
+    ghost invariant = { IsSlack };
+}
+
+impl<'a> Slack<'a> {
+    /// That of a position, where so many pushes are left after the next one. The matching may be any: one of the position's
+    /// boxes leaves least.
+    pub fn of(
+        distances: &'a Distances,
+        position: &'a Position,
+        left: u32,
+        matching: &Matching,
+    ) -> Slack<'a>
+        requires { IsScene distances.now position.now }
+        ensures { result ≡ record { board = distances.now; scene = position.now; left = left } }
+    {
+        let table = &distances.table;
+        let all_tolls = matching.tolls;
+        let tolls = part(&all_tolls, 0, table.goals.len());
+        let needs = if tolls.len() == table.goals.len() {
+            table.needs(position.boxes(), position.player(), tolls)
+        } else {
+            0
+        };
+        let all = u64::from(left) + 1 + sum(tolls);
+        Slack {
+            level: &distances.level,
+            table,
+            position,
+            tolls: all_tolls,
+            left,
+            spare: all.saturating_sub(needs),
+        }
+    }
+
+    /// How many pushes are left after the next.
+    pub fn left(&self) -> u32
+        ensures { result ≡ self.now.left }
+    {
+        self.left
+    }
+
+    /// Whether a push of one of the boxes costs more than is left: no play with so few pushes that ends solved pushes it there
+    /// before it has been moved. `false` says nothing.
+    pub fn never_helps(&self, square: Square, dir: Dir) -> bool
+        requires { contains self.now.scene.boxes square ≡ true }
+        ensures { IsTrue result → NeverHelps self.now.board (suc self.now.left) self.now.scene square dir }
+    {
+        let tolls = part(&self.tolls, 0, self.table.goals.len());
+        if tolls.len() != self.table.goals.len() {
+            return false;
+        }
+        let ahead = self.level.next(square, dir);
+        let before = self.table.need(square, self.position.player(), tolls);
+        let after = self.table.need(ahead, square, tolls);
+        u64::from(after) >= self.spare.saturating_add(u64::from(before))
+    }
+}
