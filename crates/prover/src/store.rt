@@ -1,5 +1,5 @@
 //! The positions that a search has seen, found by their squares.
-ghost use Rattle.std.specs.Prelude.{◌≡◌, ◌⊎◌, ◌<◌, ◌≤◌, ℕ, [], IsTrue, IfOk, IfNone, IfSome, OnOk, length};
+ghost use Rattle.std.specs.Prelude.{◌≡◌, ◌⊎◌, ◌<◌, ◌≤◌, [], IsTrue, IfOk, IfNone, IfSome, OnOk, length};
 ghost use Rattle.prover.specs.Frame.{IsSeen};
 ghost use Rattle.prover.specs.inside.Entries.{with_entry};
 
@@ -8,19 +8,21 @@ use grid::{MAX_BOXES, Position, Square};
 use std::alloc::{AllocError, Global};
 use std::marker::Model;
 
-/// What a slot has in which no place stands. Places beyond the positions that there are count as none either.
-const EMPTY: u32 = u32::MAX;
+/// The tag of a slot in which no place stands.
+const FREE: u8 = 0;
 
 /// So many slots there are at first.
 const LEAST_SLOTS: usize = 1024;
 
-/// Positions in the order in which they came, and a table of their places by their squares, of which at most every other slot
-/// has one. Contracts see the positions alone: what the table has decides only how soon a position is found, since each
-/// one that it leads to is compared.
+/// Positions in the order in which they came, and a table of their places by their squares. Contracts see the positions alone:
+/// what the table has decides only how soon a position is found, since each one that it leads to is compared.
 #[derive(Debug, Drop)]
 pub(crate) struct Store {
     entries: Entries,
-    slots: Vec<u32>,
+    // a part of the hash of the position that each slot leads to, so that few others are read
+    tags: Vec<u8>,
+    // the place to which each slot leads that is not free
+    places: Vec<u32>,
 }
 
 impl Model for Store {
@@ -31,7 +33,7 @@ impl Model for Store {
 
     ghost view = { λ a. a.entries };
 
-    ghost invariant = { λ a. 1 ≤ length a.slots.items };
+    ghost invariant = { λ a. (1 ≤ length a.tags.items) × (length a.tags.items ≤ length a.places.items) };
 }
 
 impl Store {
@@ -42,7 +44,8 @@ impl Store {
     {
         Ok(Store {
             entries: Entries::new(alloc, boxes),
-            slots: empty_slots(alloc, LEAST_SLOTS)?,
+            tags: free_slots(alloc)?,
+            places: no_places(alloc)?,
         })
     }
 
@@ -57,7 +60,9 @@ impl Store {
     pub(crate) fn knows(&self, position: &Position, pushes: u32) -> bool
         ensures { IsTrue result → IsSeen self.now.seen pushes position.now }
     {
-        free_slot(&self.entries, self.slots.as_slice(), position, pushes).is_none()
+        let (tags, places) = (self.tags.as_slice(), self.places.as_slice());
+        let hash = hash_with(hash_of(position.boxes()), position.player());
+        free_slot(&self.entries, tags, places, hash, position, pushes).is_none()
     }
 
     /// Enters a position, if it was not seen after as few pushes. The only error is that memory was refused, and it leaves the
@@ -68,66 +73,92 @@ impl Store {
             (self.new ≡ with_entry self.old position.now label.pushes)) }
     {
         self.make_room()?;
-        let found = free_slot(&self.entries, self.slots.as_slice(), position, label.pushes);
+        let (tags, places) = (self.tags.as_slice(), self.places.as_slice());
+        let hash = hash_with(hash_of(position.boxes()), position.player());
+        let found = free_slot(&self.entries, tags, places, hash, position, label.pushes);
         let Some(slot) = found else {
             return Ok(());
         };
         let place = self.entries.len();
         self.entries.append(position, label)?;
-        self.slots[slot] = u32::try_from(place).unwrap_or(EMPTY);
+        self.tags[slot] = tag_of(hash);
+        self.places[slot] = u32::try_from(place).unwrap_or(u32::MAX);
         Ok(())
     }
 
-    // Makes twice as many slots where every other one has a place.
+    // Makes half as many slots more where four in five have a place.
     fn make_room(&mut self) -> Result<(), AllocError>
         ensures { self.new ≡ self.old }
     {
-        let size = self.slots.len();
-        if self.entries.len() < size / 2 {
+        let size = self.tags.len();
+        if self.entries.len() < size / 5 * 4 {
             return Ok(());
         }
-        let alloc = *self.slots.allocator();
-        let mut slots = empty_slots(alloc, size.saturating_mul(2))?;
-        put_all(&self.entries, slots.as_mut_slice());
-        self.slots = slots;
+        let more = size.saturating_add(size / 2);
+        self.places.resize(more, 0)?;
+        self.tags.resize(more, FREE)?;
+        self.tags.as_mut_slice().fill(FREE);
+        let (tags, places) = (self.tags.as_mut_slice(), self.places.as_mut_slice());
+        put_all(&self.entries, tags, places);
         Ok(())
     }
 }
 
-// So many slots without a place.
-fn empty_slots(alloc: Global, size: usize) -> Result<Vec<u32>, AllocError>
-    ensures { IfOk result (λ slots. length slots.items ≡ size) }
+// As many slots as there are at first, all of them free.
+fn free_slots(alloc: Global) -> Result<Vec<u8>, AllocError>
+    ensures { IfOk result (λ tags. length tags.items ≡ LEAST_SLOTS) }
 {
-    Ok(vec![in alloc; EMPTY; size]?)
+    Ok(vec![in alloc; FREE; LEAST_SLOTS]?)
+}
+
+// A place for each of these slots, none of which is read.
+fn no_places(alloc: Global) -> Result<Vec<u32>, AllocError>
+    ensures { IfOk result (λ places. length places.items ≡ LEAST_SLOTS) }
+{
+    Ok(vec![in alloc; 0; LEAST_SLOTS]?)
 }
 
 // Writes the place of each position into a slot of its own.
-fn put_all(entries: &Entries, slots: &mut [u32])
-    ensures { length slots.new ≡ length slots.old }
+fn put_all(entries: &Entries, tags: &mut [u8], places: &mut [u32])
+    requires { length tags.old ≤ length places.old }
+    ensures tags { length tags.new ≡ length tags.old }
+    ensures places { length places.new ≡ length places.old }
 {
     for place in 0..entries.len() {
         if let Some(row) = entries.row(place) {
-            put(slots, hash_of(row), place);
+            put(tags, places, hash_of(row), place);
         }
     }
 }
 
-// Writes a place into the first slot without one, from that of a hash on.
-fn put(slots: &mut [u32], hash: u64, place: usize)
-    ensures { length slots.new ≡ length slots.old }
+// Writes a place into the first free slot, from that of a hash on.
+fn put(tags: &mut [u8], places: &mut [u32], hash: u64, place: usize)
+    requires { length tags.old ≤ length places.old }
+    ensures tags { length tags.new ≡ length tags.old }
+    ensures places { length places.new ≡ length places.old }
 {
-    let size = slots.len();
+    let size = tags.len();
     if size == 0 {
         return;
     }
-    let mut slot = (hash % size as u64) as usize;
+    let mut slot = first_slot(hash, size);
     for _ in 0..size {
-        if slots[slot] == EMPTY {
-            slots[slot] = u32::try_from(place).unwrap_or(EMPTY);
+        if tags[slot] == FREE {
+            tags[slot] = tag_of(hash);
+            places[slot] = u32::try_from(place).unwrap_or(u32::MAX);
             return;
         }
         slot = next_slot(slot, size);
     }
+}
+
+// The slot from which on a hash is looked for.
+fn first_slot(hash: u64, size: usize) -> usize
+    requires { 1 ≤ size }
+    ensures { result < size }
+{
+    let slot = ((hash >> 32).wrapping_mul(size as u64) >> 32) as usize;
+    slot.min(size - 1)
 }
 
 // The slot after another, round the end.
@@ -138,25 +169,50 @@ fn next_slot(slot: usize, size: usize) -> usize
     if slot + 1 == size { 0 } else { slot + 1 }
 }
 
-// The slot for a position; `None` where it was seen after no more than so many pushes.
-fn free_slot(entries: &Entries, slots: &[u32], position: &Position, pushes: u32) -> Option<usize>
-    requires { 1 ≤ length slots.now }
+// The slot for a position with such a hash; `None` where it was seen after no more than so many pushes.
+fn free_slot(
+    entries: &Entries,
+    tags: &[u8],
+    places: &[u32],
+    hash: u64,
+    position: &Position,
+    pushes: u32,
+) -> Option<usize>
+    requires { (1 ≤ length tags.now) × (length tags.now ≤ length places.now) }
     ensures seen { IfNone result (IsSeen entries.now.seen pushes position.now) }
-    ensures within { IfSome result (λ slot. slot < length slots.now) }
+    ensures within { IfSome result (λ slot. slot < length tags.now) }
 {
-    let size = slots.len();
-    let mut slot = (hash_with(hash_of(position.boxes()), position.player()) % size as u64) as usize;
+    let size = tags.len();
+    let tag = tag_of(hash);
+    let mut slot = first_slot(hash, size);
     for _ in 0..size {
-        let place = slots[slot] as usize;
-        if place >= entries.len() {
+        if tags[slot] == FREE {
             return Some(slot);
         }
-        if entries.has_at(place, position, pushes) {
-            return None;
+        if tags[slot] == tag {
+            if is_at(entries, places[slot], position, pushes) {
+                return None;
+            }
         }
         slot = next_slot(slot, size);
     }
     Some(slot)
+}
+
+// Whether the position stands at a place, and was seen after no more than so many pushes.
+fn is_at(entries: &Entries, place: u32, position: &Position, pushes: u32) -> bool
+    ensures { IsTrue result → IsSeen entries.now.seen pushes position.now }
+{
+    let place = place as usize;
+    if place >= entries.len() {
+        return false;
+    }
+    entries.has_at(place, position, pushes)
+}
+
+// What stands in the slots of such a hash.
+fn tag_of(hash: u64) -> u8 {
+    (hash % 255) as u8 + 1
 }
 
 // A number that is mostly another one for other squares.
