@@ -5,19 +5,8 @@ ghost use Rattle.grid.specs.Masks.{AreMasks, has_bit, word_count};
 ghost use Rattle.grid.specs.Squares.{contains};
 ghost use Rattle.area.specs.Area.{Area, IsNorm};
 ghost use Rattle.area.specs.Words.{word_bit};
-ghost use Rattle.area.specs.inside.Flooding.{
-  is_entered,
-  AreBoxes,
-  AreReached,
-  HasAim,
-  IsGrowing,
-  IsFlooded,
-  IsSettling,
-  IsGrown,
-  PassesUp,
-  PassesDown,
-  PassesOn,
-};
+ghost use Rattle.area.specs.inside.Flooding.{is_entered, AreBoxes, AreReached, HasAim, IsGrowing, IsFlooded, IsSettling};
+ghost use Rattle.area.specs.inside.Flooding.{IsGrown, PassesUp, PassesDown, PassesOn};
 
 use crate::bits::{after, before, has};
 use crate::rooms::grow_in_room;

@@ -34,7 +34,8 @@ flood_from-requires-clause-reached c = record { begun = begun; within = within }
           let other : q ≢ c.args.but = λ e. true≢false (sym p.1 ∙ ap not (eq-eqb c.args.but q (sym e))) in
           c.requires.known q there other)
       | inr own ↦
-          subst (Area c.args.level.now c.args.position.now) (sym c.player.ensures ∙ eqb-true c.player.result q own) (area_here c.args.level.now c.args.position.now)
+          subst (Area c.args.level.now c.args.position.now) (sym c.player.ensures ∙ eqb-true c.player.result q own)
+          (area_here c.args.level.now c.args.position.now)
     ]
 
 pub returns-clause-reached : goal.returns-clause-reached
