@@ -6,7 +6,7 @@ ghost use Rattle.grid.specs.Board.{next, opposite};
 ghost use Rattle.area.specs.Area.{Area, IsNorm, at};
 ghost use Rattle.area.specs.Words.{squares_of};
 ghost use Rattle.area.specs.After.{IsAreaOf, IsPushed};
-ghost use Rattle.area.specs.inside.Detours.{across, FollowsSides, Skirts, IsKnown, GainsNothing, StaysJoined, GoesPast, GoesRound};
+ghost use Rattle.area.specs.inside.Detours.{across, GuessesLeast, HasMoved, Skirts, IsKnown, GainsNothing, StaysJoined, GoesPast, GoesRound};
 
 use crate::bits::least_of;
 use crate::floods::{flood_on, flood_round};
@@ -65,9 +65,7 @@ fn least_aside(
 ) -> Square
     requires fits { FitsLevel level.now position.now }
     requires room { scratch.old.size ≡ length level.now.cells }
-    requires inside { square < length level.now.cells }
-    requires ahead { ahead < length level.now.cells }
-    requires moved { position.now.boxes ≡ insert (remove scratch.old.boxes square) ahead }
+    requires moved { HasMoved level.now scratch.old.boxes position.now.boxes square ahead }
     ensures norm { IsNorm level.now position.now (at position.now result) }
     ensures kept { scratch.new ≡ scratch.old }
 {
@@ -95,12 +93,9 @@ fn least_left(
     requires fits { FitsLevel level.now position.now }
     requires room { scratch.old.size ≡ length level.now.cells }
     requires player { position.now.player ≡ square }
-    requires inside { square < length level.now.cells }
-    requires ahead { ahead < length level.now.cells }
-    requires moved { position.now.boxes ≡ insert (remove scratch.old.boxes square) ahead }
+    requires moved { HasMoved level.now scratch.old.boxes position.now.boxes square ahead }
     requires reached { (q : ℕ) → contains scratch.old.reached q ≡ true → q < length level.now.cells }
-    requires least { (q : ℕ) → Area level.now position.now q → least ≤ q }
-    requires met { FollowsSides level.now position.now (contains scratch.old.reached) ahead least }
+    requires guess { GuessesLeast level.now position.now (contains scratch.old.reached) ahead least }
     ensures norm { IsNorm level.now position.now (at position.now result) }
     ensures kept { scratch.new ≡ scratch.old }
 {
@@ -135,9 +130,7 @@ fn least_grown(
 ) -> Square
     requires fits { FitsLevel level.now position.now }
     requires room { scratch.old.size ≡ length level.now.cells }
-    requires inside { square < length level.now.cells }
-    requires ahead { ahead < length level.now.cells }
-    requires moved { position.now.boxes ≡ insert (remove scratch.old.boxes square) ahead }
+    requires moved { HasMoved level.now scratch.old.boxes position.now.boxes square ahead }
     requires known { (q : ℕ) → contains scratch.old.reached q ≡ true → q ≢ ahead → Area level.now position.now q }
     ensures norm { IsNorm level.now position.now (at position.now result) }
     ensures kept { scratch.new ≡ scratch.old }

@@ -5,7 +5,8 @@ ghost use Rattle.grid.specs.Masks.{AreMasks, has_bit, word_count};
 ghost use Rattle.grid.specs.Squares.{contains};
 ghost use Rattle.area.specs.Area.{Area, IsNorm};
 ghost use Rattle.area.specs.Words.{word_bit};
-ghost use Rattle.area.specs.inside.Flooding.{is_entered, HasAim, IsGrowing, IsFlooded, IsSettling, IsGrown, PassesUp, PassesDown, PassesOn};
+ghost use Rattle.area.specs.inside.Flooding.{is_entered, AreBoxes, AreReached, HasAim, IsGrowing, IsFlooded, IsSettling};
+ghost use Rattle.area.specs.inside.Flooding.{IsGrown, PassesUp, PassesDown, PassesOn};
 
 use crate::bits::{after, before, has};
 use crate::rooms::grow_in_room;
@@ -59,9 +60,7 @@ pub(crate) fn flood_sets(
     requires others { length others.old ≡ word_count (length level.now.cells) }
     ensures reached { (q : ℕ) → (has_bit reached.new q ≡ true) ↔ Area level.now position.now q }
     ensures boxes { (q : ℕ) → has_bit boxes.new q ≡ contains position.now.boxes q }
-    ensures room { length reached.new ≡ length reached.old }
-    ensures places { length boxes.new ≡ length boxes.old }
-    ensures others { length others.new ≡ length others.old }
+    ensures room { (length reached.new ≡ length reached.old) × (length boxes.new ≡ length boxes.old) × (length others.new ≡ length others.old) }
 {
     boxes.put_all(position.boxes());
     others.copy_from(boxes);
@@ -79,13 +78,10 @@ pub(crate) fn flood_round(
 )
     requires fits { FitsLevel level.now position.now }
     requires room { length reached.old ≡ word_count (length level.now.cells) }
-    requires places { length boxes.old ≡ word_count (length level.now.cells) }
-    requires boxes { (q : ℕ) → has_bit boxes.old q ≡ contains position.now.boxes q }
-    ensures begun { has_bit reached.new position.now.player ≡ true }
-    ensures within { (q : ℕ) → has_bit reached.new q ≡ true → Area level.now position.now q }
+    requires boxes { AreBoxes level.now position.now boxes.old }
+    ensures reached { AreReached level.now position.now reached.new }
     ensures whole { HasAim aim.now reached.new ⊎ ((q : ℕ) → Area level.now position.now q → has_bit reached.new q ≡ true) }
-    ensures room { length reached.new ≡ length reached.old }
-    ensures places { length boxes.new ≡ length boxes.old }
+    ensures room { (length reached.new ≡ length reached.old) × (length boxes.new ≡ length boxes.old) }
 {
     reached.clear();
     reached.put(position.player());
@@ -105,13 +101,11 @@ pub(crate) fn flood_on(
     requires fits { FitsLevel level.now position.now }
     requires words { length known.now ≡ word_count (length level.now.cells) }
     requires room { length reached.old ≡ word_count (length level.now.cells) }
-    requires places { length boxes.old ≡ word_count (length level.now.cells) }
-    requires boxes { (q : ℕ) → has_bit boxes.old q ≡ contains position.now.boxes q }
+    requires boxes { AreBoxes level.now position.now boxes.old }
     requires inside { but < length level.now.cells }
     requires known { (q : ℕ) → has_bit known.now q ≡ true → q ≢ but → Area level.now position.now q }
     ensures reached { (q : ℕ) → (has_bit reached.new q ≡ true) ↔ Area level.now position.now q }
-    ensures room { length reached.new ≡ length reached.old }
-    ensures places { length boxes.new ≡ length boxes.old }
+    ensures room { (length reached.new ≡ length reached.old) × (length boxes.new ≡ length boxes.old) }
 {
     reached.copy_from(known);
     reached.take_out(but);
@@ -130,15 +124,11 @@ fn flood_from(
 )
     requires fits { FitsLevel level.now position.now }
     requires room { length reached.old ≡ word_count (length level.now.cells) }
-    requires places { length boxes.old ≡ word_count (length level.now.cells) }
-    requires boxes { (q : ℕ) → has_bit boxes.old q ≡ contains position.now.boxes q }
-    requires begun { has_bit reached.old position.now.player ≡ true }
-    requires within { (q : ℕ) → has_bit reached.old q ≡ true → Area level.now position.now q }
-    ensures begun { has_bit reached.new position.now.player ≡ true }
-    ensures within { (q : ℕ) → has_bit reached.new q ≡ true → Area level.now position.now q }
+    requires boxes { AreBoxes level.now position.now boxes.old }
+    requires reached { AreReached level.now position.now reached.old }
+    ensures reached { AreReached level.now position.now reached.new }
     ensures whole { HasAim aim.now reached.new ⊎ ((q : ℕ) → Area level.now position.now q → has_bit reached.new q ≡ true) }
-    ensures room { length reached.new ≡ length reached.old }
-    ensures places { length boxes.new ≡ length boxes.old }
+    ensures room { (length reached.new ≡ length reached.old) × (length boxes.new ≡ length boxes.old) }
 {
     if level.in_room(position.player()) {
         grow_in_room(level, aim, boxes, reached);

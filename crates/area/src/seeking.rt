@@ -1,13 +1,12 @@
 //! Floods after a push that may end early, of so few words that they stay in registers.
 ghost use Rattle.std.specs.Prelude.{◌≡◌, ℕ, ◌*◌, ◌<◌, ◌≤◌, ◌==◌, true, IsTrue, length};
-ghost use Rattle.grid.specs.Lawful.{InRoom};
 ghost use Rattle.grid.specs.Masks.{has_bit, word_count};
 ghost use Rattle.grid.specs.States.{FitsLevel};
 ghost use Rattle.grid.specs.Squares.{contains, insert, remove};
-ghost use Rattle.area.specs.Area.{Area, IsNorm, at};
+ghost use Rattle.area.specs.Area.{IsNorm, at};
 ghost use Rattle.area.specs.Words.{squares_of};
-ghost use Rattle.area.specs.inside.Detours.{FollowsSides};
-ghost use Rattle.area.specs.inside.RoomFloods.{FindsLeast, is_left, IsBeside, IsWithin, Meets};
+ghost use Rattle.area.specs.inside.Detours.{GuessesLeast};
+ghost use Rattle.area.specs.inside.RoomFloods.{AreSquares, CanSeek, FindsLeast, HaveWords, is_left, IsBeside, IsWithin, Meets};
 
 use crate::bits::{bit_at, least_of};
 use crate::rooms::{array_of, just_beside, round};
@@ -17,9 +16,7 @@ use grid::{Level, Position, Square, WORD_BITS};
 // Whether the player is in the room of the level, and the squares have so few words that they stay in registers.
 #[inline(always)]
 pub(crate) fn can_seek(level: &Level, position: &Position) -> bool
-    ensures room { IsTrue result → InRoom level.now position.now.player }
-    ensures near { IsTrue result → level.now.cols < WORD_BITS }
-    ensures few { IsTrue result → length level.now.cells ≤ 2 * WORD_BITS }
+    ensures { IsTrue result → CanSeek level.now position.now.player }
 {
     level.in_room(position.player()) && level.cols() < WORD_BITS && level.squares() <= 2 * WORD_BITS
 }
@@ -35,16 +32,12 @@ pub(crate) fn seek_least(
     least: Square,
 ) -> Square
     requires fits { FitsLevel level.now position.now }
-    requires room { InRoom level.now position.now.player }
-    requires near { level.now.cols < WORD_BITS }
-    requires few { length level.now.cells ≤ 2 * WORD_BITS }
-    requires words { length known.now ≡ word_count (length level.now.cells) }
+    requires seek { CanSeek level.now position.now.player }
+    requires known { AreSquares level.now known.now }
     requires places { length boxes.now ≡ word_count (length level.now.cells) }
     requires moved { position.now.boxes ≡ insert (remove (squares_of boxes.now) position.now.player) ahead }
     requires ahead { ahead < length level.now.cells }
-    requires inside { (q : ℕ) → has_bit known.now q ≡ true → q < length level.now.cells }
-    requires below { (q : ℕ) → Area level.now position.now q → least ≤ q }
-    requires met { FollowsSides level.now position.now (has_bit known.now) ahead least }
+    requires guess { GuessesLeast level.now position.now (has_bit known.now) ahead least }
     ensures { IsNorm level.now position.now (at position.now result) }
 {
     level.tell();
@@ -70,9 +63,7 @@ fn seek_few<const W: usize>(
 ) -> Square
     requires near { level.now.cols < WORD_BITS }
     requires few { W ≤ 2 }
-    requires room { word_count (length level.now.cells) ≡ W }
-    requires size { length boxes.now ≡ W }
-    requires words { length known.now ≡ W }
+    requires words { HaveWords level.now boxes.now known.now W }
     requires square { square < WORD_BITS * W }
     requires ahead { ahead < WORD_BITS * W }
     requires least { least < WORD_BITS * W }

@@ -1,6 +1,6 @@
 ghost use Rattle.std.specs.Prelude.{◌≡◌, ℕ, ◌+◌, ◌^◌, ◌<◌, ◌≤◌, false, length, slice_index, slice_set, nat_lt, if◌then◌else◌};
 ghost use Rattle.grid.specs.Board.{is_wall};
-ghost use Rattle.area.specs.inside.Spread.{IsSpread, KeepsBlocked, AreWithin};
+ghost use Rattle.area.specs.inside.Spread.{IsBegun, IsSpread, KeepsBlocked, AreWithin};
 
 use grid::{Level, Square};
 
@@ -12,12 +12,7 @@ pub(crate) fn spread(
     marks: &mut [u32],
     queue: &mut [Square],
 )
-    requires room { length marks.old ≡ length level.now.cells }
-    requires places { length queue.old ≡ length level.now.cells }
-    requires small { base + length level.now.cells + 1 < 2 ^ 32 }
-    requires fresh { (q : ℕ) → slice_index marks.old q ≤ base }
-    requires clear { is_wall level.now from ≡ false }
-    requires open { slice_index marks.old from < base }
+    requires begun { IsBegun level.now base from marks.old queue.old }
     ensures spread { IsSpread level.now base from (λ q. slice_index marks.new q) }
     ensures blocked { KeepsBlocked base marks.old marks.new }
     ensures within { AreWithin base (length level.now.cells) marks.new }

@@ -1,5 +1,6 @@
 -- What stands open is brought into the order of its origins, by exchanges of two.
-use Rattle.std.proofs.Common.{◌≡◌, ◌≢◌, ℕ, zero, suc, ◌+◌, ◌-◌, ◌<◌, ◌≤◌, ◌==◌, add-one, List, [], ◌∷◌, ◌++◌, length, map, take, drop, replicate, set, get_or, IsPermutation, Some, refl, sym, ap, subst, ◌∙◌, if◌then◌else◌, inl, inr, arith}
+use Rattle.std.proofs.Common.{◌≡◌, ◌≢◌, ℕ, zero, suc, ◌+◌, ◌-◌, ◌<◌, ◌≤◌, ◌==◌, add-one, List, [], ◌∷◌, ◌++◌, length, map, take, drop, replicate, set, get_or}
+use Rattle.std.proofs.Common.{IsPermutation, Some, refl, sym, ap, subst, ◌∙◌, if◌then◌else◌, inl, inr, arith}
 use Rattle.std.proofs.lemmas.Bool.{cases_eq, cases_lt}
 use Rattle.std.proofs.lemmas.Bool.Decides.{nat_tests}
 use Rattle.std.proofs.lemmas.List.{length-map, length-append, length-replicate, length-set, length-drop, length-take-le}
@@ -54,13 +55,16 @@ length_front (suc start) (x ∷ xs) le = ap suc (length_front start xs (omega (a
 
 -- ---- one exchange
 
-exchanged_at : {A : Type 0} (xs : List A) (a b i : ℕ) → a < length xs → b < length xs → i < length xs → slice_get (swap xs a b) i ≡ slice_get xs (exchange a b i)
+exchanged_at : {A : Type 0} (xs : List A) (a b i : ℕ) → a < length xs → b < length xs → i < length xs →
+    slice_get (swap xs a b) i ≡ slice_get xs (exchange a b i)
 exchanged_at {A} xs a b i p q lt =
     let within = exchange-within a b (length xs) i p q lt in
     let x : A = (entry_at xs (exchange a b i) within).0 in
-    slice_get-get_or (swap xs a b) i x (omega (arith, lt, length-swap xs a b)) ∙ ap (λ (y : A). Some y) (get_or-swap xs a b x p q i) ∙ sym (slice_get-get_or xs (exchange a b i) x within)
+    slice_get-get_or (swap xs a b) i x (omega (arith, lt, length-swap xs a b)) ∙ ap (λ (y : A). Some y) (get_or-swap xs a b x p q i) ∙
+    sym (slice_get-get_or xs (exchange a b i) x within)
 
-at-exchanged : {A : Type 0} (xs : List A) (a b i : ℕ) (x : A) → a < length xs → b < length xs → slice_get (swap xs a b) i ≡ Some x → slice_get xs (exchange a b i) ≡ Some x
+at-exchanged : {A : Type 0} (xs : List A) (a b i : ℕ) (x : A) → a < length xs → b < length xs → slice_get (swap xs a b) i ≡ Some x →
+    slice_get xs (exchange a b i) ≡ Some x
 at-exchanged xs a b i x p q at = sym (exchanged_at xs a b i p q (omega (arith, slice_get_within (swap xs a b) i x at, length-swap xs a b))) ∙ at
 
 exchange_past : (start a b x : ℕ) → exchange (start + a) (start + b) (start + x) ≡ start + exchange a b x
@@ -111,8 +115,19 @@ fewer ts a t at ne places =
     let other : u ≢ t = λ (e : u ≡ t). ne (sym (places.apart a t t at (w.1 ∙ ap (λ (n : ℕ). Some n) e))) in
     let one = strays-set 0 ts a t u at in
     let two = strays-set 0 (set ts a u) t u t (set_elsewhere ts a t u u ne w.1) in
-    let is : set (set ts a u) t t ≡ swap ts a t = (λ i. set (set ts a (sym (get_or_from_slice_get ts t u 0 w.1) i)) t (sym (get_or_from_slice_get ts a t 0 at) i)) ∙ swap_is ts a t 0 (slice_get_within ts a t at) inside in
-    omega (arith, one, two, ap (strays 0) is, stray_other (0 + a) t (λ e. ne (omega (arith, e))), stray_other (0 + t) u (λ e. other (omega (arith, e))), stray_itself (0 + t) t (omega arith), stray_most (0 + a) u)
+    let is : set (set ts a u) t t ≡ swap ts a t =
+    (λ i. set (set ts a (sym (get_or_from_slice_get ts t u 0 w.1) i)) t (sym (get_or_from_slice_get ts a t 0 at) i)) ∙
+    swap_is ts a t 0 (slice_get_within ts a t at) inside in
+    omega (
+      arith,
+      one,
+      two,
+      ap (strays 0) is,
+      stray_other (0 + a) t (λ e. ne (omega (arith, e))),
+      stray_other (0 + t) u (λ e. other (omega (arith, e))),
+      stray_itself (0 + t) t (omega arith),
+      stray_most (0 + a) u,
+    )
 
 -- ---- exchanges, until each entry is at its target
 
@@ -126,7 +141,8 @@ pub record IsExchanged (start : ℕ) (before : List Closed) (aims : List ℕ) (n
   pub fixed : (x : ℕ) → x < place → slice_get targets x ≡ Some x
   pub within : place ≤ length targets
 
-pub none_exchanged : (start : ℕ) (before : List Closed) (aims : List ℕ) → length before ≡ start + length aims → AreApart aims → IsExchanged start before aims before aims 0
+pub none_exchanged : (start : ℕ) (before : List Closed) (aims : List ℕ) → length before ≡ start + length aims → AreApart aims →
+    IsExchanged start before aims before aims 0
 none_exchanged start before aims all apart = record {
   all = all;
   long = (refl, refl);
@@ -138,7 +154,9 @@ none_exchanged start before aims all apart = record {
 }
 
 -- one that is at its target
-pub one_fixed : (start : ℕ) (before : List Closed) (aims : List ℕ) (now : List Closed) (targets : List ℕ) (place target : ℕ) → IsExchanged start before aims now targets place → slice_get targets place ≡ Some target → target ≡ place → IsExchanged start before aims now targets (suc place)
+pub one_fixed : (start : ℕ) (before : List Closed) (aims : List ℕ) (now : List Closed) (targets : List ℕ) (place target : ℕ) →
+    IsExchanged start before aims now targets place → slice_get targets place ≡ Some target → target ≡ place →
+    IsExchanged start before aims now targets (suc place)
 one_fixed start before aims now targets place target is at here = record {
   all = is.all;
   long = is.long;
@@ -153,7 +171,8 @@ one_fixed start before aims now targets place target is at here = record {
 }
 
 -- one that is not
-module _ (start : ℕ) (before : List Closed) (aims : List ℕ) (now : List Closed) (targets : List ℕ) (place target : ℕ) (is : IsExchanged start before aims now targets place) (at : slice_get targets place ≡ Some target) (ne : target ≢ place) where
+module _ (start : ℕ) (before : List Closed) (aims : List ℕ) (now : List Closed) (targets : List ℕ) (place target : ℕ)
+    (is : IsExchanged start before aims now targets place) (at : slice_get targets place ≡ Some target) (ne : target ≢ place) where
   here : place < length targets
   here = slice_get_within targets place target at
 
@@ -169,7 +188,8 @@ module _ (start : ℕ) (before : List Closed) (aims : List ℕ) (now : List Clos
 
   -- those before the place are neither
   earlier : (x : ℕ) → x < place → exchange place target x ≡ x
-  earlier x lt = exchange_else place target x (λ e. omega (arith, lt, e)) (λ (e : x ≡ target). ne (is.apart.apart target place target (ap (slice_get targets) (sym e) ∙ is.fixed x lt ∙ ap (λ (n : ℕ). Some n) e) at))
+  earlier x lt = exchange_else place target x (λ e. omega (arith, lt, e))
+      (λ (e : x ≡ target). ne (is.apart.apart target place target (ap (slice_get targets) (sym e) ∙ is.fixed x lt ∙ ap (λ (n : ℕ). Some n) e) at))
 
   pub one_exchanged : IsExchanged start before aims (swap now (start + place) (start + target)) (swap targets place target) place
   one_exchanged = record {
@@ -184,7 +204,8 @@ module _ (start : ℕ) (before : List Closed) (aims : List ℕ) (now : List Clos
     };
     aimed = λ others put. (let old = is.aimed others put in (
       old.0 ∙ sym (length-swap targets place target),
-      λ x t to. exchanged_at now (start + place) (start + target) (start + x) (omega (arith, is.all, here)) (omega (arith, is.all, there)) (omega (arith, is.all, x_within x t to))
+      λ x t to. exchanged_at now (start + place) (start + target) (start + x) (omega (arith, is.all, here)) (omega (arith, is.all, there))
+          (omega (arith, is.all, x_within x t to))
           ∙ ap (slice_get now) (exchange_past start place target x) ∙ old.1 (exchange place target x) t (had x t to),
     ));
     fixed = λ x lt. exchanged_at targets place target x here there (omega (arith, lt, here)) ∙ ap (slice_get targets) (earlier x lt) ∙ is.fixed x lt;
@@ -192,10 +213,12 @@ module _ (start : ℕ) (before : List Closed) (aims : List ℕ) (now : List Clos
   }
 
 -- where all are at their targets
-pub all_exchanged : (start : ℕ) (before : List Closed) (aims : List ℕ) (now : List Closed) (targets : List ℕ) (place : ℕ) → start ≤ length before → IsExchanged start before aims now targets place → length targets ≤ place →
+pub all_exchanged : (start : ℕ) (before : List Closed) (aims : List ℕ) (now : List Closed) (targets : List ℕ) (place : ℕ) → start ≤ length before →
+    IsExchanged start before aims now targets place → length targets ≤ place →
     (others : List Closed) → AreAtTargets start before aims others → now ≡ seen_of start before ++ others
 all_exchanged start before aims now targets place le is end others put =
-    same_by_places now (take start before ++ others) (omega (arith, is.all, new.0, length-append (take start before) others, length_front start before le)) (λ i lt. by i lt)
+    same_by_places now (take start before ++ others) (omega (arith, is.all, new.0, length-append (take start before) others, length_front start before le))
+    (λ i lt. by i lt)
   where
     new : AreAtTargets start now targets others
     new = is.aimed others put
@@ -224,12 +247,14 @@ rows-push k (v ∷ ws) w =
     let e : suc k + length ws ≡ k + suc (length ws) = omega arith in
     ap (λ (rs : List Row). (v.1, k) ∷ rs) (rows-push (suc k) ws w ∙ ap (λ n. rows_of (suc k) ws ++ (w.1, n) ∷ []) e)
 
-rows_at : (k : ℕ) (ws : List (Entry Scene Push)) (i p : ℕ) (w : Entry Scene Push) → slice_get ws i ≡ Some w → p ≡ k + i → slice_get (rows_of k ws) i ≡ Some (w.1, p)
+rows_at : (k : ℕ) (ws : List (Entry Scene Push)) (i p : ℕ) (w : Entry Scene Push) → slice_get ws i ≡ Some w → p ≡ k + i →
+    slice_get (rows_of k ws) i ≡ Some (w.1, p)
 rows_at k [] i p w at e = absurd (none-some w at)
 rows_at k (v ∷ ws) zero p w at e = let f : k ≡ p = omega (arith, e) in let same = same_Some v w at in λ i. Some ((same i).1, f i)
 rows_at k (v ∷ ws) (suc i) p w at e = rows_at (suc k) ws i p w at (omega (arith, e))
 
-at_rows : (ws : List (Entry Scene Push)) (i : ℕ) (r : Row) → slice_get (rows_of 0 ws) i ≡ Some r → (w : Entry Scene Push) × (slice_get ws i ≡ Some w) × (r ≡ (w.1, i))
+at_rows : (ws : List (Entry Scene Push)) (i : ℕ) (r : Row) → slice_get (rows_of 0 ws) i ≡ Some r →
+    (w : Entry Scene Push) × (slice_get ws i ≡ Some w) × (r ≡ (w.1, i))
 at_rows ws i r at =
     let w = entry_at ws i (omega (arith, slice_get_within (rows_of 0 ws) i r at, length-rows 0 ws)) in
     (w.0, w.1, same_Some r (w.0.1, i) (sym at ∙ rows_at 0 ws i i w.0 w.1 (omega arith)))
@@ -272,12 +297,15 @@ module _ (ws : List (Entry Scene Push)) (rows : List Row) (same : IsPermutation 
       (w.1 ∙ ap (λ (v : Entry Scene Push). Some v) (sym e), ap (λ (v : Entry Scene Push). v.1) e ∙ sym w.2)
 
   same_entries : IsPermutation ws by_rows
-  same_entries = subst (λ vs. IsPermutation vs by_rows) (same_by_places (map entry_of (rows_of 0 ws)) ws (length-map (rows_of 0 ws) entry_of ∙ length-rows 0 ws) (λ i lt. by i (omega (arith, lt, length-map (rows_of 0 ws) entry_of, length-rows 0 ws)))) (IsPermutation-map entry_of (rows_of 0 ws) rows same)
+  same_entries = subst (λ vs. IsPermutation vs by_rows) (same_by_places (map entry_of (rows_of 0 ws)) ws (length-map (rows_of 0 ws) entry_of ∙
+      length-rows 0 ws) (λ i lt. by i (omega (arith, lt, length-map (rows_of 0 ws) entry_of, length-rows 0 ws))))
+      (IsPermutation-map entry_of (rows_of 0 ws) rows same)
     where
       by : (i : ℕ) → i < length ws → slice_get (map entry_of (rows_of 0 ws)) i ≡ slice_get ws i
       by i lt =
           let w = entry_at ws i lt in
-          map_at entry_of (rows_of 0 ws) i (w.0.1, i) (rows_at 0 ws i i w.0 w.1 (omega arith)) ∙ ap (λ (v : Entry Scene Push). Some v) (get_or_from_slice_get ws i w.0 nowhere w.1) ∙ sym w.1
+          map_at entry_of (rows_of 0 ws) i (w.0.1, i) (rows_at 0 ws i i w.0 w.1 (omega arith)) ∙
+          ap (λ (v : Entry Scene Push). Some v) (get_or_from_slice_get ws i w.0 nowhere w.1) ∙ sym w.1
 
   entries_rise : RowsRise rows → RiseByOrigin by_rows
   entries_rise rise i j x y lt at_i at_j =
@@ -293,32 +321,39 @@ apart_targets rows targets are = record {
 }
 
 -- one more row
-pub one_row : (start place : ℕ) (es : List Closed) (rows more : List Row) (o : Origin Push) → start ≤ place → place < length es → rows ≡ rows_of 0 (open_of start (take place es)) → ((e : Closed) → slice_get es place ≡ Some e → o ≡ origin_in e.1) → more ≡ rows ++ (o, place - start) ∷ [] → more ≡ rows_of 0 (open_of start (take (place + 1) es))
+pub one_row : (start place : ℕ) (es : List Closed) (rows more : List Row) (o : Origin Push) → start ≤ place → place < length es →
+    rows ≡ rows_of 0 (open_of start (take place es)) → ((e : Closed) → slice_get es place ≡ Some e → o ≡ origin_in e.1) →
+    more ≡ rows ++ (o, place - start) ∷ [] → more ≡ rows_of 0 (open_of start (take (place + 1) es))
 one_row start place es rows more o le lt before origin put =
     let w = entry_at es place lt in
     let e : Closed = w.0 in
     let ws : List (Entry Scene Push) = open_of start (take place es) in
-    let count : place - start ≡ 0 + length ws = omega (arith, length-map (drop start (take place es)) open_entry, length-drop start (take place es), length-take-le place es (omega (arith, lt))) in
-    put ∙ (λ i. before i ++ (origin e w.1 i, count i) ∷ []) ∙ sym (rows-push 0 ws (open_entry e)) ∙ ap (rows_of 0) (sym (open_more start place es e le w.1)) ∙ ap (λ k. rows_of 0 (open_of start (take k es))) (sym (add-one place))
+    let count : place - start ≡ 0 + length ws = omega
+    (arith, length-map (drop start (take place es)) open_entry, length-drop start (take place es), length-take-le place es (omega (arith, lt))) in
+    put ∙ (λ i. before i ++ (origin e w.1 i, count i) ∷ []) ∙ sym (rows-push 0 ws (open_entry e)) ∙ ap (rows_of 0) (sym (open_more start place es e le w.1)) ∙
+    ap (λ k. rows_of 0 (open_of start (take k es))) (sym (add-one place))
 
 -- ---- targets
 
 -- each row before the place has a target where a row with its place stands
 pub record AreTargetsSoFar (rows : List Row) (place : ℕ) (targets : List ℕ) : Type 0 where
   pub long : length targets ≡ length rows
-  pub far : (i : ℕ) (r : Row) → i < place → slice_get rows i ≡ Some r → (t : ℕ) × (q : Row) × (slice_get targets r.1 ≡ Some t) × (slice_get rows t ≡ Some q) × (q.1 ≡ r.1)
+  pub far : (i : ℕ) (r : Row) → i < place → slice_get rows i ≡ Some r →
+      (t : ℕ) × (q : Row) × (slice_get targets r.1 ≡ Some t) × (slice_get rows t ≡ Some q) × (q.1 ≡ r.1)
 
 pub no_targets : (rows : List Row) (targets : List ℕ) → targets ≡ replicate (length rows) 0 → AreTargetsSoFar rows 0 targets
 no_targets rows targets e = record { long = ap length e ∙ length-replicate (length rows) 0; far = λ i r lt. absurd (omega (arith, lt)) }
 
-pub one_target : (rows : List Row) (place : ℕ) (targets : List ℕ) (row : Row) → AreTargetsSoFar rows place targets → slice_get rows place ≡ Some row → row.1 < length rows → AreTargetsSoFar rows (suc place) (set targets row.1 place)
+pub one_target : (rows : List Row) (place : ℕ) (targets : List ℕ) (row : Row) → AreTargetsSoFar rows place targets → slice_get rows place ≡ Some row →
+    row.1 < length rows → AreTargetsSoFar rows (suc place) (set targets row.1 place)
 one_target rows place targets row before at lt = record {
   long = length-set targets row.1 place ∙ before.long;
   far = λ i r i_lt r_at. elim (cases_eq r.1 row.1) [
     | inl same ↦ (place, row, ap (slice_get (set targets row.1 place)) same ∙ put (omega (arith, lt, before.long)), at, sym same)
     | inr other ↦ elim (cases_lt i place) [
       | inl less ↦ (let w = before.far i r less r_at in (w.0, w.1, set_elsewhere targets row.1 r.1 place w.0 other w.2, w.3, w.4))
-      | inr more ↦ absurd (other (ap (λ (q : Row). q.1) (same_Some r row (sym r_at ∙ ap (slice_get rows) (let e : i ≡ place = omega (arith, i_lt, more) in e) ∙ at))))
+      | inr more ↦ absurd (other (ap (λ (q : Row). q.1) (same_Some r row (sym r_at ∙
+          ap (slice_get rows) (let e : i ≡ place = omega (arith, i_lt, more) in e) ∙ at))))
     ]
   ];
 }
@@ -326,7 +361,8 @@ one_target rows place targets row before at lt = record {
     put : row.1 < length targets → slice_get (set targets row.1 place) row.1 ≡ Some place
     put inside = let w = entry_at targets row.1 inside in set-at targets row.1 w.0 place w.1
 
-pub all_targets : (rows : List Row) (place : ℕ) (targets : List ℕ) → HaveAllPlaces rows → AreTargetsSoFar rows place targets → length rows ≤ place → AreTargets rows targets
+pub all_targets : (rows : List Row) (place : ℕ) (targets : List ℕ) → HaveAllPlaces rows → AreTargetsSoFar rows place targets → length rows ≤ place →
+    AreTargets rows targets
 all_targets rows place targets have are end = (
   are.long,
   λ x t at. (let w = have.whole x (omega (arith, are.long, slice_get_within targets x t at)) in
@@ -336,13 +372,17 @@ all_targets rows place targets have are end = (
 )
 
 -- what stands open, its rows and the targets are as many
-pub counted : (start : ℕ) (es : List Closed) (rows : List Row) (targets : List ℕ) → IsFound start es → IsPermutation (rows_of 0 (open_of start es)) rows → AreTargets rows targets → length es ≡ start + length targets
-counted start es rows targets found same are = omega (arith, found.within, are.0, as_many (open_of start es) rows same, length-map (drop start es) open_entry, length-drop start es)
+pub counted : (start : ℕ) (es : List Closed) (rows : List Row) (targets : List ℕ) → IsFound start es → IsPermutation (rows_of 0 (open_of start es)) rows →
+    AreTargets rows targets → length es ≡ start + length targets
+counted start es rows targets found same are = omega
+    (arith, found.within, are.0, as_many (open_of start es) rows same, length-map (drop start es) open_entry, length-drop start es)
 
 -- ---- a close
 
-pub put_in_order : (start : ℕ) (es : List Closed) (rows : List Row) (targets : List ℕ) (new : List Closed) → IsFound start es → IsDistinct same_scene (keys_of es) → IsPermutation (rows_of 0 (open_of start es)) rows → RowsRise rows → AreTargets rows targets →
-    ((others : List Closed) → AreAtTargets start es targets others → new ≡ seen_of start es ++ others) → IsSortedAppend (seen_of start es) (open_of start es) new
+pub put_in_order : (start : ℕ) (es : List Closed) (rows : List Row) (targets : List ℕ) (new : List Closed) → IsFound start es →
+    IsDistinct same_scene (keys_of es) → IsPermutation (rows_of 0 (open_of start es)) rows → RowsRise rows → AreTargets rows targets →
+    ((others : List Closed) → AreAtTargets start es targets others → new ≡ seen_of start es ++ others) →
+    IsSortedAppend (seen_of start es) (open_of start es) new
 put_in_order start es rows targets new found distinct same rise are put = (
   ys,
   reordered ws ys (open_distinct start es distinct) (same_entries ws rows same),
@@ -364,5 +404,6 @@ put_in_order start es rows targets new found distinct same rise are put = (
         let w = are.1 x t at in
         let entry : Entry Scene Push = entry_of ws rows same w.0 in
         let here : slice_get ws x ≡ Some entry = ap (slice_get ws) (sym w.2) ∙ (entry_is ws rows same t w.0 w.1).0 in
-        ap (λ xs. slice_get xs (start + x)) (split start es found) ∙ at_back start es (map closed_entry ws) (start + x) x found.within refl ∙ map_at closed_entry ws x entry here
+        ap (λ xs. slice_get xs (start + x)) (split start es found) ∙ at_back start es (map closed_entry ws) (start + x) x found.within refl ∙
+        map_at closed_entry ws x entry here
         ∙ sym (map_at closed_entry ys t entry (map_at (entry_of ws rows same) rows t w.0 w.1))

@@ -1,5 +1,6 @@
 -- One list of entries: the closed ones, and behind them those that stand open.
-use Rattle.std.proofs.Common.{◌≡◌, ℕ, zero, suc, ◌+◌, ◌<◌, ◌≤◌, Bool, true, false, cond, ◌&&◌, ◌||◌, ◌==◌, not, is_some, ltb, List, [], ◌∷◌, ◌++◌, length, map, take, drop, position, Option, Some, None, refl, sym, ap, subst, ◌∙◌, if◌then◌else◌, inl, inr, arith}
+use Rattle.std.proofs.Common.{◌≡◌, ℕ, zero, suc, ◌+◌, ◌<◌, ◌≤◌, Bool, true, false, cond, ◌&&◌, ◌||◌, ◌==◌, not, is_some, ltb, List, [], ◌∷◌, ◌++◌, length}
+use Rattle.std.proofs.Common.{map, take, drop, position, Option, Some, None, refl, sym, ap, subst, ◌∙◌, if◌then◌else◌, inl, inr, arith}
 use Rattle.std.proofs.lemmas.Bool.Decides.{nat_tests}
 use Rattle.std.proofs.lemmas.List.{take-append-drop, length-append}
 use Rattle.std.proofs.lemmas.Option.{same_Some, none-some, slice_get_within}
@@ -49,7 +50,8 @@ length_seen (suc start) [] le = absurd (omega arith)
 length_seen (suc start) (e ∷ es) le = ap suc (length_seen start es (omega arith))
 
 -- there are as many closed entries as the place says
-pub seen_long : (boxes squares start : ℕ) (es : List Closed) (inbox : List (Entry Scene Push)) (v : FoundView) → IsFound start es → found_view boxes squares start es inbox ≡ v → length v.seen ≡ start
+pub seen_long : (boxes squares start : ℕ) (es : List Closed) (inbox : List (Entry Scene Push)) (v : FoundView) → IsFound start es →
+    found_view boxes squares start es inbox ≡ v → length v.seen ≡ start
 seen_long boxes squares start es inbox v found e = ap (λ (u : FoundView). length u.seen) (sym e) ∙ length_seen start es found.within
 
 -- an entry stands at each place
@@ -66,7 +68,8 @@ seen_at (suc start) (e ∷ es) zero lt = refl
 seen_at (suc start) (e ∷ es) (suc i) lt = seen_at start es i (omega arith)
 
 -- what is put together so is taken apart so
-pub joined : (start : ℕ) (es new : List Closed) (ws : List (Entry Scene Push)) → start ≤ length es → new ≡ seen_of start es ++ map closed_entry ws → (seen_of start new ≡ seen_of start es) × (open_of start new ≡ ws) × IsFound start new
+pub joined : (start : ℕ) (es new : List Closed) (ws : List (Entry Scene Push)) → start ≤ length es → new ≡ seen_of start es ++ map closed_entry ws →
+    (seen_of start new ≡ seen_of start es) × (open_of start new ≡ ws) × IsFound start new
 joined start es new ws within e = (
   front,
   waits,
@@ -90,11 +93,14 @@ joined start es new ws within e = (
 
 -- ---- looking up
 
-look_append : {X : Type 0} (m : Scene) (xs ys : List (Scene × X)) → lookup (same_scene m) xs ≡ None → lookup (same_scene m) (xs ++ ys) ≡ lookup (same_scene m) ys
+look_append : {X : Type 0} (m : Scene) (xs ys : List (Scene × X)) → lookup (same_scene m) xs ≡ None →
+    lookup (same_scene m) (xs ++ ys) ≡ lookup (same_scene m) ys
 look_append m [] ys e = refl
 look_append {X} m (x ∷ xs) ys e = go (same_scene m x.0) e (look_append m xs ys)
   where
-    go : (b : Bool) → cond b (Some x.1) (lookup (same_scene m) xs) ≡ None → (lookup (same_scene m) xs ≡ None → lookup (same_scene m) (xs ++ ys) ≡ lookup (same_scene m) ys) → cond b (Some x.1) (lookup (same_scene m) (xs ++ ys)) ≡ lookup (same_scene m) ys
+    go : (b : Bool) → cond b (Some x.1) (lookup (same_scene m) xs) ≡ None →
+        (lookup (same_scene m) xs ≡ None → lookup (same_scene m) (xs ++ ys) ≡ lookup (same_scene m) ys) →
+        cond b (Some x.1) (lookup (same_scene m) (xs ++ ys)) ≡ lookup (same_scene m) ys
     go true f t = absurd (none-some x.1 (sym f))
     go false f t = t f
 
@@ -102,7 +108,8 @@ look_front : {X : Type 0} (m : Scene) (xs ys : List (Scene × X)) (v : X) → lo
 look_front m [] ys v e = absurd (none-some v e)
 look_front {X} m (x ∷ xs) ys v e = go (same_scene m x.0) e (look_front m xs ys v)
   where
-    go : (b : Bool) → cond b (Some x.1) (lookup (same_scene m) xs) ≡ Some v → (lookup (same_scene m) xs ≡ Some v → lookup (same_scene m) (xs ++ ys) ≡ Some v) → cond b (Some x.1) (lookup (same_scene m) (xs ++ ys)) ≡ Some v
+    go : (b : Bool) → cond b (Some x.1) (lookup (same_scene m) xs) ≡ Some v →
+        (lookup (same_scene m) xs ≡ Some v → lookup (same_scene m) (xs ++ ys) ≡ Some v) → cond b (Some x.1) (lookup (same_scene m) (xs ++ ys)) ≡ Some v
     go true f t = f
     go false f t = t f
 
@@ -116,7 +123,8 @@ look_open : (m : Scene) (ws : List (Entry Scene Push)) → lookup (same_scene m)
 look_open m [] = refl
 look_open m (w ∷ ws) = go (same_scene m w.0) (look_open m ws)
   where
-    go : (b : Bool) → lookup (same_scene m) (map closed_entry ws) ≡ as_closed (origin_of ws m) → cond b (Some (Some w.1)) (lookup (same_scene m) (map closed_entry ws)) ≡ as_closed (cond b (Some w.1) (origin_of ws m))
+    go : (b : Bool) → lookup (same_scene m) (map closed_entry ws) ≡ as_closed (origin_of ws m) →
+        cond b (Some (Some w.1)) (lookup (same_scene m) (map closed_entry ws)) ≡ as_closed (cond b (Some w.1) (origin_of ws m))
     go true t = refl
     go false t = t
 
@@ -135,16 +143,20 @@ at_least test k i (x ∷ xs) e = go (test x) e (at_least test (k + 1) i xs)
     go false f t = omega (arith, t f)
 
 -- where a key is found tells whether it is closed
-placed_from : (m : Scene) (k i : ℕ) (es : List Closed) (start : ℕ) → position_from (same_scene m) k (keys_of es) ≡ Some i → is_some (lookup (same_scene m) (take start es)) ≡ ltb i (k + start)
+placed_from : (m : Scene) (k i : ℕ) (es : List Closed) (start : ℕ) → position_from (same_scene m) k (keys_of es) ≡ Some i →
+    is_some (lookup (same_scene m) (take start es)) ≡ ltb i (k + start)
 placed_from m k i [] start e = absurd (none-some i e)
 placed_from m k i (x ∷ es) zero e = sym (not_below i (k + 0) (omega (arith, at_least (same_scene m) k i (keys_of (x ∷ es)) e)))
 placed_from m k i (x ∷ es) (suc start) e = go (same_scene m x.0) e (placed_from m (k + 1) i es start)
   where
-    go : (b : Bool) → cond b (Some k) (position_from (same_scene m) (k + 1) (keys_of es)) ≡ Some i → (position_from (same_scene m) (k + 1) (keys_of es) ≡ Some i → is_some (lookup (same_scene m) (take start es)) ≡ ltb i (k + 1 + start)) → is_some (cond b (Some x.1) (lookup (same_scene m) (take start es))) ≡ ltb i (k + suc start)
+    go : (b : Bool) → cond b (Some k) (position_from (same_scene m) (k + 1) (keys_of es)) ≡ Some i →
+        (position_from (same_scene m) (k + 1) (keys_of es) ≡ Some i → is_some (lookup (same_scene m) (take start es)) ≡ ltb i (k + 1 + start)) →
+        is_some (cond b (Some x.1) (lookup (same_scene m) (take start es))) ≡ ltb i (k + suc start)
     go true f t = sym (below i (k + suc start) (omega (arith, same_Some k i f)))
     go false f t = let e : k + 1 + start ≡ k + suc start = omega arith in t f ∙ ap (ltb i) e
 
-pub placed : (m : Scene) (i start : ℕ) (es : List Closed) → position (same_scene m) (keys_of es) ≡ Some i → is_some (lookup (same_scene m) (seen_of start es)) ≡ ltb i start
+pub placed : (m : Scene) (i start : ℕ) (es : List Closed) → position (same_scene m) (keys_of es) ≡ Some i →
+    is_some (lookup (same_scene m) (seen_of start es)) ≡ ltb i start
 placed m i start es e =
     let z : 0 + start ≡ start = omega arith in
     placed_from m 0 i es start (sym (position_from-zero (same_scene m) (keys_of es)) ∙ e) ∙ ap (ltb i) z
@@ -154,28 +166,36 @@ no_some None e = refl
 no_some (Some x) e = cc
 
 -- what is looked up among all and is not closed is looked up among those that stand open
-pub look_rest : (m : Scene) (start : ℕ) (es : List Closed) → IsFound start es → lookup (same_scene m) (seen_of start es) ≡ None → lookup (same_scene m) es ≡ as_closed (origin_of (open_of start es) m)
+pub look_rest : (m : Scene) (start : ℕ) (es : List Closed) → IsFound start es → lookup (same_scene m) (seen_of start es) ≡ None →
+    lookup (same_scene m) es ≡ as_closed (origin_of (open_of start es) m)
 look_rest m start es found none =
-    ap (lookup (same_scene m)) (split start es found) ∙ look_append m (seen_of start es) (map closed_entry (open_of start es)) none ∙ look_open m (open_of start es)
+    ap (lookup (same_scene m)) (split start es found) ∙ look_append m (seen_of start es) (map closed_entry (open_of start es)) none ∙
+    look_open m (open_of start es)
 
 -- what is not there is not kept
-pub absent_not_kept : (m : Scene) (o : Origin Push) (start : ℕ) (es : List Closed) → IsFound start es → lookup (same_scene m) es ≡ None → false ≡ keeps (seen_of start es) (open_of start es) m o
+pub absent_not_kept : (m : Scene) (o : Origin Push) (start : ℕ) (es : List Closed) → IsFound start es → lookup (same_scene m) es ≡ None →
+    false ≡ keeps (seen_of start es) (open_of start es) m o
 absent_not_kept m o start es found none = go (lookup (same_scene m) (seen_of start es)) refl (origin_of (open_of start es) m) refl
   where
     seen : List Closed
     seen = seen_of start es
 
-    go : (a : Option (Option (Origin Push))) → lookup (same_scene m) (seen_of start es) ≡ a → (b : Option (Origin Push)) → origin_of (open_of start es) m ≡ b → false ≡ keeps (seen_of start es) (open_of start es) m o
-    go (Some v) e b f = absurd (none-some v (sym none ∙ ap (lookup (same_scene m)) (split start es found) ∙ look_front m (seen_of start es) (map closed_entry (open_of start es)) v e))
+    go : (a : Option (Option (Origin Push))) → lookup (same_scene m) (seen_of start es) ≡ a → (b : Option (Origin Push)) →
+        origin_of (open_of start es) m ≡ b → false ≡ keeps (seen_of start es) (open_of start es) m o
+    go (Some v) e b f = absurd (none-some v (sym none ∙ ap (lookup (same_scene m)) (split start es found) ∙
+        look_front m (seen_of start es) (map closed_entry (open_of start es)) v e))
     go None e (Some p) f = absurd (none-some (Some p) (sym none ∙ look_rest m start es found e ∙ ap as_closed f))
     go None e None f = λ i. is_some (sym e i) || is_least (sym f i) o
 
 -- what is there is kept if it is closed or its origin is no greater
-pub there_kept : (m : Scene) (o : Origin Push) (start : ℕ) (es : List Closed) → IsFound start es → (i : ℕ) (v : Option (Origin Push)) (less : Bool) → position (same_scene m) (keys_of es) ≡ Some i → lookup (same_scene m) es ≡ Some v → ((p : Origin Push) → v ≡ Some p → less ≡ is_lt (origin_cmp push_cmp o p)) →
+pub there_kept : (m : Scene) (o : Origin Push) (start : ℕ) (es : List Closed) → IsFound start es → (i : ℕ) (v : Option (Origin Push)) (less : Bool) →
+    position (same_scene m) (keys_of es) ≡ Some i → lookup (same_scene m) es ≡ Some v →
+    ((p : Origin Push) → v ≡ Some p → less ≡ is_lt (origin_cmp push_cmp o p)) →
     (ltb i start || not less) ≡ keeps (seen_of start es) (open_of start es) m o
 there_kept m o start es found i v less at is lesser = go (ltb i start) (placed m i start es at) (origin_of (open_of start es) m) refl
   where
-    go : (b : Bool) → is_some (lookup (same_scene m) (seen_of start es)) ≡ b → (f : Option (Origin Push)) → origin_of (open_of start es) m ≡ f → (b || not less) ≡ keeps (seen_of start es) (open_of start es) m o
+    go : (b : Bool) → is_some (lookup (same_scene m) (seen_of start es)) ≡ b → (f : Option (Origin Push)) → origin_of (open_of start es) m ≡ f →
+        (b || not less) ≡ keeps (seen_of start es) (open_of start es) m o
     go true e f g = ap (λ x. x || is_least (origin_of (open_of start es) m) o) (sym e)
     go false e None g =
         let rest = look_rest m start es found (no_some (lookup (same_scene m) (seen_of start es)) e) in
@@ -186,19 +206,25 @@ there_kept m o start es found i v less at is lesser = go (ltb i start) (placed m
         ap not (lesser p same) ∙ (λ j. sym e j || is_least (sym g j) o)
 
 -- what is among all is closed or stands open
-any_of : (m : Scene) (start : ℕ) (es : List Closed) → IsFound start es → is_some (lookup (same_scene m) es) ≡ (is_some (lookup (same_scene m) (seen_of start es)) || is_some (origin_of (open_of start es) m))
+any_of : (m : Scene) (start : ℕ) (es : List Closed) → IsFound start es →
+    is_some (lookup (same_scene m) es) ≡ (is_some (lookup (same_scene m) (seen_of start es)) || is_some (origin_of (open_of start es) m))
 any_of m start es found = go (lookup (same_scene m) (seen_of start es)) refl (origin_of (open_of start es) m) refl
   where
-    go : (a : Option (Option (Origin Push))) → lookup (same_scene m) (seen_of start es) ≡ a → (b : Option (Origin Push)) → origin_of (open_of start es) m ≡ b → is_some (lookup (same_scene m) es) ≡ (is_some (lookup (same_scene m) (seen_of start es)) || is_some (origin_of (open_of start es) m))
-    go (Some v) e b f = ap is_some (ap (lookup (same_scene m)) (split start es found) ∙ look_front m (seen_of start es) (map closed_entry (open_of start es)) v e) ∙ ap (λ x. is_some x || is_some (origin_of (open_of start es) m)) (sym e)
+    go : (a : Option (Option (Origin Push))) → lookup (same_scene m) (seen_of start es) ≡ a → (b : Option (Origin Push)) →
+        origin_of (open_of start es) m ≡ b →
+        is_some (lookup (same_scene m) es) ≡ (is_some (lookup (same_scene m) (seen_of start es)) || is_some (origin_of (open_of start es) m))
+    go (Some v) e b f = ap is_some (ap (lookup (same_scene m)) (split start es found) ∙
+        look_front m (seen_of start es) (map closed_entry (open_of start es)) v e) ∙ ap (λ x. is_some x || is_some (origin_of (open_of start es) m)) (sym e)
     go None e None f = ap is_some (look_rest m start es found e ∙ ap as_closed f) ∙ (λ i. is_some (sym e i) || is_some (sym f i))
     go None e (Some p) f = ap is_some (look_rest m start es found e ∙ ap as_closed f) ∙ (λ i. is_some (sym e i) || is_some (sym f i))
 
 -- a position of the share is new where it is not among all and not among the successors before
-pub new_is : (m : Scene) (start shares share : ℕ) (es : List Closed) → IsFound start es → (share_of shares m == share) ≡ true → (there among : Bool) → there ≡ is_some (lookup (same_scene m) es) →
+pub new_is : (m : Scene) (start shares share : ℕ) (es : List Closed) → IsFound start es → (share_of shares m == share) ≡ true → (there among : Bool) →
+    there ≡ is_some (lookup (same_scene m) es) →
     (not there && not among) ≡ (is_wanted_in (seen_of start es) shares share m && not (is_some (origin_of (open_of start es) m) || among))
 new_is m start shares share es found mine there among e =
-    ap (λ b. not b && not among) (e ∙ any_of m start es found) ∙ by (is_some (lookup (same_scene m) (seen_of start es))) (is_some (origin_of (open_of start es) m)) among
+    ap (λ b. not b && not among) (e ∙ any_of m start es found) ∙
+    by (is_some (lookup (same_scene m) (seen_of start es))) (is_some (origin_of (open_of start es) m)) among
     ∙ ap (λ b. (b && not (is_some (lookup (same_scene m) (seen_of start es)))) && not (is_some (origin_of (open_of start es) m) || among)) (sym mine)
   where
     by : (a b c : Bool) → (not (a || b) && not c) ≡ ((true && not a) && not (b || c))
@@ -227,20 +253,27 @@ let_in_kept seen ws m o e = go (is_some (lookup (same_scene m) seen)) e (origin_
     go false t None g = absurd (let h = t ∙ ap (λ x. is_least x o) g in cc)
     go false t (Some p) g = sym (offered-kept ws m o p g (not_true (is_lt (origin_cmp push_cmp o p)) (t ∙ ap (λ x. is_least x o) g)))
 
-insert_open : (m : Scene) (o : Origin Push) (ws : List (Entry Scene Push)) → insert_entry same_scene (map closed_entry ws) m (Some o) ≡ map closed_entry (insert_entry same_scene ws m o)
+insert_open : (m : Scene) (o : Origin Push) (ws : List (Entry Scene Push)) →
+    insert_entry same_scene (map closed_entry ws) m (Some o) ≡ map closed_entry (insert_entry same_scene ws m o)
 insert_open m o [] = refl
 insert_open m o (w ∷ ws) = go (same_scene m w.0) (insert_open m o ws)
   where
-    go : (b : Bool) → insert_entry same_scene (map closed_entry ws) m (Some o) ≡ map closed_entry (insert_entry same_scene ws m o) → (if b then (w.0, Some o) ∷ map closed_entry ws else closed_entry w ∷ insert_entry same_scene (map closed_entry ws) m (Some o)) ≡ map closed_entry (if b then (w.0, o) ∷ ws else w ∷ insert_entry same_scene ws m o)
+    go : (b : Bool) → insert_entry same_scene (map closed_entry ws) m (Some o) ≡ map closed_entry (insert_entry same_scene ws m o) →
+        (if b then (w.0, Some o) ∷ map closed_entry ws else closed_entry w ∷ insert_entry same_scene (map closed_entry ws) m (Some o)) ≡ map closed_entry
+        (if b then (w.0, o) ∷ ws else w ∷ insert_entry same_scene ws m o)
     go true t = refl
     go false t = ap (λ xs. closed_entry w ∷ xs) t
 
-insert_past : (m : Scene) (o : Origin Push) (seen : List Closed) (ws : List (Entry Scene Push)) → lookup (same_scene m) seen ≡ None → insert_entry same_scene (seen ++ map closed_entry ws) m (Some o) ≡ seen ++ map closed_entry (insert_entry same_scene ws m o)
+insert_past : (m : Scene) (o : Origin Push) (seen : List Closed) (ws : List (Entry Scene Push)) → lookup (same_scene m) seen ≡ None →
+    insert_entry same_scene (seen ++ map closed_entry ws) m (Some o) ≡ seen ++ map closed_entry (insert_entry same_scene ws m o)
 insert_past m o [] ws e = insert_open m o ws
 insert_past m o (x ∷ seen) ws e = go (same_scene m x.0) e (insert_past m o seen ws)
   where
-    go : (b : Bool) → cond b (Some x.1) (lookup (same_scene m) seen) ≡ None → (lookup (same_scene m) seen ≡ None → insert_entry same_scene (seen ++ map closed_entry ws) m (Some o) ≡ seen ++ map closed_entry (insert_entry same_scene ws m o)) →
-        (if b then (x.0, Some o) ∷ (seen ++ map closed_entry ws) else x ∷ insert_entry same_scene (seen ++ map closed_entry ws) m (Some o)) ≡ x ∷ (seen ++ map closed_entry (insert_entry same_scene ws m o))
+    go : (b : Bool) → cond b (Some x.1) (lookup (same_scene m) seen) ≡ None →
+        (lookup (same_scene m) seen ≡ None →
+        insert_entry same_scene (seen ++ map closed_entry ws) m (Some o) ≡ seen ++ map closed_entry (insert_entry same_scene ws m o)) →
+        (if b then (x.0, Some o) ∷ (seen ++ map closed_entry ws) else x ∷ insert_entry same_scene (seen ++ map closed_entry ws) m (Some o)) ≡ x ∷
+        (seen ++ map closed_entry (insert_entry same_scene ws m o))
     go true f t = absurd (none-some x.1 (sym f))
     go false f t = ap (λ xs. x ∷ xs) (t f)
 
@@ -253,15 +286,18 @@ let_in_put start es new m o found changes put = go (is_some (lookup (same_scene 
     not_false true f = refl
     not_false false f = cc
 
-    all : lookup (same_scene m) (seen_of start es) ≡ None → insert_entry same_scene (open_of start es) m o ≡ offered (open_of start es) m o → new ≡ seen_of start es ++ map closed_entry (offered (open_of start es) m o)
+    all : lookup (same_scene m) (seen_of start es) ≡ None → insert_entry same_scene (open_of start es) m o ≡ offered (open_of start es) m o →
+        new ≡ seen_of start es ++ map closed_entry (offered (open_of start es) m o)
     all none e =
         put ∙ ap (λ xs. insert_entry same_scene xs m (Some o)) (split start es found) ∙ insert_past m o (seen_of start es) (open_of start es) none
         ∙ ap (λ ws. seen_of start es ++ map closed_entry ws) e
 
-    wanted : is_some (lookup (same_scene m) (seen_of start es)) ≡ false → new ≡ seen_of start es ++ map closed_entry (offered (open_of start es) m o) → new ≡ seen_of start es ++ map closed_entry (let_in (seen_of start es) (open_of start es) (m, o))
+    wanted : is_some (lookup (same_scene m) (seen_of start es)) ≡ false → new ≡ seen_of start es ++ map closed_entry (offered (open_of start es) m o) →
+        new ≡ seen_of start es ++ map closed_entry (let_in (seen_of start es) (open_of start es) (m, o))
     wanted e f = f ∙ (λ i. seen_of start es ++ map closed_entry (if (sym e i) then open_of start es else offered (open_of start es) m o))
 
-    go : (b : Bool) → is_some (lookup (same_scene m) (seen_of start es)) ≡ b → false ≡ (b || is_least (origin_of (open_of start es) m) o) → (f : Option (Origin Push)) → origin_of (open_of start es) m ≡ f →
+    go : (b : Bool) → is_some (lookup (same_scene m) (seen_of start es)) ≡ b → false ≡ (b || is_least (origin_of (open_of start es) m) o) →
+        (f : Option (Origin Push)) → origin_of (open_of start es) m ≡ f →
         new ≡ seen_of start es ++ map closed_entry (let_in (seen_of start es) (open_of start es) (m, o))
     go true e t f g = cc
     go false e t None g = wanted e (all (no_some (lookup (same_scene m) (seen_of start es)) e) (offered_first (open_of start es) m o g))
@@ -275,14 +311,16 @@ keys_open [] = refl
 keys_open (e ∷ es) = ap (λ ks. e.0 ∷ ks) (keys_open es)
 
 -- they are distinct since all keys are
-pub open_distinct : (start : ℕ) (es : List Closed) → IsDistinct same_scene (keys_of es) → IsDistinct same_scene (map (λ (e : Entry Scene Push). e.0) (open_of start es))
+pub open_distinct : (start : ℕ) (es : List Closed) → IsDistinct same_scene (keys_of es) →
+    IsDistinct same_scene (map (λ (e : Entry Scene Push). e.0) (open_of start es))
 open_distinct zero [] distinct = distinct
 open_distinct zero (e ∷ es) distinct = subst (IsDistinct same_scene) (sym (keys_open (e ∷ es))) distinct
 open_distinct (suc start) [] distinct = distinct
 open_distinct (suc start) (e ∷ es) distinct = open_distinct start es (IsDistinct-tail same_scene e.0 (keys_of es) distinct)
 
 -- one more entry that stands open
-pub open_more : (start place : ℕ) (es : List Closed) (e : Closed) → start ≤ place → slice_get es place ≡ Some e → open_of start (take (suc place) es) ≡ open_of start (take place es) ++ open_entry e ∷ []
+pub open_more : (start place : ℕ) (es : List Closed) (e : Closed) → start ≤ place → slice_get es place ≡ Some e →
+    open_of start (take (suc place) es) ≡ open_of start (take place es) ++ open_entry e ∷ []
 open_more start place es e le at = ap (map open_entry) (copied_more es start place e le at) ∙ map-push open_entry (drop start (take place es)) e
 
 -- ---- origins that rise
@@ -311,7 +349,8 @@ not_greater a b e = ap is_gt ((origin_total push_cmp_total).antisymm a b) ∙ tu
     turned Greater f = refl
 
 -- one more that is no less than the last one
-pub rise_more : (ws : List (Entry Scene Push)) (last : Origin Push) (e : Entry Scene Push) → RiseByOrigin ws → NoneExceed ws last → is_lt (origin_cmp push_cmp e.1 last) ≡ false → RiseByOrigin (ws ++ e ∷ []) × NoneExceed (ws ++ e ∷ []) e.1
+pub rise_more : (ws : List (Entry Scene Push)) (last : Origin Push) (e : Entry Scene Push) → RiseByOrigin ws → NoneExceed ws last →
+    is_lt (origin_cmp push_cmp e.1 last) ≡ false → RiseByOrigin (ws ++ e ∷ []) × NoneExceed (ws ++ e ∷ []) e.1
 rise_more ws last e rise none less = (rises, bounded)
   where
     total : IsTotalOrder (origin_cmp push_cmp)
@@ -358,7 +397,8 @@ open_none (suc start) (e ∷ es) = open_none start es
 -- ---- closing
 
 -- what rises already is closed as it stands
-pub risen : (start : ℕ) (es : List Closed) → IsFound start es → IsDistinct same_scene (keys_of es) → RiseByOrigin (open_of start es) → IsSortedAppend (seen_of start es) (open_of start es) es
+pub risen : (start : ℕ) (es : List Closed) → IsFound start es → IsDistinct same_scene (keys_of es) → RiseByOrigin (open_of start es) →
+    IsSortedAppend (seen_of start es) (open_of start es) es
 risen start es found distinct rise = (
   open_of start es,
   (refl, λ m. refl, distinct_from (map (λ (e : Entry Scene Push). e.0) (open_of start es)) (open_distinct start es distinct)),

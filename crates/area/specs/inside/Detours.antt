@@ -1,8 +1,8 @@
 -- Ways round a square, and what a push opens and cuts off.
-use Rattle.std.specs.Prelude.{◌≡◌, ◌≢◌, ℕ, ◌≤◌, Bool, true, ◌⊎◌}
+use Rattle.std.specs.Prelude.{◌≡◌, ◌≢◌, ℕ, ◌<◌, ◌≤◌, Bool, true, ◌⊎◌, length}
 use Rattle.grid.specs.declared.dir.Dir.{Dir}
 use Rattle.grid.specs.declared.dir.Dir.TheVariants.{D, L, R, U}
-use Rattle.grid.specs.Squares.{Squares, contains}
+use Rattle.grid.specs.Squares.{Squares, contains, insert, remove}
 use Rattle.grid.specs.Board.{Board, Scene, is_wall, next, opposite}
 use Rattle.area.specs.Area.{Area}
 
@@ -39,6 +39,17 @@ StaysJoined board set but from = contains set but ≡ true → (d : Dir) → IsJ
 -- a square is of the area if all squares beside `but` are that a set has
 abbrev pub FollowsSides : Board → Scene → (ℕ → Bool) → ℕ → ℕ → Type 0
 FollowsSides board s has but q = ((d : Dir) → has (next board but d) ≡ true → Area board s (next board but d)) → Area board s q
+
+-- nothing that is reached is less than a square, which is reached itself if all squares beside `but` are that a set has
+pub record GuessesLeast (board : Board) (s : Scene) (has : ℕ → Bool) (but q : ℕ) : Type 0 where
+  pub below : (r : ℕ) → Area board s r → q ≤ r
+  pub met : FollowsSides board s has but q
+
+-- a box went from one square of the grid to another
+pub record HasMoved (board : Board) (before after : Squares) (square ahead : ℕ) : Type 0 where
+  pub inside : square < length board.cells
+  pub within : ahead < length board.cells
+  pub moved : after ≡ insert (remove before square) ahead
 
 -- three steps over the set, the first to a side, lead from `from` past `but`, which is next to it in the direction d
 pub record GoesPast (board : Board) (set : Squares) (from but : ℕ) (d side : Dir) : Type 0 where

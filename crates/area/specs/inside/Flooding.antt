@@ -3,8 +3,10 @@ use Rattle.std.specs.Prelude.{◌≡◌, ◌≢◌, ℕ, ◌+◌, ◌-◌, ◌*�
 use Rattle.grid.specs.declared.dir.Dir.{Dir}
 use Rattle.grid.specs.declared.dir.Dir.TheVariants.{D, L, R, U}
 use Rattle.grid.specs.declared.masks.TheConstants.{WORD_BITS}
-use Rattle.grid.specs.Board.{Board, next, opposite}
-use Rattle.grid.specs.Masks.{has_bit, can_enter}
+use Rattle.grid.specs.Board.{Board, Scene, next, opposite}
+use Rattle.grid.specs.Masks.{has_bit, can_enter, word_count}
+use Rattle.grid.specs.Squares.{contains}
+use Rattle.area.specs.Area.{Area}
 use Rattle.area.specs.Words.{word_bit}
 
 -- a step in the direction leads onto the square from a square of the set
@@ -82,3 +84,13 @@ pub record IsGrown (old new : ℕ) (Passes : (ℕ → Bool) → Type 0) : Type 0
   pub kept : (j : ℕ) → word_bit old j ≡ true → word_bit new j ≡ true
   pub most : old ≤ new
   pub sound : (test : ℕ → Bool) → Passes test → ((j : ℕ) → word_bit old j ≡ true → test j ≡ true) → (j : ℕ) → word_bit new j ≡ true → test j ≡ true
+
+-- the words have a bit for each square, and are just the boxes of a state
+pub record AreBoxes (board : Board) (s : Scene) (words : List ℕ) : Type 0 where
+  pub size : length words ≡ word_count (length board.cells)
+  pub right : (q : ℕ) → has_bit words q ≡ contains s.boxes q
+
+-- the words are some of the area of a state, the player's own square among it
+pub record AreReached (board : Board) (s : Scene) (words : List ℕ) : Type 0 where
+  pub begun : has_bit words s.player ≡ true
+  pub within : (q : ℕ) → has_bit words q ≡ true → Area board s q

@@ -3,7 +3,7 @@ use Rattle.std.specs.Prelude.{◌≡◌, ◌≢◌, ℕ, ◌+◌, ◌*◌, ◌<�
 use Rattle.grid.specs.declared.masks.TheConstants.{WORD_BITS}
 use Rattle.grid.specs.Board.{Board}
 use Rattle.grid.specs.Lawful.{InRoom}
-use Rattle.grid.specs.Masks.{has_bit}
+use Rattle.grid.specs.Masks.{has_bit, word_count}
 use Rattle.grid.specs.RoomMask.{IsRoomMask}
 use Rattle.area.specs.inside.Flooding.{AllPass, PassesUp, PassesDown, room_left}
 
@@ -106,3 +106,20 @@ abbrev pub FindsLeast : Board → List ℕ → List ℕ → ℕ → ℕ → ℕ 
 FindsLeast board boxes known from ahead least found =
     (moved : List ℕ) → ((q : ℕ) → has_bit moved q ≡ ((has_bit boxes q && not (from == q)) || ahead == q)) → InRoom board from
     → IsLeastMoved board moved known (length boxes) from ahead least found
+
+-- a flood from the player can go over so few words that they stay in registers
+pub record CanSeek (board : Board) (player : ℕ) : Type 0 where
+  pub room : InRoom board player
+  pub near : board.cols < WORD_BITS
+  pub few : length board.cells ≤ 2 * WORD_BITS
+
+-- the words have a bit for each square, and are of squares alone
+pub record AreSquares (board : Board) (words : List ℕ) : Type 0 where
+  pub size : length words ≡ word_count (length board.cells)
+  pub inside : (q : ℕ) → has_bit words q ≡ true → q < length board.cells
+
+-- the squares have so many words, and two sets as many
+pub record HaveWords (board : Board) (boxes known : List ℕ) (words : ℕ) : Type 0 where
+  pub room : word_count (length board.cells) ≡ words
+  pub size : length boxes ≡ words
+  pub same : length known ≡ words

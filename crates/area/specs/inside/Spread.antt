@@ -1,5 +1,5 @@
 -- How a search spreads over the squares: each square that it comes upon is marked with the steps that lead there.
-use Rattle.std.specs.Prelude.{◌≡◌, ◌≢◌, ℕ, suc, ◌+◌, ◌<◌, ◌≤◌, true, false, ◌⊎◌, ◌↔◌, List, length, slice_index, nat_lt, sum_by, cond}
+use Rattle.std.specs.Prelude.{◌≡◌, ◌≢◌, ℕ, suc, ◌+◌, ◌^◌, ◌<◌, ◌≤◌, true, false, ◌⊎◌, ◌↔◌, List, length, slice_index, nat_lt, sum_by, cond}
 use Rattle.grid.specs.declared.dir.Dir.{Dir}
 use Rattle.grid.specs.Board.{Board, is_wall, next, dir_number}
 use Rattle.grid.specs.Squares.{Squares, contains}
@@ -53,6 +53,15 @@ pub record IsMemory (board : Board) (base : ℕ) (marks queue : List ℕ) : Type
   pub small : length marks ≤ MAX_SQUARES
   pub low : base ≤ GREATEST_BASE
   pub within : AreWithin base (length marks) marks
+
+-- memory in which a search from a square begins, round the boxes' marks
+pub record IsBegun (board : Board) (base from : ℕ) (marks queue : List ℕ) : Type 0 where
+  pub room : length marks ≡ length board.cells
+  pub places : length queue ≡ length board.cells
+  pub small : base + length board.cells + 1 < 2 ^ 32
+  pub fresh : (q : ℕ) → slice_index marks q ≤ base
+  pub clear : is_wall board from ≡ false
+  pub vacant : slice_index marks from < base
 
 -- In the midst of a search the reached squares stand in a queue, in the order in which they were reached: those
 -- before `head` were looked round from, of the one at `head` the directions whose number is less than `seen`.

@@ -9,7 +9,7 @@ use Rattle.area.proofs.after.least_aside.Goals as goal
 pub least_of-requires-clause-some : goal.least_of-requires-clause-some
 least_of-requires-clause-some c =
     let same = c.as_words.ensures in
-    let found = whole_area c.args.level.now c.args.position.now c.flood_round.new.reached c.flood_round.ensures.within c.flood_round.ensures.whole in (
+    let found = whole_area c.args.level.now c.args.position.now c.flood_round.new.reached c.flood_round.ensures.reached.within c.flood_round.ensures.whole in (
       c.args.position.now.player,
       (area_seen c.args.level.now c.args.position.now c.flood_round.new.reached c.as_words.result.now found same c.args.position.now.player).1
           (area_here c.args.level.now c.args.position.now),
@@ -18,25 +18,27 @@ least_of-requires-clause-some c =
 pub least_of-requires-clause-small : goal.least_of-requires-clause-small
 least_of-requires-clause-small c =
     words_few (length c.scratch.inside.marks.items) (length c.as_words.result.now) (ap length c.as_words.ensures ∙
-    (c.flood_round.ensures.room ∙ c.scratch.invariant.spare_words)) c.scratch.invariant.small
+    (c.flood_round.ensures.room.0 ∙ c.scratch.invariant.spare_words)) c.scratch.invariant.small
 
 pub returns-clause-norm : goal.returns-clause-norm
 returns-clause-norm c =
     let same = c.as_words.ensures in
-    let found = whole_area c.args.level.now c.args.position.now c.flood_round.new.reached c.flood_round.ensures.within c.flood_round.ensures.whole in
+    let found = whole_area c.args.level.now c.args.position.now c.flood_round.new.reached c.flood_round.ensures.reached.within c.flood_round.ensures.whole in
     norm_of_least c.args.level.now c.args.position.now c.as_words.result.now c.least_of.result
     (area_seen c.args.level.now c.args.position.now c.flood_round.new.reached c.as_words.result.now found same) c.least_of.ensures.reached
     c.least_of.ensures.least
 
 pub move_box-requires-clause-inside : goal.move_box-requires-clause-inside
 move_box-requires-clause-inside c = words_enough (length c.args.level.now.cells) (length c.scratch.inside.boxes) c.args.square
-    (c.scratch.invariant.boxes_words ∙ ap word_count (ap (λ (r : Reach). r.size) c.scratch.view_is ∙ c.requires.room)) c.requires.inside
+    (c.scratch.invariant.boxes_words ∙ ap word_count (ap (λ (r : Reach). r.size) c.scratch.view_is ∙ c.requires.room)) c.requires.moved.inside
 
 pub move_box-requires-clause-ahead : goal.move_box-requires-clause-ahead
 move_box-requires-clause-ahead c = words_enough (length c.args.level.now.cells) (length c.scratch.inside.boxes) c.args.ahead (c.scratch.invariant.boxes_words ∙
-    ap word_count (ap (λ (r : Reach). r.size) c.scratch.view_is ∙ c.requires.room)) c.requires.ahead
+    ap word_count (ap (λ (r : Reach). r.size) c.scratch.view_is ∙ c.requires.room)) c.requires.moved.within
 
 pub flood_round-requires-clause-boxes : goal.flood_round-requires-clause-boxes
-flood_round-requires-clause-boxes c =
-    moved_boxes c.scratch.inside.boxes c.move_box.new.moved c.args.scratch.now.boxes c.args.position.now.boxes c.args.square c.args.ahead
-    (ap (λ (r : Reach). r.boxes) c.scratch.view_is) c.requires.moved c.move_box.ensures.moved
+flood_round-requires-clause-boxes c = record {
+  size = c.move_box.ensures.size ∙ (c.scratch.invariant.spare_boxes_words ∙ ap word_count (ap (λ (r : Reach). r.size) c.scratch.view_is ∙ c.requires.room));
+  right = moved_boxes c.scratch.inside.boxes c.move_box.new.moved c.args.scratch.now.boxes c.args.position.now.boxes c.args.square c.args.ahead
+      (ap (λ (r : Reach). r.boxes) c.scratch.view_is) c.requires.moved.moved c.move_box.ensures.moved;
+}

@@ -18,7 +18,7 @@ least_of-requires-clause-some c =
 pub least_of-requires-clause-small : goal.least_of-requires-clause-small
 least_of-requires-clause-small c =
     words_few (length c.scratch.inside.marks.items) (length c.as_words.result.now) (ap length c.as_words.ensures ∙
-    (c.flood_on.ensures.room ∙ c.scratch.invariant.spare_words)) c.scratch.invariant.small
+    (c.flood_on.ensures.room.0 ∙ c.scratch.invariant.spare_words)) c.scratch.invariant.small
 
 pub returns-clause-norm : goal.returns-clause-norm
 returns-clause-norm c =
@@ -34,13 +34,15 @@ flood_on-requires-clause-known c =
 
 pub move_box-requires-clause-inside : goal.move_box-requires-clause-inside
 move_box-requires-clause-inside c = words_enough (length c.args.level.now.cells) (length c.scratch.inside.boxes) c.args.square
-    (c.scratch.invariant.boxes_words ∙ ap word_count (ap (λ (r : Reach). r.size) c.scratch.view_is ∙ c.requires.room)) c.requires.inside
+    (c.scratch.invariant.boxes_words ∙ ap word_count (ap (λ (r : Reach). r.size) c.scratch.view_is ∙ c.requires.room)) c.requires.moved.inside
 
 pub move_box-requires-clause-ahead : goal.move_box-requires-clause-ahead
 move_box-requires-clause-ahead c = words_enough (length c.args.level.now.cells) (length c.scratch.inside.boxes) c.args.ahead (c.scratch.invariant.boxes_words ∙
-    ap word_count (ap (λ (r : Reach). r.size) c.scratch.view_is ∙ c.requires.room)) c.requires.ahead
+    ap word_count (ap (λ (r : Reach). r.size) c.scratch.view_is ∙ c.requires.room)) c.requires.moved.within
 
 pub flood_on-requires-clause-boxes : goal.flood_on-requires-clause-boxes
-flood_on-requires-clause-boxes c =
-    moved_boxes c.scratch.inside.boxes c.move_box.new.moved c.args.scratch.now.boxes c.args.position.now.boxes c.args.square c.args.ahead
-    (ap (λ (r : Reach). r.boxes) c.scratch.view_is) c.requires.moved c.move_box.ensures.moved
+flood_on-requires-clause-boxes c = record {
+  size = c.move_box.ensures.size ∙ (c.scratch.invariant.spare_boxes_words ∙ ap word_count (ap (λ (r : Reach). r.size) c.scratch.view_is ∙ c.requires.room));
+  right = moved_boxes c.scratch.inside.boxes c.move_box.new.moved c.args.scratch.now.boxes c.args.position.now.boxes c.args.square c.args.ahead
+      (ap (λ (r : Reach). r.boxes) c.scratch.view_is) c.requires.moved.moved c.move_box.ensures.moved;
+}

@@ -1,10 +1,10 @@
-use Rattle.std.proofs.Common.{◌≡◌, ℕ, ◌<◌, true, length, refl, sym, ap, subst, ◌∙◌}
+use Rattle.std.proofs.Common.{rules, ◌≡◌, ℕ, ◌<◌, ◌≤◌, true, length, refl, sym, ap, subst, ◌∙◌}
 use Rattle.grid.specs.declared.dir.Dir.{Dir}
 use Rattle.grid.specs.Squares.{Squares, contains}
 use Rattle.grid.specs.Board.{Scene, next}
 use Rattle.grid.proofs.lemmas.Steps.{inside_grid}
 use Rattle.area.specs.Area.{Area, IsNorm, at}
-use Rattle.area.specs.inside.Detours.{GainsNothing, StaysJoined, IsLeastWith}
+use Rattle.area.specs.inside.Detours.{FollowsSides, GainsNothing, StaysJoined, IsLeastWith}
 use Rattle.area.proofs.Detours.{still_reached, none_below, norm_after, least_reached}
 use Rattle.area.proofs.lemmas.Norms.{norm_fits}
 use Rattle.area.proofs.Reached.{walk_free}
@@ -30,29 +30,26 @@ stays_joined-joined-requires-clause-reached c = λ q there.
     let walked = (c.requires.flooded q).0 there in
     inside_grid c.args.level.now q (walk_free c.args.level.now c.args.before.now walked.0 q c.requires.fits_before.scene walked.1).0
 
-pub least_grown-requires-clause-inside : goal.least_grown-requires-clause-inside
-least_grown-requires-clause-inside c =
-    inside_grid c.args.level.now c.args.push.square (c.requires.fits_before.scene.boxes c.args.push.square c.requires.pushed.there)
+pub least_grown-requires-clause-moved : goal.least_grown-requires-clause-moved
+least_grown-requires-clause-moved c = record {
+  inside = inside_grid c.args.level.now c.args.push.square (c.requires.fits_before.scene.boxes c.args.push.square c.requires.pushed.there);
+  within = subst (λ (x : ℕ). x < length c.args.level.now.cells) (sym c.next-ahead.ensures) (inside_grid c.args.level.now _ c.requires.pushed.ahead.0);
+  moved = search rules;
+}
 
-pub least_grown-requires-clause-ahead : goal.least_grown-requires-clause-ahead
-least_grown-requires-clause-ahead c =
-    subst (λ (x : ℕ). x < length c.args.level.now.cells) (sym c.next-ahead.ensures) (inside_grid c.args.level.now _ c.requires.pushed.ahead.0)
+pub least_left-requires-clause-moved : goal.least_left-requires-clause-moved
+least_left-requires-clause-moved c = record {
+  inside = inside_grid c.args.level.now c.args.push.square (c.requires.fits_before.scene.boxes c.args.push.square c.requires.pushed.there);
+  within = subst (λ (x : ℕ). x < length c.args.level.now.cells) (sym c.next-ahead.ensures) (inside_grid c.args.level.now _ c.requires.pushed.ahead.0);
+  moved = search rules;
+}
 
-pub least_left-requires-clause-inside : goal.least_left-requires-clause-inside
-least_left-requires-clause-inside c =
-    inside_grid c.args.level.now c.args.push.square (c.requires.fits_before.scene.boxes c.args.push.square c.requires.pushed.there)
-
-pub least_left-requires-clause-ahead : goal.least_left-requires-clause-ahead
-least_left-requires-clause-ahead c =
-    subst (λ (x : ℕ). x < length c.args.level.now.cells) (sym c.next-ahead.ensures) (inside_grid c.args.level.now _ c.requires.pushed.ahead.0)
-
-pub least_aside-requires-clause-inside : goal.least_aside-requires-clause-inside
-least_aside-requires-clause-inside c =
-    inside_grid c.args.level.now c.args.push.square (c.requires.fits_before.scene.boxes c.args.push.square c.requires.pushed.there)
-
-pub least_aside-requires-clause-ahead : goal.least_aside-requires-clause-ahead
-least_aside-requires-clause-ahead c =
-    subst (λ (x : ℕ). x < length c.args.level.now.cells) (sym c.next-ahead.ensures) (inside_grid c.args.level.now _ c.requires.pushed.ahead.0)
+pub least_aside-requires-clause-moved : goal.least_aside-requires-clause-moved
+least_aside-requires-clause-moved c = record {
+  inside = inside_grid c.args.level.now c.args.push.square (c.requires.fits_before.scene.boxes c.args.push.square c.requires.pushed.there);
+  within = subst (λ (x : ℕ). x < length c.args.level.now.cells) (sym c.next-ahead.ensures) (inside_grid c.args.level.now _ c.requires.pushed.ahead.0);
+  moved = search rules;
+}
 
 pub least_grown-requires-clause-known : goal.least_grown-requires-clause-known
 least_grown-requires-clause-known c = λ q there other.
@@ -60,16 +57,6 @@ least_grown-requires-clause-known c = λ q there other.
     (c.stays_joined-joined.ensures c.if-joined-2.true) in
     still_reached c.args.level.now c.args.before.now c.args.push c.args.after.now c.requires.fits_before.scene c.requires.pushed c.args.scratch.now.reached
     c.requires.flooded joined q there (λ e. other (e ∙ sym c.next-ahead.ensures))
-
-pub least_left-requires-clause-least : goal.least_left-requires-clause-least
-least_left-requires-clause-least c =
-    let least = subst (λ (x : ℕ). IsLeastWith c.args.scratch.now.reached x c.args.push.square c.least_with-least.result) c.next-ahead.ensures
-    c.least_with-least.ensures in
-    none_below c.args.level.now c.args.before.now c.args.push c.args.after.now c.requires.fits_before.scene c.requires.pushed c.args.scratch.now.reached
-    c.requires.flooded c.requires.fits.scene
-    (subst (λ (bs : Squares). GainsNothing c.args.level.now bs c.args.scratch.now.reached
-    (next c.args.level.now c.args.push.square c.args.push.dir) c.args.push.square) c.requires.boxes (c.if-gains_nothing.ensures refl))
-    c.least_with-least.result least
 
 pub least_left-requires-clause-player : goal.least_left-requires-clause-player
 least_left-requires-clause-player c = ap (λ (x : Scene). x.player) c.requires.pushed.after
@@ -79,15 +66,28 @@ least_left-requires-clause-reached c = λ q there.
     let walked = (c.requires.flooded q).0 there in
     inside_grid c.args.level.now q (walk_free c.args.level.now c.args.before.now walked.0 q c.requires.fits_before.scene walked.1).0
 
-pub least_left-requires-clause-met : goal.least_left-requires-clause-met
-least_left-requires-clause-met c = λ sides.
-    let board = c.args.level.now in
-    let reached = c.args.scratch.now.reached in
-    let least = subst (λ (x : ℕ). IsLeastWith reached x c.args.push.square c.least_with-least.result) c.next-ahead.ensures c.least_with-least.ensures in
-    let beside = subst (λ (x : ℕ). (d : Dir) → contains reached (next board x d) ≡ true →
-    Area board c.args.after.now (next board x d)) c.next-ahead.ensures sides in
-    least_reached board c.args.before.now c.args.push c.args.after.now c.requires.fits_before.scene c.requires.pushed reached c.requires.flooded beside
-    c.least_with-least.result least
+pub least_left-requires-clause-guess : goal.least_left-requires-clause-guess
+least_left-requires-clause-guess c = record { below = below; met = met }
+  where
+    below : (r : ℕ) → Area c.args.level.now c.args.after.now r → c.least_with-least.result ≤ r
+    below =
+        let least = subst (λ (x : ℕ). IsLeastWith c.args.scratch.now.reached x c.args.push.square c.least_with-least.result) c.next-ahead.ensures
+        c.least_with-least.ensures in
+        none_below c.args.level.now c.args.before.now c.args.push c.args.after.now c.requires.fits_before.scene c.requires.pushed c.args.scratch.now.reached
+        c.requires.flooded c.requires.fits.scene
+        (subst (λ (bs : Squares). GainsNothing c.args.level.now bs c.args.scratch.now.reached
+        (next c.args.level.now c.args.push.square c.args.push.dir) c.args.push.square) c.requires.boxes (c.if-gains_nothing.ensures refl))
+        c.least_with-least.result least
+
+    met : FollowsSides c.args.level.now c.args.after.now (contains c.args.scratch.now.reached) c.next-ahead.result c.least_with-least.result
+    met sides =
+        let board = c.args.level.now in
+        let reached = c.args.scratch.now.reached in
+        let least = subst (λ (x : ℕ). IsLeastWith reached x c.args.push.square c.least_with-least.result) c.next-ahead.ensures c.least_with-least.ensures in
+        let beside = subst (λ (x : ℕ). (d : Dir) → contains reached (next board x d) ≡ true →
+        Area board c.args.after.now (next board x d)) c.next-ahead.ensures sides in
+        least_reached board c.args.before.now c.args.push c.args.after.now c.requires.fits_before.scene c.requires.pushed reached c.requires.flooded beside
+        c.least_with-least.result least
 
 pub returns-clause-norm : goal.returns-clause-norm
 returns-clause-norm c =

@@ -15,10 +15,11 @@ pub flood_from-requires : goal.flood_from-requires
 flood_from-requires c = record {
   fits = c.requires.fits;
   room = c.put.ensures.size ∙ (c.clear.ensures.size ∙ c.requires.room);
-  places = c.requires.places;
   boxes = c.requires.boxes;
-  begun = alone _ ∙ eq-eqb c.player.result c.args.position.now.player c.player.ensures;
-  within = player_alone c.args.level.now c.args.position.now c.put.new.self c.player.result c.player.ensures alone;
+  reached = record {
+    begun = alone _ ∙ eq-eqb c.player.result c.args.position.now.player c.player.ensures;
+    within = player_alone c.args.level.now c.args.position.now c.put.new.self c.player.result c.player.ensures alone;
+  };
 }
   where
     alone : (x : ℕ) → has_bit c.put.new.self x ≡ eqb c.player.result x

@@ -14,7 +14,7 @@ pub returns-then-have_one : goal.returns-then-have_one
 returns-then-have_one g c =
     finds_least c.args.level.now c.args.boxes.now c.args.known.now c.room_mask.result.now c.array_of-room.result c.make_free.new.words c.cols-cols.result
     c.args.square c.args.ahead c.args.least c.args.least c.room_mask.ensures c.array_of-room.ensures c.make_free.auto.words c.make_free.ensures
-    (c.room_mask.ensures.size ∙ (c.requires.room ∙ sym c.requires.size)) c.cols-cols.ensures
+    (c.room_mask.ensures.size ∙ (c.requires.words.room ∙ sym c.requires.words.size)) c.cols-cols.ensures
     (sought_least c.cols-cols.result c.make_free.new.words c.args.known.now c.round.new.words c.make_only-2.new.words c.args.square c.args.ahead c.args.least
     (seeking_on c.cols-cols.result c.make_free.new.words c.args.square c.loop-least.words c.round.new.words c.loop-least.invariant c.round.ensures.widened)
     c.make_only-2.ensures (c.have_one.ensures c.if-have_one.true))
@@ -23,7 +23,7 @@ pub returns-then-have_all : goal.returns-then-have_all
 returns-then-have_all g c =
     finds_least c.args.level.now c.args.boxes.now c.args.known.now c.room_mask.result.now c.array_of-room.result c.make_free.new.words c.cols-cols.result
     c.args.square c.args.ahead c.args.least c.args.least c.room_mask.ensures c.array_of-room.ensures c.make_free.auto.words c.make_free.ensures
-    (c.room_mask.ensures.size ∙ (c.requires.room ∙ sym c.requires.size)) c.cols-cols.ensures
+    (c.room_mask.ensures.size ∙ (c.requires.words.room ∙ sym c.requires.words.size)) c.cols-cols.ensures
     (sought_sides c.cols-cols.result c.make_free.new.words c.args.known.now c.round.new.words c.make_only-3.new.words c.make_sides.new.sides c.args.square
     c.args.ahead c.args.least
     (seeking_on c.cols-cols.result c.make_free.new.words c.args.square c.loop-least.words c.round.new.words c.loop-least.invariant c.round.ensures.widened)
@@ -43,13 +43,13 @@ least_of-requires-clause-small g c =
     let h = c.make_free.auto.words in
     let a = ap length c.array_of-room.ensures in
     let m = c.room_mask.ensures.size in
-    omega (arith, e, f, h, a, m, c.requires.room, c.requires.few)
+    omega (arith, e, f, h, a, m, c.requires.words.room, c.requires.few)
 
 pub returns : goal.returns
 returns g c = finds_least c.args.level.now c.args.boxes.now c.args.known.now c.room_mask.result.now c.array_of-room.result c.make_free.new.words
     c.cols-cols.result c.args.square c.args.ahead c.args.least c.least_of.result c.room_mask.ensures c.array_of-room.ensures c.make_free.auto.words
     c.make_free.ensures
-    (c.room_mask.ensures.size ∙ (c.requires.room ∙ sym c.requires.size)) c.cols-cols.ensures
+    (c.room_mask.ensures.size ∙ (c.requires.words.room ∙ sym c.requires.words.size)) c.cols-cols.ensures
     (sought_all c.cols-cols.result c.make_free.new.words c.args.known.now c.round.new.words c.args.square c.args.ahead c.args.least c.least_of.result
     (seeking_on c.cols-cols.result c.make_free.new.words c.args.square c.loop-least.words c.round.new.words c.loop-least.invariant c.round.ensures.widened)
     (c.round.ensures.whole c.loop-least-test.false) c.least_of.ensures.reached c.least_of.ensures.least)

@@ -27,34 +27,27 @@ seek_few-requires-clause-ahead c =
 pub seek_few-requires-clause-least : goal.seek_few-requires-clause-least
 seek_few-requires-clause-least c =
     words_enough (length c.args.level.now.cells) 1 c.args.least (sym (sym c.requires.places ∙ (sym (ap length c.as_words-boxes.ensures) ∙ c.if-boxes-eq1.true)))
-    (let low = c.requires.below c.args.position.now.player (area_here c.args.level.now c.args.position.now) in
+    (let low = c.requires.guess.below c.args.position.now.player (area_here c.args.level.now c.args.position.now) in
     let lt = inside_grid c.args.level.now c.player-player.result (ap (is_wall c.args.level.now) c.player-player.ensures ∙ c.requires.fits.scene.player.0) in
     omega (arith, low, lt, c.player-player.ensures))
 
-pub seek_few-requires-else-boxes-eq1-clause-room : goal.seek_few-requires-else-boxes-eq1-clause-room
-seek_few-requires-else-boxes-eq1-clause-room c =
-    sym (sym (two_words (length c.args.level.now.cells) c.player-player.result (length c.args.boxes.now)
-    (inside_grid c.args.level.now c.player-player.result (ap (is_wall c.args.level.now) c.player-player.ensures ∙
-    c.requires.fits.scene.player.0)) c.requires.few c.requires.places (λ e. c.if-boxes-eq1.false (ap length c.as_words-boxes.ensures ∙ e))))
-
-pub seek_few-requires-else-boxes-eq1-clause-size : goal.seek_few-requires-else-boxes-eq1-clause-size
-seek_few-requires-else-boxes-eq1-clause-size c = ap length c.as_words-boxes.ensures ∙
-    (c.requires.places ∙ sym (sym (two_words (length c.args.level.now.cells) c.player-player.result (length c.args.boxes.now)
-    (inside_grid c.args.level.now c.player-player.result (ap (is_wall c.args.level.now) c.player-player.ensures ∙
-    c.requires.fits.scene.player.0)) c.requires.few c.requires.places (λ e. c.if-boxes-eq1.false (ap length c.as_words-boxes.ensures ∙ e)))))
-
 pub seek_few-requires-else-boxes-eq1-clause-words : goal.seek_few-requires-else-boxes-eq1-clause-words
-seek_few-requires-else-boxes-eq1-clause-words c = ap length c.as_words-known.ensures ∙
-    (c.requires.words ∙ sym (sym (two_words (length c.args.level.now.cells) c.player-player.result (length c.args.boxes.now)
-    (inside_grid c.args.level.now c.player-player.result (ap (is_wall c.args.level.now) c.player-player.ensures ∙
-    c.requires.fits.scene.player.0)) c.requires.few c.requires.places (λ e. c.if-boxes-eq1.false (ap length c.as_words-boxes.ensures ∙ e)))))
+seek_few-requires-else-boxes-eq1-clause-words c =
+    let lt = inside_grid c.args.level.now c.player-player.result (ap (is_wall c.args.level.now) c.player-player.ensures ∙ c.requires.fits.scene.player.0) in
+    let two = two_words (length c.args.level.now.cells) c.player-player.result (length c.args.boxes.now) lt c.requires.seek.few c.requires.places
+    (λ e. c.if-boxes-eq1.false (ap length c.as_words-boxes.ensures ∙ e)) in
+    record {
+      room = two;
+      size = ap length c.as_words-boxes.ensures ∙ (c.requires.places ∙ two);
+      same = ap length c.as_words-known.ensures ∙ (c.requires.known.size ∙ two);
+    }
 
 pub seek_few-requires-else-boxes-eq1-clause-square : goal.seek_few-requires-else-boxes-eq1-clause-square
 seek_few-requires-else-boxes-eq1-clause-square c =
     words_enough (length c.args.level.now.cells) 2 c.player-player.result
     (sym (two_words (length c.args.level.now.cells) c.player-player.result (length c.args.boxes.now)
     (inside_grid c.args.level.now c.player-player.result (ap (is_wall c.args.level.now) c.player-player.ensures ∙
-    c.requires.fits.scene.player.0)) c.requires.few c.requires.places (λ e. c.if-boxes-eq1.false (ap length c.as_words-boxes.ensures ∙ e))))
+    c.requires.fits.scene.player.0)) c.requires.seek.few c.requires.places (λ e. c.if-boxes-eq1.false (ap length c.as_words-boxes.ensures ∙ e))))
     (inside_grid c.args.level.now c.player-player.result (ap (is_wall c.args.level.now) c.player-player.ensures ∙ c.requires.fits.scene.player.0))
 
 pub seek_few-requires-else-boxes-eq1-clause-ahead : goal.seek_few-requires-else-boxes-eq1-clause-ahead
@@ -62,22 +55,24 @@ seek_few-requires-else-boxes-eq1-clause-ahead c =
     words_enough (length c.args.level.now.cells) 2 c.args.ahead
     (sym (two_words (length c.args.level.now.cells) c.player-player.result (length c.args.boxes.now)
     (inside_grid c.args.level.now c.player-player.result (ap (is_wall c.args.level.now) c.player-player.ensures ∙
-    c.requires.fits.scene.player.0)) c.requires.few c.requires.places (λ e. c.if-boxes-eq1.false (ap length c.as_words-boxes.ensures ∙ e)))) c.requires.ahead
+    c.requires.fits.scene.player.0)) c.requires.seek.few c.requires.places (λ e. c.if-boxes-eq1.false (ap length c.as_words-boxes.ensures ∙
+    e)))) c.requires.ahead
 
 pub seek_few-requires-else-boxes-eq1-clause-least : goal.seek_few-requires-else-boxes-eq1-clause-least
 seek_few-requires-else-boxes-eq1-clause-least c =
     words_enough (length c.args.level.now.cells) 2 c.args.least
     (sym (two_words (length c.args.level.now.cells) c.player-player.result (length c.args.boxes.now)
     (inside_grid c.args.level.now c.player-player.result (ap (is_wall c.args.level.now) c.player-player.ensures ∙
-    c.requires.fits.scene.player.0)) c.requires.few c.requires.places (λ e. c.if-boxes-eq1.false (ap length c.as_words-boxes.ensures ∙ e)))) (let low =
-    c.requires.below c.args.position.now.player (area_here c.args.level.now c.args.position.now) in
+    c.requires.fits.scene.player.0)) c.requires.seek.few c.requires.places (λ e. c.if-boxes-eq1.false (ap length c.as_words-boxes.ensures ∙ e)))) (let low =
+    c.requires.guess.below c.args.position.now.player (area_here c.args.level.now c.args.position.now) in
     let lt = inside_grid c.args.level.now c.player-player.result (ap (is_wall c.args.level.now) c.player-player.ensures ∙ c.requires.fits.scene.player.0) in
     omega (arith, low, lt, c.player-player.ensures))
 
 pub returns-then-boxes-eq1 : goal.returns-then-boxes-eq1
 returns-then-boxes-eq1 c =
     norm_moved c.args.level.now c.args.position.now c.args.boxes.now c.args.known.now c.args.ahead c.args.least c.seek_few.result c.tell.ensures
-    c.requires.fits.scene c.requires.places c.requires.moved c.requires.ahead c.requires.room c.requires.inside c.requires.below c.requires.met
+    c.requires.fits.scene c.requires.places c.requires.moved c.requires.ahead c.requires.seek.room c.requires.known.inside c.requires.guess.below
+    c.requires.guess.met
     (subst (λ (x : ℕ). FindsLeast c.args.level.now c.args.boxes.now c.args.known.now x c.args.ahead c.args.least c.seek_few.result) c.player-player.ensures
     (subst (λ (ks : List ℕ). FindsLeast c.args.level.now c.args.boxes.now ks c.player-player.result c.args.ahead c.args.least c.seek_few.result)
     c.as_words-known.ensures
@@ -87,7 +82,8 @@ returns-then-boxes-eq1 c =
 pub returns-else-boxes-eq1 : goal.returns-else-boxes-eq1
 returns-else-boxes-eq1 c =
     norm_moved c.args.level.now c.args.position.now c.args.boxes.now c.args.known.now c.args.ahead c.args.least c.seek_few-else-boxes-eq1.result c.tell.ensures
-    c.requires.fits.scene c.requires.places c.requires.moved c.requires.ahead c.requires.room c.requires.inside c.requires.below c.requires.met
+    c.requires.fits.scene c.requires.places c.requires.moved c.requires.ahead c.requires.seek.room c.requires.known.inside c.requires.guess.below
+    c.requires.guess.met
     (subst (λ (x : ℕ). FindsLeast c.args.level.now c.args.boxes.now c.args.known.now x c.args.ahead c.args.least c.seek_few-else-boxes-eq1.result)
     c.player-player.ensures
     (subst (λ (ks : List ℕ). FindsLeast c.args.level.now c.args.boxes.now ks c.player-player.result c.args.ahead c.args.least c.seek_few-else-boxes-eq1.result)

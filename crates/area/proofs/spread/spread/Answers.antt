@@ -8,16 +8,16 @@ use Rattle.area.proofs.UnderWay.{started, begun, looked_way, way_has_mark, way_h
 use Rattle.area.proofs.spread.spread.Goals as goal
 
 pub bounds-marks-from-inside : goal.bounds-marks-from-inside
-bounds-marks-from-inside c = omega (arith, inside_grid c.args.level.now c.args.from c.requires.clear)
+bounds-marks-from-inside c = omega (arith, inside_grid c.args.level.now c.args.from c.requires.begun.clear)
 
 pub bounds-queue-0 : goal.bounds-queue-0
-bounds-queue-0 c = omega (arith, inside_grid c.args.level.now c.args.from c.requires.clear)
+bounds-queue-0 c = omega (arith, inside_grid c.args.level.now c.args.from c.requires.begun.clear)
 
 pub loop-head-init : goal.loop-head-init
 loop-head-init c =
     subst (λ (x : ℕ). IsUnderWay c.args.level.now c.args.base c.args.from c.args.marks.now (set c.args.marks.now x (c.args.base + 1))
     (set c.args.queue.now 0 c.args.from) 0 0 1) (sym c.from.view_is)
-    (started c.args.level.now _ _ _ _ c.requires.room c.requires.places c.requires.fresh c.requires.clear c.requires.open)
+    (started c.args.level.now _ _ _ _ c.requires.begun.room c.requires.begun.places c.requires.begun.fresh c.requires.begun.clear c.requires.begun.vacant)
 
 pub visit-tail-requires-clause-inside : goal.visit-tail-requires-clause-inside
 visit-tail-requires-clause-inside c =
