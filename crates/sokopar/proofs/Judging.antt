@@ -94,6 +94,9 @@ of_wrong_case limit board letters v place (Ok report) e is has =
     (WrongCase place, subst (λ (u : Verdict). IsVerdict board letters u) e is, subst (λ (u : Verdict). report ≡ verdict_report u) e has)
 of_wrong_case limit board letters v place (Err x) e is has = tt
 
+-- the report of letters goes by their verdict
+pub ruleset of_verdict = (some_has, of_solved, of_unsolved, of_blocked, of_wrong_case)
+
 -- the report of a text
 pub of_text : {E : Type 0} (limit : ℕ) (board : Board) (solution : List ℕ) (letters : List Letter) (r : Result Report E) → IsText solution letters →
     IfOk r (λ report. IsOfMoves limit board letters report) → IfOk r (λ report. IsProofOf limit board solution report)

@@ -74,7 +74,7 @@ fn judged<R: Threads + Sync>(
     }
 }
 
-#[tactic(auto, using(crate::proofs::Judging::some_has, crate::proofs::Judging::of_solved, crate::proofs::Judging::of_unsolved, crate::proofs::Judging::of_blocked, crate::proofs::Judging::of_wrong_case))]
+#[tactic(auto, using(crate::proofs::Judging::of_verdict))]
 /// The report of moves.
 fn moves_report<R: Threads + Sync>(
     rt: &R,
