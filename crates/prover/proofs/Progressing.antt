@@ -1,5 +1,5 @@
 -- Steps of a search, over plain lists of what was seen.
-use Rattle.std.proofs.Common.{◌≡◌, ℕ, zero, suc, ◌+◌, ◌≤◌, ◌<◌, ◌⊎◌, Bool, true, false, IsTrue, List, [], ◌∷◌, ◌++◌, length, Some, Result, Ok, Err, OnOk}
+use Rattle.std.proofs.Common.{◌≡◌, ℕ, zero, suc, ◌+◌, ◌≤◌, ◌<◌, ◌⊎◌, Bool, true, false, IsTrue, List, [], ◌∷◌, ◌++◌, length, Some, Result, Ok, Err, OnOk, OnErr}
 use Rattle.std.proofs.Common.{get_or, inl, inr, refl, sym, ap, subst, ◌∙◌, append-nil, append_assoc, arith}
 use Rattle.std.proofs.lemmas.Bool.{cases_lt, false≢true}
 use Rattle.std.proofs.lemmas.Option.{same_Some, slice_get_within, slice_get_read}
@@ -249,6 +249,11 @@ HasEntered v w n k = (IsSeen v.seen k n × (w ≡ v)) ⊎ (w ≡ record { boxes 
 pub entered_grows : (v w : EntriesView) (n : Scene) (k : ℕ) → HasEntered v w n k → Grows v w
 entered_grows v w n k (inl (seen, e)) = grows_none v w e
 entered_grows v w n k (inr e) = grows_one v w n k e
+
+-- after an error nothing has
+pub entered_either : {T E : Type 0} (v w : EntriesView) (n : Scene) (k : ℕ) (r : Result T E) → OnOk r (HasEntered v w n k) → OnErr r (w ≡ v) → Grows v w
+entered_either v w n k (Ok x) has same = entered_grows v w n k has
+entered_either v w n k (Err e) has same = grows_none v w same
 
 pub entered_seen : (v w : EntriesView) (n : Scene) (k : ℕ) → HasEntered v w n k → IsSeen w.seen k n
 entered_seen v w n k (inl (seen, e)) = subst (λ (u : EntriesView). IsSeen u.seen k n) (sym e) seen

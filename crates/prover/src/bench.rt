@@ -5,7 +5,6 @@ ghost use Rattle.prover.specs.inside.Benches.{AreRoomy, IsWorked, IsRoomy};
 ghost use Rattle.prover.specs.inside.Progress.{AllFit};
 
 use crate::desk::Desk;
-use crate::entries::Entries;
 use crate::expansion::{Span, expand_all};
 use crate::pruner::Pruner;
 use crate::store::Store;
@@ -17,7 +16,7 @@ use std::alloc::{AllocError, Global};
 #[derive(Debug, Drop)]
 pub(crate) struct Bench {
     pub(crate) desk: Desk,
-    pub(crate) more: Entries,
+    pub(crate) more: Store,
     pub(crate) is_whole: bool,
     // keeps what the next worker reads off the lines of memory that this one writes
     apart: [u64; 16],
@@ -53,9 +52,10 @@ fn append_bench(alloc: Global, level: &Level, benches: &mut Vec<Bench>) -> Resul
 {
     level.tell();
     let desk = Desk::new(alloc, level)?;
+    let more = Store::new(alloc, level.boxes())?;
     benches.push(Bench {
         desk,
-        more: Entries::new(alloc, level.boxes()),
+        more,
         is_whole: false,
         apart: [0; 16],
     })?;

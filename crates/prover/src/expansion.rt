@@ -8,7 +8,7 @@ ghost use Rattle.prover.specs.inside.Entries.{Grows, IsReached};
 ghost use Rattle.prover.specs.inside.Progress.{AllFit, AreExpanded};
 
 use crate::desk::Desk;
-use crate::entries::{Entries, Label};
+use crate::entries::Label;
 use crate::pruner::Pruner;
 use crate::pushing::try_chosen;
 use crate::store::Store;
@@ -31,7 +31,7 @@ pub(crate) fn expand_all(
     most: u32,
     span: Span,
     desk: &mut Desk,
-    more: &mut Entries,
+    more: &mut Store,
 ) -> Result<(), AllocError>
     requires fit { AllFit pruner.now store.now.seen }
     requires within { span.to ≤ length store.now.seen }
@@ -72,7 +72,7 @@ fn expand(
     label: Label,
     left: u32,
     desk: &mut Desk,
-    more: &mut Entries,
+    more: &mut Store,
 ) -> Result<(), AllocError>
     requires fits { FitsLevel pruner.now position.now }
     requires boxes { more.old.boxes ≡ box_count pruner.now }
@@ -116,7 +116,7 @@ fn keep(
     store: &Store,
     position: &Position,
     label: Label,
-    more: &mut Entries,
+    more: &mut Store,
 ) -> Result<(), AllocError>
     requires { length position.now.boxes ≡ more.old.boxes }
     ensures reached { OnOk result (IsReached store.now.seen more.new.seen label.pushes position.now) }
@@ -126,5 +126,5 @@ fn keep(
     if store.knows(position, label.pushes) {
         return Ok(());
     }
-    more.append(position, label)
+    more.enter(position, label)
 }

@@ -90,7 +90,7 @@ fn enter_each(store: &mut Store, cut: Cut, benches: &[Bench]) -> Result<usize, A
         if !bench.is_whole {
             return Err(AllocError);
         }
-        enter_all(store, &bench.more)?;
+        enter_all(store, bench.more.entries())?;
     }
     Ok(cut.start(benches.len()))
 }

@@ -1,5 +1,5 @@
 //! The positions that a search has seen, found by their squares.
-ghost use Rattle.std.specs.Prelude.{◌≡◌, ◌⊎◌, ◌<◌, ◌≤◌, [], IsTrue, IfOk, IfNone, IfSome, OnOk, length};
+ghost use Rattle.std.specs.Prelude.{◌≡◌, ◌⊎◌, ◌<◌, ◌≤◌, [], IsTrue, IfOk, IfNone, IfSome, OnErr, OnOk, length};
 ghost use Rattle.prover.specs.Frame.{IsSeen};
 ghost use Rattle.prover.specs.inside.Entries.{with_entry};
 
@@ -69,8 +69,9 @@ impl Store {
     /// positions as they were.
     pub(crate) fn enter(&mut self, position: &Position, label: Label) -> Result<(), AllocError>
         requires { length position.now.boxes ≡ self.old.boxes }
-        ensures { OnOk result ((IsSeen self.old.seen label.pushes position.now × (self.new ≡ self.old)) ⊎
+        ensures ok { OnOk result ((IsSeen self.old.seen label.pushes position.now × (self.new ≡ self.old)) ⊎
             (self.new ≡ with_entry self.old position.now label.pushes)) }
+        ensures err { OnErr result (self.new ≡ self.old) }
     {
         self.make_room()?;
         let (tags, places) = (self.tags.as_slice(), self.places.as_slice());
@@ -84,6 +85,14 @@ impl Store {
         self.tags[slot] = tag_of(hash);
         self.places[slot] = u32::try_from(place).unwrap_or(u32::MAX);
         Ok(())
+    }
+
+    /// Forgets all positions. Their memory is kept for others.
+    pub(crate) fn clear(&mut self)
+        ensures { self.new ≡ record { boxes = self.old.boxes; seen = [] } }
+    {
+        self.entries.clear();
+        self.tags.as_mut_slice().fill(FREE);
     }
 
     // Makes half as many slots more where four in five have a place.

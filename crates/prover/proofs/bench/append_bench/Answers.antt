@@ -11,6 +11,5 @@ pub returns-clause-roomy : goal.returns-clause-roomy
 returns-clause-roomy c = λ roomy. subst (AreRoomy c.args.level.now) (sym c.in_ok-push.ensures.items)
     (roomy_push c.args.level.now c.args.benches.now.items _ (record {
       desk = c.in_ok-desk.ensures;
-      more = ap (λ (v : EntriesView). v.boxes) c.new-2.ensures ∙
-          c.boxes.ensures;
+      more = ap (λ (v : EntriesView). v.boxes) c.in_ok-more.ensures ∙ c.boxes.ensures;
     }) roomy)

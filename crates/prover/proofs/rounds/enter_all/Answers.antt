@@ -15,7 +15,7 @@ loop-place-preserved c =
     let was = c.loop-place.invariant in
     let v = c.loop-place.store in
     let w = c.enter.new.self in
-    let has = c.in_ok-enter.ensures in
+    let has = c.in_ok-enter.ensures.ok in
     let grows = entered_grows v w x.scene x.pushes has in
     record {
       entered = entered_more c.args.more.now.seen v w c.loop-place.place x grows c.get-position.ensures was.entered (entered_seen v w x.scene x.pushes has);
