@@ -3,3 +3,4 @@ pub mod Solving
 pub mod Goals
 pub mod Prices
 pub mod Solved
+pub mod Tables

@@ -2,3 +2,4 @@
 pub mod Tables
 pub mod Checks
 pub mod Sums
+pub mod Views
