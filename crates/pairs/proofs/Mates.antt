@@ -1,5 +1,6 @@
 -- That boxes which name one another are couples.
-use Rattle.std.proofs.Common.{◌≡◌, ◌≢◌, ◌+◌, ◌<◌, ◌≤◌, ◌&&◌, ℕ, zero, suc, Bool, true, false, cond, eqb, nat_lt, List, [], ◌∷◌, length, get_or, inl, inr, refl, sym, ap, subst, ◌∙◌, arith}
+use Rattle.std.proofs.Common.{◌≡◌, ◌≢◌, ◌+◌, ◌<◌, ◌≤◌, ◌&&◌, ℕ, zero, suc, Bool, true, false, cond, eqb, nat_lt, List, [], ◌∷◌, length, get_or}
+use Rattle.std.proofs.Common.{inl, inr, refl, sym, ap, subst, ◌∙◌, arith}
 use Rattle.std.proofs.lemmas.Bool.{and_parts, cases_lt, eqb-true, false≢true, ltb-true}
 use Rattle.grid.specs.Squares.{Squares, contains}
 use Rattle.grid.specs.Rising.{is_rising}
@@ -78,16 +79,27 @@ are_couples boxes mates (suc k) rising = by (has_mate boxes mates k) refl (are_c
         let here : k < length boxes = omega (arith, lt, end) in
         let mine : (i : ℕ) → i < k → has_mate boxes mates i ≡ true → (i ≢ k) × (get_or mates i 0 ≢ k) = λ i less of. (
         let other = mate_parts boxes mates i of in
-        let back_there = other.2 in
-        ((λ e. omega (arith, less, e)), (λ e. (let same : get_or mates k 0 ≡ i = sym (ap (λ (n : ℕ). get_or mates n 0) e) ∙ back_there in omega (arith, same, lt, less))))
+        let back_there = other.2 in (
+          (λ e. omega (arith, less, e)),
+          (λ e. (let same : get_or mates k 0 ≡ i = sym (ap (λ (n : ℕ). get_or mates n 0) e)
+              ∙ back_there in omega (arith, same, lt, less))),
+        )
         ) in
         let its : (i : ℕ) → i < k → has_mate boxes mates i ≡ true → (i ≢ j) × (get_or mates i 0 ≢ j) = λ i less of. (
         let other = mate_parts boxes mates i of in
-        let back_there = other.2 in
-        ((λ e. omega (arith, less, e, lt)), (λ e. (let same : k ≡ i = sym back ∙ (sym (ap (λ (n : ℕ). get_or mates n 0) e) ∙ back_there) in omega (arith, same, less))))
-        ) in
-        (contains-get_or boxes k 0 here, contains-get_or boxes j 0 end, other_box boxes k j rising here end (λ e. omega (arith, e, lt)),
-        free_at boxes mates k k rising here mine, free_at boxes mates k j rising end its, rest)
+        let back_there = other.2 in (
+          (λ e. omega (arith, less, e, lt)),
+          (λ e. (let same : k ≡ i = sym back
+              ∙ (sym (ap (λ (n : ℕ). get_or mates n 0) e) ∙ back_there) in omega (arith, same, less))),
+        )
+        ) in (
+          contains-get_or boxes k 0 here,
+          contains-get_or boxes j 0 end,
+          other_box boxes k j rising here end (λ e. omega (arith, e, lt)),
+          free_at boxes mates k k rising here mine,
+          free_at boxes mates k j rising end its,
+          rest,
+        )
     by false has rest = rest
 
 -- so their excess comes on top of what the boxes need above some tolls

@@ -124,7 +124,8 @@ fn pushes_pay(level: &Level, distances: &Distances, table: &Table) -> bool
 // Whether each push pays for what it takes of the excess with a box on the square.
 fn pay_with(level: &Level, distances: &Distances, table: &Table, two: Square) -> bool
     requires { level.now ≡ distances.now.level }
-    ensures { IsTrue result → (p : ℕ) → p < length level.now.cells → (d : Dir) → PushPays level.now distances.now.table (excess_in table.now) two p d }
+    ensures { IsTrue result → (p : ℕ) → p < length level.now.cells → (d : Dir)
+        → PushPays level.now distances.now.table (excess_in table.now) two p d }
 {
     if level.is_wall(two) {
         return true;

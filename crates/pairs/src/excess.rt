@@ -78,11 +78,7 @@ fn above(distances: &Distances, table: &Table, position: &Position) -> u64
 }
 
 // The table of a level, if it is not too large and passes the check.
-fn checked(
-    alloc: Global,
-    level: &Level,
-    distances: &Distances,
-) -> Result<Option<Table>, AllocError>
+fn checked(alloc: Global, level: &Level, distances: &Distances) -> Result<Option<Table>, AllocError>
     requires { level.now ≡ distances.now.level }
     ensures { IfOk result (λ table. AreSound distances.now table) }
 {

@@ -77,7 +77,10 @@ pub(crate) fn start_of(one: Ground, two: Ground, len: usize) -> usize {
     let low = one.place.min(two.place) as usize;
     let high = one.place.max(two.place) as usize;
     let before = high.saturating_mul(high.saturating_sub(1)) / 2;
-    before.saturating_add(low).saturating_mul(len).saturating_add(1)
+    before
+        .saturating_add(low)
+        .saturating_mul(len)
+        .saturating_add(1)
 }
 
 /// Sets the byte at a place, if there is one.

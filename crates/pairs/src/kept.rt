@@ -39,7 +39,10 @@ fn copied(alloc: Global, bytes: &[u8], count: usize) -> Result<Vec<u8>, AllocErr
 // The places of each square.
 fn spots(alloc: Global, level: &Level, ground: &[Ground]) -> Result<Vec<Spot>, AllocError> {
     level.tell();
-    let mut spots = vec![in alloc; Spot { place: 0, player: 0 }; level.squares()]?;
+    let mut spots = vec![in alloc; Spot {
+        place: 0,
+        player: 0
+    }; level.squares()]?;
     for (player, it) in ground.iter().enumerate() {
         if let Some(spot) = spots.as_mut_slice().get_mut(it.square as usize) {
             *spot = Spot {
@@ -62,7 +65,12 @@ fn keep_with(table: &mut Table, filling: &mut Filling, one: u16, from: usize) ->
         let whole = first.place != NONE && second.place != NONE;
         if whole && has_some(filling.excess.as_slice(), start, len, (one, two)) {
             move_down(filling.excess.as_mut_slice(), start, end, len);
-            name(table, first.place.wrapping_add(1), second.place.wrapping_add(1), end);
+            name(
+                table,
+                first.place.wrapping_add(1),
+                second.place.wrapping_add(1),
+                end,
+            );
             end = end.saturating_add(len);
         }
     }
@@ -73,7 +81,10 @@ fn keep_with(table: &mut Table, filling: &mut Filling, one: u16, from: usize) ->
 fn has_some(excess: &[u8], start: usize, len: usize, boxes: (u16, u16)) -> bool {
     let (one, two) = boxes;
     for player in 0..len {
-        if player != one as usize && player != two as usize && byte_at(excess, start.saturating_add(player)) != 0 {
+        if player != one as usize
+            && player != two as usize
+            && byte_at(excess, start.saturating_add(player)) != 0
+        {
             return true;
         }
     }
@@ -92,8 +103,16 @@ fn move_down(bytes: &mut [u8], from: usize, to: usize, len: usize) {
 fn name(table: &mut Table, one: u16, two: u16, start: usize) {
     let count = table.places as usize;
     let row = u32::try_from(start).unwrap_or(0);
-    set_number(table.rows.as_mut_slice(), one as usize * count + two as usize, row);
-    set_number(table.rows.as_mut_slice(), two as usize * count + one as usize, row);
+    set_number(
+        table.rows.as_mut_slice(),
+        one as usize * count + two as usize,
+        row,
+    );
+    set_number(
+        table.rows.as_mut_slice(),
+        two as usize * count + one as usize,
+        row,
+    );
 }
 
 // Sets the number at a place, if there is one.

@@ -8,10 +8,7 @@ use std::alloc::Global;
 use std::process::Abort;
 
 // two boxes side by side, with their goals beyond
-const BLOCKED: (usize, &[u8]) = (
-    7,
-    b"########     ##     ##@$$..##     ##     ########",
-);
+const BLOCKED: (usize, &[u8]) = (7, b"########     ##     ##@$$..##     ##     ########");
 
 // the same in a corridor
 const CORRIDOR: (usize, &[u8]) = (7, b"########@$$..########");

@@ -1,5 +1,6 @@
 -- What boxes need by a table and a list of tolls is a need, and so the code's sums are bounds.
-use Rattle.std.proofs.Common.{◌≡◌, ◌+◌, ◌-◌, ◌<◌, ◌≤◌, ℕ, suc, Bool, true, false, cond, eqb, eq-eqb, List, [], ◌∷◌, length, get_or, inl, inr, refl, ap, subst, ◌∙◌, arith}
+use Rattle.std.proofs.Common.{◌≡◌, ◌+◌, ◌-◌, ◌<◌, ◌≤◌, ℕ, suc, Bool, true, false, cond, eqb, eq-eqb, List, [], ◌∷◌, length, get_or, inl, inr}
+use Rattle.std.proofs.Common.{refl, ap, subst, ◌∙◌, arith}
 use Rattle.std.proofs.lemmas.Bool.{cases_lt, false≢true, ne_eqb, true≢false}
 use Rattle.grid.specs.Board.{Board, Scene}
 use Rattle.grid.specs.States.{IsScene}

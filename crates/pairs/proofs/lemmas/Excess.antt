@@ -1,5 +1,6 @@
 -- The excess of couples comes on top of what all boxes need.
-use Rattle.std.proofs.Common.{◌≡◌, ◌≢◌, ℕ, suc, ◌+◌, ◌≤◌, ◌<◌, min, Bool, true, false, cond, eqb, ◌||◌, List, [], ◌∷◌, length, refl, sym, ap, subst, ◌∙◌, inl, inr, arith}
+use Rattle.std.proofs.Common.{◌≡◌, ◌≢◌, ℕ, suc, ◌+◌, ◌≤◌, ◌<◌, min, Bool, true, false, cond, eqb, ◌||◌, List, [], ◌∷◌, length, refl, sym, ap}
+use Rattle.std.proofs.Common.{subst, ◌∙◌, inl, inr, arith}
 use Rattle.std.proofs.lemmas.Bool.{false≢true, true≢false, cases_eq, eqb-true, eqb-false, eq-eqb}
 use Rattle.grid.specs.declared.dir.Dir.{Dir}
 use Rattle.grid.specs.declared.square.Push.{Push}
@@ -7,7 +8,8 @@ use Rattle.grid.specs.Squares.{Squares, contains, insert, remove}
 use Rattle.grid.specs.Board.{Board, Scene, IsSolved, Walks, Pushes, is_goal, next}
 use Rattle.grid.specs.States.{IsScene}
 use Rattle.grid.specs.Plays.{Play, Any, stay, walk, push}
-use Rattle.grid.proofs.lemmas.Squares.{contains_head, contains-remove_out, contains-remove_parts, contains-insert_here, contains-insert_other, contains-remove_other}
+use Rattle.grid.proofs.lemmas.Squares.{contains_head, contains-remove_out, contains-remove_parts, contains-insert_here, contains-insert_other}
+use Rattle.grid.proofs.lemmas.Squares.{contains-remove_other}
 use Rattle.grid.proofs.lemmas.Steps.{scene_after_walk, scene_after_push}
 use Rattle.prices.specs.Solving.{NoneWithin}
 use Rattle.prices.specs.Prices.{AreFar, CanStand, ComesOfTolls, IsNeed, goals_of, least_of, need_of, sum_over, total_need}
@@ -67,10 +69,10 @@ free_moved q r (k ∷ ks) z (a, b, rest) (c, e, out) apart =
 free_of : (boxes : Squares) (r : ℕ) (ks : List Couple) → contains boxes r ≡ false → AreCouples boxes ks → IsFree ks r
 free_of boxes r [] out are = tt
 free_of boxes r (k ∷ ks) out (one, two, apart, a, b, rest) = (
-    (λ e. true≢false (sym (ap (λ (x : ℕ). contains boxes x) (sym e) ∙ one) ∙ out)),
-    (λ e. true≢false (sym (ap (λ (x : ℕ). contains boxes x) (sym e) ∙ two) ∙ out)),
-    free_of boxes r ks out rest
-    )
+  (λ e. true≢false (sym (ap (λ (x : ℕ). contains boxes x) (sym e) ∙ one) ∙ out)),
+  (λ e. true≢false (sym (ap (λ (x : ℕ). contains boxes x) (sym e) ∙ two) ∙ out)),
+  free_of boxes r ks out rest,
+)
 
 there_moved : (boxes : Squares) (q r x : ℕ) → contains boxes x ≡ true → r ≢ x → contains (insert (remove boxes q) r) (cond (eqb x q) r x) ≡ true
 there_moved boxes q r x there apart = by (eqb x q) (eqb-false x q)
@@ -85,10 +87,14 @@ couples_moved boxes q r [] out are = tt
 couples_moved boxes q r (k ∷ ks) out (one, two, apart, a, b, rest) =
     let free = free_of boxes r (k ∷ ks) out (one, two, apart, a, b, rest) in
     let first : r ≢ k.one = λ e. free.0 (sym e) in
-    let second : r ≢ k.two = λ e. free.1 (sym e) in
-    (there_moved boxes q r k.one one first, there_moved boxes q r k.two two second,
-    moved_apart q r k.one k.two apart first second,
-    free_moved q r ks k.one a free.2 first, free_moved q r ks k.two b free.2 second, couples_moved boxes q r ks out rest)
+    let second : r ≢ k.two = λ e. free.1 (sym e) in (
+      there_moved boxes q r k.one one first,
+      there_moved boxes q r k.two two second,
+      moved_apart q r k.one k.two apart first second,
+      free_moved q r ks k.one a free.2 first,
+      free_moved q r ks k.two b free.2 second,
+      couples_moved boxes q r ks out rest,
+    )
 
 -- ---- the steps of a play
 
@@ -139,7 +145,8 @@ module _ (board : Board) (far excess : ℕ → ℕ → ℕ → ℕ) (toll : ℕ 
   -- any cap gives no more
   need_most : (cap b p : ℕ) → need_of board far toll cap b p ≤ need b p
   need_most cap b p =
-      most (goals_of board) (λ g there. there) (least_at (λ g. far g b p + toll g) cap (goals_of board) is.some.0 (contains-goals board is.some.0 ∙ is.some.1))
+      most (goals_of board) (λ g there. there) (least_at (λ g. far g b p + toll g) cap (goals_of board) is.some.0 (contains-goals board is.some.0
+      ∙ is.some.1))
     where
       most : (gs : List ℕ) → ((g : ℕ) → contains gs g ≡ true → contains (goals_of board) g ≡ true)
           → need_of board far toll cap b p ≤ far is.some.0 b p + toll is.some.0
@@ -150,8 +157,8 @@ module _ (board : Board) (far excess : ℕ → ℕ → ℕ → ℕ) (toll : ℕ 
           let rest = most gs (λ x there. within x (in_tail g gs x there)) le in
           omega (arith, here, rest)
 
-  first_pays : (p : ℕ) (d : Dir) (b c : ℕ) → b ≡ next board p d → CanStandBoth board b c p → CanStandBoth board (next board (next board p d) d) c (next board p d)
-      → need (next board p d) p + excess b c p ≤ suc (need (next board (next board p d) d) (next board p d) + excess (next board (next board p d) d) c (next board p d))
+  first_pays : (p : ℕ) (d : Dir) (b c : ℕ) → let q = next board p d in let r = next board q d in
+      b ≡ q → CanStandBoth board b c p → CanStandBoth board r c q → need q p + excess b c p ≤ suc (need r q + excess r c q)
   first_pays p d b c same before after =
       let q = next board p d in
       let r = next board q d in
@@ -159,8 +166,8 @@ module _ (board : Board) (far excess : ℕ → ℕ → ℕ → ℕ) (toll : ℕ 
       let le = need_push q p r (excess q c p) (excess r c q) (is.first c p d (subst (λ (x : ℕ). CanStandBoth board x c p) same before) after) in
       omega (arith, e, le)
 
-  second_pays : (p : ℕ) (d : Dir) (b c : ℕ) → c ≡ next board p d → CanStandBoth board b c p → CanStandBoth board b (next board (next board p d) d) (next board p d)
-      → need (next board p d) p + excess b c p ≤ suc (need (next board (next board p d) d) (next board p d) + excess b (next board (next board p d) d) (next board p d))
+  second_pays : (p : ℕ) (d : Dir) (b c : ℕ) → let q = next board p d in let r = next board q d in
+      c ≡ q → CanStandBoth board b c p → CanStandBoth board b r q → need q p + excess b c p ≤ suc (need r q + excess b r q)
   second_pays p d b c same before after =
       let q = next board p d in
       let r = next board q d in
@@ -177,7 +184,8 @@ module _ (board : Board) (far excess : ℕ → ℕ → ℕ → ℕ) (toll : ℕ 
       omega (arith, one, rest)
 
   -- couples without the box that is pushed
-  free_le : (p r : ℕ) (d : Dir) (ks : List Couple) → IsFree ks (next board p d) → AllStand board p ks → AllStand board (next board p d) (moved_all (next board p d) r ks)
+  free_le : (p r : ℕ) (d : Dir) (ks : List Couple) → IsFree ks (next board p d) → AllStand board p ks
+      → AllStand board (next board p d) (moved_all (next board p d) r ks)
       → excess_over excess p ks ≤ excess_over excess (next board p d) (moved_all (next board p d) r ks)
   free_le p r d [] free before after = omega arith
   free_le p r d (k ∷ ks) (a, b, free) (here, before) (there, after) =

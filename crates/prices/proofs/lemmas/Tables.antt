@@ -8,6 +8,7 @@ pub place_inside : (xs : List ℕ) (q : ℕ) → contains xs q ≡ true → plac
 place_inside [] q here = absurd (false≢true here)
 place_inside (x ∷ xs) q here = at_head (eqb x q) (λ h. place_inside xs q h) here
   where
-    at_head : (e : Bool) → (contains xs q ≡ true → place_in xs q < length xs) → (e || contains xs q) ≡ true → cond e 0 (suc (place_in xs q)) < suc (length xs)
+    at_head : (e : Bool) → (contains xs q ≡ true → place_in xs q < length xs) → (e || contains xs q) ≡ true
+        → cond e 0 (suc (place_in xs q)) < suc (length xs)
     at_head true tail h = omega arith
     at_head false tail h = let lt = tail h in omega (arith, lt)

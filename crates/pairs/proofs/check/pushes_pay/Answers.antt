@@ -7,7 +7,8 @@ use Rattle.pairs.proofs.check.pushes_pay.Goals as goal
 
 pub loop-index-preserved : goal.loop-index-preserved
 loop-index-preserved c =
-    below_next (λ k. (p : ℕ) → p < length c.args.level.now.cells → (d : Dir) → PushPays c.args.level.now c.args.distances.now.table (excess_in c.args.table.now) k p d)
+    below_next (λ k. (p : ℕ) → p < length c.args.level.now.cells → (d : Dir)
+    → PushPays c.args.level.now c.args.distances.now.table (excess_in c.args.table.now) k p d)
     c.loop-index.index c.loop-index.invariant (c.pay_with.ensures c.if-not-pay_with.false)
 
 pub returns : goal.returns
