@@ -13,6 +13,7 @@ use Rattle.prices.specs.Prices.{AreFar, CanStand, goals_of}
 use Rattle.prices.specs.inside.Checks.{AreClosed, AreNoneAtHome, KeepRows, LessenByOne}
 use Rattle.prices.specs.inside.Tables.{far_in, has_number, number_of, place_in, row_by, row_in, sides_of, spot_of}
 use Rattle.prices.proofs.lemmas.Goals.{contains-goals}
+use Rattle.prices.proofs.lemmas.Tables.{place_inside}
 
 -- what holds below a number, and of it, holds below the next one
 pub below_next : (P : ℕ → Type 0) (k : ℕ) → ((p : ℕ) → p < k → P p) → P k → (p : ℕ) → p < k + 1 → P p
@@ -69,14 +70,6 @@ rows_kept board t closed b p d here there =
     )))
 
 -- ---- the place of a goal
-
-pub place_inside : (xs : List ℕ) (q : ℕ) → contains xs q ≡ true → place_in xs q < length xs
-place_inside [] q here = absurd (false≢true here)
-place_inside (x ∷ xs) q here = at_head (eqb x q) (λ h. place_inside xs q h) here
-  where
-    at_head : (e : Bool) → (contains xs q ≡ true → place_in xs q < length xs) → (e || contains xs q) ≡ true → cond e 0 (suc (place_in xs q)) < suc (length xs)
-    at_head true tail h = omega arith
-    at_head false tail h = let lt = tail h in omega (arith, lt)
 
 pub at_place : (xs : List ℕ) (q d : ℕ) → contains xs q ≡ true → get_or xs (place_in xs q) d ≡ q
 at_place [] q d here = absurd (false≢true here)

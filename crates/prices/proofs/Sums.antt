@@ -1,7 +1,7 @@
 -- What boxes need by a table and a list of tolls is a need, and so the code's sums are bounds.
-use Rattle.std.proofs.Common.{◌≡◌, ◌+◌, ◌-◌, ◌<◌, ◌≤◌, ◌==◌, ℕ, zero, suc, Bool, true, false, cond, eqb, eq-eqb}
+use Rattle.std.proofs.Common.{◌≡◌, ◌+◌, ◌-◌, ◌<◌, ◌≤◌, ◌==◌, ℕ, zero, suc, Bool, true, false, cond, eqb, eq-eqb, inl, inr}
 use Rattle.std.proofs.Common.{List, [], ◌∷◌, length, get_or, refl, ap, subst, ◌∙◌, arith}
-use Rattle.std.proofs.lemmas.Bool.{eqb-true, false≢true, ne_eqb, true≢false}
+use Rattle.std.proofs.lemmas.Bool.{cases_lt, eqb-true, false≢true, ne_eqb, true≢false}
 use Rattle.grid.specs.Board.{Board, Scene}
 use Rattle.grid.specs.States.{IsScene}
 use Rattle.grid.specs.Squares.{contains}
@@ -9,11 +9,11 @@ use Rattle.grid.specs.Rising.{rises_from, is_rising}
 use Rattle.grid.proofs.lemmas.Squares.{contains_head, contains-from, rises_from-parts}
 use Rattle.prices.specs.declared.table.Table.{Table}
 use Rattle.prices.specs.Solving.{NoneWithin}
-use Rattle.prices.specs.Prices.{AreFar, goals_of, least_of, need_of, sum_over, total_need}
+use Rattle.prices.specs.Prices.{AreFar, ComesOfTolls, goals_of, least_of, need_of, sum_over, total_need}
 use Rattle.prices.specs.inside.Tables.{far_in, number_of, place_in, row_in}
 use Rattle.prices.specs.inside.Sums.{greatest, least_sum, need_by, need_seen, total}
 use Rattle.prices.proofs.lemmas.Goals.{is_rising-goals}
-use Rattle.prices.proofs.Checking.{place_inside}
+use Rattle.prices.proofs.lemmas.Tables.{place_inside}
 use Rattle.prices.proofs.lemmas.Prices.{in_tail, needs_refuse, sum_le, tolls_are_free}
 
 -- what is at most each cost and the cap is at most the least
@@ -80,16 +80,40 @@ tolls_le k (g ∷ gs) (x ∷ xs) rises same =
     other y true is = absurd (true≢false is)
     other y false is = refl
 
--- where the boxes need so much more than the tolls, no play with fewer pushes ends solved
-pub needs_above : (board : Board) (t : Table) (tolls : List ℕ) (s : Scene) (needs sum m : ℕ) → AreFar board (far_in t)
-    → t.goals.items ≡ goals_of board → length tolls ≡ length t.goals.items → IsScene board s
-    → needs ≤ sum_over (λ b. need_by t tolls b s.player) s.boxes → sum ≡ total tolls → m < needs - sum → NoneWithin board m s
-needs_above board t tolls s needs sum m far goals size scene le paid lt =
-    let toll = number_of t.goals.items tolls in
-    let rises : is_rising t.goals.items ≡ true = ap (λ (gs : List ℕ). is_rising gs) goals ∙ is_rising-goals board in
-    let pay = tolls_le 0 t.goals.items tolls rises size in
-    let same : sum_over toll t.goals.items ≡ sum_over toll (goals_of board) = ap (λ (gs : List ℕ). sum_over toll gs) goals in
-    let need : sum_over (λ b. need_by t tolls b s.player) s.boxes ≡ total_need (need_of board (far_in t) toll greatest) s =
-    ap (λ (gs : List ℕ). sum_over (λ b. least_of (λ g. far_in t g b s.player + toll g) greatest gs) s.boxes) goals in
-    needs_refuse board toll (need_of board (far_in t) toll greatest) m s (tolls_are_free board (far_in t) toll greatest far) scene
-    (omega (arith, pay, same, need, le, paid, lt))
+no_tolls : (gs : List ℕ) → sum_over (λ g. 0) gs ≡ 0
+no_tolls [] = refl
+no_tolls (g ∷ gs) = let e = no_tolls gs in omega (arith, e)
+
+-- nothing comes of no tolls
+pub none_above : (board : Board) (far : ℕ → ℕ → ℕ → ℕ) (s : Scene) → ComesOfTolls board far s 0
+none_above board far s = ((λ g. 0), 0, (let e = no_tolls (goals_of board) in omega (arith, e)))
+
+-- what the boxes need above the sum of a list of tolls comes of tolls
+pub needs_above : (board : Board) (t : Table) (tolls : List ℕ) (s : Scene) (needs sum : ℕ)
+    → t.goals.items ≡ goals_of board → length tolls ≡ length t.goals.items
+    → needs ≤ sum_over (λ b. need_by t tolls b s.player) s.boxes → sum ≡ total tolls → ComesOfTolls board (far_in t) s (needs - sum)
+needs_above board t tolls s needs sum goals size le paid = elim (cases_lt needs sum) [
+  | inl less ↦ subst (ComesOfTolls board (far_in t) s) (let e : 0 ≡ needs - sum = omega (arith, less) in e) (none_above board (far_in t) s)
+  | inr enough ↦ (toll, greatest, omega (arith, pay, same, need, le, paid, enough))
+]
+  where
+    toll : ℕ → ℕ
+    toll = number_of t.goals.items tolls
+
+    rises : is_rising t.goals.items ≡ true
+    rises = ap (λ (gs : List ℕ). is_rising gs) goals ∙ is_rising-goals board
+
+    pay : sum_over toll t.goals.items ≤ total tolls
+    pay = tolls_le 0 t.goals.items tolls rises size
+
+    same : sum_over toll t.goals.items ≡ sum_over toll (goals_of board)
+    same = ap (λ (gs : List ℕ). sum_over toll gs) goals
+
+    need : sum_over (λ b. need_by t tolls b s.player) s.boxes ≡ total_need (need_of board (far_in t) toll greatest) s
+    need = ap (λ (gs : List ℕ). sum_over (λ b. least_of (λ g. far_in t g b s.player + toll g) greatest gs) s.boxes) goals
+
+-- where a number comes of tolls, no play with fewer pushes ends solved
+pub tolls_refuse : (board : Board) (far : ℕ → ℕ → ℕ → ℕ) (s : Scene) (low m : ℕ) → AreFar board far → IsScene board s
+    → ComesOfTolls board far s low → m < low → NoneWithin board m s
+tolls_refuse board far s low m are scene (toll, cap, le) lt =
+    needs_refuse board toll (need_of board far toll cap) m s (tolls_are_free board far toll cap are) scene (omega (arith, le, lt))

@@ -4,3 +4,4 @@ pub mod Goals
 pub mod Prices
 pub mod Solved
 pub mod Helping
+pub mod Tables

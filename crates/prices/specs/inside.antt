@@ -3,3 +3,4 @@ pub mod Tables
 pub mod Checks
 pub mod Sums
 pub mod Slacks
+pub mod Views

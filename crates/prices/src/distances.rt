@@ -2,7 +2,8 @@ ghost use Rattle.std.specs.Prelude.{◌≡◌, ℕ, ◌<◌, ◌≤◌, IfOk, Is
 ghost use Rattle.grid.specs.Lawful.{box_count};
 ghost use Rattle.grid.specs.States.{IsScene};
 ghost use Rattle.prices.specs.Solving.{NoneWithin};
-ghost use Rattle.prices.specs.Prices.{goals_of};
+ghost use Rattle.prices.specs.Prices.{AreFar, ComesOfTolls, goals_of};
+ghost use Rattle.prices.specs.inside.Tables.{far_in, row_in};
 
 use crate::check::make_sure;
 use crate::matching::Matching;
@@ -15,7 +16,7 @@ use std::alloc::{AllocError, Global};
 use std::marker::Model;
 
 /// How many pushes a lone box needs to each goal of a level, by its square and the side of it on which the player stands.
-/// Contracts see the level that it was made of.
+/// Contracts see the level that it was made of, and the numbers.
 ///
 /// It takes four bytes for each goal and each side of each square, 17 MB in the greatest rooms with 64 goals. There the
 /// sides are told apart at the first thousand squares that cut the room, and in rooms of up to 8,192 squares at all.
@@ -27,13 +28,13 @@ pub struct Distances {
 
 impl Model for Distances {
     ghost use Rattle.std.specs.Prelude.{◌≡◌};
-    ghost use Rattle.grid.specs.Board.{Board};
     ghost use Rattle.prices.specs.Prices.{AreFar, goals_of};
     ghost use Rattle.prices.specs.inside.Tables.{far_in};
+    ghost use Rattle.prices.specs.inside.Views.{DistancesView};
 
-    ghost Value = { Board };
+    ghost Value = { DistancesView };
 
-    ghost view = { λ a. a.level };
+    ghost view = { λ a. record { level = a.level; table = a.table } };
 
     ghost invariant = { λ a. AreFar a.level (far_in a.table) × (a.table.goals.items ≡ goals_of a.level) };
 }
@@ -42,7 +43,7 @@ impl Distances {
     /// The distances of a level with at most [`MAX_BOXES`] boxes. The only error is that memory was refused.
     pub fn of(alloc: Global, level: &Level) -> Result<Distances, AllocError>
         requires { box_count level.now ≤ MAX_BOXES }
-        ensures { IfOk result (λ distances. distances ≡ level.now) }
+        ensures { IfOk result (λ distances. distances.level ≡ level.now) }
     {
         let mut table = empty_table(alloc, level)?;
         table.far = distances(alloc, level, &table)?;
@@ -57,8 +58,8 @@ impl Distances {
     /// Takes no memory. The matching may be one that was used for any other position; for one that differs by a push or
     /// two it takes least time.
     pub fn needs_more(&self, position: &Position, most: u32, matching: &mut Matching) -> bool
-        requires { IsScene self.now position.now }
-        ensures { IsTrue result → NoneWithin self.now most position.now }
+        requires { IsScene self.now.level position.now }
+        ensures { IsTrue result → NoneWithin self.now.level most position.now }
     {
         u64::from(most) < self.lower(position, matching)
     }
@@ -72,18 +73,41 @@ impl Distances {
     /// [`NEVER`](crate::NEVER) or more where the distances say that the boxes can't all be brought to goals, no two to one.
     /// Takes no memory.
     pub fn lower(&self, position: &Position, matching: &mut Matching) -> u64
-        requires { IsScene self.now position.now }
-        ensures { (m : ℕ) → m < result → NoneWithin self.now m position.now }
+        requires { IsScene self.now.level position.now }
+        ensures bound { (m : ℕ) → m < result → NoneWithin self.now.level m position.now }
+        ensures tolls { ComesOfTolls self.now.level (far_in self.now.table) position.now result }
     {
         matching.meet(&self.table, position);
         self.needs_above(position, matching.tolls(self.table.goals.len()))
     }
 
+    /// Tells that the distances are lower bounds, for each goal of the level.
+    pub fn tell(&self)
+        ensures far { AreFar self.now.level (far_in self.now.table) }
+        ensures goals { self.now.table.goals.items ≡ goals_of self.now.level }
+    {
+        let _ = &self.table;
+    }
+
+    /// How many goals there are.
+    pub fn goals(&self) -> usize
+        ensures { result ≡ length (goals_of self.now.level) }
+    {
+        self.table.goals.len()
+    }
+
+    /// How far a lone box is from each goal, in the order of the goals, the player being on the second square.
+    #[inline(always)]
+    pub fn row(&self, square: Square, player: Square) -> &[u32]
+        ensures { result.now ≡ row_in self.now.table square player }
+    {
+        self.table.row(square, player)
+    }
+
     // How much more the boxes need than the sum of these tolls; 0 where there is not one for each goal.
     fn needs_above(&self, position: &Position, tolls: &[u32]) -> u64
-        requires scene { IsScene self.now position.now }
-        requires few { length tolls.now ≤ MAX_BOXES }
-        ensures { (m : ℕ) → m < result → NoneWithin self.now m position.now }
+        requires { length tolls.now ≤ MAX_BOXES }
+        ensures { ComesOfTolls self.now.level (far_in self.now.table) position.now result }
     {
         if tolls.len() != self.table.goals.len() {
             return 0;

@@ -43,8 +43,8 @@ impl<'a> Slack<'a> {
         left: u32,
         matching: &Matching,
     ) -> Slack<'a>
-        requires { IsScene distances.now position.now }
-        ensures { result ≡ record { board = distances.now; scene = position.now; left = left } }
+        requires { IsScene distances.now.level position.now }
+        ensures { result ≡ record { board = distances.now.level; scene = position.now; left = left } }
     {
         let table = &distances.table;
         let all_tolls = matching.tolls;

@@ -5,18 +5,19 @@ ghost use Rattle.prices.specs.Solving.{NoneWithin};
 
 use doom::{Bound, Dead};
 use grid::{Level, MAX_BOXES, Position};
+use pairs::Pairs;
 use prices::{Distances, Matching};
 use std::alloc::{AllocError, Global};
 use std::marker::Model;
 
-/// What positions are left out by: a level's dead squares, its bound, and its distances to each goal. Contracts see the
+/// What positions are left out by: a level's dead squares, its bound, and what pairs of its boxes need. Contracts see the
 /// level.
 #[derive(Debug, Drop)]
 pub(crate) struct Pruner<'a> {
     level: &'a Level,
     dead: Dead,
     bound: Bound,
-    distances: Distances,
+    pairs: Pairs,
 }
 
 impl<'a> Model for Pruner<'a> {
@@ -27,7 +28,7 @@ impl<'a> Model for Pruner<'a> {
 
     ghost view = { λ a. a.level.now };
 
-    ghost invariant = { λ a. (a.dead ≡ a.level.now) × (a.bound ≡ a.level.now) × (a.distances ≡ a.level.now) };
+    ghost invariant = { λ a. (a.dead ≡ a.level.now) × (a.bound ≡ a.level.now) × (a.pairs ≡ a.level.now) };
 }
 
 impl<'a> Pruner<'a> {
@@ -40,7 +41,7 @@ impl<'a> Pruner<'a> {
             level,
             dead: Dead::of(alloc, level)?,
             bound: Bound::of(alloc, level)?,
-            distances: Distances::of(alloc, level)?,
+            pairs: Pairs::of(alloc, level)?,
         })
     }
 
@@ -60,9 +61,9 @@ impl<'a> Pruner<'a> {
 
     /// The distances to each goal.
     pub(crate) fn distances(&self) -> &Distances
-        ensures { result.now ≡ self.now }
+        ensures { result.now.level ≡ self.now }
     {
-        &self.distances
+        self.pairs.distances()
     }
 
     /// Whether the boxes of the position need more pushes than so many; `false` says nothing. What each box needs to the
@@ -77,6 +78,6 @@ impl<'a> Pruner<'a> {
         if low > left {
             return true;
         }
-        self.distances.needs_more(position, left, matching)
+        self.pairs.needs_more(position, left, matching)
     }
 }

@@ -1,5 +1,5 @@
 //! The examples on the pages of the crates, at the head of each `lib.rt`. `tests/cited` holds each page to the text here.
-use crate::boards::{CORNER, ONE};
+use crate::boards::{BLOCKED, CORNER, ONE};
 use crate::books::level_of;
 use area::Scratch;
 use claims::Ledger;
@@ -8,6 +8,7 @@ use doom::Dead;
 use grid::{Dir, Position, Square, State, Step};
 use layers::{Book, Layer};
 use lurd::Verdict;
+use pairs::Pairs;
 use prices::{Distances, Matching};
 use solo::{Answer, solve_alone};
 use std::slice;
@@ -87,6 +88,19 @@ fn page_of_prices(rt: HostRuntime) {
     // the box is two pushes from its goal
     assert!(&rt; distances.needs_more(&start, 1, &mut matching));
     assert!(&rt; !distances.needs_more(&start, 2, &mut matching));
+}
+
+#[test]
+fn page_of_pairs(rt: HostRuntime) {
+    let alloc = rt.alloc();
+    let level = level_of(&rt, alloc, BLOCKED);
+    level.tell_start();
+    let start = Position::start(&level).expect(&rt, "few boxes");
+    let pairs = Pairs::of(alloc, &level).expect(&rt, "memory");
+    let mut matching = Matching::new();
+    // each box is two pushes from a goal, and one of them has to be pushed out of the row and back
+    assert!(&rt; pairs.needs_more(&start, 5, &mut matching));
+    assert!(&rt; !pairs.needs_more(&start, 6, &mut matching));
 }
 
 #[test]

@@ -1,4 +1,4 @@
-use Rattle.std.proofs.Common.{◌≡◌, suc, ap, refl, subst, sym, ◌∙◌}
+use Rattle.std.proofs.Common.{suc, refl, subst}
 use Rattle.grid.specs.Board.{Board, Scene}
 use Rattle.prices.specs.Helping.{NeverHelps}
 use Rattle.prices.proofs.lemmas.Helping.{never_leads_on}

@@ -1,0 +1,15 @@
+use Rattle.std.proofs.Common.{ℕ, ◌<◌, length, arith}
+use Rattle.grid.specs.declared.dir.Dir.{Dir}
+use Rattle.pairs.specs.inside.Checks.{PushPays}
+use Rattle.pairs.specs.inside.Tables.{excess_in}
+use Rattle.pairs.proofs.Checking.{below_next}
+use Rattle.pairs.proofs.check.pushes_pay.Goals as goal
+
+pub loop-index-preserved : goal.loop-index-preserved
+loop-index-preserved c =
+    below_next (λ k. (p : ℕ) → p < length c.args.level.now.cells → (d : Dir)
+    → PushPays c.args.level.now c.args.distances.now.table (excess_in c.args.table.now) k p d)
+    c.loop-index.index c.loop-index.invariant (c.pay_with.ensures c.if-not-pay_with.false)
+
+pub returns : goal.returns
+returns c = λ _ k p inside. c.loop-index.invariant k (omega (arith, inside)) p

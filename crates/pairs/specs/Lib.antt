@@ -1,0 +1,2 @@
+pub mod Excess
+pub mod inside

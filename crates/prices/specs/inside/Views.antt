@@ -1,0 +1,7 @@
+-- What contracts see of the distances of a level: the level, and the table that says how far a lone box is from each goal.
+use Rattle.grid.specs.Board.{Board}
+use Rattle.prices.specs.declared.table.Table.{Table}
+
+pub record DistancesView : Type 0 where
+  pub level : Board
+  pub table : Table
