@@ -1,6 +1,6 @@
 //! Stretches of the layer that books closed last, each merged apart from the others, so that they can be merged side by
 //! side.
-ghost use Rattle.std.specs.Prelude.{◌≡◌, ℕ, ◌<◌, ◌≤◌, [], ◌++◌, true, IfOk, IfSome, OnOk, Some, length, map, slice_get};
+ghost use Rattle.std.specs.Prelude.{◌≡◌, ℕ, ◌<◌, ◌≤◌, List, [], ◌++◌, true, IfOk, IfSome, OnOk, Some, length, map, slice_get};
 ghost use Rattle.layers.specs.declared.limits.TheConstants.{MOST_POSITIONS};
 ghost use Rattle.successors.specs.Reaching.{total};
 ghost use Rattle.layers.specs.BookView.{last_list};
@@ -40,6 +40,13 @@ pub(crate) struct Merged {
 }
 
 impl Stretch {
+    /// In how many stretches of `least` positions or more the layer can be parted that the books closed last, up to `most`.
+    pub fn parts(books: &[Book], most: usize, least: usize) -> usize
+        ensures { result ≤ most }
+    {
+        most.min(count_of(books) / least.max(1))
+    }
+
     /// The layer that the books closed last, in up to `most` stretches of about as many positions each, and `least` or more;
     /// none where that would be one stretch, or where there is one book. The only error is that memory was refused.
     pub fn all(
@@ -50,7 +57,7 @@ impl Stretch {
     ) -> Result<Vec<Stretch>, AllocError>
         ensures { IfOk result (λ stretches. length stretches.items ≤ most) }
     {
-        let parts = most.min(count_of(books) / least.max(1));
+        let parts = Stretch::parts(books, most, least);
         let mut stretches = Vec::new(alloc);
         if parts < 2 || books.len() < 2 {
             return Ok(stretches);
@@ -101,31 +108,34 @@ impl Stretch {
     pub fn merge(&mut self, alloc: Global, books: &[Book])
         ensures { IsStretchOf books.now self.new }
     {
-        self.merged = merge_some(alloc, books, self.starts.as_slice(), self.bound, self.room);
+        self.merged = None;
+        if self.starts.len() != books.len() {
+            return;
+        }
+        let starts = self.starts.as_slice();
+        if let Ok(merged) = merge_upto(alloc, books, starts, self.bound, self.room) {
+            self.merged = Some(merged);
+        }
+    }
+
+    /// Appends what others hold that follow this one, one after the other. Where one does not follow, or is not merged, or memory
+    /// is refused, this one is merged no more. Those that were appended hold nothing any more.
+    pub fn append_all(&mut self, books: &[Book], others: &mut [Stretch])
+        requires own { IsStretchOf books.now self.old }
+        requires others { (i : ℕ) (s : Stretch) → slice_get others.old i ≡ Some s → IsStretchOf books.now s }
+        ensures { IsStretchOf books.now self.new }
+    {
+        let Some(mut whole) = self.merged.take() else {
+            return;
+        };
+        if let Ok(true) = append_each(&mut whole, books, others) {
+            self.merged = Some(whole);
+        }
     }
 }
 
-// Merges what is left of the books' last lists once so many of each were taken, up to a bound; `None` where that is not
-// said for each of the books, or where memory is refused.
-fn merge_some(
-    alloc: Global,
-    books: &[Book],
-    starts: &[usize],
-    bound: Option<Origin>,
-    room: usize,
-) -> Option<Merged>
-    ensures { IfSome result (λ merged. AreTaken books.now starts.now merged.ends.items merged.squares.items merged.origins.items) }
-{
-    if starts.len() != books.len() {
-        return None;
-    }
-    match merge_upto(alloc, books, starts, bound, room) {
-        Ok(merged) => Some(merged),
-        Err(_) => None,
-    }
-}
-
-// The same, where it is said for each of the books.
+// Merges what is left of the books' last lists once so many of each were taken, up to a bound, in room for so many positions. The
+// only error is that memory was refused.
 fn merge_upto(
     alloc: Global,
     books: &[Book],
@@ -140,7 +150,12 @@ fn merge_upto(
     let mut rests = rests_of(alloc, books, starts)?;
     let mut ends = Vec::new(alloc);
     ends.extend_from_slice(starts)?;
-    let mut squares = Vec::with_capacity(alloc, room.saturating_mul(row_of(books)))?;
+    // how many squares a position has: those of its boxes, and its player's
+    let row = match books.first() {
+        Some(book) => book.boxes().saturating_add(1),
+        None => 1,
+    };
+    let mut squares = Vec::with_capacity(alloc, room.saturating_mul(row))?;
     let mut origins = Vec::with_capacity(alloc, room)?;
     while let Some(place) = next_of(rests.as_slice(), &bound) {
         rests[place].take(&mut squares, &mut origins)?;
@@ -166,9 +181,14 @@ pub(crate) fn put_together(
 {
     let whole = rests_of(alloc, books, &[])?;
     let count = count_all(whole.as_slice());
-    let Some(merged) = append_each(alloc, books, stretches)? else {
-        return Ok(None);
+    let mut merged = Merged {
+        ends: vec![in alloc; 0; books.len()]?,
+        squares: Vec::new(alloc),
+        origins: Vec::new(alloc),
     };
+    if !append_each(&mut merged, books, stretches)? {
+        return Ok(None);
+    }
     let rests = rests_of(alloc, books, merged.ends.as_slice())?;
     if !is_none_left(rests.as_slice()) {
         return Ok(None);
@@ -181,27 +201,23 @@ pub(crate) fn put_together(
     Ok(Some((count, squares, origins)))
 }
 
-// What stretches hold that follow each other from the first position on; `None` where they do not, or one of them is not merged.
-// What was appended a stretch holds no more, so that no position is held twice for long. The only error is that memory was refused.
+// Appends what stretches hold that follow, one after the other, and tells whether each does, and is merged. What was appended a
+// stretch holds no more, so that no position is held twice for long. The only error is that memory was refused.
 fn append_each(
-    alloc: Global,
+    whole: &mut Merged,
     books: &[Book],
     stretches: &mut [Stretch],
-) -> Result<Option<Merged>, AllocError>
+) -> Result<bool, AllocError>
     requires stretches { (i : ℕ) (s : Stretch) → slice_get stretches.old i ≡ Some s → IsStretchOf books.now s }
-    ensures { IfOk result (λ found. IfSome found (λ merged. AreTaken books.now [] merged.ends.items merged.squares.items merged.origins.items)) }
+    ensures { (starts : List ℕ) → AreTaken books.now starts whole.old.ends.items whole.old.squares.items whole.old.origins.items →
+        IfOk result (λ follow. follow ≡ true → AreTaken books.now starts whole.new.ends.items whole.new.squares.items whole.new.origins.items) }
 {
-    let mut whole = Merged {
-        ends: vec![in alloc; 0; books.len()]?,
-        squares: Vec::new(alloc),
-        origins: Vec::new(alloc),
-    };
     for place in 0..stretches.len() {
-        if !append_stretch(&mut whole, books, &mut stretches[place])? {
-            return Ok(None);
+        if !append_stretch(whole, books, &mut stretches[place])? {
+            return Ok(false);
         }
     }
-    Ok(Some(whole))
+    Ok(true)
 }
 
 // Appends what a stretch holds, if it begins where the others end and is merged, and tells whether it does. Then it holds nothing
@@ -211,9 +227,9 @@ fn append_stretch(
     books: &[Book],
     stretch: &mut Stretch,
 ) -> Result<bool, AllocError>
-    requires stretch { IsStretchOf books.now stretch.old }
-    requires whole { AreTaken books.now [] whole.old.ends.items whole.old.squares.items whole.old.origins.items }
-    ensures follows { IfOk result (λ follows. follows ≡ true → AreTaken books.now [] whole.new.ends.items whole.new.squares.items whole.new.origins.items) }
+    requires { IsStretchOf books.now stretch.old }
+    ensures follows { (starts : List ℕ) → AreTaken books.now starts whole.old.ends.items whole.old.squares.items whole.old.origins.items →
+        IfOk result (λ follows. follows ≡ true → AreTaken books.now starts whole.new.ends.items whole.new.squares.items whole.new.origins.items) }
     ensures stretch { IsStretchOf books.now stretch.new }
 {
     if !are_same(whole.ends.as_slice(), stretch.starts.as_slice()) {
@@ -253,14 +269,6 @@ fn are_same(places: &[usize], others: &[usize]) -> bool
         }
     }
     true
-}
-
-// How many squares a position of the books has: those of its boxes, and its player's.
-fn row_of(books: &[Book]) -> usize {
-    match books.first() {
-        Some(book) => book.boxes().saturating_add(1),
-        None => 1,
-    }
 }
 
 // How many positions the layer has that the books closed last.

@@ -1,4 +1,4 @@
-use Rattle.std.proofs.Common.{◌≡◌, ℕ, [], Some}
+use Rattle.std.proofs.Common.{◌≡◌, ℕ, List, Some}
 use Rattle.std.specs.Prelude.{slice_get}
 use Rattle.layers.specs.declared.stretch.Stretch.{Stretch}
 use Rattle.layers.specs.inside.Merging.{AreTaken, IsStretchOf}
@@ -6,5 +6,6 @@ use Rattle.layers.proofs.stretch.append_each.Given as goal
 
 abbrev pub invariant-loop-place : goal.invariant-loop-place
 invariant-loop-place l =
-    AreTaken l.books [] l.whole.ends.items l.whole.squares.items l.whole.origins.items
+    ((starts : List ℕ) → AreTaken l.books starts l.fn.whole.ends.items l.fn.whole.squares.items l.fn.whole.origins.items →
+    AreTaken l.books starts l.whole.ends.items l.whole.squares.items l.whole.origins.items)
     × ((i : ℕ) (s : Stretch) → slice_get l.stretches i ≡ Some s → IsStretchOf l.books s)

@@ -1,4 +1,4 @@
-use Rattle.std.proofs.Common.{◌≡◌, ◌∙◌, ◌++◌, [], refl, sym, subst}
+use Rattle.std.proofs.Common.{◌≡◌, ◌∙◌, ◌++◌, refl, sym, subst}
 use Rattle.std.specs.Prelude.{IfSome, Some}
 use Rattle.layers.specs.inside.Merging.{AreTaken}
 use Rattle.layers.specs.declared.stretch.Merged.{Merged}
@@ -6,20 +6,20 @@ use Rattle.layers.proofs.Stretches.{more_taken}
 use Rattle.layers.proofs.stretch.append_stretch.Goals as goal
 
 pub returns-clause-follows : goal.returns-clause-follows
-returns-clause-follows c = λ follows.
+returns-clause-follows c = λ starts taken follows.
     let books = c.args.books.now in let s = c.args.stretch.now in let w = c.args.whole.now in let m = c.in-Some.more in
     let was : s.merged ≡ Some m = sym c.take.ensures.value ∙ c.in-Some.is in
     let held : AreTaken books s.starts.items m.ends.items m.squares.items m.origins.items = subst
-    (λ o. IfSome o (λ (x : Merged). AreTaken books s.starts.items x.ends.items x.squares.items x.origins.items)) was c.requires.stretch in
+    (λ o. IfSome o (λ (x : Merged). AreTaken books s.starts.items x.ends.items x.squares.items x.origins.items)) was c.requires in
     let same : w.ends.items ≡ s.starts.items = sym c.as_slice.ensures.value ∙ c.if-not-are_same.ensures refl ∙ c.as_slice-2.ensures.value in
-    let all = more_taken books [] s.starts.items m.ends.items w.squares.items m.squares.items w.origins.items m.origins.items
-    (subst (λ ns. AreTaken books [] ns w.squares.items w.origins.items) same c.requires.whole) held in
+    let all = more_taken books starts s.starts.items m.ends.items w.squares.items m.squares.items w.origins.items m.origins.items
+    (subst (λ ns. AreTaken books starts ns w.squares.items w.origins.items) same taken) held in
     let ends : c.swap.new.x.items ≡ m.ends.items = λ i. (c.swap.ensures.x_after i).items in
     let squares : c.append.new.list.items ≡ w.squares.items ++ m.squares.items = c.in_ok-append.ensures in
     let origins : c.append-2.new.list.items ≡ w.origins.items ++ m.origins.items = c.in_ok-append-2.ensures in
-    subst (λ ns. AreTaken books [] ns c.append.new.list.items c.append-2.new.list.items) (sym ends)
-    (subst (λ xs. AreTaken books [] m.ends.items xs c.append-2.new.list.items) (sym squares)
-    (subst (AreTaken books [] m.ends.items (w.squares.items ++ m.squares.items)) (sym origins) all))
+    subst (λ ns. AreTaken books starts ns c.append.new.list.items c.append-2.new.list.items) (sym ends)
+    (subst (λ xs. AreTaken books starts m.ends.items xs c.append-2.new.list.items) (sym squares)
+    (subst (AreTaken books starts m.ends.items (w.squares.items ++ m.squares.items)) (sym origins) all))
 
 pub returns-clause-stretch : goal.returns-clause-stretch
 returns-clause-stretch c =
