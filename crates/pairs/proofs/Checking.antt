@@ -1,7 +1,7 @@
 -- That what the check looks at makes the excess a lower bound.
-use Rattle.std.proofs.Common.{◌≡◌, ◌≢◌, ◌+◌, ◌<◌, ◌≤◌, ◌&&◌, ℕ, suc, Bool, true, false, cond, eqb, List, [], ◌∷◌, length, get_or, inl, inr, refl}
+use Rattle.std.proofs.Common.{◌==◌, ◌≡◌, ◌≢◌, ◌+◌, ◌<◌, ◌≤◌, ◌&&◌, ℕ, suc, Bool, true, cond, List, [], ◌∷◌, length, get_or, inl, inr, refl}
 use Rattle.std.proofs.Common.{sym, ap, subst, ◌∙◌, arith}
-use Rattle.std.proofs.lemmas.Bool.{and_parts, cases_lt, eq-eqb, false≢true, true≢false}
+use Rattle.std.proofs.lemmas.Bool.{and_parts, cases_lt, eq-eqb, true≢false}
 use Rattle.grid.specs.declared.dir.Dir.{Dir}
 use Rattle.grid.specs.declared.dir.Dir.TheVariants.{D, L, R, U}
 use Rattle.grid.specs.Board.{Board, is_goal, is_wall, next}
@@ -9,15 +9,15 @@ use Rattle.grid.specs.Squares.{contains}
 use Rattle.grid.proofs.lemmas.Squares.{contains_head}
 use Rattle.grid.proofs.lemmas.Steps.{inside_grid}
 use Rattle.prices.specs.Prices.{goals_of}
-use Rattle.prices.specs.inside.Tables.{far_in, number_of, place_in, row_in as far_row}
+use Rattle.prices.specs.inside.Tables.{far_in, place_in, row_in as far_row}
 use Rattle.prices.specs.inside.Views.{DistancesView}
 use Rattle.prices.proofs.lemmas.Goals.{contains-goals}
 use Rattle.prices.proofs.lemmas.Tables.{place_inside}
 use Rattle.prices.specs.declared.table.Table.{Table as Distances}
 use Rattle.pairs.specs.declared.table.Table.{Table}
-use Rattle.pairs.specs.Excess.{CanStandBoth, IsExcess}
+use Rattle.pairs.specs.Excess.{IsExcess}
 use Rattle.pairs.specs.inside.Tables.{IsSound, excess_in, row_in, spot_of}
-use Rattle.pairs.specs.inside.Checks.{ArePaid, FirstPays, PushPays, SecondPays, WalksKeep}
+use Rattle.pairs.specs.inside.Checks.{ArePaid, PushPays, WalksKeep}
 
 -- what holds below a number, and of it, holds below the next one
 pub below_next : (P : ℕ → Type 0) (k : ℕ) → ((p : ℕ) → p < k → P p) → P k → (p : ℕ) → p < k + 1 → P p
@@ -44,13 +44,29 @@ told_by_four P a b c e down left right up all =
 -- two boxes without a number have no excess
 pub none_in_row : (t : Table) (b c p : ℕ) → row_in t b c ≡ 0 → excess_in t b c p ≡ 0
 none_in_row t b c p none =
-    ap (λ (e : Bool). cond {A = ℕ} e 0 (get_or t.excess.items (row_in t b c + (spot_of t.spots.items p).player) 0)) (eq-eqb (row_in t b c) 0 none)
+    ap (λ (r : ℕ). cond {A = ℕ} (r == 0) 0 (cond {A = ℕ} (r == 1) 255 (get_or t.excess.items (r + (spot_of t.spots.items p).player) 0))) none
 
--- nor does anything keep less
+-- and of the number 1 the greatest
+full_in_row : (t : Table) (b c p : ℕ) → row_in t b c ≡ 1 → excess_in t b c p ≡ 255
+full_in_row t b c p full =
+    ap (λ (r : ℕ). cond {A = ℕ} (r == 0) 0 (cond {A = ℕ} (r == 1) 255 (get_or t.excess.items (r + (spot_of t.spots.items p).player) 0))) full
+
+-- so walks keep both
 pub none_kept : (board : Board) (t : Table) (b c : ℕ) → row_in t b c ≡ 0 → WalksKeep board (excess_in t) b c
 none_kept board t b c none = record {
   home = λ one two p. none_in_row t b c p none;
   walk = λ p inside floor a e d there x y. (let z = none_in_row t b c p none in omega (arith, z));
+}
+
+pub full_kept : (board : Board) (t : Table) (b c : ℕ) → (is_goal board b ≡ true → ¬ (is_goal board c ≡ true)) → row_in t b c ≡ 1
+    → WalksKeep board (excess_in t) b c
+full_kept board t b c apart full = record {
+  home = λ one two p. absurd (apart one two);
+  walk = λ p inside floor a e d there x y. (
+      let here = full_in_row t b c p full in
+      let then = full_in_row t b c (next board p d) full in
+      omega (arith, here, then)
+      );
 }
 
 -- a box on a wall asks for nothing

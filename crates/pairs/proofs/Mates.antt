@@ -1,8 +1,8 @@
 -- That boxes which name one another are couples.
-use Rattle.std.proofs.Common.{◌≡◌, ◌≢◌, ◌+◌, ◌<◌, ◌≤◌, ◌&&◌, ℕ, zero, suc, Bool, true, false, cond, eqb, nat_lt, List, [], ◌∷◌, length, get_or}
+use Rattle.std.proofs.Common.{◌≡◌, ◌≢◌, ◌+◌, ◌<◌, ◌&&◌, ℕ, zero, suc, Bool, true, false, cond, eqb, nat_lt, List, ◌∷◌, length, get_or}
 use Rattle.std.proofs.Common.{inl, inr, refl, sym, ap, subst, ◌∙◌, arith}
-use Rattle.std.proofs.lemmas.Bool.{and_parts, cases_lt, eqb-true, false≢true, ltb-true}
-use Rattle.grid.specs.Squares.{Squares, contains}
+use Rattle.std.proofs.lemmas.Bool.{and_parts, cases_lt, eqb-true, ltb-true}
+use Rattle.grid.specs.Squares.{Squares}
 use Rattle.grid.specs.Rising.{is_rising}
 use Rattle.grid.proofs.lemmas.Squares.{contains-get_or, rising_places}
 use Rattle.grid.specs.Board.{Scene}
@@ -14,7 +14,7 @@ use Rattle.prices.specs.inside.Views.{DistancesView}
 use Rattle.pairs.specs.declared.table.Table.{Table}
 use Rattle.pairs.specs.inside.Tables.{IsSound, excess_in}
 use Rattle.pairs.proofs.lemmas.Excess.{excess_adds_up}
-use Rattle.pairs.specs.Excess.{AreCouples, Couple, IsFree, excess_over}
+use Rattle.pairs.specs.Excess.{AreCouples, IsFree, excess_over}
 use Rattle.pairs.specs.inside.Couples.{couple_at, couples_to, has_mate}
 
 -- one couple more, or none

@@ -1,5 +1,6 @@
 //! Whether the excess of pairs passes the look that makes it a lower bound: one step of the player at a time.
-ghost use Rattle.std.specs.Prelude.{◌≡◌, ◌<◌, ℕ, IsTrue, length};
+ghost use Rattle.std.specs.Prelude.{◌≡◌, ◌<◌, ℕ, IsTrue, length, true};
+ghost use Rattle.grid.specs.Board.{is_goal};
 ghost use Rattle.prices.specs.Prices.{goals_of};
 ghost use Rattle.pairs.specs.inside.Checks.{AreKept, ArePaid, FirstPays, IsKept, PushPays, SecondPays, WalksKeep};
 ghost use Rattle.pairs.specs.inside.Tables.{IsSound, excess_in};
@@ -52,13 +53,24 @@ fn keep_with(level: &Level, table: &Table, one: Square) -> bool
 fn keep_both(level: &Level, table: &Table, one: Square, two: Square) -> bool
     ensures { IsTrue result → WalksKeep level.now (excess_in table.now) one two }
 {
-    if table.row(one, two) == 0 {
+    let row = table.row(one, two);
+    if row == 0 {
         return true;
     }
-    if level.is_goal(one) && level.is_goal(two) {
+    if !are_apart(level, one, two) {
         return false;
     }
+    if row == 1 {
+        return true;
+    }
     all_keep(level, table, one, two)
+}
+
+// Whether two boxes are not both on goals.
+fn are_apart(level: &Level, one: Square, two: Square) -> bool
+    ensures { IsTrue result → is_goal level.now one ≡ true → ¬ (is_goal level.now two ≡ true) }
+{
+    !level.is_goal(one) || !level.is_goal(two)
 }
 
 // Whether all walks keep the excess of two boxes.

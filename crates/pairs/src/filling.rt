@@ -44,7 +44,7 @@ pub(crate) fn table_of(
     let ground = ground_of(alloc, level, distances)?;
     let places = places(ground.as_slice());
     let pairs = places.saturating_mul(places.saturating_sub(1)) / 2;
-    let len = pairs.saturating_mul(ground.len()).saturating_add(1);
+    let len = pairs.saturating_mul(ground.len()).saturating_add(2);
     if len > MOST {
         return Ok(None);
     }
@@ -80,7 +80,7 @@ pub(crate) fn start_of(one: Ground, two: Ground, len: usize) -> usize {
     before
         .saturating_add(low)
         .saturating_mul(len)
-        .saturating_add(1)
+        .saturating_add(2)
 }
 
 /// Sets the byte at a place, if there is one.

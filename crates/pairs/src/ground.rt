@@ -132,14 +132,18 @@ fn give_places(distances: &Distances, ground: &mut [Ground]) {
 fn is_live(distances: &Distances, ground: &[Ground], at: u16) -> bool {
     let it = ground_at(ground, at);
     for beside in it.beside {
-        if beside != NONE {
-            let player = ground_at(ground, beside).square;
-            if is_near(distances.row(Square(it.square), Square(player))) {
-                return true;
-            }
+        if beside != NONE && is_hopeful(distances, ground, at, beside) {
+            return true;
         }
     }
     false
+}
+
+// Whether a box that is alone can be brought to a goal, the player being at another place.
+fn is_hopeful(distances: &Distances, ground: &[Ground], at: u16, player: u16) -> bool {
+    let square = ground_at(ground, at).square;
+    let other = ground_at(ground, player).square;
+    is_near(distances.row(Square(square), Square(other)))
 }
 
 // Whether there is a way to some goal.

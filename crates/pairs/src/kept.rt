@@ -16,10 +16,10 @@ pub(crate) fn kept(
     let mut table = Table {
         spots: spots(alloc, level, filling.ground.as_slice())?,
         places: short(count),
-        rows: vec![in alloc; 0; count.saturating_mul(count)]?,
+        rows: vec![in alloc; 1; count.saturating_mul(count)]?,
         excess: Vec::new(alloc),
     };
-    let mut end = 1;
+    let mut end = 2;
     for one in 0..filling.ground.len() {
         end = keep_with(&mut table, filling, short(one), end);
     }
@@ -56,25 +56,40 @@ fn spots(alloc: Global, level: &Level, ground: &[Ground]) -> Result<Vec<Spot>, A
 
 // Keeps the pairs with the box at a place and those at lesser ones; gives where what is kept ends.
 fn keep_with(table: &mut Table, filling: &mut Filling, one: u16, from: usize) -> usize {
+    let place = ground_at(filling.ground.as_slice(), one).place;
+    if place == NONE {
+        return from;
+    }
+    name(table, place.wrapping_add(1), place.wrapping_add(1), 0);
     let mut end = from;
     for two in 0..one {
-        let first = ground_at(filling.ground.as_slice(), one);
-        let second = ground_at(filling.ground.as_slice(), two);
-        let len = filling.ground.len();
-        let start = start_of(first, second, len);
-        let whole = first.place != NONE && second.place != NONE;
-        if whole && has_some(filling.excess.as_slice(), start, len, (one, two)) {
-            move_down(filling.excess.as_mut_slice(), start, end, len);
-            name(
-                table,
-                first.place.wrapping_add(1),
-                second.place.wrapping_add(1),
-                end,
-            );
-            end = end.saturating_add(len);
-        }
+        end = keep_pair(table, filling, one, two, end);
     }
     end
+}
+
+// Keeps a pair, if it has some excess; gives where what is kept ends.
+fn keep_pair(table: &mut Table, filling: &mut Filling, one: u16, two: u16, end: usize) -> usize {
+    let first = ground_at(filling.ground.as_slice(), one);
+    let second = ground_at(filling.ground.as_slice(), two);
+    if first.place == NONE || second.place == NONE {
+        return end;
+    }
+    let len = filling.ground.len();
+    let start = start_of(first, second, len);
+    let is_some = has_some(filling.excess.as_slice(), start, len, (one, two));
+    let row = if is_some { end } else { 0 };
+    name(
+        table,
+        first.place.wrapping_add(1),
+        second.place.wrapping_add(1),
+        row,
+    );
+    if !is_some {
+        return end;
+    }
+    move_down(filling.excess.as_mut_slice(), start, end, len);
+    end.saturating_add(len)
 }
 
 // Whether there is some excess, wherever the player is.

@@ -11,8 +11,8 @@ pub(crate) struct Spot {
     pub(crate) player: u16,
 }
 
-/// The excess of pairs. Of two places there is a number, 0 where the excess is 0 wherever the player is. From that number on
-/// stands the excess for each place of the player.
+/// The excess of pairs. Of two places there is a number: 0 where they have none wherever the player is, and 1 where one of
+/// them is none from which a box comes to a goal. Else the excess stands from that number on, for each place of the player.
 #[derive(Debug, Drop)]
 pub(crate) struct Table {
     pub(crate) spots: Vec<Spot>,
@@ -48,6 +48,9 @@ impl Table {
         let row = self.row(one, two);
         if row == 0 {
             return 0;
+        }
+        if row == 1 {
+            return 255;
         }
         let at = row as usize + self.spot(player).player as usize;
         byte_at(self.excess.as_slice(), at)

@@ -19,12 +19,6 @@ const FREE: (usize, &[u8]) = (6, b"#######    ##@$$ ## .. #######");
 // the player is between the boxes, and each has a goal beyond it
 const BETWEEN: (usize, &[u8]) = (9, b"##########. $@$ .##########");
 
-// two pairs that are blocked, one above the other
-const TWO_PAIRS: (usize, &[u8]) = (
-    7,
-    b"########     ##     ##@$$..##     ##     ##     ## $$..##     ##     ########",
-);
-
 fn cell_of(byte: u8) -> Cell {
     match byte {
         b'#' => Cell::Wall,
@@ -96,7 +90,7 @@ fn starts_need_pushes(rt: HostRuntime) {
     let alloc = rt.alloc();
     assert!(&rt; least_of(&rt, alloc, FREE, 100) == 2);
     assert!(&rt; least_of(&rt, alloc, BETWEEN, 100) == 4);
-    assert!(&rt; least_of(&rt, alloc, TWO_PAIRS, 100) == 12);
+    assert!(&rt; least_of(&rt, alloc, BLOCKED, 100) == 6);
 }
 
 #[test]

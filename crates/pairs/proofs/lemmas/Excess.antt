@@ -1,7 +1,7 @@
 -- The excess of couples comes on top of what all boxes need.
-use Rattle.std.proofs.Common.{◌≡◌, ◌≢◌, ℕ, suc, ◌+◌, ◌≤◌, ◌<◌, min, Bool, true, false, cond, eqb, ◌||◌, List, [], ◌∷◌, length, refl, sym, ap}
-use Rattle.std.proofs.Common.{subst, ◌∙◌, inl, inr, arith}
-use Rattle.std.proofs.lemmas.Bool.{false≢true, true≢false, cases_eq, eqb-true, eqb-false, eq-eqb}
+use Rattle.std.proofs.Common.{◌≡◌, ◌≢◌, ℕ, suc, ◌+◌, ◌≤◌, min, Bool, true, false, cond, eqb, ◌||◌, List, [], ◌∷◌, length, refl, sym, ap}
+use Rattle.std.proofs.Common.{subst, ◌∙◌, arith}
+use Rattle.std.proofs.lemmas.Bool.{false≢true, true≢false, eqb-true, eqb-false}
 use Rattle.grid.specs.declared.dir.Dir.{Dir}
 use Rattle.grid.specs.declared.square.Push.{Push}
 use Rattle.grid.specs.Squares.{Squares, contains, insert, remove}
@@ -11,8 +11,7 @@ use Rattle.grid.specs.Plays.{Play, Any, stay, walk, push}
 use Rattle.grid.proofs.lemmas.Squares.{contains_head, contains-remove_out, contains-remove_parts, contains-insert_here, contains-insert_other}
 use Rattle.grid.proofs.lemmas.Squares.{contains-remove_other}
 use Rattle.grid.proofs.lemmas.Steps.{scene_after_walk, scene_after_push}
-use Rattle.prices.specs.Solving.{NoneWithin}
-use Rattle.prices.specs.Prices.{AreFar, CanStand, ComesOfTolls, IsNeed, goals_of, least_of, need_of, sum_over, total_need}
+use Rattle.prices.specs.Prices.{AreFar, CanStand, IsNeed, goals_of, least_of, need_of, sum_over, total_need}
 use Rattle.prices.proofs.lemmas.Goals.{contains-goals}
 use Rattle.prices.proofs.lemmas.Prices.{can_stand, in_tail, needs_hold, sum_inserted, sum_le, sum_put_back}
 use Rattle.pairs.specs.Excess.{AreCouples, CanStandBoth, Couple, ExcessAddsUp, IsExcess, IsFree, excess_over}

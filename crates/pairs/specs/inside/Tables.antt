@@ -15,10 +15,10 @@ abbrev pub row_in : Table → ℕ → ℕ → ℕ
 row_in t b c =
     slice_index_or t.rows.items ((spot_of t.spots.items b).place * t.places + (spot_of t.spots.items c).place) 0
 
--- their excess, the player being on the third square
+-- their excess, the player being on the third square: of the number 0 none, of 1 the greatest
 abbrev pub excess_in : Table → ℕ → ℕ → ℕ → ℕ
 excess_in t b c p = let row = row_in t b c in
-    cond (row == 0) 0 (slice_index_or t.excess.items (row + (spot_of t.spots.items p).player) 0)
+    cond (row == 0) 0 (cond (row == 1) 255 (slice_index_or t.excess.items (row + (spot_of t.spots.items p).player) 0))
 
 -- what a table says is an excess above these distances
 abbrev pub IsSound : DistancesView → Table → Type 0

@@ -1,4 +1,4 @@
-use Rattle.std.proofs.Common.{ℕ, ◌<◌, length, arith}
+use Rattle.std.proofs.Common.{arith}
 use Rattle.pairs.specs.inside.Checks.{WalksKeep}
 use Rattle.pairs.specs.inside.Tables.{excess_in}
 use Rattle.pairs.proofs.Checking.{below_next}

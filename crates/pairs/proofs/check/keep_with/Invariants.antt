@@ -1,4 +1,4 @@
-use Rattle.std.proofs.Common.{ℕ, ◌<◌, length}
+use Rattle.std.proofs.Common.{ℕ, ◌<◌}
 use Rattle.pairs.specs.inside.Checks.{WalksKeep}
 use Rattle.pairs.specs.inside.Tables.{excess_in}
 use Rattle.pairs.proofs.check.keep_with.Given as goal

@@ -1,4 +1,4 @@
-use Rattle.std.proofs.Common.{ℕ, ◌<◌, length}
+use Rattle.std.proofs.Common.{ℕ, ◌<◌}
 use Rattle.grid.specs.declared.dir.Dir.{Dir}
 use Rattle.pairs.specs.inside.Checks.{PushPays}
 use Rattle.pairs.specs.inside.Tables.{excess_in}
