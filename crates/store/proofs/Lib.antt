@@ -1,3 +1,4 @@
+pub mod Known
 pub mod lemmas
 pub mod Packing
 pub mod Tails

@@ -6,6 +6,7 @@ mod closing;
 mod copying;
 mod entering;
 mod found;
+mod guesses;
 mod inbox;
 mod key;
 mod origin;

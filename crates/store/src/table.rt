@@ -10,7 +10,8 @@ ghost use Rattle.store.specs.inside.KeyRows.{SuitsLevel};
 use crate::closing::arrange;
 use crate::copying::{copy_entry, copy_from};
 use crate::entering::{count_new, enter_all};
-use crate::inbox::{append_parcel, make_room};
+use crate::guesses::Guesses;
+use crate::inbox::{append_parcel, enter_if_full, make_room};
 use crate::key::Key;
 use crate::origin::{ClosedOrigin, MOST_RANKS, Origin};
 use grid::{MAX_BOXES, Position, Square};
@@ -31,6 +32,8 @@ pub(crate) struct Table<const N: usize, const M: usize> {
     last: Origin,
     // what was offered since and is to enter, for which the map has room
     inbox: Vec<(Key<N, M>, Origin)>,
+    // where in the map positions may stand
+    guesses: Guesses,
 }
 
 impl<const N: usize, const M: usize> Model for Table<N, M> {
@@ -79,6 +82,7 @@ impl<const N: usize, const M: usize> Table<N, M> {
             }
         }
         let start = table.len();
+        let guesses = Guesses::new(alloc)?;
         Ok(Table {
             boxes,
             squares,
@@ -86,6 +90,7 @@ impl<const N: usize, const M: usize> Table<N, M> {
             start,
             last: Origin::lowest(),
             inbox: Vec::new(alloc),
+            guesses,
         })
     }
 
@@ -169,7 +174,8 @@ impl<const N: usize, const M: usize> Table<N, M> {
             return false;
         }
         let last = &mut self.last;
-        enter_all(&mut self.table, self.start, last, &mut self.inbox);
+        let guesses = &mut self.guesses;
+        enter_all(&mut self.table, self.start, last, &mut self.inbox, guesses);
         let room = limit - self.table.len();
         count_new(&self.table, self.start, share, shares, successors) > room
     }
@@ -190,14 +196,15 @@ impl<const N: usize, const M: usize> Table<N, M> {
         ensures err { OnErr result (self.new ≡ self.old) }
     {
         let successors = parcel.successors();
-        make_room(
+        enter_if_full(
             &mut self.table,
             self.start,
             &mut self.last,
             &mut self.inbox,
+            &mut self.guesses,
             most,
-            successors,
-        )?;
+        );
+        make_room(&mut self.table, &mut self.inbox, successors)?;
         append_parcel(&mut self.inbox, share, shares, parcel);
         Ok(())
     }
@@ -208,7 +215,8 @@ impl<const N: usize, const M: usize> Table<N, M> {
         ensures same { self.new ≡ self.old }
     {
         let inbox = &mut self.inbox;
-        enter_all(&mut self.table, self.start, &mut self.last, inbox);
+        let guesses = &mut self.guesses;
+        enter_all(&mut self.table, self.start, &mut self.last, inbox, guesses);
         self.table.len()
     }
 
@@ -229,7 +237,9 @@ impl<const N: usize, const M: usize> Table<N, M> {
         ensures err { OnErr result (self.new ≡ self.old) }
     {
         let start = self.start;
-        enter_all(&mut self.table, start, &mut self.last, &mut self.inbox);
+        let inbox = &mut self.inbox;
+        let guesses = &mut self.guesses;
+        enter_all(&mut self.table, start, &mut self.last, inbox, guesses);
         arrange(&mut self.table, start)?;
         self.start = self.table.len();
         self.last = Origin::lowest();
