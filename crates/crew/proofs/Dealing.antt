@@ -9,7 +9,7 @@ use Rattle.crew.specs.inside.Desks.{AreRoomy, HaveDrawers}
 use Rattle.crew.specs.declared.desks.Desk.{Desk}
 
 -- what stands in a list with one element changed
-set_at : {A : Type 0} (xs : List A) (p i : ℕ) (y x : A) → slice_get (set xs p y) i ≡ Some x → ((i ≡ p) × (x ≡ y)) ⊎ ((i ≢ p) × (slice_get xs i ≡ Some x))
+pub set_at : {A : Type 0} (xs : List A) (p i : ℕ) (y x : A) → slice_get (set xs p y) i ≡ Some x → ((i ≡ p) × (x ≡ y)) ⊎ ((i ≢ p) × (slice_get xs i ≡ Some x))
 set_at [] p i y x e = cc
 set_at (z ∷ xs) zero zero y x e = inl (refl, same_Some x y (sym e))
 set_at (z ∷ xs) zero (suc i) y x e = inr ((λ same. omega (arith, same)), e)
@@ -61,13 +61,13 @@ roomy_each size before after same kept roomy i desk at =
     ap (λ (d : Desk). d.scratch.size) (sym (get_or_from_slice_get after i desk desk at)) ∙ kept i desk lt ∙ was
 
 -- what stands in the first of two lists stands in both
-in_front : {A : Type 0} (xs ys : List A) (i : ℕ) (x : A) → slice_get xs i ≡ Some x → slice_get (xs ++ ys) i ≡ Some x
+pub in_front : {A : Type 0} (xs ys : List A) (i : ℕ) (x : A) → slice_get xs i ≡ Some x → slice_get (xs ++ ys) i ≡ Some x
 in_front [] ys i x e = cc
 in_front (z ∷ xs) ys zero x e = e
 in_front (z ∷ xs) ys (suc i) x e = in_front xs ys i x e
 
 -- and so does what stands in the second
-in_back : {A : Type 0} (xs ys : List A) (i : ℕ) (x : A) → slice_get ys i ≡ Some x → (j : ℕ) × (slice_get (xs ++ ys) j ≡ Some x)
+pub in_back : {A : Type 0} (xs ys : List A) (i : ℕ) (x : A) → slice_get ys i ≡ Some x → (j : ℕ) × (slice_get (xs ++ ys) j ≡ Some x)
 in_back [] ys i x e = (i, e)
 in_back (z ∷ xs) ys i x e = (suc (in_back xs ys i x e).0, (in_back xs ys i x e).1)
 

@@ -1,14 +1,15 @@
 -- The lots of ranks that a worker draws.
-use Rattle.std.proofs.Common.{◌≡◌, ℕ, zero, suc, ◌+◌, List, [], ◌∷◌, ◌++◌, length, map, take, Some, sym, ap, subst, ◌∙◌, arith, length-append}
+use Rattle.std.proofs.Common.{◌≡◌, Bool, ℕ, zero, suc, ◌+◌, List, [], ◌∷◌, ◌++◌, length, map, take, Some, sym, ap, subst, ◌∙◌, arith, length-append}
 use Rattle.std.specs.Prelude.{slice_get}
 use Rattle.std.proofs.lemmas.List.{append_assoc, append-nil, length-map, map-append}
 use Rattle.std.proofs.lemmas.Option.{none-some, same_Some}
 use Rattle.layers.specs.LayerView.{LayerView}
 use Rattle.successors.specs.ParcelView.{ParcelView}
 use Rattle.claims.specs.declared.views.Hand.{Hand}
-use Rattle.crew.specs.Work.{IsOfLayer}
+use Rattle.crew.specs.Work.{DrawEnds, IsOfLayer}
 use Rattle.crew.specs.declared.end.End.{End}
-use Rattle.crew.specs.declared.end.End.TheVariants.{Stopped}
+use Rattle.crew.specs.declared.end.End.TheVariants.{Drained, Foreign, NoPlace, Refused, Stopped}
+use Rattle.crew.specs.inside.Ends.{HasEnded}
 use Rattle.crew.specs.inside.Lots.{AreOfLayer, IfDrained, IsGrown, IsLot, IsPut}
 
 -- ---- parcels
@@ -88,3 +89,12 @@ none_of_layer layer i parcel at = absurd (none-some parcel at)
 -- a worker that is stopped is not drained
 pub stopped_not_drained : (P : Type 0) (end : End) → end ≡ Stopped → IfDrained end P
 stopped_not_drained P end is = subst (λ e. IfDrained e P) (sym is) tt
+
+-- a draw that gives no rank ends a worker as a worker may end
+pub drawn_at_last : (may_stop : Bool) (layer : LayerView) (worker : ℕ) (hand : Hand) (end : End) → DrawEnds worker hand end →
+    HasEnded may_stop layer worker hand end
+drawn_at_last may_stop layer worker hand Drained ends = record { may = tt; left = ends; answered = tt }
+drawn_at_last may_stop layer worker hand Stopped ends = absurd ends
+drawn_at_last may_stop layer worker hand Foreign ends = absurd ends
+drawn_at_last may_stop layer worker hand NoPlace ends = absurd ends
+drawn_at_last may_stop layer worker hand (Refused refusal) ends = absurd ends

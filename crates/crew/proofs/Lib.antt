@@ -3,4 +3,5 @@ pub mod Drawing
 pub mod Events
 pub mod Lending
 pub mod Parted
+pub mod Parts
 pub mod Turning

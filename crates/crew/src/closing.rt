@@ -20,6 +20,9 @@ use std::thread::Threads;
 // than the start of a thread.
 const SIDE_BY_SIDE: u64 = 4096;
 
+// So many books close side by side at most: each takes memory to sort what it closes, and threads keep some of theirs.
+const MOST: u8 = 4;
+
 // Does, by the caller's own number, whatever is left of the layer in each of the books, and closes the next one there; until one
 // of them is over, or comes to be, or all of them hold more positions together than the limit. No book closes before that is
 // known. They may close side by side.
@@ -44,21 +47,47 @@ pub(crate) fn finish_all<R: Threads + Sync, G: Gate>(
     let Some(left) = within else {
         return Ok(Worked::Over);
     };
-    close_side_by_side(rt, books, layer, left);
+    close_side_by_side(rt, books, layer, own, left);
     let worked = finish_rest(books, layer, terms.pruner, scratch, own)?;
     Ok(worked)
 }
 
-// Where the layer is large, closes the next one in each of the books whose ranks are all done, each in a thread of its own
-// where one can be started, and each takes room ahead for its part of what the limit leaves at most. A book that is refused
-// memory stays as it was.
-fn close_side_by_side<R: Threads + Sync>(rt: &R, books: &mut [Book], layer: &Layer, left: u64)
+// Where the layer is large, closes the next one in each of the books whose ranks are all done, as many of them side by side as
+// there are workers, and each takes room ahead for its part of what the limit leaves at most. A book that is refused memory stays as
+// it was.
+fn close_side_by_side<R: Threads + Sync>(
+    rt: &R,
+    books: &mut [Book],
+    layer: &Layer,
+    workers: u8,
+    left: u64,
+)
     ensures { MayBeClosedEach books.old books.new }
 {
     if books.len() < 2 || layer.len() < SIDE_BY_SIDE {
         return;
     }
     let room = left / books.len() as u64;
+    close_in_turns(rt, books, workers.clamp(1, MOST) as usize, room);
+}
+
+// Closes the next layer in each of the books whose ranks are all done, in so many of them side by side.
+fn close_in_turns<R: Threads + Sync>(rt: &R, books: &mut [Book], many: usize, room: u64)
+    requires { 1 ≤ many }
+    ensures { MayBeClosedEach books.old books.new }
+{
+    if books.is_empty() {
+        return;
+    }
+    let (next, rest) = books.split_at_mut(many.min(books.len()));
+    close_each(rt, next, room);
+    close_in_turns(rt, rest, many, room);
+}
+
+// Closes the next layer in each of the books whose ranks are all done, each in a thread of its own where one can be started.
+fn close_each<R: Threads + Sync>(rt: &R, books: &mut [Book], room: u64)
+    ensures { MayBeClosedEach books.old books.new }
+{
     for_each_spread(
         rt,
         books,

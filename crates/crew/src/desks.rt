@@ -7,11 +7,12 @@ use crate::gate::Gate;
 use crate::held::Within;
 use crate::lots::Lots;
 use crate::shift::Shift;
+use crate::terms::Terms;
 use crate::workers::work_all;
 use area::Scratch;
 use claims::{Drawer, Ledger, PLACES};
 use grid::Level;
-use layers::{Book, Layer, Pruner};
+use layers::{Book, Layer};
 use std::alloc::{AllocError, Global};
 use std::marker::Model;
 use std::sync::atomic::AtomicU64;
@@ -34,6 +35,17 @@ pub(crate) struct Desk<'a> {
 pub(crate) struct Desks<'a> {
     level: &'a Level,
     desks: Vec<Desk<'a>>,
+}
+
+/// What is lent to the workers of a layer: the layer, its books, which hold so many positions together and may hold so many, and the
+/// ledger of its ranks.
+#[derive(Drop)]
+pub(crate) struct Loan<'s> {
+    pub(crate) layer: &'s Layer,
+    pub(crate) books: &'s [Mutex<Book>],
+    pub(crate) ledger: &'s Ledger,
+    pub(crate) positions: u64,
+    pub(crate) limit: u32,
 }
 
 impl<'a> Model for Desks<'a> {
@@ -59,38 +71,33 @@ impl<'a> Desks<'a> {
         Desks { level, desks }
     }
 
-    /// Lends the books, which hold so many positions together, and the ledger to the workers at these desks, and waits until all
-    /// of them have ended, each at the latest soon after the books hold more than the limit.
+    /// Lends the layer with its books and its ledger to the workers at these desks, and waits until all of them have ended, each
+    /// at the latest soon after the books hold more than the limit.
     pub(crate) fn work<R: Threads + Wait + Sync, G: Gate + Sync>(
         &mut self,
         rt: &R,
-        layer: &Layer,
-        pruner: &Pruner,
-        books: &[Mutex<Book>],
-        ledger: &Ledger,
+        terms: &Terms<'_, G>,
+        loan: &Loan<'_>,
         drawer: Drawer,
-        gate: &G,
-        positions: u64,
-        limit: u32,
     )
-        requires level { self.old ≡ layer.now.level.board }
-        requires pruner_of_level { pruner.now ≡ layer.now.level }
-        requires ranks { ledger.now.len ≤ length layer.now.places }
-        requires drawer { drawer ≡ newcomer ledger.now }
+        requires level { self.old ≡ loan.now.layer.now.level.board }
+        requires pruner_of_level { terms.now.pruner.now ≡ loan.now.layer.now.level }
+        requires ranks { loan.now.ledger.now.len ≤ length loan.now.layer.now.places }
+        requires drawer { drawer ≡ newcomer loan.now.ledger.now }
         ensures { self.new ≡ self.old }
     {
-        let held = AtomicU64::new(positions);
+        let held = AtomicU64::new(loan.positions);
         let within = Within {
-            gate,
+            gate: terms.gate,
             held: &held,
-            limit,
+            limit: loan.limit,
         };
         let shift = Shift {
             level: self.level,
-            layer,
-            pruner,
-            books,
-            ledger,
+            layer: loan.layer,
+            pruner: terms.pruner,
+            books: loan.books,
+            ledger: loan.ledger,
             gate: &within,
             held: &held,
         };

@@ -3,7 +3,8 @@ ghost use Rattle.std.specs.Prelude.{◌≡◌, ◌*◌, true, IfErr, OnOk, lengt
 ghost use Rattle.std.specs.Sync.Mutex.{mutex_guard_value};
 ghost use Rattle.layers.specs.Books.{MayEnter, with_parcel};
 ghost use Rattle.claims.specs.declared.views.Hand.{Hand};
-ghost use Rattle.crew.specs.Work.{IsOwn, IsOfLayer, IsAtPlace, HandEnds, HandOverEnds, after_end, MayEnd, EndsWith, WasAnswered};
+ghost use Rattle.crew.specs.Work.{IsOwn, IsOfLayer, HandEnds, HandOverEnds, after_end, MayEnd, EndsWith, WasAnswered};
+ghost use Rattle.crew.specs.inside.Ends.{HasEnded, IsReady};
 ghost use Rattle.crew.specs.inside.Events.{IsTold, GoesOn, EndsAtOnce, IsCutOff, Works, WorksUntil};
 ghost use Rattle.crew.specs.inside.Lots.{AreOfLayer, IsGrown};
 ghost use Rattle.crew.specs.inside.Shifts.{answers_to};
@@ -13,7 +14,7 @@ use crate::gate::Gate;
 use crate::held::tell_growth;
 use crate::locking::lock_soon;
 use crate::lots::{AHEAD, Lot, MOST};
-use crate::shift::Shift;
+use crate::shift::Post;
 use crate::worker::pass;
 use area::Scratch;
 use claims::Drawer;
@@ -22,21 +23,20 @@ use std::sync::{Mutex, MutexGuard, Wait};
 
 // Hands a parcel back to each of the books in order.
 pub(crate) fn hand_back<R: Wait, G: Gate>(
-    rt: &R,
-    shift: &Shift<'_, '_, G>,
-    worker: u8,
+    post: &Post<'_, '_, '_, '_, R, G>,
     parcel: &Parcel<'_>,
     nth: &mut u64,
 ) -> Result<(), End>
-    requires { IsOfLayer shift.now.layer parcel.now }
+    requires { IsOfLayer post.now.shift.now.layer parcel.now }
     ensures end { IfErr result (λ end. MayEnd G.may_stop end) }
-    ensures hand { (hand : Hand) → IfErr result (λ end. EndsWith worker hand end) }
-    ensures answered { IfErr result (λ end. WasAnswered shift.now.layer worker end) }
-    ensures goes_on { OnOk result (GoesOn (answers_to G.may_answer shift.now worker) nth.old shift.now.books nth.new) }
-    ensures gate { IfErr result (λ end. IsCutOff (answers_to G.may_answer shift.now worker) shift.now.books nth.old nth.new end) }
+    ensures hand { (hand : Hand) → IfErr result (λ end. EndsWith post.now.worker hand end) }
+    ensures answered { IfErr result (λ end. WasAnswered post.now.shift.now.layer post.now.worker end) }
+    ensures goes_on { OnOk result (GoesOn (answers_to G.may_answer post.now.shift.now post.now.worker) nth.old post.now.shift.now.books nth.new) }
+    ensures gate { IfErr result (λ end. IsCutOff (answers_to G.may_answer post.now.shift.now post.now.worker) post.now.shift.now.books nth.old nth.new end) }
 {
+    let shift = post.shift;
     for book in shift.books {
-        hand_to(shift, lock_soon(rt, book), worker, parcel, nth)?;
+        hand_to(post, lock_soon(post.rt, book), parcel, nth)?;
     }
     Ok(())
 }
@@ -44,124 +44,117 @@ pub(crate) fn hand_back<R: Wait, G: Gate>(
 // Hands the parcels of a lot back to each of the books in order, and draws on the next lot where a book is held by another
 // worker.
 pub(crate) fn hand_lot<'a, R: Wait, G: Gate>(
-    rt: &R,
-    shift: &Shift<'_, 'a, G>,
+    post: &Post<'_, '_, '_, 'a, R, G>,
     drawer: &mut Drawer,
-    worker: u8,
     scratch: &mut Scratch,
     nth: &mut u64,
     lot: &[Parcel<'_>],
     next: &mut Lot<'a>,
 ) -> Result<(), End>
-    requires room { scratch.old.size ≡ length shift.now.layer.level.board.cells }
-    requires place { IsAtPlace shift.now.ledger worker drawer.old }
-    requires lot { AreOfLayer shift.now.layer lot.now }
-    ensures grown { OnOk result (IsGrown shift.now.layer drawer.old.hand next.old next.new drawer.new.hand) }
-    ensures end { IfErr result (λ end. MayEnd G.may_stop end) }
-    ensures hand { IfErr result (λ end. EndsWith worker drawer.new.hand end) }
-    ensures answered { IfErr result (λ end. WasAnswered shift.now.layer worker end) }
-    ensures works { OnOk result (Works (answers_to G.may_answer shift.now worker) (shift.now.books * length lot.now) drawer.old.hand nth.old drawer.new.hand
-        nth.new) }
-    ensures gate { IfErr result (λ end. WorksUntil (answers_to G.may_answer shift.now worker)
-        (shift.now.books * length lot.now) drawer.old.hand nth.old drawer.new.hand nth.new end) }
-    ensures place { IsAtPlace shift.now.ledger worker drawer.new }
-    ensures size { scratch.new.size ≡ scratch.old.size }
+    requires ready { IsReady post.now.shift.now post.now.worker scratch.old drawer.old }
+    requires lot { AreOfLayer post.now.shift.now.layer lot.now }
+    ensures grown { OnOk result (IsGrown post.now.shift.now.layer drawer.old.hand next.old next.new drawer.new.hand) }
+    ensures ends { IfErr result (λ end. HasEnded G.may_stop post.now.shift.now.layer post.now.worker drawer.new.hand end) }
+    ensures works { OnOk result (Works (answers_to G.may_answer post.now.shift.now post.now.worker)
+        (post.now.shift.now.books * length lot.now) drawer.old.hand nth.old drawer.new.hand nth.new) }
+    ensures gate { IfErr result (λ end. WorksUntil (answers_to G.may_answer post.now.shift.now post.now.worker)
+        (post.now.shift.now.books * length lot.now) drawer.old.hand nth.old drawer.new.hand nth.new end) }
+    ensures ready { IsReady post.now.shift.now post.now.worker scratch.new drawer.new }
 {
+    let shift = post.shift;
     for book in shift.books {
-        hand_lot_to(rt, shift, book, drawer, worker, scratch, nth, lot, next)?;
+        let errand = Errand { book, lot };
+        hand_lot_to(post, &errand, drawer, scratch, nth, next)?;
     }
     Ok(())
 }
 
+// What a worker hands back to one of the books: the parcels of its lot.
+#[derive(Drop)]
+struct Errand<'e, 'a> {
+    book: &'e Mutex<Book>,
+    lot: &'e [Parcel<'a>],
+}
+
 // Hands the parcels of a lot back to one book, in order.
 fn hand_lot_to<'a, R: Wait, G: Gate>(
-    rt: &R,
-    shift: &Shift<'_, 'a, G>,
-    book: &Mutex<Book>,
+    post: &Post<'_, '_, '_, 'a, R, G>,
+    errand: &Errand<'_, '_>,
     drawer: &mut Drawer,
-    worker: u8,
     scratch: &mut Scratch,
     nth: &mut u64,
-    lot: &[Parcel<'_>],
     next: &mut Lot<'a>,
 ) -> Result<(), End>
-    requires room { scratch.old.size ≡ length shift.now.layer.level.board.cells }
-    requires place { IsAtPlace shift.now.ledger worker drawer.old }
-    requires lot { AreOfLayer shift.now.layer lot.now }
-    ensures grown { OnOk result (IsGrown shift.now.layer drawer.old.hand next.old next.new drawer.new.hand) }
-    ensures end { IfErr result (λ end. MayEnd G.may_stop end) }
-    ensures hand { IfErr result (λ end. EndsWith worker drawer.new.hand end) }
-    ensures answered { IfErr result (λ end. WasAnswered shift.now.layer worker end) }
-    ensures works { OnOk result (Works (answers_to G.may_answer shift.now worker) (length lot.now) drawer.old.hand nth.old drawer.new.hand nth.new) }
-    ensures gate { IfErr result (λ end. WorksUntil (answers_to G.may_answer shift.now worker)
-        (length lot.now) drawer.old.hand nth.old drawer.new.hand nth.new end) }
-    ensures place { IsAtPlace shift.now.ledger worker drawer.new }
-    ensures size { scratch.new.size ≡ scratch.old.size }
+    requires ready { IsReady post.now.shift.now post.now.worker scratch.old drawer.old }
+    requires lot { AreOfLayer post.now.shift.now.layer errand.now.lot.now }
+    ensures grown { OnOk result (IsGrown post.now.shift.now.layer drawer.old.hand next.old next.new drawer.new.hand) }
+    ensures ends { IfErr result (λ end. HasEnded G.may_stop post.now.shift.now.layer post.now.worker drawer.new.hand end) }
+    ensures works { OnOk result (Works (answers_to G.may_answer post.now.shift.now post.now.worker)
+        (length errand.now.lot.now) drawer.old.hand nth.old drawer.new.hand nth.new) }
+    ensures gate { IfErr result (λ end. WorksUntil (answers_to G.may_answer post.now.shift.now post.now.worker)
+        (length errand.now.lot.now) drawer.old.hand nth.old drawer.new.hand nth.new end) }
+    ensures ready { IsReady post.now.shift.now post.now.worker scratch.new drawer.new }
 {
-    for parcel in lot {
-        let guard = lock_or_draw(rt, shift, book, drawer, worker, scratch, nth, next)?;
-        hand_to(shift, guard, worker, parcel, nth)?;
+    for parcel in errand.lot {
+        let guard = lock_or_draw(post, errand.book, drawer, scratch, nth, next)?;
+        hand_to(post, guard, parcel, nth)?;
     }
     Ok(())
 }
 
 // Takes a book's lock. While another worker holds it, this one draws on the next lot, as far as that goes, and then waits.
 fn lock_or_draw<'a, 'b, R: Wait, G: Gate>(
-    rt: &R,
-    shift: &Shift<'_, 'a, G>,
+    post: &Post<'_, '_, '_, 'a, R, G>,
     book: &'b Mutex<Book>,
     drawer: &mut Drawer,
-    worker: u8,
     scratch: &mut Scratch,
     nth: &mut u64,
     next: &mut Lot<'a>,
 ) -> Result<MutexGuard<'b, Book>, End>
-    requires room { scratch.old.size ≡ length shift.now.layer.level.board.cells }
-    requires place { IsAtPlace shift.now.ledger worker drawer.old }
-    ensures grown { OnOk result (IsGrown shift.now.layer drawer.old.hand next.old next.new drawer.new.hand) }
-    ensures end { IfErr result (λ end. MayEnd G.may_stop end) }
-    ensures hand { IfErr result (λ end. EndsWith worker drawer.new.hand end) }
-    ensures answered { IfErr result (λ end. WasAnswered shift.now.layer worker end) }
-    ensures works { OnOk result (Works (answers_to G.may_answer shift.now worker) 0 drawer.old.hand nth.old drawer.new.hand nth.new) }
-    ensures gate { IfErr result (λ end. WorksUntil (answers_to G.may_answer shift.now worker) 0 drawer.old.hand nth.old drawer.new.hand nth.new end) }
-    ensures place { IsAtPlace shift.now.ledger worker drawer.new }
-    ensures size { scratch.new.size ≡ scratch.old.size }
+    requires ready { IsReady post.now.shift.now post.now.worker scratch.old drawer.old }
+    ensures grown { OnOk result (IsGrown post.now.shift.now.layer drawer.old.hand next.old next.new drawer.new.hand) }
+    ensures ends { IfErr result (λ end. HasEnded G.may_stop post.now.shift.now.layer post.now.worker drawer.new.hand end) }
+    ensures works { OnOk result (Works (answers_to G.may_answer post.now.shift.now post.now.worker) 0 drawer.old.hand nth.old drawer.new.hand nth.new) }
+    ensures gate { IfErr result (λ end. WorksUntil (answers_to G.may_answer post.now.shift.now post.now.worker)
+        0 drawer.old.hand nth.old drawer.new.hand nth.new end) }
+    ensures ready { IsReady post.now.shift.now post.now.worker scratch.new drawer.new }
 {
     for _ in 0..MOST {
         if let Some(guard) = book.try_lock() {
             return Ok(guard);
         }
-        if !next.draw_more(shift, drawer, worker, scratch, nth, AHEAD)? {
+        if !next.draw_more(post, drawer, scratch, nth, AHEAD)? {
             break;
         }
     }
-    Ok(lock_soon(rt, book))
+    Ok(lock_soon(post.rt, book))
 }
 
 // Hands a parcel back to a book whose lock is held, lets go of the lock, and then passes the gate.
-fn hand_to<G: Gate>(
-    shift: &Shift<'_, '_, G>,
+fn hand_to<R: Wait, G: Gate>(
+    post: &Post<'_, '_, '_, '_, R, G>,
     guard: MutexGuard<'_, Book>,
-    worker: u8,
     parcel: &Parcel<'_>,
     nth: &mut u64,
 ) -> Result<(), End>
-    requires { IsOfLayer shift.now.layer parcel.now }
+    requires { IsOfLayer post.now.shift.now.layer parcel.now }
     ensures end { IfErr result (λ end. MayEnd G.may_stop end) }
-    ensures hand { (hand : Hand) → IfErr result (λ end. EndsWith worker hand end) }
-    ensures answered { IfErr result (λ end. WasAnswered shift.now.layer worker end) }
-    ensures ok { OnOk result (IsOwn shift.now.layer worker (mutex_guard_value guard.entry) × MayEnter (mutex_guard_value guard.entry) parcel.now) }
-    ensures refused { IfErr result (λ end. HandOverEnds shift.now.layer worker (mutex_guard_value guard.entry) parcel.now end) }
-    ensures goes_on { OnOk result (IsTold (answers_to G.may_answer shift.now worker) nth.old true nth.new) }
-    ensures gate { IfErr result (λ end. EndsAtOnce (answers_to G.may_answer shift.now worker) nth.old nth.new end) }
+    ensures hand { (hand : Hand) → IfErr result (λ end. EndsWith post.now.worker hand end) }
+    ensures answered { IfErr result (λ end. WasAnswered post.now.shift.now.layer post.now.worker end) }
+    ensures ok { OnOk result (IsOwn post.now.shift.now.layer post.now.worker (mutex_guard_value guard.entry)
+        × MayEnter (mutex_guard_value guard.entry) parcel.now) }
+    ensures refused { IfErr result (λ end. HandOverEnds post.now.shift.now.layer post.now.worker (mutex_guard_value guard.entry) parcel.now end) }
+    ensures goes_on { OnOk result (IsTold (answers_to G.may_answer post.now.shift.now post.now.worker) nth.old true nth.new) }
+    ensures gate { IfErr result (λ end. EndsAtOnce (answers_to G.may_answer post.now.shift.now post.now.worker) nth.old nth.new end) }
 {
+    let shift = post.shift;
     let mut guard = guard;
     let before = guard.positions_at_least();
-    let handed = hand_in(&mut *guard, shift.layer, worker, parcel);
+    let handed = hand_in(&mut *guard, shift.layer, post.worker, parcel);
     tell_growth(shift.held, before, guard.positions_at_least());
     drop(guard);
     handed?;
-    pass(shift, worker, nth)
+    pass(post, nth)
 }
 
 // Hands back a parcel of the layer.

@@ -1,7 +1,8 @@
 //! A layer that is joined of its books in stretches, side by side.
-ghost use Rattle.std.specs.Prelude.{◌≡◌, ℕ, IfOk, Some, slice_get};
+ghost use Rattle.std.specs.Prelude.{◌<◌, ◌≤◌, IfOk, length};
 ghost use Rattle.layers.specs.Books.{AreAllShares, IsJoinOf};
 ghost use Rattle.layers.specs.inside.Merging.{IsStretchOf};
+ghost use Rattle.crew.specs.inside.Stretched.{AreStretchesOf};
 
 use crate::spreading::for_each_spread;
 use layers::{Book, JoinFault, Layer, Stretch};
@@ -12,9 +13,18 @@ use std::thread::Threads;
 // The least number of positions of a stretch. Fewer are merged in less time than a thread takes to start.
 const LEAST: usize = 4096;
 
+// So many stretches are merged side by side at most: more threads take more memory, since each that asks for some keeps some.
+const MOST: u8 = 8;
+
+// A layer is merged in so many turns at most, of so many positions at least, so that the stretches of a turn, which stand
+// beside those that were joined before, are few beside the whole layer.
+const TURNS: usize = 16;
+
+const LEAST_OF_A_TURN: usize = 65536;
+
 // The last layer that the books have closed, which are all the shares in order. Where it is large it is merged in as many
-// stretches as there are workers, each in a thread of its own where one can be started. The only error is that memory was
-// refused.
+// stretches as there are workers, each in a thread of its own where one can be started, and a very large one in several
+// turns. The only error is that memory was refused.
 pub(crate) fn join_layer<R: Threads + Sync>(
     rt: &R,
     alloc: Global,
@@ -24,36 +34,83 @@ pub(crate) fn join_layer<R: Threads + Sync>(
     requires { AreAllShares books.now }
     ensures { IfOk result (λ layer. IsJoinOf books.now layer) }
 {
-    let Ok(mut stretches) = Stretch::all(alloc, books, workers as usize, LEAST) else {
+    if workers < 2 {
+        return last_layer(alloc, books);
+    }
+    let many = workers.min(MOST) as usize;
+    let turns = Stretch::parts(books, TURNS, LEAST_OF_A_TURN).max(1);
+    let most = turns.saturating_mul(many);
+    let Ok(mut stretches) = Stretch::all(alloc, books, most, LEAST) else {
         return last_layer(alloc, books);
     };
+    let stretches = stretches.as_mut_slice();
     if stretches.is_empty() {
         return last_layer(alloc, books);
     }
-    join_side_by_side(rt, alloc, books, stretches.as_mut_slice())
+    join_side_by_side(rt, alloc, books, stretches, many)
 }
 
-// The same, of stretches that are merged first.
+// The same, of stretches that are merged first, so many side by side.
 fn join_side_by_side<R: Threads + Sync>(
     rt: &R,
     alloc: Global,
     books: &[Book],
     stretches: &mut [Stretch],
+    many: usize,
 ) -> Result<Layer, AllocError>
-    requires { AreAllShares books.now }
+    requires all { AreAllShares books.now }
+    requires some { 0 < length stretches.old }
+    requires many { 1 ≤ many }
     ensures { IfOk result (λ layer. IsJoinOf books.now layer) }
 {
-    merge_each(rt, alloc, books, stretches);
-    match Layer::join_stretches(alloc, books, stretches) {
+    let (first, rest) = stretches.split_at_mut(many.min(stretches.len()));
+    merge_each(rt, alloc, books, first);
+    let (whole, others) = first.split_at_mut(1);
+    gather(books, whole, others);
+    append_in_turns(rt, alloc, books, whole, rest, many);
+    match Layer::join_stretches(alloc, books, whole) {
         Ok(layer) => Ok(layer),
         Err(JoinFault::NotWhole) => unreachable!(),
         Err(JoinFault::OutOfMemory) => Err(AllocError),
     }
 }
 
+// Merges stretches, so many side by side, and appends these to the whole before the next ones are merged.
+fn append_in_turns<R: Threads + Sync>(
+    rt: &R,
+    alloc: Global,
+    books: &[Book],
+    whole: &mut [Stretch],
+    stretches: &mut [Stretch],
+    many: usize,
+)
+    requires one { 0 < length whole.old }
+    requires whole { AreStretchesOf books.now whole.old }
+    requires many { 1 ≤ many }
+    ensures { AreStretchesOf books.now whole.new }
+{
+    if stretches.is_empty() {
+        return;
+    }
+    let (next, rest) = stretches.split_at_mut(many.min(stretches.len()));
+    merge_each(rt, alloc, books, next);
+    gather(books, whole, next);
+    append_in_turns(rt, alloc, books, whole, rest, many);
+}
+
+// Appends to the one stretch that there is what others hold.
+fn gather(books: &[Book], whole: &mut [Stretch], others: &mut [Stretch])
+    requires one { 0 < length whole.old }
+    requires whole { AreStretchesOf books.now whole.old }
+    requires others { AreStretchesOf books.now others.old }
+    ensures { AreStretchesOf books.now whole.new }
+{
+    whole[0].append_all(books, others);
+}
+
 // Merges each of the stretches, in a thread of its own where one can be started.
 fn merge_each<R: Threads + Sync>(rt: &R, alloc: Global, books: &[Book], stretches: &mut [Stretch])
-    ensures { (i : ℕ) (s : Stretch) → slice_get stretches.new i ≡ Some s → IsStretchOf books.now s }
+    ensures { AreStretchesOf books.now stretches.new }
 {
     for_each_spread(
         rt,

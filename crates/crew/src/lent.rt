@@ -1,12 +1,12 @@
 //! Books that are lent to workers, each behind a lock of its own, and taken back.
-ghost use Rattle.std.specs.Prelude.{◌≡◌, ◌↔◌, ◌<◌, ◌^◌, ◌≤◌, IsTrue, IfOk, length};
+ghost use Rattle.std.specs.Prelude.{◌≡◌, ◌↔◌, ◌≤◌, IsTrue, IfOk, length};
 ghost use Rattle.std.specs.Bool.{MatchBool};
 ghost use Rattle.claims.specs.Hands.{newcomer};
 ghost use Rattle.crew.specs.Configured.{IsWithinLimits};
 ghost use Rattle.crew.specs.Lending.{ComesBack, ComeBack};
 
 use crate::config::Config;
-use crate::desks::Desks;
+use crate::desks::{Desks, Loan};
 use crate::gate::Gate;
 use crate::terms::Terms;
 use claims::{Drawer, Ledger};
@@ -32,21 +32,24 @@ pub(crate) fn lend<R: Threads + Wait + Sync, G: Gate + Sync>(
     ensures desks { desks.new ≡ desks.old }
 {
     let alloc = terms.alloc;
-    let pruner = terms.pruner;
-    let gate = terms.gate;
     let limit = terms.config.limit;
-    let (ledger, drawer) = ledger_of(alloc, layer)?;
+    let (ledger, drawer) = ledger_of(alloc, layer, limit)?;
     let locks = lock_each(alloc, books)?;
-    let books = locks.as_slice();
-    desks.work(
-        rt, layer, pruner, books, &ledger, drawer, gate, positions, limit,
-    );
+    let loan = Loan {
+        layer,
+        books: locks.as_slice(),
+        ledger: &ledger,
+        positions,
+        limit,
+    };
+    desks.work(rt, terms, &loan, drawer);
     unlock_each(alloc, locks)
 }
 
-// A ledger of the layer's ranks, and a drawer without a place. The only error is that memory was refused.
-fn ledger_of(alloc: Global, layer: &Layer) -> Result<(Ledger, Drawer), AllocError>
-    requires { length layer.now.places < 2 ^ 32 }
+// A ledger of the layer's ranks, of which there are no more than a limit, and a drawer without a place. The only error is that memory
+// was refused.
+fn ledger_of(alloc: Global, layer: &Layer, _limit: u32) -> Result<(Ledger, Drawer), AllocError>
+    requires { length layer.now.places ≤ _limit }
     ensures { IfOk result (λ made. (made.0.len ≡ length layer.now.places) × (made.1 ≡ newcomer made.0)) }
 {
     Ledger::new(alloc, layer.len() as u32)

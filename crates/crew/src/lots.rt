@@ -1,7 +1,8 @@
 //! The lots of ranks that a worker draws at a time, and their parcels.
 ghost use Rattle.std.specs.Prelude.{◌≡◌, ◌+◌, ◌<◌, ◌≤◌, [], ◌∷◌, ◌++◌, true, false, IfErr, IfOk, OnOk, length, slice_set, vec_capacity};
-ghost use Rattle.crew.specs.Work.{IsAtPlace, MayEnd, EndsWith, WasAnswered};
+ghost use Rattle.crew.specs.Work.{EndsWith};
 ghost use Rattle.crew.specs.declared.end.End.TheVariants.{Drained};
+ghost use Rattle.crew.specs.inside.Ends.{HasEnded, IsReady};
 ghost use Rattle.crew.specs.inside.Events.{Works, WorksUntil};
 ghost use Rattle.crew.specs.inside.Lots.{IsGrown, IsOfRank, IsPut};
 ghost use Rattle.crew.specs.inside.Shifts.{answers_to};
@@ -9,13 +10,14 @@ ghost use Rattle.successors.specs.ParcelView.{ParcelView};
 
 use crate::end::End;
 use crate::gate::Gate;
-use crate::shift::Shift;
+use crate::shift::{Post, Shift};
 use crate::worker::draw;
 use area::Scratch;
 use claims::Drawer;
 use layers::{MAX_SHARES, Parcel, expand_over, expand_over_into};
 use std::alloc::{AllocError, Global};
 use std::marker::Model;
+use std::sync::Wait;
 
 // The greatest number of ranks of a lot.
 pub(crate) const MOST: u64 = 16;
@@ -142,34 +144,30 @@ impl<'a> Lot<'a> {
 
     /// Draws one more rank, and puts its parcel behind the others; `false` where the lot has so many times as many as it is to
     /// have, or as there is room for, or no rank is left.
-    pub(crate) fn draw_more<G: Gate>(
+    pub(crate) fn draw_more<R: Wait, G: Gate>(
         &mut self,
-        shift: &Shift<'_, 'a, G>,
+        post: &Post<'_, '_, '_, 'a, R, G>,
         drawer: &mut Drawer,
-        worker: u8,
         scratch: &mut Scratch,
         nth: &mut u64,
         times: usize,
     ) -> Result<bool, End>
-        requires room { scratch.old.size ≡ length shift.now.layer.level.board.cells }
-        requires place { IsAtPlace shift.now.ledger worker drawer.old }
-        ensures grown { IfOk result (λ more. IsGrown shift.now.layer drawer.old.hand self.old self.new drawer.new.hand) }
+        requires ready { IsReady post.now.shift.now post.now.worker scratch.old drawer.old }
+        ensures grown { IfOk result (λ more. IsGrown post.now.shift.now.layer drawer.old.hand self.old self.new drawer.new.hand) }
         ensures more { IfOk result (λ more. more ≡ true → length self.new ≡ length self.old + 1) }
-        ensures no_more { IfOk result (λ more. more ≡ false → self.new ≡ self.old) }
-        ensures none { IfOk result (λ more. more ≡ false → self.new ≡ [] → EndsWith worker drawer.new.hand Drained) }
-        ensures end { IfErr result (λ end. MayEnd G.may_stop end) }
-        ensures hand { IfErr result (λ end. EndsWith worker drawer.new.hand end) }
-        ensures answered { IfErr result (λ end. WasAnswered shift.now.layer worker end) }
-        ensures works { OnOk result (Works (answers_to G.may_answer shift.now worker) 0 drawer.old.hand nth.old drawer.new.hand nth.new) }
-        ensures gate { IfErr result (λ end. WorksUntil (answers_to G.may_answer shift.now worker) 0 drawer.old.hand nth.old drawer.new.hand nth.new end) }
-        ensures place { IsAtPlace shift.now.ledger worker drawer.new }
-        ensures size { scratch.new.size ≡ scratch.old.size }
+        ensures no_more { IfOk result (λ more. more ≡ false → (self.new ≡ self.old) × (self.new ≡ [] → EndsWith post.now.worker drawer.new.hand Drained)) }
+        ensures ends { IfErr result (λ end. HasEnded G.may_stop post.now.shift.now.layer post.now.worker drawer.new.hand end) }
+        ensures works { OnOk result (Works (answers_to G.may_answer post.now.shift.now post.now.worker) 0 drawer.old.hand nth.old drawer.new.hand nth.new) }
+        ensures gate { IfErr result (λ end. WorksUntil (answers_to G.may_answer post.now.shift.now post.now.worker)
+            0 drawer.old.hand nth.old drawer.new.hand nth.new end) }
+        ensures ready { IsReady post.now.shift.now post.now.worker scratch.new drawer.new }
     {
+        let shift = post.shift;
         let most = self.size.saturating_mul(times).min(self.parcels.capacity());
         if 0 < self.filled && most <= self.filled {
             return Ok(false);
         }
-        let rank = match draw(shift, drawer, worker, nth) {
+        let rank = match draw(post, drawer, nth) {
             Ok(rank) => rank,
             Err(End::Drained) => return Ok(false),
             Err(end) => return Err(end),

@@ -4,8 +4,8 @@ use claims::Ledger;
 use grid::Level;
 use layers::{Book, Layer, Pruner};
 use std::marker::Model;
-use std::sync::Mutex;
 use std::sync::atomic::AtomicU64;
+use std::sync::{Mutex, Wait};
 
 /// What the workers of a layer share: the layer and its level, what leaves positions out, the books, each behind a lock of its
 /// own, the ledger of the layer's ranks, the gate, and how many positions the books hold. Contracts see the layer, the ledger, how
@@ -31,4 +31,12 @@ impl<'s, 'a, G: Gate> Model for Shift<'s, 'a, G> {
     ghost view = { λ a. record { layer = a.layer.now; ledger = a.ledger.now; books = length a.books.now; gate = a.gate.now } };
 
     ghost invariant = { λ a. AreOfOneLayer a.layer.now a.level.now a.pruner.now a.ledger.now };
+}
+
+/// Where a worker works: on which shift, and under which number. It may wait there.
+#[derive(Drop)]
+pub(crate) struct Post<'r, 'p, 's, 'a, R: Wait, G: Gate> {
+    pub(crate) rt: &'r R,
+    pub(crate) shift: &'p Shift<'s, 'a, G>,
+    pub(crate) worker: u8,
 }

@@ -2,6 +2,7 @@ ghost use Rattle.std.specs.Prelude.{◌≡◌, ◌<◌, ◌≤◌, [], ◌∷◌
 ghost use Rattle.claims.specs.declared.views.Hand.{Hand};
 ghost use Rattle.crew.specs.Work.{IsAtPlace, HasDrawn, DrawEnds, MayEnd, EndsWith, WasAnswered, AsksTheGate};
 ghost use Rattle.crew.specs.declared.end.End.TheVariants.{Stopped};
+ghost use Rattle.crew.specs.inside.Ends.{HasEnded, IsReady};
 ghost use Rattle.crew.specs.inside.Events.{IsTold, EndsAtOnce, DrawsAtLast};
 ghost use Rattle.crew.specs.inside.Lots.{IfDrained};
 ghost use Rattle.crew.specs.inside.Shifts.{answers_to};
@@ -11,7 +12,7 @@ use crate::end::End;
 use crate::gate::Gate;
 use crate::handing::{hand_back, hand_lot};
 use crate::lots::{Lot, Lots};
-use crate::shift::Shift;
+use crate::shift::{Post, Shift};
 use area::Scratch;
 use claims::{Drawer, Ledger, PLACES};
 use layers::{Book, Layer, Pruner, expand_over, expand_over_into};
@@ -67,102 +68,104 @@ pub fn work<R: Wait, G: Gate>(
         gate,
         held: &held,
     };
-    match Lots::of(scratch.allocator(), books.len()) {
-        Ok(mut lots) => work_at(rt, &shift, drawer, worker, scratch, &mut lots),
-        Err(_) => work_by_ones(rt, &shift, drawer, worker, scratch),
+    work_on(rt, &shift, drawer, worker, scratch)
+}
+
+// The same, on the shift of that layer.
+fn work_on<R: Wait, G: Gate>(
+    rt: &R,
+    shift: &Shift<'_, '_, G>,
+    drawer: &mut Drawer,
+    worker: u8,
+    scratch: &mut Scratch,
+) -> End
+    requires room { scratch.old.size ≡ length shift.now.layer.level.board.cells }
+    requires drawer { (drawer.old.ledger ≡ shift.now.ledger) × IsNone drawer.old.hand.place }
+    requires place { worker < PLACES }
+    ensures ends { HasEnded G.may_stop shift.now.layer worker drawer.new.hand result }
+    ensures gate { AsksTheGate (answers_to G.may_answer shift.now worker) shift.now.books drawer.old.hand drawer.new.hand result }
+    ensures ledger { drawer.new.ledger ≡ shift.now.ledger }
+    ensures size { scratch.new.size ≡ scratch.old.size }
+{
+    let post = Post { rt, shift, worker };
+    match Lots::of(scratch.allocator(), shift.books.len()) {
+        Ok(mut lots) => work_at(&post, drawer, scratch, &mut lots),
+        Err(_) => work_by_ones(&post, drawer, scratch),
     }
 }
 
 // Works on a layer as [`work`] does, with lots that are kept from layer to layer. They grow to the lots of the layer; where that
 // is refused they are as small as they were.
 pub(crate) fn work_at<'a, R: Wait, G: Gate>(
-    rt: &R,
-    shift: &Shift<'_, 'a, G>,
+    post: &Post<'_, '_, '_, 'a, R, G>,
     drawer: &mut Drawer,
-    worker: u8,
     scratch: &mut Scratch,
     lots: &mut Lots<'a>,
 ) -> End
-    requires room { scratch.old.size ≡ length shift.now.layer.level.board.cells }
-    requires drawer { (drawer.old.ledger ≡ shift.now.ledger) × IsNone drawer.old.hand.place }
-    requires place { worker < PLACES }
-    ensures end { MayEnd G.may_stop result }
-    ensures hand { EndsWith worker drawer.new.hand result }
-    ensures answered { WasAnswered shift.now.layer worker result }
-    ensures gate { AsksTheGate (answers_to G.may_answer shift.now worker) shift.now.books drawer.old.hand drawer.new.hand result }
-    ensures ledger { drawer.new.ledger ≡ shift.now.ledger }
+    requires room { scratch.old.size ≡ length post.now.shift.now.layer.level.board.cells }
+    requires drawer { (drawer.old.ledger ≡ post.now.shift.now.ledger) × IsNone drawer.old.hand.place }
+    requires place { post.now.worker < PLACES }
+    ensures ends { HasEnded G.may_stop post.now.shift.now.layer post.now.worker drawer.new.hand result }
+    ensures gate { AsksTheGate (answers_to G.may_answer post.now.shift.now post.now.worker) post.now.shift.now.books drawer.old.hand drawer.new.hand result }
+    ensures ledger { drawer.new.ledger ≡ post.now.shift.now.ledger }
     ensures size { scratch.new.size ≡ scratch.old.size }
 {
-    if !shift.ledger.enrol(drawer, worker) {
+    let shift = post.shift;
+    if !shift.ledger.enrol(drawer, post.worker) {
         return End::NoPlace;
     }
     lots.have_room(shift.layer.len());
     lots.next.clear();
-    by_lots(
-        rt,
-        shift,
-        drawer,
-        worker,
-        scratch,
-        &mut lots.ready,
-        &mut lots.next,
-    )
+    by_lots(post, drawer, scratch, &mut lots.ready, &mut lots.next)
 }
 
 // Works on a layer as [`work`] does, without memory for lots: rank by rank.
 fn work_by_ones<R: Wait, G: Gate>(
-    rt: &R,
-    shift: &Shift<'_, '_, G>,
+    post: &Post<'_, '_, '_, '_, R, G>,
     drawer: &mut Drawer,
-    worker: u8,
     scratch: &mut Scratch,
 ) -> End
-    requires room { scratch.old.size ≡ length shift.now.layer.level.board.cells }
-    requires drawer { (drawer.old.ledger ≡ shift.now.ledger) × IsNone drawer.old.hand.place }
-    requires place { worker < PLACES }
-    ensures end { MayEnd G.may_stop result }
-    ensures hand { EndsWith worker drawer.new.hand result }
-    ensures answered { WasAnswered shift.now.layer worker result }
-    ensures gate { AsksTheGate (answers_to G.may_answer shift.now worker) shift.now.books drawer.old.hand drawer.new.hand result }
-    ensures ledger { drawer.new.ledger ≡ shift.now.ledger }
+    requires room { scratch.old.size ≡ length post.now.shift.now.layer.level.board.cells }
+    requires drawer { (drawer.old.ledger ≡ post.now.shift.now.ledger) × IsNone drawer.old.hand.place }
+    requires place { post.now.worker < PLACES }
+    ensures ends { HasEnded G.may_stop post.now.shift.now.layer post.now.worker drawer.new.hand result }
+    ensures gate { AsksTheGate (answers_to G.may_answer post.now.shift.now post.now.worker) post.now.shift.now.books drawer.old.hand drawer.new.hand result }
+    ensures ledger { drawer.new.ledger ≡ post.now.shift.now.ledger }
     ensures size { scratch.new.size ≡ scratch.old.size }
 {
-    if !shift.ledger.enrol(drawer, worker) {
+    let shift = post.shift;
+    if !shift.ledger.enrol(drawer, post.worker) {
         return End::NoPlace;
     }
-    by_ones(rt, shift, drawer, worker, scratch)
+    by_ones(post, drawer, scratch)
 }
 
 // Draws rank after rank, and hands the parcel of each back before it draws the next.
 fn by_ones<R: Wait, G: Gate>(
-    rt: &R,
-    shift: &Shift<'_, '_, G>,
+    post: &Post<'_, '_, '_, '_, R, G>,
     drawer: &mut Drawer,
-    worker: u8,
     scratch: &mut Scratch,
 ) -> End
-    requires room { scratch.old.size ≡ length shift.now.layer.level.board.cells }
-    requires place { IsAtPlace shift.now.ledger worker drawer.old }
-    ensures end { MayEnd G.may_stop result }
-    ensures hand { EndsWith worker drawer.new.hand result }
-    ensures answered { WasAnswered shift.now.layer worker result }
-    ensures gate { AsksTheGate (answers_to G.may_answer shift.now worker) shift.now.books drawer.old.hand drawer.new.hand result }
-    ensures ledger { drawer.new.ledger ≡ shift.now.ledger }
+    requires ready { IsReady post.now.shift.now post.now.worker scratch.old drawer.old }
+    ensures ends { HasEnded G.may_stop post.now.shift.now.layer post.now.worker drawer.new.hand result }
+    ensures gate { AsksTheGate (answers_to G.may_answer post.now.shift.now post.now.worker) post.now.shift.now.books drawer.old.hand drawer.new.hand result }
+    ensures ledger { drawer.new.ledger ≡ post.now.shift.now.ledger }
     ensures size { scratch.new.size ≡ scratch.old.size }
 {
+    let shift = post.shift;
     let layer = shift.layer;
     let pruner = shift.pruner;
     let mut nth = 0;
-    let rank = match draw(shift, drawer, worker, &mut nth) {
+    let rank = match draw(post, drawer, &mut nth) {
         Ok(rank) => rank,
         Err(end) => return end,
     };
     let mut parcel = expand_over(layer.level(), layer, pruner, rank, scratch);
-    for _ in rt.forever() {
-        if let Err(end) = hand_back(rt, shift, worker, &parcel, &mut nth) {
+    for _ in post.rt.forever() {
+        if let Err(end) = hand_back(post, &parcel, &mut nth) {
             return end;
         }
-        match draw(shift, drawer, worker, &mut nth) {
+        match draw(post, drawer, &mut nth) {
             Ok(rank) => expand_over_into(layer.level(), layer, pruner, rank, scratch, &mut parcel),
             Err(end) => return end,
         }
@@ -173,27 +176,22 @@ fn by_ones<R: Wait, G: Gate>(
 // Draws lot after lot, and hands the parcels of each back. Where a book is held by another worker meanwhile, the next lot is
 // drawn on.
 fn by_lots<'a, R: Wait, G: Gate>(
-    rt: &R,
-    shift: &Shift<'_, 'a, G>,
+    post: &Post<'_, '_, '_, 'a, R, G>,
     drawer: &mut Drawer,
-    worker: u8,
     scratch: &mut Scratch,
     ready: &mut Lot<'a>,
     next: &mut Lot<'a>,
 ) -> End
-    requires room { scratch.old.size ≡ length shift.now.layer.level.board.cells }
-    requires place { IsAtPlace shift.now.ledger worker drawer.old }
+    requires ready { IsReady post.now.shift.now post.now.worker scratch.old drawer.old }
     requires lot { next.old ≡ [] }
-    ensures end { MayEnd G.may_stop result }
-    ensures hand { EndsWith worker drawer.new.hand result }
-    ensures answered { WasAnswered shift.now.layer worker result }
-    ensures gate { AsksTheGate (answers_to G.may_answer shift.now worker) shift.now.books drawer.old.hand drawer.new.hand result }
-    ensures ledger { drawer.new.ledger ≡ shift.now.ledger }
+    ensures ends { HasEnded G.may_stop post.now.shift.now.layer post.now.worker drawer.new.hand result }
+    ensures gate { AsksTheGate (answers_to G.may_answer post.now.shift.now post.now.worker) post.now.shift.now.books drawer.old.hand drawer.new.hand result }
+    ensures ledger { drawer.new.ledger ≡ post.now.shift.now.ledger }
     ensures size { scratch.new.size ≡ scratch.old.size }
 {
     let mut nth = 0;
-    for _ in rt.forever() {
-        match next.draw_more(shift, drawer, worker, scratch, &mut nth, 1) {
+    for _ in post.rt.forever() {
+        match next.draw_more(post, drawer, scratch, &mut nth, 1) {
             Ok(true) => continue,
             Ok(false) => (),
             Err(end) => return end,
@@ -204,7 +202,7 @@ fn by_lots<'a, R: Wait, G: Gate>(
         swap(ready, next);
         next.clear();
         let lot = ready.parcels();
-        if let Err(end) = hand_lot(rt, shift, drawer, worker, scratch, &mut nth, lot, next) {
+        if let Err(end) = hand_lot(post, drawer, scratch, &mut nth, lot, next) {
             return end;
         }
     }
@@ -212,25 +210,24 @@ fn by_lots<'a, R: Wait, G: Gate>(
 }
 
 // Draws a rank of the layer, and then passes the gate.
-pub(crate) fn draw<G: Gate>(
-    shift: &Shift<'_, '_, G>,
+pub(crate) fn draw<R: Wait, G: Gate>(
+    post: &Post<'_, '_, '_, '_, R, G>,
     drawer: &mut Drawer,
-    worker: u8,
     nth: &mut u64,
 ) -> Result<u64, End>
-    requires place { IsAtPlace shift.now.ledger worker drawer.old }
-    ensures within { IfOk result (λ rank. rank < length shift.now.layer.places) }
+    requires place { IsAtPlace post.now.shift.now.ledger post.now.worker drawer.old }
+    ensures within { IfOk result (λ rank. rank < length post.now.shift.now.layer.places) }
     ensures drawn { IfOk result (λ rank. drawer.new.hand.numbers ≡ drawer.old.hand.numbers ++ rank ∷ []) }
     ensures none { IfErr result (λ end. IfDrained end (drawer.new.hand.numbers ≡ drawer.old.hand.numbers)) }
-    ensures end { IfErr result (λ end. MayEnd G.may_stop end) }
-    ensures hand { IfErr result (λ end. EndsWith worker drawer.new.hand end) }
-    ensures answered { IfErr result (λ end. WasAnswered shift.now.layer worker end) }
-    ensures goes_on { OnOk result (IsTold (answers_to G.may_answer shift.now worker) nth.old true nth.new) }
-    ensures gate { IfErr result (λ end. DrawsAtLast (answers_to G.may_answer shift.now worker) drawer.old.hand nth.old drawer.new.hand nth.new end) }
-    ensures place { IsAtPlace shift.now.ledger worker drawer.new }
+    ensures ends { IfErr result (λ end. HasEnded G.may_stop post.now.shift.now.layer post.now.worker drawer.new.hand end) }
+    ensures goes_on { OnOk result (IsTold (answers_to G.may_answer post.now.shift.now post.now.worker) nth.old true nth.new) }
+    ensures gate { IfErr result (λ end. DrawsAtLast (answers_to G.may_answer post.now.shift.now post.now.worker)
+        drawer.old.hand nth.old drawer.new.hand nth.new end) }
+    ensures place { IsAtPlace post.now.shift.now.ledger post.now.worker drawer.new }
 {
-    let rank = draw_rank(shift.layer, shift.ledger, drawer, worker)?;
-    pass(shift, worker, nth)?;
+    let shift = post.shift;
+    let rank = draw_rank(shift.layer, shift.ledger, drawer, post.worker)?;
+    pass(post, nth)?;
     Ok(rank)
 }
 
@@ -250,16 +247,20 @@ fn draw_rank(layer: &Layer, ledger: &Ledger, drawer: &mut Drawer, worker: u8) ->
 }
 
 // Counts one more event, and asks the gate.
-pub(crate) fn pass<G: Gate>(shift: &Shift<'_, '_, G>, worker: u8, nth: &mut u64) -> Result<(), End>
+pub(crate) fn pass<R: Wait, G: Gate>(
+    post: &Post<'_, '_, '_, '_, R, G>,
+    nth: &mut u64,
+) -> Result<(), End>
     ensures stops { IfErr result (λ end. end ≡ Stopped) }
     ensures end { IfErr result (λ end. MayEnd G.may_stop end) }
-    ensures hand { (hand : Hand) → IfErr result (λ end. EndsWith worker hand end) }
-    ensures answered { (layer : LayerView) → IfErr result (λ end. WasAnswered layer worker end) }
-    ensures goes_on { OnOk result (IsTold (answers_to G.may_answer shift.now worker) nth.old true nth.new) }
-    ensures gate { IfErr result (λ end. EndsAtOnce (answers_to G.may_answer shift.now worker) nth.old nth.new end) }
+    ensures hand { (hand : Hand) → IfErr result (λ end. EndsWith post.now.worker hand end) }
+    ensures answered { (layer : LayerView) → IfErr result (λ end. WasAnswered layer post.now.worker end) }
+    ensures goes_on { OnOk result (IsTold (answers_to G.may_answer post.now.shift.now post.now.worker) nth.old true nth.new) }
+    ensures gate { IfErr result (λ end. EndsAtOnce (answers_to G.may_answer post.now.shift.now post.now.worker) nth.old nth.new end) }
 {
+    let shift = post.shift;
     *nth = nth.saturating_add(1);
-    if shift.gate.pass(shift.layer.number(), worker, *nth) {
+    if shift.gate.pass(shift.layer.number(), post.worker, *nth) {
         Ok(())
     } else {
         Err(End::Stopped)

@@ -5,7 +5,7 @@ ghost use Rattle.crew.specs.inside.Desks.{AreRoomy, HaveDrawers};
 
 use crate::desks::Desk;
 use crate::gate::Gate;
-use crate::shift::Shift;
+use crate::shift::{Post, Shift};
 use crate::spreading::for_each_spread;
 use crate::worker::work_at;
 use claims::PLACES;
@@ -44,13 +44,7 @@ fn help<'a, R: Wait, G: Gate>(rt: &R, desk: &mut Desk<'a>, shift: &Shift<'_, 'a,
     ensures room { desk.new.scratch.size ≡ desk.old.scratch.size }
 {
     if let Some(mut own) = desk.drawer.take() {
-        work_at(
-            rt,
-            shift,
-            &mut own,
-            worker,
-            &mut desk.scratch,
-            &mut desk.lots,
-        );
+        let post = Post { rt, shift, worker };
+        work_at(&post, &mut own, &mut desk.scratch, &mut desk.lots);
     }
 }

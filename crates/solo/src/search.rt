@@ -54,33 +54,36 @@ fn search(
     let pruner = Pruner::of(alloc, level, cap)?;
     let mut scratch = Scratch::new(alloc, level)?;
     let mut books = new_books(alloc, level, &pruner, limit, 1, 1, &mut scratch)?;
-    all_turns(alloc, books.as_mut_slice(), &pruner, &mut scratch, limit)
+    let terms = Terms {
+        alloc,
+        pruner: &pruner,
+        limit,
+    };
+    all_turns(&terms, books.as_mut_slice(), &mut scratch)
+}
+
+// What a search goes by: the allocator, what leaves positions out, and the limit of positions.
+#[derive(Drop)]
+struct Terms<'s> {
+    alloc: Global,
+    pruner: &'s Pruner,
+    limit: u32,
 }
 
 // Makes turn after turn until there is an answer. The only error is that memory was refused.
 fn all_turns(
-    alloc: Global,
+    terms: &Terms<'_>,
     books: &mut [Book],
-    pruner: &Pruner,
     scratch: &mut Scratch,
-    limit: u32,
 ) -> Result<Answer, AllocError>
-    requires first { AreBetweenTurns pruner.now limit 1 1 books.old [] 0 }
-    requires room { scratch.old.size ≡ length pruner.now.board.cells }
-    ensures { IfOk result (λ answer. IsAnswer pruner.now limit answer) }
+    requires first { AreBetweenTurns terms.now.pruner.now terms.now.limit 1 1 books.old [] 0 }
+    requires room { scratch.old.size ≡ length terms.now.pruner.now.board.cells }
+    ensures { IfOk result (λ answer. IsAnswer terms.now.pruner.now terms.now.limit answer) }
 {
-    let mut trail = Vec::new(alloc);
+    let mut trail = Vec::new(terms.alloc);
     let mut positions = 0;
     loop {
-        let found = turn(
-            alloc,
-            books,
-            &mut trail,
-            &mut positions,
-            pruner,
-            scratch,
-            limit,
-        )?;
+        let found = turn(terms, books, &mut trail, &mut positions, scratch)?;
         if let Some(answer) = found {
             return Ok(answer);
         }
@@ -90,27 +93,33 @@ fn all_turns(
 // Looks at the last layer that the books closed, and does its ranks as their one worker where it gives no answer. The
 // only error is that memory was refused.
 fn turn(
-    alloc: Global,
+    terms: &Terms<'_>,
     books: &mut [Book],
     trail: &mut Vec<Parents>,
     positions: &mut u64,
-    pruner: &Pruner,
     scratch: &mut Scratch,
-    limit: u32,
 ) -> Result<Option<Answer>, AllocError>
-    requires turn { AreBetweenTurns pruner.now limit 1 1 books.old trail.old.items positions.old }
-    requires room { scratch.old.size ≡ length pruner.now.board.cells }
-    ensures answer { IfOk result (λ found. IfSome found (λ answer. IsAnswer pruner.now limit answer)) }
-    ensures onward { IfOk result (λ found. IfNone found (GoesOn pruner.now limit books.new trail.new.items positions.old positions.new)) }
+    requires turn { AreBetweenTurns terms.now.pruner.now terms.now.limit 1 1 books.old trail.old.items positions.old }
+    requires room { scratch.old.size ≡ length terms.now.pruner.now.board.cells }
+    ensures answer { IfOk result (λ found. IfSome found (λ answer. IsAnswer terms.now.pruner.now terms.now.limit answer)) }
+    ensures onward { IfOk result (λ found. IfNone found
+        (GoesOn terms.now.pruner.now terms.now.limit books.new trail.new.items positions.old positions.new)) }
     ensures size { scratch.new.size ≡ scratch.old.size }
 {
-    let layer = last_layer(alloc, books)?;
-    let found = look(alloc, trail.as_slice(), positions, &layer, limit, scratch)?;
+    let layer = last_layer(terms.alloc, books)?;
+    let found = look(
+        terms.alloc,
+        trail.as_slice(),
+        positions,
+        &layer,
+        terms.limit,
+        scratch,
+    )?;
     if let Some(answer) = found {
         return Ok(Some(answer));
     }
     begin_each(books, &layer)?;
-    let worked = finish_each(books, &layer, pruner, scratch, 0)?;
+    let worked = finish_each(books, &layer, terms.pruner, scratch, 0)?;
     trail.push(Parents::of(layer))?;
     match worked {
         Worked::Over => Ok(Some(Answer::Limit)),

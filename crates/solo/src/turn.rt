@@ -1,7 +1,7 @@
 //! The turns of a search, for one worker and for several: each looks at the next layer, and where that gives no answer
 //! has its ranks done until the layer after it is closed. The only error is that memory was refused.
-ghost use Rattle.std.specs.Prelude.{◌≡◌, ◌≢◌, ◌+◌, ◌-◌, ◌<◌, ◌≤◌, ◌↔◌, ℕ, List, [], ◌∷◌, ◌++◌, Some, true, false, IfNone, IfOk, IfSome, MatchBool, OnErr, OnOk};
-ghost use Rattle.std.specs.Prelude.{length, slice_get};
+ghost use Rattle.std.specs.Prelude.{◌≡◌, ◌≢◌, ◌+◌, ◌-◌, ◌<◌, ◌≤◌, ◌↔◌, ℕ, List, [], ◌∷◌, ◌++◌, Some, true, false, length, slice_get};
+ghost use Rattle.std.specs.Prelude.{IfNone, IfOk, IfSome, MatchBool, MatchResult, OnErr, OnOk};
 ghost use Rattle.std.specs.Arc.{arc_value};
 ghost use Rattle.grid.specs.Lawful.{box_count};
 ghost use Rattle.grid.specs.declared.limits.TheConstants.{MAX_BOXES};
@@ -13,9 +13,10 @@ ghost use Rattle.layers.specs.Books.{AllDone, AreAllShares, AreNewShares, HasBeg
 ghost use Rattle.solo.specs.Answers.{HasNone, IsAnswer};
 ghost use Rattle.solo.specs.Leads.{IsFirstSolved};
 ghost use Rattle.solo.specs.declared.answer.Answer.TheVariants.{Limit};
-ghost use Rattle.solo.specs.inside.Searched.{HaveBefore, IsLookedAt};
+ghost use Rattle.solo.specs.inside.Searched.{HaveBefore, IsCounted, IsLookedAt};
 ghost use Rattle.solo.specs.inside.Rests.{MayBeClosed, RestAnswer, RestAnswers};
-ghost use Rattle.solo.specs.inside.Turns.{AreDoneBy, HaveBegun, IsDoneBy, IsStillAt, MayBeWorked, MayHaveBegun, WorkAnswer, WorkAnswers, with_over};
+ghost use Rattle.solo.specs.inside.Turns.{AreDoneBy, HaveBegun, IsDoneBy, IsReopenedAt, IsStillAt, MayBeWorked, MayHaveBegun};
+ghost use Rattle.solo.specs.inside.Turns.{WorkAnswer, WorkAnswers, with_over};
 ghost use Rattle.solo.specs.inside.Together.{IsFull};
 
 use crate::answer::Answer;
@@ -84,12 +85,9 @@ pub fn look(
     requires next { layer.now.number ≡ length trail.now }
     requires room { scratch.old.size ≡ length layer.now.level.board.cells }
     ensures answer { IfOk result (λ found. IfSome found (λ answer. IsAnswer layer.now.level limit answer)) }
-    ensures looked { IfOk result (λ found. IfNone found (IsLookedAt layer.now.level limit (trail.now ++ layer.now.origins ∷ []) positions.new)) }
+    ensures onward { IfOk result (λ found. IfNone found (IsCounted limit trail.now layer.now positions.old positions.new)) }
     ensures limit { IfOk result (λ found. (found ≡ Some Limit) ↔ (limit < positions.old + length layer.now.places)) }
-    ensures ranks { IfOk result (λ found. IfNone found ((0 < length layer.now.places) × (length layer.now.places ≤ limit))) }
-    ensures count { IfOk result (λ found. IfNone found (positions.new ≡ positions.old + length layer.now.places)) }
-    ensures kept { IfOk result (λ found. IfSome found (λ _. positions.new ≡ positions.old)) }
-    ensures err { OnErr result (positions.new ≡ positions.old) }
+    ensures kept { MatchResult result (λ found. IfSome found (λ _. positions.new ≡ positions.old)) (λ _. positions.new ≡ positions.old) }
     ensures size { scratch.new.size ≡ scratch.old.size }
 {
     layer.tell();
@@ -306,8 +304,7 @@ pub(crate) fn do_ranks(
     worker: u8,
     most: u64,
 ) -> Result<bool, AllocError>
-    requires still { IsStillAt book.old layer.now book.old }
-    requires reopened { book.old.claimed ≡ book.old.done }
+    requires reopened { IsReopenedAt layer.now book.old }
     requires worker { worker < book.old.workers }
     requires pruner_of_level { pruner.now ≡ layer.now.level }
     requires room { scratch.old.size ≡ length layer.now.level.board.cells }

@@ -1,6 +1,6 @@
 -- What a search has looked at: the layers behind it and the count of their positions.  Nothing here speaks of a book,
 -- of workers or of shares.
-use Rattle.std.specs.Prelude.{◌≡◌, ℕ, ◌+◌, ◌≤◌, List, length, map, slice_get, Some}
+use Rattle.std.specs.Prelude.{◌≡◌, ℕ, ◌+◌, ◌<◌, ◌≤◌, List, [], ◌∷◌, ◌++◌, length, map, slice_get, Some}
 use Rattle.grid.specs.declared.square.Push.{Push}
 use Rattle.grid.specs.Board.{Scene}
 use Rattle.successors.specs.Tasks.{Task}
@@ -45,3 +45,10 @@ pub record IsLookedAt (task : Task) (limit : ℕ) (trail : List (List (Origin Pu
   pub searched : AreSearched task (places_of layers)
   pub count : positions ≡ total (places_of layers)
   pub within : positions ≤ limit
+
+-- the layer was looked at after those whose origins are kept: it is not empty, no longer than the limit, and its positions are
+-- counted
+pub record IsCounted (limit : ℕ) (trail : List (List (Origin Push))) (layer : LayerView) (before positions : ℕ) : Type 0 where
+  pub looked : IsLookedAt layer.level limit (trail ++ layer.origins ∷ []) positions
+  pub ranks : (0 < length layer.places) × (length layer.places ≤ limit)
+  pub count : positions ≡ before + length layer.places

@@ -89,6 +89,10 @@ pub record IsStillAt (before : BookView) (layer : LayerView) (book : BookView) :
   pub begun : HasBegun book layer
   pub ranks : length book.done ≡ length layer.places
 
+-- the book is at work on the layer, and each rank that is not done is free to be claimed
+abbrev pub IsReopenedAt : LayerView → BookView → Type 0
+IsReopenedAt layer book = IsStillAt book layer book × (book.claimed ≡ book.done)
+
 -- how they may be left where memory was refused: each as it was; or still at work; or with the next layer closed
 abbrev pub MayBeWorked : List BookView → LayerView → List BookView → Type 0
 MayBeWorked before layer after =

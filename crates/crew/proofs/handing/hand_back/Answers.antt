@@ -8,8 +8,9 @@ returns-in_err-hand_to-clause-hand g c = λ hand. (let ended = c.in_err-hand_to.
 
 pub returns-in_err-hand_to-clause-gate : goal.returns-in_err-hand_to-clause-gate
 returns-in_err-hand_to-clause-gate g c =
-    let may = g.G.Gate.may_answer c.args.shift.now.gate c.args.shift.now.layer.number c.args.worker in let place = c.loop-book.book-index in
-    let books = c.args.shift.now.books in let nth = c.loop-book.nth in let after = c.hand_to.new.nth in let end = c.in_err-hand_to.field-0.0 in
+    let may = g.G.Gate.may_answer c.args.post.now.shift.now.gate c.args.post.now.shift.now.layer.number c.args.post.now.worker in
+    let place = c.loop-book.book-index in
+    let books = c.args.post.now.shift.now.books in let nth = c.loop-book.nth in let after = c.hand_to.new.nth in let end = c.in_err-hand_to.field-0.0 in
     let all : length c.shift.inside.books.now ≡ books = ap (λ (shift : ShiftView g.row.G.Denot). shift.books) c.shift.view_is in
     let within : place < books = omega (arith, all, c.loop-book-test.true) in
     let ended = cut_off may place 1 books c.args.nth.now nth after end (omega (arith, within)) c.loop-book.invariant

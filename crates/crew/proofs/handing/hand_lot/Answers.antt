@@ -7,21 +7,21 @@ use Rattle.crew.proofs.handing.hand_lot.Goals as goal
 
 pub loop-book-preserved : goal.loop-book-preserved
 loop-book-preserved g c = record {
-  grown = grown_twice c.args.shift.now.layer c.args.drawer.now.hand c.loop-book.drawer.hand c.hand_lot_to.new.drawer.hand c.args.next.now c.loop-book.next
-      c.hand_lot_to.new.next c.loop-book.invariant.grown c.in_ok-hand_lot_to.ensures.grown;
+  grown = grown_twice c.args.post.now.shift.now.layer c.args.drawer.now.hand c.loop-book.drawer.hand c.hand_lot_to.new.drawer.hand c.args.next.now
+      c.loop-book.next c.hand_lot_to.new.next c.loop-book.invariant.grown c.in_ok-hand_lot_to.ensures.grown;
   works =
       let place = c.loop-book.book-index in let many = length c.args.lot.now in
-      works_twice (g.G.Gate.may_answer c.args.shift.now.gate c.args.shift.now.layer.number c.args.worker) (place * many) many
+      works_twice (g.G.Gate.may_answer c.args.post.now.shift.now.gate c.args.post.now.shift.now.layer.number c.args.post.now.worker) (place * many) many
       ((place + 1) * many) c.args.drawer.now.hand c.loop-book.drawer.hand c.hand_lot_to.new.drawer.hand
       c.args.nth.now c.loop-book.nth c.hand_lot_to.new.nth (omega arith) c.loop-book.invariant.works c.in_ok-hand_lot_to.ensures.works;
-  place = c.in_ok-hand_lot_to.ensures.place;
-  size = c.in_ok-hand_lot_to.ensures.size ∙ c.loop-book.invariant.size;
+  ready = c.hand_lot_to.ensures.ready;
 }
 
 pub returns-in_err-hand_lot_to-clause-gate : goal.returns-in_err-hand_lot_to-clause-gate
 returns-in_err-hand_lot_to-clause-gate g c =
-    let may = g.G.Gate.may_answer c.args.shift.now.gate c.args.shift.now.layer.number c.args.worker in let place = c.loop-book.book-index in
-    let many = length c.args.lot.now in let books = c.args.shift.now.books in
+    let may = g.G.Gate.may_answer c.args.post.now.shift.now.gate c.args.post.now.shift.now.layer.number c.args.post.now.worker in
+    let place = c.loop-book.book-index in
+    let many = length c.args.lot.now in let books = c.args.post.now.shift.now.books in
     let all : length c.shift.inside.books.now ≡ books = ap (λ (shift : ShiftView g.row.G.Denot). shift.books) c.shift.view_is in
     let within : place < books = omega (arith, all, c.loop-book-test.true) in
     let ended = works_until may (place * many) many (books * many) c.args.drawer.now.hand c.loop-book.drawer.hand c.hand_lot_to.new.drawer.hand c.args.nth.now

@@ -3,7 +3,7 @@ use Rattle.std.specs.Prelude.{IfNone, IfSome}
 use Rattle.successors.specs.Tasks.{Task}
 use Rattle.layers.specs.Books.{AreAllShares, IsJoinOf}
 use Rattle.solo.specs.Answers.{IsAnswer}
-use Rattle.solo.specs.inside.Searched.{IsLookedAt}
+use Rattle.solo.specs.inside.Searched.{IsCounted, IsLookedAt}
 use Rattle.crew.specs.inside.Turning.{AreWorkedBy}
 use Rattle.crew.proofs.Turning.{begins, ends_over, goes_on, joinable, looked_before, next_layer}
 use Rattle.crew.proofs.turns.turn.Goals as goal
@@ -70,10 +70,9 @@ returns-in-Over-clause-turned g c =
     let config = c.args.terms.now.config in let layer = c.in_ok-layer.layer in let trail = c.args.history.now.trail.items in let count = c.look.new.positions in
     let worked = c.in-Some-back.worked in let after = c.in-Some-back.after in
     let join : IsJoinOf c.args.books.items layer = subst (λ bs. IsJoinOf bs layer) c.as_slice.ensures.value c.in_ok-layer.ensures in
-    let found : IsLookedAt layer.level config.limit (c.as_slice-2.result.now ++ layer.origins ∷ []) count = subst
-    (λ found. IfNone found (IsLookedAt layer.level config.limit (c.as_slice-2.result.now ++ layer.origins ∷ []) count)) c.in_default.is
-    c.in_ok-found.ensures.looked in let looked : IsLookedAt layer.level config.limit (trail ++ layer.origins ∷ []) count = subst
-    (λ ls. IsLookedAt layer.level config.limit (ls ++ layer.origins ∷ []) count) c.as_slice-2.ensures.value found in
+    let counted = subst (λ found. IfNone found (IsCounted config.limit c.as_slice-2.result.now layer c.args.history.now.positions count)) c.in_default.is
+    c.in_ok-found.ensures.onward in let looked : IsLookedAt layer.level config.limit (trail ++ layer.origins ∷ []) count = subst
+    (λ ls. IsLookedAt layer.level config.limit (ls ++ layer.origins ∷ []) count) c.as_slice-2.ensures.value counted.looked in
     let work : AreWorkedBy config layer worked after.items = subst (λ back. IfSome back (λ b. AreWorkedBy config layer b.0 b.1.items)) c.in-Some-back.is
     c.in_ok-back.ensures.worked in
     ends_over config c.args.terms.now.pruner.now c.args.books.items trail c.args.history.now.positions c.requires.limits c.requires.turn layer count
@@ -85,18 +84,13 @@ returns-in-Through-clause-turned g c =
     let positions = c.args.history.now.positions in
     let count = c.look.new.positions in let worked = c.in-Some-back.worked in let after = c.in-Some-back.after in
     let join : IsJoinOf c.args.books.items layer = subst (λ bs. IsJoinOf bs layer) c.as_slice.ensures.value c.in_ok-layer.ensures in
-    let found : IsLookedAt layer.level config.limit (c.as_slice-2.result.now ++ layer.origins ∷ []) count =
-    subst (λ found. IfNone found (IsLookedAt layer.level config.limit (c.as_slice-2.result.now ++ layer.origins ∷ []) count)) c.in_default.is
-    c.in_ok-found.ensures.looked in let looked : IsLookedAt layer.level config.limit (trail ++ layer.origins ∷ []) count =
-    subst (λ ls. IsLookedAt layer.level config.limit (ls ++ layer.origins ∷ []) count) c.as_slice-2.ensures.value found in
-    let some : (0 < length layer.places) × (length layer.places ≤ config.limit) = subst
-    (λ found. IfNone found ((0 < length layer.places) × (length layer.places ≤ config.limit))) c.in_default.is c.in_ok-found.ensures.ranks in
-    let counted : count ≡ positions + length layer.places = subst (λ found. IfNone found (count ≡ positions + length layer.places)) c.in_default.is
-    c.in_ok-found.ensures.count in
+    let counted = subst (λ found. IfNone found (IsCounted config.limit c.as_slice-2.result.now layer positions count)) c.in_default.is
+    c.in_ok-found.ensures.onward in let looked : IsLookedAt layer.level config.limit (trail ++ layer.origins ∷ []) count =
+    subst (λ ls. IsLookedAt layer.level config.limit (ls ++ layer.origins ∷ []) count) c.as_slice-2.ensures.value counted.looked in
     let work : AreWorkedBy config layer worked after.items = subst (λ back. IfSome back (λ b. AreWorkedBy config layer b.0 b.1.items)) c.in-Some-back.is
     c.in_ok-back.ensures.worked in (
       goes_on config c.args.terms.now.pruner.now c.args.books.items trail positions c.requires.limits c.requires.turn layer count after.items
           c.push.new.self.items
           c.of.result join looked (subst (λ w. AreWorkedBy config layer w after.items) c.in-Through.is work) c.in_ok-push.ensures.items c.of.ensures,
-      omega (arith, some.0, counted),
+      omega (arith, counted.ranks.0, counted.count),
     )

@@ -1,14 +1,18 @@
 use Rattle.std.proofs.Common.{◌≡◌, rules}
-use Rattle.crew.proofs.Drawing.{stopped_not_drained}
+use Rattle.crew.specs.inside.Ends.{HasEnded}
+use Rattle.crew.proofs.Drawing.{drawn_at_last, stopped_not_drained}
 use Rattle.crew.proofs.worker.draw.Goals as goal
 
-pub returns-in_err-pass-clause-hand : goal.returns-in_err-pass-clause-hand
-returns-in_err-pass-clause-hand g c =
-    let hand = c.in_err-pass.ensures.hand c.draw_rank.new.drawer.hand in search (rules, hand)
+pub returns-in_err-pass-clause-ends : goal.returns-in_err-pass-clause-ends
+returns-in_err-pass-clause-ends g c =
+    let is = c.in_err-pass.ensures in let layer = c.args.post.now.shift.now.layer in let hand = c.draw_rank.new.drawer.hand in
+    let ended : HasEnded g.G.Gate.may_stop layer c.args.post.now.worker hand c.in_err-pass.field-0.0 =
+    record { may = is.end; left = is.hand hand; answered = is.answered layer } in search (rules, ended)
 
-pub returns-in_err-pass-clause-answered : goal.returns-in_err-pass-clause-answered
-returns-in_err-pass-clause-answered g c =
-    let answered = c.in_err-pass.ensures.answered c.args.shift.now.layer in search (rules, answered)
+pub returns-in_err-rank-clause-ends : goal.returns-in_err-rank-clause-ends
+returns-in_err-rank-clause-ends g c =
+    let ended = drawn_at_last g.G.Gate.may_stop c.args.post.now.shift.now.layer c.args.post.now.worker c.draw_rank.new.drawer.hand c.in_err-rank.field-0.0
+    c.in_err-rank.ensures.end in search (rules, ended)
 
 pub returns-in_err-pass-clause-none : goal.returns-in_err-pass-clause-none
 returns-in_err-pass-clause-none g c =

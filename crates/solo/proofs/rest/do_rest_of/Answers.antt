@@ -3,10 +3,10 @@ use Rattle.layers.specs.Books.{with_reopened}
 use Rattle.solo.proofs.Finishing.{still_at, still_since}
 use Rattle.solo.proofs.rest.do_rest_of.Goals as goal
 
-pub do_ranks-requires-clause-still : goal.do_ranks-requires-clause-still
-do_ranks-requires-clause-still c =
+pub do_ranks-requires-clause-reopened : goal.do_ranks-requires-clause-reopened
+do_ranks-requires-clause-reopened c =
     (still_at c.args.book.now c.reopen.new.self c.args.layer.now c.tell.ensures c.tell-2.ensures c.requires.begun
-    (c.reopen.ensures ∙ ap with_reopened c.positions.ensures.same)).0
+    (c.reopen.ensures ∙ ap with_reopened c.positions.ensures.same))
 
 pub returns-clause-still : goal.returns-clause-still
 returns-clause-still c =

@@ -4,9 +4,9 @@ use Rattle.solo.proofs.search.all_turns.Given as goal
 
 abbrev pub invariant-loop-trail : goal.invariant-loop-trail
 invariant-loop-trail l = record {
-  turn : AreBetweenTurns l.pruner l.limit 1 1 l.books l.trail.items l.positions;
+  turn : AreBetweenTurns l.terms.pruner.now l.terms.limit 1 1 l.books l.trail.items l.positions;
   size : l.scratch.size ≡ l.fn.scratch.size;
 }
 
 abbrev pub decreases-loop-trail : goal.decreases-loop-trail
-decreases-loop-trail l = l.limit - l.positions
+decreases-loop-trail l = l.terms.limit - l.positions

@@ -10,8 +10,8 @@ use Rattle.solo.proofs.turn.do_ranks.Goals as goal
 pub loop-book-init : goal.loop-book-init
 loop-book-init c = record {
   credited = by_nobody c.args.worker c.args.book.now c.claim.new.self (ap (λ v. v.done) c.in-Some.ensures.3) (ap (λ v. v.tallies) c.in-Some.ensures.3);
-  due = due_next c.args.book.now c.args.book.now c.claim.new.self c.args.layer.now c.expand_over-parcel.result c.in-Some.first c.requires.still
-      (λ r e. subst (λ bs. get_or bs r false ≡ true) c.requires.reopened e) c.in-Some.ensures c.expand_over-parcel.ensures.of;
+  due = due_next c.args.book.now c.args.book.now c.claim.new.self c.args.layer.now c.expand_over-parcel.result c.in-Some.first c.requires.reopened.0
+      (λ r e. subst (λ bs. get_or bs r false ≡ true) c.requires.reopened.1 e) c.in-Some.ensures c.expand_over-parcel.ensures.of;
   size = c.expand_over-parcel.ensures.size;
 }
 

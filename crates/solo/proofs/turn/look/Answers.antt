@@ -18,8 +18,12 @@ returns-then-is_empty-clause-answer c = c.none_of.ensures.answer c.args.limit
     (look_none c.args.limit c.args.positions.now (c.args.positions.now + c.len.result) c.args.trail.now c.args.layer.now c.requires.looked c.requires.next
     c.tell.ensures (eqb-true _ _ (sym c.is_empty.ensures ∙ c.if-is_empty.true)) (omega (arith, c.len.ensures)))
 
-pub returns-clause-looked : goal.returns-clause-looked
-returns-clause-looked c =
+pub returns-clause-onward : goal.returns-clause-onward
+returns-clause-onward c =
     let filled : length c.args.layer.now.places ≢ 0 = eqb-false _ _ (sym c.is_empty.ensures ∙ c.if-is_empty.false) in
-    look_on c.args.limit c.args.positions.now (c.args.positions.now + c.len.result) c.args.trail.now c.args.layer.now c.requires.looked c.requires.next
-    c.tell.ensures (omega arith) c.in_default.ensures (omega (arith, c.len.ensures)) (omega (arith, c.if-count-limit.false))
+    record {
+      looked = look_on c.args.limit c.args.positions.now (c.args.positions.now + c.len.result) c.args.trail.now c.args.layer.now c.requires.looked
+          c.requires.next c.tell.ensures (omega arith) c.in_default.ensures (omega (arith, c.len.ensures)) (omega (arith, c.if-count-limit.false));
+      ranks = (omega (arith, filled), omega (arith, c.len.ensures, c.if-count-limit.false));
+      count = omega (arith, c.len.ensures);
+    }

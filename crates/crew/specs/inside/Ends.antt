@@ -1,0 +1,20 @@
+-- How a worker is ready for work, and how it ends.
+use Rattle.std.specs.Prelude.{◌≡◌, ℕ, Bool, length}
+use Rattle.area.specs.Reach.{Reach}
+use Rattle.layers.specs.LayerView.{LayerView}
+use Rattle.claims.specs.Hands.{DrawerView}
+use Rattle.claims.specs.declared.views.Hand.{Hand}
+use Rattle.crew.specs.Work.{EndsWith, IsAtPlace, MayEnd, WasAnswered}
+use Rattle.crew.specs.declared.end.End.{End}
+use Rattle.crew.specs.inside.Shifts.{ShiftView}
+
+-- the scratch is for the layer's level, and the drawer has the worker's place in the ledger
+pub record IsReady {G : Type 0} (shift : ShiftView G) (worker : ℕ) (scratch : Reach) (drawer : DrawerView) : Type 0 where
+  pub room : scratch.size ≡ length shift.layer.level.board.cells
+  pub place : IsAtPlace shift.ledger worker drawer
+
+-- the worker may end so, its drawer is left with what belongs to such an end, and a book answered so if one ended it
+pub record HasEnded (may_stop : Bool) (layer : LayerView) (worker : ℕ) (hand : Hand) (end : End) : Type 0 where
+  pub may : MayEnd may_stop end
+  pub left : EndsWith worker hand end
+  pub answered : WasAnswered layer worker end
