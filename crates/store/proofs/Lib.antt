@@ -1,4 +1,3 @@
-pub mod Known
 pub mod lemmas
 pub mod Packing
 pub mod Tails

@@ -1,5 +1,5 @@
 //! Offers that enter what stands open, in the map that holds it behind what is closed.
-ghost use Rattle.std.specs.Prelude.{◌≡◌, ℕ, ◌+◌, ◌<◌, ◌≤◌, ◌&&◌, ◌||◌, [], IsTrue, Some, false, true, not, is_some, length, fold};
+ghost use Rattle.std.specs.Prelude.{◌≡◌, ℕ, ◌+◌, ◌<◌, ◌≤◌, ◌&&◌, ◌||◌, [], IsTrue, Some, false, not, is_some, length, fold};
 ghost use Rattle.indexmap.specs.IndexMap.{insert_entry, spare};
 ghost use Rattle.std.specs.List.{list_any};
 ghost use Rattle.store.specs.Entries.{origin_of, same_scene};
@@ -8,7 +8,6 @@ ghost use Rattle.store.specs.Entering.{is_wanted_in, entered};
 ghost use Rattle.store.specs.inside.KeyRows.{AllSuit, Suits};
 ghost use Rattle.store.specs.FoundView.{IsFound, NoneExceed, StaysFound, all_let_in, keeps, let_in, open_of, seen_of};
 
-use crate::guesses::{Guesses, guess_of};
 use crate::key::Key;
 use crate::origin::{ClosedOrigin, Origin};
 use grid::{MAX_BOXES, Position};
@@ -16,39 +15,9 @@ use indexmap::IndexMap;
 use indexmap::map::Entry;
 use successors::{Successor, share_of};
 
-// Whether the position at a place of the map, which is only a guess, tells that an offer of a position changes nothing.
-#[inline(always)]
-fn is_known<const N: usize, const M: usize>(
-    table: &IndexMap<Key<N, M>, ClosedOrigin>,
-    start: usize,
-    last: Origin,
-    place: usize,
-    key: &Key<N, M>,
-    origin: Origin,
-) -> bool
-    requires width { (N ≤ MAX_BOXES + 1) × (M ≤ MAX_BOXES + 1) }
-    requires found { IsFound start table.now.entries }
-    requires last { NoneExceed (open_of start table.now.entries) last }
-    ensures { IsTrue result → true ≡ keeps (seen_of start table.now.entries) (open_of start table.now.entries) key.now origin }
-{
-    let Some((known, _)) = table.get_index(place) else {
-        return false;
-    };
-    if !(*key == *known) {
-        return false;
-    }
-    if place < start {
-        return true;
-    }
-    if origin.is_before(last) {
-        return false;
-    }
-    true
-}
-
 // Puts an offer of a position into the map by one look-up, unless it changes nothing: the position is closed, or stands open
-// with an origin that is no greater. Says whether it changes nothing, and tells the place where it stands then. Those before
-// the start are closed, and no origin of the others comes after the last one, so that mostly no origin is read.
+// with an origin that is no greater. Says whether it changes nothing. Those before the start are closed, and no origin of the
+// others comes after the last one, so that mostly no origin is read.
 #[inline(always)]
 fn is_kept<const N: usize, const M: usize>(
     table: &mut IndexMap<Key<N, M>, ClosedOrigin>,
@@ -56,7 +25,6 @@ fn is_kept<const N: usize, const M: usize>(
     last: Origin,
     key: &Key<N, M>,
     origin: Origin,
-    place: &mut u32,
 ) -> bool
     requires width { (N ≤ MAX_BOXES + 1) × (M ≤ MAX_BOXES + 1) }
     requires room { 0 < spare table.old }
@@ -67,18 +35,14 @@ fn is_kept<const N: usize, const M: usize>(
     ensures put { result ≡ false → table.new.entries ≡ insert_entry same_scene table.old.entries key.now (Some origin) }
     ensures room { spare table.old ≤ spare table.new + 1 }
 {
-    let count = table.len();
     match table.entry(key.copy()) {
         Ok(Entry::Vacant(entry)) => {
-            *place = guess_of(count);
             let _ = entry.insert_entry(ClosedOrigin::of(Some(origin)));
             false
         }
         Ok(Entry::Occupied(mut entry)) => {
             let known = entry.get();
-            let here = entry.index();
-            *place = guess_of(here);
-            if here < start {
+            if entry.index() < start {
                 return true;
             }
             if !origin.is_before(last) {
@@ -94,8 +58,7 @@ fn is_kept<const N: usize, const M: usize>(
     }
 }
 
-// An offer enters: where its position stands open already it keeps the lesser origin, and where it is new it comes last. The
-// position may stand at a place that is guessed; the answer is where it stands, as far as a guess goes.
+// An offer enters: where its position stands open already it keeps the lesser origin, and where it is new it comes last.
 #[inline(always)]
 fn enter<const N: usize, const M: usize>(
     table: &mut IndexMap<Key<N, M>, ClosedOrigin>,
@@ -103,8 +66,7 @@ fn enter<const N: usize, const M: usize>(
     last: &mut Origin,
     key: &Key<N, M>,
     origin: Origin,
-    guess: u32,
-) -> u32
+)
     requires width { (N ≤ MAX_BOXES + 1) × (M ≤ MAX_BOXES + 1) }
     requires room { 0 < spare table.old }
     requires found { IsFound start table.old.entries }
@@ -115,15 +77,10 @@ fn enter<const N: usize, const M: usize>(
     ensures waiting { open_of start table.new.entries ≡ let_in (seen_of start table.old.entries) (open_of start table.old.entries) (key.now, origin) }
     ensures room { spare table.old ≤ spare table.new + 1 }
 {
-    if is_known(table, start, *last, guess as usize, key, origin) {
-        return guess;
-    }
-    let mut place = guess;
-    if is_kept(table, start, *last, key, origin, &mut place) {
-        return place;
+    if is_kept(table, start, *last, key, origin) {
+        return;
     }
     *last = last.later(origin);
-    place
 }
 
 // Offers enter, one after the other.
@@ -132,7 +89,6 @@ fn enter_each<const N: usize, const M: usize>(
     start: usize,
     last: &mut Origin,
     offers: &[(Key<N, M>, Origin)],
-    guesses: &mut Guesses,
 )
     requires width { (N ≤ MAX_BOXES + 1) × (M ≤ MAX_BOXES + 1) }
     requires room { length offers.now ≤ spare table.old }
@@ -143,10 +99,8 @@ fn enter_each<const N: usize, const M: usize>(
     ensures seen { seen_of start table.new.entries ≡ seen_of start table.old.entries }
     ensures waiting { open_of start table.new.entries ≡ all_let_in (seen_of start table.old.entries) (open_of start table.old.entries) offers.now }
 {
-    guesses.look(table, offers);
     for offer in offers {
-        let place = enter(table, start, last, &offer.0, offer.1, guesses.guess());
-        guesses.note(place);
+        enter(table, start, last, &offer.0, offer.1);
     }
 }
 
@@ -156,7 +110,6 @@ pub(crate) fn enter_all<const N: usize, const M: usize>(
     start: usize,
     last: &mut Origin,
     inbox: &mut Vec<(Key<N, M>, Origin)>,
-    guesses: &mut Guesses,
 )
     requires width { (N ≤ MAX_BOXES + 1) × (M ≤ MAX_BOXES + 1) }
     requires room { length inbox.old.items ≤ spare table.old }
@@ -167,7 +120,7 @@ pub(crate) fn enter_all<const N: usize, const M: usize>(
     ensures same { StaysFound start table.old.entries inbox.old.items table.new.entries [] }
     ensures empty { inbox.new.items ≡ [] }
 {
-    enter_each(table, start, last, inbox.as_slice(), guesses);
+    enter_each(table, start, last, inbox.as_slice());
     inbox.clear();
 }
 

@@ -8,7 +8,6 @@ ghost use Rattle.store.specs.inside.KeyRows.{AllSuit, Suits};
 ghost use Rattle.store.specs.FoundView.{IsFound, NoneExceed, StaysFound, offer_of, offers_of, open_of};
 
 use crate::entering::enter_all;
-use crate::guesses::Guesses;
 use crate::key::Key;
 use crate::origin::{ClosedOrigin, MOST_RANKS, Origin};
 use grid::MAX_BOXES;
@@ -37,33 +36,39 @@ pub fn most_waiting(worker: u8, workers: u8, share: u8, shares: u8) -> usize
     }
 }
 
-/// Makes room for the offers of a rank's successors, in the inbox and in the map that they are to enter. The only error is
-/// that memory was refused.
+/// Makes room for the offers of a rank's successors, in the inbox and in the map that they are to enter; where
+/// as many wait already as may, these enter first. What is found stays as it was. The only error is that memory was refused.
 pub(crate) fn make_room<const N: usize, const M: usize>(
     table: &mut IndexMap<Key<N, M>, ClosedOrigin>,
+    start: usize,
+    last: &mut Origin,
     inbox: &mut Vec<(Key<N, M>, Origin)>,
+    most: usize,
     successors: &[Successor],
 ) -> Result<(), AllocError>
     requires width { (N ≤ MAX_BOXES + 1) × (M ≤ MAX_BOXES + 1) }
     requires room { length inbox.old.items ≤ spare table.old }
-    ensures entries { table.new.entries ≡ table.old.entries }
-    ensures items { inbox.new.items ≡ inbox.old.items }
+    requires found { IsFound start table.old.entries }
+    requires last { NoneExceed (open_of start table.old.entries) last.old }
+    ensures found { IsFound start table.new.entries }
+    ensures last { NoneExceed (open_of start table.new.entries) last.new }
+    ensures same { StaysFound start table.old.entries inbox.old.items table.new.entries inbox.new.items }
     ensures room { length inbox.new.items ≤ spare table.new }
     ensures ok { OnOk result ((length inbox.new.items + length successors.now ≤ spare table.new) ×
         (vec_len inbox.new + length successors.now ≤ vec_capacity inbox.new)) }
 {
+    enter_if_full(table, start, last, inbox, most);
     let more = successors.len();
     table.reserve(inbox.len() + more)?;
     inbox.reserve(more)
 }
 
-/// The offers of an inbox enter, if as many wait as may. What is found stays as it was.
-pub(crate) fn enter_if_full<const N: usize, const M: usize>(
+// The offers of an inbox enter, if as many wait as may. What is found stays as it was.
+fn enter_if_full<const N: usize, const M: usize>(
     table: &mut IndexMap<Key<N, M>, ClosedOrigin>,
     start: usize,
     last: &mut Origin,
     inbox: &mut Vec<(Key<N, M>, Origin)>,
-    guesses: &mut Guesses,
     most: usize,
 )
     requires width { (N ≤ MAX_BOXES + 1) × (M ≤ MAX_BOXES + 1) }
@@ -76,7 +81,7 @@ pub(crate) fn enter_if_full<const N: usize, const M: usize>(
     ensures room { length inbox.new.items ≤ spare table.new }
 {
     if inbox.len() >= most {
-        enter_all(table, start, last, inbox, guesses);
+        enter_all(table, start, last, inbox);
     }
 }
 

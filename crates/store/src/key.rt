@@ -8,7 +8,7 @@ ghost use Rattle.store.specs.inside.KeyRows.{Suits, high_bytes, joined_bytes, lo
 
 use arrayvec::ArrayVec;
 use grid::{MAX_BOXES, Position, Square};
-use std::hash::{FoldHasher, Hash, Hasher};
+use std::hash::{Hash, Hasher};
 use std::marker::Model;
 
 /// How many values a byte has. Where a grid has no more squares, the number of each is in its low byte.
@@ -67,14 +67,6 @@ impl<const N: usize, const M: usize> Key<N, M> {
             low: self.low,
             high: self.high,
         }
-    }
-
-    /// A number that goes by the bytes, for guesses.
-    #[inline(always)]
-    pub(crate) fn mixed(&self) -> u64 {
-        let mut hasher = FoldHasher::default();
-        self.hash(&mut hasher);
-        hasher.finish()
     }
 
     /// The position.

@@ -6,7 +6,6 @@ mod closing;
 mod copying;
 mod entering;
 mod found;
-mod guesses;
 mod inbox;
 mod key;
 mod origin;

@@ -10,8 +10,7 @@ ghost use Rattle.store.specs.inside.KeyRows.{SuitsLevel};
 use crate::closing::arrange;
 use crate::copying::{copy_entry, copy_from};
 use crate::entering::{count_new, enter_all};
-use crate::guesses::Guesses;
-use crate::inbox::{append_parcel, enter_if_full, make_room};
+use crate::inbox::{append_parcel, make_room};
 use crate::key::Key;
 use crate::origin::{ClosedOrigin, MOST_RANKS, Origin};
 use grid::{MAX_BOXES, Position, Square};
@@ -32,8 +31,6 @@ pub(crate) struct Table<const N: usize, const M: usize> {
     last: Origin,
     // what was offered since and is to enter, for which the map has room
     inbox: Vec<(Key<N, M>, Origin)>,
-    // where in the map positions may stand
-    guesses: Guesses,
 }
 
 impl<const N: usize, const M: usize> Model for Table<N, M> {
@@ -82,7 +79,6 @@ impl<const N: usize, const M: usize> Table<N, M> {
             }
         }
         let start = table.len();
-        let guesses = Guesses::new(alloc)?;
         Ok(Table {
             boxes,
             squares,
@@ -90,7 +86,6 @@ impl<const N: usize, const M: usize> Table<N, M> {
             start,
             last: Origin::lowest(),
             inbox: Vec::new(alloc),
-            guesses,
         })
     }
 
@@ -174,8 +169,7 @@ impl<const N: usize, const M: usize> Table<N, M> {
             return false;
         }
         let last = &mut self.last;
-        let guesses = &mut self.guesses;
-        enter_all(&mut self.table, self.start, last, &mut self.inbox, guesses);
+        enter_all(&mut self.table, self.start, last, &mut self.inbox);
         let room = limit - self.table.len();
         count_new(&self.table, self.start, share, shares, successors) > room
     }
@@ -196,15 +190,14 @@ impl<const N: usize, const M: usize> Table<N, M> {
         ensures err { OnErr result (self.new ≡ self.old) }
     {
         let successors = parcel.successors();
-        enter_if_full(
+        make_room(
             &mut self.table,
             self.start,
             &mut self.last,
             &mut self.inbox,
-            &mut self.guesses,
             most,
-        );
-        make_room(&mut self.table, &mut self.inbox, successors)?;
+            successors,
+        )?;
         append_parcel(&mut self.inbox, share, shares, parcel);
         Ok(())
     }
@@ -215,8 +208,7 @@ impl<const N: usize, const M: usize> Table<N, M> {
         ensures same { self.new ≡ self.old }
     {
         let inbox = &mut self.inbox;
-        let guesses = &mut self.guesses;
-        enter_all(&mut self.table, self.start, &mut self.last, inbox, guesses);
+        enter_all(&mut self.table, self.start, &mut self.last, inbox);
         self.table.len()
     }
 
@@ -237,9 +229,7 @@ impl<const N: usize, const M: usize> Table<N, M> {
         ensures err { OnErr result (self.new ≡ self.old) }
     {
         let start = self.start;
-        let inbox = &mut self.inbox;
-        let guesses = &mut self.guesses;
-        enter_all(&mut self.table, start, &mut self.last, inbox, guesses);
+        enter_all(&mut self.table, start, &mut self.last, &mut self.inbox);
         arrange(&mut self.table, start)?;
         self.start = self.table.len();
         self.last = Origin::lowest();

@@ -4,11 +4,6 @@ use Rattle.store.proofs.Lasts.{let_in_last}
 use Rattle.store.proofs.Tails.{joined, let_in_kept, let_in_put}
 use Rattle.store.proofs.entering.enter.Goals as goal
 
-pub returns-then-is_known-clause-waiting : goal.returns-then-is_known-clause-waiting
-returns-then-is_known-clause-waiting g c =
-    let start = c.args.start in let es = c.args.table.now.entries in
-    let_in_kept (seen_of start es) (open_of start es) c.args.key.now c.args.origin (c.if-is_known.ensures refl)
-
 pub returns-then-is_kept-clause-waiting : goal.returns-then-is_kept-clause-waiting
 returns-then-is_kept-clause-waiting g c =
     let start = c.args.start in let es = c.args.table.now.entries in

@@ -14,11 +14,11 @@ loop-offer-preserved g c =
     let e : Entry Scene Push = c.offer-item.result in
     let more : take (i + 1) os ≡ take i os ++ e ∷ [] = take_more os i e c.loop-offer-test.true ∙
     ap (λ (x : Entry Scene Push). take i os ++ x ∷ []) (sym c.offer-item.is) in (
-      c.enter-place.ensures.waiting
+      c.enter.ensures.waiting
           ∙ (λ n. let_in (c.loop-offer.invariant.3 n) (c.loop-offer.invariant.0 n) e)
           ∙ sym (let_in_more (seen_of start es) (open_of start es) (take i os) e) ∙ ap (λ xs. all_let_in (seen_of start es) (open_of start es) xs) (sym more),
-      omega (arith, c.enter-place.ensures.room, c.loop-offer.invariant.1),
-      c.enter-place.ensures.found,
-      c.enter-place.ensures.seen ∙ c.loop-offer.invariant.3,
-      c.enter-place.ensures.last,
+      omega (arith, c.enter.ensures.room, c.loop-offer.invariant.1),
+      c.enter.ensures.found,
+      c.enter.ensures.seen ∙ c.loop-offer.invariant.3,
+      c.enter.ensures.last,
     )

@@ -1,4 +1,5 @@
-use Rattle.std.proofs.Common.{rules, ◌≡◌, None, sym, ap, not, Some, ◌||◌, ◌∙◌}
+use Rattle.std.proofs.Common.{rules, ◌≡◌, None, sym, ap, not, Some, ltb, ◌||◌, ◌∙◌}
+use Rattle.indexmap.specs.Entry.{MatchEntry, entry_index, entry_value}
 use Rattle.std.specs.Map.{lookup, keys_of}
 use Rattle.std.specs.List.{position_or_len}
 use Rattle.store.specs.Entries.{same_scene}
@@ -13,19 +14,19 @@ returns-in-Ok-Vacant-clause-kept g c =
     let there : lookup (same_scene c.copy.result) es ≡ None = search (rules, none) in
     absent_not_kept c.args.key.now c.args.origin c.args.start es c.requires.found (ap (λ k. lookup (same_scene k) es) (sym c.copy.ensures) ∙ there)
 
-pub returns-then-here-start-clause-kept : goal.returns-then-here-start-clause-kept
-returns-then-here-start-clause-kept g c =
+pub returns-then-index-start-clause-kept : goal.returns-then-index-start-clause-kept
+returns-then-index-start-clause-kept g c =
     let es = c.args.table.now.entries in
     let value = c.in-Ok-Occupied.ensures.value in
     let read = c.get-known.ensures in
     let there : lookup (same_scene c.copy.result) es ≡ Some c.get-known.result.now = search (rules, value, read) in
     let here = ap (λ k. lookup (same_scene k) es) (sym c.copy.ensures) ∙ there in
     let place = c.in-Ok-Occupied.ensures.index in
-    let told = c.index-here.ensures in
-    let stood : c.index-here.result ≡ position_or_len (same_scene c.copy.result) (keys_of es) = search (rules, place, told) in
+    let told = c.index.ensures in
+    let stood : c.index.result ≡ position_or_len (same_scene c.copy.result) (keys_of es) = search (rules, place, told) in
     let at = stood ∙ ap (λ k. position_or_len (same_scene k) (keys_of es)) c.copy.ensures in
-    closed_kept c.args.key.now c.args.origin c.args.start es c.index-here.result
-    (stands c.args.key.now c.get-known.result.now es c.index-here.result here at) c.if-here-start.true
+    closed_kept c.args.key.now c.args.origin c.args.start es c.index.result
+    (stands c.args.key.now c.get-known.result.now es c.index.result here at) c.if-index-start.true
 
 pub returns-then-not-is_before-clause-kept : goal.returns-then-not-is_before-clause-kept
 returns-then-not-is_before-clause-kept g c =
@@ -45,12 +46,12 @@ returns-then-not-exceeds-clause-kept g c =
     let there : lookup (same_scene c.copy.result) es ≡ Some c.get-known.result.now = search (rules, value, read) in
     let here = ap (λ k. lookup (same_scene k) es) (sym c.copy.ensures) ∙ there in
     let place = c.in-Ok-Occupied.ensures.index in
-    let told = c.index-here.ensures in
-    let stood : c.index-here.result ≡ position_or_len (same_scene c.copy.result) (keys_of es) = search (rules, place, told) in
+    let told = c.index.ensures in
+    let stood : c.index.result ≡ position_or_len (same_scene c.copy.result) (keys_of es) = search (rules, place, told) in
     let at = stood ∙ ap (λ k. position_or_len (same_scene k) (keys_of es)) c.copy.ensures in
-    ap not (sym c.if-not-exceeds.true) ∙ ap (λ b. b || not c.exceeds.result) (sym (not_below c.index-here.result c.args.start c.if-here-start.false)) ∙
-    there_kept c.args.key.now c.args.origin c.args.start es c.requires.found c.index-here.result c.get-known.result.now c.exceeds.result
-    (stands c.args.key.now c.get-known.result.now es c.index-here.result here at) here c.exceeds.ensures
+    ap not (sym c.if-not-exceeds.true) ∙ ap (λ b. b || not c.exceeds.result) (sym (not_below c.index.result c.args.start c.if-index-start.false)) ∙
+    there_kept c.args.key.now c.args.origin c.args.start es c.requires.found c.index.result c.get-known.result.now c.exceeds.result
+    (stands c.args.key.now c.get-known.result.now es c.index.result here at) here c.exceeds.ensures
 
 pub returns-else-not-exceeds-clause-kept : goal.returns-else-not-exceeds-clause-kept
 returns-else-not-exceeds-clause-kept g c =
@@ -60,9 +61,9 @@ returns-else-not-exceeds-clause-kept g c =
     let there : lookup (same_scene c.copy.result) es ≡ Some c.get-known.result.now = search (rules, value, read) in
     let here = ap (λ k. lookup (same_scene k) es) (sym c.copy.ensures) ∙ there in
     let place = c.in-Ok-Occupied.ensures.index in
-    let told = c.index-here.ensures in
-    let stood : c.index-here.result ≡ position_or_len (same_scene c.copy.result) (keys_of es) = search (rules, place, told) in
+    let told = c.index.ensures in
+    let stood : c.index.result ≡ position_or_len (same_scene c.copy.result) (keys_of es) = search (rules, place, told) in
     let at = stood ∙ ap (λ k. position_or_len (same_scene k) (keys_of es)) c.copy.ensures in
-    ap not (sym c.if-not-exceeds.false) ∙ ap (λ b. b || not c.exceeds.result) (sym (not_below c.index-here.result c.args.start c.if-here-start.false)) ∙
-    there_kept c.args.key.now c.args.origin c.args.start es c.requires.found c.index-here.result c.get-known.result.now c.exceeds.result
-    (stands c.args.key.now c.get-known.result.now es c.index-here.result here at) here c.exceeds.ensures
+    ap not (sym c.if-not-exceeds.false) ∙ ap (λ b. b || not c.exceeds.result) (sym (not_below c.index.result c.args.start c.if-index-start.false)) ∙
+    there_kept c.args.key.now c.args.origin c.args.start es c.requires.found c.index.result c.get-known.result.now c.exceeds.result
+    (stands c.args.key.now c.get-known.result.now es c.index.result here at) here c.exceeds.ensures

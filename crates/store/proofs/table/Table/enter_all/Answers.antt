@@ -1,6 +1,6 @@
-use Rattle.std.proofs.Common.{rules, ap, sym, subst, ◌∙◌, length, arith}
+use Rattle.std.proofs.Common.{rules, ap, ◌∙◌, length, arith}
 use Rattle.std.proofs.lemmas.List.{length-append}
-use Rattle.store.specs.FoundView.{IsFound, NoneExceed, found_view, offers_of, open_of}
+use Rattle.store.specs.FoundView.{found_view, offers_of}
 use Rattle.store.proofs.Inboxes.{length-offers, offers_appended, on_err}
 use Rattle.store.proofs.Bytes.{found_suit}
 use Rattle.store.proofs.table.Table.enter_all.Goals as goal
@@ -26,28 +26,15 @@ append_parcel-requires g c =
     )
 
 pub returns-in_err-make_room-clause-err : goal.returns-in_err-make_room-clause-err
-returns-in_err-make_room-clause-err g c =
-    let a = c.self.inside in
-    on_err c.from_residual.result ((λ i. found_view a.boxes a.squares a.start (c.make_room.ensures.entries i) (c.make_room.ensures.items i)) ∙
-    c.enter_if_full.ensures.same a.boxes a.squares ∙ c.self.view_is)
-
-pub invariant_of-self : goal.invariant_of-self
-invariant_of-self g c =
-    let start = c.self.inside.start in (
-      c.self.invariant.0,
-      c.self.invariant.1,
-      subst (IsFound start) (sym c.make_room.ensures.entries) c.enter_if_full.ensures.found,
-      c.make_room.ensures.room,
-      subst (λ es. NoneExceed (open_of start es) c.enter_if_full.new.last) (sym c.make_room.ensures.entries) c.enter_if_full.ensures.last,
-    )
+returns-in_err-make_room-clause-err g c = on_err c.from_residual.result (c.make_room.ensures.same c.self.inside.boxes c.self.inside.squares ∙ c.self.view_is)
 
 pub invariant_of-self-2 : goal.invariant_of-self-2
 invariant_of-self-2 g c =
     let p = c.args.parcel.now in
-    let offers = offers_of c.args.shares c.args.share p.rank p.successors in let start = c.self.inside.start in (
+    let offers = offers_of c.args.shares c.args.share p.rank p.successors in (
       c.self.invariant.0,
       c.self.invariant.1,
-      subst (IsFound start) (sym c.make_room.ensures.entries) c.enter_if_full.ensures.found,
+      c.make_room.ensures.found,
       omega (
         arith,
         ap length c.append_parcel.ensures,
@@ -56,7 +43,7 @@ invariant_of-self-2 g c =
         ap length c.successors-successors.ensures,
         c.in_ok-make_room.ensures.ok.0,
       ),
-      subst (λ es. NoneExceed (open_of start es) c.enter_if_full.new.last) (sym c.make_room.ensures.entries) c.enter_if_full.ensures.last,
+      c.make_room.ensures.last,
     )
 
 pub returns-clause-ok : goal.returns-clause-ok
@@ -65,5 +52,4 @@ returns-clause-ok g c =
     let es = c.make_room.new.table.entries in let waits = c.make_room.new.inbox.items in
     ap (found_view a.boxes a.squares a.start es) c.append_parcel.ensures
     ∙ offers_appended a.boxes a.squares a.start c.args.shares c.args.share p.rank es waits p.successors c.args.self.now
-    ((λ i. found_view a.boxes a.squares a.start (c.make_room.ensures.entries i) (c.make_room.ensures.items i)) ∙
-    c.enter_if_full.ensures.same a.boxes a.squares ∙ c.self.view_is)
+    (c.make_room.ensures.same a.boxes a.squares ∙ c.self.view_is)
