@@ -19,7 +19,8 @@ pub(crate) const TWO_ENDS: &[u8] = b"#######\n#.$@$.#\n#######\n";
 pub(crate) const THERE_AND_BACK: &[u8] = b"8#|4#3-#|#.@$3-#|4#3-#|8#\n";
 
 /// Two boxes side by side, with their goals beyond.
-pub(crate) const BLOCKED: &[u8] = b"#######\n#     #\n#     #\n#@$$..#\n#     #\n#     #\n#######\n";
+pub(crate) const BLOCKED: &[u8] =
+    b"#######\n#     #\n#     #\n#@$$..#\n#     #\n#     #\n#######\n";
 
 /// Two boxes side by side along a wall.
 pub(crate) const FROZEN: &[u8] = b"######\n#.$$.#\n#  @ #\n######\n";
