@@ -136,15 +136,14 @@ fn with_looks<'a>(alloc: Global, line: Command<'a>) -> Result<Command<'a>, Alloc
         .subcommand(dead_command(alloc)?)
 }
 
-/// A command line with the subcommands that replay, solve and prove.
+/// A command line with the subcommands that replay and solve.
 fn with_plays<'a>(
     alloc: Global,
     line: Command<'a>,
     notes: &'a Notes,
 ) -> Result<Command<'a>, AllocError> {
     line.subcommand(replay_command(alloc, notes.replay.as_str())?)?
-        .subcommand(solve_command(alloc, notes.solve.as_str())?)?
-        .subcommand(prove_command(alloc, notes.prove.as_str())?)
+        .subcommand(solve_command(alloc, notes.solve.as_str())?)
 }
 
 /// The command line that the program understands; the notes end its helps.
@@ -152,7 +151,8 @@ fn command<'a>(alloc: Global, notes: &'a Notes) -> Result<Command<'a>, AllocErro
     let bare = bare_command(alloc, notes.program.as_str())?;
     let checks = bare.subcommand(check_command(alloc, notes.check.as_str())?)?;
     let looks = with_looks(alloc, checks)?;
-    with_plays(alloc, looks, notes)
+    let plays = with_plays(alloc, looks, notes)?;
+    plays.subcommand(prove_command(alloc, notes.prove.as_str())?)
 }
 
 /// A value that its argument does not take.
