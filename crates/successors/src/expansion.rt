@@ -108,12 +108,14 @@ fn successors_of(
 {
     let position = &source.position;
     area::possible_pushes(level, position, scratch, &mut sheet.pushes);
+    sheet.dangers.find(level, dead, scratch);
     let total = box_sum(position);
     let site = Site {
         level,
         dead,
         position,
         total,
+        dangers: &sheet.dangers,
     };
     let count = successors_by(&site, sheet.pushes.as_slice(), scratch, &mut sheet.slots);
     let Some(most) = source.cap else {

@@ -7,6 +7,7 @@ use crate::dealing::{Deal, MOST_DEALT};
 use crate::limits::MAX_SUCCESSORS;
 use crate::task::Task;
 use arrayvec::ArrayVec;
+use doom::Dangers;
 use grid::{Level, Position, Push};
 use std::marker::Model;
 
@@ -38,10 +39,12 @@ impl Slots {
     }
 }
 
-/// What a position is expanded on: the pushes that are tried, and the slots that their successors are written to.
+/// What a position is expanded on: the pushes that are tried, where they may bring a box to be held, and the slots that
+/// their successors are written to.
 #[derive(Debug, Drop)]
 pub(crate) struct Sheet {
     pub(crate) pushes: ArrayVec<Push, MAX_SUCCESSORS>,
+    pub(crate) dangers: Dangers,
     pub(crate) slots: Slots,
 }
 
@@ -53,6 +56,7 @@ impl Sheet {
     {
         Sheet {
             pushes: ArrayVec::new(),
+            dangers: Dangers::unknown(),
             slots: Slots::new(),
         }
     }

@@ -1,7 +1,8 @@
 //! What the pushes of a position lead to, made in the slots of a parcel.
 ghost use Rattle.std.specs.Prelude.{◌≡◌, ℕ, ◌+◌, ◌*◌, ◌<◌, ◌≤◌, ◌++◌, ◌∷◌, [], IsTrue, false, length, sum, take};
-ghost use Rattle.grid.specs.Board.{Scene};
+ghost use Rattle.grid.specs.Board.{Scene, next};
 ghost use Rattle.grid.specs.States.{FitsLevel};
+ghost use Rattle.doom.specs.Deadlocks.{IsDead};
 ghost use Rattle.successors.specs.ParcelView.{AreSuccessors, FitLevel, IsAppended};
 ghost use Rattle.successors.specs.Expansion.{IsSuccessor};
 ghost use Rattle.successors.specs.Capping.{uncapped};
@@ -14,16 +15,18 @@ use crate::parcel::{Slots, Successor};
 use crate::sums::box_sum;
 use area::Scratch;
 use arrayvec::ArrayVec;
-use doom::Dead;
+use doom::{Dangers, Dead};
 use grid::{Level, MAX_BOXES, Position, Push, Square};
 
-/// A position that is expanded: its level with the dead squares, and the sum of the squares of its boxes.
+/// A position that is expanded: its level with the dead squares, the sum of the squares of its boxes, and where pushes may bring
+/// one of them to be held.
 #[derive(Drop)]
 pub(crate) struct Site<'a> {
     pub(crate) level: &'a Level,
     pub(crate) dead: &'a Dead,
     pub(crate) position: &'a Position,
     pub(crate) total: u32,
+    pub(crate) dangers: &'a Dangers,
 }
 
 /// Writes what the pushes lead to over the first slots, but for doomed positions, where the last flood was that of the
@@ -144,8 +147,8 @@ fn put_sum(sums: &mut ArrayVec<u32, MAX_SUCCESSORS>, count: usize, sum: u32)
     }
 }
 
-// Writes a push and what it leads to into a slot, where the last flood was that of the position before it; `false`
-// exactly where that is doomed.
+// Writes a push to a square that is not dead and what it leads to into a slot, where the last flood was that of the position
+// before it; `false` exactly where that is doomed.
 fn make_successor(
     site: &Site<'_>,
     place: usize,
@@ -155,6 +158,7 @@ fn make_successor(
 ) -> bool
     requires ready { IsReady site.now scratch.old }
     requires possible { CanPush site.now.level.now site.now.position.now push }
+    requires live { ¬ (IsDead site.now.level.now (next site.now.level.now push.square push.dir)) }
     ensures push { slot.new.push ≡ push }
     ensures some { IsTrue result → IsSuccessor site.now.level.now site.now.position.now push slot.new.position
         × FitsLevel site.now.level.now slot.new.position }
@@ -170,9 +174,8 @@ fn make_successor(
     let moved = &mut slot.position;
     moved.copy_from(position);
     moved.push_at(place, square, ahead);
-    if !doom::is_loose(level, dead, scratch, Push { square, dir })
-        && doom::push_dooms(level, dead, moved, Push { square, dir }, scratch)
-    {
+    let spared = site.dangers.spare(ahead, dir);
+    if !spared && doom::push_dooms(level, dead, moved, Push { square, dir }, scratch) {
         return false;
     }
     area::normalise_after(level, position, Push { square, dir }, moved, scratch);

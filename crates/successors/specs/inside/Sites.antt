@@ -5,12 +5,13 @@ use Rattle.grid.specs.States.{FitsLevel}
 use Rattle.area.specs.After.{IsAreaOf}
 use Rattle.area.specs.Reach.{Reach}
 use Rattle.doom.specs.Deadlocks.{Undoomed}
+use Rattle.doom.specs.inside.Dangers.{AreDangers}
 use Rattle.successors.specs.declared.parcel.Slots.{Slots}
 use Rattle.successors.specs.declared.pushing.Site.{Site}
 use Rattle.successors.specs.inside.Sums.{AreSums}
 
 -- the position is one of its level and not doomed, the dead squares are the level's, the sum is that of the boxes' squares, and
--- the last flood was that of the position
+-- the last flood was that of the position; the dangers are those of its boxes
 pub record IsReady (site : Site) (reach : Reach) : Type 0 where
   pub fits : FitsLevel site.level.now site.position.now
   pub undoomed : Undoomed site.level.now site.position.now
@@ -19,6 +20,7 @@ pub record IsReady (site : Site) (reach : Reach) : Type 0 where
   pub flooded : IsAreaOf site.level.now site.position.now reach.reached
   pub boxes : reach.boxes ≡ site.position.now.boxes
   pub total : site.total ≡ sum site.position.now.boxes
+  pub dangers : AreDangers site.level.now reach.boxes site.dangers.now.words.items
   pub small : site.total ≤ 65535 * MAX_BOXES
 
 -- the first so many slots hold successors, each with its sum beside it

@@ -1,4 +1,5 @@
-use Rattle.std.proofs.Common.{◌≡◌, ◌+◌, ℕ, sum, inl, inr, refl, ap, subst, ◌∙◌, arith}
+use Rattle.std.proofs.Common.{◌≡◌, ◌+◌, ℕ, sum, inl, inr, refl, sym, ap, subst, ◌∙◌, arith}
+use Rattle.std.proofs.lemmas.Bool.{false≢true}
 use Rattle.grid.specs.Squares.{remove}
 use Rattle.grid.specs.Board.{next}
 use Rattle.grid.proofs.lemmas.Squares.{contains-insert_here}
@@ -61,3 +62,9 @@ sum_after-sum-requires-clause-moved c =
     let sums = pushed_sums board n c.requires.ready.fits.scene c.args.push c.make_successor-made.new.slot.position come.0 in
     subst (λ (s : Successor). c.args.site.now.total + c.next-ahead.result ≡ sum s.position.boxes + c.args.push.square) c.index-as_slice-count.is
     (omega (arith, c.requires.ready.total, ahead, boxes, sums))
+
+pub make_successor-made-requires-clause-live : goal.make_successor-made-requires-clause-live
+make_successor-made-requires-clause-live c = λ dead.
+    let board = c.args.site.now.level.now in
+    false≢true (sym c.if-is_dead.false ∙ c.is_dead.ensures.dead.1 (subst (λ b. IsDead b c.next-ahead.result) (sym c.requires.ready.dead_of_level)
+    (subst (λ (q : ℕ). IsDead board q) (sym c.next-ahead.ensures) dead)))
