@@ -15,3 +15,4 @@ pub mod Widening
 pub mod EarlyEnds
 pub mod Chains
 pub mod PushLists
+pub mod Unused

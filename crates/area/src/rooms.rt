@@ -6,7 +6,7 @@ ghost use Rattle.grid.specs.Lawful.{InRoom};
 ghost use Rattle.grid.specs.Masks.{has_bit, word_count};
 ghost use Rattle.area.specs.Words.{word_bit};
 ghost use Rattle.area.specs.inside.Flooding.{HasAim, IsGrowing, IsFlooded, IsGrown};
-ghost use Rattle.area.specs.inside.RoomFloods.{IsBeside, IsRound, IsVisit, IsWidened, PassesAlong, PassesOver};
+ghost use Rattle.area.specs.inside.RoomFloods.{AreUnused, IsBeside, IsRound, IsVisit, IsWidened, PassesAlong, PassesOver};
 
 use crate::bits::{after, before, just_after, just_before};
 use crate::floods::{fill, has_aim, run_up, step_down};
@@ -58,7 +58,7 @@ fn leave_clear(squares: &[u64], words: &mut [u64])
 }
 
 // Adds to a set all free numbers that are come to from it over free numbers, each beside the one before. Where an aim is
-// given, it may end as soon as the set has that.
+// given, it may end as soon as the set has that. Words that have nothing after all others are left aside.
 fn widen(cols: usize, free: &[u64], aim: &Option<Square>, reached: &mut [u64])
     requires columns { 1 ≤ cols }
     requires room { length reached.old ≡ length free.now }
@@ -66,13 +66,46 @@ fn widen(cols: usize, free: &[u64], aim: &Option<Square>, reached: &mut [u64])
     ensures ended { HasAim aim.now reached.new ⊎ PassesOver cols free.now (has_bit reached.new) }
 {
     if cols < WORD_BITS {
-        match free.len() {
-            1 => return widen_few::<1>(cols, free, reached),
-            2 => return widen_few::<2>(cols, free, reached),
+        match used(free, reached) {
+            1 => return widen_first::<1>(cols, free, reached),
+            2 => return widen_first::<2>(cols, free, reached),
             _ => (),
         }
     }
     widen_many(cols, free, aim, reached);
+}
+
+// How many words there are up to the last in which one of two sets has a number.
+fn used(free: &[u64], reached: &[u64]) -> usize
+    requires room { length reached.now ≡ length free.now }
+    ensures bound { result ≤ length free.now }
+    ensures rest { AreUnused result free.now reached.now }
+{
+    let mut words = free.len();
+    while words > 0 {
+        if free[words - 1] != 0 {
+            return words;
+        }
+        if reached[words - 1] != 0 {
+            return words;
+        }
+        words -= 1;
+    }
+    words
+}
+
+// What `widen` does without an aim, where after the first so many words there is no number.
+fn widen_first<const W: usize>(cols: usize, free: &[u64], reached: &mut [u64])
+    requires columns { 1 ≤ cols }
+    requires near { cols < WORD_BITS }
+    requires few { W ≤ 2 }
+    requires room { length reached.old ≡ length free.now }
+    requires words { W ≤ length free.now }
+    requires rest { AreUnused W free.now reached.old }
+    ensures widened { IsWidened cols free.now reached.old reached.new }
+    ensures whole { PassesOver cols free.now (has_bit reached.new) }
+{
+    widen_few::<W>(cols, &free[..W], &mut reached[..W]);
 }
 
 // The same without an aim, of so few words that they stay in registers.

@@ -18,12 +18,12 @@ use Rattle.doom.proofs.Beside.{held_fast, held_cases, floor_ahead, floor_behind,
 
 -- ---- how far off the squares beside one are
 
-below_of : (board : Board) (q : ℕ) → next board q D < length board.cells → next board q D ≡ q + board.cols
+pub below_of : (board : Board) (q : ℕ) → next board q D < length board.cells → next board q D ≡ q + board.cols
 unfolding next
 below_of board q = cond_both (ltb (q + board.cols) (length board.cells)) (q + board.cols) (length board.cells) (λ (x : ℕ). x < length board.cells →
     x ≡ q + board.cols) (λ e lt. refl) (λ e lt. absurd (omega arith))
 
-above_of : (board : Board) (q : ℕ) → next board q U < length board.cells → next board q U + board.cols ≡ q
+pub above_of : (board : Board) (q : ℕ) → next board q U < length board.cells → next board q U + board.cols ≡ q
 unfolding next
 above_of board q = cond_both (ltb q board.cols) (length board.cells) (q - board.cols) (λ (x : ℕ). x < length board.cells →
     x + board.cols ≡ q) (λ e lt. absurd (omega arith)) (λ e lt. (let le = ltb-false q board.cols e in omega arith))

@@ -8,3 +8,4 @@ pub mod Beside
 pub mod Parting
 pub mod Passes
 pub mod Gathered
+pub mod Spared

@@ -4,3 +4,4 @@ pub mod Peeling
 pub mod Pulling
 pub mod Locking
 pub mod Gathering
+pub mod Dangers

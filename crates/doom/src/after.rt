@@ -8,6 +8,7 @@ ghost use Rattle.doom.specs.Pushed.{AreOthersFrozen, ComeUndoomed, DoomedFrom, I
 
 use crate::dead::Dead;
 use crate::locked::any_locked_with;
+use crate::loose::is_loose;
 use crate::small::locked_after_push;
 use area::Scratch;
 use grid::{Level, Position, Push, Square};
@@ -45,7 +46,7 @@ pub fn doomed_after(
 /// What [`doomed_after`] says of the push of one of the boxes round which the last flood went, where these are not doomed:
 /// for a search that keeps its boxes as a set. It looks at no box of which that function does not ask. In small rooms it
 /// follows the pushed box's group in words, by way of the boxes that are held on both axes, and ends as soon as nothing
-/// holds the pushed one; elsewhere it asks that function. Takes no memory.
+/// holds the pushed one; elsewhere it asks that function, unless the pushed box is loose. Takes no memory.
 pub fn push_dooms(
     level: &Level,
     dead: &Dead,
@@ -70,7 +71,10 @@ pub fn push_dooms(
     }
     match locked_after_push(level, dead.holds(), square, ahead, scratch) {
         Some(locked) => locked,
-        None => doomed_after(level, dead, position, Push { square, dir }, scratch),
+        None => {
+            !is_loose(level, dead, scratch, Push { square, dir })
+                && doomed_after(level, dead, position, Push { square, dir }, scratch)
+        }
     }
 }
 

@@ -12,6 +12,7 @@
 
 mod after;
 mod bound;
+mod dangers;
 mod dead;
 mod freeze;
 mod holds;
@@ -25,6 +26,7 @@ mod tests;
 
 pub use after::{doomed_after, push_dooms};
 pub use bound::Bound;
+pub use dangers::Dangers;
 pub use dead::Dead;
 pub use freeze::doomed;
 pub use holds::Holds;

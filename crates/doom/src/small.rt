@@ -13,7 +13,7 @@ use area::bits::{put, take_out};
 use grid::{Level, Square, WORD_BITS};
 
 /// The greatest number of words that a small room has.
-const MOST_WORDS: usize = 4;
+pub(crate) const MOST_WORDS: usize = 4;
 
 /// Whether some of the boxes are locked once one of them was pushed from one square to another, where of the boxes round
 /// which the last flood went none were. Only boxes that hang together with the pushed one are asked, and the search ends as

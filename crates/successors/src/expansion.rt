@@ -1,19 +1,18 @@
-ghost use Rattle.std.specs.Prelude.{◌≡◌, ◌≤◌, MatchOption, None, length, take};
+ghost use Rattle.std.specs.Prelude.{◌≡◌, MatchOption, None, length, take};
 ghost use Rattle.successors.specs.ParcelView.{AreSuccessors, IsParcel, IsSource};
 ghost use Rattle.successors.specs.Capping.{capped};
 ghost use Rattle.successors.specs.inside.ParcelInside.{parcel_of};
-ghost use Rattle.successors.specs.inside.Sums.{AreSums};
+ghost use Rattle.successors.specs.inside.Sites.{AreFilled};
 
 use crate::dealing::Deal;
-use crate::limits::MAX_SUCCESSORS;
-use crate::parcel::{Parcel, Slots};
+use crate::parcel::{Parcel, Sheet};
 use crate::pruner::Pruner;
 use crate::pruning::keep_admitted;
-use crate::pushing::successors_by;
+use crate::pushing::{Site, successors_by};
+use crate::sums::box_sum;
 use area::Scratch;
-use arrayvec::ArrayVec;
 use doom::{Bound, Dead};
-use grid::{Level, Position, Push};
+use grid::{Level, Position};
 
 /// A position that is expanded, and where it stands: its rank in a layer of its level under a cap, or under none.
 #[derive(Debug, Drop)]
@@ -42,26 +41,16 @@ impl<'a> Parcel<'a> {
         ensures successors { AreSuccessors (capped level.now source.now.cap) source.now.layer source.now.position result.successors }
         ensures size { scratch.new.size ≡ scratch.old.size }
     {
-        let mut pushes = ArrayVec::new();
         let mut parcel = Parcel {
             level,
             cap: source.cap,
             layer: source.layer,
             rank: source.rank,
-            slots: Slots::new(),
+            sheet: Sheet::new(),
             count: 0,
             deal: Deal::none(),
-            pushes: ArrayVec::new(),
         };
-        parcel.count = successors_of(
-            level,
-            source,
-            dead,
-            bound,
-            scratch,
-            &mut pushes,
-            &mut parcel.slots,
-        );
+        parcel.count = successors_of(level, source, dead, bound, scratch, &mut parcel.sheet);
         parcel
     }
 
@@ -92,8 +81,7 @@ impl<'a> Parcel<'a> {
             pruner.dead(),
             pruner.bound().as_ref(),
             scratch,
-            &mut self.pushes,
-            &mut self.slots,
+            &mut self.sheet,
         );
     }
 }
@@ -107,22 +95,29 @@ fn successors_of(
     dead: &Dead,
     bound: Option<&Bound>,
     scratch: &mut Scratch,
-    pushes: &mut ArrayVec<Push, MAX_SUCCESSORS>,
-    slots: &mut Slots,
+    sheet: &mut Sheet,
 ) -> usize
     requires source { IsSource level.now source.now }
     requires dead_of_level { dead.now ≡ level.now }
     requires bound_of_level { MatchOption bound (source.now.cap ≡ None) (λ b. b.now ≡ level.now) }
     requires room { scratch.old.size ≡ length level.now.cells }
-    ensures filled { result ≤ length slots.new.successors.items }
-    ensures sums { AreSums (take result slots.new.successors.items) (take result slots.new.sums.items) }
-    ensures parcel { IsParcel (parcel_of (capped level.now source.now.cap) source.now.layer source.now.rank slots.new.successors.items result) }
-    ensures successors { AreSuccessors (capped level.now source.now.cap) source.now.layer source.now.position (take result slots.new.successors.items) }
+    ensures filled { AreFilled result sheet.new.slots }
+    ensures parcel { IsParcel (parcel_of (capped level.now source.now.cap) source.now.layer source.now.rank sheet.new.slots.successors.items result) }
+    ensures successors { AreSuccessors (capped level.now source.now.cap) source.now.layer source.now.position (take result sheet.new.slots.successors.items) }
     ensures size { scratch.new.size ≡ scratch.old.size }
 {
     let position = &source.position;
-    area::possible_pushes(level, position, scratch, pushes);
-    let count = successors_by(level, dead, position, pushes.as_slice(), scratch, slots);
+    area::possible_pushes(level, position, scratch, &mut sheet.pushes);
+    sheet.dangers.find(level, dead, scratch);
+    let total = box_sum(position);
+    let site = Site {
+        level,
+        dead,
+        position,
+        total,
+        dangers: &sheet.dangers,
+    };
+    let count = successors_by(&site, sheet.pushes.as_slice(), scratch, &mut sheet.slots);
     let Some(most) = source.cap else {
         return count;
     };
@@ -133,8 +128,8 @@ fn successors_of(
         bound,
         most,
         source.layer,
-        slots.successors.as_mut_slice(),
-        slots.sums.as_mut_slice(),
+        sheet.slots.successors.as_mut_slice(),
+        sheet.slots.sums.as_mut_slice(),
         count,
     )
 }

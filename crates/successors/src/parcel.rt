@@ -7,6 +7,7 @@ use crate::dealing::{Deal, MOST_DEALT};
 use crate::limits::MAX_SUCCESSORS;
 use crate::task::Task;
 use arrayvec::ArrayVec;
+use doom::Dangers;
 use grid::{Level, Position, Push};
 use std::marker::Model;
 
@@ -38,6 +39,29 @@ impl Slots {
     }
 }
 
+/// What a position is expanded on: the pushes that are tried, where they may bring a box to be held, and the slots that
+/// their successors are written to.
+#[derive(Debug, Drop)]
+pub(crate) struct Sheet {
+    pub(crate) pushes: ArrayVec<Push, MAX_SUCCESSORS>,
+    pub(crate) dangers: Dangers,
+    pub(crate) slots: Slots,
+}
+
+impl Sheet {
+    /// One that holds nothing.
+    pub(crate) fn new() -> Sheet
+        ensures successors { result.slots.successors.items ≡ [] }
+        ensures sums { result.slots.sums.items ≡ [] }
+    {
+        Sheet {
+            pushes: ArrayVec::new(),
+            dangers: Dangers::unknown(),
+            slots: Slots::new(),
+        }
+    }
+}
+
 /// The undoomed successors of the position with a rank of a layer that are admitted in the next one, in the order of their
 /// pushes.
 #[derive(Debug, Drop)]
@@ -46,13 +70,11 @@ pub struct Parcel<'a> {
     pub(crate) cap: Option<u32>,
     pub(crate) layer: u64,
     pub(crate) rank: u64,
-    // the first so many of these are the successors and their sums
-    pub(crate) slots: Slots,
+    // the first so many of its slots are the successors and their sums
+    pub(crate) sheet: Sheet,
     pub(crate) count: usize,
     // how the successors are dealt to shares, if they are
     pub(crate) deal: Deal,
-    // the pushes that are tried for a rank
-    pub(crate) pushes: ArrayVec<Push, MAX_SUCCESSORS>,
 }
 
 impl<'a> Model for Parcel<'a> {
@@ -65,12 +87,12 @@ impl<'a> Model for Parcel<'a> {
 
     ghost Value = { ParcelView };
 
-    ghost view = { λ a. parcel_of (capped a.level.now a.cap) a.layer a.rank a.slots.successors.items a.count };
+    ghost view = { λ a. parcel_of (capped a.level.now a.cap) a.layer a.rank a.sheet.slots.successors.items a.count };
 
-    ghost invariant = { λ a. (a.count ≤ length a.slots.successors.items)
-        × AreSums (take a.count a.slots.successors.items) (take a.count a.slots.sums.items)
-        × IsDealt a.deal.shares a.deal.rows a.deal.lens (take a.count a.slots.sums.items)
-        × IsParcel (parcel_of (capped a.level.now a.cap) a.layer a.rank a.slots.successors.items a.count) };
+    ghost invariant = { λ a. (a.count ≤ length a.sheet.slots.successors.items)
+        × AreSums (take a.count a.sheet.slots.successors.items) (take a.count a.sheet.slots.sums.items)
+        × IsDealt a.deal.shares a.deal.rows a.deal.lens (take a.count a.sheet.slots.sums.items)
+        × IsParcel (parcel_of (capped a.level.now a.cap) a.layer a.rank a.sheet.slots.successors.items a.count) };
 }
 
 impl<'a> Parcel<'a> {
@@ -78,7 +100,7 @@ impl<'a> Parcel<'a> {
     pub fn tell(&self)
         ensures { IsParcel self.now }
     {
-        let _ = &self.slots;
+        let _ = &self.sheet;
     }
 
     /// The level.
@@ -120,14 +142,14 @@ impl<'a> Parcel<'a> {
     pub fn successors(&self) -> &[Successor]
         ensures { result.now ≡ self.now.successors }
     {
-        &self.slots.successors.as_slice()[..self.count]
+        &self.sheet.slots.successors.as_slice()[..self.count]
     }
 
     /// The sum of the squares of each successor's position. It is public for those that store successors by their shares.
     pub fn sums(&self) -> &[u32]
         ensures { AreSums self.now.successors result.now }
     {
-        &self.slots.sums.as_slice()[..self.count]
+        &self.sheet.slots.sums.as_slice()[..self.count]
     }
 
     /// Deals the successors to so many shares, so that a book that is one of so many need not look at those of the others.
@@ -135,7 +157,7 @@ impl<'a> Parcel<'a> {
     pub fn deal(&mut self, shares: u8)
         ensures { self.new ≡ self.old }
     {
-        let sums = &self.slots.sums.as_slice()[..self.count];
+        let sums = &self.sheet.slots.sums.as_slice()[..self.count];
         self.deal.deal(shares, sums);
     }
 

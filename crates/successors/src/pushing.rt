@@ -1,56 +1,56 @@
 //! What the pushes of a position lead to, made in the slots of a parcel.
 ghost use Rattle.std.specs.Prelude.{◌≡◌, ℕ, ◌+◌, ◌*◌, ◌<◌, ◌≤◌, ◌++◌, ◌∷◌, [], IsTrue, false, length, sum, take};
-ghost use Rattle.grid.specs.Board.{Scene};
+ghost use Rattle.grid.specs.Board.{Scene, next};
 ghost use Rattle.grid.specs.States.{FitsLevel};
-ghost use Rattle.doom.specs.Deadlocks.{Undoomed};
+ghost use Rattle.doom.specs.Deadlocks.{IsDead};
 ghost use Rattle.successors.specs.ParcelView.{AreSuccessors, FitLevel, IsAppended};
 ghost use Rattle.successors.specs.Expansion.{IsSuccessor};
 ghost use Rattle.successors.specs.Capping.{uncapped};
 ghost use Rattle.area.specs.Pushes.{ArePushes, CanPush};
-ghost use Rattle.area.specs.After.{IsAreaOf};
-ghost use Rattle.successors.specs.inside.Sums.{AreSums, scene_sum};
+ghost use Rattle.successors.specs.inside.Sites.{AreFilled, IsReady};
+ghost use Rattle.successors.specs.inside.Sums.{scene_sum};
 
 use crate::limits::MAX_SUCCESSORS;
 use crate::parcel::{Slots, Successor};
 use crate::sums::box_sum;
 use area::Scratch;
 use arrayvec::ArrayVec;
-use doom::Dead;
+use doom::{Dangers, Dead};
 use grid::{Level, MAX_BOXES, Position, Push, Square};
+
+/// A position that is expanded: its level with the dead squares, the sum of the squares of its boxes, and where pushes may bring
+/// one of them to be held.
+#[derive(Drop)]
+pub(crate) struct Site<'a> {
+    pub(crate) level: &'a Level,
+    pub(crate) dead: &'a Dead,
+    pub(crate) position: &'a Position,
+    pub(crate) total: u32,
+    pub(crate) dangers: &'a Dangers,
+}
 
 /// Writes what the pushes lead to over the first slots, but for doomed positions, where the last flood was that of the
 /// position, and tells how many there are.
 pub(crate) fn successors_by(
-    level: &Level,
-    dead: &Dead,
-    position: &Position,
+    site: &Site<'_>,
     pushes: &[Push],
     scratch: &mut Scratch,
     slots: &mut Slots,
 ) -> usize
-    requires fits { FitsLevel level.now position.now }
-    requires undoomed { Undoomed level.now position.now }
-    requires dead_of_level { dead.now ≡ level.now }
-    requires room { scratch.old.size ≡ length level.now.cells }
-    requires flooded { IsAreaOf level.now position.now scratch.old.reached }
-    requires boxes { scratch.old.boxes ≡ position.now.boxes }
-    requires pushes { ArePushes level.now position.now pushes.now }
+    requires ready { IsReady site.now scratch.old }
+    requires pushes { ArePushes site.now.level.now site.now.position.now pushes.now }
     requires bound { length pushes.now ≤ MAX_SUCCESSORS }
-    ensures filled { result ≤ length slots.new.successors.items }
-    ensures successors { (layer : ℕ) → AreSuccessors (uncapped level.now) layer position.now (take result slots.new.successors.items) }
-    ensures fits { FitLevel level.now (take result slots.new.successors.items) }
-    ensures sums { AreSums (take result slots.new.successors.items) (take result slots.new.sums.items) }
+    ensures filled { AreFilled result slots.new }
+    ensures successors { (layer : ℕ) → AreSuccessors (uncapped site.now.level.now) layer site.now.position.now (take result slots.new.successors.items) }
+    ensures fits { FitLevel site.now.level.now (take result slots.new.successors.items) }
     ensures kept { scratch.new ≡ scratch.old }
 {
-    let total = box_sum(position);
-    let boxes = position.boxes();
+    let boxes = site.position.boxes();
     let mut place = 0;
     let mut count = 0;
     for push in pushes {
         place = box_from(boxes, place, push.square);
-        count = append_successor(
-            level, dead, position, total, place, *push, scratch, slots, count,
-        );
+        count = append_successor(site, place, *push, scratch, slots, count);
     }
     count
 }
@@ -65,48 +65,35 @@ fn box_from(boxes: &[Square], place: usize, square: Square) -> usize {
     place
 }
 
-// Writes what a push leads to after the first so many slots, where the last flood was that of the position before it,
-// whose box squares have this sum, and tells how many are held then; none more exactly where that is doomed. The position
+// Writes what a push leads to after the first so many slots, where the last flood was that of the position before it, whose
+// box is looked for at a place first, and tells how many are held then; none more exactly where that is doomed. The position
 // is made in its slot, so that it is not copied there.
 fn append_successor(
-    level: &Level,
-    dead: &Dead,
-    position: &Position,
-    total: u32,
+    site: &Site<'_>,
     place: usize,
     push: Push,
     scratch: &mut Scratch,
     slots: &mut Slots,
     count: usize,
 ) -> usize
-    requires fits { FitsLevel level.now position.now }
-    requires undoomed { Undoomed level.now position.now }
-    requires dead_of_level { dead.now ≡ level.now }
-    requires room { scratch.old.size ≡ length level.now.cells }
-    requires flooded { IsAreaOf level.now position.now scratch.old.reached }
-    requires boxes { scratch.old.boxes ≡ position.now.boxes }
-    requires total { total ≡ sum position.now.boxes }
-    requires small { total ≤ 65535 * MAX_BOXES }
-    requires possible { CanPush level.now position.now push }
+    requires ready { IsReady site.now scratch.old }
+    requires possible { CanPush site.now.level.now site.now.position.now push }
     requires place { count < MAX_SUCCESSORS }
-    requires filled { count ≤ length slots.old.successors.items }
-    requires sums { AreSums (take count slots.old.successors.items) (take count slots.old.sums.items) }
-    ensures filled { result ≤ length slots.new.successors.items }
+    requires filled { AreFilled count slots.old }
+    ensures filled { AreFilled result slots.new }
     ensures bound { result ≤ count + 1 }
-    ensures appended { IsAppended level.now position.now push (take count slots.old.successors.items) (take result slots.new.successors.items) }
-    ensures sums { AreSums (take result slots.new.successors.items) (take result slots.new.sums.items) }
+    ensures appended { IsAppended site.now.level.now site.now.position.now push
+        (take count slots.old.successors.items) (take result slots.new.successors.items) }
     ensures kept { scratch.new ≡ scratch.old }
 {
     let Push { square, dir } = push;
-    let ahead = level.next(square, dir);
-    if dead.is_dead(ahead) {
+    let ahead = site.level.next(square, dir);
+    if site.dead.is_dead(ahead) {
         return count;
     }
     have_slot(&mut slots.successors, count);
     let made = make_successor(
-        level,
-        dead,
-        position,
+        site,
         place,
         Push { square, dir },
         scratch,
@@ -116,7 +103,7 @@ fn append_successor(
         return count;
     }
     let sum = sum_after(
-        total,
+        site.total,
         square,
         ahead,
         &slots.successors.as_slice()[count].position,
@@ -160,38 +147,35 @@ fn put_sum(sums: &mut ArrayVec<u32, MAX_SUCCESSORS>, count: usize, sum: u32)
     }
 }
 
-// Writes a push and what it leads to into a slot, where the last flood was that of the position before it; `false`
-// exactly where that is doomed.
+// Writes a push to a square that is not dead and what it leads to into a slot, where the last flood was that of the position
+// before it; `false` exactly where that is doomed.
 fn make_successor(
-    level: &Level,
-    dead: &Dead,
-    position: &Position,
+    site: &Site<'_>,
     place: usize,
     push: Push,
     scratch: &mut Scratch,
     slot: &mut Successor,
 ) -> bool
-    requires fits { FitsLevel level.now position.now }
-    requires undoomed { Undoomed level.now position.now }
-    requires dead_of_level { dead.now ≡ level.now }
-    requires room { scratch.old.size ≡ length level.now.cells }
-    requires flooded { IsAreaOf level.now position.now scratch.old.reached }
-    requires boxes { scratch.old.boxes ≡ position.now.boxes }
-    requires possible { CanPush level.now position.now push }
+    requires ready { IsReady site.now scratch.old }
+    requires possible { CanPush site.now.level.now site.now.position.now push }
+    requires live { ¬ (IsDead site.now.level.now (next site.now.level.now push.square push.dir)) }
     ensures push { slot.new.push ≡ push }
-    ensures some { IsTrue result → IsSuccessor level.now position.now push slot.new.position × FitsLevel level.now slot.new.position }
-    ensures none { result ≡ false → (m : Scene) → ¬ (IsSuccessor level.now position.now push m) }
+    ensures some { IsTrue result → IsSuccessor site.now.level.now site.now.position.now push slot.new.position
+        × FitsLevel site.now.level.now slot.new.position }
+    ensures none { result ≡ false → (m : Scene) → ¬ (IsSuccessor site.now.level.now site.now.position.now push m) }
     ensures kept { scratch.new ≡ scratch.old }
 {
     let Push { square, dir } = push;
+    let level = site.level;
+    let dead = site.dead;
+    let position = site.position;
     let ahead = level.next(square, dir);
     slot.push = Push { square, dir };
     let moved = &mut slot.position;
     moved.copy_from(position);
     moved.push_at(place, square, ahead);
-    if !doom::is_loose(level, dead, scratch, Push { square, dir })
-        && doom::push_dooms(level, dead, moved, Push { square, dir }, scratch)
-    {
+    let spared = site.dangers.spare(ahead, dir);
+    if !spared && doom::push_dooms(level, dead, moved, Push { square, dir }, scratch) {
         return false;
     }
     area::normalise_after(level, position, Push { square, dir }, moved, scratch);

@@ -25,6 +25,10 @@ pub record IsWidened (cols : ℕ) (free old new : List ℕ) : Type 0 where
   pub kept : (q : ℕ) → has_bit old q ≡ true → has_bit new q ≡ true
   pub sound : (test : ℕ → Bool) → PassesOver cols free test → AllPass test old → AllPass test new
 
+-- from the word at a place on, neither of two sets has a number
+abbrev pub AreUnused : ℕ → List ℕ → List ℕ → Type 0
+AreUnused place free words = (k : ℕ) → place ≤ k → (slice_index free k ≡ 0) × (slice_index words k ≡ 0)
+
 -- the set has each free number of the word at a place that is beside one of its own
 abbrev pub IsFull : ℕ → List ℕ → ℕ → List ℕ → Type 0
 IsFull cols free place words = (p j : ℕ) → j < WORD_BITS → IsBeside cols p (WORD_BITS * place + j) → has_bit free (WORD_BITS * place + j) ≡ true

@@ -13,7 +13,7 @@ use Rattle.successors.specs.declared.parcel.Successor.{Successor}
 use Rattle.successors.specs.declared.limits.TheConstants.{MAX_SHARES}
 use Rattle.successors.specs.declared.dealing.TheConstants.{MOST_DEALT}
 use Rattle.successors.specs.inside.Sums.{AreSums, scene_sum}
-use Rattle.successors.specs.inside.Dealt.{share_places, successor_places, IsListed, AllListed, IsDealt}
+use Rattle.successors.specs.inside.Dealt.{share_places, successor_places, IsListed, IsDealt}
 
 -- ---- the places of one share
 

@@ -1,16 +1,17 @@
-use Rattle.std.proofs.Common.{◌≡◌, ◌↔◌, ℕ, true, IsTrue, refl, sym, ap, subst, ◌∙◌, inl, inr}
+use Rattle.std.proofs.Common.{◌≡◌, ◌↔◌, ℕ, not, true, IsTrue, refl, sym, ap, subst, ◌∙◌, inl, inr}
 use Rattle.std.proofs.lemmas.Bool.{false≢true}
 use Rattle.grid.specs.Board.{Board, next}
 use Rattle.grid.specs.Squares.{Squares, contains, insert, remove}
 use Rattle.grid.proofs.lemmas.Squares.{contains-insert_here}
 use Rattle.grid.proofs.lemmas.Steps.{inside_grid}
 use Rattle.doom.specs.inside.Locking.{TellsLocked}
-use Rattle.doom.specs.Deadlocks.{IsDead}
+use Rattle.doom.specs.Deadlocks.{IsDead, Doomed}
 use Rattle.doom.specs.Pushed.{DoomedFrom}
 use Rattle.doom.specs.inside.Holding.{AreHolds}
 use Rattle.doom.specs.inside.Peeling.{StandInside}
 use Rattle.doom.proofs.Holding.{frozen_as_locked, frozen_told}
-use Rattle.doom.proofs.Parting.{doomed_frozen, from_frozen, stood_inside}
+use Rattle.doom.proofs.Parting.{doomed_frozen, doomed_if_from, from_frozen, stood_inside}
+use Rattle.doom.proofs.lemmas.Loose.{loose_dooms_nothing}
 use Rattle.doom.proofs.after.push_dooms.Goals as goal
 
 pub returns-then-is_dead-clause-same : goal.returns-then-is_dead-clause-same
@@ -84,5 +85,25 @@ returns-in-Some-clause-same c =
     (subst (λ (xs : Squares). TellsLocked c.holds.result.now board.cols xs c.in-Some.locked) (sym moved) c.in-Some.ensures) in
     doomed_frozen board before after c.args.push.square ahead moved there c.requires.undoomed c.requires.fits.scene.boxes c.in-Some.locked live tells
 
-pub returns-in-None-clause-same : goal.returns-in-None-clause-same
-returns-in-None-clause-same c = c.doomed_after.ensures.same (c.args.scratch.now.boxes, c.requires.pushed, c.requires.undoomed)
+pub returns-then-not-is_loose-clause-same : goal.returns-then-not-is_loose-clause-same
+returns-then-not-is_loose-clause-same c = c.doomed_after.ensures.same (c.args.scratch.now.boxes, c.requires.pushed, c.requires.undoomed)
+
+pub returns-else-not-is_loose-clause-from : goal.returns-else-not-is_loose-clause-from
+returns-else-not-is_loose-clause-from c =
+    let board : Board = c.args.level.now in
+    let ahead : ℕ = next board c.args.push.square c.args.push.dir in
+    let there : contains c.args.position.now.boxes ahead ≡ true = ap (λ (xs : Squares). contains xs ahead) c.requires.pushed ∙
+    contains-insert_here (remove c.args.scratch.now.boxes c.args.push.square) ahead in
+    let safe : ¬ (Doomed board c.args.position.now.boxes) = subst (λ (xs : Squares). ¬ (Doomed board xs)) (sym c.requires.pushed)
+    (loose_dooms_nothing board c.args.scratch.now.boxes c.args.push.square ahead c.requires.undoomed (c.is_loose.ensures.0 c.if-not-is_loose.false)) in (
+      λ no. absurd (false≢true (sym (ap not c.if-not-is_loose.false) ∙ no)),
+      λ from. absurd (safe (doomed_if_from board c.args.position.now.boxes ahead there from)),
+    )
+
+pub returns-else-not-is_loose-clause-same : goal.returns-else-not-is_loose-clause-same
+returns-else-not-is_loose-clause-same c =
+    let board : Board = c.args.level.now in
+    let ahead : ℕ = next board c.args.push.square c.args.push.dir in
+    let safe : ¬ (Doomed board c.args.position.now.boxes) = subst (λ (xs : Squares). ¬ (Doomed board xs)) (sym c.requires.pushed)
+    (loose_dooms_nothing board c.args.scratch.now.boxes c.args.push.square ahead c.requires.undoomed (c.is_loose.ensures.0 c.if-not-is_loose.false)) in
+    (λ no. absurd (false≢true (sym (ap not c.if-not-is_loose.false) ∙ no)), λ bad. absurd (safe bad))

@@ -1,4 +1,4 @@
-use Rattle.std.proofs.Common.{◌≡◌, ◌+◌, ◌*◌, ◌<◌, List, ℕ, get_or, set, sym, subst, arith}
+use Rattle.std.proofs.Common.{◌+◌, ◌*◌, ◌<◌, List, ℕ, get_or, set, sym, subst, arith}
 use Rattle.successors.specs.declared.dealing.TheConstants.{MOST_DEALT}
 use Rattle.successors.proofs.lemmas.Dealt.{AreListed, one_listed}
 use Rattle.successors.proofs.dealing.deal_each.Goals as goal

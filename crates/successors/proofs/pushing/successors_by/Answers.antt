@@ -1,8 +1,7 @@
-use Rattle.std.proofs.Common.{◌+◌, length, take, refl, sym, ap, subst, ◌∙◌, inl, inr, arith}
+use Rattle.std.proofs.Common.{◌+◌, length, take, refl, sym, subst, ◌∙◌, inl, inr, arith}
 use Rattle.std.proofs.lemmas.Option.{slice_get_read}
-use Rattle.area.specs.Reach.{Reach}
-use Rattle.area.specs.After.{IsAreaOf}
 use Rattle.successors.specs.ParcelView.{FitLevel}
+use Rattle.successors.specs.inside.Sites.{IsReady}
 use Rattle.successors.proofs.lemmas.Successors.{come_by}
 use Rattle.successors.proofs.Gathering.{AreSuccessorsBy, by_same, by_more, by_all, fit_more}
 use Rattle.successors.proofs.pushing.successors_by.Goals as goal
@@ -14,9 +13,9 @@ append_successor-count-requires-clause-possible c =
 
 pub loop-push-preserved : goal.loop-push-preserved
 loop-push-preserved c =
-    let board = c.args.level.now in
-    let n = c.args.position.now in
-    let scene = c.requires.fits.scene in
+    let board = c.args.site.now.level.now in
+    let n = c.args.site.now.position.now in
+    let scene = c.requires.ready.fits.scene in
     let ss = take c.loop-push.count c.loop-push.slots.successors.items in
     let here = slice_get_read c.args.pushes.now
     (length c.args.pushes.now) c.loop-push.push-index c.push-item.result refl c.loop-push-test.true c.push-item.is in
@@ -32,7 +31,6 @@ loop-push-preserved c =
             fits = subst (FitLevel board) (sym grown) fit;
             bound = omega (arith, c.loop-push.invariant.bound, bound);
             filled = c.append_successor-count.ensures.filled;
-            sums = c.append_successor-count.ensures.sums;
             kept = kept;
           })
       | inr (e, none) ↦
@@ -42,20 +40,15 @@ loop-push-preserved c =
             fits = subst (FitLevel board) (sym e) c.loop-push.invariant.fits;
             bound = omega (arith, c.loop-push.invariant.bound, bound);
             filled = c.append_successor-count.ensures.filled;
-            sums = c.append_successor-count.ensures.sums;
             kept = kept;
           })
     ]
 
 pub returns-clause-successors : goal.returns-clause-successors
 returns-clause-successors c =
-    by_all c.args.level.now c.args.position.now c.requires.fits.scene c.args.pushes.now c.loop-push.push-index
+    by_all c.args.site.now.level.now c.args.site.now.position.now c.requires.ready.fits.scene c.args.pushes.now c.loop-push.push-index
     (take c.loop-push.count c.loop-push.slots.successors.items) c.loop-push-test.false c.requires.pushes
-    (λ p m come. (come_by c.args.level.now c.args.position.now c.requires.fits.scene p m come).can) c.loop-push.invariant.successors
+    (λ p m come. (come_by c.args.site.now.level.now c.args.site.now.position.now c.requires.ready.fits.scene p m come).can) c.loop-push.invariant.successors
 
-pub append_successor-count-requires-clause-flooded : goal.append_successor-count-requires-clause-flooded
-append_successor-count-requires-clause-flooded c =
-    subst (λ (s : Reach). IsAreaOf c.args.level.now c.args.position.now s.reached) (sym c.loop-push.invariant.kept) c.requires.flooded
-
-pub append_successor-count-requires-clause-boxes : goal.append_successor-count-requires-clause-boxes
-append_successor-count-requires-clause-boxes c = ap (λ (s : Reach). s.boxes) c.loop-push.invariant.kept ∙ c.requires.boxes
+pub append_successor-count-requires-clause-ready : goal.append_successor-count-requires-clause-ready
+append_successor-count-requires-clause-ready c = subst (IsReady c.args.site.now) (sym c.loop-push.invariant.kept) c.requires.ready
