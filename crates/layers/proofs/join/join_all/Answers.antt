@@ -1,5 +1,5 @@
 use Rattle.layers.proofs.Joined.{few_last}
-use Rattle.layers.proofs.join.tell_few.Goals as goal
+use Rattle.layers.proofs.join.join_all.Goals as goal
 
-pub returns : goal.returns
-returns c = few_last c.args.books.now c.requires c.tell_all.ensures
+pub merged_rows-requires-clause-few : goal.merged_rows-requires-clause-few
+merged_rows-requires-clause-few c = few_last c.args.books.now c.requires.all c.tell_all.ensures
