@@ -13,5 +13,6 @@ loop-share-preserved c =
     (λ b. IsNew b c.args.limit c.args.dealing.workers share c.args.dealing.shares book) c.in_ok-task.ensures c.in_ok-book.ensures in (
       ap length all ∙ length_push before book ∙ ap (λ k. k + 1) c.loop-share.invariant.0,
       subst (AreNewInOrder task c.args.limit c.args.dealing.workers c.args.dealing.shares) (sym all)
-          (one_share_more task c.args.limit c.args.dealing.workers share c.args.dealing.shares before book c.loop-share.invariant.0 c.loop-share.invariant.1 new),
+          (one_share_more task c.args.limit c.args.dealing.workers share c.args.dealing.shares before book c.loop-share.invariant.0
+          c.loop-share.invariant.1 new),
     )

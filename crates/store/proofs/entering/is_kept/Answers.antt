@@ -35,8 +35,8 @@ returns-then-not-is_before-clause-kept g c =
     let read = c.get-known.ensures in
     let there : lookup (same_scene c.copy.result) es ≡ Some c.get-known.result.now = search (rules, value, read) in
     let here = ap (λ k. lookup (same_scene k) es) (sym c.copy.ensures) ∙ there in
-    late_kept c.args.key.now c.args.origin c.args.start es c.requires.found.found c.get-known.result.now c.args.last here c.requires.found.last (sym c.is_before.ensures ∙
-    c.if-not-is_before.true)
+    late_kept c.args.key.now c.args.origin c.args.start es c.requires.found.found c.get-known.result.now c.args.last here c.requires.found.last
+    (sym c.is_before.ensures ∙ c.if-not-is_before.true)
 
 pub returns-then-not-exceeds-clause-kept : goal.returns-then-not-exceeds-clause-kept
 returns-then-not-exceeds-clause-kept g c =
