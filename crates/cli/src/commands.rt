@@ -7,7 +7,8 @@ use crew::Config;
 use layers::{MAX_SHARES, MAX_WORKERS};
 use prover::Effort;
 use sokopar::{
-    Reader, RunFault, Writer, run_check, run_dead, run_prove, run_replay, run_show, run_solve,
+    ProveRequest, Reader, RunFault, Writer, run_check, run_dead, run_prove, run_replay, run_show,
+    run_solve,
 };
 use std::alloc::Global;
 use std::num::NonZeroU32;
@@ -129,13 +130,9 @@ pub(crate) fn prove<'a, R: Files + Print + Threads + Sync>(
     let mut source = open(rt, file)?;
     let mut letters = open(rt, solution)?;
     let mut sink = Writer::new(Steady::new(io::writer(rt)));
-    Ok(run_prove(
-        rt,
-        alloc,
-        &mut source,
-        number.get(),
-        &mut letters,
+    let request = ProveRequest {
+        number: number.get(),
         effort,
-        &mut sink,
-    )?)
+    };
+    Ok(run_prove(rt, alloc, &mut source, &mut letters, request, &mut sink)?)
 }

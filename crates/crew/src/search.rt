@@ -15,7 +15,7 @@ use crate::terms::{Crew, History, Terms};
 use crate::turns::{Turned, turn};
 use area::Scratch;
 use grid::{Level, MAX_BOXES};
-use layers::{Book, Pruner};
+use layers::{Book, Dealing, Pruner};
 use solo::turn::new_books;
 use solo::{Answer, SolveFault, solve_alone};
 use std::alloc::{AllocError, Global};
@@ -71,26 +71,39 @@ fn search<R: Threads + Wait + Sync, G: Gate + Sync>(
     ensures { IfOk result (λ found. IfSome found (λ answer. IsAnswer (capped (arc_value level.now) config.cap) config.limit answer)) }
 {
     let pruner = Pruner::of(alloc, level, config.cap)?;
-    let mut scratch = Scratch::new(alloc, level)?;
-    // the books are made for one worker more, whose number is the caller's own
-    let books = new_books(
-        alloc,
-        level,
-        &pruner,
-        config.limit,
-        config.workers + 1,
-        config.locks,
-        &mut scratch,
-    )?;
-    let desks = Desks::of(alloc, level, config.workers, config.locks);
-    let mut crew = Crew { scratch, desks };
     let terms = Terms {
         alloc,
         pruner: &pruner,
         config,
         gate,
     };
-    all_turns(rt, &terms, books, &mut crew)
+    search_by(rt, &terms, level)
+}
+
+// The same by a pruner that is there.
+fn search_by<R: Threads + Wait + Sync, G: Gate + Sync>(
+    rt: &R,
+    terms: &Terms<'_, G>,
+    level: &Arc<Level>,
+) -> Result<Option<Answer>, AllocError>
+    requires limits { IsWithinLimits terms.now.config }
+    requires boxes { box_count (arc_value level.now) ≤ MAX_BOXES }
+    requires pruner_of_level { terms.now.pruner.now.board ≡ arc_value level.now }
+    ensures { IfOk result (λ found. IfSome found (λ answer. IsAnswer terms.now.pruner.now terms.now.config.limit answer)) }
+{
+    let alloc = terms.alloc;
+    let config = terms.config;
+    let mut scratch = Scratch::new(alloc, level)?;
+    // the books are made for one worker more, whose number is the caller's own
+    let dealing = Dealing {
+        workers: config.workers + 1,
+        shares: config.locks,
+    };
+    let limit = config.limit;
+    let books = new_books(alloc, level, terms.pruner, limit, dealing, &mut scratch)?;
+    let desks = Desks::of(alloc, level, config.workers, config.locks);
+    let mut crew = Crew { scratch, desks };
+    all_turns(rt, terms, books, &mut crew)
 }
 
 // Looks at layer after layer until there is an answer; `None` where other books came back than were lent. The only

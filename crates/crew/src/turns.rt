@@ -5,7 +5,7 @@ ghost use Rattle.layers.specs.Books.{MayBegin};
 ghost use Rattle.crew.specs.Configured.{IsWithinLimits};
 ghost use Rattle.crew.specs.Lending.{ComeBack};
 ghost use Rattle.crew.specs.inside.Crews.{IsCrewOf};
-ghost use Rattle.crew.specs.inside.Turning.{ArePausedBy, AreWorkedBy, TurnAnswer};
+ghost use Rattle.crew.specs.inside.Turning.{ArePausedBy, AreWorkedBy, HasLooked, TurnAnswer};
 
 use crate::closing::finish_all;
 use crate::gate::Gate;
@@ -60,6 +60,27 @@ pub(crate) fn turn<R: Threads + Wait + Sync, G: Gate + Sync>(
     if let Some(answer) = found {
         return Ok(Turned::Found(answer));
     }
+    go_on(rt, terms, books, layer, history, crew)
+}
+
+// Lets the workers work through the last layer that the books closed, which was looked at. The only error is that memory was
+// refused.
+fn go_on<R: Threads + Wait + Sync, G: Gate + Sync>(
+    rt: &R,
+    terms: &Terms<'_, G>,
+    books: Vec<Book>,
+    layer: Layer,
+    history: &mut History,
+    crew: &mut Crew<'_>,
+) -> Result<Turned, AllocError>
+    requires limits { IsWithinLimits terms.now.config }
+    requires looked { (before : ℕ) × HasLooked terms.now.config terms.now.pruner.now books.items layer history.old.trail.items before history.old.positions }
+    requires crew { IsCrewOf terms.now.pruner.now.board crew.old }
+    ensures turned { (before : ℕ) →
+        HasLooked terms.now.config terms.now.pruner.now books.items layer history.old.trail.items before history.old.positions →
+        IfOk result (λ turned. TurnAnswer terms.now.config terms.now.pruner.now history.new.trail.items before history.new.positions turned) }
+    ensures crew { IsCrewOf terms.now.pruner.now.board crew.new }
+{
     let back = work_through(rt, terms, books, &layer, history.positions, crew)?;
     let Some((worked, after)) = back else {
         return Ok(Turned::Foreign);

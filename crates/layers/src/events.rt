@@ -21,7 +21,7 @@ impl Book {
         ensures fault { IfErr result (λ fault. BeginRefused self.old layer.now fault) }
         ensures err { OnErr result (self.new ≡ self.old) }
     {
-        if !self.is_of(layer.task()) {
+        if !self.is_of_layer(layer) {
             return Err(BeginFault::OtherLevel);
         }
         if layer.number() != self.layer() || self.begun {

@@ -85,7 +85,6 @@ fn join_all(alloc: Global, books: &[Book], first: &Book) -> Result<Layer, AllocE
     ensures { IfOk result (λ layer. IsJoinOf books.now layer) }
 {
     tell_all(books);
-    tell_few(books);
     let boxes = first.boxes();
     let rows = merged_rows(alloc, books, boxes)?;
     layer_of(books, first, rows)
@@ -103,7 +102,7 @@ fn join_merged(
     requires stretches { (i : ℕ) (s : Stretch) → slice_get stretches.old i ≡ Some s → IsStretchOf books.now s }
     ensures { IfOk result (λ found. IfSome found (λ layer. IsJoinOf books.now layer)) }
 {
-    tell_few(books);
+    tell_all(books);
     match put_together(alloc, books, stretches)? {
         Some(rows) => Ok(Some(layer_of(books, first, rows)?)),
         None => Ok(None),
@@ -150,14 +149,6 @@ fn merged_rows(
     }
 }
 
-// Tells that the last closed lists of all the shares are no more than there may be positions.
-fn tell_few(books: &[Book])
-    requires { AreAllShares books.now }
-    ensures { total (map last_list books.now) ≤ MOST_POSITIONS }
-{
-    tell_all(books);
-}
-
 // Tells what is true of every book.
 pub(crate) fn tell_all(books: &[Book])
     ensures { AreLawfulBooks books.now }
@@ -180,7 +171,7 @@ impl Book {
     fn is_share_beside(&self, first: &Book, place: usize) -> bool
         ensures { IsTrue result ↔ IsShareBeside first.now place self.now }
     {
-        if self.share as usize != place || !self.is_of(&first.task) {
+        if self.share as usize != place || !self.task.is(&first.task) {
             return false;
         }
         if self.limit != first.limit || self.shares != first.shares {

@@ -1,5 +1,5 @@
 -- The report of a solution that is proved to have the fewest pushes, or not.
-use Rattle.std.proofs.Common.{◌≡◌, ℕ, ◌<◌, ◌≤◌, ◌⊎◌, List, length, Option, Some, None, codes, decimal, ◌++◌, Result, Ok, Err, IfOk, inl, inr, refl, sym, subst}
+use Rattle.std.proofs.Common.{◌≡◌, ℕ, ◌<◌, ◌≤◌, List, length, Option, Some, codes, decimal, ◌++◌, Result, Ok, Err, IfOk, inl, inr, refl, sym, subst}
 use Rattle.grid.specs.Board.{Board}
 use Rattle.grid.specs.Lawful.{box_count}
 use Rattle.grid.specs.declared.limits.TheConstants.{MAX_BOXES}

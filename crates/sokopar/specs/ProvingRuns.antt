@@ -1,7 +1,7 @@
 -- What a run of proving does.
 use Rattle.std.specs.Prelude.{◌≡◌, ℕ, List, Result, Ok, Err, Option}
 use Rattle.sokopar.specs.declared.fault.RunFault.{RunFault}
-use Rattle.sokopar.specs.declared.fault.RunFault.TheVariants.{Read, Write, TooLong, OutOfMemory}
+use Rattle.sokopar.specs.declared.fault.RunFault.TheVariants.{Write}
 use Rattle.sokopar.specs.Ends.{Seen}
 use Rattle.sokopar.specs.Runs.{ReadsWhole, ReadsIfSome, StopsInTwo, WritesWhole, WritesPart}
 use Rattle.sokopar.specs.Report.{Report}

@@ -108,7 +108,15 @@ pub fn run_solve<R: Threads + Wait + Sync, S: Source, K: Sink>(
     requires limits { IsWithinLimits config }
     ensures { Runs (IsOnlySolveReport config.cap config.limit number) (S.seen source.old) (S.seen source.new) (K.seen sink.old) (K.seen sink.new) result }
 {
-    run_solve_with(rt, alloc, source, number, config, &Free, sink)
+    let request = SolveRequest { number, config };
+    run_solve_with(rt, alloc, source, request, &Free, sink)
+}
+
+/// What [`run_solve_with`] is asked: to solve the level with a number, counted from 1, as a configuration says.
+#[derive(Clone, Copy, PartialEq, Eq, Debug)]
+pub struct SolveRequest {
+    pub number: u32,
+    pub config: Config,
 }
 
 #[tactic(auto, using(crate::proofs::Reading::stops_after))]
@@ -118,15 +126,16 @@ pub fn run_solve_with<R: Threads + Wait + Sync, S: Source, G: Gate + Sync, K: Si
     rt: &R,
     alloc: Global,
     source: &mut S,
-    number: u32,
-    config: Config,
+    request: SolveRequest,
     gate: &G,
     sink: &mut K,
 ) -> Result<u8, RunFault>
-    requires number { 1 ≤ number }
-    requires limits { IsWithinLimits config }
-    ensures { Runs (IsOnlySolveReport config.cap config.limit number) (S.seen source.old) (S.seen source.new) (K.seen sink.old) (K.seen sink.new) result }
+    requires number { 1 ≤ request.number }
+    requires limits { IsWithinLimits request.config }
+    ensures { Runs (IsOnlySolveReport request.config.cap request.config.limit request.number) (S.seen source.old) (S.seen source.new) (K.seen sink.old)
+        (K.seen sink.new) result }
 {
+    let SolveRequest { number, config } = request;
     let bytes = read_whole(alloc, source)?;
     let report = solve_in(rt, alloc, bytes.as_slice(), number, config, gate)?;
     report.send(sink)

@@ -20,10 +20,12 @@ mod text;
 mod trail;
 mod writes;
 
-pub use engines::{run_check, run_dead, run_replay, run_show, run_solve, run_solve_with};
+pub use engines::{
+    SolveRequest, run_check, run_dead, run_replay, run_show, run_solve, run_solve_with,
+};
 pub use fault::RunFault;
 pub use laws::{one_report, printed_solution_replays, solution_replays};
-pub use proving::run_prove;
+pub use proving::{ProveRequest, run_prove};
 pub use sink::{Sink, Writer};
 pub use source::{Reader, Source};
 pub use trail::Failed;

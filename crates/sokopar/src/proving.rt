@@ -10,6 +10,13 @@ use prover::Effort;
 use std::alloc::Global;
 use std::thread::Threads;
 
+/// What [`run_prove`] is asked: to prove a solution of the level with a number, counted from 1, with so much effort.
+#[derive(Clone, Copy, PartialEq, Eq, Debug)]
+pub struct ProveRequest {
+    pub number: u32,
+    pub effort: Effort,
+}
+
 #[tactic(auto, using(crate::proofs::Reading::stops_after))]
 /// Proves that a solution, which is LURD text, has the fewest pushes of all solutions of a level of a collection, counted from
 /// 1, or writes one with fewer; by so many workers, and within a limit of positions. Gives the exit status: 0 where none has
@@ -20,15 +27,15 @@ pub fn run_prove<R: Threads + Sync, S: Source, T: Source, K: Sink>(
     rt: &R,
     alloc: Global,
     source: &mut S,
-    number: u32,
     solution: &mut T,
-    effort: Effort,
+    request: ProveRequest,
     sink: &mut K,
 ) -> Result<u8, RunFault>
-    requires { 1 ≤ number }
-    ensures { Proves effort.limit number (S.seen source.old) (S.seen source.new) (T.seen solution.old) (T.seen solution.new) (K.seen sink.old)
-        (K.seen sink.new) result }
+    requires { 1 ≤ request.number }
+    ensures { Proves request.effort.limit request.number (S.seen source.old) (S.seen source.new) (T.seen solution.old) (T.seen solution.new)
+        (K.seen sink.old) (K.seen sink.new) result }
 {
+    let ProveRequest { number, effort } = request;
     let bytes = read_whole(alloc, source)?;
     let report = prove_in(rt, alloc, bytes.as_slice(), number, effort, solution)?;
     report.send(sink)

@@ -8,8 +8,8 @@ use Rattle.std.proofs.lemmas.Option.{get_or_from_slice_get, same_Some, slice_get
 use Rattle.layers.specs.LayerView.{LayerView}
 use Rattle.layers.specs.BookView.{BookView, IsLawfulBook}
 use Rattle.layers.specs.Books.{with_begun}
-use Rattle.solo.specs.inside.Turns.{HaveBegun, IsStillAt, MayBeWorked, MayHaveBegun, WorkAnswer, WorkAnswers}
-use Rattle.solo.specs.declared.turn.Worked.TheVariants.{Through, Over}
+use Rattle.solo.specs.inside.Turns.{HaveBegun, IsStillAt, MayHaveBegun, WorkAnswer}
+use Rattle.solo.specs.declared.turn.Worked.TheVariants.{Through}
 
 -- ---- results
 
@@ -123,29 +123,6 @@ may_have_begun before ranks place books v w at is so = (more.same, λ i x at_x. 
 
 -- ---- finish
 
--- the book has closed the next layer
-abbrev pub IsThrough : BookView → BookView → Type 0
-IsThrough v w = WorkAnswer v Through w × IsLawfulBook w
-
 -- the book is as it was, still at work, or has closed the next layer
 abbrev pub MayBeLeft : LayerView → BookView → BookView → Type 0
 MayBeLeft layer v w = (w ≡ v) ⊎ IsStillAt v layer w ⊎ WorkAnswer v Through w
-
-pub are_through : (before : List BookView) (place : ℕ) (books : List BookView) → length books ≤ place → HaveChangedUpTo IsThrough before place books →
-    WorkAnswers before Through books
-are_through before place books all so = (so.same, λ i v at. (let c = all_changed IsThrough before place books all so i v at in (c.0, c.1, c.2.0, c.2.1)))
-
--- one of them is over
-pub one_over : (before : List BookView) (place : ℕ) (books : List BookView) (v w : BookView) → slice_get before place ≡ Some v → WorkAnswer v Over w →
-    IsLawfulBook w → HaveChangedUpTo IsThrough before place books → WorkAnswers before Over (set books place w)
-one_over before place books v w at over lawful so =
-    (place, v, at, (w, set_here books place w (omega (arith, slice_get_within before place v at, so.same)), over, lawful))
-
--- a finish that was refused left its book at work
-pub may_be_worked : (before : List BookView) (layer : LayerView) (place : ℕ) (books : List BookView) (v w : BookView) → slice_get before place ≡ Some v →
-    IsStillAt v layer w → HaveChangedUpTo IsThrough before place books → MayBeWorked before layer (set books place w)
-may_be_worked before layer place books v w at still so =
-    (more.same, λ i x at_x. some_changed (MayBeLeft layer) before (place + 1) (set books place w) (λ y. inl refl) more i x at_x) where
-      more : HaveChangedUpTo (MayBeLeft layer) before (place + 1) (set books place w)
-      more = one_changed (MayBeLeft layer) before place books v w (weaker IsThrough (MayBeLeft layer) before place books (λ x y e. inr (inr e.0)) so) at
-          (inr (inl still))

@@ -11,7 +11,7 @@ use crate::answer::{Answer, SolveFault};
 use crate::turn::{Worked, begin_each, finish_each, last_layer, look, new_books};
 use area::Scratch;
 use grid::{Level, MAX_BOXES};
-use layers::{Book, Parents, Pruner};
+use layers::{Book, Dealing, Parents, Pruner};
 use std::alloc::{AllocError, Global};
 use std::sync::Arc;
 
@@ -52,14 +52,30 @@ fn search(
     ensures { IfOk result (λ answer. IsAnswer (capped (arc_value level.now) cap) limit answer) }
 {
     let pruner = Pruner::of(alloc, level, cap)?;
-    let mut scratch = Scratch::new(alloc, level)?;
-    let mut books = new_books(alloc, level, &pruner, limit, 1, 1, &mut scratch)?;
     let terms = Terms {
         alloc,
         pruner: &pruner,
         limit,
     };
-    all_turns(&terms, books.as_mut_slice(), &mut scratch)
+    search_by(&terms, level)
+}
+
+// The same by a pruner that is there.
+fn search_by(terms: &Terms<'_>, level: &Arc<Level>) -> Result<Answer, AllocError>
+    requires limit { 1 ≤ terms.now.limit }
+    requires boxes { box_count (arc_value level.now) ≤ MAX_BOXES }
+    requires pruner_of_level { terms.now.pruner.now.board ≡ arc_value level.now }
+    ensures { IfOk result (λ answer. IsAnswer terms.now.pruner.now terms.now.limit answer) }
+{
+    let alloc = terms.alloc;
+    let mut scratch = Scratch::new(alloc, level)?;
+    let alone = Dealing {
+        workers: 1,
+        shares: 1,
+    };
+    let limit = terms.limit;
+    let mut books = new_books(alloc, level, terms.pruner, limit, alone, &mut scratch)?;
+    all_turns(terms, books.as_mut_slice(), &mut scratch)
 }
 
 // What a search goes by: the allocator, what leaves positions out, and the limit of positions.

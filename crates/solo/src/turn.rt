@@ -25,8 +25,8 @@ use crate::lead::moves_back;
 use area::Scratch;
 use grid::Level;
 use layers::{
-    BeginFault, Book, BookFault, CloseFault, JoinFault, Layer, Parcel, Parents, Pruner, Refusal,
-    expand_over, expand_over_into,
+    BeginFault, Book, BookFault, CloseFault, Dealing, JoinFault, Layer, Parcel, Parents, Pruner,
+    Refusal, expand_over, expand_over_into,
 };
 use std::alloc::{AllocError, Global};
 use std::sync::Arc;
@@ -47,20 +47,19 @@ pub fn new_books(
     level: &Arc<Level>,
     pruner: &Pruner,
     limit: u32,
-    workers: u8,
-    shares: u8,
+    dealing: Dealing,
     scratch: &mut Scratch,
 ) -> Result<Vec<Book>, AllocError>
     requires boxes { box_count (arc_value level.now) ≤ MAX_BOXES }
     requires pruner_of_level { pruner.now.board ≡ arc_value level.now }
     requires limit { 1 ≤ limit }
-    requires workers { (1 ≤ workers) × (workers ≤ MAX_WORKERS + 1) }
-    requires shares { (1 ≤ shares) × (shares ≤ MAX_SHARES) }
+    requires workers { (1 ≤ dealing.workers) × (dealing.workers ≤ MAX_WORKERS + 1) }
+    requires shares { (1 ≤ dealing.shares) × (dealing.shares ≤ MAX_SHARES) }
     requires room { scratch.old.size ≡ length (arc_value level.now).cells }
-    ensures books { IfOk result (λ books. AreNewShares pruner.now limit workers shares books.items) }
+    ensures books { IfOk result (λ books. AreNewShares pruner.now limit dealing.workers dealing.shares books.items) }
     ensures size { scratch.new.size ≡ scratch.old.size }
 {
-    match Book::of_all_shares(alloc, level, pruner, limit, workers, shares, scratch) {
+    match Book::of_all_shares(alloc, level, pruner, limit, dealing, scratch) {
         Ok(books) => Ok(books),
         Err(BookFault::TooManyBoxes) => unreachable!(),
         Err(BookFault::OutOfMemory) => Err(AllocError),
@@ -200,15 +199,7 @@ pub fn finish_each(
     ensures credited { AreDoneBy worker books.old books.new }
     ensures size { scratch.new.size ≡ scratch.old.size }
 {
-    for place in 0..books.len() {
-        let worked = finish(&mut books[place], layer, pruner, scratch, worker)?;
-        books[place].tell();
-        match worked {
-            Worked::Through => {}
-            Worked::Over => return Ok(Worked::Over),
-        }
-    }
-    Ok(Worked::Through)
+    finish_rest(books, layer, pruner, scratch, worker)
 }
 
 /// Does what [`finish`] does in each of the books that has not closed the next layer already, one after the other; until

@@ -9,6 +9,7 @@ use Rattle.std.specs.declared.cmp.Ordering.{Ordering}
 use Rattle.std.specs.declared.cmp.Ordering.TheVariants.{Less, Equal, Greater}
 use Rattle.std.specs.Map.{lookup, keys_of}
 use Rattle.std.specs.Ordering.{is_lt, is_gt, ordering_reverse}
+use Rattle.indexmap.specs.IndexMap.{insert_entry}
 use Rattle.grid.specs.declared.square.Push.{Push}
 use Rattle.grid.specs.Board.{Scene, push_cmp}
 use Rattle.grid.proofs.lemmas.Orders.{push_cmp_total}
@@ -17,7 +18,7 @@ use Rattle.store.specs.Entering.{offered}
 use Rattle.store.specs.FoundView.{IsFound, NoneExceed, is_least, keeps, let_in, open_of, seen_of}
 use Rattle.store.proofs.lemmas.Origins.{origin_total}
 use Rattle.store.proofs.lemmas.Offers.{origin-listed}
-use Rattle.store.proofs.Tails.{as_closed, below, least_first, look_rest, no_some, not_greater, placed}
+use Rattle.store.proofs.Tails.{as_closed, below, joined, least_first, let_in_put, look_rest, no_some, not_greater, placed}
 
 order : IsTotalOrder (origin_cmp push_cmp)
 order = origin_total push_cmp_total
@@ -87,6 +88,13 @@ let_in_last seen ws m o last next none later late = go (is_some (lookup (same_sc
     go : (b : Bool) → NoneExceed (if b then ws else offered ws m o) next
     go true = all
     go false = exceed_offered ws m o next all late
+
+-- what the entries hold once an offer that changes something was put among them
+pub put_parts : (start : ℕ) (es new : List Closed) (m : Scene) (o : Origin Push) → IsFound start es →
+    false ≡ keeps (seen_of start es) (open_of start es) m o → new ≡ insert_entry same_scene es m (Some o) →
+    (seen_of start new ≡ seen_of start es) × (open_of start new ≡ let_in (seen_of start es) (open_of start es) (m, o)) × IsFound start new
+put_parts start es new m o found changes put =
+    joined start es new (let_in (seen_of start es) (open_of start es) (m, o)) found.within (let_in_put start es new m o found changes put)
 
 -- where nothing stands open each origin is the last one
 pub none_open : (start : ℕ) (es : List Closed) (o : Origin Push) → length es ≤ start → NoneExceed (open_of start es) o

@@ -6,7 +6,8 @@ ghost use Rattle.store.specs.Entries.{origin_of, same_scene};
 ghost use Rattle.successors.specs.Shares.{share_of};
 ghost use Rattle.store.specs.Entering.{is_wanted_in, entered};
 ghost use Rattle.store.specs.inside.KeyRows.{AllSuit, Suits};
-ghost use Rattle.store.specs.FoundView.{IsFound, NoneExceed, StaysFound, all_let_in, keeps, let_in, open_of, seen_of};
+ghost use Rattle.store.specs.inside.FoundUpTo.{IsFoundUpTo};
+ghost use Rattle.store.specs.FoundView.{IsFound, StaysFound, all_let_in, keeps, let_in, open_of, seen_of};
 
 use crate::key::Key;
 use crate::origin::{ClosedOrigin, Origin};
@@ -28,8 +29,7 @@ fn is_kept<const N: usize, const M: usize>(
 ) -> bool
     requires width { (N ≤ MAX_BOXES + 1) × (M ≤ MAX_BOXES + 1) }
     requires room { 0 < spare table.old }
-    requires found { IsFound start table.old.entries }
-    requires last { NoneExceed (open_of start table.old.entries) last }
+    requires found { IsFoundUpTo start table.old.entries last }
     ensures kept { result ≡ keeps (seen_of start table.old.entries) (open_of start table.old.entries) key.now origin }
     ensures same { IsTrue result → table.new.entries ≡ table.old.entries }
     ensures put { result ≡ false → table.new.entries ≡ insert_entry same_scene table.old.entries key.now (Some origin) }
@@ -69,10 +69,8 @@ fn enter<const N: usize, const M: usize>(
 )
     requires width { (N ≤ MAX_BOXES + 1) × (M ≤ MAX_BOXES + 1) }
     requires room { 0 < spare table.old }
-    requires found { IsFound start table.old.entries }
-    requires last { NoneExceed (open_of start table.old.entries) last.old }
-    ensures found { IsFound start table.new.entries }
-    ensures last { NoneExceed (open_of start table.new.entries) last.new }
+    requires found { IsFoundUpTo start table.old.entries last.old }
+    ensures found { IsFoundUpTo start table.new.entries last.new }
     ensures seen { seen_of start table.new.entries ≡ seen_of start table.old.entries }
     ensures waiting { open_of start table.new.entries ≡ let_in (seen_of start table.old.entries) (open_of start table.old.entries) (key.now, origin) }
     ensures room { spare table.old ≤ spare table.new + 1 }
@@ -92,10 +90,8 @@ fn enter_each<const N: usize, const M: usize>(
 )
     requires width { (N ≤ MAX_BOXES + 1) × (M ≤ MAX_BOXES + 1) }
     requires room { length offers.now ≤ spare table.old }
-    requires found { IsFound start table.old.entries }
-    requires last { NoneExceed (open_of start table.old.entries) last.old }
-    ensures found { IsFound start table.new.entries }
-    ensures last { NoneExceed (open_of start table.new.entries) last.new }
+    requires found { IsFoundUpTo start table.old.entries last.old }
+    ensures found { IsFoundUpTo start table.new.entries last.new }
     ensures seen { seen_of start table.new.entries ≡ seen_of start table.old.entries }
     ensures waiting { open_of start table.new.entries ≡ all_let_in (seen_of start table.old.entries) (open_of start table.old.entries) offers.now }
 {
@@ -113,10 +109,8 @@ pub(crate) fn enter_all<const N: usize, const M: usize>(
 )
     requires width { (N ≤ MAX_BOXES + 1) × (M ≤ MAX_BOXES + 1) }
     requires room { length inbox.old.items ≤ spare table.old }
-    requires found { IsFound start table.old.entries }
-    requires last { NoneExceed (open_of start table.old.entries) last.old }
-    ensures found { IsFound start table.new.entries }
-    ensures last { NoneExceed (open_of start table.new.entries) last.new }
+    requires found { IsFoundUpTo start table.old.entries last.old }
+    ensures found { IsFoundUpTo start table.new.entries last.new }
     ensures same { StaysFound start table.old.entries inbox.old.items table.new.entries [] }
     ensures empty { inbox.new.items ≡ [] }
 {

@@ -5,7 +5,8 @@ ghost use Rattle.indexmap.specs.IndexMap.{spare};
 ghost use Rattle.store.specs.inside.Offers.{offer_in, offers_at};
 ghost use Rattle.successors.specs.inside.Sums.{AreSums, scene_sum};
 ghost use Rattle.store.specs.inside.KeyRows.{AllSuit, Suits};
-ghost use Rattle.store.specs.FoundView.{IsFound, NoneExceed, StaysFound, offer_of, offers_of, open_of};
+ghost use Rattle.store.specs.inside.FoundUpTo.{IsFoundUpTo};
+ghost use Rattle.store.specs.FoundView.{StaysFound, offer_of, offers_of};
 
 use crate::entering::enter_all;
 use crate::key::Key;
@@ -48,10 +49,8 @@ pub(crate) fn make_room<const N: usize, const M: usize>(
 ) -> Result<(), AllocError>
     requires width { (N ≤ MAX_BOXES + 1) × (M ≤ MAX_BOXES + 1) }
     requires room { length inbox.old.items ≤ spare table.old }
-    requires found { IsFound start table.old.entries }
-    requires last { NoneExceed (open_of start table.old.entries) last.old }
-    ensures found { IsFound start table.new.entries }
-    ensures last { NoneExceed (open_of start table.new.entries) last.new }
+    requires found { IsFoundUpTo start table.old.entries last.old }
+    ensures found { IsFoundUpTo start table.new.entries last.new }
     ensures same { StaysFound start table.old.entries inbox.old.items table.new.entries inbox.new.items }
     ensures room { length inbox.new.items ≤ spare table.new }
     ensures ok { OnOk result ((length inbox.new.items + length successors.now ≤ spare table.new) ×
@@ -73,10 +72,8 @@ fn enter_if_full<const N: usize, const M: usize>(
 )
     requires width { (N ≤ MAX_BOXES + 1) × (M ≤ MAX_BOXES + 1) }
     requires room { length inbox.old.items ≤ spare table.old }
-    requires found { IsFound start table.old.entries }
-    requires last { NoneExceed (open_of start table.old.entries) last.old }
-    ensures found { IsFound start table.new.entries }
-    ensures last { NoneExceed (open_of start table.new.entries) last.new }
+    requires found { IsFoundUpTo start table.old.entries last.old }
+    ensures found { IsFoundUpTo start table.new.entries last.new }
     ensures same { StaysFound start table.old.entries inbox.old.items table.new.entries inbox.new.items }
     ensures room { length inbox.new.items ≤ spare table.new }
 {
@@ -195,8 +192,7 @@ fn append<const N: usize, const M: usize>(
     requires sum { sum ≡ scene_sum successor.now.position }
     requires room { vec_len inbox.old < vec_capacity inbox.old }
     ensures items { inbox.new.items ≡ inbox.old.items ++ offer_of shares share rank successor.now }
-    ensures len { vec_len inbox.new ≤ vec_len inbox.old + 1 }
-    ensures capacity { vec_capacity inbox.new ≡ vec_capacity inbox.old }
+    ensures room { (vec_len inbox.new ≤ vec_len inbox.old + 1) × (vec_capacity inbox.new ≡ vec_capacity inbox.old) }
 {
     if share_by(sum, shares) != share {
         return;
@@ -216,8 +212,7 @@ fn append_offer<const N: usize, const M: usize>(
     requires suits { Suits N M successor.now.position }
     requires room { vec_len inbox.old < vec_capacity inbox.old }
     ensures items { inbox.new.items ≡ inbox.old.items ++ offer_in rank (Some successor.now) }
-    ensures len { vec_len inbox.new ≡ vec_len inbox.old + 1 }
-    ensures capacity { vec_capacity inbox.new ≡ vec_capacity inbox.old }
+    ensures room { (vec_len inbox.new ≡ vec_len inbox.old + 1) × (vec_capacity inbox.new ≡ vec_capacity inbox.old) }
 {
     let origin = Origin::new(rank, successor.push);
     inbox.push_reserved((Key::of(&successor.position), origin));

@@ -36,7 +36,8 @@ pub(crate) struct Table<const N: usize, const M: usize> {
 impl<const N: usize, const M: usize> Model for Table<N, M> {
     ghost use Rattle.std.specs.Prelude.{◌+◌, ◌≤◌, length};
     ghost use Rattle.indexmap.specs.IndexMap.{spare};
-    ghost use Rattle.store.specs.FoundView.{FoundView, IsFound, NoneExceed, found_view, open_of};
+    ghost use Rattle.store.specs.FoundView.{FoundView, found_view};
+    ghost use Rattle.store.specs.inside.FoundUpTo.{IsFoundUpTo};
     ghost use Rattle.store.specs.inside.KeyRows.{SuitsLevel};
 
     ghost Value = { FoundView };
@@ -47,9 +48,8 @@ impl<const N: usize, const M: usize> Model for Table<N, M> {
 
     ghost invariant = { λ a. ((N ≤ MAX_BOXES + 1) × (M ≤ MAX_BOXES + 1))
         × SuitsLevel N M a.boxes a.squares
-        × IsFound a.start a.table.entries
-        × (length a.inbox.items ≤ spare a.table)
-        × NoneExceed (open_of a.start a.table.entries) a.last };
+        × IsFoundUpTo a.start a.table.entries a.last
+        × (length a.inbox.items ≤ spare a.table) };
 }
 
 impl<const N: usize, const M: usize> Table<N, M> {

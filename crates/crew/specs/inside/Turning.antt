@@ -5,6 +5,8 @@ use Rattle.successors.specs.Tasks.{Task}
 use Rattle.layers.specs.BookView.{BookView}
 use Rattle.layers.specs.LayerView.{LayerView}
 use Rattle.store.specs.Entries.{Origin}
+use Rattle.layers.specs.Books.{IsJoinOf}
+use Rattle.solo.specs.inside.Searched.{IsCounted}
 use Rattle.solo.specs.Answers.{IsAnswer}
 use Rattle.solo.specs.inside.Together.{AreFinished}
 use Rattle.solo.specs.inside.Turns.{AreBetweenTurns, AreDealt, AreWorkingOn}
@@ -16,6 +18,13 @@ use Rattle.crew.specs.declared.turns.Turned.TheVariants.{Onward, Found, Foreign}
 -- the books of a search by the configuration are between two turns
 abbrev pub ArePausedBy : Config → Task → List BookView → List (List (Origin Push)) → ℕ → Type 0
 ArePausedBy config task books trail positions = AreBetweenTurns task config.limit (config.workers + 1) config.locks books trail positions
+
+-- they are, and their last closed layer was looked at and counted, after so many positions
+pub record HasLooked (config : Config) (task : Task) (books : List BookView) (layer : LayerView) (trail : List (List (Origin Push)))
+    (before positions : ℕ) : Type 0 where
+  pub turn : ArePausedBy config task books trail before
+  pub join : IsJoinOf books layer
+  pub counted : IsCounted config.limit trail layer before positions
 
 -- the books of a search by the configuration were at work on the layer, and this is how its last ranks left them
 abbrev pub AreWorkedBy : Config → LayerView → Worked → List BookView → Type 0

@@ -6,7 +6,7 @@ use crate::Paper;
 use crate::boards::TWO_ENDS;
 use crew::{Config, Gate};
 use layers::MAX_SHARES;
-use sokopar::{Reader, Writer, run_solve_with};
+use sokopar::{Reader, SolveRequest, Writer, run_solve_with};
 use std::alloc::Global;
 use std::process::Abort;
 use std::sync::Wait;
@@ -86,8 +86,7 @@ fn passed<R: Threads + Wait + Sync + Abort>(rt: &R, alloc: Global, locks: u8) ->
         rt,
         alloc,
         &mut Reader::new(TWO_ENDS),
-        1,
-        config,
+        SolveRequest { number: 1, config },
         &gate,
         &mut Writer::new(&mut paper),
     );

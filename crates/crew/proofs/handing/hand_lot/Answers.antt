@@ -1,4 +1,4 @@
-use Rattle.std.proofs.Common.{◌≡◌, ◌+◌, ◌*◌, ◌<◌, length, ap, ◌∙◌, rules, arith}
+use Rattle.std.proofs.Common.{◌≡◌, ◌+◌, ◌*◌, ◌<◌, length, ap, rules, arith}
 use Rattle.crew.proofs.Drawing.{grown_twice}
 use Rattle.crew.proofs.Events.{works_twice, works_until}
 use Rattle.crew.specs.inside.Shifts.{ShiftView}

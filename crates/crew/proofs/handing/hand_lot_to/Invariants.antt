@@ -1,4 +1,3 @@
-use Rattle.std.proofs.Common.{◌≡◌}
 use Rattle.crew.specs.inside.Ends.{IsReady}
 use Rattle.crew.specs.inside.Events.{Works}
 use Rattle.crew.specs.inside.Lots.{IsGrown}

@@ -1,4 +1,4 @@
-use Rattle.std.proofs.Common.{refl, ◌∙◌, rules, arith}
+use Rattle.std.proofs.Common.{refl, rules, arith}
 use Rattle.crew.proofs.Drawing.{grown_twice}
 use Rattle.crew.proofs.Events.{works_twice, works_until}
 use Rattle.crew.proofs.handing.lock_or_draw.Goals.{else-loop-test, then-loop-test+in_default+in_ok-draw_more+then-not-branch}

@@ -1,4 +1,4 @@
-use Rattle.std.proofs.Common.{◌≡◌, ◌*◌, [], false, length, sym, ap, subst, ◌∙◌, rules, arith}
+use Rattle.std.proofs.Common.{◌≡◌, ◌*◌, [], false, length, sym, ap, subst, rules, arith}
 use Rattle.crew.specs.inside.Lots.{AreOfLayer}
 use Rattle.crew.proofs.Drawing.{grown_long, grown_of_layer, none_of_layer}
 use Rattle.crew.proofs.Events.{has_drawn, has_handed, asks_drained, asks_until}

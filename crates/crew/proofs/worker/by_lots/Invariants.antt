@@ -1,4 +1,4 @@
-use Rattle.std.proofs.Common.{◌≡◌, length}
+use Rattle.std.proofs.Common.{length}
 use Rattle.crew.specs.inside.Ends.{IsReady}
 use Rattle.crew.specs.inside.Events.{HasLeft}
 use Rattle.crew.specs.inside.Lots.{AreOfLayer}

@@ -1,70 +1,9 @@
-use Rattle.std.proofs.Common.{◌∙◌, get_or, subst, arith}
-use Rattle.solo.specs.inside.Turns.{IsDoneBy, WorkAnswer}
-use Rattle.solo.proofs.Credits.{are_done_by, are_done_by_now}
-use Rattle.solo.proofs.Each.{IsThrough, are_through, may_be_worked, next_kept, on_err, one_changed, one_over, read_back}
+use Rattle.solo.proofs.Rests.{all_at_work}
 use Rattle.solo.proofs.turn.finish_each.Goals as goal
 
-pub finish-requires-clause-begun : goal.finish-requires-clause-begun
-finish-requires-clause-begun c =
-    let books = c.loop-place.books in let place = c.loop-place.place in let d = c.index-books-place.result in
-    c.requires.begun place (get_or books place d) (next_kept IsThrough c.args.books.now place books d
-    (omega (arith, c.loop-place-test.true)) c.loop-place.invariant.through)
-
-pub finish-requires-clause-worker : goal.finish-requires-clause-worker
-finish-requires-clause-worker c =
-    let books = c.loop-place.books in let place = c.loop-place.place in let d = c.index-books-place.result in
-    c.requires.worker place (get_or books place d) (next_kept IsThrough c.args.books.now place books d
-    (omega (arith, c.loop-place-test.true)) c.loop-place.invariant.through)
-
-pub returns-in_err-worked-clause-err : goal.returns-in_err-worked-clause-err
-returns-in_err-worked-clause-err c =
-    let books = c.loop-place.books in let place = c.loop-place.place in let d = c.index-books-place.result in
-    on_err c.from_residual.result (may_be_worked c.args.books.now c.args.layer.now place books (get_or books place d) c.finish.new.book
-    (next_kept IsThrough c.args.books.now place books d (omega (arith, c.loop-place-test.true)) c.loop-place.invariant.through) c.in_err-worked.ensures.err
-    c.loop-place.invariant.through)
-
-pub returns-in-Over-clause-worked : goal.returns-in-Over-clause-worked
-returns-in-Over-clause-worked c =
-    let books = c.loop-place.books in let place = c.loop-place.place in let d = c.index-books-place.result in let after = c.finish.new.book in
-    one_over c.args.books.now place books (get_or books place d) after
-    (next_kept IsThrough c.args.books.now place books d (omega (arith, c.loop-place-test.true)) c.loop-place.invariant.through)
-    (subst (λ worked. WorkAnswer (get_or books place d) worked after) c.in-Over.is c.in_ok-worked.ensures.worked)
-    (read_back c.args.books.now place books after c.index-books-place-in-loop-place.result
-    (omega (arith, c.loop-place-test.true)) c.loop-place.invariant.through.same c.tell.ensures) c.loop-place.invariant.through
-
-pub loop-place-preserved : goal.loop-place-preserved
-loop-place-preserved c =
-    let books = c.loop-place.books in let place = c.loop-place.place in let d = c.index-books-place.result in let after = c.finish.new.book in record {
-      through = one_changed IsThrough c.args.books.now place books (get_or books place d) after c.loop-place.invariant.through
-          (next_kept IsThrough c.args.books.now place books d (omega (arith, c.loop-place-test.true)) c.loop-place.invariant.through) (
-            subst (λ worked. WorkAnswer (get_or books place d) worked after) c.in-Through.is c.in_ok-worked.ensures.worked,
-            read_back c.args.books.now place books after c.index-books-place-in-loop-place.result
-                (omega (arith, c.loop-place-test.true)) c.loop-place.invariant.through.same c.tell.ensures,
-          );
-      credited = one_changed (IsDoneBy c.args.worker) c.args.books.now place books (get_or books place d) after c.loop-place.invariant.credited
-          (next_kept (IsDoneBy c.args.worker) c.args.books.now place books d (omega (arith, c.loop-place-test.true)) c.loop-place.invariant.credited)
-          c.finish.ensures.credited;
-      size = c.finish.ensures.size ∙ c.loop-place.invariant.size;
-    }
+pub finish_rest-requires-clause-begun : goal.finish_rest-requires-clause-begun
+finish_rest-requires-clause-begun c = λ i v at begun. c.requires.begun i v at
 
 pub returns-clause-worked : goal.returns-clause-worked
-returns-clause-worked c =
-    are_through c.args.books.now c.loop-place.place c.loop-place.books (omega (arith, c.loop-place-test.false, c.loop-place.invariant.through.same))
-    c.loop-place.invariant.through
-
-pub returns-clause-credited : goal.returns-clause-credited
-returns-clause-credited c = are_done_by c.args.worker c.args.books.now c.loop-place.place c.loop-place.books c.loop-place.invariant.credited
-
-pub returns-in_err-worked-clause-credited : goal.returns-in_err-worked-clause-credited
-returns-in_err-worked-clause-credited c =
-    let books = c.loop-place.books in let place = c.loop-place.place in let d = c.index-books-place.result in
-    are_done_by_now c.args.worker c.args.books.now place books (get_or books place d) c.finish.new.book c.loop-place.invariant.credited
-    (next_kept (IsDoneBy c.args.worker) c.args.books.now place books d (omega (arith, c.loop-place-test.true)) c.loop-place.invariant.credited)
-    c.finish.ensures.credited
-
-pub returns-in-Over-clause-credited : goal.returns-in-Over-clause-credited
-returns-in-Over-clause-credited c =
-    let books = c.loop-place.books in let place = c.loop-place.place in let d = c.index-books-place.result in
-    are_done_by_now c.args.worker c.args.books.now place books (get_or books place d) c.finish.new.book c.loop-place.invariant.credited
-    (next_kept (IsDoneBy c.args.worker) c.args.books.now place books d (omega (arith, c.loop-place-test.true))
-    c.loop-place.invariant.credited) c.finish.ensures.credited
+returns-clause-worked c = all_at_work c.args.books.now c.finish_rest.new.books (λ i v at. (c.requires.begun i v at).2) c.finish_rest.result
+    c.finish_rest.ensures.worked

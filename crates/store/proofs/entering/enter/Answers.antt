@@ -1,7 +1,7 @@
 use Rattle.std.proofs.Common.{refl, sym, ap, subst, ◌∙◌}
-use Rattle.store.specs.FoundView.{NoneExceed, seen_of, open_of, let_in}
-use Rattle.store.proofs.Lasts.{let_in_last}
-use Rattle.store.proofs.Tails.{joined, let_in_kept, let_in_put}
+use Rattle.store.specs.FoundView.{NoneExceed, seen_of, open_of}
+use Rattle.store.proofs.Lasts.{let_in_last, put_parts}
+use Rattle.store.proofs.Tails.{let_in_kept}
 use Rattle.store.proofs.entering.enter.Goals as goal
 
 pub returns-then-is_kept-clause-waiting : goal.returns-then-is_kept-clause-waiting
@@ -13,37 +13,19 @@ returns-then-is_kept-clause-waiting g c =
 pub returns-clause-found : goal.returns-clause-found
 returns-clause-found g c =
     let start = c.args.start in let es = c.args.table.now.entries in
-    let all = let_in_put start es c.is_kept.new.table.entries c.args.key.now c.args.origin c.requires.found c.if-is_kept.ensures.kept
+    let parts = put_parts start es c.is_kept.new.table.entries c.args.key.now c.args.origin c.requires.found.found c.if-is_kept.ensures.kept
     (c.if-is_kept.ensures.put refl) in
-    let parts = joined start es c.is_kept.new.table.entries
-    (let_in (seen_of start es) (open_of start es) (c.args.key.now, c.args.origin)) c.requires.found.within all in
-    parts.2
+    record {
+      found = parts.2;
+      last = subst (λ ws. NoneExceed ws c.later.result) (sym parts.1)
+          (let_in_last (seen_of start es) (open_of start es) c.args.key.now c.args.origin c.args.last.now c.later.result c.requires.found.last
+          c.later.ensures.this c.later.ensures.that);
+    }
 
 pub returns-clause-seen : goal.returns-clause-seen
-returns-clause-seen g c =
-    let start = c.args.start in let es = c.args.table.now.entries in
-    let all = let_in_put start es c.is_kept.new.table.entries c.args.key.now c.args.origin c.requires.found c.if-is_kept.ensures.kept
-    (c.if-is_kept.ensures.put refl) in
-    let parts = joined start es c.is_kept.new.table.entries
-    (let_in (seen_of start es) (open_of start es) (c.args.key.now, c.args.origin)) c.requires.found.within all in
-    parts.0
+returns-clause-seen g c = (put_parts c.args.start c.args.table.now.entries c.is_kept.new.table.entries c.args.key.now c.args.origin c.requires.found.found
+    c.if-is_kept.ensures.kept (c.if-is_kept.ensures.put refl)).0
 
 pub returns-clause-waiting : goal.returns-clause-waiting
-returns-clause-waiting g c =
-    let start = c.args.start in let es = c.args.table.now.entries in
-    let all = let_in_put start es c.is_kept.new.table.entries c.args.key.now c.args.origin c.requires.found c.if-is_kept.ensures.kept
-    (c.if-is_kept.ensures.put refl) in
-    let parts = joined start es c.is_kept.new.table.entries
-    (let_in (seen_of start es) (open_of start es) (c.args.key.now, c.args.origin)) c.requires.found.within all in
-    parts.1
-
-pub returns-clause-last : goal.returns-clause-last
-returns-clause-last g c =
-    let start = c.args.start in let es = c.args.table.now.entries in
-    let all = let_in_put start es c.is_kept.new.table.entries c.args.key.now c.args.origin c.requires.found c.if-is_kept.ensures.kept
-    (c.if-is_kept.ensures.put refl) in
-    let parts = joined start es c.is_kept.new.table.entries
-    (let_in (seen_of start es) (open_of start es) (c.args.key.now, c.args.origin)) c.requires.found.within all in
-    subst (λ ws. NoneExceed ws c.later.result) (sym parts.1)
-    (let_in_last (seen_of start es) (open_of start es) c.args.key.now c.args.origin c.args.last.now c.later.result c.requires.last c.later.ensures.this
-    c.later.ensures.that)
+returns-clause-waiting g c = (put_parts c.args.start c.args.table.now.entries c.is_kept.new.table.entries c.args.key.now c.args.origin c.requires.found.found
+    c.if-is_kept.ensures.kept (c.if-is_kept.ensures.put refl)).1

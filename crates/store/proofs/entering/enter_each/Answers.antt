@@ -20,5 +20,4 @@ loop-offer-preserved g c =
       omega (arith, c.enter.ensures.room, c.loop-offer.invariant.1),
       c.enter.ensures.found,
       c.enter.ensures.seen ∙ c.loop-offer.invariant.3,
-      c.enter.ensures.last,
     )

@@ -1,6 +1,7 @@
 use Rattle.std.proofs.Common.{◌≡◌, ◌+◌, ◌≤◌, length, take}
 use Rattle.indexmap.specs.IndexMap.{spare}
-use Rattle.store.specs.FoundView.{IsFound, NoneExceed, seen_of, open_of, all_let_in}
+use Rattle.store.specs.inside.FoundUpTo.{IsFoundUpTo}
+use Rattle.store.specs.FoundView.{seen_of, open_of, all_let_in}
 use Rattle.store.proofs.entering.enter_each.Given as goal
 
 abbrev pub invariant-loop-offer : goal.invariant-loop-offer
@@ -8,6 +9,5 @@ invariant-loop-offer g l =
     (open_of l.start l.table.entries ≡ all_let_in (seen_of l.start l.initial.table.entries) (open_of l.start l.initial.table.entries)
     (take l.offer-index l.offers))
     × (length l.offers ≤ spare l.table + l.offer-index)
-    × IsFound l.start l.table.entries
+    × IsFoundUpTo l.start l.table.entries l.last
     × (seen_of l.start l.table.entries ≡ seen_of l.start l.initial.table.entries)
-    × NoneExceed (open_of l.start l.table.entries) l.last

@@ -12,7 +12,7 @@ returns-in-Ok-Vacant-clause-kept g c =
     let es = c.args.table.now.entries in
     let none = c.in-Ok-Vacant.ensures.found in
     let there : lookup (same_scene c.copy.result) es ≡ None = search (rules, none) in
-    absent_not_kept c.args.key.now c.args.origin c.args.start es c.requires.found (ap (λ k. lookup (same_scene k) es) (sym c.copy.ensures) ∙ there)
+    absent_not_kept c.args.key.now c.args.origin c.args.start es c.requires.found.found (ap (λ k. lookup (same_scene k) es) (sym c.copy.ensures) ∙ there)
 
 pub returns-then-index-start-clause-kept : goal.returns-then-index-start-clause-kept
 returns-then-index-start-clause-kept g c =
@@ -35,8 +35,8 @@ returns-then-not-is_before-clause-kept g c =
     let read = c.get-known.ensures in
     let there : lookup (same_scene c.copy.result) es ≡ Some c.get-known.result.now = search (rules, value, read) in
     let here = ap (λ k. lookup (same_scene k) es) (sym c.copy.ensures) ∙ there in
-    late_kept c.args.key.now c.args.origin c.args.start es c.requires.found c.get-known.result.now c.args.last here c.requires.last (sym c.is_before.ensures ∙
-    c.if-not-is_before.true)
+    late_kept c.args.key.now c.args.origin c.args.start es c.requires.found.found c.get-known.result.now c.args.last here c.requires.found.last
+    (sym c.is_before.ensures ∙ c.if-not-is_before.true)
 
 pub returns-then-not-exceeds-clause-kept : goal.returns-then-not-exceeds-clause-kept
 returns-then-not-exceeds-clause-kept g c =
@@ -50,7 +50,7 @@ returns-then-not-exceeds-clause-kept g c =
     let stood : c.index.result ≡ position_or_len (same_scene c.copy.result) (keys_of es) = search (rules, place, told) in
     let at = stood ∙ ap (λ k. position_or_len (same_scene k) (keys_of es)) c.copy.ensures in
     ap not (sym c.if-not-exceeds.true) ∙ ap (λ b. b || not c.exceeds.result) (sym (not_below c.index.result c.args.start c.if-index-start.false)) ∙
-    there_kept c.args.key.now c.args.origin c.args.start es c.requires.found c.index.result c.get-known.result.now c.exceeds.result
+    there_kept c.args.key.now c.args.origin c.args.start es c.requires.found.found c.index.result c.get-known.result.now c.exceeds.result
     (stands c.args.key.now c.get-known.result.now es c.index.result here at) here c.exceeds.ensures
 
 pub returns-else-not-exceeds-clause-kept : goal.returns-else-not-exceeds-clause-kept
@@ -65,5 +65,5 @@ returns-else-not-exceeds-clause-kept g c =
     let stood : c.index.result ≡ position_or_len (same_scene c.copy.result) (keys_of es) = search (rules, place, told) in
     let at = stood ∙ ap (λ k. position_or_len (same_scene k) (keys_of es)) c.copy.ensures in
     ap not (sym c.if-not-exceeds.false) ∙ ap (λ b. b || not c.exceeds.result) (sym (not_below c.index.result c.args.start c.if-index-start.false)) ∙
-    there_kept c.args.key.now c.args.origin c.args.start es c.requires.found c.index.result c.get-known.result.now c.exceeds.result
+    there_kept c.args.key.now c.args.origin c.args.start es c.requires.found.found c.index.result c.get-known.result.now c.exceeds.result
     (stands c.args.key.now c.get-known.result.now es c.index.result here at) here c.exceeds.ensures

@@ -11,7 +11,7 @@ loop-place-preserved g c =
     let within = c.requires.places i p (slice_get-get_or places i 0 c.loop-place-test.true) in (
       offer_more c.args.rank i p c.args.successors.now places s c.args.inbox.now.items c.loop-place.inbox.items c.append_offer.new.inbox.items
           c.loop-place-test.true refl within c.index-successors-place.is c.loop-place.invariant.0 c.append_offer.ensures.items,
-      omega (arith, c.append_offer.ensures.len, c.append_offer.ensures.capacity, c.loop-place.invariant.1),
+      omega (arith, c.append_offer.ensures.room.0, c.append_offer.ensures.room.1, c.loop-place.invariant.1),
     )
 
 pub append_offer-requires : goal.append_offer-requires

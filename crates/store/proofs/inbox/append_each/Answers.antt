@@ -18,7 +18,7 @@ loop-place-preserved g c =
       c.append.ensures.items ∙ ap (λ xs. xs ++ offer_of c.args.shares c.args.share c.args.rank s) c.loop-place.invariant.0
           ∙ append_assoc before (offers (take i ss)) (offer_of c.args.shares c.args.share c.args.rank s)
           ∙ ap (λ xs. before ++ xs) (sym (offers_more c.args.shares c.args.share c.args.rank (take i ss) s) ∙ ap offers (sym more)),
-      omega (arith, c.append.ensures.len, c.append.ensures.capacity, c.loop-place.invariant.1),
+      omega (arith, c.append.ensures.room.0, c.append.ensures.room.1, c.loop-place.invariant.1),
     )
 
 pub append-requires : goal.append-requires

@@ -21,7 +21,7 @@ returns c =
     let long_b : c.len-2.result ≡ length c.args.first.now.closed = omega (arith, c.len-2.ensures, lists_b) in (
       λ same. (
         ap (λ (v : BookView). v.share) (sym c.self.view_is) ∙ c.if-self-place.false,
-        c.is_of.ensures.0 c.if-not-is_of.false ∙ ap (λ (v : BookView). v.level) c.first.view_is,
+        ap (λ (v : BookView). v.level) (sym c.self.view_is) ∙ c.is.ensures.0 c.if-not-is.false ∙ ap (λ (v : BookView). v.level) c.first.view_is,
         ap (λ (v : BookView). v.limit) (sym c.self.view_is) ∙ c.if-self-first.false ∙ ap (λ (v : BookView). v.limit) c.first.view_is,
         ap (λ (v : BookView). v.shares) (sym c.self.view_is) ∙ c.if-self-first-2.false ∙ ap (λ (v : BookView). v.shares) c.first.view_is,
         sym long_a ∙ decided c.len.result c.len-2.result same ∙ long_b,

@@ -43,7 +43,6 @@ invariant_of-self-2 g c =
         ap length c.successors-successors.ensures,
         c.in_ok-make_room.ensures.ok.0,
       ),
-      c.make_room.ensures.last,
     )
 
 pub returns-clause-ok : goal.returns-clause-ok

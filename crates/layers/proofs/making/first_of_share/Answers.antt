@@ -4,7 +4,7 @@ use Rattle.grid.specs.Board.{Scene}
 use Rattle.layers.specs.BookView.{IsShareOfLayer}
 use Rattle.store.specs.FoundView.{first_entries}
 use Rattle.layers.proofs.First.{share_without, share_with, share_beside}
-use Rattle.layers.proofs.book.first_of_share.Goals as goal
+use Rattle.layers.proofs.making.first_of_share.Goals as goal
 
 pub returns-in_default-clause-layer : goal.returns-in_default-clause-layer
 returns-in_default-clause-layer c = share_without c.args.task.now c.tell.ensures c.args.shares c.args.share c.args.first.now c.requires.first (search rules)

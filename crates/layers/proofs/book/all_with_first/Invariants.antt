@@ -1,6 +1,0 @@
-use Rattle.std.proofs.Common.{◌≡◌, length}
-use Rattle.layers.specs.Books.{AreNewInOrder}
-use Rattle.layers.proofs.book.all_with_first.Given as goal
-
-abbrev pub invariant-loop-share : goal.invariant-loop-share
-invariant-loop-share l = (length l.books.items ≡ l.share) × AreNewInOrder l.task l.limit l.workers l.shares l.books.items

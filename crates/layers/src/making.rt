@@ -1,0 +1,251 @@
+//! New books: that of one share of a level's positions, and those of all shares.
+ghost use Rattle.std.specs.Prelude.{◌≡◌, ◌+◌, ◌*◌, ◌<◌, ◌≤◌, IfOk, IfSome, MatchResult, [], length, replicate};
+ghost use Rattle.grid.specs.Board.{start};
+ghost use Rattle.grid.specs.Lawful.{box_count};
+ghost use Rattle.grid.specs.States.{FitsLevel};
+ghost use Rattle.successors.specs.Capping.{capped};
+ghost use Rattle.layers.specs.BookView.{AreBounds, IsShareOfLayer};
+ghost use Rattle.layers.specs.Books.{AreNewShares, IsNew, BookRefused};
+ghost use Rattle.layers.specs.inside.BookInside.{IsFirst};
+ghost use Rattle.store.specs.FoundView.{first_entries};
+ghost use Rattle.std.specs.Arc.{arc_value};
+
+use crate::book::{APART, Book};
+use crate::fault::BookFault;
+use crate::limits::MAX_WORKERS;
+use crate::marks::Marks;
+use area::{Scratch, normal};
+use doom::doomed;
+use grid::{Level, MAX_BOXES, Position};
+use std::alloc::{AllocError, Global};
+use std::sync::Arc;
+use store::Found;
+use successors::{MAX_SHARES, Pruner, Task, is_admitted, share_of};
+
+/// To how many workers, and in how many shares, the positions of a level are dealt.
+#[derive(Clone, Copy, PartialEq, Eq, Debug)]
+pub struct Dealing {
+    pub workers: u8,
+    pub shares: u8,
+}
+
+impl Book {
+    /// A book of a share of the level's positions, with layer 0 closed, which is empty where the start is doomed, needs
+    /// more pushes than the cap by what lone boxes need, or is of another share. The only errors are that the level has more
+    /// boxes than [`MAX_BOXES`](grid::MAX_BOXES), and that memory was refused.
+    pub fn of(
+        alloc: Global,
+        level: Arc<Level>,
+        cap: Option<u32>,
+        limit: u32,
+        workers: u8,
+        share: u8,
+        shares: u8,
+    ) -> Result<Book, BookFault>
+        requires limit { 1 ≤ limit }
+        requires workers { (1 ≤ workers) × (workers ≤ MAX_WORKERS + 1) }
+        requires share { share < shares }
+        requires shares { shares ≤ MAX_SHARES }
+        ensures ok { IfOk result (λ book. IsNew (capped (arc_value level) cap) limit workers share shares book) }
+        ensures variant { MatchResult result (λ book. box_count (arc_value level) ≤ MAX_BOXES) (λ fault. BookRefused (arc_value level) fault) }
+    {
+        level.tell();
+        level.tell_start();
+        let Some(start) = Position::start(&level) else {
+            return Err(BookFault::TooManyBoxes);
+        };
+        let task = Task::of(level, cap);
+        let first = first_alone(alloc, &task, &start)?;
+        let dealing = Dealing { workers, shares };
+        match Book::with_first(alloc, task, &first, limit, dealing, share) {
+            Ok(book) => Ok(book),
+            Err(_) => Err(BookFault::OutOfMemory),
+        }
+    }
+
+    /// The books of all shares of the level's positions, share 0 first, each as [`Book::of`] makes it. What all of them
+    /// want is found once, by the pruner, whose cap is theirs, and the scratch that are lent. The only errors are that the level has
+    /// more boxes than [`MAX_BOXES`](grid::MAX_BOXES), and that memory was refused.
+    pub fn of_all_shares(
+        alloc: Global,
+        level: &Arc<Level>,
+        pruner: &Pruner,
+        limit: u32,
+        dealing: Dealing,
+        scratch: &mut Scratch,
+    ) -> Result<Vec<Book>, BookFault>
+        requires pruner_of_level { pruner.now.board ≡ arc_value level.now }
+        requires limit { 1 ≤ limit }
+        requires workers { (1 ≤ dealing.workers) × (dealing.workers ≤ MAX_WORKERS + 1) }
+        requires shares { (1 ≤ dealing.shares) × (dealing.shares ≤ MAX_SHARES) }
+        requires room { scratch.old.size ≡ length (arc_value level.now).cells }
+        ensures ok { IfOk result (λ books. AreNewShares pruner.now limit dealing.workers dealing.shares books.items) }
+        ensures variant { MatchResult result (λ books. box_count (arc_value level.now) ≤ MAX_BOXES) (λ fault. BookRefused (arc_value level.now) fault) }
+        ensures size { scratch.new.size ≡ scratch.old.size }
+    {
+        level.tell();
+        level.tell_start();
+        let Some(start) = Position::start(level) else {
+            return Err(BookFault::TooManyBoxes);
+        };
+        let task = match Arc::try_clone(level) {
+            Ok(level) => Task::of(level, pruner.cap()),
+            Err(_) => return Err(BookFault::OutOfMemory),
+        };
+        let first = first_position(&task, pruner, &start, scratch);
+        match all_with_first(alloc, &task, &first, limit, dealing) {
+            Ok(books) => Ok(books),
+            Err(_) => Err(BookFault::OutOfMemory),
+        }
+    }
+
+    // A book whose layer 0 is the first position of the level, if there is one and it is of the share.
+    fn with_first(
+        alloc: Global,
+        task: Task,
+        first: &Option<Position>,
+        limit: u32,
+        dealing: Dealing,
+        share: u8,
+    ) -> Result<Book, AllocError>
+        requires bounds { AreBounds limit dealing.workers share dealing.shares }
+        requires few { box_count task.board ≤ MAX_BOXES }
+        requires first { IsFirst task first.now }
+        ensures { IfOk result (λ book. IsNew task limit dealing.workers share dealing.shares book) }
+    {
+        task.tell();
+        let tallies = first_tallies(alloc, dealing.workers)?;
+        let mut starts = Vec::new(alloc);
+        starts.resize(1, 0)?;
+        let found = found_of_share(alloc, &task, first, share, dealing.shares)?;
+        Ok(Book {
+            task,
+            limit,
+            workers: dealing.workers,
+            share,
+            shares: dealing.shares,
+            found,
+            starts,
+            begun: false,
+            claimed: Marks::none(alloc),
+            done: Marks::none(alloc),
+            next: 0,
+            tallies,
+            over: false,
+            apart: [0; APART],
+        })
+    }
+}
+
+// The books of all shares, share 0 first, where the first position of the level is found already.
+fn all_with_first(
+    alloc: Global,
+    task: &Task,
+    first: &Option<Position>,
+    limit: u32,
+    dealing: Dealing,
+) -> Result<Vec<Book>, AllocError>
+    requires limit { 1 ≤ limit }
+    requires workers { (1 ≤ dealing.workers) × (dealing.workers ≤ MAX_WORKERS + 1) }
+    requires shares { (1 ≤ dealing.shares) × (dealing.shares ≤ MAX_SHARES) }
+    requires few { box_count task.now.board ≤ MAX_BOXES }
+    requires first { IsFirst task.now first.now }
+    ensures { IfOk result (λ books. AreNewShares task.now limit dealing.workers dealing.shares books.items) }
+{
+    let mut books = Vec::with_capacity(alloc, dealing.shares as usize)?;
+    for share in 0..dealing.shares {
+        let task = task.try_clone()?;
+        let book = Book::with_first(alloc, task, first, limit, dealing, share)?;
+        books.push(book)?;
+    }
+    Ok(books)
+}
+
+// The first position of a level, by a pruner and in a scratch of its own. The only error is that memory was refused.
+fn first_alone(
+    alloc: Global,
+    task: &Task,
+    position: &Position,
+) -> Result<Option<Position>, AllocError>
+    requires start { position.now ≡ start task.now.board }
+    requires fits { FitsLevel task.now.board position.now }
+    ensures { IfOk result (λ first. IsFirst task.now first) }
+{
+    let pruner = Pruner::of(alloc, task.level(), task.cap())?;
+    let mut scratch = Scratch::new(alloc, task.level())?;
+    let first = first_position(task, &pruner, position, &mut scratch);
+    Ok(first)
+}
+
+// The first position of a level: the start's normal position, or none where the start is doomed or not admitted.
+fn first_position(
+    task: &Task,
+    pruner: &Pruner,
+    position: &Position,
+    scratch: &mut Scratch,
+) -> Option<Position>
+    requires start { position.now ≡ start task.now.board }
+    requires fits { FitsLevel task.now.board position.now }
+    requires pruner_of_task { pruner.now ≡ task.now }
+    requires room { scratch.old.size ≡ length task.now.board.cells }
+    ensures first { IsFirst task.now result }
+    ensures size { scratch.new.size ≡ scratch.old.size }
+{
+    let level = task.level();
+    if doomed(level, pruner.dead(), position, scratch) {
+        return None;
+    }
+    if !is_admitted(task, pruner.bound(), position) {
+        return None;
+    }
+    let normal = normal(level, position, scratch);
+    Some(normal)
+}
+
+// The tallies of so many workers, who have handed nothing back. They take more room than they have words, so that the tallies of
+// the next book are not on their lines of memory.
+fn first_tallies(alloc: Global, workers: u8) -> Result<Vec<u64>, AllocError>
+    ensures { IfOk result (λ tallies. tallies.items ≡ replicate workers 0) }
+{
+    let mut tallies = Vec::with_capacity(alloc, workers as usize + APART)?;
+    tallies.resize(workers as usize, 0)?;
+    Ok(tallies)
+}
+
+// What a book of the share has found at first: the first position, if there is one and it is of the share.
+fn found_of_share(
+    alloc: Global,
+    task: &Task,
+    first: &Option<Position>,
+    share: u8,
+    shares: u8,
+) -> Result<Found, AllocError>
+    requires few { box_count task.now.board ≤ MAX_BOXES }
+    requires first { IsFirst task.now first.now }
+    requires shares { 0 < shares }
+    ensures layer { IfOk result (λ found. IsShareOfLayer task.now shares share 0 found.seen × (length found.seen ≤ 1)) }
+    ensures waiting { IfOk result (λ found. found.waiting ≡ []) }
+    ensures size { IfOk result (λ found. (found.boxes ≡ box_count task.now.board) × (found.squares ≡ length task.now.board.cells)) }
+{
+    let own = first_of_share(task, first, share, shares);
+    let squares = task.level().squares();
+    let found = Found::of(alloc, task.boxes(), squares, &own)?;
+    Ok(found)
+}
+
+// The share's position of layer 0: the first position, if there is one and it is of the share.
+fn first_of_share(task: &Task, first: &Option<Position>, share: u8, shares: u8) -> Option<Position>
+    requires first { IsFirst task.now first.now }
+    requires shares { 0 < shares }
+    ensures layer { IsShareOfLayer task.now shares share 0 (first_entries result) }
+    ensures fits { IfSome result (FitsLevel task.now.board) }
+{
+    task.tell();
+    let Some(position) = first else {
+        return None;
+    };
+    if share_of(position, shares) != share {
+        return None;
+    }
+    Some(position.copy())
+}
