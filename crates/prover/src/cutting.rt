@@ -5,7 +5,11 @@ ghost use Rattle.prover.specs.inside.Benches.{stretch_start};
 use crate::expansion::Span;
 
 /// So many positions each worker expands at most before what they lead to is entered.
-const MOST: usize = 1024;
+const MOST: usize = 4096;
+
+/// What is found takes room for so many squares or little more: a position with more boxes leads to more positions, each
+/// of more squares, so fewer are expanded.
+const MOST_SQUARES: usize = 1 << 16;
 
 /// For fewer positions than so many a further thread would take longer than it spares.
 const LEAST: usize = 32;
@@ -19,8 +23,9 @@ pub(crate) struct Cut {
 }
 
 impl Cut {
-    /// So that each of so many workers gets about as many positions, if that is not too many. Nothing rests on how many.
-    pub(crate) fn of(span: Span, workers: usize) -> Cut
+    /// So that each of so many workers gets about as many positions of so many boxes, if that is not too many. Nothing rests
+    /// on how many.
+    pub(crate) fn of(span: Span, workers: usize, boxes: usize) -> Cut
         requires order { span.from ≤ span.to }
         ensures from { result.from ≡ span.from }
         ensures to { result.to ≡ span.to }
@@ -31,7 +36,7 @@ impl Cut {
         Cut {
             from,
             to,
-            size: share.max(LEAST).min(MOST),
+            size: share.min(most_of(boxes)).max(LEAST),
         }
     }
 
@@ -69,4 +74,11 @@ impl Cut {
             to: self.start(number + 1),
         }
     }
+}
+
+// How many positions of so many boxes a worker expands at most.
+fn most_of(boxes: usize) -> usize {
+    let squares = boxes.saturating_add(1);
+    let most = MOST_SQUARES / squares.saturating_mul(squares).max(1);
+    most.min(MOST)
 }

@@ -56,18 +56,22 @@ impl Store {
         &self.entries
     }
 
-    /// Whether the position was seen after no more pushes.
-    pub(crate) fn knows(&self, position: &Position, pushes: u32) -> bool
+    /// Whether the position, which has this hash, was seen after no more pushes.
+    pub(crate) fn knows(&self, position: &Position, hash: u64, pushes: u32) -> bool
         ensures { IsTrue result → IsSeen self.now.seen pushes position.now }
     {
         let (tags, places) = (self.tags.as_slice(), self.places.as_slice());
-        let hash = hash_with(hash_of(position.boxes()), position.player());
         free_slot(&self.entries, tags, places, hash, position, pushes).is_none()
     }
 
-    /// Enters a position, if it was not seen after as few pushes. The only error is that memory was refused, and it leaves the
-    /// positions as they were.
-    pub(crate) fn enter(&mut self, position: &Position, label: Label) -> Result<(), AllocError>
+    /// Enters a position, which has this hash, if it was not seen after as few pushes. The only error is that memory was
+    /// refused, and it leaves the positions as they were.
+    pub(crate) fn enter(
+        &mut self,
+        position: &Position,
+        hash: u64,
+        label: Label,
+    ) -> Result<(), AllocError>
         requires { length position.now.boxes ≡ self.old.boxes }
         ensures ok { OnOk result ((IsSeen self.old.seen label.pushes position.now × (self.new ≡ self.old)) ⊎
             (self.new ≡ with_entry self.old position.now label.pushes)) }
@@ -75,7 +79,6 @@ impl Store {
     {
         self.make_room()?;
         let (tags, places) = (self.tags.as_slice(), self.places.as_slice());
-        let hash = hash_with(hash_of(position.boxes()), position.player());
         let found = free_slot(&self.entries, tags, places, hash, position, label.pushes);
         let Some(slot) = found else {
             return Ok(());
@@ -135,7 +138,7 @@ fn put_all(entries: &Entries, tags: &mut [u8], places: &mut [u32])
 {
     for place in 0..entries.len() {
         if let Some(row) = entries.row(place) {
-            put(tags, places, hash_of(row), place);
+            put(tags, places, hash_squares(row), place);
         }
     }
 }
@@ -224,8 +227,13 @@ fn tag_of(hash: u64) -> u8 {
     (hash % 255) as u8 + 1
 }
 
+/// The hash of a position, which nothing rests on but how soon it is found.
+pub(crate) fn hash_of(position: &Position) -> u64 {
+    hash_with(hash_squares(position.boxes()), position.player())
+}
+
 // A number that is mostly another one for other squares.
-fn hash_of(squares: &[Square]) -> u64 {
+fn hash_squares(squares: &[Square]) -> u64 {
     let mut hash = 0;
     for square in squares {
         hash = hash_with(hash, *square);
