@@ -7,11 +7,11 @@ use crate::expansion::Span;
 /// So many positions each worker expands at most before what they lead to is entered.
 const MOST: usize = 4096;
 
-/// What is found takes room for so many squares or little more: a position with more boxes leads to more positions, each
-/// of more squares, so fewer are expanded.
-const MOST_SQUARES: usize = 1 << 16;
+/// A position with more boxes leads to more positions, each of more squares, and each takes longer: so many positions are
+/// expanded, over the number of their squares to the third power.
+const MOST_CUBED: usize = 1 << 19;
 
-/// For fewer positions than so many a further thread would take longer than it spares.
+/// For fewer positions of few boxes than so many a further thread would take longer than it spares.
 const LEAST: usize = 32;
 
 /// The positions from one place up to another, cut in stretches of so many each, of which the last may be shorter.
@@ -36,7 +36,7 @@ impl Cut {
         Cut {
             from,
             to,
-            size: share.min(most_of(boxes)).max(LEAST),
+            size: share.max(LEAST).min(most_of(boxes)),
         }
     }
 
@@ -77,8 +77,10 @@ impl Cut {
 }
 
 // How many positions of so many boxes a worker expands at most.
-fn most_of(boxes: usize) -> usize {
+fn most_of(boxes: usize) -> usize
+    ensures { 0 < result }
+{
     let squares = boxes.saturating_add(1);
-    let most = MOST_SQUARES / squares.saturating_mul(squares).max(1);
-    most.min(MOST)
+    let cubed = squares.saturating_mul(squares).saturating_mul(squares);
+    (MOST_CUBED / cubed.max(1)).min(MOST).max(1)
 }
