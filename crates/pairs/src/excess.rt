@@ -46,6 +46,29 @@ impl Pairs {
         Ok(Pairs { distances, table })
     }
 
+    /// The pairs of a level before their table is made: they say what the prices say. The only error is that memory was
+    /// refused.
+    pub fn of_prices(alloc: Global, level: &Level) -> Result<Pairs, AllocError>
+        requires { box_count level.now ≤ MAX_BOXES }
+        ensures { IfOk result (λ pairs. pairs ≡ level.now) }
+    {
+        let far = Distances::of(alloc, level)?;
+        Ok(Pairs {
+            distances: far,
+            table: None,
+        })
+    }
+
+    /// Makes the table anew, if it would not be too large. The only error is that memory was refused, and it leaves the pairs
+    /// as they were.
+    pub fn make_table(&mut self, alloc: Global, level: &Level) -> Result<(), AllocError>
+        requires { level.now ≡ self.old }
+        ensures { self.new ≡ self.old }
+    {
+        self.table = checked(alloc, level, &self.distances)?;
+        Ok(())
+    }
+
     /// The distances of lone boxes.
     pub fn distances(&self) -> &Distances
         ensures { result.now.level ≡ self.now }

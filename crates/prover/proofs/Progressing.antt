@@ -15,7 +15,7 @@ use Rattle.doom.specs.Lost.{IsLost}
 use Rattle.prices.specs.Solving.{NoneWithin}
 use Rattle.prices.proofs.lemmas.Solving.{none_is_not_solvable, norms_change_nothing}
 use Rattle.prover.specs.Frame.{Seen, IsSeen, Keeps}
-use Rattle.prover.specs.Pruning.{IsDone}
+use Rattle.prover.specs.Pruning.{IsDone, after_push}
 use Rattle.prover.specs.inside.Entries.{EntriesView, Grows, IsReached}
 use Rattle.prover.specs.inside.Progress.{IsChosen, IsDoneWith, AreDoneWith, AllFit, AreExpanded, AreUnsolved, IsUnderWay}
 use Rattle.prover.proofs.lemmas.Frame.{search_decides}
@@ -107,6 +107,12 @@ lost_none board left s lost ds ps t play solved = absurd (lost t ds ps play solv
 pub norm_none : (board : Board) (left : ℕ) (s n : Scene) → IsScene board s → IsNorm board s n → NoneWithin board left n → NoneWithin board left s
 norm_none board left s n scene norm none =
     (none_is_not_solvable board left s).1 (λ h. (none_is_not_solvable board left n).0 none ((norms_change_nothing board s n scene norm left).0 h))
+
+-- where the normal position after a push is kept, or none solves it in time, the push is done with
+pub done_by : (board : Board) (left : ℕ) (Kept : Scene → Type 0) (s n : Scene) (p : Push) → IsScene board (after_push board s p) →
+    IsNorm board (after_push board s p) n → Kept n ⊎ NoneWithin board left n → IsDoneWith board left Kept s p
+done_by board left Kept s n p scene norm (inl kept) = inl (n, norm, kept)
+done_by board left Kept s n p scene norm (inr none) = inr (norm_none board left (after_push board s p) n scene norm none)
 
 pub reached_on : (all : List Seen) (v w : EntriesView) (k : ℕ) (t : Scene) → Grows v w → IsReached all v.seen k t → IsReached all w.seen k t
 reached_on all v w k t grows (inl seen) = inl seen

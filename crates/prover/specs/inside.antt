@@ -2,3 +2,4 @@
 pub mod Entries
 pub mod Progress
 pub mod Benches
+pub mod Working

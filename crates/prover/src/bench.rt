@@ -5,7 +5,7 @@ ghost use Rattle.prover.specs.inside.Benches.{AreRoomy, IsWorked, IsRoomy};
 ghost use Rattle.prover.specs.inside.Progress.{AllFit};
 
 use crate::desk::Desk;
-use crate::expansion::{Span, expand_all};
+use crate::expansion::{Round, Span, expand_all};
 use crate::pruner::Pruner;
 use crate::store::Store;
 use grid::{Level, MAX_BOXES};
@@ -70,6 +70,11 @@ pub(crate) fn work(pruner: &Pruner<'_>, store: &Store, most: u32, span: Span, be
     ensures { IsWorked pruner.now most store.now.seen span.from span.to bench.new }
 {
     bench.more.clear();
-    let expanded = expand_all(pruner, store, most, span, &mut bench.desk, &mut bench.more);
+    let round = Round {
+        pruner,
+        store,
+        most,
+    };
+    let expanded = expand_all(&round, span, &mut bench.desk, &mut bench.more);
     bench.is_whole = expanded.is_ok();
 }

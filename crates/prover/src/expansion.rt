@@ -1,8 +1,8 @@
 //! Positions that are expanded: what their pushes lead to is gathered, but for what may be left out.
-ghost use Rattle.std.specs.Prelude.{◌≡◌, ◌+◌, ◌<◌, ◌≤◌, ℕ, suc, [], OnOk, length};
-ghost use Rattle.grid.specs.Board.{Board};
+ghost use Rattle.std.specs.Prelude.{◌≡◌, ◌⊎◌, ◌+◌, ◌<◌, ◌≤◌, ℕ, suc, [], OnOk, length};
 ghost use Rattle.grid.specs.Lawful.{box_count};
 ghost use Rattle.grid.specs.States.{FitsLevel};
+ghost use Rattle.prices.specs.Solving.{NoneWithin};
 ghost use Rattle.prover.specs.Frame.{Keeps};
 ghost use Rattle.prover.specs.inside.Entries.{Grows, IsReached};
 ghost use Rattle.prover.specs.inside.Progress.{AllFit, AreExpanded};
@@ -10,8 +10,8 @@ ghost use Rattle.prover.specs.inside.Progress.{AllFit, AreExpanded};
 use crate::desk::Desk;
 use crate::entries::Label;
 use crate::pruner::Pruner;
-use crate::pushing::try_chosen;
-use crate::store::Store;
+use crate::pushing::try_push;
+use crate::store::{Store, hash_of};
 use grid::Position;
 use prices::Slack;
 use std::alloc::AllocError;
@@ -23,79 +23,75 @@ pub(crate) struct Span {
     pub(crate) to: usize,
 }
 
+/// What the workers of a round share: what leaves positions out, what was seen, and how many pushes a play has at most.
+#[derive(Drop)]
+pub(crate) struct Round<'s, 'l> {
+    pub(crate) pruner: &'s Pruner<'l>,
+    pub(crate) store: &'s Store,
+    pub(crate) most: u32,
+}
+
 /// Appends what the pushes of the positions at some places lead to, but for what was seen, and for what no play with so many
 /// pushes at most passes through that ends solved.
 pub(crate) fn expand_all(
-    pruner: &Pruner<'_>,
-    store: &Store,
-    most: u32,
+    round: &Round<'_, '_>,
     span: Span,
     desk: &mut Desk,
     more: &mut Store,
 ) -> Result<(), AllocError>
-    requires fit { AllFit pruner.now store.now.seen }
-    requires within { span.to ≤ length store.now.seen }
-    requires boxes { more.old.boxes ≡ box_count pruner.now }
-    requires room { desk.old.scratch.size ≡ length pruner.now.cells }
-    requires more_fit { AllFit pruner.now more.old.seen }
-    ensures expanded { OnOk result (AreExpanded pruner.now most store.now.seen more.new.seen span.from span.to) }
-    ensures fit { OnOk result (AllFit pruner.now more.new.seen) }
-    ensures boxes { more.new.boxes ≡ more.old.boxes }
-    ensures room { desk.new.scratch.size ≡ desk.old.scratch.size }
+    requires fit { AllFit round.now.pruner.now round.now.store.now.seen }
+    requires within { span.to ≤ length round.now.store.now.seen }
+    requires room { (desk.old.scratch.size ≡ length round.now.pruner.now.cells) × (more.old.boxes ≡ box_count round.now.pruner.now) }
+    requires more_fit { AllFit round.now.pruner.now more.old.seen }
+    ensures expanded { OnOk result (AreExpanded round.now.pruner.now round.now.most round.now.store.now.seen more.new.seen span.from span.to) }
+    ensures fit { OnOk result (AllFit round.now.pruner.now more.new.seen) }
+    ensures room { (desk.new.scratch.size ≡ desk.old.scratch.size) × (more.new.boxes ≡ more.old.boxes) }
 {
+    let most = round.most;
     for place in span.from..span.to {
-        let (position, pushes) = store.entries().get(place);
+        let (position, pushes) = round.store.entries().get(place);
         if pushes < most {
             let label = Label {
                 pushes: pushes + 1,
                 parent: u32::try_from(place).unwrap_or(u32::MAX),
             };
-            expand(
-                pruner,
-                store,
-                &position,
-                label,
-                most - pushes - 1,
-                desk,
-                more,
-            )?;
+            expand(round, &position, label, desk, more)?;
         }
     }
     Ok(())
 }
 
-// Appends what the pushes of a position lead to, with this label, where so many pushes are left after them.
+// Appends what the pushes of a position lead to, with this label.
 fn expand(
-    pruner: &Pruner<'_>,
-    store: &Store,
+    round: &Round<'_, '_>,
     position: &Position,
     label: Label,
-    left: u32,
     desk: &mut Desk,
     more: &mut Store,
 ) -> Result<(), AllocError>
-    requires fits { FitsLevel pruner.now position.now }
-    requires boxes { more.old.boxes ≡ box_count pruner.now }
-    requires room { desk.old.scratch.size ≡ length pruner.now.cells }
-    requires more_fit { AllFit pruner.now more.old.seen }
-    ensures keeps { OnOk result ((most k : ℕ) → most ≤ suc k + left → label.pushes ≡ suc k →
-        Keeps pruner.now most (IsReached store.now.seen more.new.seen (suc k)) k position.now) }
-    ensures fit { OnOk result (AllFit pruner.now more.new.seen) }
+    requires fits { FitsLevel round.now.pruner.now position.now }
+    requires few { label.pushes ≤ round.now.most }
+    requires room { (desk.old.scratch.size ≡ length round.now.pruner.now.cells) × (more.old.boxes ≡ box_count round.now.pruner.now) }
+    requires more_fit { AllFit round.now.pruner.now more.old.seen }
+    ensures keeps { OnOk result ((k : ℕ) → label.pushes ≡ suc k →
+        Keeps round.now.pruner.now round.now.most (IsReached round.now.store.now.seen more.new.seen (suc k)) k position.now) }
+    ensures fit { OnOk result (AllFit round.now.pruner.now more.new.seen) }
     ensures grows { Grows more.old more.new }
     ensures room { desk.new.scratch.size ≡ desk.old.scratch.size }
 {
+    let left = round.most - label.pushes;
     area::possible_pushes(
-        pruner.level(),
+        round.pruner.level(),
         position,
         &mut desk.scratch,
         &mut desk.pushes,
     );
-    pruner.level().tell();
-    pruner.distances().meet(position, &mut desk.matching);
-    let slack = Slack::of(pruner.distances(), position, left, &desk.matching);
+    round.pruner.level().tell();
+    round.pruner.distances().meet(position, &mut desk.matching);
+    let slack = Slack::of(round.pruner.distances(), position, left, &desk.matching);
     let only = corrals::find(
-        pruner.level(),
-        pruner.dead(),
+        round.pruner.level(),
+        round.pruner.dead(),
         position,
         &desk.scratch,
         &slack,
@@ -103,28 +99,43 @@ fn expand(
     );
     for index in 0..desk.pushes.len() {
         let push = desk.pushes.as_slice()[index];
-        let kept = try_chosen(pruner, position, push, &slack, only, desk);
-        if kept {
-            keep(store, &desk.after, label, more)?;
+        let made = try_push(round.pruner, position, push, &slack, only, desk);
+        if made {
+            keep(round, left, label, desk, more)?;
         }
     }
     Ok(())
 }
 
-// Appends a position, if it was not seen.
+// Appends the position at the desk with this label, if it was not seen and its boxes do not need more pushes than so many. It
+// is looked up first, since most have been seen and that takes less time.
 fn keep(
-    store: &Store,
-    position: &Position,
+    round: &Round<'_, '_>,
+    left: u32,
     label: Label,
+    desk: &mut Desk,
     more: &mut Store,
 ) -> Result<(), AllocError>
-    requires { length position.now.boxes ≡ more.old.boxes }
-    ensures reached { OnOk result (IsReached store.now.seen more.new.seen label.pushes position.now) }
-    ensures fit { OnOk result ((board : Board) → FitsLevel board position.now → AllFit board more.old.seen → AllFit board more.new.seen) }
+    requires fits { FitsLevel round.now.pruner.now desk.old.after }
+    requires boxes { more.old.boxes ≡ box_count round.now.pruner.now }
+    ensures done { OnOk result (IsReached round.now.store.now.seen more.new.seen label.pushes desk.old.after ⊎
+        NoneWithin round.now.pruner.now left desk.old.after) }
+    ensures fit { OnOk result (AllFit round.now.pruner.now more.old.seen → AllFit round.now.pruner.now more.new.seen) }
     ensures grows { Grows more.old more.new }
+    ensures kept { (desk.new.scratch ≡ desk.old.scratch) × (desk.new.pushes ≡ desk.old.pushes) × (desk.new.corral ≡ desk.old.corral) }
 {
-    if store.knows(position, label.pushes) {
+    let hash = hash_of(&desk.after);
+    let seen = round.store.knows(&desk.after, hash, label.pushes);
+    if seen {
         return Ok(());
     }
-    more.enter(position, label)
+    let found = more.knows(&desk.after, hash, label.pushes);
+    if found {
+        return Ok(());
+    }
+    let refused = round.pruner.refuses(&desk.after, left, &mut desk.matching);
+    if refused {
+        return Ok(());
+    }
+    more.enter(&desk.after, hash, label)
 }

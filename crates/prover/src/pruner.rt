@@ -10,8 +10,8 @@ use prices::{Distances, Matching};
 use std::alloc::{AllocError, Global};
 use std::marker::Model;
 
-/// What positions are left out by: a level's dead squares, its bound, and what pairs of its boxes need. Contracts see the
-/// level.
+/// What positions are left out by: a level's dead squares, its bound, and what its boxes and pairs of them need. Contracts
+/// see the level.
 #[derive(Debug, Drop)]
 pub(crate) struct Pruner<'a> {
     level: &'a Level,
@@ -32,7 +32,7 @@ impl<'a> Model for Pruner<'a> {
 }
 
 impl<'a> Pruner<'a> {
-    /// That of a level. The only error is that memory was refused.
+    /// That of a level, without what pairs need. The only error is that memory was refused.
     pub(crate) fn of(alloc: Global, level: &'a Level) -> Result<Pruner<'a>, AllocError>
         requires { box_count level.now ≤ MAX_BOXES }
         ensures { IfOk result (λ pruner. pruner ≡ level.now) }
@@ -41,8 +41,15 @@ impl<'a> Pruner<'a> {
             level,
             dead: Dead::of(alloc, level)?,
             bound: Bound::of(alloc, level)?,
-            pairs: Pairs::of(alloc, level)?,
+            pairs: Pairs::of_prices(alloc, level)?,
         })
+    }
+
+    /// Finds what pairs need, which takes as long as hundreds of positions. The only error is that memory was refused.
+    pub(crate) fn find_pairs(&mut self, alloc: Global) -> Result<(), AllocError>
+        ensures { self.new ≡ self.old }
+    {
+        self.pairs.make_table(alloc, self.level)
     }
 
     /// The level.

@@ -1,13 +1,13 @@
 //! What one push leads to, and whether it may be left out.
-ghost use Rattle.std.specs.Prelude.{◌≡◌, IsTrue, IsFalse, length};
+ghost use Rattle.std.specs.Prelude.{◌≡◌, IsTrue, IsFalse};
 ghost use Rattle.grid.specs.States.{FitsLevel};
-ghost use Rattle.area.specs.After.{IsAreaOf};
 ghost use Rattle.area.specs.Area.{IsNorm};
 ghost use Rattle.area.specs.Pushes.{CanPush};
 ghost use Rattle.doom.specs.Lost.{IsLost};
 ghost use Rattle.prices.specs.Solving.{NoneWithin};
 ghost use Rattle.prover.specs.Pruning.{after_push};
 ghost use Rattle.prover.specs.inside.Progress.{IsChosen};
+ghost use Rattle.prover.specs.inside.Working.{IsFlooded};
 
 use crate::desk::Desk;
 use crate::pruner::Pruner;
@@ -16,9 +16,11 @@ use doom::Dead;
 use grid::{Level, Position, Push};
 use prices::Slack;
 
-/// The same as [`try_push`], where a push that costs more than is left is left out before anything else is made, and with
-/// `only` a push of another box than the corral's is left out too.
-pub(crate) fn try_chosen(
+/// Makes at the desk the normal position after a push, where its last flood was that of the position before it, and says
+/// `true`; or says `false`, where no play with so many pushes as the slack leaves then ends solved, or where with `only` the
+/// push is of another box than the corral's. That flood stays as it is. A push that costs more than is left is left out
+/// before anything is made.
+pub(crate) fn try_push(
     pruner: &Pruner<'_>,
     position: &Position,
     push: Push,
@@ -26,9 +28,7 @@ pub(crate) fn try_chosen(
     only: bool,
     desk: &mut Desk,
 ) -> bool
-    requires fits { FitsLevel pruner.now position.now }
-    requires room { desk.old.scratch.size ≡ length pruner.now.cells }
-    requires flooded { IsAreaOf pruner.now position.now desk.old.scratch.reached × (desk.old.scratch.boxes ≡ position.now.boxes) }
+    requires flooded { IsFlooded pruner.now desk.old.scratch position.now }
     requires possible { CanPush pruner.now position.now push }
     requires slack { (slack.now.board ≡ pruner.now) × (slack.now.scene ≡ position.now) }
     ensures made { IsTrue result → IsNorm pruner.now (after_push pruner.now position.now push) desk.new.after × FitsLevel pruner.now desk.new.after }
@@ -45,48 +45,15 @@ pub(crate) fn try_chosen(
     if useless {
         return false;
     }
-    let left = slack.left();
-    let kept = try_push(pruner, position, Push { square, dir }, left, desk);
-    kept
-}
-
-/// Makes at the desk the normal position after a push, where its last flood was that of the position before it, and says
-/// `true`; or says `false`, where no play with so many pushes as are left then ends solved. That flood stays as it is.
-pub(crate) fn try_push(
-    pruner: &Pruner<'_>,
-    position: &Position,
-    push: Push,
-    left: u32,
-    desk: &mut Desk,
-) -> bool
-    requires fits { FitsLevel pruner.now position.now }
-    requires room { desk.old.scratch.size ≡ length pruner.now.cells }
-    requires flooded { IsAreaOf pruner.now position.now desk.old.scratch.reached }
-    requires boxes { desk.old.scratch.boxes ≡ position.now.boxes }
-    requires possible { CanPush pruner.now position.now push }
-    ensures norm { IsTrue result → IsNorm pruner.now (after_push pruner.now position.now push) desk.new.after }
-    ensures fits { IsTrue result → FitsLevel pruner.now desk.new.after }
-    ensures left_out { IsFalse result → NoneWithin pruner.now left (after_push pruner.now position.now push) }
-    ensures kept { desk.new.scratch ≡ desk.old.scratch }
-    ensures pushes { desk.new.pushes ≡ desk.old.pushes }
-    ensures corral { desk.new.corral ≡ desk.old.corral }
-{
     let made = make_after(
         pruner.level(),
         pruner.dead(),
         position,
-        push,
+        Push { square, dir },
         &mut desk.scratch,
         &mut desk.after,
     );
-    if !made {
-        return false;
-    }
-    let refused = pruner.refuses(&desk.after, left, &mut desk.matching);
-    if refused {
-        return false;
-    }
-    true
+    made
 }
 
 // Makes the normal position after a push, and says `true`; or says `false`, where no play from there ends solved.
@@ -98,14 +65,10 @@ fn make_after(
     scratch: &mut Scratch,
     after: &mut Position,
 ) -> bool
-    requires fits { FitsLevel level.now position.now }
     requires dead_of_level { dead.now ≡ level.now }
-    requires room { scratch.old.size ≡ length level.now.cells }
-    requires flooded { IsAreaOf level.now position.now scratch.old.reached }
-    requires boxes { scratch.old.boxes ≡ position.now.boxes }
+    requires flooded { IsFlooded level.now scratch.old position.now }
     requires possible { CanPush level.now position.now push }
-    ensures norm { IsTrue result → IsNorm level.now (after_push level.now position.now push) after.new }
-    ensures fits { IsTrue result → FitsLevel level.now after.new }
+    ensures made { IsTrue result → IsNorm level.now (after_push level.now position.now push) after.new × FitsLevel level.now after.new }
     ensures lost { IsFalse result → IsLost level.now (after_push level.now position.now push) }
     ensures kept { scratch.new ≡ scratch.old }
 {

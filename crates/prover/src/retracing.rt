@@ -17,6 +17,20 @@ pub(crate) fn retrace(
     entries: &Entries,
     place: usize,
     most: u32,
+) -> Result<Outcome, AllocError>
+    ensures { IfOk result (λ outcome. IsOutcome level.now most outcome) }
+{
+    let mut scratch = Scratch::new(alloc, level)?;
+    retrace_with(alloc, level, entries, place, most, &mut scratch)
+}
+
+// The same with a scratch that is there.
+fn retrace_with(
+    alloc: Global,
+    level: &Level,
+    entries: &Entries,
+    place: usize,
+    most: u32,
     scratch: &mut Scratch,
 ) -> Result<Outcome, AllocError>
     requires { scratch.old.size ≡ length level.now.cells }

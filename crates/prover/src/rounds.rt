@@ -14,7 +14,7 @@ use crate::cutting::Cut;
 use crate::entries::{Entries, Label};
 use crate::expansion::Span;
 use crate::pruner::Pruner;
-use crate::store::Store;
+use crate::store::{Store, hash_of};
 use std::alloc::AllocError;
 use std::thread;
 use std::thread::Threads;
@@ -38,7 +38,7 @@ pub(crate) fn expand_round<R: Threads + Sync>(
     ensures grows { OnOk result (Grows store.old store.new) }
     ensures benches { (length benches.new ≡ length benches.old) × AreRoomy pruner.now benches.new }
 {
-    let cut = Cut::of(span, benches.len());
+    let cut = Cut::of(span, benches.len(), store.entries().boxes());
     let many = cut.busy(benches.len());
     let busy = &mut benches[..many];
     expand_beside(rt, pruner, store, most, cut, busy);
@@ -107,7 +107,8 @@ fn enter_all(store: &mut Store, more: &Entries) -> Result<(), AllocError>
     for place in 0..more.len() {
         let (position, pushes) = more.get(place);
         let parent = more.parent(place).unwrap_or(u32::MAX);
-        store.enter(&position, Label { pushes, parent })?;
+        let hash = hash_of(&position);
+        store.enter(&position, hash, Label { pushes, parent })?;
     }
     Ok(())
 }

@@ -2,24 +2,27 @@
 ghost use Rattle.std.specs.Prelude.{◌≡◌, ◌⊎◌, ◌<◌, ◌≤◌, ℕ, IsTrue, IfOk, IfErr, OnOk, Some, length, slice_get, true};
 ghost use Rattle.grid.specs.Board.{Board, start};
 ghost use Rattle.grid.specs.Lawful.{box_count};
+ghost use Rattle.grid.specs.States.{FitsLevel};
+ghost use Rattle.area.specs.Area.{IsNorm};
 ghost use Rattle.grid.specs.Rising.{is_rising};
 ghost use Rattle.prover.specs.Frame.{Seen, IsSeen};
 ghost use Rattle.prices.specs.Solving.{NoneWithin};
 ghost use Rattle.prover.specs.Outcomes.{IsOutcome};
 ghost use Rattle.prover.specs.inside.Benches.{AreRoomy};
 ghost use Rattle.prover.specs.inside.Entries.{Grows};
-ghost use Rattle.prover.specs.inside.Progress.{AllFit, AreExpanded, AreUnsolved, IsUnderWay};
+ghost use Rattle.prover.specs.inside.Progress.{AllFit, AreExpanded, IsUnderWay};
+ghost use Rattle.prover.specs.inside.Working.{IsAhead};
 
 use crate::bench::{Bench, benches_of};
 use crate::effort::Effort;
-use crate::entries::Label;
+use crate::entries::{Entries, Label};
 use crate::expansion::Span;
 use crate::outcome::{Outcome, SearchFault};
 use crate::pruner::Pruner;
 use crate::retracing::retrace;
 use crate::rounds::expand_round;
 use crate::solved::first_solved;
-use crate::store::Store;
+use crate::store::{Store, hash_of};
 use area::Scratch;
 use grid::{Level, MAX_BOXES, Position};
 use std::alloc::{AllocError, Global};
@@ -31,6 +34,10 @@ struct Asked {
     most: u32,
     limit: u32,
 }
+
+/// A search of no more positions does without what pairs need: to find that takes as long as they do, and most searches end
+/// before.
+const FEW: u32 = 500;
 
 // How a search ended.
 enum End {
@@ -78,8 +85,42 @@ fn search_from<R: Threads + Sync>(
     requires few { box_count level.now ≤ MAX_BOXES }
     ensures { IfOk result (λ outcome. IsOutcome level.now most outcome) }
 {
-    let pruner = Pruner::of(alloc, level)?;
-    search_pruned(rt, alloc, &pruner, first, most, effort)
+    let mut pruner = Pruner::of(alloc, level)?;
+    search_twice(rt, alloc, &mut pruner, first, most, effort)
+}
+
+// The search from the start: one of few positions by one worker, and where that does not end a whole one, with what pairs
+// need.
+fn search_twice<R: Threads + Sync>(
+    rt: &R,
+    alloc: Global,
+    pruner: &mut Pruner<'_>,
+    first: &Position,
+    most: u32,
+    effort: Effort,
+) -> Result<Outcome, AllocError>
+    requires first { first.now ≡ start pruner.old }
+    requires few { box_count pruner.old ≤ MAX_BOXES }
+    ensures { IfOk result (λ outcome. IsOutcome pruner.old most outcome) }
+{
+    let short = Effort {
+        workers: 1,
+        limit: effort.limit.min(FEW),
+    };
+    let outcome = search_pruned(rt, alloc, pruner, first, most, short)?;
+    if !is_limit(&outcome) {
+        return Ok(outcome);
+    }
+    pruner.find_pairs(alloc)?;
+    search_pruned(rt, alloc, pruner, first, most, effort)
+}
+
+// Whether the limit was passed.
+fn is_limit(outcome: &Outcome) -> bool {
+    match outcome {
+        Outcome::Limit => true,
+        _ => false,
+    }
 }
 
 // The search from the start, by what is to leave positions out.
@@ -119,44 +160,57 @@ fn search_at<R: Threads + Sync>(
     ensures { IfOk result (λ outcome. IsOutcome pruner.now asked.most outcome) }
 {
     let level = pruner.level();
-    let mut scratch = Scratch::new(alloc, level)?;
-    let mut store = begun(alloc, level, first, &mut scratch)?;
-    match run(rt, pruner, asked, &mut store, benches)? {
+    let mut store = begun(alloc, level, first)?;
+    let end = run(rt, pruner, asked, &mut store, benches)?;
+    outcome_of(alloc, level, store.entries(), asked.most, end)
+}
+
+// What the end of a search says of its level.
+fn outcome_of(
+    alloc: Global,
+    level: &Level,
+    entries: &Entries,
+    most: u32,
+    end: End,
+) -> Result<Outcome, AllocError>
+    requires through { end ≡ End.Through → NoneWithin level.now most (start level.now) }
+    ensures { IfOk result (λ outcome. IsOutcome level.now most outcome) }
+{
+    match end {
         End::Through => Ok(Outcome::None),
         End::Limit => Ok(Outcome::Limit),
-        End::Solved(place) => retrace(
-            alloc,
-            level,
-            store.entries(),
-            place,
-            asked.most,
-            &mut scratch,
-        ),
+        End::Solved(place) => retrace(alloc, level, entries, place, most),
     }
 }
 
 // A store with the start alone.
-fn begun(
-    alloc: Global,
-    level: &Level,
-    first: &Position,
-    scratch: &mut Scratch,
-) -> Result<Store, AllocError>
+fn begun(alloc: Global, level: &Level, first: &Position) -> Result<Store, AllocError>
     requires first { first.now ≡ start level.now }
     requires few { box_count level.now ≤ MAX_BOXES }
-    requires room { scratch.old.size ≡ length level.now.cells }
     ensures begun { IfOk result (λ store. (most : ℕ) → IsUnderWay level.now most store.seen 0) }
     ensures boxes { IfOk result (λ store. store.boxes ≡ box_count level.now) }
-    ensures room { scratch.new.size ≡ scratch.old.size }
 {
+    let mut scratch = Scratch::new(alloc, level)?;
     level.tell_start();
-    let normal = area::normal(level, first, scratch);
+    let normal = area::normal(level, first, &mut scratch);
+    entered(alloc, level, &normal)
+}
+
+// A store with one position alone.
+fn entered(alloc: Global, level: &Level, normal: &Position) -> Result<Store, AllocError>
+    requires norm { IsNorm level.now (start level.now) normal.now }
+    requires fits { FitsLevel level.now normal.now }
+    requires few { box_count level.now ≤ MAX_BOXES }
+    ensures begun { IfOk result (λ store. (most : ℕ) → IsUnderWay level.now most store.seen 0) }
+    ensures boxes { IfOk result (λ store. store.boxes ≡ box_count level.now) }
+{
+    level.tell();
     let mut store = Store::new(alloc, level.boxes())?;
     let label = Label {
         pushes: 0,
         parent: u32::MAX,
     };
-    store.enter(&normal, label)?;
+    store.enter(normal, hash_of(normal), label)?;
     Ok(store)
 }
 
@@ -205,10 +259,7 @@ fn expand_layer<R: Threads + Sync>(
     span: Span,
     benches: &mut [Bench],
 ) -> Result<bool, AllocError>
-    requires under_way { IsUnderWay pruner.now asked.most store.old.seen span.from }
-    requires unsolved { AreUnsolved pruner.now store.old.seen span.from span.to }
-    requires order { span.from ≤ span.to }
-    requires within { span.to ≤ length store.old.seen }
+    requires ahead { IsAhead pruner.now asked.most store.old.seen span.from span.to }
     requires boxes { store.old.boxes ≡ box_count pruner.now }
     requires benches { (0 < length benches.old) × AreRoomy pruner.now benches.old }
     ensures under_way { IfOk result (λ whole. IsTrue whole → IsUnderWay pruner.now asked.most store.new.seen span.to) }

@@ -14,15 +14,26 @@ const FREE: u8 = 0;
 /// So many slots there are at first.
 const LEAST_SLOTS: usize = 1024;
 
+/// A slot of the table: a part of the hash of the position that it leads to, so that few others are read, and the bytes of that
+/// position's place. Both stand in five bytes, so that looking at them mostly fetches one line of memory.
+#[derive(Clone, Copy, Debug)]
+struct Slot {
+    tag: u8,
+    place: [u8; 4],
+}
+
+/// A slot in which no place stands.
+const NOTHING: Slot = Slot {
+    tag: FREE,
+    place: [0; 4],
+};
+
 /// Positions in the order in which they came, and a table of their places by their squares. Contracts see the positions alone:
 /// what the table has decides only how soon a position is found, since each one that it leads to is compared.
 #[derive(Debug, Drop)]
 pub(crate) struct Store {
     entries: Entries,
-    // a part of the hash of the position that each slot leads to, so that few others are read
-    tags: Vec<u8>,
-    // the place to which each slot leads that is not free
-    places: Vec<u32>,
+    slots: Vec<Slot>,
 }
 
 impl Model for Store {
@@ -33,7 +44,7 @@ impl Model for Store {
 
     ghost view = { λ a. a.entries };
 
-    ghost invariant = { λ a. (1 ≤ length a.tags.items) × (length a.tags.items ≤ length a.places.items) };
+    ghost invariant = { λ a. 1 ≤ length a.slots.items };
 }
 
 impl Store {
@@ -44,8 +55,7 @@ impl Store {
     {
         Ok(Store {
             entries: Entries::new(alloc, boxes),
-            tags: free_slots(alloc)?,
-            places: no_places(alloc)?,
+            slots: free_slots(alloc)?,
         })
     }
 
@@ -56,34 +66,40 @@ impl Store {
         &self.entries
     }
 
-    /// Whether the position was seen after no more pushes.
-    pub(crate) fn knows(&self, position: &Position, pushes: u32) -> bool
+    /// Whether the position, which has this hash, was seen after no more pushes.
+    pub(crate) fn knows(&self, position: &Position, hash: u64, pushes: u32) -> bool
         ensures { IsTrue result → IsSeen self.now.seen pushes position.now }
     {
-        let (tags, places) = (self.tags.as_slice(), self.places.as_slice());
-        let hash = hash_with(hash_of(position.boxes()), position.player());
-        free_slot(&self.entries, tags, places, hash, position, pushes).is_none()
+        free_slot(&self.entries, self.slots.as_slice(), hash, position, pushes).is_none()
     }
 
-    /// Enters a position, if it was not seen after as few pushes. The only error is that memory was refused, and it leaves the
-    /// positions as they were.
-    pub(crate) fn enter(&mut self, position: &Position, label: Label) -> Result<(), AllocError>
+    /// Enters a position, which has this hash, if it was not seen after as few pushes. The only error is that memory was
+    /// refused, and it leaves the positions as they were.
+    pub(crate) fn enter(
+        &mut self,
+        position: &Position,
+        hash: u64,
+        label: Label,
+    ) -> Result<(), AllocError>
         requires { length position.now.boxes ≡ self.old.boxes }
         ensures ok { OnOk result ((IsSeen self.old.seen label.pushes position.now × (self.new ≡ self.old)) ⊎
             (self.new ≡ with_entry self.old position.now label.pushes)) }
         ensures err { OnErr result (self.new ≡ self.old) }
     {
         self.make_room()?;
-        let (tags, places) = (self.tags.as_slice(), self.places.as_slice());
-        let hash = hash_with(hash_of(position.boxes()), position.player());
-        let found = free_slot(&self.entries, tags, places, hash, position, label.pushes);
+        let found = free_slot(
+            &self.entries,
+            self.slots.as_slice(),
+            hash,
+            position,
+            label.pushes,
+        );
         let Some(slot) = found else {
             return Ok(());
         };
         let place = self.entries.len();
         self.entries.append(position, label)?;
-        self.tags[slot] = tag_of(hash);
-        self.places[slot] = u32::try_from(place).unwrap_or(u32::MAX);
+        self.slots[slot] = slot_of(hash, place);
         Ok(())
     }
 
@@ -92,69 +108,55 @@ impl Store {
         ensures { self.new ≡ record { boxes = self.old.boxes; seen = [] } }
     {
         self.entries.clear();
-        self.tags.as_mut_slice().fill(FREE);
+        self.slots.as_mut_slice().fill(NOTHING);
     }
 
     // Makes half as many slots more where four in five have a place.
     fn make_room(&mut self) -> Result<(), AllocError>
         ensures { self.new ≡ self.old }
     {
-        let size = self.tags.len();
+        let size = self.slots.len();
         if self.entries.len() < size / 5 * 4 {
             return Ok(());
         }
         let more = size.saturating_add(size / 2);
-        self.places.resize(more, 0)?;
-        self.tags.resize(more, FREE)?;
-        self.tags.as_mut_slice().fill(FREE);
-        let (tags, places) = (self.tags.as_mut_slice(), self.places.as_mut_slice());
-        put_all(&self.entries, tags, places);
+        self.slots.resize(more, NOTHING)?;
+        self.slots.as_mut_slice().fill(NOTHING);
+        put_all(&self.entries, self.slots.as_mut_slice());
         Ok(())
     }
 }
 
 // As many slots as there are at first, all of them free.
-fn free_slots(alloc: Global) -> Result<Vec<u8>, AllocError>
-    ensures { IfOk result (λ tags. length tags.items ≡ LEAST_SLOTS) }
+fn free_slots(alloc: Global) -> Result<Vec<Slot>, AllocError>
+    ensures { IfOk result (λ slots. length slots.items ≡ LEAST_SLOTS) }
 {
-    Ok(vec![in alloc; FREE; LEAST_SLOTS]?)
-}
-
-// A place for each of these slots, none of which is read.
-fn no_places(alloc: Global) -> Result<Vec<u32>, AllocError>
-    ensures { IfOk result (λ places. length places.items ≡ LEAST_SLOTS) }
-{
-    Ok(vec![in alloc; 0; LEAST_SLOTS]?)
+    Ok(vec![in alloc; NOTHING; LEAST_SLOTS]?)
 }
 
 // Writes the place of each position into a slot of its own.
-fn put_all(entries: &Entries, tags: &mut [u8], places: &mut [u32])
-    requires { length tags.old ≤ length places.old }
-    ensures tags { length tags.new ≡ length tags.old }
-    ensures places { length places.new ≡ length places.old }
+fn put_all(entries: &Entries, slots: &mut [Slot])
+    ensures { length slots.new ≡ length slots.old }
 {
     for place in 0..entries.len() {
         if let Some(row) = entries.row(place) {
-            put(tags, places, hash_of(row), place);
+            put(slots, hash_squares(row), place);
         }
     }
 }
 
 // Writes a place into the first free slot, from that of a hash on.
-fn put(tags: &mut [u8], places: &mut [u32], hash: u64, place: usize)
-    requires { length tags.old ≤ length places.old }
-    ensures tags { length tags.new ≡ length tags.old }
-    ensures places { length places.new ≡ length places.old }
+fn put(slots: &mut [Slot], hash: u64, place: usize)
+    ensures { length slots.new ≡ length slots.old }
 {
-    let size = tags.len();
+    let size = slots.len();
     if size == 0 {
         return;
     }
     let mut slot = first_slot(hash, size);
     for _ in 0..size {
-        if tags[slot] == FREE {
-            tags[slot] = tag_of(hash);
-            places[slot] = u32::try_from(place).unwrap_or(u32::MAX);
+        if slots[slot].tag == FREE {
+            slots[slot] = slot_of(hash, place);
             return;
         }
         slot = next_slot(slot, size);
@@ -181,25 +183,25 @@ fn next_slot(slot: usize, size: usize) -> usize
 // The slot for a position with such a hash; `None` where it was seen after no more than so many pushes.
 fn free_slot(
     entries: &Entries,
-    tags: &[u8],
-    places: &[u32],
+    slots: &[Slot],
     hash: u64,
     position: &Position,
     pushes: u32,
 ) -> Option<usize>
-    requires { (1 ≤ length tags.now) × (length tags.now ≤ length places.now) }
+    requires { 1 ≤ length slots.now }
     ensures seen { IfNone result (IsSeen entries.now.seen pushes position.now) }
-    ensures within { IfSome result (λ slot. slot < length tags.now) }
+    ensures within { IfSome result (λ slot. slot < length slots.now) }
 {
-    let size = tags.len();
+    let size = slots.len();
     let tag = tag_of(hash);
     let mut slot = first_slot(hash, size);
     for _ in 0..size {
-        if tags[slot] == FREE {
+        let Slot { tag: held, place } = slots[slot];
+        if held == FREE {
             return Some(slot);
         }
-        if tags[slot] == tag {
-            if is_at(entries, places[slot], position, pushes) {
+        if held == tag {
+            if is_at(entries, u32::from_le_bytes(place), position, pushes) {
                 return None;
             }
         }
@@ -219,13 +221,26 @@ fn is_at(entries: &Entries, place: u32, position: &Position, pushes: u32) -> boo
     entries.has_at(place, position, pushes)
 }
 
+// The slot that leads to a place from such a hash.
+fn slot_of(hash: u64, place: usize) -> Slot {
+    Slot {
+        tag: tag_of(hash),
+        place: u32::try_from(place).unwrap_or(u32::MAX).to_le_bytes(),
+    }
+}
+
 // What stands in the slots of such a hash.
 fn tag_of(hash: u64) -> u8 {
     (hash % 255) as u8 + 1
 }
 
+/// The hash of a position, which nothing rests on but how soon it is found.
+pub(crate) fn hash_of(position: &Position) -> u64 {
+    hash_with(hash_squares(position.boxes()), position.player())
+}
+
 // A number that is mostly another one for other squares.
-fn hash_of(squares: &[Square]) -> u64 {
+fn hash_squares(squares: &[Square]) -> u64 {
     let mut hash = 0;
     for square in squares {
         hash = hash_with(hash, *square);

@@ -1,4 +1,4 @@
-use Rattle.std.proofs.Common.{rules, ◌≡◌, ◌+◌, ◌≤◌, ℕ, suc, Bool, IsTrue, List, length, inl, inr, refl, sym, ap, subst, ◌∙◌, arith}
+use Rattle.std.proofs.Common.{rules, ◌≡◌, ◌+◌, ◌-◌, ◌≤◌, ℕ, suc, Bool, IsTrue, List, length, inr, refl, sym, ap, subst, ◌∙◌, arith}
 use Rattle.grid.specs.declared.square.Push.{Push}
 use Rattle.area.specs.Reach.{Reach}
 use Rattle.grid.specs.Board.{Board}
@@ -6,16 +6,18 @@ use Rattle.grid.specs.Lawful.{IsLevel}
 use Rattle.grid.specs.Masks.{has_bit}
 use Rattle.corrals.specs.Corrals.{IsClosure}
 use Rattle.corrals.specs.Sets.{SetsView}
-use Rattle.area.specs.After.{IsAreaOf}
-use Rattle.area.specs.Pushes.{ArePushes}
+use Rattle.area.specs.Pushes.{ArePushes, CanPush}
 use Rattle.prices.specs.Helping.{SlackView}
 use Rattle.prices.specs.Solving.{NoneWithin}
+use Rattle.prover.specs.declared.desk.Desk.{Desk}
 use Rattle.prover.specs.Frame.{Keeps}
 use Rattle.prover.specs.Pruning.{after_push}
 use Rattle.prover.specs.inside.Entries.{EntriesView, Grows, IsReached}
 use Rattle.prover.specs.inside.Progress.{AllFit, AreDoneWith, IsChosen}
-use Rattle.prover.proofs.Progressing.{chosen_suffice, done_more, expansion_keeps, grows_none, grows_on, read_push}
-use Rattle.prover.proofs.expansion.expand.Goals.{then-kept+in_ok-keep, else-kept}
+use Rattle.prover.specs.inside.Working.{IsFlooded}
+use Rattle.prover.proofs.lemmas.Pruning.{after_scene}
+use Rattle.prover.proofs.Progressing.{chosen_suffice, done_by, done_more, expansion_keeps, grows_none, grows_on, read_push}
+use Rattle.prover.proofs.expansion.expand.Goals.{then-made+in_ok-keep, else-made}
 use Rattle.prover.proofs.expansion.expand.Goals as goal
 
 pub bounds-as_slice-index : goal.bounds-as_slice-index
@@ -25,8 +27,8 @@ bounds-as_slice-index c =
     ap (λ v. length v.items) c.loop-index.invariant.kept in
     omega (arith, size, same, c.loop-index-test.true)
 
-pub try_chosen-kept-requires-clause-possible : goal.try_chosen-kept-requires-clause-possible
-try_chosen-kept-requires-clause-possible c =
+pub try_push-made-requires-clause-possible : goal.try_push-made-requires-clause-possible
+try_push-made-requires-clause-possible c =
     let size : c.len-index-end.result ≡ length c.possible_pushes.new.pushes.items = search rules in
     let same : length c.as_slice.result.now ≡ length c.possible_pushes.new.pushes.items = ap length c.as_slice.ensures.value ∙
     ap (λ v. length v.items) c.loop-index.invariant.kept in
@@ -36,78 +38,90 @@ try_chosen-kept-requires-clause-possible c =
 
 pub loop-index-preserved : goal.loop-index-preserved
 loop-index-preserved c =
-    let board = c.args.pruner.now in
-    let all = c.args.store.now.seen in
+    let board = c.args.round.now.pruner.now in
+    let all = c.args.round.now.store.now.seen in
     let s = c.args.position.now in
     let k = c.args.label.pushes in
-    let left = c.args.left in
+    let left = c.args.round.now.most - c.args.label.pushes in
     let ps = c.loop-index.desk.pushes.items in
     let p = c.index-as_slice-index.result in
     let was = c.loop-index.invariant in
-    let kept = c.try_chosen-kept.ensures.kept.0 in
-    let items : c.try_chosen-kept.new.desk.pushes.items ≡ ps = ap (λ v. v.items) c.try_chosen-kept.ensures.kept.1 in
+    let before = c.loop-index.desk in
+    let n = c.try_push-made.new.desk.after in
     let size : c.len-index-end.result ≡ length c.possible_pushes.new.pushes.items = search rules in
     let same : length c.as_slice.result.now ≡ length c.possible_pushes.new.pushes.items = ap length c.as_slice.ensures.value ∙
     ap (λ v. length v.items) was.kept in
     let here = read_push c.as_slice.result.now ps c.loop-index.index p c.as_slice.ensures.value
     (omega (arith, size, same, c.loop-index-test.true)) c.index-as_slice-index.is in
-    let held = c.loop-index.desk.corral.held in
+    let can : CanPush board s p = was.pushes.each c.loop-index.index p here in
+    let scene = after_scene board s p c.requires.fits.scene can in
+    let held = before.corral.held in
     let Tried : Push → Type 0 = λ q. IsChosen c.find-only.result held q in
-    let corral = c.try_chosen-kept.ensures.kept.2 in
+    let tried = c.try_push-made.ensures.kept in
     let P : EntriesView → Type 0 = λ m. AreDoneWith board left (IsReached all m.seen k) Tried s ps (c.loop-index.index + 1) × AllFit board m.seen ×
     Grows c.args.more.now m in
-    let stepped : P c.if-kept.more = elim c.if-kept.branch [
-      | then-kept+in_ok-keep w ↦
+    let Q : Desk → Type 0 = λ d. (d.scratch ≡ before.scratch) × (d.pushes ≡ before.pushes) × (d.corral ≡ before.corral) in
+    let stepped : P c.if-made.more = elim c.if-made.branch [
+      | then-made+in_ok-keep w ↦
           subst P (sym w.more-is) (
             done_more board left all Tried c.loop-index.more w.keep.new.more k s ps c.loop-index.index p w.keep.ensures.grows here was.done
-                (λ tried. inl (c.try_chosen-kept.new.desk.after, (c.try_chosen-kept.ensures.made w.if-kept.true).0, w.in_ok-keep.ensures.reached)),
-            w.in_ok-keep.ensures.fit board ((c.try_chosen-kept.ensures.made w.if-kept.true).1) was.fit,
+                (λ chosen. done_by board left (IsReached all w.keep.new.more.seen k) s n p scene (c.try_push-made.ensures.made w.if-made.true).0
+                w.in_ok-keep.ensures.done),
+            w.in_ok-keep.ensures.fit was.fit,
             grows_on c.args.more.now c.loop-index.more w.keep.new.more was.grows w.keep.ensures.grows,
           )
-      | else-kept w ↦
+      | else-made w ↦
           subst P (sym w.more-is) (
             done_more board left all Tried c.loop-index.more c.loop-index.more k s ps c.loop-index.index p
-                (grows_none c.loop-index.more c.loop-index.more refl) here was.done (λ tried. inr (subst (λ (j : ℕ). NoneWithin board j (after_push board s p))
+                (grows_none c.loop-index.more c.loop-index.more refl) here was.done (λ chosen. inr (subst (λ (j : ℕ). NoneWithin board j (after_push board s p))
                 (ap (λ (v : SlackView). v.left) c.of-slack.ensures)
-                (c.try_chosen-kept.ensures.left_out w.if-kept.false tried))),
+                (c.try_push-made.ensures.left_out w.if-made.false chosen))),
             was.fit,
             was.grows,
           )
     ] in
+    let desk : Q c.if-made.desk = elim c.if-made.branch [
+      | then-made+in_ok-keep w ↦
+          (let kept = w.keep.ensures.kept in
+          subst Q (sym w.desk-is) (kept.0 ∙ tried.0, kept.1 ∙ tried.1, kept.2 ∙ tried.2))
+      | else-made w ↦ subst Q (sym w.desk-is) tried
+    ] in
+    let items : c.if-made.desk.pushes.items ≡ ps = ap (λ v. v.items) desk.1 in
     record {
       pushes = subst (ArePushes board s) (sym items) was.pushes;
-      flooded = subst (λ (r : Reach). IsAreaOf board s r.reached) (sym kept) was.flooded;
-      boxes = ap (λ (r : Reach). r.boxes) kept ∙ was.boxes;
-      room = ap (λ (r : Reach). r.size) kept ∙ was.room;
-      kept = c.try_chosen-kept.ensures.kept.1 ∙ was.kept;
-      corral = corral ∙ was.corral;
-      done = subst (λ (v : SetsView). AreDoneWith board left (IsReached all c.if-kept.more.seen k)
-          (IsChosen c.find-only.result v.held) s c.try_chosen-kept.new.desk.pushes.items (c.loop-index.index + 1)) (sym corral)
-          (subst (λ (xs : List Push). AreDoneWith board left (IsReached all c.if-kept.more.seen k) Tried s xs (c.loop-index.index + 1)) (sym items) stepped.0);
+      flooded = subst (λ (r : Reach). IsFlooded board r s) (sym desk.0) was.flooded;
+      kept = desk.1 ∙ was.kept;
+      corral = desk.2 ∙ was.corral;
+      done = subst (λ (v : SetsView). AreDoneWith board left (IsReached all c.if-made.more.seen k)
+          (IsChosen c.find-only.result v.held) s c.if-made.desk.pushes.items (c.loop-index.index + 1)) (sym desk.2)
+          (subst (λ (xs : List Push). AreDoneWith board left (IsReached all c.if-made.more.seen k) Tried s xs (c.loop-index.index + 1)) (sym items) stepped.0);
       fit = stepped.1;
       grows = stepped.2;
     }
 
 pub returns-clause-keeps : goal.returns-clause-keeps
-returns-clause-keeps c = λ most k enough label.
-    let board = c.args.pruner.now in
-    let all = c.args.store.now.seen in
+returns-clause-keeps c = λ k label.
+    let board = c.args.round.now.pruner.now in
+    let all = c.args.round.now.store.now.seen in
+    let most = c.args.round.now.most in
+    let left = most - c.args.label.pushes in
     let s = c.args.position.now in
     let was = c.loop-index.invariant in
     let size : c.len-index-end.result ≡ length c.possible_pushes.new.pushes.items = search rules in
     let same : length c.loop-index.desk.pushes.items ≡ length c.possible_pushes.new.pushes.items = ap (λ v. length v.items) was.kept in
     let over : length c.loop-index.desk.pushes.items ≤ c.loop-index.index = omega (arith, size, same, c.loop-index-test.false) in
+    let enough : most ≤ suc k + left = omega (arith, label, c.requires.few) in
     let only = c.find-only.result in
     let held = c.loop-index.desk.corral.held in
-    let closure : IsTrue only → (room : ℕ → Bool) × IsClosure board (suc c.args.left) (has_bit held) room s = λ told. (
+    let closure : IsTrue only → (room : ℕ → Bool) × IsClosure board (suc left) (has_bit held) room s = λ told. (
       has_bit c.find-only.new.corral.room,
-      subst (λ (v : SetsView). IsClosure board (suc c.args.left) (has_bit v.held) (has_bit c.find-only.new.corral.room) s) (sym was.corral)
-          (subst (λ (b : Board). IsClosure b (suc c.args.left) (has_bit c.find-only.new.corral.held) (has_bit c.find-only.new.corral.room) s) c.level-3.ensures
+      subst (λ (v : SetsView). IsClosure board (suc left) (has_bit v.held) (has_bit c.find-only.new.corral.room) s) (sym was.corral)
+          (subst (λ (b : Board). IsClosure b (suc left) (has_bit c.find-only.new.corral.held) (has_bit c.find-only.new.corral.room) s) c.level-3.ensures
           (subst (λ (j : ℕ). IsClosure c.level-3.result.now (suc j) (has_bit c.find-only.new.corral.held) (has_bit c.find-only.new.corral.room) s)
           (ap (λ (v : SlackView). v.left) c.of-slack.ensures) (c.find-only.ensures told))),
     ) in
     let level : IsLevel board = subst (λ (b : Board). IsLevel b) c.level-2.ensures c.tell.ensures in
-    let suffice = chosen_suffice board c.args.left s only held level c.requires.fits closure in
+    let suffice = chosen_suffice board left s only held level c.requires.fits closure in
     subst (λ (j : ℕ). Keeps board most (IsReached all c.loop-index.more.seen j) k s) label
-    (expansion_keeps board c.args.left (IsReached all c.loop-index.more.seen c.args.label.pushes)
+    (expansion_keeps board left (IsReached all c.loop-index.more.seen c.args.label.pushes)
     (IsChosen only held) most k s c.loop-index.desk.pushes.items c.loop-index.index c.requires.fits.scene was.pushes over enough suffice was.done)

@@ -1,4 +1,4 @@
-use Rattle.std.proofs.Common.{◌≡◌, ◌+◌, ◌-◌, ◌≤◌, suc, Some, refl, sym, ap, subst, ◌∙◌, arith}
+use Rattle.std.proofs.Common.{◌≡◌, ◌+◌, ◌≤◌, suc, Some, refl, sym, ap, subst, ◌∙◌, arith}
 use Rattle.std.specs.Prelude.{slice_get}
 use Rattle.prover.specs.Frame.{Seen, Keeps}
 use Rattle.prover.specs.inside.Entries.{EntriesView, IsReached}
@@ -10,15 +10,15 @@ use Rattle.prover.proofs.expansion.expand_all.Goals as goal
 pub expand-requires-clause-fits : goal.expand-requires-clause-fits
 expand-requires-clause-fits c =
     let x : Seen = record { scene = c.get-position.result.0; pushes = c.get-position.result.1 } in
-    let here : slice_get c.args.store.now.seen c.loop-place.place ≡ Some x =
+    let here : slice_get c.args.round.now.store.now.seen c.loop-place.place ≡ Some x =
     subst (λ (v : EntriesView). slice_get v.seen c.loop-place.place ≡ Some x) c.entries.ensures c.get-position.ensures in
     c.requires.fit c.loop-place.place x here
 
 pub loop-place-preserved : goal.loop-place-preserved
 loop-place-preserved c =
-    let board = c.args.pruner.now in
-    let most = c.args.most in
-    let all = c.args.store.now.seen in
+    let board = c.args.round.now.pruner.now in
+    let most = c.args.round.now.most in
+    let all = c.args.round.now.store.now.seen in
     let place = c.loop-place.place in
     let was = c.loop-place.invariant in
     let x : Seen = record { scene = c.get-position.result.0; pushes = c.get-position.result.1 } in
@@ -28,10 +28,9 @@ loop-place-preserved c =
     elim c.if-pushes-most.branch [
       | then-pushes-most+in_ok-expand w ↦
           (let grows = w.expand.ensures.grows in
-          let enough : most ≤ suc x.pushes + (most - x.pushes - 1) = omega (arith, w.if-pushes-most.true) in
           let label : x.pushes + 1 ≡ suc x.pushes = omega arith in
           let keeps : Keeps board most (IsReached all w.expand.new.more.seen (suc x.pushes)) x.pushes x.scene =
-          w.in_ok-expand.ensures.keeps most x.pushes enough label in
+          w.in_ok-expand.ensures.keeps x.pushes label in
           let stepped : P c.if-pushes-most.more = subst P (sym w.more-is) (
             expanded_more board most all c.loop-place.more w.expand.new.more c.args.span.from place x grows here was.expanded keeps,
             w.in_ok-expand.ensures.fit,

@@ -15,10 +15,12 @@ loop-place-preserved g c =
     let more = round.1 in
     let le = length_on v w grows in
     record {
-      under_way = round.0;
-      unsolved = unsolved_on board v w to c.args.span.to grows was.within (λ i x ge lt at. was.unsolved i x (omega (arith, ge, more)) lt at);
-      order = round.2;
-      within = omega (arith, was.within, le);
+      ahead = record {
+        under_way = round.0;
+        unsolved = unsolved_on board v w to c.args.span.to grows was.ahead.within (λ i x ge lt at. was.ahead.unsolved i x (omega (arith, ge, more)) lt at);
+        order = round.2;
+        within = omega (arith, was.ahead.within, le);
+      };
       grows = grows_on c.args.store.now v w was.grows grows;
       many = c.expand_round.ensures.benches.0 ∙ was.many;
       roomy = c.expand_round.ensures.benches.1;
@@ -26,5 +28,5 @@ loop-place-preserved g c =
 
 pub returns-clause-under_way : goal.returns-clause-under_way
 returns-clause-under_way g c = λ yes_so.
-    let same : c.loop-place.place ≡ c.args.span.to = omega (arith, c.loop-place-test.false, c.loop-place.invariant.order) in
-    subst (λ (p : ℕ). IsUnderWay c.args.pruner.now c.args.asked.most c.loop-place.store.seen p) same c.loop-place.invariant.under_way
+    let same : c.loop-place.place ≡ c.args.span.to = omega (arith, c.loop-place-test.false, c.loop-place.invariant.ahead.order) in
+    subst (λ (p : ℕ). IsUnderWay c.args.pruner.now c.args.asked.most c.loop-place.store.seen p) same c.loop-place.invariant.ahead.under_way

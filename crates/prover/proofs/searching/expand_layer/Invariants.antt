@@ -1,15 +1,12 @@
-use Rattle.std.proofs.Common.{◌≡◌, ◌≤◌, ◌-◌, length}
+use Rattle.std.proofs.Common.{◌≡◌, ◌-◌, length}
 use Rattle.prover.specs.inside.Benches.{AreRoomy}
 use Rattle.prover.specs.inside.Entries.{Grows}
-use Rattle.prover.specs.inside.Progress.{AreUnsolved, IsUnderWay}
+use Rattle.prover.specs.inside.Working.{IsAhead}
 use Rattle.prover.proofs.searching.expand_layer.Given as goal
 
 abbrev pub invariant-loop-place : goal.invariant-loop-place
 invariant-loop-place g l = record {
-  under_way : IsUnderWay l.pruner l.asked.most l.store.seen l.place;
-  unsolved : AreUnsolved l.pruner l.store.seen l.place l.span.to;
-  order : l.place ≤ l.span.to;
-  within : l.span.to ≤ length l.store.seen;
+  ahead : IsAhead l.pruner l.asked.most l.store.seen l.place l.span.to;
   grows : Grows l.fn.store l.store;
   many : length l.benches ≡ length l.fn.benches;
   roomy : AreRoomy l.pruner l.benches;

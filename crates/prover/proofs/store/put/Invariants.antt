@@ -2,4 +2,4 @@ use Rattle.std.proofs.Common.{◌≡◌, ◌<◌, length}
 use Rattle.prover.proofs.store.put.Given as goal
 
 abbrev pub invariant-loop : goal.invariant-loop
-invariant-loop l = (length l.tags ≡ length l.fn.tags) × ((length l.places ≡ length l.fn.places) × (l.slot < length l.tags))
+invariant-loop l = (length l.slots ≡ length l.fn.slots) × (l.slot < length l.slots)
