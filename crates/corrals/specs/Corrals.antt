@@ -1,11 +1,12 @@
 -- Corrals: rooms that boxes shut, and those boxes, of which one has to be pushed, and may as well be pushed first.
-use Rattle.std.specs.Prelude.{◌≡◌, ℕ, suc, ◌⊎◌, Bool, true, false}
+use Rattle.std.specs.Prelude.{◌≡◌, ◌≢◌, ℕ, suc, ◌⊎◌, Bool, true, false}
 use Rattle.grid.specs.declared.dir.Dir.{Dir}
-use Rattle.grid.specs.Squares.{contains}
+use Rattle.grid.specs.Squares.{Squares, contains}
 use Rattle.grid.specs.Board.{Board, Scene, is_goal, is_wall, next, opposite}
 use Rattle.grid.specs.States.{FitsLevel}
 use Rattle.grid.specs.Lawful.{IsLevel}
 use Rattle.area.specs.Area.{Area}
+use Rattle.doom.specs.Deadlocks.{Doomed}
 use Rattle.prices.specs.Helping.{NeverHelps}
 use Rattle.corrals.specs.Trying.{Suffice}
 
@@ -30,9 +31,15 @@ IsBarred board held room b d = let behind = next board b (opposite d) in let ahe
 abbrev pub LeadsIn : Board → (ℕ → Bool) → Scene → ℕ → Dir → Type 0
 LeadsIn board room s b d = (room (next board b d) ≡ true) × Area board s (next board b (opposite d))
 
+-- with the box pushed on, and all other held boxes as they stand, some of them are doomed
+abbrev pub FreezesHeld : Board → (ℕ → Bool) → ℕ → Dir → Type 0
+FreezesHeld board held b d = (boxes : Squares) ×
+    ((q : ℕ) → contains boxes q ≡ true → (next board b d ≡ q) ⊎ ((held q ≡ true) × (b ≢ q))) × Doomed board boxes
+
 -- what is asked of a held box and a direction: a push that could be the first of a held box, and could help, can be made now
 abbrev pub IsReady : Board → ℕ → (ℕ → Bool) → (ℕ → Bool) → Scene → ℕ → Dir → Type 0
-IsReady board m held room s b d = IsBarred board held room b d ⊎ (NeverHelps board m s b d ⊎ LeadsIn board room s b d)
+IsReady board m held room s b d =
+    IsBarred board held room b d ⊎ (NeverHelps board m s b d ⊎ (FreezesHeld board held b d ⊎ LeadsIn board room s b d))
 
 -- held boxes and room are a corral in which something has to change, where all pushes that could be first are ready
 pub record IsClosure (board : Board) (m : ℕ) (held room : ℕ → Bool) (s : Scene) : Type 0 where

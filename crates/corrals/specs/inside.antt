@@ -2,3 +2,4 @@
 pub mod Views
 pub mod Grounds
 pub mod Checking
+pub mod Freezing

@@ -4,12 +4,14 @@ ghost use Rattle.std.specs.List.{list_all, list_any};
 ghost use Rattle.grid.specs.Board.{is_goal};
 ghost use Rattle.grid.specs.Masks.{has_bit};
 ghost use Rattle.grid.specs.Squares.{contains};
-ghost use Rattle.corrals.specs.Corrals.{IsClosure, IsReady};
+ghost use Rattle.corrals.specs.Corrals.{IsBarred, IsClosure, IsReady, LeadsIn};
 ghost use Rattle.corrals.specs.inside.Checking.{IsReadyBox, are_inside, has_to_change, shut_beside, shut_round};
 ghost use Rattle.corrals.specs.inside.Views.{HasRoom};
 
 use crate::corral::Sets;
+use crate::freezing::freezes;
 use crate::ground::Ground;
+use area::Scratch;
 use grid::{Dir, Square};
 
 /// Whether these boxes and these squares are a corral in which something has to change, and whose pushes are ready. The sets
@@ -19,10 +21,13 @@ pub(crate) fn is_closure(
     boxes: &[Square],
     squares: &[Square],
     sets: &mut Sets,
+    spare: &mut Scratch,
 ) -> bool
     requires room { HasRoom (length ground.now.board.cells) sets.old }
+    requires spare { spare.old.size ≡ length ground.now.board.cells }
     ensures closure { IsTrue result → IsClosure ground.now.board (suc ground.now.left) (has_bit sets.new.held) (has_bit sets.new.room) ground.now.scene }
     ensures room { HasRoom (length ground.now.board.cells) sets.new }
+    ensures spare { spare.new ≡ spare.old }
 {
     if !are_inside(ground, boxes) {
         return false;
@@ -32,7 +37,7 @@ pub(crate) fn is_closure(
     }
     sets.held.put_all(boxes);
     sets.room.put_all(squares);
-    let found = is_found(ground, boxes, squares, sets);
+    let found = is_found(ground, boxes, squares, sets, spare);
     found
 }
 
@@ -44,10 +49,18 @@ fn are_inside(ground: &Ground<'_>, squares: &[Square]) -> bool
 }
 
 // The same, where the sets are those of the boxes and the squares.
-fn is_found(ground: &Ground<'_>, boxes: &[Square], squares: &[Square], sets: &Sets) -> bool
+fn is_found(
+    ground: &Ground<'_>,
+    boxes: &[Square],
+    squares: &[Square],
+    sets: &Sets,
+    spare: &mut Scratch,
+) -> bool
     requires held { (q : ℕ) → has_bit sets.now.held q ≡ contains boxes.now q }
     requires room { (q : ℕ) → has_bit sets.now.room q ≡ contains squares.now q }
-    ensures { IsTrue result → IsClosure ground.now.board (suc ground.now.left) (has_bit sets.now.held) (has_bit sets.now.room) ground.now.scene }
+    requires spare { spare.old.size ≡ length ground.now.board.cells }
+    ensures closure { IsTrue result → IsClosure ground.now.board (suc ground.now.left) (has_bit sets.now.held) (has_bit sets.now.room) ground.now.scene }
+    ensures spare { spare.new ≡ spare.old }
 {
     let outside = !sets.room.has(ground.position().player());
     let changes = has_to_change(ground, boxes, squares);
@@ -61,7 +74,7 @@ fn is_found(ground: &Ground<'_>, boxes: &[Square], squares: &[Square], sets: &Se
     if !shut {
         return false;
     }
-    let ready = are_ready(ground, boxes, sets);
+    let ready = are_ready(ground, boxes, sets, spare);
     ready
 }
 
@@ -115,12 +128,15 @@ fn is_shut_beside(ground: &Ground<'_>, square: Square, dir: Dir, sets: &Sets) ->
 }
 
 // Whether on each of the squares stands a box, and all its pushes that could be the first of a held box are ready.
-fn are_ready(ground: &Ground<'_>, boxes: &[Square], sets: &Sets) -> bool
-    ensures { IsTrue result → (b : ℕ) → contains boxes.now b ≡ true →
+fn are_ready(ground: &Ground<'_>, boxes: &[Square], sets: &Sets, spare: &mut Scratch) -> bool
+    requires held { (q : ℕ) → has_bit sets.now.held q ≡ contains boxes.now q }
+    requires spare { spare.old.size ≡ length ground.now.board.cells }
+    ensures ready { IsTrue result → (b : ℕ) → contains boxes.now b ≡ true →
         IsReadyBox ground.now.board (suc ground.now.left) (has_bit sets.now.held) (has_bit sets.now.room) ground.now.scene b }
+    ensures spare { spare.new ≡ spare.old }
 {
     for square in boxes {
-        if !is_ready_round(ground, *square, sets) {
+        if !is_ready_round(ground, boxes, *square, sets, spare) {
             return false;
         }
     }
@@ -128,35 +144,78 @@ fn are_ready(ground: &Ground<'_>, boxes: &[Square], sets: &Sets) -> bool
 }
 
 // The same of one square.
-fn is_ready_round(ground: &Ground<'_>, square: Square, sets: &Sets) -> bool
-    ensures { IsTrue result → IsReadyBox ground.now.board (suc ground.now.left) (has_bit sets.now.held) (has_bit sets.now.room) ground.now.scene square }
+fn is_ready_round(
+    ground: &Ground<'_>,
+    boxes: &[Square],
+    square: Square,
+    sets: &Sets,
+    spare: &mut Scratch,
+) -> bool
+    requires held { (q : ℕ) → has_bit sets.now.held q ≡ contains boxes.now q }
+    requires spare { spare.old.size ≡ length ground.now.board.cells }
+    ensures ready { IsTrue result → IsReadyBox ground.now.board (suc ground.now.left) (has_bit sets.now.held) (has_bit sets.now.room) ground.now.scene square }
+    ensures spare { spare.new ≡ spare.old }
 {
     if !ground.has(square) || !ground.has_box(square) {
         return false;
     }
-    let down = is_ready_along(ground, square, Dir::D, sets);
-    let left = is_ready_along(ground, square, Dir::L, sets);
-    let right = is_ready_along(ground, square, Dir::R, sets);
-    let up = is_ready_along(ground, square, Dir::U, sets);
+    let down = is_ready_along(ground, boxes, square, Dir::D, sets, spare);
+    let left = is_ready_along(ground, boxes, square, Dir::L, sets, spare);
+    let right = is_ready_along(ground, boxes, square, Dir::R, sets, spare);
+    let up = is_ready_along(ground, boxes, square, Dir::U, sets, spare);
     down & left & right & up
 }
 
 // Whether the push of a held box in a direction is ready, if it could be the first.
-fn is_ready_along(ground: &Ground<'_>, square: Square, dir: Dir, sets: &Sets) -> bool
-    requires { square < length ground.now.board.cells }
-    ensures { IsTrue result → IsReady ground.now.board (suc ground.now.left) (has_bit sets.now.held) (has_bit sets.now.room) ground.now.scene square dir }
+fn is_ready_along(
+    ground: &Ground<'_>,
+    boxes: &[Square],
+    square: Square,
+    dir: Dir,
+    sets: &Sets,
+    spare: &mut Scratch,
+) -> bool
+    requires inside { square < length ground.now.board.cells }
+    requires held { (q : ℕ) → has_bit sets.now.held q ≡ contains boxes.now q }
+    requires spare { spare.old.size ≡ length ground.now.board.cells }
+    ensures ready { IsTrue result → IsReady ground.now.board (suc ground.now.left) (has_bit sets.now.held) (has_bit sets.now.room) ground.now.scene square dir }
+    ensures spare { spare.new ≡ spare.old }
 {
-    let behind = ground.next(square, dir.opposite());
-    let ahead = ground.next(square, dir);
-    let shut = ground.is_wall(behind) || (sets.held.has(behind) || sets.room.has(behind));
-    let barred = ground.is_wall(ahead) || sets.held.has(ahead);
-    if shut || barred {
+    let barred = is_barred(ground, square, dir, sets);
+    if barred {
         return true;
     }
     let useless = ground.never_helps(square, dir);
     if useless {
         return true;
     }
+    let leads = leads_in(ground, square, dir, sets);
+    if leads {
+        return true;
+    }
+    let frozen = freezes(ground, boxes, square, dir, spare);
+    frozen
+}
+
+// Whether what is behind a held box, or ahead of it, bars its push.
+fn is_barred(ground: &Ground<'_>, square: Square, dir: Dir, sets: &Sets) -> bool
+    requires { square < length ground.now.board.cells }
+    ensures { IsTrue result → IsBarred ground.now.board (has_bit sets.now.held) (has_bit sets.now.room) square dir }
+{
+    let behind = ground.next(square, dir.opposite());
+    let ahead = ground.next(square, dir);
+    let shut = ground.is_wall(behind) || (sets.held.has(behind) || sets.room.has(behind));
+    let stopped = ground.is_wall(ahead) || sets.held.has(ahead);
+    shut || stopped
+}
+
+// Whether the push leads into the room, and can be made now.
+fn leads_in(ground: &Ground<'_>, square: Square, dir: Dir, sets: &Sets) -> bool
+    requires { square < length ground.now.board.cells }
+    ensures { IsTrue result → LeadsIn ground.now.board (has_bit sets.now.room) ground.now.scene square dir }
+{
+    let behind = ground.next(square, dir.opposite());
+    let ahead = ground.next(square, dir);
     let inside = sets.room.has(ahead);
     let reached = ground.reaches(behind);
     inside && reached

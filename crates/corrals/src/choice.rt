@@ -134,7 +134,9 @@ impl Choice {
         if self.is_shut(behind) || self.is_stopped(ahead) || self.leads_in(behind, ahead) {
             return true;
         }
-        if self.sketch.never_helps(ground, place, dir) {
+        if self.sketch.never_helps(ground, place, dir)
+            || self.sketch.freezes(ground, self.held, place, dir)
+        {
             return true;
         }
         if is_reached(behind) || (self.is_good_box(ahead) && !self.is_good(behind)) {

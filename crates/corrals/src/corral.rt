@@ -3,7 +3,7 @@ ghost use Rattle.std.specs.Prelude.{◌≡◌};
 ghost use Rattle.grid.specs.Masks.{has_bit};
 
 use crate::choice::Choice;
-use area::SquareSet;
+use area::{Scratch, SquareSet};
 use grid::{Level, Square};
 use std::alloc::{AllocError, Global};
 use std::marker::Model;
@@ -15,6 +15,8 @@ pub struct Corral {
     pub(crate) size: usize,
     pub(crate) choice: Choice,
     pub(crate) sets: Sets,
+    // where boxes are looked at for whether they freeze
+    pub(crate) spare: Scratch,
 }
 
 /// The squares of the held boxes, and those of the room.
@@ -25,6 +27,7 @@ pub(crate) struct Sets {
 }
 
 impl Model for Corral {
+    ghost use Rattle.std.specs.Prelude.{◌≡◌};
     ghost use Rattle.corrals.specs.Sets.{SetsView};
     ghost use Rattle.corrals.specs.inside.Views.{sets_view, HasRoom};
 
@@ -32,7 +35,7 @@ impl Model for Corral {
 
     ghost view = { sets_view };
 
-    ghost invariant = { λ a. HasRoom a.size a.sets };
+    ghost invariant = { λ a. HasRoom a.size a.sets × (a.spare.size ≡ a.size) };
 }
 
 impl Corral {
@@ -47,6 +50,7 @@ impl Corral {
                 held: SquareSet::none(alloc, squares)?,
                 room: SquareSet::none(alloc, squares)?,
             },
+            spare: Scratch::new(alloc, level)?,
         })
     }
 

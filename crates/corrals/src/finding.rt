@@ -41,6 +41,7 @@ pub fn find(
         corral.choice.boxes.as_slice(),
         corral.choice.squares.as_slice(),
         &mut corral.sets,
+        &mut corral.spare,
     );
     found
 }

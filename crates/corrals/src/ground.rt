@@ -1,11 +1,12 @@
 //! Where a corral is looked for.
-ghost use Rattle.std.specs.Prelude.{◌≡◌, ℕ, suc, ◌<◌, IsTrue, length, nat_lt};
+ghost use Rattle.std.specs.Prelude.{◌≡◌, ℕ, suc, ◌<◌, IsTrue, length, nat_lt, true};
 ghost use Rattle.grid.specs.declared.dir.Dir.{Dir as Direction};
 ghost use Rattle.grid.specs.Board.{is_wall, is_goal, next};
-ghost use Rattle.grid.specs.Squares.{contains};
+ghost use Rattle.grid.specs.Squares.{Squares, contains};
 ghost use Rattle.grid.specs.States.{FitsLevel};
 ghost use Rattle.area.specs.After.{IsAreaOf};
 ghost use Rattle.area.specs.Area.{Area};
+ghost use Rattle.doom.specs.Deadlocks.{IsFrozen};
 ghost use Rattle.prices.specs.Helping.{NeverHelps};
 
 use area::Scratch;
@@ -116,6 +117,16 @@ impl<'a> Ground<'a> {
             return true;
         }
         self.slack.never_helps(square, dir)
+    }
+
+    /// Whether some of these squares, at least one of them off goal, are frozen where boxes stand on them.
+    pub(crate) fn any_frozen(&self, squares: &[Square], spare: &mut Scratch) -> bool
+        requires inside { (q : ℕ) → contains squares.now q ≡ true → q < length self.now.board.cells }
+        requires room { spare.old.size ≡ length self.now.board.cells }
+        ensures frozen { IsTrue result → (members : Squares) × IsFrozen self.now.board squares.now members }
+        ensures kept { spare.new ≡ spare.old }
+    {
+        doom::any_frozen(self.level, self.dead, squares, spare)
     }
 
     /// Whether a box stands on the square.

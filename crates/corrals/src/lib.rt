@@ -11,9 +11,11 @@ mod checking;
 mod choice;
 mod corral;
 mod finding;
+mod freezing;
 mod ground;
 pub mod laws;
 mod sketch;
+mod stuck;
 
 pub use corral::Corral;
 pub use finding::find;

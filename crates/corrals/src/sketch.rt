@@ -126,6 +126,12 @@ impl Sketch {
         self.boxes[place % MAX_BOXES]
     }
 
+    /// The bit of the box on a square; none where there is no box.
+    pub(crate) fn box_bit(&self, square: Square) -> u64 {
+        let code = self.code(square);
+        if code < ROOM { bit(code as usize) } else { 0 }
+    }
+
     /// Appends the squares of a room to a list.
     pub(crate) fn append_room(&self, room: usize, squares: &mut Vec<Square>) {
         let start = self.starts[room % MAX_ROOMS];

@@ -1,9 +1,8 @@
-ghost use Rattle.std.specs.Prelude.{◌≡◌, ℕ, ◌↔◌, IsTrue, true, length};
+ghost use Rattle.std.specs.Prelude.{◌≡◌, ℕ, ◌<◌, ◌↔◌, IsTrue, true, length};
 ghost use Rattle.grid.specs.Squares.{Squares, contains};
 ghost use Rattle.grid.specs.States.{FitsLevel};
 ghost use Rattle.doom.specs.Deadlocks.{IsDead, Doomed, IsFrozen};
 ghost use Rattle.doom.specs.Lost.{AreLost};
-ghost use Rattle.doom.specs.inside.Peeling.{StandInside};
 
 use crate::dead::Dead;
 use crate::locked::any_locked;
@@ -32,9 +31,9 @@ fn any_dead(dead: &Dead, boxes: &[Square]) -> bool
     boxes.iter().any(|square| dead.is_dead(*square))
 }
 
-/// Whether some of the boxes, at least one of them off goal, are frozen.
-fn any_frozen(level: &Level, dead: &Dead, boxes: &[Square], scratch: &mut Scratch) -> bool
-    requires inside { StandInside level.now boxes.now }
+/// Whether some of the boxes, at least one of them off goal, are frozen. They may be some of a position's. Takes no memory.
+pub fn any_frozen(level: &Level, dead: &Dead, boxes: &[Square], scratch: &mut Scratch) -> bool
+    requires inside { (q : ℕ) → contains boxes.now q ≡ true → q < length level.now.cells }
     requires dead_of_level { dead.now ≡ level.now }
     requires room { scratch.old.size ≡ length level.now.cells }
     ensures frozen { IsTrue result ↔ ((members : Squares) × IsFrozen level.now boxes.now members) }

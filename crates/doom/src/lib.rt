@@ -28,7 +28,7 @@ pub use after::{doomed_after, push_dooms};
 pub use bound::Bound;
 pub use dangers::Dangers;
 pub use dead::Dead;
-pub use freeze::doomed;
+pub use freeze::{any_frozen, doomed};
 pub use holds::Holds;
 pub use locked::{any_locked, any_locked_with};
 pub use loose::is_loose;

@@ -4,20 +4,28 @@ use Rattle.std.proofs.lemmas.Bool.{true≢false}
 use Rattle.grid.specs.declared.dir.Dir.{Dir}
 use Rattle.grid.specs.declared.square.Push.{Push}
 use Rattle.grid.specs.Squares.{Squares, contains}
-use Rattle.grid.specs.Board.{Board, Scene, IsSolved, is_wall, next, opposite}
+use Rattle.grid.specs.Board.{Board, Scene, IsSolved, Pushes, is_wall, next, opposite}
 use Rattle.grid.specs.States.{IsScene, FitsLevel}
 use Rattle.grid.specs.Plays.{Play, Any, push_at}
 use Rattle.grid.specs.Lawful.{IsLevel}
 use Rattle.grid.proofs.lemmas.Plays.{play-map, play_last, play_fits, play_scene, push_from}
-use Rattle.grid.proofs.lemmas.Steps.{push_arrived, scene_after_push}
+use Rattle.grid.proofs.lemmas.Steps.{push_arrived, push_kept, scene_after_push}
 use Rattle.area.specs.Area.{Area}
+use Rattle.doom.specs.Deadlocks.{Doomed}
 use Rattle.doom.specs.Lost.{LosesBox}
+use Rattle.doom.proofs.lemmas.Soundness.{doomed_lost}
 use Rattle.prices.proofs.lemmas.Goals.{contains-goals}
 use Rattle.prices.proofs.lemmas.Solved.{solved_are_goals}
 use Rattle.corrals.specs.Trying.{LeadsOn}
 use Rattle.prices.specs.Helping.{NeverHelps}
-use Rattle.corrals.specs.Corrals.{IsCorral, HasToChange, IsReady, CorralsSuffice}
+use Rattle.corrals.specs.Corrals.{IsCorral, FreezesHeld, HasToChange, IsReady, CorralsSuffice}
 use Rattle.corrals.proofs.Exchange.{Good, Cut, not_held, stays_or_cut, exchanged}
+
+-- more boxes are doomed as well
+doomed_with : (board : Board) (xs ys : Squares) → ((q : ℕ) → contains xs q ≡ true → contains ys q ≡ true) → Doomed board xs → Doomed board ys
+doomed_with board xs ys all (inl (q, there, dead)) = inl (q, all q there, dead)
+doomed_with board xs ys all (inr (members, frozen)) =
+    inr (members, record { some = λ q member. all q (frozen.some q member); off_goal = frozen.off_goal; blocked = frozen.blocked })
 
 module _ (board : Board) (held room : ℕ → Bool) where
   -- a play after which the corral is as it was does not end solved
@@ -30,6 +38,17 @@ module _ (board : Board) (held room : ℕ → Bool) where
 
   abbrev Leads : ℕ → Scene → Type 0
   Leads m s = LeadsOn board m (λ p. held p.square ≡ true) s
+
+  -- where boxes are doomed that stand after the push, it does not lead to a solved state
+  not_frozen : (x y t : Scene) (d : Dir) (ds : List Dir) (ps : List Push) → IsScene board x → IsCorral board held room x → Pushes board x d y
+      → Play board Any y ds ps t → IsSolved board t → FreezesHeld board held (next board x.player d) d → ⊥
+  not_frozen x y t d ds ps scene corral step rest solved (boxes, among, doomed) =
+      let b = next board x.player d in
+      let stand : (q : ℕ) → contains boxes q ≡ true → contains y.boxes q ≡ true = λ q there. elim (among q there) [
+        | inl e ↦ subst (λ (z : ℕ). contains y.boxes z ≡ true) e (push_arrived board x d y step)
+        | inr (member, apart) ↦ push_kept board x d y step q apart (corral.stands q member)
+      ] in
+      doomed_lost board y (scene_after_push board x d y scene step) (doomed_with board boxes y.boxes stand doomed) t ds ps rest solved
 
   of_cut : (m : ℕ) (s t : Scene) (ps : List Push) → IsScene board s → IsCorral board held room s → IsSolved board t → length ps ≤ suc m
       → (c : Cut board held room s ps t) → IsReady board (suc m) held room s (next board c.before.player c.dir) c.dir → Leads m s
@@ -54,7 +73,8 @@ module _ (board : Board) (held room : ℕ → Bool) where
               solved,
               omega arith,
             )))
-        | inr (inr (inside, area)) ↦
+        | inr (inr (inl freezes)) ↦ absurd (not_frozen c.before c.after t c.dir c.late c.lps good.0 good.1 c.pushed c.rest solved freezes)
+        | inr (inr (inr (inside, area))) ↦
             (let here = subst (Area board s) back area in
             let less : length c.eps + length c.lps ≤ m = omega (arith, count, few) in
             let both = exchanged board held room s x c.after t c.dir scene corral here m c.early c.late c.eps c.lps c.outer c.pushed c.member inside c.rest

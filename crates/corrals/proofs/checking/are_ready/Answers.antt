@@ -1,4 +1,4 @@
-use Rattle.std.proofs.Common.{◌≡◌, Some, suc, length, refl, arith}
+use Rattle.std.proofs.Common.{◌≡◌, Some, suc, length, refl, ◌∙◌, arith}
 use Rattle.std.specs.Prelude.{slice_get}
 use Rattle.std.proofs.lemmas.Option.{slice_get_read}
 use Rattle.grid.specs.Masks.{has_bit}
@@ -11,12 +11,15 @@ loop-square-preserved c =
     let xs = c.args.boxes.now in
     let here : slice_get xs c.loop-square.square-index ≡ Some c.square-item.result =
     slice_get_read xs (length xs) c.loop-square.square-index c.square-item.result refl (omega (arith, c.loop-square-test.true)) c.square-item.is in
-    one_more (λ b. IsReadyBox c.args.ground.now.board (suc c.args.ground.now.left) (has_bit c.args.sets.now.held)
-    (has_bit c.args.sets.now.room) c.args.ground.now.scene b)
-    xs c.loop-square.square-index c.square-item.result c.loop-square.invariant here (c.if-not-is_ready_round.ensures refl)
+    record {
+      ready = one_more (λ b. IsReadyBox c.args.ground.now.board (suc c.args.ground.now.left) (has_bit c.args.sets.now.held)
+          (has_bit c.args.sets.now.room) c.args.ground.now.scene b)
+          xs c.loop-square.square-index c.square-item.result c.loop-square.invariant.ready here (c.if-not-is_ready_round.ensures.ready refl);
+      spare = c.if-not-is_ready_round.ensures.spare ∙ c.loop-square.invariant.spare;
+    }
 
-pub returns : goal.returns
-returns c told =
+pub returns-clause-ready : goal.returns-clause-ready
+returns-clause-ready c told =
     each_member (λ b. IsReadyBox c.args.ground.now.board (suc c.args.ground.now.left) (has_bit c.args.sets.now.held)
     (has_bit c.args.sets.now.room) c.args.ground.now.scene b)
-    c.args.boxes.now c.loop-square.square-index (omega (arith, c.loop-square-test.false)) c.loop-square.invariant
+    c.args.boxes.now c.loop-square.square-index (omega (arith, c.loop-square-test.false)) c.loop-square.invariant.ready

@@ -5,6 +5,8 @@ use Rattle.corrals.specs.inside.Checking.{IsReadyBox}
 use Rattle.corrals.proofs.checking.are_ready.Given as goal
 
 abbrev pub invariant-loop-square : goal.invariant-loop-square
-invariant-loop-square l =
-    (i b : ℕ) → i < l.square-index → slice_get l.boxes i ≡ Some b →
-    IsReadyBox l.ground.board (suc l.ground.left) (has_bit l.sets.held) (has_bit l.sets.room) l.ground.scene b
+invariant-loop-square l = record {
+  ready : (i b : ℕ) → i < l.square-index → slice_get l.boxes i ≡ Some b →
+      IsReadyBox l.ground.board (suc l.ground.left) (has_bit l.sets.held) (has_bit l.sets.room) l.ground.scene b;
+  spare : l.spare ≡ l.fn.spare;
+}
