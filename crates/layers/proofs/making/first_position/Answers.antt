@@ -1,14 +1,10 @@
-use Rattle.std.proofs.Common.{sym, ap, subst, ◌∙◌, rules}
+use Rattle.std.proofs.Common.{sym, ap, ◌∙◌, rules}
 use Rattle.successors.specs.Tasks.{Task}
-use Rattle.successors.specs.Capping.{HasBound}
 use Rattle.layers.proofs.lemmas.Admissions.{admitted_alike}
 use Rattle.layers.proofs.making.first_position.Goals as goal
 
 pub doomed-requires-clause-dead_of_level : goal.doomed-requires-clause-dead_of_level
 doomed-requires-clause-dead_of_level c = c.dead.ensures ∙ ap (λ (t : Task). t.board) c.requires.pruner_of_task ∙ sym c.level-level.ensures
-
-pub is_admitted-requires-clause-bound_of_level : goal.is_admitted-requires-clause-bound_of_level
-is_admitted-requires-clause-bound_of_level c = subst (λ (t : Task). HasBound t c.bound.result.now) c.requires.pruner_of_task c.bound.ensures
 
 pub returns-clause-first : goal.returns-clause-first
 returns-clause-first c = (
