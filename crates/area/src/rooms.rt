@@ -76,7 +76,7 @@ fn widen(cols: usize, free: &[u64], aim: &Option<Square>, reached: &mut [u64])
 }
 
 // How many words there are up to the last in which one of two sets has a number.
-fn used(free: &[u64], reached: &[u64]) -> usize
+pub(crate) fn used(free: &[u64], reached: &[u64]) -> usize
     requires room { length reached.now ≡ length free.now }
     ensures bound { result ≤ length free.now }
     ensures rest { AreUnused result free.now reached.now }

@@ -6,10 +6,10 @@ ghost use Rattle.grid.specs.Squares.{contains, insert, remove};
 ghost use Rattle.area.specs.Area.{IsNorm, at};
 ghost use Rattle.area.specs.Words.{squares_of};
 ghost use Rattle.area.specs.inside.Detours.{GuessesLeast};
-ghost use Rattle.area.specs.inside.RoomFloods.{AreSquares, CanSeek, FindsLeast, HaveWords, is_left, IsBeside, IsWithin, Meets};
+ghost use Rattle.area.specs.inside.RoomFloods.{AreFirst, AreSquares, CanSeek, FindsLeast, HaveWords, is_left, IsBeside, IsWithin, Meets};
 
 use crate::bits::{bit_at, least_of};
-use crate::rooms::{array_of, just_beside, round};
+use crate::rooms::{array_of, just_beside, round, used};
 use crate::set::SquareSet;
 use grid::{Level, Position, Square, WORD_BITS};
 
@@ -45,14 +45,33 @@ pub(crate) fn seek_least(
     let boxes = boxes.as_words();
     let known = known.as_words();
     if boxes.len() == 1 {
-        seek_few::<1>(level, boxes, known, player, ahead, least)
-    } else {
-        seek_few::<2>(level, boxes, known, player, ahead, least)
+        return seek_few::<1>(level, boxes, known, player, ahead, least);
     }
+    if are_first(level, known, ahead, least) {
+        return seek_few::<1>(level, boxes, known, player, ahead, least);
+    }
+    seek_few::<2>(level, boxes, known, player, ahead, least)
 }
 
-// By so many words: the least square that is come to from one that a box left for the one ahead, unless a given one is come
-// to or all squares of an earlier set beside the one ahead; then that one.
+// Whether the room of the level and a set have nothing after the first word, and two squares are of that word.
+#[inline(always)]
+fn are_first(level: &Level, known: &[u64], ahead: Square, least: Square) -> bool
+    requires { length known.now ≡ word_count (length level.now.cells) }
+    ensures { IsTrue result → AreFirst level.now known.now ahead least }
+{
+    let room = level.room_mask();
+    let words = used(room, known);
+    if words > 1 {
+        return false;
+    }
+    if ahead.0 as usize >= WORD_BITS {
+        return false;
+    }
+    (least.0 as usize) < WORD_BITS
+}
+
+// By the first so many words, in which the room ends: the least square that is come to from one that a box left for the one
+// ahead, unless a given one is come to or all squares of an earlier set beside the one ahead; then that one.
 fn seek_few<const W: usize>(
     level: &Level,
     boxes: &[u64],
@@ -71,17 +90,17 @@ fn seek_few<const W: usize>(
 {
     level.tell();
     let cols = level.cols();
-    let room = array_of::<W>(level.room_mask());
+    let room = array_of::<W>(&level.room_mask()[..W]);
     let mut clear = room;
     let mut words = room;
     let mut end = room;
     let mut center = room;
     let mut sides = room;
-    make_free(boxes, square, ahead, &mut clear);
+    make_free(&boxes[..W], square, ahead, &mut clear);
     make_only(square, &mut words);
     make_only(least, &mut end);
     make_only(ahead, &mut center);
-    make_sides(cols, known, &center, &mut sides);
+    make_sides(cols, &known[..W], &center, &mut sides);
     while round(cols, &clear, &mut words) {
         if have_one(&words, &end) {
             return least;

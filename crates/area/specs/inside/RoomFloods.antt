@@ -122,8 +122,17 @@ pub record AreSquares (board : Board) (words : List ℕ) : Type 0 where
   pub size : length words ≡ word_count (length board.cells)
   pub inside : (q : ℕ) → has_bit words q ≡ true → q < length board.cells
 
--- the squares have so many words, and two sets as many
+-- two sets have words for all squares, and the room and one of the sets have nothing after the first so many words
 pub record HaveWords (board : Board) (boxes known : List ℕ) (words : ℕ) : Type 0 where
-  pub room : word_count (length board.cells) ≡ words
-  pub size : length boxes ≡ words
-  pub same : length known ≡ words
+  pub front : words ≤ length boxes
+  pub size : length boxes ≡ word_count (length board.cells)
+  pub same : length known ≡ word_count (length board.cells)
+  pub room : (q : ℕ) → InRoom board q → q < WORD_BITS * words
+  pub near : (q : ℕ) → has_bit known q ≡ true → q < WORD_BITS * words
+
+-- the room and a set have nothing after the first word, of which two squares are
+pub record AreFirst (board : Board) (set : List ℕ) (one other : ℕ) : Type 0 where
+  pub room : (q : ℕ) → InRoom board q → q < WORD_BITS * 1
+  pub known : (q : ℕ) → has_bit set q ≡ true → q < WORD_BITS * 1
+  pub ahead : one < WORD_BITS * 1
+  pub least : other < WORD_BITS * 1

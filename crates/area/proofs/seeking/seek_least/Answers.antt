@@ -5,6 +5,7 @@ use Rattle.grid.specs.Masks.{word_count}
 use Rattle.grid.proofs.lemmas.Steps.{inside_grid}
 use Rattle.area.specs.inside.RoomFloods.{FindsLeast}
 use Rattle.area.proofs.EarlyEnds.{norm_moved}
+use Rattle.area.proofs.Unused.{all_words, first_words}
 use Rattle.area.proofs.lemmas.Flooding.{words_enough}
 use Rattle.area.proofs.lemmas.Norms.{area_here}
 use Rattle.area.proofs.seeking.seek_least.Goals as goal
@@ -31,40 +32,48 @@ seek_few-requires-clause-least c =
     let lt = inside_grid c.args.level.now c.player-player.result (ap (is_wall c.args.level.now) c.player-player.ensures ∙ c.requires.fits.scene.player.0) in
     omega (arith, low, lt, c.player-player.ensures))
 
-pub seek_few-requires-else-boxes-eq1-clause-words : goal.seek_few-requires-else-boxes-eq1-clause-words
-seek_few-requires-else-boxes-eq1-clause-words c =
-    let lt = inside_grid c.args.level.now c.player-player.result (ap (is_wall c.args.level.now) c.player-player.ensures ∙ c.requires.fits.scene.player.0) in
-    let two = two_words (length c.args.level.now.cells) c.player-player.result (length c.args.boxes.now) lt c.requires.seek.few c.requires.places
-    (λ e. c.if-boxes-eq1.false (ap length c.as_words-boxes.ensures ∙ e)) in
-    record {
-      room = two;
-      size = ap length c.as_words-boxes.ensures ∙ (c.requires.places ∙ two);
-      same = ap length c.as_words-known.ensures ∙ (c.requires.known.size ∙ two);
-    }
+pub seek_few-requires-clause-words : goal.seek_few-requires-clause-words
+seek_few-requires-clause-words c =
+    all_words c.args.level.now c.args.boxes.now c.args.known.now c.as_words-boxes.result.now c.as_words-known.result.now 1 c.tell.ensures
+    c.as_words-boxes.ensures
+    c.as_words-known.ensures c.requires.places c.requires.known (sym c.if-boxes-eq1.true ∙ ap length c.as_words-boxes.ensures)
 
-pub seek_few-requires-else-boxes-eq1-clause-square : goal.seek_few-requires-else-boxes-eq1-clause-square
-seek_few-requires-else-boxes-eq1-clause-square c =
+pub seek_few-requires-then-are_first-clause-words : goal.seek_few-requires-then-are_first-clause-words
+seek_few-requires-then-are_first-clause-words c =
+    first_words c.args.level.now c.args.boxes.now c.args.known.now c.as_words-boxes.result.now c.as_words-known.result.now c.player-player.result c.args.ahead
+    c.args.least c.as_words-boxes.ensures c.as_words-known.ensures c.requires.places c.requires.known
+    (inside_grid c.args.level.now c.player-player.result (ap (is_wall c.args.level.now) c.player-player.ensures ∙ c.requires.fits.scene.player.0))
+    (c.are_first.ensures c.if-are_first.true)
+
+pub seek_few-requires-2-clause-words : goal.seek_few-requires-2-clause-words
+seek_few-requires-2-clause-words c =
+    all_words c.args.level.now c.args.boxes.now c.args.known.now c.as_words-boxes.result.now c.as_words-known.result.now 2 c.tell.ensures
+    c.as_words-boxes.ensures
+    c.as_words-known.ensures c.requires.places c.requires.known (sym (c.requires.places ∙
+    (two_words (length c.args.level.now.cells) c.player-player.result (length c.args.boxes.now)
+    (inside_grid c.args.level.now c.player-player.result (ap (is_wall c.args.level.now) c.player-player.ensures ∙ c.requires.fits.scene.player.0))
+    c.requires.seek.few c.requires.places (λ e. c.if-boxes-eq1.false (ap length c.as_words-boxes.ensures ∙ e)))))
+
+pub seek_few-requires-2-clause-square : goal.seek_few-requires-2-clause-square
+seek_few-requires-2-clause-square c =
     words_enough (length c.args.level.now.cells) 2 c.player-player.result
     (sym (two_words (length c.args.level.now.cells) c.player-player.result (length c.args.boxes.now)
-    (inside_grid c.args.level.now c.player-player.result (ap (is_wall c.args.level.now) c.player-player.ensures ∙
-    c.requires.fits.scene.player.0)) c.requires.seek.few c.requires.places (λ e. c.if-boxes-eq1.false (ap length c.as_words-boxes.ensures ∙ e))))
+    (inside_grid c.args.level.now c.player-player.result (ap (is_wall c.args.level.now) c.player-player.ensures ∙ c.requires.fits.scene.player.0))
+    c.requires.seek.few c.requires.places (λ e. c.if-boxes-eq1.false (ap length c.as_words-boxes.ensures ∙ e))))
     (inside_grid c.args.level.now c.player-player.result (ap (is_wall c.args.level.now) c.player-player.ensures ∙ c.requires.fits.scene.player.0))
 
-pub seek_few-requires-else-boxes-eq1-clause-ahead : goal.seek_few-requires-else-boxes-eq1-clause-ahead
-seek_few-requires-else-boxes-eq1-clause-ahead c =
-    words_enough (length c.args.level.now.cells) 2 c.args.ahead
+pub seek_few-requires-2-clause-ahead : goal.seek_few-requires-2-clause-ahead
+seek_few-requires-2-clause-ahead c = words_enough (length c.args.level.now.cells) 2 c.args.ahead
     (sym (two_words (length c.args.level.now.cells) c.player-player.result (length c.args.boxes.now)
-    (inside_grid c.args.level.now c.player-player.result (ap (is_wall c.args.level.now) c.player-player.ensures ∙
-    c.requires.fits.scene.player.0)) c.requires.seek.few c.requires.places (λ e. c.if-boxes-eq1.false (ap length c.as_words-boxes.ensures ∙
-    e)))) c.requires.ahead
+    (inside_grid c.args.level.now c.player-player.result (ap (is_wall c.args.level.now) c.player-player.ensures ∙ c.requires.fits.scene.player.0))
+    c.requires.seek.few c.requires.places (λ e. c.if-boxes-eq1.false (ap length c.as_words-boxes.ensures ∙ e)))) c.requires.ahead
 
-pub seek_few-requires-else-boxes-eq1-clause-least : goal.seek_few-requires-else-boxes-eq1-clause-least
-seek_few-requires-else-boxes-eq1-clause-least c =
-    words_enough (length c.args.level.now.cells) 2 c.args.least
-    (sym (two_words (length c.args.level.now.cells) c.player-player.result (length c.args.boxes.now)
-    (inside_grid c.args.level.now c.player-player.result (ap (is_wall c.args.level.now) c.player-player.ensures ∙
-    c.requires.fits.scene.player.0)) c.requires.seek.few c.requires.places (λ e. c.if-boxes-eq1.false (ap length c.as_words-boxes.ensures ∙ e)))) (let low =
-    c.requires.guess.below c.args.position.now.player (area_here c.args.level.now c.args.position.now) in
+pub seek_few-requires-2-clause-least : goal.seek_few-requires-2-clause-least
+seek_few-requires-2-clause-least c =
+    words_enough (length c.args.level.now.cells) 2 c.args.least (sym (two_words (length c.args.level.now.cells) c.player-player.result (length c.args.boxes.now)
+    (inside_grid c.args.level.now c.player-player.result (ap (is_wall c.args.level.now) c.player-player.ensures ∙ c.requires.fits.scene.player.0))
+    c.requires.seek.few c.requires.places (λ e. c.if-boxes-eq1.false (ap length c.as_words-boxes.ensures ∙ e))))
+    (let low = c.requires.guess.below c.args.position.now.player (area_here c.args.level.now c.args.position.now) in
     let lt = inside_grid c.args.level.now c.player-player.result (ap (is_wall c.args.level.now) c.player-player.ensures ∙ c.requires.fits.scene.player.0) in
     omega (arith, low, lt, c.player-player.ensures))
 
@@ -79,14 +88,26 @@ returns-then-boxes-eq1 c =
     (subst (λ (bs : List ℕ). FindsLeast c.args.level.now bs c.as_words-known.result.now c.player-player.result c.args.ahead c.args.least c.seek_few.result)
     c.as_words-boxes.ensures c.seek_few.ensures)))
 
-pub returns-else-boxes-eq1 : goal.returns-else-boxes-eq1
-returns-else-boxes-eq1 c =
-    norm_moved c.args.level.now c.args.position.now c.args.boxes.now c.args.known.now c.args.ahead c.args.least c.seek_few-else-boxes-eq1.result c.tell.ensures
+pub returns-then-are_first : goal.returns-then-are_first
+returns-then-are_first c =
+    norm_moved c.args.level.now c.args.position.now c.args.boxes.now c.args.known.now c.args.ahead c.args.least c.seek_few-then-are_first.result c.tell.ensures
     c.requires.fits.scene c.requires.places c.requires.moved c.requires.ahead c.requires.seek.room c.requires.known.inside c.requires.guess.below
     c.requires.guess.met
-    (subst (λ (x : ℕ). FindsLeast c.args.level.now c.args.boxes.now c.args.known.now x c.args.ahead c.args.least c.seek_few-else-boxes-eq1.result)
+    (subst (λ (x : ℕ). FindsLeast c.args.level.now c.args.boxes.now c.args.known.now x c.args.ahead c.args.least c.seek_few-then-are_first.result)
     c.player-player.ensures
-    (subst (λ (ks : List ℕ). FindsLeast c.args.level.now c.args.boxes.now ks c.player-player.result c.args.ahead c.args.least c.seek_few-else-boxes-eq1.result)
+    (subst (λ (ks : List ℕ). FindsLeast c.args.level.now c.args.boxes.now ks c.player-player.result c.args.ahead c.args.least c.seek_few-then-are_first.result)
     c.as_words-known.ensures
     (subst (λ (bs : List ℕ). FindsLeast c.args.level.now bs c.as_words-known.result.now c.player-player.result c.args.ahead c.args.least
-    c.seek_few-else-boxes-eq1.result) c.as_words-boxes.ensures c.seek_few-else-boxes-eq1.ensures)))
+    c.seek_few-then-are_first.result)
+    c.as_words-boxes.ensures c.seek_few-then-are_first.ensures)))
+
+pub returns : goal.returns
+returns c =
+    norm_moved c.args.level.now c.args.position.now c.args.boxes.now c.args.known.now c.args.ahead c.args.least c.seek_few-2.result c.tell.ensures
+    c.requires.fits.scene c.requires.places c.requires.moved c.requires.ahead c.requires.seek.room c.requires.known.inside c.requires.guess.below
+    c.requires.guess.met
+    (subst (λ (x : ℕ). FindsLeast c.args.level.now c.args.boxes.now c.args.known.now x c.args.ahead c.args.least c.seek_few-2.result) c.player-player.ensures
+    (subst (λ (ks : List ℕ). FindsLeast c.args.level.now c.args.boxes.now ks c.player-player.result c.args.ahead c.args.least c.seek_few-2.result)
+    c.as_words-known.ensures
+    (subst (λ (bs : List ℕ). FindsLeast c.args.level.now bs c.as_words-known.result.now c.player-player.result c.args.ahead c.args.least c.seek_few-2.result)
+    c.as_words-boxes.ensures c.seek_few-2.ensures)))
