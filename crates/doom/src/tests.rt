@@ -4,7 +4,7 @@ ghost use Rattle.grid.specs.States.{FitsLevel};
 use crate::laws::{
     a_loose_box_dooms_nothing, a_push_lessens_the_bound_by_one, doomed_are_lost, solution_is_safe,
 };
-use crate::{Bound, Dead, doomed, doomed_after, is_loose, push_dooms};
+use crate::{Bound, Dangers, Dead, doomed, doomed_after, is_loose, push_dooms};
 use area::Scratch;
 use grid::{Cell, Dir, Level, Position, Push, Square};
 use std::alloc::Global;
@@ -325,6 +325,37 @@ fn is_loose_after(rt: &impl Abort, alloc: Global, level: &Level, square: Square,
     assert!(rt; usize::from(square.0) < level.squares());
     area::flood(level, &position, &mut scratch);
     is_loose(level, &dead, &scratch, Push { square, dir })
+}
+
+#[test]
+fn pushes_are_spared_whose_boxes_are_loose(rt: HostRuntime) {
+    let rows = [
+        (TWO_ENDS, 9, Dir::L, false),
+        (COLUMN_AT_WALL, 11, Dir::R, true),
+        (BESIDE_A_FREE_BOX, 17, Dir::D, true),
+        (BESIDE_A_FREE_BOX, 18, Dir::R, false),
+        (ABOVE_A_FREE_BOX, 17, Dir::U, true),
+        (ABOVE_A_FREE_BOX, 22, Dir::D, false),
+        (THERE_AND_BACK, 19, Dir::R, true),
+    ];
+    for (row, (board, square, dir, want)) in rows.into_iter().enumerate() {
+        let level = level_of(&rt, rt.alloc(), board);
+        let found = is_spared(&rt, rt.alloc(), &level, Square(square), dir);
+        assert_eq!(&rt; found, want, "row {row}");
+    }
+}
+
+// Whether it is known that a push from the start of a level leaves its box loose.
+fn is_spared(rt: &impl Abort, alloc: Global, level: &Level, square: Square, dir: Dir) -> bool {
+    let dead = Dead::of(alloc, level).expect(rt, "memory");
+    let mut scratch = Scratch::new(alloc, level).expect(rt, "memory");
+    let position = Position::start(level).expect(rt, "few boxes");
+    assert!(rt; position.fits(level));
+    assert!(rt; usize::from(square.0) < level.squares());
+    area::flood(level, &position, &mut scratch);
+    let mut dangers = Dangers::unknown();
+    dangers.find(level, &dead, &scratch);
+    dangers.spare(level.next(square, dir), dir)
 }
 
 #[test]
