@@ -1,4 +1,20 @@
 //! The engines of the program: each reads its files to their end, makes a whole report and writes it.
+//!
+//! With `file`, the bytes of a collection:
+//!
+//! ```text
+//! let mut text = Vec::new(alloc);
+//! let status = run_check(
+//!     alloc,
+//!     &mut Reader::new(&mut file),
+//!     &mut Writer::new(&mut text),
+//! );
+//! assert_eq!(&rt; status.ok(), Some(0));
+//! assert_eq!(&rt;
+//!     text.as_slice(),
+//!     b"1 line 1 ok 3x5 1 boxes\n1 levels, 1 good\n".as_slice()
+//! );
+//! ```
 #![tactic(auto)]
 
 mod check;

@@ -1,5 +1,14 @@
 //! The positions of a share that were found: the closed ones, and those that stand open, each with the least origin that it was
 //! offered with. Those are what a book of `layers` keeps.
+//!
+//! With a `level` of one box:
+//!
+//! ```text
+//! let first = Position::start(&level);
+//! let found = Found::of(alloc, level.boxes(), level.squares(), &first).expect(&rt, "memory");
+//! assert_eq!(&rt; found.closed_len(), 1);
+//! assert!(&rt; found.closed_at(1).is_none());
+//! ```
 #![tactic(auto)]
 
 mod closing;

@@ -1,5 +1,13 @@
 //! The successors of a position: what its pushes lead to, but for what is doomed or not admitted under a cap, as parcels that
 //! are dealt to the shares of the positions.
+//!
+//! With the start of a row that has two boxes, on the squares 9 and 11, and the player between them:
+//!
+//! ```text
+//! // the squares are 9, 11 and 10
+//! assert_eq!(&rt; share_of(&start, 2), 0);
+//! assert_eq!(&rt; share_of(&start, 4), 2);
+//! ```
 #![tactic(auto)]
 
 mod dealing;

@@ -1,17 +1,22 @@
 //! The examples on the pages of the crates, at the head of each `lib.rt`. `tests/cited` holds each page to the text here.
-use crate::boards::{BLOCKED, CORNER, ONE};
+use crate::boards::{APART, BLOCKED, CORNER, ONE, TWO_ENDS};
 use crate::books::level_of;
 use area::Scratch;
 use claims::Ledger;
+use corrals::Corral;
 use crew::{Config, Free};
 use doom::Dead;
 use grid::{Dir, Position, Square, State, Step};
 use layers::{Book, Layer};
 use lurd::Verdict;
 use pairs::Pairs;
-use prices::{Distances, Matching};
+use prices::{Distances, Matching, Slack};
+use prover::{Effort, Outcome};
+use sokopar::{Reader, Writer, run_check};
 use solo::{Answer, solve_alone};
 use std::slice;
+use store::Found;
+use successors::share_of;
 
 #[test]
 fn page_of_grid(rt: HostRuntime) {
@@ -91,6 +96,26 @@ fn page_of_prices(rt: HostRuntime) {
 }
 
 #[test]
+fn page_of_corrals(rt: HostRuntime) {
+    let alloc = rt.alloc();
+    let level = level_of(&rt, alloc, APART);
+    level.tell_start();
+    let start = Position::start(&level).expect(&rt, "few boxes");
+    let dead = Dead::of(alloc, &level).expect(&rt, "memory");
+    let distances = Distances::of(alloc, &level).expect(&rt, "memory");
+    let mut matching = Matching::new();
+    distances.meet(&start, &mut matching);
+    let mut scratch = Scratch::new(alloc, &level).expect(&rt, "memory");
+    let mut corral = Corral::new(alloc, &level).expect(&rt, "memory");
+    area::flood(&level, &start, &mut scratch);
+    // one push is left after the next
+    let slack = Slack::of(&distances, &start, 1, &matching);
+    let found = corrals::find(&level, &dead, &start, &scratch, &slack, &mut corral);
+    assert!(&rt; found);
+    assert!(&rt; corral.holds(Square(13)));
+}
+
+#[test]
 fn page_of_pairs(rt: HostRuntime) {
     let alloc = rt.alloc();
     let level = level_of(&rt, alloc, BLOCKED);
@@ -104,12 +129,46 @@ fn page_of_pairs(rt: HostRuntime) {
 }
 
 #[test]
+fn page_of_successors(rt: HostRuntime) {
+    let level = level_of(&rt, rt.alloc(), TWO_ENDS);
+    let start = Position::start(&level).expect(&rt, "few boxes");
+    // the squares are 9, 11 and 10
+    assert_eq!(&rt; share_of(&start, 2), 0);
+    assert_eq!(&rt; share_of(&start, 4), 2);
+}
+
+#[test]
+fn page_of_store(rt: HostRuntime) {
+    let alloc = rt.alloc();
+    let level = level_of(&rt, alloc, CORNER);
+    level.tell_start();
+    let first = Position::start(&level);
+    let found = Found::of(alloc, level.boxes(), level.squares(), &first).expect(&rt, "memory");
+    assert_eq!(&rt; found.closed_len(), 1);
+    assert!(&rt; found.closed_at(1).is_none());
+}
+
+#[test]
 fn page_of_layers(rt: HostRuntime) {
     let alloc = rt.alloc();
     let level = level_of(&rt, alloc, CORNER);
     let book = Book::of(alloc, level, None, 1_000, 1, 0, 1).expect(&rt, "memory");
     let layer = Layer::join(alloc, slice::from_ref(&book)).expect(&rt, "memory");
     assert_eq!(&rt; (layer.number(), layer.len()), (0, 1));
+}
+
+#[test]
+fn page_of_prover(rt: HostRuntime) {
+    let alloc = rt.alloc();
+    let level = level_of(&rt, alloc, CORNER);
+    let effort = Effort {
+        workers: 1,
+        limit: 1_000,
+    };
+    let one = prover::search(&rt, alloc, &level, 1, effort).expect(&rt, "memory");
+    assert!(&rt; matches!(&one, Outcome::None));
+    let two = prover::search(&rt, alloc, &level, 2, effort).expect(&rt, "memory");
+    assert!(&rt; matches!(&two, Outcome::Found { pushes: 2, .. }));
 }
 
 #[test]
@@ -142,4 +201,21 @@ fn page_of_crew(rt: HostRuntime) {
     };
     let answer = crew::solve(&rt, alloc, &level, config, &Free).expect(&rt, "memory");
     assert!(&rt; matches!(&answer, Answer::Solved { pushes: 2, .. }));
+}
+
+#[test]
+fn page_of_sokopar(rt: HostRuntime) {
+    let alloc = rt.alloc();
+    let mut file: &[u8] = b"#####\n#@$.#\n#####\n";
+    let mut text = Vec::new(alloc);
+    let status = run_check(
+        alloc,
+        &mut Reader::new(&mut file),
+        &mut Writer::new(&mut text),
+    );
+    assert_eq!(&rt; status.ok(), Some(0));
+    assert_eq!(&rt;
+        text.as_slice(),
+        b"1 line 1 ok 3x5 1 boxes\n1 levels, 1 good\n".as_slice()
+    );
 }
