@@ -19,9 +19,9 @@ use successors::{Parcel, Successor, share_by};
 /// So many offers wait before they enter where a book's own worker hands back.
 const FEW: usize = 32;
 
-/// So many offers wait in all the books together before they enter where another worker hands back: as many as mostly come between
-/// two turns of a book's own worker, and so few that no worker holds a book for long while they enter.
-const MANY: u32 = 512;
+/// So many offers wait in all the books together before they enter where another worker hands back: more than come between two
+/// turns of a book's own worker, and few beside the maps.
+const MANY: u32 = 4096;
 
 /// How many offers may wait in the inbox of the book of a share, one of so many, before they enter, where one of so many workers
 /// hands back to it. The books are dealt to the workers, and mostly it is a book's own worker that enters what all of them have brought,
