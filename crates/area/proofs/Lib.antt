@@ -5,6 +5,7 @@ pub mod Gathers
 pub mod Nearness
 pub mod Reached
 pub mod Rings
+pub mod Circling
 pub mod Seams
 pub mod Spreading
 pub mod UnderWay

@@ -8,18 +8,14 @@ use Rattle.grid.specs.declared.dir.Dir.TheVariants.{D, L, R, U}
 use Rattle.grid.specs.Squares.{Squares, contains}
 use Rattle.grid.specs.Board.{Board, next, opposite}
 use Rattle.grid.proofs.lemmas.Steps.{next_back_inside, opposite_twice}
-use Rattle.area.specs.inside.Detours.{across, Skirts, IsJoined, GoesPast, GoesRound}
+use Rattle.area.specs.inside.Detours.{across, IsAcross, Skirts, IsJoined, GoesPast, GoesRound}
 use Rattle.area.specs.inside.Detours.Skirts.{here}
 use Rattle.area.proofs.Detours.{all_round, skirt_on}
 
 -- ---- directions across
 
--- the second direction is at right angles to the first
-abbrev pub IsAcross : Dir → Dir → Type 0
-IsAcross d e = (e ≡ across d) ⊎ (e ≡ opposite (across d))
-
 -- what is so for each two directions across each other
-crossed : (P : Dir → Dir → Type 0) → P D L → P D R → P L D → P L U → P R D → P R U → P U L → P U R → (d e : Dir) → IsAcross d e → P d e
+pub crossed : (P : Dir → Dir → Type 0) → P D L → P D R → P L D → P L U → P R D → P R U → P U L → P U R → (d e : Dir) → IsAcross d e → P d e
 crossed P dl dr ld lu rd ru ul ur D e (inl f) = subst (P D) (sym f) dr
 crossed P dl dr ld lu rd ru ul ur D e (inr f) = subst (P D) (sym f) dl
 crossed P dl dr ld lu rd ru ul ur L e (inl f) = subst (P L) (sym f) ld
@@ -30,7 +26,7 @@ crossed P dl dr ld lu rd ru ul ur U e (inl f) = subst (P U) (sym f) ur
 crossed P dl dr ld lu rd ru ul ur U e (inr f) = subst (P U) (sym f) ul
 
 -- of two directions across each other either is across the other, and so is the opposite
-across_each : (d e : Dir) → IsAcross d e → IsAcross e d
+pub across_each : (d e : Dir) → IsAcross d e → IsAcross e d
 across_each = crossed (λ d e. IsAcross e d) (inl refl) (inl refl) (inr refl) (inr refl) (inl refl) (inl refl) (inr refl) (inr refl)
 
 pub across_back : (d e : Dir) → IsAcross d e → IsAcross d (opposite e)
@@ -52,16 +48,16 @@ left_over n a true lt = absurd (omega arith)
 left_over n a false lt = (refl, refl)
 
 -- from a number with the remainder 0 there is no step to the left
-not_first : (cols q : ℕ) → eqb (q % cols) 0 ≡ false → suc (q - 1) ≡ q
+pub not_first : (cols q : ℕ) → eqb (q % cols) 0 ≡ false → suc (q - 1) ≡ q
 not_first cols zero test = absurd (eqb-false (zero % cols) 0 test (zero-mod cols))
 not_first cols (suc q) test = omega arith
 
 module _ (board : Board) (q : ℕ) where
-  down_is : next board q D < length board.cells → next board q D ≡ q + board.cols
+  pub down_is : next board q D < length board.cells → next board q D ≡ q + board.cols
   unfolding next
   down_is lt = chosen (length board.cells) (q + board.cols) (ltb (q + board.cols) (length board.cells)) lt
 
-  up_is : next board q U < length board.cells → next board q U + board.cols ≡ q
+  pub up_is : next board q U < length board.cells → next board q U + board.cols ≡ q
   unfolding next
   up_is lt =
       let f = left_over (length board.cells) (q - board.cols) (ltb q board.cols) lt in
@@ -69,37 +65,37 @@ module _ (board : Board) (q : ℕ) where
       let e : cond (ltb q board.cols) (length board.cells) (q - board.cols) ≡ q - board.cols = f.1 in
       omega (arith, above, e)
 
-  left_is : next board q L < length board.cells → (eqb (q % board.cols) 0 ≡ false) × (suc (next board q L) ≡ q)
+  pub left_is : next board q L < length board.cells → (eqb (q % board.cols) 0 ≡ false) × (suc (next board q L) ≡ q)
   unfolding next
   left_is lt =
       let f = left_over (length board.cells) (q - 1) (eqb (q % board.cols) 0) lt in
       (f.0, ap suc f.1 ∙ not_first board.cols q f.0)
 
-  right_is : next board q R < length board.cells → (eqb (suc q % board.cols) 0 ≡ false) × (next board q R ≡ suc q)
+  pub right_is : next board q R < length board.cells → (eqb (suc q % board.cols) 0 ≡ false) × (next board q R ≡ suc q)
   unfolding next
   right_is lt = left_over (length board.cells) (suc q) (eqb (suc q % board.cols) 0) lt
 
-  down_to : (r : ℕ) → r ≡ q + board.cols → r < length board.cells → next board q D ≡ r
+  pub down_to : (r : ℕ) → r ≡ q + board.cols → r < length board.cells → next board q D ≡ r
   unfolding next
   down_to r e lt = rw (lt-ltb (q + board.cols) (length board.cells) (omega (arith, e, lt))) (sym e)
 
-  up_to : (r : ℕ) → r + board.cols ≡ q → next board q U ≡ r
+  pub up_to : (r : ℕ) → r + board.cols ≡ q → next board q U ≡ r
   unfolding next
   up_to r e = rw (le-ltb q board.cols (omega (arith, e))) (omega (arith, e))
 
-  left_to : (r : ℕ) → eqb (q % board.cols) 0 ≡ false → suc r ≡ q → next board q L ≡ r
+  pub left_to : (r : ℕ) → eqb (q % board.cols) 0 ≡ false → suc r ≡ q → next board q L ≡ r
   unfolding next
   left_to r test e = rw test (omega (arith, e))
 
-  right_to : (r : ℕ) → eqb (suc q % board.cols) 0 ≡ false → suc q ≡ r → next board q R ≡ r
+  pub right_to : (r : ℕ) → eqb (suc q % board.cols) 0 ≡ false → suc q ≡ r → next board q R ≡ r
   unfolding next
   right_to r test e = rw test e
 
 -- a row more or less changes no remainder
-same_column : (cols a b : ℕ) → a + cols ≡ b → eqb (b % cols) 0 ≡ false → eqb (a % cols) 0 ≡ false
+pub same_column : (cols a b : ℕ) → a + cols ≡ b → eqb (b % cols) 0 ≡ false → eqb (a % cols) 0 ≡ false
 same_column cols a b e test = ap (λ (x : ℕ). eqb x 0) (sym (add-mod_right a cols) ∙ ap (λ (x : ℕ). x % cols) e) ∙ test
 
-row_below : (cols a b : ℕ) → a + cols ≡ b → eqb (a % cols) 0 ≡ false → eqb (b % cols) 0 ≡ false
+pub row_below : (cols a b : ℕ) → a + cols ≡ b → eqb (a % cols) 0 ≡ false → eqb (b % cols) 0 ≡ false
 row_below cols a b e test = ap (λ (x : ℕ). eqb x 0) (sym (ap (λ (x : ℕ). x % cols) e) ∙ add-mod_right a cols) ∙ test
 
 -- where rows have one square, each begins a row

@@ -3,6 +3,7 @@ pub mod Descent
 pub mod ScratchView
 pub mod Spread
 pub mod Detours
+pub mod RingBits
 pub mod Flooding
 pub mod RoomFloods
 pub mod PushWords

@@ -1,19 +1,19 @@
-ghost use Rattle.std.specs.Prelude.{◌≡◌, ◌≢◌, ℕ, ◌*◌, ◌<◌, ◌≤◌, true, false, IsTrue, ◌⊎◌, length};
+ghost use Rattle.std.specs.Prelude.{◌≡◌, ◌≢◌, ℕ, ◌*◌, ◌<◌, true, length};
 ghost use Rattle.grid.specs.States.{FitsLevel};
 ghost use Rattle.grid.specs.Masks.{has_bit};
 ghost use Rattle.grid.specs.Squares.{contains, insert, remove};
-ghost use Rattle.grid.specs.Board.{next, opposite};
 ghost use Rattle.area.specs.Area.{Area, IsNorm, at};
 ghost use Rattle.area.specs.Words.{squares_of};
 ghost use Rattle.area.specs.After.{IsAreaOf, IsPushed};
-ghost use Rattle.area.specs.inside.Detours.{across, GuessesLeast, HasMoved, Skirts, IsKnown, GainsNothing, StaysJoined, GoesPast, GoesRound};
+ghost use Rattle.area.specs.inside.Detours.{GuessesLeast, HasMoved};
 
 use crate::bits::least_of;
 use crate::floods::{flood_on, flood_round};
 use crate::scratch::Scratch;
 use crate::seeking::{can_seek, seek_least};
 use crate::set::SquareSet;
-use grid::{Dir, Level, Position, Push, Square, WORD_BITS};
+use crate::sight::look_ahead;
+use grid::{Level, Position, Push, Square, WORD_BITS};
 
 /// Makes the position after a push normal, where the last flood was that of the position before it, round its boxes, and
 /// stays so.
@@ -39,8 +39,10 @@ pub fn normalise_after(
 {
     let Push { square, dir } = push;
     let ahead = level.next(square, dir);
-    let joined = stays_joined(level, square, dir, ahead, scratch);
-    let player = if gains_nothing(level, square, dir, scratch) {
+    let sight = look_ahead(level, square, dir, ahead, scratch);
+    let joined = sight.is_joined;
+    let known = sight.is_known;
+    let player = if known {
         let least = scratch.least_with(ahead, square);
         if joined {
             least
@@ -159,164 +161,4 @@ fn move_box(boxes: &SquareSet, square: Square, ahead: Square, moved: &mut Square
     moved.copy_from(boxes);
     moved.take_out(square);
     moved.put(ahead);
-}
-
-// Whether nothing free is beside a box's square but what the last flood reached, and the square ahead. The player
-// walks behind the box, so what is left to look at is on its two sides.
-fn gains_nothing(level: &Level, square: Square, push_dir: Dir, scratch: &Scratch) -> bool
-    requires inside { square < length level.now.cells }
-    requires behind { contains scratch.now.reached (next level.now square (opposite push_dir)) ≡ true }
-    ensures { IsTrue result → GainsNothing level.now scratch.now.boxes scratch.now.reached (next level.now square push_dir) square }
-{
-    let side = across(push_dir);
-    is_known(level, square, side, scratch) && is_known(level, square, side.opposite(), scratch)
-}
-
-// A direction at right angles to another.
-#[inline(always)]
-fn across(dir: Dir) -> Dir
-    ensures { result ≡ across dir }
-{
-    match dir {
-        Dir::D | Dir::U => Dir::R,
-        Dir::L | Dir::R => Dir::D,
-    }
-}
-
-// Whether the square beside a square in a direction is one that the last flood reached, or not free.
-#[inline(always)]
-fn is_known(level: &Level, square: Square, dir: Dir, scratch: &Scratch) -> bool
-    requires inside { square < length level.now.cells }
-    ensures { IsTrue result → (but : ℕ) → IsKnown level.now scratch.now.boxes scratch.now.reached but square dir }
-{
-    let beside = level.next(square, dir);
-    scratch.reaches(beside) || level.is_wall(beside) || scratch.has_box(beside)
-}
-
-// Whether what the last flood reached beside the square ahead stays joined, by steps round that square.
-fn stays_joined(
-    level: &Level,
-    square: Square,
-    push_dir: Dir,
-    ahead: Square,
-    scratch: &Scratch,
-) -> bool
-    requires inside { square < length level.now.cells }
-    requires ahead { ahead ≡ next level.now square push_dir }
-    requires reached { (q : ℕ) → contains scratch.now.reached q ≡ true → q < length level.now.cells }
-    ensures { IsTrue result → StaysJoined level.now scratch.now.reached ahead square }
-{
-    if !scratch.reaches(ahead) {
-        return true;
-    }
-    match push_dir {
-        Dir::D => joins_round(level, square, Dir::D, ahead, scratch),
-        Dir::L => joins_round(level, square, Dir::L, ahead, scratch),
-        Dir::R => joins_round(level, square, Dir::R, ahead, scratch),
-        Dir::U => joins_round(level, square, Dir::U, ahead, scratch),
-    }
-}
-
-// The same where the last flood reached the square ahead. It is made once for each direction, so that no step has to
-// choose among the neighbours of a square.
-#[inline(always)]
-fn joins_round(
-    level: &Level,
-    square: Square,
-    push_dir: Dir,
-    ahead: Square,
-    scratch: &Scratch,
-) -> bool
-    requires inside { square < length level.now.cells }
-    requires ahead { ahead ≡ next level.now square push_dir }
-    requires within { ahead < length level.now.cells }
-    requires reached { (q : ℕ) → contains scratch.now.reached q ≡ true → q < length level.now.cells }
-    ensures { IsTrue result → StaysJoined level.now scratch.now.reached ahead square }
-{
-    level.tell();
-    let side = across(push_dir);
-    let back = side.opposite();
-    if !is_joined(level, square, ahead, side, scratch) {
-        return goes_round(level, square, push_dir, ahead, back, scratch);
-    }
-    if !is_joined(level, square, ahead, back, scratch) {
-        return goes_round(level, square, push_dir, ahead, side, scratch);
-    }
-    is_beyond_joined(level, square, push_dir, ahead, side, scratch)
-}
-
-// Whether the square on one side of the one ahead, where the last flood reached it, is come to by way of the square on
-// that side of the box's.
-#[inline(always)]
-fn is_joined(level: &Level, square: Square, ahead: Square, side: Dir, scratch: &Scratch) -> bool
-    requires inside { square < length level.now.cells }
-    requires ahead { ahead < length level.now.cells }
-    ensures { IsTrue result → (contains scratch.now.reached (next level.now square side) ≡ true) ⊎
-        (contains scratch.now.reached (next level.now ahead side) ≡ false) }
-{
-    scratch.reaches(level.next(square, side)) || !scratch.reaches(level.next(ahead, side))
-}
-
-// Whether the square beyond the one ahead, where the last flood reached it, is come to past that one on one of its
-// sides.
-#[inline(always)]
-fn is_beyond_joined(
-    level: &Level,
-    square: Square,
-    push_dir: Dir,
-    ahead: Square,
-    side: Dir,
-    scratch: &Scratch,
-) -> bool
-    requires inside { square < length level.now.cells }
-    requires ahead { ahead < length level.now.cells }
-    requires reached { (q : ℕ) → contains scratch.now.reached q ≡ true → q < length level.now.cells }
-    ensures { IsTrue result → (contains scratch.now.reached (next level.now ahead push_dir) ≡ false) ⊎
-        (GoesPast level.now scratch.now.reached square ahead push_dir side ⊎ GoesPast level.now scratch.now.reached square ahead push_dir (opposite side)) }
-{
-    !scratch.reaches(level.next(ahead, push_dir))
-        || goes_past(level, square, push_dir, ahead, side, scratch)
-        || goes_past(level, square, push_dir, ahead, side.opposite(), scratch)
-}
-
-// Whether three steps on one side lead past the square ahead.
-#[inline(always)]
-fn goes_past(
-    level: &Level,
-    square: Square,
-    push_dir: Dir,
-    ahead: Square,
-    side: Dir,
-    scratch: &Scratch,
-) -> bool
-    requires inside { square < length level.now.cells }
-    requires ahead { ahead < length level.now.cells }
-    requires reached { (q : ℕ) → contains scratch.now.reached q ≡ true → q < length level.now.cells }
-    ensures { IsTrue result → GoesPast level.now scratch.now.reached square ahead push_dir side }
-{
-    let beside = level.next(ahead, side);
-    scratch.reaches(level.next(square, side))
-        && scratch.reaches(beside)
-        && scratch.reaches(level.next(beside, push_dir))
-}
-
-// Whether five steps that begin on one side lead round the square ahead to its other side.
-#[inline(always)]
-fn goes_round(
-    level: &Level,
-    square: Square,
-    push_dir: Dir,
-    ahead: Square,
-    side: Dir,
-    scratch: &Scratch,
-) -> bool
-    requires inside { square < length level.now.cells }
-    requires ahead { ahead < length level.now.cells }
-    requires reached { (q : ℕ) → contains scratch.now.reached q ≡ true → q < length level.now.cells }
-    ensures { IsTrue result → GoesRound level.now scratch.now.reached square ahead push_dir side }
-{
-    let beyond = level.next(ahead, push_dir);
-    goes_past(level, square, push_dir, ahead, side, scratch)
-        && scratch.reaches(beyond)
-        && scratch.reaches(level.next(beyond, side.opposite()))
 }

@@ -19,11 +19,13 @@ mod groups;
 pub mod laws;
 mod possible;
 mod pushes;
+mod ring;
 mod rooms;
 mod route;
 mod scratch;
 mod seeking;
 mod set;
+mod sight;
 mod spread;
 #[cfg(test)]
 mod tests;

@@ -13,6 +13,10 @@ across L = D
 across R = D
 across U = R
 
+-- the second direction is at right angles to the first
+abbrev pub IsAcross : Dir → Dir → Type 0
+IsAcross d e = (e ≡ across d) ⊎ (e ≡ opposite (across d))
+
 -- from the square `from` one comes to a square by steps onto squares of a set, round the square `but`
 pub data Skirts (board : Board) (set : Squares) (but from : ℕ) : ℕ → Type 0 where
   here : Skirts board set but from from

@@ -1,4 +1,4 @@
-use Rattle.std.proofs.Common.{rules, ◌≡◌, ℕ, ◌<◌, ◌≤◌, true, length, refl, sym, ap, subst, ◌∙◌}
+use Rattle.std.proofs.Common.{rules, ◌≡◌, ℕ, ◌<◌, ◌≤◌, true, length, sym, ap, subst, ◌∙◌}
 use Rattle.grid.specs.declared.dir.Dir.{Dir}
 use Rattle.grid.specs.Squares.{Squares, contains}
 use Rattle.grid.specs.Board.{Scene, next}
@@ -9,24 +9,21 @@ use Rattle.area.proofs.Detours.{still_reached, none_below, norm_after, least_rea
 use Rattle.area.proofs.lemmas.Norms.{norm_fits}
 use Rattle.area.proofs.Reached.{walk_free}
 use Rattle.area.proofs.after.normalise_after.Goals as goal
-use Rattle.area.proofs.after.normalise_after.Goals.{then-gains_nothing+then-joined, then-gains_nothing+else-joined, else-gains_nothing+then-joined-2}
-use Rattle.area.proofs.after.normalise_after.Goals.{else-gains_nothing+else-joined-2}
+use Rattle.area.proofs.after.normalise_after.Goals.{then-known+then-joined, then-known+else-joined, else-known+then-joined-2}
+use Rattle.area.proofs.after.normalise_after.Goals.{else-known+else-joined-2}
 
 pub next-ahead-requires : goal.next-ahead-requires
 next-ahead-requires c = inside_grid c.args.level.now c.args.push.square (c.requires.fits_before.scene.boxes c.args.push.square c.requires.pushed.there)
 
-pub gains_nothing-requires : goal.gains_nothing-requires
-gains_nothing-requires c = record {
-  inside = inside_grid c.args.level.now c.args.push.square (c.requires.fits_before.scene.boxes c.args.push.square c.requires.pushed.there);
-  behind = (c.requires.flooded _).1 c.requires.pushed.behind;
-}
-
-pub stays_joined-joined-requires-clause-inside : goal.stays_joined-joined-requires-clause-inside
-stays_joined-joined-requires-clause-inside c =
+pub look_ahead-sight-requires-clause-inside : goal.look_ahead-sight-requires-clause-inside
+look_ahead-sight-requires-clause-inside c =
     inside_grid c.args.level.now c.args.push.square (c.requires.fits_before.scene.boxes c.args.push.square c.requires.pushed.there)
 
-pub stays_joined-joined-requires-clause-reached : goal.stays_joined-joined-requires-clause-reached
-stays_joined-joined-requires-clause-reached c = λ q there.
+pub look_ahead-sight-requires-clause-behind : goal.look_ahead-sight-requires-clause-behind
+look_ahead-sight-requires-clause-behind c = (c.requires.flooded _).1 c.requires.pushed.behind
+
+pub look_ahead-sight-requires-clause-reached : goal.look_ahead-sight-requires-clause-reached
+look_ahead-sight-requires-clause-reached c = λ q there.
     let walked = (c.requires.flooded q).0 there in
     inside_grid c.args.level.now q (walk_free c.args.level.now c.args.before.now walked.0 q c.requires.fits_before.scene walked.1).0
 
@@ -54,7 +51,7 @@ least_aside-requires-clause-moved c = record {
 pub least_grown-requires-clause-known : goal.least_grown-requires-clause-known
 least_grown-requires-clause-known c = λ q there other.
     let joined = subst (λ (x : ℕ). StaysJoined c.args.level.now c.args.scratch.now.reached x c.args.push.square) c.next-ahead.ensures
-    (c.stays_joined-joined.ensures c.if-joined-2.true) in
+    (c.look_ahead-sight.ensures.joined c.if-joined-2.true) in
     still_reached c.args.level.now c.args.before.now c.args.push c.args.after.now c.requires.fits_before.scene c.requires.pushed c.args.scratch.now.reached
     c.requires.flooded joined q there (λ e. other (e ∙ sym c.next-ahead.ensures))
 
@@ -76,7 +73,9 @@ least_left-requires-clause-guess c = record { below = below; met = met }
         none_below c.args.level.now c.args.before.now c.args.push c.args.after.now c.requires.fits_before.scene c.requires.pushed c.args.scratch.now.reached
         c.requires.flooded c.requires.fits.scene
         (subst (λ (bs : Squares). GainsNothing c.args.level.now bs c.args.scratch.now.reached
-        (next c.args.level.now c.args.push.square c.args.push.dir) c.args.push.square) c.requires.boxes (c.if-gains_nothing.ensures refl))
+        (next c.args.level.now c.args.push.square c.args.push.dir) c.args.push.square) c.requires.boxes
+        (subst (λ (x : ℕ). GainsNothing c.args.level.now c.args.scratch.now.boxes c.args.scratch.now.reached x c.args.push.square) c.next-ahead.ensures
+        (c.look_ahead-sight.ensures.known c.if-known.true)))
         c.least_with-least.result least
 
     met : FollowsSides c.args.level.now c.args.after.now (contains c.args.scratch.now.reached) c.next-ahead.result c.least_with-least.result
@@ -94,22 +93,24 @@ returns-clause-norm c =
     let board = c.args.level.now in
     let reached = c.args.scratch.now.reached in
     let ahead : ℕ = next board c.args.push.square c.args.push.dir in
-    elim c.if-gains_nothing.branch [
-      | then-gains_nothing+then-joined w ↦
-          (let known = subst (λ (bs : Squares). GainsNothing board bs reached ahead c.args.push.square) c.requires.boxes (w.if-gains_nothing.ensures refl) in
+    elim c.if-known.branch [
+      | then-known+then-joined w ↦
+          (let known = subst (λ (bs : Squares). GainsNothing board bs reached ahead c.args.push.square) c.requires.boxes
+          (subst (λ (x : ℕ). GainsNothing board c.args.scratch.now.boxes reached x c.args.push.square) c.next-ahead.ensures
+          (c.look_ahead-sight.ensures.known w.if-known.true)) in
           let joined = subst (λ (x : ℕ). StaysJoined board reached x c.args.push.square) c.next-ahead.ensures
-          (c.stays_joined-joined.ensures w.if-joined.true) in
+          (c.look_ahead-sight.ensures.joined w.if-joined.true) in
           let least = subst (λ (x : ℕ). IsLeastWith reached x c.args.push.square w.least_with-least.result) c.next-ahead.ensures w.least_with-least.ensures in
           norm_after board c.args.before.now c.args.push c.args.after.now c.requires.fits_before.scene c.requires.pushed reached c.requires.flooded
           c.requires.fits.scene known joined c.set_player.new.self w.least_with-least.result (c.set_player.ensures ∙
           ap (λ (q : ℕ). at c.args.after.now q) w.player-is) least)
-      | then-gains_nothing+else-joined w ↦
+      | then-known+else-joined w ↦
           subst (λ (n : Scene). IsNorm board c.args.after.now n) (sym (c.set_player.ensures ∙
           ap (λ (q : ℕ). at c.args.after.now q) w.player-is)) w.least_left.ensures.norm
-      | else-gains_nothing+then-joined-2 w ↦
+      | else-known+then-joined-2 w ↦
           subst (λ (n : Scene). IsNorm board c.args.after.now n) (sym (c.set_player.ensures ∙
           ap (λ (q : ℕ). at c.args.after.now q) w.player-is)) w.least_grown.ensures.norm
-      | else-gains_nothing+else-joined-2 w ↦
+      | else-known+else-joined-2 w ↦
           subst (λ (n : Scene). IsNorm board c.args.after.now n) (sym (c.set_player.ensures ∙
           ap (λ (q : ℕ). at c.args.after.now q) w.player-is)) w.least_aside.ensures.norm
     ]
