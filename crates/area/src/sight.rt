@@ -78,6 +78,9 @@ fn is_known(level: &Level, square: Square, dir: Dir, is_reached: bool, scratch: 
     requires reached { IsTrue is_reached → contains scratch.now.reached (next level.now square dir) ≡ true }
     ensures { IsTrue result → (but : ℕ) → IsKnown level.now scratch.now.boxes scratch.now.reached but square dir }
 {
+    if is_reached {
+        return true;
+    }
     let beside = level.next(square, dir);
-    is_reached || level.is_wall(beside) || scratch.has_box(beside)
+    level.is_wall(beside) || scratch.has_box(beside)
 }
