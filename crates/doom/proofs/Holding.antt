@@ -71,7 +71,8 @@ held_told board fast members q by d are apart inside = elim (cases_Bool (has_bit
 
 -- the sets have room for all squares
 pub room_of : (board : Board) (holds : Holds) → AreHolds board holds → HaveRoom holds (word_count (length board.cells))
-room_of board holds are = record { across = are.across.size; along = are.along.size; goals = are.goals.size }
+room_of board holds are = let a = are.across.size in let b = are.along.size in let c = are.goals.size in
+    record { across = omega (arith, a); along = omega (arith, b); goals = omega (arith, c) }
 
 -- so boxes that are locked are frozen, and back
 module _ (board : Board) (holds : Holds) (are : AreHolds board holds) (boxes : Squares) (stand : StandInside board boxes) where

@@ -8,4 +8,5 @@ pub mod Beside
 pub mod Parting
 pub mod Passes
 pub mod Gathered
+pub mod Fronts
 pub mod Spared

@@ -97,8 +97,8 @@ fn find_words(holds: &Holds, cols: usize, boxes: &[u64], words: &mut ArrayVec<Da
 #[inline(always)]
 fn danger_at(across: &[u64], along: &[u64], boxes: &[u64], place: usize, cols: usize) -> Danger
     requires place { place < length boxes.now }
-    requires across { length across.now ≡ length boxes.now }
-    requires along { length along.now ≡ length boxes.now }
+    requires across { length boxes.now ≤ length across.now }
+    requires along { length boxes.now ≤ length along.now }
     ensures { (board : Board) → AreFast board R across.now → AreFast board D along.now → board.cols ≡ cols → 1 ≤ cols →
         TellsDanger board (squares_of boxes.now) place result }
 {

@@ -1,4 +1,4 @@
-ghost use Rattle.std.specs.Prelude.{◌≡◌, ℕ, ◌*◌, ◌+◌, ◌<◌, ◌↔◌, ◌&&◌, not, IsTrue, true, false, length};
+ghost use Rattle.std.specs.Prelude.{◌≡◌, ℕ, ◌*◌, ◌+◌, ◌<◌, ◌≤◌, ◌↔◌, ◌&&◌, not, IsTrue, true, false, length};
 ghost use Rattle.std.specs.List.{list_any};
 ghost use Rattle.grid.specs.Board.{is_wall};
 ghost use Rattle.grid.specs.Masks.{has_bit, word_count};
@@ -133,7 +133,7 @@ fn peel_word(holds: &Holds, cols: usize, members: &mut [u64], place: usize) -> b
 #[inline(always)]
 pub(crate) fn held(fast: &[u64], members: &[u64], place: usize, by: usize) -> u64
     requires place { place < length members.now }
-    requires room { length fast.now ≡ length members.now }
+    requires room { length members.now ≤ length fast.now }
     ensures { (j : ℕ) → j < WORD_BITS → (word_bit result j ≡ true) ↔ IsHeldBy fast.now by (squares_of members.now) (WORD_BITS * place + j) }
 {
     (fast[place] | before(members, place, by)) | after(members, place, by)
@@ -141,7 +141,7 @@ pub(crate) fn held(fast: &[u64], members: &[u64], place: usize, by: usize) -> u6
 
 // Whether a square of the one set, all of whose squares are boxes, is none of the other.
 fn has_other(boxes: &[Square], members: &[u64], others: &[u64]) -> bool
-    requires room { length members.now ≡ length others.now }
+    requires room { length members.now ≤ length others.now }
     requires among { AreWithin (squares_of members.now) boxes.now }
     ensures { IsTrue result ↔ ((q : ℕ) × (has_bit members.now q ≡ true) × (has_bit others.now q ≡ false)) }
 {
@@ -163,7 +163,7 @@ fn is_other_box(boxes: &[Square], members: &[u64], others: &[u64]) -> bool
 
 // The same by a look at each word.
 pub(crate) fn is_other_word(members: &[u64], others: &[u64]) -> bool
-    requires { length members.now ≡ length others.now }
+    requires { length members.now ≤ length others.now }
     ensures { IsTrue result ↔ ((q : ℕ) × (has_bit members.now q ≡ true) × (has_bit others.now q ≡ false)) }
 {
     for place in 0..members.len() {

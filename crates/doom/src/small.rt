@@ -39,11 +39,28 @@ pub fn locked_after_push(
     }
     match boxes.len() {
         1 => Some(is_locked::<1>(holds, cols, from, to, boxes)),
-        2 => Some(is_locked::<2>(holds, cols, from, to, boxes)),
+        2 => Some(is_locked_in_two(holds, cols, from, to, boxes)),
         3 => Some(is_locked::<3>(holds, cols, from, to, boxes)),
         4 => Some(is_locked::<4>(holds, cols, from, to, boxes)),
         _ => None,
     }
+}
+
+// The same where there are two words; where no box stands in the second, the first is enough.
+fn is_locked_in_two(holds: &Holds, cols: usize, from: Square, to: Square, boxes: &[u64]) -> bool
+    requires narrow { cols < WORD_BITS }
+    requires words { length boxes.now ≡ 2 }
+    requires from { from < WORD_BITS * 2 }
+    requires to { to < WORD_BITS * 2 }
+    requires holds { HaveRoom holds.now 2 }
+    requires loose { (part : Squares) → ¬ (AreLocked holds.now cols (squares_of boxes.now) part) }
+    ensures { TellsLocked holds.now cols (insert (remove (squares_of boxes.now) from) to) result }
+{
+    let rest = boxes[1];
+    if rest == 0 && (from.0 as usize) < WORD_BITS && (to.0 as usize) < WORD_BITS {
+        return is_locked::<1>(holds, cols, from, to, &boxes[..1]);
+    }
+    is_locked::<2>(holds, cols, from, to, boxes)
 }
 
 // The same where the boxes stand in so many words, and the columns are so many.

@@ -1,5 +1,5 @@
 -- Boxes that hold one another along two axes, by the numbers of their squares.
-use Rattle.std.specs.Prelude.{◌≡◌, ◌<◌, ◌+◌, ◌/◌, ◌↔◌, ◌⊎◌, ℕ, Bool, IsTrue, true, false, List, length, sum_by}
+use Rattle.std.specs.Prelude.{◌≡◌, ◌<◌, ◌≤◌, ◌+◌, ◌/◌, ◌↔◌, ◌⊎◌, ℕ, Bool, IsTrue, true, false, List, length, sum_by}
 use Rattle.grid.specs.declared.masks.TheConstants.{WORD_BITS}
 use Rattle.grid.specs.Squares.{Squares, contains}
 use Rattle.grid.specs.Board.{Board}
@@ -8,11 +8,11 @@ use Rattle.doom.specs.declared.holds.Holds.{Holds}
 use Rattle.area.specs.Groups.{HangsWith}
 use Rattle.area.specs.Words.{squares_of}
 
--- there are so many words in each set
+-- there are so many words in each set, or more
 pub record HaveRoom (holds : Holds) (words : ℕ) : Type 0 where
-  pub across : length holds.across ≡ words
-  pub along : length holds.along ≡ words
-  pub goals : length holds.goals ≡ words
+  pub across : words ≤ length holds.across
+  pub along : words ≤ length holds.along
+  pub goals : words ≤ length holds.goals
 
 -- a box on the square is held on an axis: anyway, or by a member so many numbers after it or before it
 abbrev pub IsHeldBy : List ℕ → ℕ → Squares → ℕ → Type 0

@@ -1,4 +1,4 @@
-use Rattle.std.proofs.Common.{◌≡◌, ◌+◌, ℕ, List, [], ◌∷◌, length, sym, ap, subst, ◌∙◌, arith, length-append}
+use Rattle.std.proofs.Common.{ℕ, List, [], ◌∷◌, length, sym, ap, subst, ◌∙◌, arith, length-append}
 use Rattle.area.specs.Words.{squares_of}
 use Rattle.grid.specs.declared.dir.Dir.TheVariants.{D, R}
 use Rattle.doom.specs.declared.dangers.Danger.{Danger}

@@ -1,12 +1,5 @@
-use Rattle.std.proofs.Common.{◌≡◌, ℕ, ◌+◌, ◌*◌, ◌/◌, ◌%◌, ◌^◌, false, eqb, length, get_or, refl, sym, ap, subst, ◌∙◌, arith}
-use Rattle.std.specs.Int.RustNames.{bit_and}
+use Rattle.std.proofs.Common.{arith}
 use Rattle.std.proofs.lemmas.Bool.{not-true}
-use Rattle.std.proofs.lemmas.Option.{slice_get-get_or}
-use Rattle.grid.specs.declared.masks.TheConstants.{WORD_BITS}
-use Rattle.area.specs.Words.{word_bit}
-use Rattle.area.proofs.lemmas.WordBits.{square_parts, word_bit_tested}
-use Rattle.doom.specs.declared.dangers.Danger.{Danger}
-use Rattle.doom.specs.inside.Dangers.{IsSpared, danger_word}
 use Rattle.doom.proofs.Spared.{spared_at}
 use Rattle.doom.proofs.dangers.Dangers.spare.Goals as goal
 
