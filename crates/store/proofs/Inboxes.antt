@@ -1,8 +1,8 @@
 -- Offers that wait in an inbox: which they are, and what stands open once they have entered.
 use Rattle.std.proofs.Common.{◌≡◌, ℕ, zero, suc, get_or, ◌+◌, ◌-◌, ◌≤◌, Bool, true, false, cond, ◌&&◌, ◌==◌, not, is_some, ltb, List, [], ◌∷◌, ◌++◌, length}
-use Rattle.std.proofs.Common.{map, fold, Option, Some, None, Result, Ok, Err, refl, sym, ap, subst, ◌∙◌, if◌then◌else◌, arith}
+use Rattle.std.proofs.Common.{map, fold, Option, take, drop, Some, None, Result, Ok, Err, refl, sym, ap, subst, ◌∙◌, if◌then◌else◌, arith}
 use Rattle.std.proofs.lemmas.Bool.Decides.{nat_tests}
-use Rattle.std.proofs.lemmas.List.{append-nil, append_assoc, length-append, length-map}
+use Rattle.std.proofs.lemmas.List.{append-nil, append_assoc, length-append, length-map, take-append-drop}
 use Rattle.std.proofs.lemmas.List.Sums.{fold-append, fold_push}
 use Rattle.std.proofs.Math.Seq.{take-length}
 use Rattle.std.proofs.lemmas.Option.{same_Some}
@@ -59,6 +59,29 @@ length-offers shares share rank (s ∷ ss) = omega (
 pub let_in_more : (seen : List Closed) (ws offers : List (Entry Scene Push)) (e : Entry Scene Push) →
     all_let_in seen ws (offers ++ e ∷ []) ≡ let_in seen (all_let_in seen ws offers) e
 let_in_more seen ws offers e = fold_push (let_in seen) ws offers e
+
+-- so many of the offers enter, and then the others
+pub let_in_parts : (seen : List Closed) (ws offers : List (Entry Scene Push)) (count : ℕ) →
+    all_let_in seen (all_let_in seen ws (take count offers)) (drop count offers) ≡ all_let_in seen ws offers
+let_in_parts seen ws offers count = sym (fold-append (let_in seen) ws (take count offers) (drop count offers)) ∙
+    ap (λ xs. all_let_in seen ws xs) (take-append-drop count offers)
+
+-- where none are left all have entered
+pub all_entered : (seen : List Closed) (ws rest after : List (Entry Scene Push)) → length rest ≡ 0 → all_let_in seen ws rest ≡ after → ws ≡ after
+all_entered seen ws [] after none e = e
+all_entered seen ws (x ∷ rest) after none e = absurd (omega (arith, none))
+
+-- there is room for those that are left
+pub fewer_wait : (count old new : ℕ) (rest left : List (Entry Scene Push)) → left ≡ drop count rest → length rest ≤ old →
+    old ≤ new + length (take count rest) → length left ≤ new
+fewer_wait count old new rest left is room used =
+    omega (arith, ap length is, length-append (take count rest) (drop count rest), ap length (take-append-drop count rest), room, used)
+
+-- and no more of it is gone than there were offers
+pub fewer_used : (first all count old new : ℕ) (rest left : List (Entry Scene Push)) → left ≡ drop count rest → first + length rest ≤ old + all →
+    old ≤ new + length (take count rest) → first + length left ≤ new + all
+fewer_used first all count old new rest left is before used =
+    omega (arith, ap length is, length-append (take count rest) (drop count rest), ap length (take-append-drop count rest), before, used)
 
 -- the offers of a rank's successors enter as the wanted successors do
 pub let_in_offers : (seen : List Closed) (shares share rank : ℕ) (ss : List Successor) (ws : List (Entry Scene Push)) →

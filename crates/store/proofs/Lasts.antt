@@ -1,6 +1,7 @@
 -- The last of the origins of what stands open, and what it tells of an offer.
-use Rattle.std.proofs.Common.{◌≡◌, ℕ, zero, suc, ◌+◌, ◌<◌, ◌≤◌, Bool, true, false, cond, ◌||◌, not, is_some, List, [], ◌∷◌, length, position, Option, Some}
-use Rattle.std.proofs.Common.{None, refl, sym, ap, subst, ◌∙◌, if◌then◌else◌, arith}
+use Rattle.std.proofs.Common.{◌≡◌, ℕ, zero, suc, ◌+◌, ◌<◌, ◌≤◌, Bool, true, false, cond, ◌&&◌, ◌||◌, not, is_some, List, [], ◌∷◌, length, position}
+use Rattle.std.proofs.Common.{ltb, Option, Some, None, refl, sym, ap, subst, ◌∙◌, if◌then◌else◌, arith}
+use Rattle.std.proofs.lemmas.Bool.Decides.{nat_tests}
 use Rattle.std.proofs.lemmas.Option.{same_Some, none-some}
 use Rattle.std.specs.Prelude.{slice_get}
 use Rattle.std.specs.List.{position_or_len}
@@ -17,8 +18,8 @@ use Rattle.store.specs.Entries.{Origin, origin_cmp, Entry, lesser, same_scene, C
 use Rattle.store.specs.Entering.{offered}
 use Rattle.store.specs.FoundView.{IsFound, NoneExceed, is_least, keeps, let_in, open_of, seen_of}
 use Rattle.store.proofs.lemmas.Origins.{origin_total}
-use Rattle.store.proofs.lemmas.Offers.{origin-listed}
-use Rattle.store.proofs.Tails.{as_closed, below, joined, least_first, let_in_put, look_rest, no_some, not_greater, placed}
+use Rattle.store.proofs.lemmas.Offers.{and_both, origin-listed, same_flipped}
+use Rattle.store.proofs.Tails.{as_closed, below, joined, least_first, let_in_put, look_rest, no_some, not_greater, placed, seen_at}
 
 order : IsTotalOrder (origin_cmp push_cmp)
 order = origin_total push_cmp_total
@@ -52,6 +53,44 @@ late_kept m o start es found v last is none late = go (is_some (lookup (same_sce
         let listed = origin-listed (open_of start es) m p g in
         let least = least_first order p last o (none listed.0 (m, p) listed.1) (not_greater last o late) in
         ap not (sym (not_less p o least)) ∙ (λ j. sym e j || is_least (sym g j) o)
+
+-- an entry that stands at a place is found
+at_place : (m : Scene) (es : List Closed) (i : ℕ) (e : Closed) → slice_get es i ≡ Some e → same_scene m e.0 ≡ true →
+    (v : Option (Origin Push)) × (lookup (same_scene m) es ≡ Some v)
+at_place m [] i e at same = cc
+at_place m (x ∷ es) zero e at same =
+    let here : same_scene m x.0 ≡ true = subst (λ (y : Closed). same_scene m y.0 ≡ true) (sym (same_Some x e at)) same in
+    (x.1, ap (λ b. cond b (Some x.1) (lookup (same_scene m) es)) here)
+at_place m (x ∷ es) (suc i) e at same = go (same_scene m x.0) (at_place m es i e at same)
+  where
+    go : (b : Bool) → (v : Option (Origin Push)) × (lookup (same_scene m) es ≡ Some v) →
+        (v : Option (Origin Push)) × (cond b (Some x.1) (lookup (same_scene m) es) ≡ Some v)
+    go true w = (x.1, refl)
+    go false w = w
+
+-- so an offer of the position of an entry changes nothing where this is closed, or the offer's origin does not come before the last one
+pub standing_kept : (m : Scene) (o last : Origin Push) (start i : ℕ) (es : List Closed) (e : Closed) → IsFound start es → NoneExceed (open_of start es) last →
+    slice_get es i ≡ Some e → (stands late : Bool) → stands ≡ same_scene e.0 m → late ≡ not (is_lt (origin_cmp push_cmp o last)) →
+    (stands && (ltb i start || late)) ≡ true → true ≡ keeps (seen_of start es) (open_of start es) m o
+standing_kept m o last start i es e found none at stands late is_same is_late told = go (ltb i start) refl (and_both stands (ltb i start || late) told)
+  where
+    there : stands ≡ true → same_scene m e.0 ≡ true
+    there t = same_flipped m e.0 ∙ sym is_same ∙ t
+
+    closed : stands ≡ true → ltb i start ≡ true → is_some (lookup (same_scene m) (seen_of start es)) ≡ true
+    closed t lt = let w = at_place m (seen_of start es) i e (seen_at start es i (let h = lt in grind (arith, nat_tests)) ∙ at) (there t) in ap is_some w.1
+
+    after : late ≡ true → is_lt (origin_cmp push_cmp o last) ≡ false
+    after l = flipped (is_lt (origin_cmp push_cmp o last)) (sym is_late ∙ l)
+      where
+        flipped : (b : Bool) → not b ≡ true → b ≡ false
+        flipped true f = cc
+        flipped false f = refl
+
+    go : (b : Bool) → ltb i start ≡ b → (stands ≡ true) × ((ltb i start || late) ≡ true) → true ≡ keeps (seen_of start es) (open_of start es) m o
+    go true lt w = ap (λ x. x || is_least (origin_of (open_of start es) m) o) (sym (closed w.0 lt))
+    go false lt w = let v = at_place m es i e at (there w.0) in
+        late_kept m o start es found v.0 last v.1 none (after (ap (λ b. b || late) (sym lt) ∙ w.1))
 
 -- ---- one more offer
 

@@ -9,15 +9,17 @@ ghost use Rattle.store.specs.inside.FoundUpTo.{IsFoundUpTo};
 ghost use Rattle.store.specs.FoundView.{StaysFound, offer_of, offers_of};
 
 use crate::entering::enter_all;
+use crate::guesses::Hints;
 use crate::key::Key;
 use crate::origin::{ClosedOrigin, MOST_RANKS, Origin};
+use crate::parts::PART;
 use grid::MAX_BOXES;
 use indexmap::IndexMap;
 use std::alloc::AllocError;
 use successors::{Parcel, Successor, share_by};
 
 /// So many offers wait before they enter where a book's own worker hands back.
-const FEW: usize = 32;
+const FEW: usize = PART;
 
 /// So many offers wait in all the books together before they enter where another worker hands back: more than come between two
 /// turns of a book's own worker, and few beside the maps.
@@ -42,21 +44,21 @@ pub fn most_waiting(worker: u8, workers: u8, share: u8, shares: u8) -> usize
 pub(crate) fn make_room<const N: usize, const M: usize>(
     table: &mut IndexMap<Key<N, M>, ClosedOrigin>,
     start: usize,
-    last: &mut Origin,
+    hints: &mut Hints,
     inbox: &mut Vec<(Key<N, M>, Origin)>,
     most: usize,
     successors: &[Successor],
 ) -> Result<(), AllocError>
     requires width { (N ≤ MAX_BOXES + 1) × (M ≤ MAX_BOXES + 1) }
     requires room { length inbox.old.items ≤ spare table.old }
-    requires found { IsFoundUpTo start table.old.entries last.old }
-    ensures found { IsFoundUpTo start table.new.entries last.new }
+    requires found { IsFoundUpTo start table.old.entries hints.old }
+    ensures found { IsFoundUpTo start table.new.entries hints.new }
     ensures same { StaysFound start table.old.entries inbox.old.items table.new.entries inbox.new.items }
     ensures room { length inbox.new.items ≤ spare table.new }
     ensures ok { OnOk result ((length inbox.new.items + length successors.now ≤ spare table.new) ×
         (vec_len inbox.new + length successors.now ≤ vec_capacity inbox.new)) }
 {
-    enter_if_full(table, start, last, inbox, most);
+    enter_if_full(table, start, hints, inbox, most);
     let more = successors.len();
     table.reserve(inbox.len() + more)?;
     inbox.reserve(more)
@@ -66,19 +68,19 @@ pub(crate) fn make_room<const N: usize, const M: usize>(
 fn enter_if_full<const N: usize, const M: usize>(
     table: &mut IndexMap<Key<N, M>, ClosedOrigin>,
     start: usize,
-    last: &mut Origin,
+    hints: &mut Hints,
     inbox: &mut Vec<(Key<N, M>, Origin)>,
     most: usize,
 )
     requires width { (N ≤ MAX_BOXES + 1) × (M ≤ MAX_BOXES + 1) }
     requires room { length inbox.old.items ≤ spare table.old }
-    requires found { IsFoundUpTo start table.old.entries last.old }
-    ensures found { IsFoundUpTo start table.new.entries last.new }
+    requires found { IsFoundUpTo start table.old.entries hints.old }
+    ensures found { IsFoundUpTo start table.new.entries hints.new }
     ensures same { StaysFound start table.old.entries inbox.old.items table.new.entries inbox.new.items }
     ensures room { length inbox.new.items ≤ spare table.new }
 {
     if inbox.len() >= most {
-        enter_all(table, start, last, inbox);
+        enter_all(table, start, hints, inbox);
     }
 }
 

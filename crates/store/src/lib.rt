@@ -15,9 +15,11 @@ mod closing;
 mod copying;
 mod entering;
 mod found;
+mod guesses;
 mod inbox;
 mod key;
 mod origin;
+mod parts;
 mod table;
 
 pub use found::Found;

@@ -10,6 +10,7 @@ ghost use Rattle.store.specs.inside.KeyRows.{SuitsLevel};
 use crate::closing::arrange;
 use crate::copying::{copy_entry, copy_from};
 use crate::entering::{count_new, enter_all};
+use crate::guesses::Hints;
 use crate::inbox::{append_parcel, make_room};
 use crate::key::Key;
 use crate::origin::{ClosedOrigin, MOST_RANKS, Origin};
@@ -27,8 +28,8 @@ pub(crate) struct Table<const N: usize, const M: usize> {
     table: IndexMap<Key<N, M>, ClosedOrigin>,
     // what stands open begins here
     start: usize,
-    // no origin of what stands open comes after this one
-    last: Origin,
+    // no origin of what stands open comes after theirs
+    hints: Hints,
     // what was offered since and is to enter, for which the map has room
     inbox: Vec<(Key<N, M>, Origin)>,
 }
@@ -48,7 +49,7 @@ impl<const N: usize, const M: usize> Model for Table<N, M> {
 
     ghost invariant = { λ a. ((N ≤ MAX_BOXES + 1) × (M ≤ MAX_BOXES + 1))
         × SuitsLevel N M a.boxes a.squares
-        × IsFoundUpTo a.start a.table.entries a.last
+        × IsFoundUpTo a.start a.table.entries a.hints
         × (length a.inbox.items ≤ spare a.table) };
 }
 
@@ -84,7 +85,7 @@ impl<const N: usize, const M: usize> Table<N, M> {
             squares,
             table,
             start,
-            last: Origin::lowest(),
+            hints: Hints::new(alloc),
             inbox: Vec::new(alloc),
         })
     }
@@ -168,8 +169,8 @@ impl<const N: usize, const M: usize> Table<N, M> {
         if self.inbox.len() + successors.len() <= room {
             return false;
         }
-        let last = &mut self.last;
-        enter_all(&mut self.table, self.start, last, &mut self.inbox);
+        let hints = &mut self.hints;
+        enter_all(&mut self.table, self.start, hints, &mut self.inbox);
         let room = limit - self.table.len();
         count_new(&self.table, self.start, share, shares, successors) > room
     }
@@ -193,7 +194,7 @@ impl<const N: usize, const M: usize> Table<N, M> {
         make_room(
             &mut self.table,
             self.start,
-            &mut self.last,
+            &mut self.hints,
             &mut self.inbox,
             most,
             successors,
@@ -208,7 +209,7 @@ impl<const N: usize, const M: usize> Table<N, M> {
         ensures same { self.new ≡ self.old }
     {
         let inbox = &mut self.inbox;
-        enter_all(&mut self.table, self.start, &mut self.last, inbox);
+        enter_all(&mut self.table, self.start, &mut self.hints, inbox);
         self.table.len()
     }
 
@@ -229,10 +230,10 @@ impl<const N: usize, const M: usize> Table<N, M> {
         ensures err { OnErr result (self.new ≡ self.old) }
     {
         let start = self.start;
-        enter_all(&mut self.table, start, &mut self.last, &mut self.inbox);
-        arrange(&mut self.table, start)?;
+        enter_all(&mut self.table, start, &mut self.hints, &mut self.inbox);
+        arrange(&mut self.table, start, &mut self.hints)?;
         self.start = self.table.len();
-        self.last = Origin::lowest();
+        self.hints.close();
         Ok(())
     }
 

@@ -1,5 +1,4 @@
-use Rattle.std.proofs.Common.{rules, ◌≡◌, None, sym, ap, not, Some, ltb, ◌||◌, ◌∙◌}
-use Rattle.indexmap.specs.Entry.{MatchEntry, entry_index, entry_value}
+use Rattle.std.proofs.Common.{rules, ◌≡◌, None, sym, ap, not, Some, ◌||◌, ◌∙◌}
 use Rattle.std.specs.Map.{lookup, keys_of}
 use Rattle.std.specs.List.{position_or_len}
 use Rattle.store.specs.Entries.{same_scene}
@@ -22,11 +21,11 @@ returns-then-index-start-clause-kept g c =
     let there : lookup (same_scene c.copy.result) es ≡ Some c.get-known.result.now = search (rules, value, read) in
     let here = ap (λ k. lookup (same_scene k) es) (sym c.copy.ensures) ∙ there in
     let place = c.in-Ok-Occupied.ensures.index in
-    let told = c.index.ensures in
-    let stood : c.index.result ≡ position_or_len (same_scene c.copy.result) (keys_of es) = search (rules, place, told) in
+    let told = c.index-index.ensures in
+    let stood : c.index-index.result ≡ position_or_len (same_scene c.copy.result) (keys_of es) = search (rules, place, told) in
     let at = stood ∙ ap (λ k. position_or_len (same_scene k) (keys_of es)) c.copy.ensures in
-    closed_kept c.args.key.now c.args.origin c.args.start es c.index.result
-    (stands c.args.key.now c.get-known.result.now es c.index.result here at) c.if-index-start.true
+    closed_kept c.args.key.now c.args.origin c.args.start es c.index-index.result
+    (stands c.args.key.now c.get-known.result.now es c.index-index.result here at) c.if-index-start.true
 
 pub returns-then-not-is_before-clause-kept : goal.returns-then-not-is_before-clause-kept
 returns-then-not-is_before-clause-kept g c =
@@ -46,12 +45,12 @@ returns-then-not-exceeds-clause-kept g c =
     let there : lookup (same_scene c.copy.result) es ≡ Some c.get-known.result.now = search (rules, value, read) in
     let here = ap (λ k. lookup (same_scene k) es) (sym c.copy.ensures) ∙ there in
     let place = c.in-Ok-Occupied.ensures.index in
-    let told = c.index.ensures in
-    let stood : c.index.result ≡ position_or_len (same_scene c.copy.result) (keys_of es) = search (rules, place, told) in
+    let told = c.index-index.ensures in
+    let stood : c.index-index.result ≡ position_or_len (same_scene c.copy.result) (keys_of es) = search (rules, place, told) in
     let at = stood ∙ ap (λ k. position_or_len (same_scene k) (keys_of es)) c.copy.ensures in
-    ap not (sym c.if-not-exceeds.true) ∙ ap (λ b. b || not c.exceeds.result) (sym (not_below c.index.result c.args.start c.if-index-start.false)) ∙
-    there_kept c.args.key.now c.args.origin c.args.start es c.requires.found.found c.index.result c.get-known.result.now c.exceeds.result
-    (stands c.args.key.now c.get-known.result.now es c.index.result here at) here c.exceeds.ensures
+    ap not (sym c.if-not-exceeds.true) ∙ ap (λ b. b || not c.exceeds.result) (sym (not_below c.index-index.result c.args.start c.if-index-start.false)) ∙
+    there_kept c.args.key.now c.args.origin c.args.start es c.requires.found.found c.index-index.result c.get-known.result.now c.exceeds.result
+    (stands c.args.key.now c.get-known.result.now es c.index-index.result here at) here c.exceeds.ensures
 
 pub returns-else-not-exceeds-clause-kept : goal.returns-else-not-exceeds-clause-kept
 returns-else-not-exceeds-clause-kept g c =
@@ -61,9 +60,9 @@ returns-else-not-exceeds-clause-kept g c =
     let there : lookup (same_scene c.copy.result) es ≡ Some c.get-known.result.now = search (rules, value, read) in
     let here = ap (λ k. lookup (same_scene k) es) (sym c.copy.ensures) ∙ there in
     let place = c.in-Ok-Occupied.ensures.index in
-    let told = c.index.ensures in
-    let stood : c.index.result ≡ position_or_len (same_scene c.copy.result) (keys_of es) = search (rules, place, told) in
+    let told = c.index-index.ensures in
+    let stood : c.index-index.result ≡ position_or_len (same_scene c.copy.result) (keys_of es) = search (rules, place, told) in
     let at = stood ∙ ap (λ k. position_or_len (same_scene k) (keys_of es)) c.copy.ensures in
-    ap not (sym c.if-not-exceeds.false) ∙ ap (λ b. b || not c.exceeds.result) (sym (not_below c.index.result c.args.start c.if-index-start.false)) ∙
-    there_kept c.args.key.now c.args.origin c.args.start es c.requires.found.found c.index.result c.get-known.result.now c.exceeds.result
-    (stands c.args.key.now c.get-known.result.now es c.index.result here at) here c.exceeds.ensures
+    ap not (sym c.if-not-exceeds.false) ∙ ap (λ b. b || not c.exceeds.result) (sym (not_below c.index-index.result c.args.start c.if-index-start.false)) ∙
+    there_kept c.args.key.now c.args.origin c.args.start es c.requires.found.found c.index-index.result c.get-known.result.now c.exceeds.result
+    (stands c.args.key.now c.get-known.result.now es c.index-index.result here at) here c.exceeds.ensures

@@ -1,0 +1,23 @@
+use Rattle.std.proofs.Common.{◌≡◌, ◌+◌, ◌∷◌, [], ◌++◌, take, ap, sym, ◌∙◌, arith}
+use Rattle.std.proofs.lemmas.List.{take_more}
+use Rattle.grid.specs.declared.square.Push.{Push}
+use Rattle.grid.specs.Board.{Scene}
+use Rattle.store.specs.Entries.{Entry}
+use Rattle.store.specs.FoundView.{seen_of, open_of, let_in, all_let_in}
+use Rattle.store.proofs.Inboxes.{let_in_more}
+use Rattle.store.proofs.parts.enter_guessed.Goals as goal
+
+pub loop-nth-preserved : goal.loop-nth-preserved
+loop-nth-preserved g c =
+    let os = c.args.offers.now in let i = c.loop-nth.nth in let start = c.args.start in
+    let es = c.args.table.now.entries in
+    let e : Entry Scene Push = c.index-offers-nth.result in
+    let more : take (i + 1) os ≡ take i os ++ e ∷ [] = take_more os i e c.loop-nth-test.true ∙
+    ap (λ (x : Entry Scene Push). take i os ++ x ∷ []) (sym c.index-offers-nth.is) in (
+      c.enter_at.ensures.waiting
+          ∙ (λ n. let_in (c.loop-nth.invariant.3 n) (c.loop-nth.invariant.0 n) e)
+          ∙ sym (let_in_more (seen_of start es) (open_of start es) (take i os) e) ∙ ap (λ xs. all_let_in (seen_of start es) (open_of start es) xs) (sym more),
+      omega (arith, c.enter_at.ensures.room, c.loop-nth.invariant.1),
+      c.enter_at.ensures.found,
+      c.enter_at.ensures.seen ∙ c.loop-nth.invariant.3,
+    )
