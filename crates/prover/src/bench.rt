@@ -6,6 +6,7 @@ ghost use Rattle.prover.specs.inside.Progress.{AllFit};
 
 use crate::desk::Desk;
 use crate::expansion::{Round, Span, expand_all};
+use crate::pacing::Pace;
 use crate::pruner::Pruner;
 use crate::store::Store;
 use grid::{Level, MAX_BOXES};
@@ -18,6 +19,7 @@ pub(crate) struct Bench {
     pub(crate) desk: Desk,
     pub(crate) more: Store,
     pub(crate) is_whole: bool,
+    pub(crate) pace: Pace,
     // keeps what the next worker reads off the lines of memory that this one writes
     apart: [u64; 16],
 }
@@ -57,6 +59,7 @@ fn append_bench(alloc: Global, level: &Level, benches: &mut Vec<Bench>) -> Resul
         desk,
         more,
         is_whole: false,
+        pace: Pace::NONE,
         apart: [0; 16],
     })?;
     Ok(())
@@ -70,6 +73,10 @@ pub(crate) fn work(pruner: &Pruner<'_>, store: &Store, most: u32, span: Span, be
     ensures { IsWorked pruner.now most store.now.seen span.from span.to bench.new }
 {
     bench.more.clear();
+    bench.pace = Pace {
+        pushes: store.entries().pushes(span.from),
+        positions: span.to.saturating_sub(span.from),
+    };
     let round = Round {
         pruner,
         store,

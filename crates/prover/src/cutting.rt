@@ -4,14 +4,7 @@ ghost use Rattle.prover.specs.inside.Benches.{stretch_start};
 
 use crate::expansion::Span;
 
-/// So many positions each worker expands at most before what they lead to is entered.
-const MOST: usize = 4096;
-
-/// A position with more boxes leads to more positions, each of more squares, and each takes longer: so many positions are
-/// expanded, over the number of their squares to the third power.
-const MOST_CUBED: usize = 1 << 19;
-
-/// For fewer positions of few boxes than so many a further thread would take longer than it spares.
+/// For fewer positions than so many a further thread would take longer than it spares, if a worker may expand as many.
 const LEAST: usize = 32;
 
 /// The positions from one place up to another, cut in stretches of so many each, of which the last may be shorter.
@@ -23,9 +16,8 @@ pub(crate) struct Cut {
 }
 
 impl Cut {
-    /// So that each of so many workers gets about as many positions of so many boxes, if that is not too many. Nothing rests
-    /// on how many.
-    pub(crate) fn of(span: Span, workers: usize, boxes: usize) -> Cut
+    /// So that each of so many workers gets about as many positions, and no more than `most`. Nothing rests on how many.
+    pub(crate) fn of(span: Span, workers: usize, most: usize) -> Cut
         requires order { span.from ≤ span.to }
         ensures from { result.from ≡ span.from }
         ensures to { result.to ≡ span.to }
@@ -36,7 +28,7 @@ impl Cut {
         Cut {
             from,
             to,
-            size: share.max(LEAST).min(most_of(boxes)),
+            size: share.max(LEAST).min(most).max(1),
         }
     }
 
@@ -74,13 +66,4 @@ impl Cut {
             to: self.start(number + 1),
         }
     }
-}
-
-// How many positions of so many boxes a worker expands at most.
-fn most_of(boxes: usize) -> usize
-    ensures { 0 < result }
-{
-    let squares = boxes.saturating_add(1);
-    let cubed = squares.saturating_mul(squares).saturating_mul(squares);
-    (MOST_CUBED / cubed.max(1)).min(MOST).max(1)
 }

@@ -81,6 +81,12 @@ impl Entries {
         Some(label.parent)
     }
 
+    /// After how many pushes the position at a place was seen; `None` beyond the positions.
+    pub(crate) fn pushes(&self, place: usize) -> Option<u32> {
+        let label = self.labels.get(place)?;
+        Some(label.pushes)
+    }
+
     /// The squares of the position at a place: the boxes, then the player; `None` beyond the positions.
     pub(crate) fn row(&self, place: usize) -> Option<&[Square]> {
         if place >= self.labels.len() {

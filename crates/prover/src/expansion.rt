@@ -9,9 +9,10 @@ ghost use Rattle.prover.specs.inside.Progress.{AllFit, AreExpanded};
 
 use crate::desk::Desk;
 use crate::entries::Label;
+use crate::hashing::hash_of;
 use crate::pruner::Pruner;
 use crate::pushing::try_push;
-use crate::store::{Store, hash_of};
+use crate::store::Store;
 use grid::Position;
 use prices::Slack;
 use std::alloc::AllocError;
@@ -125,11 +126,11 @@ fn keep(
     ensures kept { (desk.new.scratch ≡ desk.old.scratch) × (desk.new.pushes ≡ desk.old.pushes) × (desk.new.corral ≡ desk.old.corral) }
 {
     let hash = hash_of(&desk.after);
-    let seen = round.store.knows(&desk.after, hash, label.pushes);
+    let seen = round.store.has_settled(&desk.after, hash, label.pushes);
     if seen {
         return Ok(());
     }
-    let found = more.knows(&desk.after, hash, label.pushes);
+    let found = more.has_fresh(&desk.after, hash, label.pushes);
     if found {
         return Ok(());
     }

@@ -13,14 +13,16 @@ use crate::bench::{Bench, work};
 use crate::cutting::Cut;
 use crate::entries::{Entries, Label};
 use crate::expansion::Span;
+use crate::hashing::hash_of;
+use crate::pacing::most_of;
 use crate::pruner::Pruner;
-use crate::store::{Store, hash_of};
+use crate::store::Store;
 use std::alloc::AllocError;
 use std::thread;
 use std::thread::Threads;
 
-/// Expands positions from one place on, a stretch of them at each bench, and then enters what they lead to. Gives up to which
-/// place, which is no further than the other one.
+/// Lets the positions settle, expands them from one place on, a stretch of them at each bench, and then enters what they lead
+/// to. Gives up to which place, which is no further than the other one.
 pub(crate) fn expand_round<R: Threads + Sync>(
     rt: &R,
     pruner: &Pruner<'_>,
@@ -38,7 +40,30 @@ pub(crate) fn expand_round<R: Threads + Sync>(
     ensures grows { OnOk result (Grows store.old store.new) }
     ensures benches { (length benches.new ≡ length benches.old) × AreRoomy pruner.now benches.new }
 {
-    let cut = Cut::of(span, benches.len(), store.entries().boxes());
+    store.settle(rt, benches.len())?;
+    expand_settled(rt, pruner, most, store, span, benches)
+}
+
+// The same for positions that have settled.
+fn expand_settled<R: Threads + Sync>(
+    rt: &R,
+    pruner: &Pruner<'_>,
+    most: u32,
+    store: &mut Store,
+    span: Span,
+    benches: &mut [Bench],
+) -> Result<usize, AllocError>
+    requires under_way { IsUnderWay pruner.now most store.old.seen span.from }
+    requires unsolved { AreUnsolved pruner.now store.old.seen span.from span.to }
+    requires span { (span.from < span.to) × (span.to ≤ length store.old.seen) }
+    requires boxes { store.old.boxes ≡ box_count pruner.now }
+    requires benches { (0 < length benches.old) × AreRoomy pruner.now benches.old }
+    ensures under_way { IfOk result (λ to. IsUnderWay pruner.now most store.new.seen to × (span.from < to) × (to ≤ span.to)) }
+    ensures grows { OnOk result (Grows store.old store.new) }
+    ensures benches { (length benches.new ≡ length benches.old) × AreRoomy pruner.now benches.new }
+{
+    let size = most_of(store.entries(), span.from, benches);
+    let cut = Cut::of(span, benches.len(), size);
     let many = cut.busy(benches.len());
     let busy = &mut benches[..many];
     expand_beside(rt, pruner, store, most, cut, busy);

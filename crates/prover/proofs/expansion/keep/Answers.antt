@@ -4,10 +4,10 @@ use Rattle.prover.proofs.Progressing.{entered_either, entered_fit, entered_seen}
 use Rattle.prover.proofs.expansion.keep.Goals as goal
 
 pub returns-then-seen-clause-done : goal.returns-then-seen-clause-done
-returns-then-seen-clause-done c = inl (inl (c.knows-seen.ensures c.if-seen.true))
+returns-then-seen-clause-done c = inl (inl (c.has_settled-seen.ensures c.if-seen.true))
 
 pub returns-then-found-clause-done : goal.returns-then-found-clause-done
-returns-then-found-clause-done c = inl (inr (c.knows-found.ensures c.if-found.true))
+returns-then-found-clause-done c = inl (inr (c.has_fresh-found.ensures c.if-found.true))
 
 pub returns-then-refused-clause-done : goal.returns-then-refused-clause-done
 returns-then-refused-clause-done c = inr (c.refuses-refused.ensures c.if-refused.true)

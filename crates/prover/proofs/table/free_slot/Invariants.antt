@@ -1,5 +1,5 @@
 use Rattle.std.proofs.Common.{◌<◌, length}
-use Rattle.prover.proofs.store.free_slot.Given as goal
+use Rattle.prover.proofs.table.free_slot.Given as goal
 
 abbrev pub invariant-loop : goal.invariant-loop
 invariant-loop l = l.slot < length l.slots

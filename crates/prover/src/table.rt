@@ -1,0 +1,173 @@
+//! Tables of the places of positions by their hashes. Nothing rests on them but how soon a position is found, since each one that
+//! they lead to is compared.
+ghost use Rattle.std.specs.Prelude.{◌≡◌, ◌+◌, ◌<◌, ◌≤◌, IsTrue, IfOk, IfNone, IfSome, length};
+ghost use Rattle.prover.specs.Frame.{IsSeen};
+
+use crate::entries::Entries;
+use crate::hashing::hash_of_row;
+use grid::Position;
+use std::alloc::{AllocError, Global};
+use std::thread;
+use std::thread::Threads;
+
+/// The tag of a slot in which no place stands.
+const FREE: u8 = 0;
+
+/// A larger table is a row of blocks of so many slots. A place stands in the block that its hash tells, from some slot on and
+/// then round the block's end, so several threads may write blocks of their own.
+pub(crate) const BLOCK: usize = 4096;
+
+/// A slot of a table: a part of the hash of the position that it leads to, so that few others are read, and the bytes of that
+/// position's place. Both stand in five bytes, so that looking at them mostly fetches one line of memory.
+#[derive(Clone, Copy, Debug)]
+pub(crate) struct Slot {
+    tag: u8,
+    place: [u8; 4],
+}
+
+/// A slot in which no place stands.
+pub(crate) const NOTHING: Slot = Slot {
+    tag: FREE,
+    place: [0; 4],
+};
+
+/// So many slots, all of them free. The only error is that memory was refused.
+pub(crate) fn free_slots(alloc: Global, size: usize) -> Result<Vec<Slot>, AllocError>
+    ensures { IfOk result (λ slots. length slots.items ≡ size) }
+{
+    Ok(vec![in alloc; NOTHING; size]?)
+}
+
+/// The slot for a position with such a hash; `None` where it was seen after no more than so many pushes.
+pub(crate) fn free_slot(
+    entries: &Entries,
+    slots: &[Slot],
+    hash: u64,
+    position: &Position,
+    pushes: u32,
+) -> Option<usize>
+    requires { 1 ≤ length slots.now }
+    ensures seen { IfNone result (IsSeen entries.now.seen pushes position.now) }
+    ensures within { IfSome result (λ slot. slot < length slots.now) }
+{
+    let size = slots.len();
+    let tag = tag_of(hash);
+    let mut slot = first_slot(hash, size);
+    for _ in 0..size {
+        let Slot { tag: held, place } = slots[slot];
+        if held == FREE {
+            return Some(slot);
+        }
+        if held == tag {
+            if is_at(entries, u32::from_le_bytes(place), position, pushes) {
+                return None;
+            }
+        }
+        slot = next_slot(slot, size);
+    }
+    Some(slot)
+}
+
+/// What a slot is to hold that leads to a place from such a hash.
+pub(crate) fn slot_of(hash: u64, place: usize) -> Slot {
+    Slot {
+        tag: tag_of(hash),
+        place: u32::try_from(place).unwrap_or(u32::MAX).to_le_bytes(),
+    }
+}
+
+/// For fewer places than so many a further thread would take longer than it spares.
+const LEAST_PLACES: usize = 2048;
+
+/// Writes the places of the positions from one on into free slots, by so many threads at most.
+pub(crate) fn put_all<R: Threads + Sync>(
+    rt: &R,
+    entries: &Entries,
+    from: usize,
+    slots: &mut [Slot],
+    threads: usize,
+) {
+    let size = slots.len();
+    let blocks = size.div_ceil(BLOCK);
+    let paid = entries.len().saturating_sub(from) / LEAST_PLACES;
+    let share = blocks.div_ceil(threads.min(paid).max(1)).max(1);
+    thread::for_each_chunk_mut(
+        rt,
+        slots,
+        share.saturating_mul(BLOCK),
+        &|start, part| { put_part(entries, from, size, start, part) },
+    );
+}
+
+/// Writes the places of the positions from one on into free slots.
+pub(crate) fn put_from(entries: &Entries, from: usize, slots: &mut [Slot]) {
+    put_part(entries, from, slots.len(), 0, slots);
+}
+
+// Writes those of these places into free slots that belong in a part of a table, which begins at a slot of it.
+fn put_part(entries: &Entries, from: usize, size: usize, start: usize, part: &mut [Slot]) {
+    if size == 0 {
+        return;
+    }
+    for place in from..entries.len() {
+        if let Some(row) = entries.row(place) {
+            let hash = hash_of_row(row);
+            let slot = first_slot(hash, size);
+            if slot >= start && slot - start < part.len() {
+                put(part, slot - start, slot_of(hash, place));
+            }
+        }
+    }
+}
+
+// Writes a slot's content into the first free one, from one on.
+fn put(slots: &mut [Slot], first: usize, content: Slot)
+    requires { first < length slots.old }
+{
+    let size = slots.len();
+    let mut slot = first;
+    for _ in 0..size {
+        if slots[slot].tag == FREE {
+            slots[slot] = content;
+            return;
+        }
+        slot = next_slot(slot, size);
+    }
+}
+
+// The slot from which on a hash is looked for.
+fn first_slot(hash: u64, size: usize) -> usize
+    requires { 1 ≤ size }
+    ensures { result < size }
+{
+    let slot = ((hash >> 32).wrapping_mul(size as u64) >> 32) as usize;
+    slot.min(size - 1)
+}
+
+// The slot after another, round the end of its block.
+fn next_slot(slot: usize, size: usize) -> usize
+    requires { slot < size }
+    ensures { result < size }
+{
+    let next = slot + 1;
+    if next == size || next % BLOCK == 0 {
+        return slot - slot % BLOCK;
+    }
+    next
+}
+
+// Whether the position stands at a place, and was seen after no more than so many pushes.
+fn is_at(entries: &Entries, place: u32, position: &Position, pushes: u32) -> bool
+    ensures { IsTrue result → IsSeen entries.now.seen pushes position.now }
+{
+    let place = place as usize;
+    if place >= entries.len() {
+        return false;
+    }
+    entries.has_at(place, position, pushes)
+}
+
+// What stands in the slots of such a hash.
+fn tag_of(hash: u64) -> u8 {
+    (hash % 255) as u8 + 1
+}
