@@ -2,6 +2,5 @@ pub mod Dealing
 pub mod Drawing
 pub mod Events
 pub mod Lending
-pub mod Parted
 pub mod Parts
 pub mod Turning

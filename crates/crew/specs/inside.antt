@@ -4,7 +4,6 @@ pub mod Desks
 pub mod Ends
 pub mod Events
 pub mod Lots
-pub mod Places
 pub mod Shifts
 pub mod Stretched
 pub mod Turning

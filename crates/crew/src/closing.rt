@@ -7,12 +7,12 @@ ghost use Rattle.solo.specs.inside.Together.{AreFinished};
 ghost use Rattle.solo.specs.inside.Turns.{AreWorkingOn};
 
 use crate::gate::Gate;
-use crate::spreading::for_each_spread;
 use crate::terms::Terms;
 use area::Scratch;
 use layers::{Book, Layer};
 use solo::rest::do_rest;
 use solo::turn::{Worked, close_ahead, finish_rest};
+use spreading::for_each_spread;
 use std::alloc::AllocError;
 use std::thread::Threads;
 

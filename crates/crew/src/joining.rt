@@ -4,9 +4,9 @@ ghost use Rattle.layers.specs.Books.{AreAllShares, IsJoinOf};
 ghost use Rattle.layers.specs.inside.Merging.{IsStretchOf};
 ghost use Rattle.crew.specs.inside.Stretched.{AreStretchesOf};
 
-use crate::spreading::for_each_spread;
 use layers::{Book, JoinFault, Layer, Stretch};
 use solo::turn::last_layer;
+use spreading::for_each_spread;
 use std::alloc::{AllocError, Global};
 use std::thread::Threads;
 

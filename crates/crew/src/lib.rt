@@ -30,7 +30,6 @@ mod locking;
 mod lots;
 mod search;
 mod shift;
-mod spreading;
 mod terms;
 mod turns;
 mod worker;

@@ -6,9 +6,9 @@ ghost use Rattle.crew.specs.inside.Desks.{AreRoomy, HaveDrawers};
 use crate::desks::Desk;
 use crate::gate::Gate;
 use crate::shift::{Post, Shift};
-use crate::spreading::for_each_spread;
 use crate::worker::work_at;
 use claims::PLACES;
+use spreading::for_each_spread;
 use std::sync::Wait;
 use std::thread::Threads;
 

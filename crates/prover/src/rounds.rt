@@ -17,8 +17,8 @@ use crate::hashing::hash_of;
 use crate::pacing::most_of;
 use crate::pruner::Pruner;
 use crate::store::Store;
+use spreading::for_each_spread;
 use std::alloc::AllocError;
-use std::thread;
 use std::thread::Threads;
 
 /// Lets the positions settle, expands them from one place on, a stretch of them at each bench, and then enters what they lead
@@ -86,10 +86,9 @@ fn expand_beside<R: Threads + Sync>(
     ensures worked { AreWorked pruner.now most store.now.seen cut benches.new }
     ensures many { length benches.new ≡ length benches.old }
 {
-    thread::for_each_mut(
+    for_each_spread(
         rt,
         benches,
-        benches.len().max(1),
         &|number, bench: &mut Bench|
             requires fit { AllFit pruner.now store.now.seen }
             requires order { cut.from ≤ cut.to }

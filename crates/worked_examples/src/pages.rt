@@ -35,6 +35,17 @@ fn page_of_counts(rt: HostRuntime) {
 }
 
 #[test]
+fn page_of_spreading(rt: HostRuntime) {
+    let mut numbers = [0u64; 4];
+    spreading::for_each_spread(
+        &rt,
+        &mut numbers,
+        &|nth, number: &mut u64| { *number = nth as u64 },
+    );
+    assert_eq!(&rt; numbers, [0, 1, 2, 3]);
+}
+
+#[test]
 fn page_of_xsb(rt: HostRuntime) {
     let alloc = rt.alloc();
     let entries = xsb::read(alloc, b"; first\n#####\n#@$.#\n#####\n").expect(&rt, "memory");

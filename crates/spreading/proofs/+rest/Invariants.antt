@@ -1,5 +1,5 @@
 use Rattle.std.specs.Prelude.{◌+◌, ◌*◌, length}
-use Rattle.crew.proofs.spreading.+rest.Given as goal
+use Rattle.spreading.proofs.+rest.Given as goal
 
 abbrev pub decreases-first_and_rest : goal.decreases-first_and_rest
 decreases-first_and_rest g l = 3 * length l.more.now + 2

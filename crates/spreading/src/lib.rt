@@ -1,15 +1,23 @@
 //! Calls at each place of a slice, each in a thread of its own, where the caller starts all of the threads: one that a just
 //! started thread starts is mostly put on the same processor, and the two take turns there.
+//!
+//! ```text
+//! let mut numbers = [0u64; 4];
+//! spreading::for_each_spread(&rt, &mut numbers, &|nth, number: &mut u64| { *number = nth as u64 });
+//! assert_eq!(&rt; numbers, [0, 1, 2, 3]);
+//! ```
+#![tactic(auto)]
+
 ghost use Rattle.std.specs.Prelude.{◌≡◌, ◌+◌, ◌^◌, ◌<◌, length};
 ghost use Rattle.std.specs.Fork.{AcceptsAt, ChangesAt, AcceptsEach, ChangesEach};
-ghost use Rattle.crew.specs.inside.Places.{HoldsFrom, ChangesFrom};
+ghost use Rattle.spreading.specs.Places.{HoldsFrom, ChangesFrom};
 ghost use denote.Param.Send.{IsSync, IsSend};
 
 use std::thread::{Threads, join_mut};
 
-// Calls f(i, &mut s[i]) at each place, each in a thread of its own where one can be started; the caller starts all of them,
-// and does the last one itself.
-pub(crate) fn for_each_spread<R: Threads + Sync, T: Send, F: Fn(usize, &mut T) + Sync>(
+/// Calls f(i, &mut s[i]) at each place, each in a thread of its own where one can be started; the caller starts all of them,
+/// and does the last one itself. What each call needs and gives is what `f` says.
+pub fn for_each_spread<R: Threads + Sync, T: Send, F: Fn(usize, &mut T) + Sync>(
     rt: &R,
     s: &mut [T],
     f: &F,

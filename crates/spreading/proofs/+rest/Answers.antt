@@ -1,6 +1,6 @@
 use Rattle.std.specs.Fork.{AcceptsAt, ChangesAt}
-use Rattle.crew.proofs.Parted.{holds_rest, changes_both}
-use Rattle.crew.proofs.spreading.+rest.Goals as goal
+use Rattle.spreading.proofs.Parted.{holds_rest, changes_both}
+use Rattle.spreading.proofs.+rest.Goals as goal
 
 pub spread_from-first_and_rest-requires-clause-accepts : goal.spread_from-first_and_rest-requires-clause-accepts
 spread_from-first_and_rest-requires-clause-accepts g t c κs within =

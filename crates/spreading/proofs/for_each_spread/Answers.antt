@@ -1,7 +1,7 @@
 use Rattle.std.proofs.Common.{refl}
 use Rattle.std.specs.Fork.{ChangesAt}
-use Rattle.crew.proofs.Parted.{changes_all}
-use Rattle.crew.proofs.spreading.for_each_spread.Goals as goal
+use Rattle.spreading.proofs.Parted.{changes_all}
+use Rattle.spreading.proofs.for_each_spread.Goals as goal
 
 pub returns-then-not-is_empty : goal.returns-then-not-is_empty
 returns-then-not-is_empty g c i d low = (refl, changes_all (ChangesAt g.F.Fn c.args.f.now) c.args.s.now c.spread_from.new.s c.spread_from.ensures i d low)

@@ -1,7 +1,7 @@
 use Rattle.std.proofs.Common.{refl}
 use Rattle.std.specs.Fork.{AcceptsAt, ChangesAt}
-use Rattle.crew.proofs.Parted.{holds_only, changes_only}
-use Rattle.crew.proofs.spreading.at_only.Goals as goal
+use Rattle.spreading.proofs.Parted.{holds_only, changes_only}
+use Rattle.spreading.proofs.at_only.Goals as goal
 
 pub f-requires : goal.f-requires
 f-requires g c = holds_only (AcceptsAt g.F.Fn c.args.f.now) c.args.place c.args.one.now c.requires.one c.requires.accepts _ _ refl

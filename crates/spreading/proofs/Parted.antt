@@ -4,7 +4,7 @@ use lib.ListN.{get_or}
 use Rattle.std.proofs.lemmas.List.{get_or-set_same, get_or_default, length-set, get_or_append_left, get_or-append_right, length-append}
 use Rattle.std.proofs.lemmas.Bool.{cases_lt}
 use mathlib.Core.Logic.{⊎_elim}
-use Rattle.crew.specs.inside.Places.{HoldsFrom, ChangesFrom}
+use Rattle.spreading.specs.Places.{HoldsFrom, ChangesFrom}
 
 module _ {X : Type 0} (P : ℕ → X → Type 0) (base : ℕ) where
   pub holds_rest : (all one more : List X) → all ≡ one ++ more → length one ≡ 1 → HoldsFrom P base all → HoldsFrom P (base + 1) more
