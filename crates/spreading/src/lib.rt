@@ -3,7 +3,11 @@
 //!
 //! ```text
 //! let mut numbers = [0u64; 4];
-//! spreading::for_each_spread(&rt, &mut numbers, &|nth, number: &mut u64| { *number = nth as u64 });
+//! spreading::for_each_spread(
+//!     &rt,
+//!     &mut numbers,
+//!     &|nth, number: &mut u64| { *number = nth as u64 },
+//! );
 //! assert_eq!(&rt; numbers, [0, 1, 2, 3]);
 //! ```
 #![tactic(auto)]
