@@ -19,6 +19,7 @@ pub(crate) const NOWHERE: u32 = u32::MAX;
 #[derive(Debug, Drop)]
 pub(crate) struct Guesses {
     slots: Vec<u32>,
+    is_wanted: bool,
 }
 
 impl Model for Guesses {
@@ -32,6 +33,7 @@ impl Guesses {
     pub(crate) fn new(alloc: Global) -> Guesses {
         Guesses {
             slots: Vec::new(alloc),
+            is_wanted: false,
         }
     }
 
@@ -65,7 +67,7 @@ impl Guesses {
         }
     }
 
-    /// Makes more slots where a map has more keys than half as many again, unless memory for them is refused.
+    /// Makes more slots, where guesses are wanted and a map has more keys than half as many again, unless memory for them is refused.
     pub(crate) fn fit<const N: usize, const M: usize>(
         &mut self,
         table: &IndexMap<Key<N, M>, ClosedOrigin>,
@@ -74,7 +76,7 @@ impl Guesses {
     {
         let slots = self.slots.len();
         let count = table.len();
-        if count < FEWEST || count - count / 3 <= slots {
+        if !self.is_wanted || count < FEWEST || count - count / 3 <= slots {
             return;
         }
         let more = slots.max(FEWEST / 2).saturating_mul(2);
@@ -135,6 +137,14 @@ impl Hints {
             last: Origin::lowest(),
             guesses: Guesses::new(alloc),
         }
+    }
+
+    /// Guesses are wanted where a book is alone. Of several books each has a worker of its own, and a part of the keys that is more
+    /// often in that worker's cache.
+    pub(crate) fn tell_shares(&mut self, shares: u8)
+        ensures { self.new ≡ self.old }
+    {
+        self.guesses.is_wanted = shares == 1;
     }
 
     /// Nothing stands open any more.

@@ -18,8 +18,9 @@ use indexmap::IndexMap;
 use std::alloc::AllocError;
 use successors::{Parcel, Successor, share_by};
 
-/// So many offers wait before they enter where a book's own worker hands back.
-const FEW: usize = PART;
+/// So many offers wait before they enter where a book's own worker hands back; where the book is alone, a part that is looked up
+/// side by side.
+const FEW: usize = 32;
 
 /// So many offers wait in all the books together before they enter where another worker hands back: more than come between two
 /// turns of a book's own worker, and few beside the maps.
@@ -33,7 +34,7 @@ pub fn most_waiting(worker: u8, workers: u8, share: u8, shares: u8) -> usize
     requires { 0 < shares }
 {
     if workers == 0 || worker == share % workers {
-        FEW
+        if shares == 1 { PART } else { FEW }
     } else {
         (MANY / u32::from(shares)) as usize
     }

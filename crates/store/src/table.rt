@@ -191,6 +191,7 @@ impl<const N: usize, const M: usize> Table<N, M> {
         ensures err { OnErr result (self.new ≡ self.old) }
     {
         let successors = parcel.successors();
+        self.hints.tell_shares(shares);
         make_room(
             &mut self.table,
             self.start,
