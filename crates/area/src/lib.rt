@@ -27,8 +27,6 @@ mod seeking;
 mod set;
 mod sight;
 mod spread;
-#[cfg(test)]
-mod tests;
 
 pub use after::normalise_after;
 pub use floods::{flood, normal};

@@ -12,8 +12,6 @@
 mod drawer;
 mod ledger;
 mod steps;
-#[cfg(test)]
-mod tests;
 mod views;
 
 pub use drawer::Drawer;

@@ -21,8 +21,6 @@ mod locked;
 mod loose;
 mod pulls;
 mod small;
-#[cfg(test)]
-mod tests;
 
 pub use after::{doomed_after, push_dooms};
 pub use bound::Bound;

@@ -21,8 +21,6 @@ mod fault;
 mod item;
 pub mod laws;
 mod limits;
-#[cfg(test)]
-mod tests;
 mod text;
 mod verdict;
 

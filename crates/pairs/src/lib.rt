@@ -24,7 +24,5 @@ mod ground;
 mod kept;
 pub mod laws;
 mod table;
-#[cfg(test)]
-mod tests;
 
 pub use excess::Pairs;

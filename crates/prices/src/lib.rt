@@ -30,8 +30,6 @@ mod pulls;
 mod sides;
 mod slack;
 mod table;
-#[cfg(test)]
-mod tests;
 
 pub use distances::Distances;
 pub use matching::Matching;

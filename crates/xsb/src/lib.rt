@@ -34,8 +34,6 @@ mod names;
 mod reader;
 mod rows;
 mod sizes;
-#[cfg(test)]
-mod tests;
 mod writer;
 
 pub use entry::{BoardEntry, Entry, ReadFault};

@@ -1,8 +1,9 @@
+//! Draws from a ledger.
 ghost use Rattle.std.specs.Prelude.{◌≡◌, [], ◌∷◌};
 
 mod races;
 
-use crate::{Drawer, Ledger, PLACES};
+use claims::{Drawer, Ledger, PLACES};
 use std::alloc::Global;
 use std::process::Abort;
 

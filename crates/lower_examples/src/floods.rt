@@ -1,50 +1,31 @@
+//! What the player reaches, normal positions, walks and possible pushes.
 ghost use Rattle.std.specs.Prelude.{◌≡◌, length};
 ghost use Rattle.grid.specs.States.{FitsLevel, IsScene};
 
-use crate::laws::{
+use crate::boards::{Text, level_of};
+use area::laws::{
     an_area_has_one_normal_form, each_state_has_one_normal_form, walks_go_both_ways,
     what_boxes_decide_lasts,
 };
-use crate::{Scratch, flood, normal, normalise_after, walk};
-use grid::{Cell, Dir, Level, MAX_COLS, MAX_SQUARES, Moves, Position, Push, Square, State, Step};
+use area::{Scratch, flood, normal, normalise_after, walk};
+use grid::{Dir, Level, MAX_COLS, MAX_SQUARES, Moves, Position, Push, Square, State, Step};
 use std::alloc::Global;
 use std::process::Abort;
 
 mod pushes;
 
-const HALL: (usize, &[u8]) = (6, b"#######.$  ##    ##   @#######");
+const HALL: Text = (6, b"#######.$  ##    ##   @#######");
 
-const LOOP: (usize, &[u8]) = (8, b"############   ##.@$   #####   #########");
+const LOOP: Text = (8, b"############   ##.@$   #####   #########");
 
 // A hall with two boxes.
-const PAIR: (usize, &[u8]) = (6, b"#######@   ##$#  ## $..#######");
+const PAIR: Text = (6, b"#######@   ##$#  ## $..#######");
 
 // A crooked room, a room of its own beneath it, and squares outside, also at the edge of the grid.
-const ROOMS: (usize, &[u8]) = (
+const ROOMS: Text = (
     10,
     b"  ####     ##  ####  # $    #  # .## @#  ########   #  #      ####    ",
 );
-
-fn cell_of(byte: u8) -> Cell {
-    match byte {
-        b'#' => Cell::Wall,
-        b'.' => Cell::Goal,
-        b'$' => Cell::Box,
-        b'@' => Cell::Player,
-        _ => Cell::Floor,
-    }
-}
-
-fn level_of(rt: &impl Abort, alloc: Global, board: (usize, &[u8])) -> Level {
-    let (cols, bytes) = board;
-    let mut cells = Vec::new(alloc);
-    for byte in bytes {
-        cells.push(cell_of(*byte)).expect(rt, "memory");
-    }
-    assert!(rt; cols >= 1);
-    assert!(rt; cells.len() % cols == 0);
-    Level::from_cells(alloc, cols, cells).expect(rt, "a level")
-}
 
 fn letter_of(dir: Dir) -> u8 {
     match dir {
@@ -64,7 +45,7 @@ fn is_text(moves: &Moves, text: &[u8]) -> bool {
 
 #[test]
 fn normal_positions_have_the_least_square_of_the_area(rt: HostRuntime) {
-    let rows: [((usize, &[u8]), u16, u16, u16); 3] = [
+    let rows: [(Text, u16, u16, u16); 3] = [
         (HALL, 8, 22, 7),
         (LOOP, 21, 20, 12),
         (LOOP, 19, 18, 17),
@@ -104,12 +85,7 @@ fn is_beside(rt: &impl Abort, cols: usize, reached: &[bool], place: usize) -> bo
 }
 
 // What a player reaches, by rows and columns alone: what is reached grows until nothing is added.
-fn plain_flood(
-    rt: &impl Abort,
-    alloc: Global,
-    board: (usize, &[u8]),
-    position: &Position,
-) -> Vec<bool> {
+fn plain_flood(rt: &impl Abort, alloc: Global, board: Text, position: &Position) -> Vec<bool> {
     let (_, bytes) = board;
     let mut reached = Vec::new(alloc);
     for place in 0..bytes.len() {
@@ -131,7 +107,7 @@ fn plain_flood(
 fn spread(
     rt: &impl Abort,
     alloc: Global,
-    board: (usize, &[u8]),
+    board: Text,
     position: &Position,
     reached: &[bool],
 ) -> Vec<bool> {
@@ -150,13 +126,7 @@ fn spread(
 }
 
 // Floods twice in the same memory, and compares what is reached with a plain flood.
-fn compare(
-    rt: &impl Abort,
-    alloc: Global,
-    board: (usize, &[u8]),
-    level: &Level,
-    position: &Position,
-) {
+fn compare(rt: &impl Abort, alloc: Global, board: Text, level: &Level, position: &Position) {
     let first = Position::start(level).expect(rt, "a position");
     let mut scratch = Scratch::new(alloc, level).expect(rt, "memory");
     flood_twice(rt, level, &first, position, &mut scratch);
@@ -209,7 +179,7 @@ fn floods_with_two_boxes_reach_what_a_plain_flood_reaches(rt: HostRuntime) {
 fn compare_with(
     rt: &impl Abort,
     alloc: Global,
-    board: (usize, &[u8]),
+    board: Text,
     level: &Level,
     boxes: &[Square],
     player: Square,
@@ -247,7 +217,7 @@ fn pushed(level: &Level, position: &Position, push: Push, scratch: &mut Scratch)
 
 #[test]
 fn after_a_push_the_normal_position_is_that_of_a_flood(rt: HostRuntime) {
-    let rows: [((usize, &[u8]), u16, u16, Dir, u16, u16); 5] = [
+    let rows: [(Text, u16, u16, Dir, u16, u16); 5] = [
         (HALL, 8, 9, Dir::L, 7, 8),
         (HALL, 9, 10, Dir::L, 8, 7),
         (HALL, 9, 7, Dir::R, 10, 7),

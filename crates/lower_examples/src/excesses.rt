@@ -1,44 +1,25 @@
+//! What two boxes need above what each needs by itself.
 ghost use Rattle.std.specs.Prelude.{◌≡◌};
 
-use crate::Pairs;
-use crate::laws::excess_adds_up;
-use grid::{Cell, Level, Position};
+use crate::boards::{Text, level_of};
+use grid::{Level, Position};
+use pairs::Pairs;
+use pairs::laws::excess_adds_up;
 use prices::{Distances, Matching};
 use std::alloc::Global;
 use std::process::Abort;
 
 // two boxes side by side, with their goals beyond
-const BLOCKED: (usize, &[u8]) = (7, b"########     ##     ##@$$..##     ##     ########");
+const BLOCKED: Text = (7, b"########     ##     ##@$$..##     ##     ########");
 
 // the same in a corridor
-const CORRIDOR: (usize, &[u8]) = (7, b"########@$$..########");
+const CORRIDOR: Text = (7, b"########@$$..########");
 
 // each box has a goal below it
-const FREE: (usize, &[u8]) = (6, b"#######    ##@$$ ## .. #######");
+const FREE: Text = (6, b"#######    ##@$$ ## .. #######");
 
 // the player is between the boxes, and each has a goal beyond it
-const BETWEEN: (usize, &[u8]) = (9, b"##########. $@$ .##########");
-
-fn cell_of(byte: u8) -> Cell {
-    match byte {
-        b'#' => Cell::Wall,
-        b'.' => Cell::Goal,
-        b'$' => Cell::Box,
-        b'@' => Cell::Player,
-        _ => Cell::Floor,
-    }
-}
-
-fn level_of(rt: &impl Abort, alloc: Global, board: (usize, &[u8])) -> Level {
-    let (cols, bytes) = board;
-    let mut cells = Vec::new(alloc);
-    for byte in bytes {
-        cells.push(cell_of(*byte)).expect(rt, "memory");
-    }
-    assert!(rt; cols >= 1);
-    assert!(rt; cells.len() % cols == 0);
-    Level::from_cells(alloc, cols, cells).expect(rt, "a level")
-}
+const BETWEEN: Text = (9, b"##########. $@$ .##########");
 
 fn pairs_of(rt: &impl Abort, alloc: Global, level: &Level) -> Pairs
     ensures { result ≡ level.now }
@@ -48,7 +29,7 @@ fn pairs_of(rt: &impl Abort, alloc: Global, level: &Level) -> Pairs
 }
 
 // The least number of pushes that the pairs do not refuse at the start of a level, up to so many.
-fn least_of(rt: &impl Abort, alloc: Global, board: (usize, &[u8]), end: u32) -> u32 {
+fn least_of(rt: &impl Abort, alloc: Global, board: Text, end: u32) -> u32 {
     let level = level_of(rt, alloc, board);
     let pairs = pairs_of(rt, alloc, &level);
     let position = Position::start(&level).expect(rt, "few boxes");

@@ -1,10 +1,12 @@
+//! The bound by the player's side and a matching of boxes with goals, held to a slow search.
 ghost use Rattle.std.specs.Prelude.{◌≡◌};
 ghost use Rattle.grid.specs.States.{FitsLevel};
 
-use crate::laws::{a_first_push_leads_on, needs_are_bounds};
-use crate::{Distances, Matching, NEVER};
+use crate::boards::{Text, level_of};
 use doom::Bound;
-use grid::{Cell, Dir, Level, Position, Square};
+use grid::{Dir, Level, Position, Square};
+use prices::laws::{a_first_push_leads_on, needs_are_bounds};
+use prices::{Distances, Matching, NEVER};
 use std::alloc::Global;
 use std::process::Abort;
 
@@ -12,56 +14,33 @@ use std::process::Abort;
 const LOST: u64 = u64::MAX;
 
 // the player cannot come to the other side of the box
-const WRONG_SIDE: (usize, &[u8]) = (6, b"#######.@$ #######");
+const WRONG_SIDE: Text = (6, b"#######.@$ #######");
 
 // the same with a way round
-const WAY_ROUND: (usize, &[u8]) = (6, b"#######    ##.@$ ##    #######");
+const WAY_ROUND: Text = (6, b"#######    ##.@$ ##    #######");
 
 // both boxes are nearest to one goal
-const ONE_NEAR: (usize, &[u8]) = (8, b"#########      ##.$$  .##  @   ##      #########");
+const ONE_NEAR: Text = (8, b"#########      ##.$$  .##  @   ##      #########");
 
 // each box reaches the goal on the left alone
-const ONE_GOAL_FOR_TWO: (usize, &[u8]) = (9, b"##########.$ $@ .##########");
+const ONE_GOAL_FOR_TWO: Text = (9, b"##########.$ $@ .##########");
 
-const TWO_ROOMS: (usize, &[u8]) = (8, b"#########. @ $.####  $##########");
+const TWO_ROOMS: Text = (8, b"#########. @ $.####  $##########");
 
-const TWO_BOXES: (usize, &[u8]) = (6, b"#######    ##@$$ ## .. #######");
+const TWO_BOXES: Text = (6, b"#######    ##@$$ ## .. #######");
 
-const THREE_BOXES: (usize, &[u8]) = (5, b"######@  ##$$$##...######");
+const THREE_BOXES: Text = (5, b"######@  ##$$$##...######");
 
-const LONG_HALL: (usize, &[u8]) = (10, b"###########. $ @$ .##### ########  ###############");
+const LONG_HALL: Text = (10, b"###########. $ @$ .##### ########  ###############");
 
 // rooms that the box cuts at many squares
-const DOORS: (usize, &[u8]) = (
+const DOORS: Text = (
     10,
     b"###########    #   ## @$   . ##    #   ##### ##  ##        ###########",
 );
 
-fn cell_of(byte: u8) -> Cell {
-    match byte {
-        b'#' => Cell::Wall,
-        b'.' => Cell::Goal,
-        b'$' => Cell::Box,
-        b'*' => Cell::BoxOnGoal,
-        b'@' => Cell::Player,
-        b'+' => Cell::PlayerOnGoal,
-        _ => Cell::Floor,
-    }
-}
-
-fn level_of(rt: &impl Abort, alloc: Global, board: (usize, &[u8])) -> Level {
-    let (cols, bytes) = board;
-    let mut cells = Vec::new(alloc);
-    for byte in bytes {
-        cells.push(cell_of(*byte)).expect(rt, "memory");
-    }
-    assert!(rt; cols >= 1);
-    assert!(rt; cells.len() % cols == 0);
-    Level::from_cells(alloc, cols, cells).expect(rt, "a level")
-}
-
 // What the bound says of the start of a level.
-fn lower_of(rt: &impl Abort, alloc: Global, board: (usize, &[u8])) -> u64 {
+fn lower_of(rt: &impl Abort, alloc: Global, board: Text) -> u64 {
     let level = level_of(rt, alloc, board);
     let distances = distances_of(rt, alloc, &level);
     let position = Position::start(&level).expect(rt, "few boxes");

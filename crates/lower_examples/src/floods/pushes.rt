@@ -1,15 +1,17 @@
+//! The pushes that a position allows.
 ghost use Rattle.std.specs.Prelude.{◌≡◌, length};
 ghost use Rattle.grid.specs.States.{FitsLevel};
 
-use super::{PAIR, level_of};
-use crate::{Scratch, possible_pushes};
+use super::PAIR;
+use crate::boards::{Text, level_of};
+use area::{Scratch, possible_pushes};
 use arrayvec::ArrayVec;
 use grid::{Dir, Level, Position, Square};
 use std::alloc::Global;
 use std::process::Abort;
 
 // A field that begins anew on a second word of squares, with two boxes.
-const FIELD: (usize, &[u8]) = (
+const FIELD: Text = (
     10,
     b"###########@$.     ##  $.    ##        ##        ##        ##        ##        ###########",
 );
@@ -39,7 +41,7 @@ fn allows(
 
 #[test]
 fn boxes_are_pushed_from_reached_squares_onto_free_ones(rt: HostRuntime) {
-    let rows: [((usize, &[u8]), [u16; 2], u16, &[(u16, Dir)]); 6] = [
+    let rows: [(Text, [u16; 2], u16, &[(u16, Dir)]); 6] = [
         (PAIR, [13, 20], 7, &[(13, Dir::D), (20, Dir::L)]),
         (PAIR, [8, 9], 7, &[]),
         (PAIR, [9, 15], 7, &[(9, Dir::L), (9, Dir::R)]),

@@ -1,10 +1,11 @@
+//! Collections: their boards, the faults of these, their names, and how a level is written.
 ghost use Rattle.std.specs.Prelude.{◌≤◌};
 
-use crate::{Entry, read, write};
 use grid::{Level, LevelFault, MAX_BOXES, MAX_COLS, MAX_ROWS, Square};
 use std::alloc::Global;
 use std::process::Abort;
 use std::test::Fail;
+use xsb::{Entry, read, write};
 
 mod one_by_one;
 

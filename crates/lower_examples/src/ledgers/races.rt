@@ -3,7 +3,7 @@ ghost use Rattle.std.specs.Prelude.{◌≡◌};
 ghost use Rattle.std.specs.Arc.{arc_value};
 ghost use Rattle.claims.specs.Hands.{newcomer};
 
-use crate::{Drawer, Ledger};
+use claims::{Drawer, Ledger};
 use std::alloc::Global;
 use std::process::Abort;
 use std::sync::Arc;

@@ -1,93 +1,72 @@
+//! Dead squares, the bound of lone squares, and the freeze tests.
 ghost use Rattle.std.specs.Prelude.{◌≡◌, length};
 ghost use Rattle.grid.specs.States.{FitsLevel};
 
-use crate::laws::{
+use crate::boards::{Text, level_of};
+use area::Scratch;
+use doom::laws::{
     a_loose_box_dooms_nothing, a_push_lessens_the_bound_by_one, doomed_are_lost, solution_is_safe,
 };
-use crate::{Bound, Dangers, Dead, doomed, doomed_after, is_loose, push_dooms};
-use area::Scratch;
-use grid::{Cell, Dir, Level, Position, Push, Square};
+use doom::{Bound, Dangers, Dead, doomed, doomed_after, is_loose, push_dooms};
+use grid::{Dir, Level, Position, Push, Square};
 use std::alloc::Global;
 use std::process::Abort;
 
-const PUSH_RIGHT: (usize, &[u8]) = (5, b"######@$.######");
+const PUSH_RIGHT: Text = (5, b"######@$.######");
 
-const SOLVED: (usize, &[u8]) = (4, b"#####@*#####");
+const SOLVED: Text = (4, b"#####@*#####");
 
-const CORNER: (usize, &[u8]) = (5, b"######.  ## $ ##  @######");
+const CORNER: Text = (5, b"######.  ## $ ##  @######");
 
-const TWO_ENDS: (usize, &[u8]) = (7, b"########.$@$.########");
+const TWO_ENDS: Text = (7, b"########.$@$.########");
 
-const PAIR_AT_WALL: (usize, &[u8]) = (6, b"#######.$$.##  @ #######");
+const PAIR_AT_WALL: Text = (6, b"#######.$$.##  @ #######");
 
-const COLUMN_AT_WALL: (usize, &[u8]) = (5, b"######.  ##$  ##$ @##.  ######");
+const COLUMN_AT_WALL: Text = (5, b"######.  ##$  ##$ @##.  ######");
 
-const NO_PUSH: (usize, &[u8]) = (8, b"#########@ # $.#########");
+const NO_PUSH: Text = (8, b"#########@ # $.#########");
 
-const BETWEEN_DEAD: (usize, &[u8]) = (5, b"#######.####$### $ ## @.######");
+const BETWEEN_DEAD: Text = (5, b"#######.####$### $ ## @.######");
 
-const DEAD_ROWS: (usize, &[u8]) = (6, b"#######    ## @$.#######");
+const DEAD_ROWS: Text = (6, b"#######    ## @$.#######");
 
-const BESIDE_A_FREE_BOX: (usize, &[u8]) = (7, b"########  #  ##. $$ ##@  . ########");
+const BESIDE_A_FREE_BOX: Text = (7, b"########  #  ##. $$ ##@  . ########");
 
-const ABOVE_A_FREE_BOX: (usize, &[u8]) = (5, b"###### .@##   ###$ ## $.##   ######");
+const ABOVE_A_FREE_BOX: Text = (5, b"###### .@##   ###$ ## $.##   ######");
 
-const THERE_AND_BACK: (usize, &[u8]) = (8, b"############   ##.@$   #####   #########");
+const THERE_AND_BACK: Text = (8, b"############   ##.@$   #####   #########");
 
-const ALL_HOME: (usize, &[u8]) = (
+const ALL_HOME: Text = (
     35,
     b"####################################@********************************####################################",
 );
 
-const COLUMN_IN_TWO_WORDS: (usize, &[u8]) = (
+const COLUMN_IN_TWO_WORDS: Text = (
     8,
     b"#########.     ##      ##      ##      ##      ##      ##$     ##$ @   ##      ##.     #########",
 );
 
-const PAIR_IN_TWO_WORDS: (usize, &[u8]) = (
+const PAIR_IN_TWO_WORDS: Text = (
     10,
     b"###########        ##        ##        ##        ##   @    ##. $$   .###########",
 );
 
-const ONE_AFTER_ANOTHER: (usize, &[u8]) = (
+const ONE_AFTER_ANOTHER: Text = (
     10,
     b"###########        ##        ##        ##  ...   ##        ##  $$    ##   $@   ##        ###########",
 );
 
-const THREE_FROZEN: (usize, &[u8]) = (7, b"########@    ###$   ## $$. ## .#. ##     ########");
+const THREE_FROZEN: Text = (7, b"########@    ###$   ## $$. ## .#. ##     ########");
 
-const THREE_FREE: (usize, &[u8]) = (7, b"########@    ###  $ ## $$. ## .#. ##     ########");
+const THREE_FREE: Text = (7, b"########@    ###  $ ## $$. ## .#. ##     ########");
 
-const DEAD_ELSEWHERE: (usize, &[u8]) = (7, b"########@   $###  $ ##  $. ## .#. ##     ########");
+const DEAD_ELSEWHERE: Text = (7, b"########@   $###  $ ##  $. ## .#. ##     ########");
 
-const THREE_BEFORE: (usize, &[u8]) = (7, b"########     ### $@ ## $$. ## .#. ##     ########");
-
-fn cell_of(byte: u8) -> Cell {
-    match byte {
-        b'#' => Cell::Wall,
-        b'.' => Cell::Goal,
-        b'$' => Cell::Box,
-        b'*' => Cell::BoxOnGoal,
-        b'@' => Cell::Player,
-        b'+' => Cell::PlayerOnGoal,
-        _ => Cell::Floor,
-    }
-}
-
-fn level_of(rt: &impl Abort, alloc: Global, board: (usize, &[u8])) -> Level {
-    let (cols, bytes) = board;
-    let mut cells = Vec::new(alloc);
-    for byte in bytes {
-        cells.push(cell_of(*byte)).expect(rt, "memory");
-    }
-    assert!(rt; cols >= 1);
-    assert!(rt; cells.len() % cols == 0);
-    Level::from_cells(alloc, cols, cells).expect(rt, "a level")
-}
+const THREE_BEFORE: Text = (7, b"########     ### $@ ## $$. ## .#. ##     ########");
 
 #[test]
 fn live_squares_are_those_that_reach_a_goal(rt: HostRuntime) {
-    let rows: [((usize, &[u8]), &[u16]); 6] = [
+    let rows: [(Text, &[u16]); 6] = [
         (PUSH_RIGHT, &[7, 8]),
         (CORNER, &[6, 7, 11, 12]),
         (TWO_ENDS, &[8, 9, 10, 11, 12]),
@@ -132,7 +111,7 @@ fn a_box_needs_pushes(rt: HostRuntime) {
 
 #[test]
 fn boxes_need_the_sum_of_their_pushes(rt: HostRuntime) {
-    let rows: [((usize, &[u8]), &[Square], u16, Option<u32>); 8] = [
+    let rows: [(Text, &[Square], u16, Option<u32>); 8] = [
         (TWO_ENDS, &[Square(9), Square(11)], 10, Some(2)),
         (TWO_ENDS, &[Square(8), Square(11)], 9, Some(1)),
         (TWO_ENDS, &[Square(9), Square(12)], 10, Some(1)),
@@ -152,7 +131,7 @@ fn boxes_need_the_sum_of_their_pushes(rt: HostRuntime) {
 fn needed(
     rt: &impl Abort,
     alloc: Global,
-    board: (usize, &[u8]),
+    board: Text,
     boxes: &[Square],
     player: Square,
 ) -> Option<u32> {

@@ -1,7 +1,7 @@
 use Rattle.std.proofs.Common.{◌≡◌, [], ◌∷◌}
 use Rattle.std.proofs.lemmas.List.Elements.{All-nil, All-cons, All-same}
 use Rattle.claims.specs.Hands.{DrawerView}
-use Rattle.claims.proofs.tests.audit_three.Goals as goal
+use Rattle.lower_examples.proofs.ledgers.audit_three.Goals as goal
 
 pub audit-requires : goal.audit-requires
 audit-requires g c =

@@ -1,5 +1,6 @@
-use crate::{LurdFault, Verdict, parse, replay, write};
-use grid::{Cell, Level, Moves};
+//! Solutions: what a text of letters is, what a play of it comes to, and how it is written.
+use grid::{Cell, Level};
+use lurd::{LurdFault, Verdict, parse, replay, write};
 use std::alloc::Global;
 use std::test::Fail;
 

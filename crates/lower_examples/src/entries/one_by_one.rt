@@ -1,9 +1,10 @@
 //! Collections that are read board by board, and levels that are made of boards.
 use super::{Shape, shape};
-use crate::{BoardEntry, Collection, Entry};
-use grid::{Board, Cell, Level, LevelFault, Square};
+use crate::boards::cells_of;
+use grid::{Board, Level, LevelFault, Square};
 use std::alloc::Global;
 use std::process::Abort;
+use xsb::{BoardEntry, Collection, Entry};
 
 const BOARDS: &[u8] = b"; one\n#####\n#@$.#\n#####\n\n####\n#@$.\n####\nTitle: two\n";
 
@@ -56,21 +57,8 @@ fn entries_are_made_of_boards(rt: HostRuntime) {
     is_entry(&rt, &other, b"two", 6, Err(LevelFault::Open));
 }
 
-fn cell_of(byte: u8) -> Cell {
-    match byte {
-        b'#' => Cell::Wall,
-        b'.' => Cell::Goal,
-        b'$' => Cell::Box,
-        b'@' => Cell::Player,
-        _ => Cell::Floor,
-    }
-}
-
 fn hall(rt: &impl Abort, alloc: Global) -> Board {
-    let mut cells = Vec::new(alloc);
-    for byte in HALL {
-        cells.push(cell_of(*byte)).expect(rt, "memory");
-    }
+    let cells = cells_of(rt, alloc, HALL);
     assert!(rt; cells.len() % 5 == 0);
     Board::from_cells(alloc, 5, cells).expect(rt, "a board")
 }
