@@ -6,14 +6,14 @@
 //! After a flood of the position, `find` looks for a corral. Where it says `true`, a push of a box on a square that `Corral::holds`
 //! suffices.
 //!
-//! With the `level` of a row in which a wall parts the player from a box beside its goal:
+//! With references to the `level` of a row in which a wall parts the player from a box beside its goal, and to what else is
+//! named, this is `true`:
 //!
 //! ```text
-//! area::flood(&level, &start, &mut scratch);
+//! area::flood(level, start, scratch);
 //! // one push is left after the next
-//! let slack = Slack::of(&distances, &start, 1, &matching);
-//! let found = corrals::find(&level, &dead, &start, &scratch, &slack, &mut corral);
-//! assert!(&rt; found);
+//! let slack = Slack::of(distances, start, 1, &matching);
+//! corrals::find(level, dead, start, scratch, &slack, corral)
 //! ```
 #![tactic(auto)]
 

@@ -1,4 +1,7 @@
 //! The examples on the pages of the crates, at the head of each `lib.rt`. `tests/cited` holds each page to the text here.
+ghost use Rattle.std.specs.Prelude.{◌≡◌, length};
+ghost use Rattle.grid.specs.States.{FitsLevel};
+
 use crate::boards::{APART, BLOCKED, CORNER, ONE, TWO_ENDS};
 use crate::books::level_of;
 use area::Scratch;
@@ -6,7 +9,7 @@ use claims::Ledger;
 use corrals::Corral;
 use crew::{Config, Free};
 use doom::Dead;
-use grid::{Dir, Position, Square, State, Step};
+use grid::{Dir, Level, Position, Square, State, Step};
 use layers::{Book, Layer};
 use lurd::Verdict;
 use pairs::Pairs;
@@ -14,6 +17,8 @@ use prices::{Distances, Matching, Slack};
 use prover::{Effort, Outcome};
 use sokopar::{Reader, Writer, run_check};
 use solo::{Answer, solve_alone};
+use std::alloc::Global;
+use std::process::Abort;
 use std::slice;
 use store::Found;
 use successors::share_of;
@@ -106,24 +111,64 @@ fn page_of_prices(rt: HostRuntime) {
     assert!(&rt; !distances.needs_more(&start, 2, &mut matching));
 }
 
+/// Whether a corral is found at the start of a level.
+fn finds_corral(
+    level: &Level,
+    start: &Position,
+    dead: &Dead,
+    distances: &Distances,
+    scratch: &mut Scratch,
+    corral: &mut Corral,
+) -> bool
+    requires fits { FitsLevel level.now start.now }
+    requires dead { dead.now ≡ level.now }
+    requires distances { distances.now.level ≡ level.now }
+    requires room { scratch.old.size ≡ length level.now.cells }
+{
+    let mut matching = Matching::new();
+    distances.meet(start, &mut matching);
+    area::flood(level, start, scratch);
+    // one push is left after the next
+    let slack = Slack::of(distances, start, 1, &matching);
+    corrals::find(level, dead, start, scratch, &slack, corral)
+}
+
+/// Checks that a corral is found that holds the box.
+fn check_corral(
+    rt: &impl Abort,
+    alloc: Global,
+    level: &Level,
+    start: &Position,
+    dead: &Dead,
+    distances: &Distances,
+)
+    requires fits { FitsLevel level.now start.now }
+    requires dead { dead.now ≡ level.now }
+    requires distances { distances.now.level ≡ level.now }
+{
+    let mut scratch = Scratch::new(alloc, level).expect(rt, "memory");
+    let mut corral = Corral::new(alloc, level).expect(rt, "memory");
+    let found = finds_corral(level, start, dead, distances, &mut scratch, &mut corral);
+    assert!(rt; found);
+    assert!(rt; corral.holds(Square(13)));
+}
+
+/// The same for the start of this level.
+fn check_start(rt: &impl Abort, alloc: Global, level: &Level, start: &Position)
+    requires { FitsLevel level.now start.now }
+{
+    let dead = Dead::of(alloc, level).expect(rt, "memory");
+    let distances = Distances::of(alloc, level).expect(rt, "memory");
+    check_corral(rt, alloc, level, start, &dead, &distances);
+}
+
 #[test]
 fn page_of_corrals(rt: HostRuntime) {
     let alloc = rt.alloc();
     let level = level_of(&rt, alloc, APART);
     level.tell_start();
     let start = Position::start(&level).expect(&rt, "few boxes");
-    let dead = Dead::of(alloc, &level).expect(&rt, "memory");
-    let distances = Distances::of(alloc, &level).expect(&rt, "memory");
-    let mut matching = Matching::new();
-    distances.meet(&start, &mut matching);
-    let mut scratch = Scratch::new(alloc, &level).expect(&rt, "memory");
-    let mut corral = Corral::new(alloc, &level).expect(&rt, "memory");
-    area::flood(&level, &start, &mut scratch);
-    // one push is left after the next
-    let slack = Slack::of(&distances, &start, 1, &matching);
-    let found = corrals::find(&level, &dead, &start, &scratch, &slack, &mut corral);
-    assert!(&rt; found);
-    assert!(&rt; corral.holds(Square(13)));
+    check_start(&rt, alloc, &level, &start);
 }
 
 #[test]

@@ -57,19 +57,29 @@ fn lead_to(rt: &impl Abort, alloc: Global, layers: &[Layer]) -> Vec<u8>
     text
 }
 
+/// The text of the play that leads to the first position of the last of so many layers.
+fn lead_of(rt: &impl Abort, alloc: Global, count: u64) -> Vec<u8>
+    requires { 1 ≤ count }
+{
+    let mut book = book_of(rt, alloc, THERE_AND_BACK, AMPLE);
+    let layers = first_layers(rt, alloc, &mut book, count);
+    lead_to(rt, alloc, layers.as_slice())
+}
+
+/// Checks the play that leads through so many layers.
+fn check_lead(rt: &impl Abort, alloc: Global, count: u64, play: &[u8])
+    requires { 1 ≤ count }
+{
+    let text = lead_of(rt, alloc, count);
+    assert!(rt; text.as_slice() == play, "{count} layers");
+}
+
 #[test]
 fn the_box_is_led_there_and_back(rt: HostRuntime) {
     let alloc = rt.alloc();
-    for (count, play) in [
-        (1, ""),
-        (2, "R"),
-        (3, "RR"),
-        (4, "RRdrruL"),
-        (7, "RRdrruLLLL"),
-    ] {
-        let mut book = book_of(&rt, alloc, THERE_AND_BACK, AMPLE);
-        let layers = first_layers(&rt, alloc, &mut book, count);
-        let text = lead_to(&rt, alloc, layers.as_slice());
-        assert!(rt; text.as_slice() == play.as_bytes(), "{count} layers");
-    }
+    check_lead(&rt, alloc, 1, b"");
+    check_lead(&rt, alloc, 2, b"R");
+    check_lead(&rt, alloc, 3, b"RR");
+    check_lead(&rt, alloc, 4, b"RRdrruL");
+    check_lead(&rt, alloc, 7, b"RRdrruLLLL");
 }
