@@ -49,7 +49,7 @@ fn lower_of(rt: &impl Abort, alloc: Global, board: Text) -> u64 {
 }
 
 fn distances_of(rt: &impl Abort, alloc: Global, level: &Level) -> Distances
-    ensures { result ≡ level.now }
+    ensures { result.level ≡ level.now }
 {
     assert!(rt; level.boxes() <= 64);
     Distances::of(alloc, level).expect(rt, "memory")
@@ -91,7 +91,7 @@ fn more_than_the_bound_is_not_refused(rt: HostRuntime) {
 // All positions of a level with at most three boxes, in the order of their squares.
 fn all_positions(rt: &impl Abort, alloc: Global, level: &Level) -> Vec<Position> {
     let mut found = Vec::new(alloc);
-    let last = level.squares() as u16;
+    let last = u16::try_from(level.squares()).unwrap_or(u16::MAX);
     for first in 0..last {
         if level.boxes() == 1 {
             add_players(rt, level, &[Square(first)], &mut found);
@@ -116,8 +116,9 @@ fn add_players(rt: &impl Abort, level: &Level, boxes: &[Square], found: &mut Vec
     if boxes.iter().any(|square| level.is_wall(*square)) {
         return;
     }
-    for index in 0..level.squares() {
-        if let Some(position) = Position::of(boxes, Square(index as u16)) {
+    let last = u16::try_from(level.squares()).unwrap_or(u16::MAX);
+    for index in 0..last {
+        if let Some(position) = Position::of(boxes, Square(index)) {
             if position.fits(level) {
                 found.push(position).expect(rt, "memory");
             }
@@ -126,8 +127,15 @@ fn add_players(rt: &impl Abort, level: &Level, boxes: &[Square], found: &mut Vec
 }
 
 // Where a step in a direction leads by the rules, and whether it pushes; none where it is not possible.
-fn stepped(level: &Level, position: &Position, dir: Dir) -> Option<(Position, bool)> {
+fn stepped(
+    rt: &impl Abort,
+    level: &Level,
+    position: &Position,
+    dir: Dir,
+) -> Option<(Position, bool)> {
+    assert!(rt; usize::from(position.player().0) < level.squares());
     let ahead = level.next(position.player(), dir);
+    assert!(rt; usize::from(ahead.0) < level.squares());
     if level.is_wall(ahead) {
         return None;
     }
@@ -154,7 +162,7 @@ fn steps_of(
     let mut steps = Vec::new(alloc);
     for (place, position) in positions.iter().enumerate() {
         for dir in Dir::ALL {
-            if let Some((after, pushed)) = stepped(level, position, dir) {
+            if let Some((after, pushed)) = stepped(rt, level, position, dir) {
                 let to = positions.iter().position(|other| *other == after);
                 let step = (place, to.expect(rt, "a position"), u64::from(pushed));
                 steps.push(step).expect(rt, "memory");
@@ -168,7 +176,23 @@ fn is_solved(level: &Level, position: &Position) -> bool {
     position.boxes().iter().all(|square| level.is_goal(*square))
 }
 
-// The least pushes with which a play from each position ends solved, by the rules alone.
+// Lowers what each step leads from to what it leads to and its pushes, where that is less, and says whether any was lowered.
+fn lower_each(rt: &impl Abort, steps: &[(usize, usize, u64)], least: &mut [u64]) -> bool {
+    let mut changed = false;
+    for (from, to, pushes) in steps {
+        assert!(rt; *from < least.len());
+        assert!(rt; *to < least.len());
+        let through = least[*to].saturating_add(*pushes);
+        if through < least[*from] {
+            least[*from] = through;
+            changed = true;
+        }
+    }
+    changed
+}
+
+// The least pushes with which a play from each position ends solved, by the rules alone. The shortest of these plays have fewer
+// steps than there are positions.
 fn least_pushes(rt: &impl Abort, alloc: Global, level: &Level, positions: &[Position]) -> Vec<u64> {
     let steps = steps_of(rt, alloc, level, positions);
     let mut least = Vec::new(alloc);
@@ -176,15 +200,9 @@ fn least_pushes(rt: &impl Abort, alloc: Global, level: &Level, positions: &[Posi
         let pushes = if is_solved(level, position) { 0 } else { LOST };
         least.push(pushes).expect(rt, "memory");
     }
-    let mut changed = true;
-    while changed {
-        changed = false;
-        for (from, to, pushes) in steps.as_slice() {
-            let through = least[*to].saturating_add(*pushes);
-            if through < least[*from] {
-                least[*from] = through;
-                changed = true;
-            }
+    for _ in positions {
+        if !lower_each(rt, steps.as_slice(), least.as_mut_slice()) {
+            break;
         }
     }
     least
@@ -215,6 +233,8 @@ fn compare_all(rt: &impl Abort, alloc: Global, level: &Level, row: usize) {
     let bound = Bound::of(alloc, level).expect(rt, "memory");
     let mut matching = Matching::new();
     for (place, position) in positions.as_slice().iter().enumerate() {
+        assert!(rt; position.fits(level));
+        assert!(rt; place < least.len());
         let low = distances.lower(position, &mut matching);
         let alone = match bound.lower(position) {
             Some(pushes) => u64::from(pushes),
@@ -248,6 +268,8 @@ fn compare_one(rt: &impl Abort, alloc: Global, level: &Level, row: usize) {
     let distances = distances_of(rt, alloc, level);
     let mut matching = Matching::new();
     for (place, position) in positions.as_slice().iter().enumerate() {
+        assert!(rt; position.fits(level));
+        assert!(rt; place < least.len());
         let low = distances.lower(position, &mut matching);
         let pushes = least[place].min(u64::from(NEVER));
         assert_eq!(rt; low, pushes, "row {row}, place {place}");

@@ -198,6 +198,7 @@ fn page_of_store(rt: HostRuntime) {
     let alloc = rt.alloc();
     let level = level_of(&rt, alloc, CORNER);
     level.tell_start();
+    assert!(&rt; level.boxes() == 1);
     let first = Position::start(&level);
     let found = Found::of(alloc, level.boxes(), level.squares(), &first).expect(&rt, "memory");
     assert_eq!(&rt; found.closed_len(), 1);
