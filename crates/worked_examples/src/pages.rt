@@ -157,6 +157,7 @@ fn check_corral(
 fn check_start(rt: &impl Abort, alloc: Global, level: &Level, start: &Position)
     requires { FitsLevel level.now start.now }
 {
+    assert!(rt; level.boxes() <= 64);
     let dead = Dead::of(alloc, level).expect(rt, "memory");
     let distances = Distances::of(alloc, level).expect(rt, "memory");
     check_corral(rt, alloc, level, start, &dead, &distances);
