@@ -160,8 +160,8 @@ round_on board most v u w cut benches sieves i lt_n grown grows fit all_in round
     grows (fit (all_found board most v.seen cut benches round.worked round.whole) under.fit) entered
 
 -- before the first bench the search has come to where they begin
-pub round_start : (all : List Seen) (board : Board) (most : ℕ) (cut : Cut) (benches : List Bench) (sieves : List Sieve) → IsRound board most all cut benches sieves
-    → IsUnderWay board most all (stretch_start cut 0)
+pub round_start : (all : List Seen) (board : Board) (most : ℕ) (cut : Cut) (benches : List Bench) (sieves : List Sieve) →
+    IsRound board most all cut benches sieves → IsUnderWay board most all (stretch_start cut 0)
 round_start all board most cut benches sieves round = subst (IsUnderWay board most all) (sym (start_first cut)) round.under_way
 
 -- after the last bench the search has come to the end of the stretches
