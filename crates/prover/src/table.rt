@@ -77,10 +77,10 @@ pub(crate) fn slot_of(hash: u64, place: usize) -> Slot {
 }
 
 /// For fewer places than so many a further thread would take longer than it spares.
-const LEAST_PLACES: usize = 2048;
+const LEAST_PLACES: usize = 4096;
 
 /// So many hashes are made at most before their places are written.
-const MOST_HASHES: usize = 1 << 16;
+const MOST_HASHES: usize = 1 << 15;
 
 /// How many hashes are made at a time for so many positions.
 pub(crate) fn hashes_for(positions: usize) -> usize {
