@@ -77,7 +77,7 @@ pub(crate) fn slot_of(hash: u64, place: usize) -> Slot {
 }
 
 /// For fewer places than so many a further thread would take longer than it spares.
-const LEAST_PLACES: usize = 4096;
+const LEAST_PLACES: usize = 2048;
 
 /// So many hashes are made at most before their places are written.
 const MOST_HASHES: usize = 1 << 15;
