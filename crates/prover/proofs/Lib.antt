@@ -5,3 +5,4 @@ pub mod Progressing
 pub mod OnGoals
 pub mod Judgements
 pub mod Stretches
+pub mod Sieves

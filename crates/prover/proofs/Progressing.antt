@@ -1,9 +1,10 @@
 -- Steps of a search, over plain lists of what was seen.
-use Rattle.std.proofs.Common.{◌≡◌, ℕ, zero, suc, ◌+◌, ◌≤◌, ◌<◌, ◌⊎◌, Bool, true, false, IsTrue, List, [], ◌∷◌, ◌++◌, length, Some, Result, Ok, Err, OnOk, OnErr}
+use Rattle.std.proofs.Common.{◌≡◌, ℕ, zero, suc, ◌+◌, ◌-◌, ◌≤◌, ◌<◌, ◌⊎◌, Bool, true, false, IsTrue, List, [], ◌∷◌, ◌++◌, length}
+use Rattle.std.proofs.Common.{Some, Result, Ok, Err, OnOk, OnErr}
 use Rattle.std.proofs.Common.{get_or, inl, inr, refl, sym, ap, subst, ◌∙◌, append-nil, append_assoc, arith}
 use Rattle.std.proofs.lemmas.Bool.{cases_lt, false≢true}
 use Rattle.std.proofs.lemmas.Option.{same_Some, slice_get_within, slice_get_read}
-use Rattle.std.specs.Prelude.{slice_get}
+use Rattle.std.specs.Prelude.{slice_get, slice_index_or}
 use Rattle.grid.specs.declared.square.Push.{Push}
 use Rattle.grid.specs.Board.{Board, Scene, start}
 use Rattle.grid.specs.States.{IsScene, FitsLevel}
@@ -12,12 +13,13 @@ use Rattle.grid.specs.Masks.{has_bit}
 use Rattle.area.specs.Area.{IsNorm}
 use Rattle.area.specs.Pushes.{ArePushes, CanPush}
 use Rattle.doom.specs.Lost.{IsLost}
-use Rattle.prices.specs.Solving.{NoneWithin}
-use Rattle.prices.proofs.lemmas.Solving.{none_is_not_solvable, norms_change_nothing}
+use Rattle.prices.specs.Solving.{NoneWithin, SolvableWithin}
+use Rattle.prices.proofs.lemmas.Solving.{none_fewer, none_is_not_solvable, norms_change_nothing}
 use Rattle.prover.specs.Frame.{Seen, IsSeen, Keeps}
 use Rattle.prover.specs.Pruning.{IsDone, after_push}
 use Rattle.prover.specs.inside.Entries.{EntriesView, Grows, IsReached}
 use Rattle.prover.specs.inside.Progress.{IsChosen, IsDoneWith, AreDoneWith, AllFit, AreExpanded, AreUnsolved, IsUnderWay}
+use Rattle.prover.specs.inside.Sifting.{AreIn}
 use Rattle.prover.proofs.lemmas.Frame.{search_decides}
 use Rattle.corrals.specs.Trying.{Suffice}
 use Rattle.corrals.specs.Corrals.{IsClosure}
@@ -183,15 +185,16 @@ expanded_more board most all v w from place x grows here before keeps i y ge lt 
 ]
 
 -- one more position has entered
-pub entered_more : (more : List Seen) (v w : EntriesView) (place : ℕ) (y : Seen) → Grows v w → slice_get more place ≡ Some y
-    → ((i : ℕ) (x : Seen) → i < place → slice_get more i ≡ Some x → IsSeen v.seen x.pushes x.scene) → IsSeen w.seen y.pushes y.scene
-    → (i : ℕ) (x : Seen) → i < place + 1 → slice_get more i ≡ Some x → IsSeen w.seen x.pushes x.scene
-entered_more more v w place y grows here before seen i x lt at = elim (cases_lt i place) [
-  | inl less ↦ seen_on v w x.pushes x.scene grows (before i x less at)
+pub entered_more : (more : List Seen) (marks : List Bool) (v w : EntriesView) (place : ℕ) (marked : Bool) → Grows v w →
+    marked ≡ slice_index_or marks place false
+    → ((i : ℕ) (x : Seen) → i < place → slice_get more i ≡ Some x → slice_index_or marks i false ≡ true → IsSeen v.seen x.pushes x.scene)
+    → ((x : Seen) → slice_get more place ≡ Some x → IsTrue marked → IsSeen w.seen x.pushes x.scene)
+    → (i : ℕ) (x : Seen) → i < place + 1 → slice_get more i ≡ Some x → slice_index_or marks i false ≡ true → IsSeen w.seen x.pushes x.scene
+entered_more more marks v w place marked grows is before now i x lt at yes_so = elim (cases_lt i place) [
+  | inl less ↦ seen_on v w x.pushes x.scene grows (before i x less at yes_so)
   | inr ge ↦
       let same : i ≡ place = omega (arith, lt, ge) in
-      let e : y ≡ x = same_Some y x (sym here ∙ (ap (λ (j : ℕ). slice_get more j) (sym same) ∙ at)) in
-      subst (λ (z : Seen). IsSeen w.seen z.pushes z.scene) e seen
+      now x (ap (λ (j : ℕ). slice_get more j) (sym same) ∙ at) (is ∙ (ap (λ (j : ℕ). slice_index_or marks j false) (sym same) ∙ yes_so))
 ]
 
 -- ---- the search
@@ -201,12 +204,21 @@ pub unsolved_on : (board : Board) (v w : EntriesView) (from to : ℕ) → Grows 
     AreUnsolved board w.seen from to
 unsolved_on board v w from to grows within unsolved i x ge lt at = unsolved i x ge lt (before_on v w i x grows (omega (arith, lt, within)) at)
 
--- a stretch was expanded, and what it leads to has entered
+-- what an expansion keeps may be given for anything else that holds of it where it is solvable with what is left
+pub keeps_in : (board : Board) (Kept More : Scene → Type 0) (most k : ℕ) (s : Scene)
+    → ((t : Scene) (m : ℕ) → k + suc m ≤ most → Kept t → SolvableWithin board m t → More t) → Keeps board most Kept k s → Keeps board most More k s
+keeps_in board Kept More most k s more keeps m few unsolved solvable =
+    let (t, kept, rest) = keeps m few unsolved solvable in (t, more t m few kept rest, rest)
+
+-- none that are left solve a position, and one is solvable with as many or fewer
+pub none_contradicts : (board : Board) (left m : ℕ) (s t : Scene) → s ≡ t → m ≤ left → NoneWithin board left s → ¬ (SolvableWithin board m t)
+none_contradicts board left m s t same few none solvable =
+    (none_is_not_solvable board m t).0 (subst (NoneWithin board m) same (none_fewer board m left s few none)) solvable
+
+-- a stretch was expanded, and what it leads to has entered or is lost
 pub under_way_on : (board : Board) (most : ℕ) (v w : EntriesView) (more : List Seen) (from to : ℕ) → IsUnderWay board most v.seen from →
     AreUnsolved board v.seen from to → to ≤ length v.seen
-    → AreExpanded board most v.seen more from to → Grows v w → AllFit board w.seen →
-    ((i : ℕ) (x : Seen) → slice_get more i ≡ Some x → IsSeen w.seen x.pushes x.scene)
-    → IsUnderWay board most w.seen to
+    → AreExpanded board most v.seen more from to → Grows v w → AllFit board w.seen → AreIn board most w.seen more → IsUnderWay board most w.seen to
 under_way_on board most v w more from to under unsolved within expanded grows fit entered = record {
   fit = fit;
   begun = (under.begun.0, under.begun.1, seen_on v w 0 under.begun.0 grows under.begun.2);
@@ -217,14 +229,17 @@ under_way_on board most v w more from to under unsolved within expanded grows fi
   closed = λ i x lt at. (let was = before_on v w i x grows (omega (arith, lt, within)) at in elim (cases_lt i from) [
     | inl less ↦ keeps_so board (IsSeen v.seen (suc x.pushes)) (IsSeen w.seen (suc x.pushes)) most x.pushes x.scene
         (λ t seen. seen_on v w (suc x.pushes) t grows seen) (under.closed i x less was)
-    | inr ge ↦ keeps_so board (IsReached v.seen more (suc x.pushes)) (IsSeen w.seen (suc x.pushes)) most x.pushes x.scene (λ t kept. now (suc x.pushes) t kept)
+    | inr ge ↦ keeps_in board (IsReached v.seen more (suc x.pushes)) (IsSeen w.seen (suc x.pushes)) most x.pushes x.scene (now x.pushes)
         (expanded i x ge lt was)
   ]);
 }
   where
-    now : (k : ℕ) (t : Scene) → IsReached v.seen more k t → IsSeen w.seen k t
-    now k t (inl seen) = seen_on v w k t grows seen
-    now k t (inr (i, x, at, same, le)) = (let (j, y, there, alike, few) = entered i x at in (j, y, there, alike ∙ same, omega (arith, few, le)))
+    now : (k : ℕ) (t : Scene) (m : ℕ) → k + suc m ≤ most → IsReached v.seen more (suc k) t → SolvableWithin board m t → IsSeen w.seen (suc k) t
+    now k t m few (inl seen) solvable = seen_on v w (suc k) t grows seen
+    now k t m few (inr (i, x, at, same, le)) solvable = elim (entered i x at) [
+      | inl (j, y, there, alike, less) ↦ (j, y, there, alike ∙ same, omega (arith, less, le))
+      | inr none ↦ absurd (none_contradicts board (most - x.pushes) m x.scene t same (omega (arith, few, le)) none solvable)
+    ]
 
 -- all that was seen was expanded, and none of it is solved
 pub none_is_left : (board : Board) (most : ℕ) (all : List Seen) (place : ℕ) → IsLevel board → IsUnderWay board most all place → length all ≤ place →
@@ -284,3 +299,10 @@ on_ok_three (Err e) f a b c = tt
 -- the push at a place of a list that was read
 pub read_push : (xs ys : List Push) (i : ℕ) (p : Push) → xs ≡ ys → i < length xs → p ≡ get_or xs i p → slice_get ys i ≡ Some p
 read_push xs ys i p same lt is = subst (λ (zs : List Push). slice_get zs i ≡ Some p) same (slice_get_read xs (length xs) i p refl lt is)
+
+-- what stands at a place has entered where it was appended
+pub entered_that : (v w : EntriesView) (more : List Seen) (place : ℕ) (n : Scene) (k : ℕ) → slice_get more place ≡ Some (record { scene = n; pushes = k })
+    → w ≡ record { boxes = v.boxes; seen = v.seen ++ record { scene = n; pushes = k } ∷ [] } → (x : Seen) → slice_get more place ≡ Some x →
+    IsSeen w.seen x.pushes x.scene
+entered_that v w more place n k here e x at =
+    subst (λ (z : Seen). IsSeen w.seen z.pushes z.scene) (same_Some (record { scene = n; pushes = k }) x (sym here ∙ at)) (last_seen v w n k e)

@@ -1,6 +1,7 @@
 -- Rounds of a search, whose positions are cut in stretches.
 use Rattle.std.proofs.Common.{◌≡◌, ◌⊎◌, ℕ, zero, suc, ◌+◌, ◌*◌, ◌≤◌, ◌<◌, List, [], ◌∷◌, ◌++◌, length, get_or, Some, IsTrue, Bool, Result, Ok, Err, OnOk, IfOk}
-use Rattle.std.proofs.Common.{inl, inr, sym, ap, subst, ◌∙◌, arith}
+use Rattle.std.proofs.Common.{inl, inr, refl, sym, ap, subst, take, drop, ◌∙◌, arith}
+use Rattle.std.proofs.lemmas.List.{take-append-drop, length-append, length-drop, length-take-le}
 use Rattle.std.proofs.lemmas.Option.{same_Some, slice_get_within, get_or_from_slice_get}
 use Rattle.std.specs.Prelude.{slice_get}
 use Rattle.std.specs.Result.{is_ok}
@@ -8,10 +9,12 @@ use Rattle.grid.specs.Board.{Board, Scene}
 use Rattle.grid.specs.Lawful.{box_count}
 use Rattle.prover.specs.declared.bench.Bench.{Bench}
 use Rattle.prover.specs.declared.cutting.Cut.{Cut}
+use Rattle.prover.specs.declared.sifting.Sieve.{Sieve}
 use Rattle.prover.specs.Frame.{Seen, IsSeen}
-use Rattle.prover.specs.inside.Benches.{AreRoomy, AreWorked, IsRoomy, IsRound, IsWorked, MayEnter, stretch_start}
+use Rattle.prover.specs.inside.Benches.{AreAllWhole, AreReady, AreRoomy, AreWorked, IsRoomy, IsRound, IsWorked, MayEnter, stretch_start}
 use Rattle.prover.specs.inside.Entries.{EntriesView, Grows, IsReached}
 use Rattle.prover.specs.inside.Progress.{AllFit, AreExpanded, AreUnsolved, IsUnderWay}
+use Rattle.prover.specs.inside.Sifting.{AllFound, AreAllIn, AreSifted}
 use Rattle.prover.proofs.Progressing.{before_on, length_on, seen_on, under_way_on, unsolved_on}
 use Rattle.prover.proofs.lemmas.Pruning.{keeps_so}
 
@@ -63,14 +66,14 @@ in_either (z ∷ xs) ys zero x e = inl e
 in_either (z ∷ xs) ys (suc i) x e = in_either xs ys i x e
 
 -- of roomy benches the first ones and the others are roomy
-pub roomy_cut : (board : Board) (all front back : List Bench) → all ≡ front ++ back → AreRoomy board all → AreRoomy board front × AreRoomy board back
+roomy_cut : (board : Board) (all front back : List Bench) → all ≡ front ++ back → AreRoomy board all → AreRoomy board front × AreRoomy board back
 roomy_cut board all front back is roomy = (
   (λ i b at. roomy i b (ap (λ l. slice_get l i) is ∙ in_front front back i b at)),
   (λ i b at. let h = in_back front back i b at in roomy h.0 b (ap (λ l. slice_get l h.0) is ∙ h.1)),
 )
 
 -- and both together are
-pub roomy_joined : (board : Board) (front back : List Bench) → AreRoomy board front → AreRoomy board back → AreRoomy board (front ++ back)
+roomy_joined : (board : Board) (front back : List Bench) → AreRoomy board front → AreRoomy board back → AreRoomy board (front ++ back)
 roomy_joined board front back roomy others i b at = elim (in_either front back i b at) [
   | inl h ↦ roomy i b h
   | inr h ↦ others h.0 b h.1
@@ -85,9 +88,24 @@ worked_each board most all cut before after same each i b at =
     subst (IsWorked board most all (stretch_start cut i) (stretch_start cut (i + 1))) (get_or_from_slice_get after i b b at) (each i b lt)
 
 -- where each has worked the benches are roomy
-pub worked_roomy : (board : Board) (most : ℕ) (all : List Seen) (cut : Cut) (benches : List Bench) → AreWorked board most all cut benches →
+worked_roomy : (board : Board) (most : ℕ) (all : List Seen) (cut : Cut) (benches : List Bench) → AreWorked board most all cut benches →
     AreRoomy board benches
 worked_roomy board most all cut benches worked i b at = (worked i b at).roomy
+
+-- after a round the workers' places are as many and as roomy
+pub ready_back : (board : Board) (most : ℕ) (all : List Seen) (cut : Cut) (many : ℕ) (benches after : List Bench) (sieves others : List Sieve) →
+    AreReady board benches sieves → many ≤ length benches → many ≤ length sieves → length after ≡ length (take many benches) →
+    length others ≡ length (take many sieves) → AreWorked board most all cut after →
+    AreReady board (after ++ drop many benches) (others ++ drop many sieves)
+ready_back board most all cut many benches after sieves others ready few few_too same same_too worked = record {
+  some = size benches after few same ready.some;
+  some_too = size sieves others few_too same_too ready.some_too;
+  roomy = roomy_joined board after (drop many benches) (worked_roomy board most all cut after worked)
+      (roomy_cut board benches (take many benches) (drop many benches) (sym (take-append-drop many benches)) ready.roomy).1;
+}
+  where
+    size : {A : Type 0} (xs ys : List A) → many ≤ length xs → length ys ≡ length (take many xs) → 0 < length xs → 0 < length (ys ++ drop many xs)
+    size xs ys le e some = omega (arith, le, e, some, length-append ys (drop many xs), length-drop many xs, length-take-le many xs le)
 
 -- what is told of a good answer is so where the answer is good
 pub on_whole : {T E A : Type 0} (r : Result T E) (whole : Bool) → whole ≡ is_ok r → OnOk r A → IsTrue whole → A
@@ -108,14 +126,28 @@ expanded_later board most v u more from to grows within expanded i x ge lt at =
     (λ t kept. reached_later v u more (suc x.pushes) t grows kept)
     (expanded i x ge lt (before_on v u i x grows (omega (arith, lt, within)) at))
 
--- one more bench has entered what it found
-pub round_on : (board : Board) (most : ℕ) (v u w : EntriesView) (cut : Cut) (benches : List Bench) (i : ℕ) (b : Bench) → slice_get benches i ≡ Some b →
-    IsTrue b.is_whole → Grows v u → Grows u w
-    → ((at : Board) → AllFit at b.more.seen → AllFit at u.seen → AllFit at w.seen) →
-    ((j : ℕ) (x : Seen) → slice_get b.more.seen j ≡ Some x → IsSeen w.seen x.pushes x.scene)
-    → IsRound board most v.seen cut benches → IsUnderWay board most u.seen (stretch_start cut i) → IsUnderWay board most w.seen (stretch_start cut (i + 1))
-round_on board most v u w cut benches i b at whole grown grows fit entered round under =
+-- the bench at a place
+bench_at : (xs : List Bench) (i : ℕ) → i < length xs → (b : Bench) × (slice_get xs i ≡ Some b)
+bench_at [] i lt = absurd (omega (arith, lt))
+bench_at (x ∷ xs) zero lt = (x, refl)
+bench_at (x ∷ xs) (suc i) lt = bench_at xs i (omega (arith, lt))
+
+-- what was expanded whole at the benches may be played on the level
+pub all_found : (board : Board) (most : ℕ) (all : List Seen) (cut : Cut) (benches : List Bench) → AreWorked board most all cut benches → AreAllWhole benches →
+    AllFound board benches
+all_found board most all cut benches worked whole i b at = (worked i b at).fit (whole i b at)
+
+-- one more bench has entered what is left of what it found
+pub round_on : (board : Board) (most : ℕ) (v u w : EntriesView) (cut : Cut) (benches : List Bench) (sieves : List Sieve) (i : ℕ)
+    → i < length benches → Grows v u → Grows u w
+    → (AllFound board benches → AllFit board u.seen → AllFit board w.seen) → AreAllIn board most w.seen benches (i + 1)
+    → IsRound board most v.seen cut benches sieves → IsUnderWay board most u.seen (stretch_start cut i)
+    → IsUnderWay board most w.seen (stretch_start cut (i + 1))
+round_on board most v u w cut benches sieves i lt_n grown grows fit all_in round under =
+    let (b, at) = bench_at benches i lt_n in
+    let entered = all_in i b (omega arith) at in
     let done = round.worked i b at in
+    let whole = round.whole i b at in
     let low = start_low cut i in
     let high = start_high cut (i + 1) round.order in
     let long = length_on v u grown in
@@ -125,42 +157,51 @@ round_on board most v u w cut benches i b at whole grown grows fit entered round
     (λ j x ge lt here. unsolved j x (omega (arith, ge, low)) (omega (arith, lt, high)) here)
     (omega (arith, high, within, long))
     (expanded_later board most v u b.more.seen (stretch_start cut i) (stretch_start cut (i + 1)) grown (omega (arith, high, within)) (done.expanded whole))
-    grows (fit board (done.fit whole) under.fit) entered
+    grows (fit (all_found board most v.seen cut benches round.worked round.whole) under.fit) entered
+
+-- before the first bench the search has come to where they begin
+pub round_start : (all : List Seen) (board : Board) (most : ℕ) (cut : Cut) (benches : List Bench) (sieves : List Sieve) →
+    IsRound board most all cut benches sieves → IsUnderWay board most all (stretch_start cut 0)
+round_start all board most cut benches sieves round = subst (IsUnderWay board most all) (sym (start_first cut)) round.under_way
 
 -- after the last bench the search has come to the end of the stretches
 pub round_over : (board : Board) (most : ℕ) (all : List Seen) (cut : Cut) (i n : ℕ) → i ≡ n → IsUnderWay board most all (stretch_start cut i) →
     IsUnderWay board most all (stretch_start cut n)
 round_over board most all cut i n same under = subst (λ k. IsUnderWay board most all (stretch_start cut k)) same under
 
--- what was expanded at the benches may be entered
+-- and may be entered
 pub may_enter : (board : Board) (most : ℕ) (all : List Seen) (cut : Cut) (benches : List Bench) (boxes : ℕ) → boxes ≡ box_count board →
-    AreWorked board most all cut benches → MayEnter boxes benches
-may_enter board most all cut benches boxes same worked i b at whole =
+    AreWorked board most all cut benches → AreAllWhole benches → MayEnter boxes benches
+may_enter board most all cut benches boxes same worked whole i b at =
     let done = worked i b at in (
       done.roomy.more ∙ sym same,
-      (λ j x here. let fits = done.fit whole j x here in (fits.boxes ∙ sym done.roomy.more, fits.scene.rising)),
+      (λ j x here. let fits = done.fit (whole i b at) j x here in (fits.boxes ∙ sym done.roomy.more, fits.scene.rising)),
     )
 
 -- a round is done: the search has come further, and no further than the cut
-pub round_done : {E : Type 0} (board : Board) (most : ℕ) (before after : List Seen) (cut : Cut) (from to : ℕ) (benches : List Bench) (r : Result ℕ E) →
+pub round_done : {E : Type 0} (board : Board) (most : ℕ) (before after : List Seen) (cut : Cut) (from to : ℕ) (benches : List Bench) (sieves : List Sieve)
+    (r : Result ℕ E) →
     cut.from ≡ from → cut.to ≡ to → 0 < cut.size → 0 < length benches → from < to
     → IsUnderWay board most before from → AreUnsolved board before from to → to ≤ length before → AreWorked board most before cut benches
+    → AreAllWhole benches → AreSifted board most benches sieves
     → IfOk r (λ n. n ≡ stretch_start cut (length benches)) →
-    OnOk r ((at : Board) (k : ℕ) → IsRound at k before cut benches → IsUnderWay at k after (stretch_start cut (length benches)))
+    OnOk r ((at : Board) (k : ℕ) → IsRound at k before cut benches sieves → IsUnderWay at k after (stretch_start cut (length benches)))
     → IfOk r (λ n. IsUnderWay board most after n × (from < n) × (n ≤ to))
-round_done board most before after cut from to benches (Ok n) start end some many less under unsolved within worked is told =
+round_done board most before after cut from to benches sieves (Ok n) start end some many less under unsolved within worked whole sifted is told =
     let cut_less : cut.from < cut.to = omega (arith, start, end, less) in
     let further = start_further cut (length benches) many some cut_less in
     let high = start_high cut (length benches) (omega (arith, cut_less)) in
-    let round : IsRound board most before cut benches = record {
+    let round : IsRound board most before cut benches sieves = record {
       under_way = subst (IsUnderWay board most before) (sym start) under;
       unsolved = λ i x ge lt at. unsolved i x (omega (arith, ge, start)) (omega (arith, lt, end)) at;
       order = omega (arith, cut_less);
       within = omega (arith, within, end);
       worked = worked;
+      whole = whole;
+      sifted = sifted;
     } in (
       subst (IsUnderWay board most after) (sym is) (told board most round),
       omega (arith, further, start, is),
       omega (arith, high, end, is),
     )
-round_done board most before after cut from to benches (Err e) start end some many less under unsolved within worked is told = tt
+round_done board most before after cut from to benches sieves (Err e) start end some many less under unsolved within worked whole sifted is told = tt

@@ -2,4 +2,5 @@
 pub mod Entries
 pub mod Progress
 pub mod Benches
+pub mod Sifting
 pub mod Working

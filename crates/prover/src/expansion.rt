@@ -1,8 +1,7 @@
 //! Positions that are expanded: what their pushes lead to is gathered, but for what may be left out.
-ghost use Rattle.std.specs.Prelude.{◌≡◌, ◌⊎◌, ◌+◌, ◌<◌, ◌≤◌, ℕ, suc, [], OnOk, length};
+ghost use Rattle.std.specs.Prelude.{◌≡◌, ◌+◌, ◌<◌, ◌≤◌, ℕ, suc, [], OnOk, length};
 ghost use Rattle.grid.specs.Lawful.{box_count};
 ghost use Rattle.grid.specs.States.{FitsLevel};
-ghost use Rattle.prices.specs.Solving.{NoneWithin};
 ghost use Rattle.prover.specs.Frame.{Keeps};
 ghost use Rattle.prover.specs.inside.Entries.{Grows, IsReached};
 ghost use Rattle.prover.specs.inside.Progress.{AllFit, AreExpanded};
@@ -32,8 +31,8 @@ pub(crate) struct Round<'s, 'l> {
     pub(crate) most: u32,
 }
 
-/// Appends what the pushes of the positions at some places lead to, but for what was seen, and for what no play with so many
-/// pushes at most passes through that ends solved.
+/// Appends what the pushes of the positions at some places lead to, but for what was seen, and for what is lost. Their boxes
+/// are matched later (`sifting`), when it is known which of them nobody else has found.
 pub(crate) fn expand_all(
     round: &Round<'_, '_>,
     span: Span,
@@ -102,41 +101,29 @@ fn expand(
         let push = desk.pushes.as_slice()[index];
         let made = try_push(round.pruner, position, push, &slack, only, desk);
         if made {
-            keep(round, left, label, desk, more)?;
+            keep(round, &desk.after, label, more)?;
         }
     }
     Ok(())
 }
 
-// Appends the position at the desk with this label, if it was not seen and its boxes do not need more pushes than so many. It
-// is looked up first, since most have been seen and that takes less time.
+// Appends a position with this label, if it was not seen.
 fn keep(
     round: &Round<'_, '_>,
-    left: u32,
+    after: &Position,
     label: Label,
-    desk: &mut Desk,
     more: &mut Store,
 ) -> Result<(), AllocError>
-    requires fits { FitsLevel round.now.pruner.now desk.old.after }
+    requires fits { FitsLevel round.now.pruner.now after.now }
     requires boxes { more.old.boxes ≡ box_count round.now.pruner.now }
-    ensures done { OnOk result (IsReached round.now.store.now.seen more.new.seen label.pushes desk.old.after ⊎
-        NoneWithin round.now.pruner.now left desk.old.after) }
+    ensures done { OnOk result (IsReached round.now.store.now.seen more.new.seen label.pushes after.now) }
     ensures fit { OnOk result (AllFit round.now.pruner.now more.old.seen → AllFit round.now.pruner.now more.new.seen) }
     ensures grows { Grows more.old more.new }
-    ensures kept { (desk.new.scratch ≡ desk.old.scratch) × (desk.new.pushes ≡ desk.old.pushes) × (desk.new.corral ≡ desk.old.corral) }
 {
-    let hash = hash_of(&desk.after);
-    let seen = round.store.has_settled(&desk.after, hash, label.pushes);
+    let hash = hash_of(after);
+    let seen = round.store.has_settled(after, hash, label.pushes);
     if seen {
         return Ok(());
     }
-    let found = more.has_fresh(&desk.after, hash, label.pushes);
-    if found {
-        return Ok(());
-    }
-    let refused = round.pruner.refuses(&desk.after, left, &mut desk.matching);
-    if refused {
-        return Ok(());
-    }
-    more.enter(&desk.after, hash, label)
+    more.enter(after, hash, label)
 }

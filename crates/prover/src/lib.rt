@@ -11,6 +11,7 @@
 //! ```
 #![tactic(auto)]
 
+mod aim;
 mod bench;
 mod cutting;
 mod desk;
@@ -27,6 +28,7 @@ mod pushing;
 mod retracing;
 mod rounds;
 mod searching;
+mod sifting;
 mod solved;
 mod store;
 mod table;

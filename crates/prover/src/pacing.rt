@@ -21,10 +21,13 @@ impl Pace {
 /// What a round finds waits at the benches as whole positions, so a longer round takes more memory, and starts threads less
 /// often. So many positions wait at most for each one that a search has seen, over the number of their squares to the second
 /// power, if that is not too few.
-const SHARE: usize = 2;
+const SHARE: usize = 4;
 
-/// The positions that wait at a bench may have so many squares in any case.
+/// The positions that wait at a bench may have so many squares in any case, if it is the only one: then a cache holds them.
 const LEAST_SQUARES: usize = 24_000;
+
+/// And so many if there are several.
+const LEAST_OF_SEVERAL: usize = 72_000;
 
 /// A worker expands positions of so many boxes together where nothing tells yet how many they lead to.
 const FIRST_BOXES: usize = 256;
@@ -50,10 +53,10 @@ pub(crate) fn most_of(entries: &Entries, from: usize, benches: &[Bench]) -> usiz
 // How many positions may wait at each of so many benches.
 fn room_of(entries: &Entries, workers: usize) -> usize {
     let squares = entries.boxes().saturating_add(1);
-    let least = LEAST_SQUARES / squares.max(1);
     if workers < 2 {
-        return least;
+        return LEAST_SQUARES / squares.max(1);
     }
+    let least = LEAST_OF_SEVERAL / squares.max(1);
     let parts = squares.saturating_mul(squares).saturating_mul(workers);
     least.max(entries.len().saturating_mul(SHARE) / parts.max(1))
 }

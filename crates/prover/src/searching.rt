@@ -8,11 +8,12 @@ ghost use Rattle.grid.specs.Rising.{is_rising};
 ghost use Rattle.prover.specs.Frame.{Seen, IsSeen};
 ghost use Rattle.prices.specs.Solving.{NoneWithin};
 ghost use Rattle.prover.specs.Outcomes.{IsOutcome};
-ghost use Rattle.prover.specs.inside.Benches.{AreRoomy};
+ghost use Rattle.prover.specs.inside.Benches.{AreReady};
 ghost use Rattle.prover.specs.inside.Entries.{Grows};
 ghost use Rattle.prover.specs.inside.Progress.{AllFit, AreExpanded, IsUnderWay};
 ghost use Rattle.prover.specs.inside.Working.{IsAhead};
 
+use crate::aim::Aim;
 use crate::bench::{Bench, benches_of};
 use crate::effort::Effort;
 use crate::entries::{Entries, Label};
@@ -22,19 +23,13 @@ use crate::outcome::{Outcome, SearchFault};
 use crate::pruner::Pruner;
 use crate::retracing::retrace;
 use crate::rounds::expand_round;
+use crate::sifting::{Sieve, sieves_of};
 use crate::solved::first_solved;
 use crate::store::Store;
 use area::Scratch;
 use grid::{Level, MAX_BOXES, Position};
 use std::alloc::{AllocError, Global};
 use std::thread::Threads;
-
-// What is asked of a search: the greatest number of pushes, and beyond how many positions it gives up.
-#[derive(Clone, Copy)]
-struct Asked {
-    most: u32,
-    limit: u32,
-}
 
 /// A search of no more positions does without what pairs need: to find that takes as long as they do, and most searches end
 /// before.
@@ -138,32 +133,40 @@ fn search_pruned<R: Threads + Sync>(
     ensures { IfOk result (λ outcome. IsOutcome pruner.now most outcome) }
 {
     let mut benches = benches_of(alloc, pruner.level(), effort.workers)?;
-    let asked = Asked {
+    let mut sieves = sieves_of(alloc, effort.workers)?;
+    let aim = Aim {
+        pruner,
         most,
         limit: effort.limit,
     };
-    search_at(rt, alloc, pruner, first, asked, benches.as_mut_slice())
+    search_at(
+        rt,
+        alloc,
+        &aim,
+        first,
+        benches.as_mut_slice(),
+        sieves.as_mut_slice(),
+    )
 }
 
 // That search, at benches.
 fn search_at<R: Threads + Sync>(
     rt: &R,
     alloc: Global,
-    pruner: &Pruner<'_>,
+    aim: &Aim<'_, '_>,
     first: &Position,
-    asked: Asked,
     benches: &mut [Bench],
+    sieves: &mut [Sieve],
 ) -> Result<Outcome, AllocError>
-    requires first { first.now ≡ start pruner.now }
-    requires few { box_count pruner.now ≤ MAX_BOXES }
-    requires some { 0 < length benches.old }
-    requires roomy { AreRoomy pruner.now benches.old }
-    ensures { IfOk result (λ outcome. IsOutcome pruner.now asked.most outcome) }
+    requires first { first.now ≡ start aim.now.pruner.now }
+    requires few { box_count aim.now.pruner.now ≤ MAX_BOXES }
+    requires ready { AreReady aim.now.pruner.now benches.old sieves.old }
+    ensures { IfOk result (λ outcome. IsOutcome aim.now.pruner.now aim.now.most outcome) }
 {
-    let level = pruner.level();
+    let level = aim.pruner.level();
     let mut store = begun(alloc, level, first)?;
-    let end = run(rt, pruner, asked, &mut store, benches)?;
-    outcome_of(alloc, level, store.entries(), asked.most, end)
+    let end = run(rt, aim, &mut store, benches, sieves)?;
+    outcome_of(alloc, level, store.entries(), aim.most, end)
 }
 
 // What the end of a search says of its level.
@@ -218,32 +221,32 @@ fn entered(alloc: Global, level: &Level, normal: &Position) -> Result<Store, All
 // Expands layer after layer, until one has no position or a solved one, or the limit is passed.
 fn run<R: Threads + Sync>(
     rt: &R,
-    pruner: &Pruner<'_>,
-    asked: Asked,
+    aim: &Aim<'_, '_>,
     store: &mut Store,
     benches: &mut [Bench],
+    sieves: &mut [Sieve],
 ) -> Result<End, AllocError>
-    requires under_way { IsUnderWay pruner.now asked.most store.old.seen 0 }
-    requires boxes { store.old.boxes ≡ box_count pruner.now }
-    requires some { 0 < length benches.old }
-    requires roomy { AreRoomy pruner.now benches.old }
-    ensures through { IfOk result (λ end. end ≡ End.Through → NoneWithin pruner.now asked.most (start pruner.now)) }
-    ensures fit { OnOk result (AllFit pruner.now store.new.seen) }
+    requires under_way { IsUnderWay aim.now.pruner.now aim.now.most store.old.seen 0 }
+    requires boxes { store.old.boxes ≡ box_count aim.now.pruner.now }
+    requires ready { AreReady aim.now.pruner.now benches.old sieves.old }
+    ensures through { IfOk result (λ end. end ≡ End.Through → NoneWithin aim.now.pruner.now aim.now.most (start aim.now.pruner.now)) }
+    ensures fit { OnOk result (AllFit aim.now.pruner.now store.new.seen) }
 {
-    pruner.level().tell();
+    aim.pruner.level().tell();
     let mut from = 0;
-    for _ in 0..u64::from(asked.most) + 2 {
+    for _ in 0..u64::from(aim.most) + 2 {
         let end = store.entries().len();
         if from == end {
             return Ok(End::Through);
         }
-        if end > asked.limit as usize {
+        if end > aim.limit as usize {
             return Ok(End::Limit);
         }
-        if let Some(place) = first_solved(pruner.level(), store.entries(), from, end) {
+        if let Some(place) = first_solved(aim.pruner.level(), store.entries(), from, end) {
             return Ok(End::Solved(place));
         }
-        if !expand_layer(rt, pruner, asked, store, Span { from, to: end }, benches)? {
+        let span = Span { from, to: end };
+        if !expand_layer(rt, aim, store, span, benches, sieves)? {
             return Ok(End::Limit);
         }
         from = end;
@@ -254,19 +257,19 @@ fn run<R: Threads + Sync>(
 // Expands the positions at some places, and enters what they lead to; `false` where the limit is passed.
 fn expand_layer<R: Threads + Sync>(
     rt: &R,
-    pruner: &Pruner<'_>,
-    asked: Asked,
+    aim: &Aim<'_, '_>,
     store: &mut Store,
     span: Span,
     benches: &mut [Bench],
+    sieves: &mut [Sieve],
 ) -> Result<bool, AllocError>
-    requires ahead { IsAhead pruner.now asked.most store.old.seen span.from span.to }
-    requires boxes { store.old.boxes ≡ box_count pruner.now }
-    requires benches { (0 < length benches.old) × AreRoomy pruner.now benches.old }
-    ensures under_way { IfOk result (λ whole. IsTrue whole → IsUnderWay pruner.now asked.most store.new.seen span.to) }
-    ensures fit { OnOk result (AllFit pruner.now store.new.seen) }
+    requires ahead { IsAhead aim.now.pruner.now aim.now.most store.old.seen span.from span.to }
+    requires boxes { store.old.boxes ≡ box_count aim.now.pruner.now }
+    requires ready { AreReady aim.now.pruner.now benches.old sieves.old }
+    ensures under_way { IfOk result (λ whole. IsTrue whole → IsUnderWay aim.now.pruner.now aim.now.most store.new.seen span.to) }
+    ensures fit { OnOk result (AllFit aim.now.pruner.now store.new.seen) }
     ensures grows { OnOk result (Grows store.old store.new) }
-    ensures benches { (length benches.new ≡ length benches.old) × AreRoomy pruner.now benches.new }
+    ensures ready { AreReady aim.now.pruner.now benches.new sieves.new }
 {
     let mut place = span.from;
     while place < span.to {
@@ -274,8 +277,8 @@ fn expand_layer<R: Threads + Sync>(
             from: place,
             to: span.to,
         };
-        place = expand_round(rt, pruner, asked.most, store, rest, benches)?;
-        if store.entries().len() > asked.limit as usize {
+        place = expand_round(rt, aim, store, rest, benches, sieves)?;
+        if store.entries().len() > aim.limit as usize {
             return Ok(false);
         }
     }

@@ -4,7 +4,9 @@ ghost use Rattle.prover.specs.Frame.{IsSeen};
 ghost use Rattle.prover.specs.inside.Entries.{with_entry};
 
 use crate::entries::{Entries, Label};
-use crate::table::{BLOCK, NOTHING, Slot, free_slot, free_slots, put_all, put_from, slot_of};
+use crate::table::{
+    BLOCK, NOTHING, Slot, free_slot, free_slots, hashes_for, put_all, put_from, slot_of,
+};
 use grid::{MAX_BOXES, Position};
 use std::alloc::{AllocError, Global};
 use std::marker::Model;
@@ -21,6 +23,8 @@ pub(crate) struct Store {
     entries: Entries,
     settled: Vec<Slot>,
     fresh: Vec<Slot>,
+    // room for the hashes of positions that settle
+    hashes: Vec<u64>,
     // the positions before this place have settled
     open: usize,
 }
@@ -46,6 +50,7 @@ impl Store {
             entries: Entries::new(alloc, boxes),
             settled: free_slots(alloc, 1)?,
             fresh: free_slots(alloc, LEAST_SLOTS)?,
+            hashes: Vec::new(alloc),
             open: 0,
         })
     }
@@ -103,6 +108,16 @@ impl Store {
         Ok(())
     }
 
+    /// Appends a position that is not looked up, since it is none of those that were seen: one that is would stand there twice,
+    /// and cost memory alone. The only error is that memory was refused, and it leaves the positions as they were.
+    pub(crate) fn append(&mut self, position: &Position, label: Label) -> Result<(), AllocError>
+        requires { length position.now.boxes ≡ self.old.boxes }
+        ensures ok { OnOk result (self.new ≡ with_entry self.old position.now label.pushes) }
+        ensures err { OnErr result (self.new ≡ self.old) }
+    {
+        self.entries.append(position, label)
+    }
+
     /// Lets all positions settle, by so many threads. The only error is that memory was refused.
     pub(crate) fn settle<R: Threads + Sync>(
         &mut self,
@@ -115,8 +130,13 @@ impl Store {
         if grow(&mut self.settled, count)? {
             self.open = 0;
         }
+        let size = hashes_for(count.saturating_sub(self.open));
+        if self.hashes.len() < size {
+            self.hashes.resize(size, 0)?;
+        }
+        let hashes = self.hashes.as_mut_slice();
         let slots = self.settled.as_mut_slice();
-        put_all(rt, &self.entries, self.open, slots, threads);
+        put_all(rt, &self.entries, self.open, slots, hashes, threads);
         self.open = count;
         self.fresh.as_mut_slice().fill(NOTHING);
         Ok(())

@@ -79,43 +79,107 @@ pub(crate) fn slot_of(hash: u64, place: usize) -> Slot {
 /// For fewer places than so many a further thread would take longer than it spares.
 const LEAST_PLACES: usize = 2048;
 
-/// Writes the places of the positions from one on into free slots, by so many threads at most.
+/// So many hashes are made at most before their places are written.
+const MOST_HASHES: usize = 1 << 15;
+
+/// How many hashes are made at a time for so many positions.
+pub(crate) fn hashes_for(positions: usize) -> usize {
+    positions.clamp(1, MOST_HASHES)
+}
+
+/// Writes the places of the positions from one on into free slots, by so many threads at most. There is room for as many hashes
+/// as are made at a time: each thread makes some of them, and then writes those that belong in its part of the table.
 pub(crate) fn put_all<R: Threads + Sync>(
     rt: &R,
     entries: &Entries,
     from: usize,
     slots: &mut [Slot],
+    hashes: &mut [u64],
+    threads: usize,
+) {
+    let count = entries.len();
+    let size = hashes.len().max(1);
+    for batch in 0..count.saturating_sub(from).div_ceil(size) {
+        let place = from.saturating_add(batch.saturating_mul(size));
+        let many = count.saturating_sub(place).min(hashes.len());
+        let part = &mut hashes[..many];
+        let busy = threads.min(many / LEAST_PLACES).max(1);
+        hash_beside(rt, entries, place, part, busy);
+        put_beside(rt, place, part, slots, busy);
+    }
+}
+
+// Makes the hashes of the positions from one on.
+fn hash_beside<R: Threads + Sync>(
+    rt: &R,
+    entries: &Entries,
+    from: usize,
+    hashes: &mut [u64],
+    threads: usize,
+) {
+    let share = hashes.len().div_ceil(threads.max(1)).max(1);
+    thread::for_each_chunk_mut(
+        rt,
+        hashes,
+        share,
+        &|start, part| { hash_part(entries, from.saturating_add(start), part) },
+    );
+}
+
+// Makes the hashes of as many positions, from one on.
+fn hash_part(entries: &Entries, from: usize, hashes: &mut [u64]) {
+    for (place, hash) in hashes.iter_mut().enumerate() {
+        if let Some(row) = entries.row(from.saturating_add(place)) {
+            *hash = hash_of_row(row);
+        }
+    }
+}
+
+// Writes the places of the positions from one on, which have these hashes, into free slots.
+fn put_beside<R: Threads + Sync>(
+    rt: &R,
+    from: usize,
+    hashes: &[u64],
+    slots: &mut [Slot],
     threads: usize,
 ) {
     let size = slots.len();
-    let blocks = size.div_ceil(BLOCK);
-    let paid = entries.len().saturating_sub(from) / LEAST_PLACES;
-    let share = blocks.div_ceil(threads.min(paid).max(1)).max(1);
+    let share = size.div_ceil(BLOCK).div_ceil(threads.max(1)).max(1);
     thread::for_each_chunk_mut(
         rt,
         slots,
         share.saturating_mul(BLOCK),
-        &|start, part| { put_part(entries, from, size, start, part) },
+        &|start, part| { put_part(from, hashes, size, start, part) },
     );
+}
+
+// Writes those of these places into free slots that belong in a part of a table, which begins at a slot of it.
+fn put_part(from: usize, hashes: &[u64], size: usize, start: usize, part: &mut [Slot]) {
+    if size == 0 {
+        return;
+    }
+    for (place, hash) in hashes.iter().enumerate() {
+        let slot = first_slot(*hash, size);
+        if slot >= start && slot - start < part.len() {
+            put(
+                part,
+                slot - start,
+                slot_of(*hash, from.saturating_add(place)),
+            );
+        }
+    }
 }
 
 /// Writes the places of the positions from one on into free slots.
 pub(crate) fn put_from(entries: &Entries, from: usize, slots: &mut [Slot]) {
-    put_part(entries, from, slots.len(), 0, slots);
-}
-
-// Writes those of these places into free slots that belong in a part of a table, which begins at a slot of it.
-fn put_part(entries: &Entries, from: usize, size: usize, start: usize, part: &mut [Slot]) {
+    let size = slots.len();
     if size == 0 {
         return;
     }
     for place in from..entries.len() {
         if let Some(row) = entries.row(place) {
             let hash = hash_of_row(row);
-            let slot = first_slot(hash, size);
-            if slot >= start && slot - start < part.len() {
-                put(part, slot - start, slot_of(hash, place));
-            }
+            put(slots, first_slot(hash, size), slot_of(hash, place));
         }
     }
 }

@@ -1,4 +1,4 @@
-use Rattle.std.proofs.Common.{rules, ◌≡◌, ◌+◌, ◌-◌, ◌≤◌, ℕ, suc, Bool, IsTrue, List, length, inr, refl, sym, ap, subst, ◌∙◌, arith}
+use Rattle.std.proofs.Common.{rules, ◌≡◌, ◌+◌, ◌-◌, ◌≤◌, ℕ, suc, Bool, IsTrue, List, length, inl, inr, refl, sym, ap, subst, ◌∙◌, arith}
 use Rattle.grid.specs.declared.square.Push.{Push}
 use Rattle.area.specs.Reach.{Reach}
 use Rattle.grid.specs.Board.{Board}
@@ -9,7 +9,6 @@ use Rattle.corrals.specs.Sets.{SetsView}
 use Rattle.area.specs.Pushes.{ArePushes, CanPush}
 use Rattle.prices.specs.Helping.{SlackView}
 use Rattle.prices.specs.Solving.{NoneWithin}
-use Rattle.prover.specs.declared.desk.Desk.{Desk}
 use Rattle.prover.specs.Frame.{Keeps}
 use Rattle.prover.specs.Pruning.{after_push}
 use Rattle.prover.specs.inside.Entries.{EntriesView, Grows, IsReached}
@@ -60,13 +59,12 @@ loop-index-preserved c =
     let tried = c.try_push-made.ensures.kept in
     let P : EntriesView → Type 0 = λ m. AreDoneWith board left (IsReached all m.seen k) Tried s ps (c.loop-index.index + 1) × AllFit board m.seen ×
     Grows c.args.more.now m in
-    let Q : Desk → Type 0 = λ d. (d.scratch ≡ before.scratch) × (d.pushes ≡ before.pushes) × (d.corral ≡ before.corral) in
     let stepped : P c.if-made.more = elim c.if-made.branch [
       | then-made+in_ok-keep w ↦
           subst P (sym w.more-is) (
             done_more board left all Tried c.loop-index.more w.keep.new.more k s ps c.loop-index.index p w.keep.ensures.grows here was.done
                 (λ chosen. done_by board left (IsReached all w.keep.new.more.seen k) s n p scene (c.try_push-made.ensures.made w.if-made.true).0
-                w.in_ok-keep.ensures.done),
+                (inl w.in_ok-keep.ensures.done)),
             w.in_ok-keep.ensures.fit was.fit,
             grows_on c.args.more.now c.loop-index.more w.keep.new.more was.grows w.keep.ensures.grows,
           )
@@ -80,20 +78,15 @@ loop-index-preserved c =
             was.grows,
           )
     ] in
-    let desk : Q c.if-made.desk = elim c.if-made.branch [
-      | then-made+in_ok-keep w ↦
-          (let kept = w.keep.ensures.kept in
-          subst Q (sym w.desk-is) (kept.0 ∙ tried.0, kept.1 ∙ tried.1, kept.2 ∙ tried.2))
-      | else-made w ↦ subst Q (sym w.desk-is) tried
-    ] in
-    let items : c.if-made.desk.pushes.items ≡ ps = ap (λ v. v.items) desk.1 in
+    let after = c.try_push-made.new.desk in
+    let items : after.pushes.items ≡ ps = ap (λ v. v.items) tried.1 in
     record {
       pushes = subst (ArePushes board s) (sym items) was.pushes;
-      flooded = subst (λ (r : Reach). IsFlooded board r s) (sym desk.0) was.flooded;
-      kept = desk.1 ∙ was.kept;
-      corral = desk.2 ∙ was.corral;
+      flooded = subst (λ (r : Reach). IsFlooded board r s) (sym tried.0) was.flooded;
+      kept = tried.1 ∙ was.kept;
+      corral = tried.2 ∙ was.corral;
       done = subst (λ (v : SetsView). AreDoneWith board left (IsReached all c.if-made.more.seen k)
-          (IsChosen c.find-only.result v.held) s c.if-made.desk.pushes.items (c.loop-index.index + 1)) (sym desk.2)
+          (IsChosen c.find-only.result v.held) s after.pushes.items (c.loop-index.index + 1)) (sym tried.2)
           (subst (λ (xs : List Push). AreDoneWith board left (IsReached all c.if-made.more.seen k) Tried s xs (c.loop-index.index + 1)) (sym items) stepped.0);
       fit = stepped.1;
       grows = stepped.2;

@@ -1,11 +1,11 @@
-use Rattle.std.proofs.Common.{◌≡◌, ℕ, subst, ◌∙◌, arith}
+use Rattle.std.proofs.Common.{◌≡◌, ℕ, subst, arith}
 use Rattle.prover.specs.inside.Progress.{IsUnderWay}
 use Rattle.prover.proofs.Progressing.{grows_on, length_on, unsolved_on}
 use Rattle.prover.proofs.searching.expand_layer.Goals as goal
 
 pub loop-place-preserved : goal.loop-place-preserved
 loop-place-preserved g c =
-    let board = c.args.pruner.now in
+    let board = c.args.aim.now.pruner.now in
     let was = c.loop-place.invariant in
     let v = c.loop-place.store in
     let w = c.expand_round.new.store in
@@ -22,11 +22,10 @@ loop-place-preserved g c =
         within = omega (arith, was.ahead.within, le);
       };
       grows = grows_on c.args.store.now v w was.grows grows;
-      many = c.expand_round.ensures.benches.0 ∙ was.many;
-      roomy = c.expand_round.ensures.benches.1;
+      ready = c.expand_round.ensures.ready;
     }
 
 pub returns-clause-under_way : goal.returns-clause-under_way
 returns-clause-under_way g c = λ yes_so.
     let same : c.loop-place.place ≡ c.args.span.to = omega (arith, c.loop-place-test.false, c.loop-place.invariant.ahead.order) in
-    subst (λ (p : ℕ). IsUnderWay c.args.pruner.now c.args.asked.most c.loop-place.store.seen p) same c.loop-place.invariant.ahead.under_way
+    subst (λ (p : ℕ). IsUnderWay c.args.aim.now.pruner.now c.args.aim.now.most c.loop-place.store.seen p) same c.loop-place.invariant.ahead.under_way

@@ -9,11 +9,11 @@ use Rattle.prover.proofs.searching.run.Goals as goal
 
 pub returns-then-from-end-clause-through : goal.returns-then-from-end-clause-through
 returns-then-from-end-clause-through g c = λ through.
-    let board = c.args.pruner.now in
+    let board = c.args.aim.now.pruner.now in
     let level : IsLevel board = subst IsLevel c.level.ensures c.tell.ensures in
     let size = ap (λ (v : EntriesView). length v.seen) c.entries.ensures in
     let over : length c.loop.store.seen ≤ c.loop.from = omega (arith, c.if-from-end.true, c.len-end.ensures, size) in
-    none_is_left board c.args.asked.most c.loop.store.seen c.loop.from level c.loop.invariant.under_way over
+    none_is_left board c.args.aim.now.most c.loop.store.seen c.loop.from level c.loop.invariant.under_way over
 
 pub first_solved-requires-clause-fit : goal.first_solved-requires-clause-fit
 first_solved-requires-clause-fit g c = λ i x at.
