@@ -24,7 +24,7 @@ mod small;
 #[cfg(test)]
 mod tests;
 
-pub use after::{doomed_after, push_dooms};
+pub use after::{doomed_after, push_dooms, push_dooms_early};
 pub use bound::Bound;
 pub use dangers::Dangers;
 pub use dead::Dead;
