@@ -76,6 +76,17 @@ grown_along word right left last free r l m = grown_then word right last P
     P : (ℕ → Bool) → Type 0
     P = λ test. PassesAlong test free
 
+-- runs along the rows, and then a step down and one up
+pub grown_once : (word row down last free by : ℕ) → IsGrown word row (λ test. PassesAlong test free) → IsGrown row down (λ test. PassesUp test by free) →
+    IsGrown down last (λ test. PassesDown test by free) → IsGrown word last (λ test. PassesOn test by free free free free)
+grown_once word row down last free by a d u = grown_then word row last P
+    (grown_by word row (λ test. PassesAlong test free) P (λ test pass. record { on_right = pass.on_right; on_left = pass.on_left }) a)
+    (grown_then row down last P (grown_by row down (λ test. PassesUp test by free) P (λ test pass. pass.on_down) d)
+    (grown_by down last (λ test. PassesDown test by free) P (λ test pass. pass.on_up) u))
+  where
+    P : (ℕ → Bool) → Type 0
+    P = λ test. PassesOn test by free free free free
+
 -- nothing is added
 pub widened_none : (cols : ℕ) (free words : List ℕ) → IsWidened cols free words words
 widened_none cols free words = record { size = refl; kept = λ q h. h; sound = λ test passes all. all }
@@ -101,12 +112,6 @@ module _ (cols : ℕ) (free : List ℕ) (place : ℕ) (fits : get_or free place 
       test (WORD_BITS * place + i) ≡ true → test (WORD_BITS * place + j) ≡ true
   onto i j near bit old = passes (WORD_BITS * place + i) (WORD_BITS * place + j) near
       (has_bit-at free place j (word_bit_inside (get_or free place 0) j fits bit) ∙ bit) old
-
-  pub along : PassesAlong (λ j. test (WORD_BITS * place + j)) (get_or free place 0)
-  along = record {
-    on_right = λ i j e bit old. onto i j (inl (inl (omega (arith, e)))) bit old;
-    on_left = λ i j e bit old. onto i j (inl (inr (omega (arith, e)))) bit old;
-  }
 
   pub all_ways : PassesOn (λ j. test (WORD_BITS * place + j)) cols (get_or free place 0) (get_or free place 0) (get_or free place 0) (get_or free place 0)
   all_ways = record {

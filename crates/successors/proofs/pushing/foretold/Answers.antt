@@ -1,4 +1,4 @@
-use Rattle.std.proofs.Common.{◌≡◌, ◌↔◌, ℕ, true, IsTrue, refl, sym, ap, subst, ◌∙◌}
+use Rattle.std.proofs.Common.{◌≡◌, ◌↔◌, ℕ, true, false, IsTrue, refl, sym, subst}
 use Rattle.std.specs.Prelude.{IfSome}
 use Rattle.std.proofs.lemmas.Bool.{false≢true}
 use Rattle.grid.specs.Board.{Board, Scene, is_wall, next}
@@ -20,7 +20,7 @@ returns-then-spare c =
     let n : Scene = c.args.site.now.position.now in
     let ahead : c.next-ahead.result ≡ next board c.args.push.square c.args.push.dir = c.next-ahead.ensures in
     let loose = subst (λ (q : ℕ). IsLoose board (insert (remove c.args.scratch.now.boxes c.args.push.square) q) q) ahead
-    (c.if-spare.ensures board c.args.scratch.now.boxes c.args.push.square c.requires.ready.dangers c.if-spare.true ahead
+    (c.if-spare.ensures board c.args.scratch.now.boxes c.args.push.square c.requires.ready.dangers refl ahead
     (inside_grid board c.args.push.square (c.requires.ready.fits.scene.boxes c.args.push.square c.requires.possible.there))
     (subst (λ (q : ℕ). ¬ (IsDead board q)) (sym ahead) c.requires.live)) in
     let safe = loose_dooms_nothing board n.boxes c.args.push.square (next board c.args.push.square c.args.push.dir) c.requires.ready.undoomed

@@ -76,7 +76,7 @@ returns-clause-some c =
     let n = c.args.site.now.position.now in
     let moved : c.push_at.new.self ≡ after_push board n c.args.push = cc in
     let safe : Undoomed board (after_push board n c.args.push) = λ bad.
-    false≢true (sym c.if-push_dooms.false ∙ c.if-push_dooms.ensures.same.1 (subst (λ (s : Scene). Doomed board s.boxes) (sym moved) bad)) in
+    false≢true (c.if-push_dooms.ensures.same.1 (subst (λ (s : Scene). Doomed board s.boxes) (sym moved) bad)) in
     λ done. (
       successor_is board n c.requires.ready.fits.scene c.args.push c.requires.ready.undoomed c.requires.possible safe c.normalise_after.new.after
           (subst (λ (s : Scene). IsNorm board s c.normalise_after.new.after) moved c.normalise_after.ensures.norm),

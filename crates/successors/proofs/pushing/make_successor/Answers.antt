@@ -6,8 +6,8 @@ use Rattle.successors.specs.Expansion.{after_push}
 use Rattle.successors.proofs.lemmas.Successors.{come_by}
 use Rattle.successors.proofs.pushing.make_successor.Goals as goal
 
-pub returns-in-Some-then-dooms-clause-none : goal.returns-in-Some-then-dooms-clause-none
-returns-in-Some-then-dooms-clause-none c = λ no m come.
+pub returns-then-dooms-clause-none : goal.returns-then-dooms-clause-none
+returns-then-dooms-clause-none c = λ no m come.
     (come_by c.args.site.now.level.now c.args.site.now.position.now c.requires.ready.fits.scene c.args.push m come).safe
     (c.in-Some.ensures.0 c.if-dooms.true)
 
