@@ -272,7 +272,7 @@ fn step_up(word: u64, mask: u64, by: usize) -> u64
     ensures { IsGrown word result (λ test. PassesUp test by mask) }
 {
     if by < WORD_BITS {
-        near_up(word, mask, by)
+        word | ((word << by) & mask)
     } else {
         word
     }
@@ -284,26 +284,8 @@ pub(crate) fn step_down(word: u64, mask: u64, by: usize) -> u64
     ensures { IsGrown word result (λ test. PassesDown test by mask) }
 {
     if by < WORD_BITS {
-        near_down(word, mask, by)
+        word | ((word >> by) & mask)
     } else {
         word
     }
-}
-
-// What `step_up` adds, where so many places are fewer than a word has.
-#[inline(always)]
-pub(crate) fn near_up(word: u64, mask: u64, by: usize) -> u64
-    requires { by < WORD_BITS }
-    ensures { IsGrown word result (λ test. PassesUp test by mask) }
-{
-    word | ((word << by) & mask)
-}
-
-// What `step_down` adds, where so many places are fewer than a word has.
-#[inline(always)]
-pub(crate) fn near_down(word: u64, mask: u64, by: usize) -> u64
-    requires { by < WORD_BITS }
-    ensures { IsGrown word result (λ test. PassesDown test by mask) }
-{
-    word | ((word >> by) & mask)
 }

@@ -6,10 +6,10 @@ ghost use Rattle.grid.specs.Lawful.{InRoom};
 ghost use Rattle.grid.specs.Masks.{has_bit, word_count};
 ghost use Rattle.area.specs.Words.{word_bit};
 ghost use Rattle.area.specs.inside.Flooding.{HasAim, IsGrowing, IsFlooded, IsGrown, PassesOn};
-ghost use Rattle.area.specs.inside.RoomFloods.{AreUnused, IsBeside, IsRound, IsVisit, IsWidened, PassesAlong, PassesOver};
+ghost use Rattle.area.specs.inside.RoomFloods.{AreUnused, IsBeside, IsRound, IsVisit, IsWidened, PassesOver};
 
 use crate::bits::{after, before, just_after, just_before};
-use crate::floods::{fill, has_aim, near_down, near_up, run_up, step_down};
+use crate::floods::{fill, has_aim, run_up, step_down};
 use crate::set::SquareSet;
 use grid::{Level, Square, WORD_BITS};
 
@@ -192,26 +192,18 @@ fn beside(cols: usize, words: &[u64], place: usize) -> u64
         | (before(words, place, cols) | after(words, place, cols))
 }
 
-// Adds to a word what `fill_along` does, and then one step down and one up: rooms are about as high as wide, so a round that
-// went along the rows alone would be one of many.
+// Adds to a word the runs to the right of its squares and two steps to the left, and then a step down and one up: in a room
+// about as high as wide, rounds that go along the rows alone are many.
 #[inline(always)]
 fn fill_once(word: u64, free: u64, cols: usize) -> u64
     requires near { cols < WORD_BITS }
     ensures { IsGrown word result (λ test. PassesOn test cols free free free free) }
 {
-    let row = fill_along(word, free);
-    let down = near_up(row, free, cols);
-    near_down(down, free, cols)
-}
-
-// Adds to a word the runs to the right of its squares, and two steps to the left.
-#[inline(always)]
-fn fill_along(word: u64, free: u64) -> u64
-    ensures { IsGrown word result (λ test. PassesAlong test free) }
-{
     let right = run_up(word, free);
     let left = step_down(right, free, 1);
-    step_down(left, free, 1)
+    let row = step_down(left, free, 1);
+    let down = row | ((row << cols) & free);
+    down | ((down >> cols) & free)
 }
 
 // Adds to a set what `widen` says, word by word. It goes on from word to word, and where a word grew, back to the first one
