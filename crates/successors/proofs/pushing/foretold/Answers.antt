@@ -10,15 +10,11 @@ use Rattle.doom.proofs.lemmas.Loose.{loose_dooms_nothing}
 use Rattle.successors.proofs.lemmas.Successors.{after_fits}
 use Rattle.successors.proofs.pushing.foretold.Goals as goal
 
-pub next-ahead-requires : goal.next-ahead-requires
-next-ahead-requires c =
-    inside_grid c.args.site.now.level.now c.args.push.square (c.requires.ready.fits.scene.boxes c.args.push.square c.requires.possible.there)
-
 pub returns-then-spare : goal.returns-then-spare
 returns-then-spare c =
     let board : Board = c.args.site.now.level.now in
     let n : Scene = c.args.site.now.position.now in
-    let ahead : c.next-ahead.result ≡ next board c.args.push.square c.args.push.dir = c.next-ahead.ensures in
+    let ahead : c.args.ahead ≡ next board c.args.push.square c.args.push.dir = c.requires.ahead in
     let loose = subst (λ (q : ℕ). IsLoose board (insert (remove c.args.scratch.now.boxes c.args.push.square) q) q) ahead
     (c.if-spare.ensures board c.args.scratch.now.boxes c.args.push.square c.requires.ready.dangers refl ahead
     (inside_grid board c.args.push.square (c.requires.ready.fits.scene.boxes c.args.push.square c.requires.possible.there))

@@ -12,13 +12,9 @@ use Rattle.successors.specs.Expansion.{after_push}
 use Rattle.successors.proofs.lemmas.Successors.{after_fits, successor_is, come_by}
 use Rattle.successors.proofs.pushing.make_if_safe.Goals as goal
 
-pub next-ahead-requires : goal.next-ahead-requires
-next-ahead-requires c =
-    inside_grid c.args.site.now.level.now c.args.push.square (c.requires.ready.fits.scene.boxes c.args.push.square c.requires.possible.there)
-
 pub push_at-requires-clause-free : goal.push_at-requires-clause-free
 push_at-requires-clause-free c =
-    let e : contains c.copy_from.new.self.boxes c.next-ahead.result ≡
+    let e : contains c.copy_from.new.self.boxes c.args.ahead ≡
     contains c.args.site.now.position.now.boxes (next c.args.site.now.level.now c.args.push.square c.args.push.dir) = cc in
     e ∙ c.requires.possible.ahead.1
 

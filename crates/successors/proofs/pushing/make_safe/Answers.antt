@@ -2,19 +2,14 @@ use Rattle.std.proofs.Common.{◌≡◌, sym, subst, ◌∙◌}
 use Rattle.grid.specs.Squares.{contains}
 use Rattle.grid.specs.Board.{Scene, next}
 use Rattle.grid.specs.States.{FitsLevel}
-use Rattle.grid.proofs.lemmas.Steps.{inside_grid}
 use Rattle.area.specs.Area.{IsNorm}
 use Rattle.successors.specs.Expansion.{after_push}
 use Rattle.successors.proofs.lemmas.Successors.{after_fits, successor_is}
 use Rattle.successors.proofs.pushing.make_safe.Goals as goal
 
-pub next-ahead-requires : goal.next-ahead-requires
-next-ahead-requires c =
-    inside_grid c.args.site.now.level.now c.args.push.square (c.requires.ready.fits.scene.boxes c.args.push.square c.requires.possible.there)
-
 pub push_at-requires-clause-free : goal.push_at-requires-clause-free
 push_at-requires-clause-free c =
-    let e : contains c.copy_from.new.self.boxes c.next-ahead.result ≡
+    let e : contains c.copy_from.new.self.boxes c.args.ahead ≡
     contains c.args.site.now.position.now.boxes (next c.args.site.now.level.now c.args.push.square c.args.push.dir) = cc in
     e ∙ c.requires.possible.ahead.1
 
