@@ -219,10 +219,9 @@ fn make_safe(
     ensures fits { FitsLevel site.now.level.now moved.new }
     ensures kept { scratch.new ≡ scratch.old }
 {
-    let Push { square, dir } = push;
     moved.copy_from(site.position);
-    moved.push_at(place, square, ahead);
-    area::normalise_after(site.level, site.position, Push { square, dir }, moved, scratch);
+    moved.push_at(place, push.square, ahead);
+    area::normalise_after(site.level, site.position, push, moved, scratch);
 }
 
 // Makes a position what a push to a square that is not dead leads to, and normal unless it is doomed, which it tells by
