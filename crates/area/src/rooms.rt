@@ -5,8 +5,8 @@ ghost use Rattle.std.specs.Prelude.{◌≡◌, ℕ, ◌*◌, ◌+◌, ◌<◌, �
 ghost use Rattle.grid.specs.Lawful.{InRoom};
 ghost use Rattle.grid.specs.Masks.{has_bit, word_count};
 ghost use Rattle.area.specs.Words.{word_bit};
-ghost use Rattle.area.specs.inside.Flooding.{HasAim, IsGrowing, IsFlooded, IsGrown};
-ghost use Rattle.area.specs.inside.RoomFloods.{AreUnused, IsBeside, IsRound, IsVisit, IsWidened, PassesAlong, PassesOver};
+ghost use Rattle.area.specs.inside.Flooding.{HasAim, IsGrowing, IsFlooded, IsGrown, PassesOn};
+ghost use Rattle.area.specs.inside.RoomFloods.{AreUnused, IsBeside, IsRound, IsVisit, IsWidened, PassesOver};
 
 use crate::bits::{after, before, just_after, just_before};
 use crate::floods::{fill, has_aim, run_up, step_down};
@@ -153,7 +153,8 @@ pub(crate) fn round<const W: usize>(cols: usize, free: &[u64; W], words: &mut [u
     grew
 }
 
-// Adds to one word the free numbers beside the set, and some of those along the rows; says whether it grew.
+// Adds to one word the free numbers beside the set, and some of those that steps within the word lead to from there; says
+// whether it grew.
 #[inline(always)]
 fn visit_few(cols: usize, free: &[u64], words: &mut [u64], place: usize) -> bool
     requires columns { 1 ≤ cols }
@@ -165,7 +166,7 @@ fn visit_few(cols: usize, free: &[u64], words: &mut [u64], place: usize) -> bool
     let old = words[place];
     let clear = free[place];
     let first = old | (just_beside(cols, words, place) & clear);
-    let new = fill_along(first, clear);
+    let new = fill_once(first, clear, cols);
     words[place] = new;
     new != old
 }
@@ -191,14 +192,18 @@ fn beside(cols: usize, words: &[u64], place: usize) -> u64
         | (before(words, place, cols) | after(words, place, cols))
 }
 
-// Adds to a word the runs to the right of its squares, and two steps to the left.
+// Adds to a word the runs to the right of its squares and two steps to the left, and then a step down and one up: in a room
+// about as high as wide, rounds that go along the rows alone are many.
 #[inline(always)]
-fn fill_along(word: u64, free: u64) -> u64
-    ensures { IsGrown word result (λ test. PassesAlong test free) }
+fn fill_once(word: u64, free: u64, cols: usize) -> u64
+    requires near { cols < WORD_BITS }
+    ensures { IsGrown word result (λ test. PassesOn test cols free free free free) }
 {
     let right = run_up(word, free);
     let left = step_down(right, free, 1);
-    step_down(left, free, 1)
+    let row = step_down(left, free, 1);
+    let down = row | ((row << cols) & free);
+    down | ((down >> cols) & free)
 }
 
 // Adds to a set what `widen` says, word by word. It goes on from word to word, and where a word grew, back to the first one

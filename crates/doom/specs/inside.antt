@@ -3,5 +3,4 @@ pub mod Holding
 pub mod Peeling
 pub mod Pulling
 pub mod Locking
-pub mod Gathering
 pub mod Dangers

@@ -1,9 +1,9 @@
-ghost use Rattle.std.specs.Prelude.{◌≡◌, ℕ, ◌<◌, ◌↔◌, ◌⊎◌, IsTrue, false, true, length};
+ghost use Rattle.std.specs.Prelude.{◌≡◌, ℕ, ◌<◌, ◌↔◌, ◌⊎◌, IsTrue, IfSome, false, true, length};
 ghost use Rattle.grid.specs.Board.{is_wall, next};
 ghost use Rattle.grid.specs.States.{FitsLevel};
 ghost use Rattle.grid.specs.Squares.{Squares, contains, insert, remove};
 ghost use Rattle.doom.specs.Lost.{AreLost};
-ghost use Rattle.doom.specs.Deadlocks.{Doomed, IsFrozen};
+ghost use Rattle.doom.specs.Deadlocks.{Doomed, IsDead, IsFrozen};
 ghost use Rattle.doom.specs.Pushed.{AreOthersFrozen, ComeUndoomed, DoomedFrom, IsGroupFrozen};
 
 use crate::dead::Dead;
@@ -44,9 +44,9 @@ pub fn doomed_after(
 }
 
 /// What [`doomed_after`] says of the push of one of the boxes round which the last flood went, where these are not doomed:
-/// for a search that keeps its boxes as a set. It looks at no box of which that function does not ask. In small rooms it
-/// follows the pushed box's group in words, by way of the boxes that are held on both axes, and ends as soon as nothing
-/// holds the pushed one; elsewhere it asks that function, unless the pushed box is loose. Takes no memory.
+/// for a search that keeps its boxes as a set. In small rooms it works by words, and ends as soon as nothing holds the
+/// pushed box, since all that is frozen then has that one; elsewhere it asks that function, unless the pushed box is loose.
+/// Takes no memory.
 pub fn push_dooms(
     level: &Level,
     dead: &Dead,
@@ -75,6 +75,27 @@ pub fn push_dooms(
             !is_loose(level, dead, scratch, Push { square, dir })
                 && doomed_after(level, dead, position, Push { square, dir }, scratch)
         }
+    }
+}
+
+/// What [`push_dooms`] says of a push onto a square that is not dead, told before the position after it is made; `None`
+/// where the room is too large for that. Takes no memory.
+pub fn push_dooms_early(level: &Level, dead: &Dead, push: Push, scratch: &Scratch) -> Option<bool>
+    requires inside { push.square < length level.now.cells }
+    requires dead_of_level { dead.now ≡ level.now }
+    requires room { scratch.now.size ≡ length level.now.cells }
+    requires clear { (q : ℕ) →
+        contains (insert (remove scratch.now.boxes push.square) (next level.now push.square push.dir)) q ≡ true → is_wall level.now q ≡ false }
+    requires live { ¬ (IsDead level.now (next level.now push.square push.dir)) }
+    requires undoomed { ¬ (Doomed level.now scratch.now.boxes) }
+    ensures { IfSome result (λ told. IsTrue told ↔
+        Doomed level.now (insert (remove scratch.now.boxes push.square) (next level.now push.square push.dir))) }
+{
+    let Push { square, dir } = push;
+    let ahead = level.next(square, dir);
+    match locked_after_push(level, dead.holds(), square, ahead, scratch) {
+        Some(locked) => Some(locked),
+        None => None,
     }
 }
 

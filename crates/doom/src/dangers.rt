@@ -44,16 +44,22 @@ impl Dangers {
         }
     }
 
-    /// Makes them those of the boxes round which the last flood went. Takes no memory.
+    /// Makes them those of the boxes round which the last flood went, where the grid has fewer columns than a word has bits. Takes
+    /// no memory.
     pub fn find(&mut self, level: &Level, dead: &Dead, scratch: &Scratch)
         requires dead_of_level { dead.now ≡ level.now }
         requires room { scratch.now.size ≡ length level.now.cells }
         ensures { AreDangers level.now scratch.now.boxes self.new.words.items }
     {
         level.tell();
+        let cols = level.cols();
         let boxes = scratch.boxes().as_words();
         self.words.clear();
-        find_words(dead.holds(), level.cols(), boxes, &mut self.words);
+        if cols >= WORD_BITS {
+            return;
+        }
+        // known to be less than a word has bits, so that no word but the next is looked at
+        find_words(dead.holds(), cols % WORD_BITS, boxes, &mut self.words);
     }
 
     /// Whether it is known that a box that is pushed onto the square in the direction is not held on both axes.

@@ -22,7 +22,7 @@ mod loose;
 mod pulls;
 mod small;
 
-pub use after::{doomed_after, push_dooms};
+pub use after::{doomed_after, push_dooms, push_dooms_early};
 pub use bound::Bound;
 pub use dangers::Dangers;
 pub use dead::Dead;

@@ -3,11 +3,10 @@ ghost use Rattle.std.specs.Prelude.{◌≡◌, ℕ, ◌*◌, ◌<◌, ◌≤◌,
 ghost use Rattle.grid.specs.Masks.{has_bit, word_count};
 ghost use Rattle.grid.specs.Squares.{Squares, contains, insert, remove};
 ghost use Rattle.area.specs.Words.{squares_of};
-ghost use Rattle.doom.specs.inside.Gathering.{AreJoined, IsGathered, IsJoined};
 ghost use Rattle.doom.specs.inside.Locking.{AreLocked, HaveRoom, TellsLocked};
 
 use crate::holds::Holds;
-use crate::locked::{held, is_other_word, peel_words};
+use crate::locked::{is_other_word, peel_words};
 use area::Scratch;
 use area::bits::{put, take_out};
 use grid::{Level, Square, WORD_BITS};
@@ -16,8 +15,8 @@ use grid::{Level, Square, WORD_BITS};
 pub(crate) const MOST_WORDS: usize = 4;
 
 /// Whether some of the boxes are locked once one of them was pushed from one square to another, where of the boxes round
-/// which the last flood went none were. Only boxes that hang together with the pushed one are asked, and the search ends as
-/// soon as nothing holds that one. `None` where the room is too large for that. Takes no memory.
+/// which the last flood went none were. Whatever is locked then has the pushed box, so the search ends as soon as nothing
+/// holds that one. `None` where the room is too large for that. Takes no memory.
 pub fn locked_after_push(
     level: &Level,
     holds: &Holds,
@@ -88,55 +87,7 @@ fn is_locked<const W: usize>(
     put(to, &mut moved);
     let mut pushed = [0; W];
     put(to, &mut pushed);
-    let mut members = pushed;
-    gather(holds, cols, &moved, &mut members);
-    has_locked_round(holds, cols, &pushed, &mut members)
-}
-
-// Adds to some of the boxes the others that hang together with them by way of boxes that are held on both axes.
-#[inline(always)]
-fn gather<const W: usize>(holds: &Holds, cols: usize, boxes: &[u64; W], members: &mut [u64; W])
-    requires few { W ≤ MOST_WORDS }
-    requires holds { HaveRoom holds.now W }
-    ensures { AreJoined holds.now cols boxes.now members.old members.new }
-{
-    while gather_words(holds, cols, boxes, members) {}
-}
-
-// Looks at each word once, and adds the boxes beside the members that are held on both axes; says whether one came.
-#[inline(always)]
-fn gather_words<const W: usize>(
-    holds: &Holds,
-    cols: usize,
-    boxes: &[u64; W],
-    members: &mut [u64; W],
-) -> bool
-    requires few { W ≤ MOST_WORDS }
-    requires holds { HaveRoom holds.now W }
-    ensures { IsGathered holds.now cols W boxes.now members.old members.new result }
-{
-    let mut grew = false;
-    for place in 0..W {
-        grew |= gather_word(holds, cols, boxes, members, place);
-    }
-    grew
-}
-
-// Adds to one word the boxes beside the members that are held on both axes; says whether one came.
-#[inline(always)]
-fn gather_word(holds: &Holds, cols: usize, boxes: &[u64], members: &mut [u64], place: usize) -> bool
-    requires inside { place < length members.old }
-    requires room { length boxes.now ≡ length members.old }
-    requires holds { HaveRoom holds.now (length members.old) }
-    ensures { IsJoined holds.now cols place boxes.now members.old members.new result }
-{
-    let old = members[place];
-    let near = held(members, members, place, 1) | held(members, members, place, cols);
-    let across = held(holds.across.as_words(), boxes, place, 1);
-    let along = held(holds.along.as_words(), boxes, place, cols);
-    let new = old | (((near & boxes[place]) & across) & along);
-    members[place] = new;
-    new != old
+    has_locked_round(holds, cols, &pushed, &mut moved)
 }
 
 // Whether some squares of the set are locked, where none are without one of another set.

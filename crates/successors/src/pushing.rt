@@ -1,10 +1,10 @@
 //! What the pushes of a position lead to, made in the slots of a parcel.
-ghost use Rattle.std.specs.Prelude.{◌≡◌, ℕ, ◌+◌, ◌*◌, ◌<◌, ◌≤◌, ◌++◌, ◌∷◌, [], IsTrue, false, length, sum, take};
+ghost use Rattle.std.specs.Prelude.{◌≡◌, ℕ, ◌+◌, ◌*◌, ◌<◌, ◌≤◌, ◌↔◌, ◌++◌, ◌∷◌, [], IsTrue, IfSome, false, length, sum, take};
 ghost use Rattle.grid.specs.Board.{Scene, next};
 ghost use Rattle.grid.specs.States.{FitsLevel};
-ghost use Rattle.doom.specs.Deadlocks.{IsDead};
+ghost use Rattle.doom.specs.Deadlocks.{Doomed, IsDead, Undoomed};
 ghost use Rattle.successors.specs.ParcelView.{AreSuccessors, FitLevel, IsAppended};
-ghost use Rattle.successors.specs.Expansion.{IsSuccessor};
+ghost use Rattle.successors.specs.Expansion.{IsSuccessor, after_push};
 ghost use Rattle.successors.specs.Capping.{uncapped};
 ghost use Rattle.area.specs.Pushes.{ArePushes, CanPush};
 ghost use Rattle.successors.specs.inside.Sites.{AreFilled, IsReady};
@@ -96,6 +96,7 @@ fn append_successor(
         site,
         place,
         Push { square, dir },
+        ahead,
         scratch,
         &mut slots.successors.as_mut_slice()[count],
     );
@@ -147,17 +148,19 @@ fn put_sum(sums: &mut ArrayVec<u32, MAX_SUCCESSORS>, count: usize, sum: u32)
     }
 }
 
-// Writes a push to a square that is not dead and what it leads to into a slot, where the last flood was that of the position
-// before it; `false` exactly where that is doomed.
+// Writes a push to a square ahead that is not dead and what it leads to into a slot, where the last flood was that of the position
+// before it; `false` exactly where that is doomed. Where that is told by the boxes before it, nothing is made in vain.
 fn make_successor(
     site: &Site<'_>,
     place: usize,
     push: Push,
+    ahead: Square,
     scratch: &mut Scratch,
     slot: &mut Successor,
 ) -> bool
     requires ready { IsReady site.now scratch.old }
     requires possible { CanPush site.now.level.now site.now.position.now push }
+    requires ahead { ahead ≡ next site.now.level.now push.square push.dir }
     requires live { ¬ (IsDead site.now.level.now (next site.now.level.now push.square push.dir)) }
     ensures push { slot.new.push ≡ push }
     ensures some { IsTrue result → IsSuccessor site.now.level.now site.now.position.now push slot.new.position
@@ -166,16 +169,84 @@ fn make_successor(
     ensures kept { scratch.new ≡ scratch.old }
 {
     let Push { square, dir } = push;
-    let level = site.level;
-    let dead = site.dead;
-    let position = site.position;
-    let ahead = level.next(square, dir);
     slot.push = Push { square, dir };
-    let moved = &mut slot.position;
+    match foretold(site, Push { square, dir }, ahead, scratch) {
+        Some(dooms) => {
+            if dooms {
+                return false;
+            }
+            let moved = &mut slot.position;
+            make_safe(site, place, Push { square, dir }, ahead, scratch, moved);
+            true
+        }
+        None => {
+            let moved = &mut slot.position;
+            make_if_safe(site, place, Push { square, dir }, ahead, scratch, moved)
+        }
+    }
+}
+
+// Whether a push to a square that is not dead dooms the position, where that is told before the position after it is made.
+fn foretold(site: &Site<'_>, push: Push, ahead: Square, scratch: &Scratch) -> Option<bool>
+    requires ready { IsReady site.now scratch.now }
+    requires possible { CanPush site.now.level.now site.now.position.now push }
+    requires ahead { ahead ≡ next site.now.level.now push.square push.dir }
+    requires live { ¬ (IsDead site.now.level.now (next site.now.level.now push.square push.dir)) }
+    ensures { IfSome result (λ dooms. IsTrue dooms ↔
+        Doomed site.now.level.now (after_push site.now.level.now site.now.position.now push).boxes) }
+{
+    let Push { square, dir } = push;
+    if site.dangers.spare(ahead, dir) {
+        return Some(false);
+    }
+    doom::push_dooms_early(site.level, site.dead, Push { square, dir }, scratch)
+}
+
+// Makes a position the successor by a push that dooms nothing, where the last flood was that of the position before it.
+fn make_safe(
+    site: &Site<'_>,
+    place: usize,
+    push: Push,
+    ahead: Square,
+    scratch: &mut Scratch,
+    moved: &mut Position,
+)
+    requires ready { IsReady site.now scratch.old }
+    requires possible { CanPush site.now.level.now site.now.position.now push }
+    requires ahead { ahead ≡ next site.now.level.now push.square push.dir }
+    requires safe { Undoomed site.now.level.now (after_push site.now.level.now site.now.position.now push) }
+    ensures successor { IsSuccessor site.now.level.now site.now.position.now push moved.new }
+    ensures fits { FitsLevel site.now.level.now moved.new }
+    ensures kept { scratch.new ≡ scratch.old }
+{
+    moved.copy_from(site.position);
+    moved.push_at(place, push.square, ahead);
+    area::normalise_after(site.level, site.position, push, moved, scratch);
+}
+
+// Makes a position what a push to a square that is not dead leads to, and normal unless it is doomed, which it tells by
+// `false`; where the last flood was that of the position before it.
+fn make_if_safe(
+    site: &Site<'_>,
+    place: usize,
+    push: Push,
+    ahead: Square,
+    scratch: &mut Scratch,
+    moved: &mut Position,
+) -> bool
+    requires ready { IsReady site.now scratch.old }
+    requires possible { CanPush site.now.level.now site.now.position.now push }
+    requires ahead { ahead ≡ next site.now.level.now push.square push.dir }
+    ensures some { IsTrue result → IsSuccessor site.now.level.now site.now.position.now push moved.new × FitsLevel site.now.level.now moved.new }
+    ensures none { result ≡ false → (m : Scene) → ¬ (IsSuccessor site.now.level.now site.now.position.now push m) }
+    ensures kept { scratch.new ≡ scratch.old }
+{
+    let Push { square, dir } = push;
+    let level = site.level;
+    let position = site.position;
     moved.copy_from(position);
     moved.push_at(place, square, ahead);
-    let spared = site.dangers.spare(ahead, dir);
-    if !spared && doom::push_dooms(level, dead, moved, Push { square, dir }, scratch) {
+    if doom::push_dooms(level, site.dead, moved, Push { square, dir }, scratch) {
         return false;
     }
     area::normalise_after(level, position, Push { square, dir }, moved, scratch);

@@ -5,7 +5,7 @@ use Rattle.grid.specs.Board.{Board}
 use Rattle.grid.specs.Lawful.{InRoom}
 use Rattle.grid.specs.Masks.{has_bit, word_count}
 use Rattle.grid.specs.RoomMask.{IsRoomMask}
-use Rattle.area.specs.inside.Flooding.{AllPass, PassesUp, PassesDown, room_left}
+use Rattle.area.specs.inside.Flooding.{AllPass, room_left}
 
 -- the squares of the player's room where no box stands
 abbrev pub AreFree : Board → List ℕ → List ℕ → Type 0
@@ -60,11 +60,6 @@ pub record IsRound (cols : ℕ) (free old new : List ℕ) (grew : Bool) : Type 0
 pub record IsWidening (cols : ℕ) (free : List ℕ) (place : ℕ) (old now : List ℕ) : Type 0 where
   pub widened : IsWidened cols free old now
   pub full : (k : ℕ) → k < place → IsFull cols free k now
-
--- along a row, the test passes on both ways to the places where the word has a 1
-pub record PassesAlong (test : ℕ → Bool) (free : ℕ) : Type 0 where
-  pub on_right : PassesUp test 1 free
-  pub on_left : PassesDown test 1 free
 
 -- the two sets have a number in common
 abbrev pub Meets : List ℕ → List ℕ → Type 0

@@ -1,7 +1,7 @@
 use Rattle.std.proofs.Common.{◌≡◌, get_or, take, refl, arith}
 use Rattle.area.specs.Words.{squares_of}
 use Rattle.doom.proofs.Fronts.{front_squares}
-use Rattle.doom.proofs.Gathered.{loose_by, told_by}
+use Rattle.doom.proofs.LockedAfter.{loose_by, told_by}
 use Rattle.doom.proofs.small.is_locked_in_two.Goals as goal
 
 pub is_locked-requires-clause-loose : goal.is_locked-requires-clause-loose

@@ -1,7 +1,7 @@
 use Rattle.std.proofs.Common.{length, ap, ◌∙◌, arith}
 use Rattle.grid.specs.Masks.{word_count}
 use Rattle.area.specs.Words.{squares_of}
-use Rattle.doom.proofs.Gathered.{loose_by, told_by}
+use Rattle.doom.proofs.LockedAfter.{loose_by, told_by}
 use Rattle.area.proofs.lemmas.Flooding.{words_enough}
 use Rattle.doom.proofs.small.locked_after_push.Goals as goal
 

@@ -1,4 +1,4 @@
-use Rattle.doom.proofs.Gathered.{meet_nowhere, apart_more}
+use Rattle.doom.proofs.LockedAfter.{meet_nowhere, apart_more}
 use Rattle.doom.proofs.small.meets.Goals as goal
 
 pub loop-place-preserved : goal.loop-place-preserved
