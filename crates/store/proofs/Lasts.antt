@@ -18,7 +18,7 @@ use Rattle.store.specs.Entries.{Origin, origin_cmp, Entry, lesser, same_scene, C
 use Rattle.store.specs.Entering.{offered}
 use Rattle.store.specs.FoundView.{IsFound, NoneExceed, is_least, keeps, let_in, open_of, seen_of}
 use Rattle.store.proofs.lemmas.Origins.{origin_total}
-use Rattle.store.proofs.lemmas.Offers.{and_both, origin-listed, same_flipped}
+use Rattle.store.proofs.lemmas.Offers.{and_both, origin-listed, same_flipped, same_true}
 use Rattle.store.proofs.Tails.{as_closed, below, joined, least_first, let_in_put, look_rest, no_some, not_greater, placed, seen_at}
 
 order : IsTotalOrder (origin_cmp push_cmp)
@@ -91,6 +91,30 @@ standing_kept m o last start i es e found none at stands late is_same is_late to
     go true lt w = ap (λ x. x || is_least (origin_of (open_of start es) m) o) (sym (closed w.0 lt))
     go false lt w = let v = at_place m es i e at (there w.0) in
         late_kept m o start es found v.0 last v.1 none (after (ap (λ b. b || late) (sym lt) ∙ w.1))
+
+-- nor does one of what is there with an origin that the offer's does not come before
+pub less_kept : (m : Scene) (o : Origin Push) (start : ℕ) (es : List Closed) → IsFound start es → (v : Option (Origin Push)) (less : Bool) →
+    lookup (same_scene m) es ≡ Some v → ((p : Origin Push) → v ≡ Some p → less ≡ is_lt (origin_cmp push_cmp o p)) →
+    not less ≡ true → true ≡ keeps (seen_of start es) (open_of start es) m o
+less_kept m o start es found v less is lesser told = go (is_some (lookup (same_scene m) (seen_of start es))) refl (origin_of (open_of start es) m) refl
+  where
+    go : (b : Bool) → is_some (lookup (same_scene m) (seen_of start es)) ≡ b → (f : Option (Origin Push)) → origin_of (open_of start es) m ≡ f →
+        true ≡ keeps (seen_of start es) (open_of start es) m o
+    go true e f g = ap (λ x. x || is_least (origin_of (open_of start es) m) o) (sym e)
+    go false e None g =
+        let rest = look_rest m start es found (no_some (lookup (same_scene m) (seen_of start es)) e) in
+        absurd (none-some v (sym (rest ∙ ap as_closed g) ∙ is))
+    go false e (Some p) g =
+        let rest = look_rest m start es found (no_some (lookup (same_scene m) (seen_of start es)) e) in
+        let same : v ≡ Some p = sym (same_Some (Some p) v (sym (rest ∙ ap as_closed g) ∙ is)) in
+        sym told ∙ ap not (lesser p same) ∙ (λ j. sym e j || is_least (sym g j) o)
+
+-- so an offer of the position of an entry changes nothing where its origin does not come before the entry's
+pub standing_less : (m : Scene) (o : Origin Push) (start : ℕ) (es : List Closed) (k : Scene) (v : Option (Origin Push)) (less : Bool) → IsFound start es →
+    lookup (same_scene k) es ≡ Some v → same_scene k m ≡ true → ((p : Origin Push) → v ≡ Some p → less ≡ is_lt (origin_cmp push_cmp o p)) →
+    not less ≡ true → true ≡ keeps (seen_of start es) (open_of start es) m o
+standing_less m o start es k v less found is same =
+    less_kept m o start es found v less (ap (λ (n : Scene). lookup (same_scene n) es) (sym (same_true k m same)) ∙ is)
 
 -- ---- one more offer
 

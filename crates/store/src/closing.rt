@@ -7,7 +7,6 @@ ghost use Rattle.store.specs.Entering.{RiseByOrigin, IsSortedAppend};
 ghost use Rattle.store.specs.FoundView.{IsFound, open_of, origin_in, seen_of};
 ghost use Rattle.store.specs.inside.Placing.{AreApart, AreBrought, AreTargets, HaveAllPlaces, RowsRise, rows_of};
 
-use crate::guesses::Hints;
 use crate::key::Key;
 use crate::origin::{ClosedOrigin, Origin};
 use grid::MAX_BOXES;
@@ -15,18 +14,15 @@ use indexmap::IndexMap;
 use std::alloc::{AllocError, Global};
 use std::cmp::Ordering;
 
-/// Puts what stands open, from the start on, into the order of the origins, and guesses where it stands then. An error leaves all as
-/// it was.
+/// Puts what stands open, from the start on, into the order of the origins. An error leaves all as it was.
 pub(crate) fn arrange<const N: usize, const M: usize>(
     table: &mut IndexMap<Key<N, M>, ClosedOrigin>,
     start: usize,
-    hints: &mut Hints,
 ) -> Result<(), AllocError>
     requires width { (N ≤ MAX_BOXES + 1) × (M ≤ MAX_BOXES + 1) }
     requires found { IsFound start table.old.entries }
     ensures ok { OnOk result (IsSortedAppend (seen_of start table.old.entries) (open_of start table.old.entries) table.new.entries) }
     ensures err { OnErr result (table.new.entries ≡ table.old.entries) }
-    ensures hints { hints.new ≡ hints.old }
 {
     if do_rise(table, start) {
         return Ok(());
@@ -35,7 +31,6 @@ pub(crate) fn arrange<const N: usize, const M: usize>(
     sort_rows(&mut rows);
     let targets = targets_of(*table.allocator(), rows.as_slice())?;
     exchange(table, start, targets);
-    hints.guesses.put_from(table, start);
     Ok(())
 }
 

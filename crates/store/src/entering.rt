@@ -9,7 +9,6 @@ ghost use Rattle.store.specs.inside.KeyRows.{AllSuit, Suits};
 ghost use Rattle.store.specs.inside.FoundUpTo.{IsFoundUpTo};
 ghost use Rattle.store.specs.FoundView.{IsFound, StaysFound, all_let_in, keeps, let_in, open_of, seen_of};
 
-use crate::guesses::Hints;
 use crate::key::Key;
 use crate::origin::{ClosedOrigin, Origin};
 use crate::parts::enter_by_parts;
@@ -20,7 +19,7 @@ use successors::{Successor, share_of};
 
 // Puts an offer of a position into the map by one look-up, unless it changes nothing: the position is closed, or stands open
 // with an origin that is no greater. Says whether it changes nothing. Those before the start are closed, and no origin of the
-// others comes after the last one, so that mostly no origin is read. Where the key stands becomes the place.
+// others comes after the last one, so that mostly no origin is read.
 #[inline(always)]
 fn is_kept<const N: usize, const M: usize>(
     table: &mut IndexMap<Key<N, M>, ClosedOrigin>,
@@ -28,7 +27,6 @@ fn is_kept<const N: usize, const M: usize>(
     last: Origin,
     key: &Key<N, M>,
     origin: Origin,
-    place: &mut usize,
 ) -> bool
     requires width { (N ≤ MAX_BOXES + 1) × (M ≤ MAX_BOXES + 1) }
     requires room { 0 < spare table.old }
@@ -40,14 +38,12 @@ fn is_kept<const N: usize, const M: usize>(
 {
     match table.entry(key.copy()) {
         Ok(Entry::Vacant(entry)) => {
-            *place = entry.index();
             let _ = entry.insert_entry(ClosedOrigin::of(Some(origin)));
             false
         }
         Ok(Entry::Occupied(mut entry)) => {
             let known = entry.get();
             let index = entry.index();
-            *place = index;
             if index < start {
                 return true;
             }
@@ -64,8 +60,7 @@ fn is_kept<const N: usize, const M: usize>(
     }
 }
 
-/// An offer enters: where its position stands open already it keeps the lesser origin, and where it is new it comes last. Where its
-/// key stands then becomes the place.
+/// An offer enters: where its position stands open already it keeps the lesser origin, and where it is new it comes last.
 #[inline(always)]
 pub(crate) fn enter<const N: usize, const M: usize>(
     table: &mut IndexMap<Key<N, M>, ClosedOrigin>,
@@ -73,7 +68,6 @@ pub(crate) fn enter<const N: usize, const M: usize>(
     last: &mut Origin,
     key: &Key<N, M>,
     origin: Origin,
-    place: &mut usize,
 )
     requires width { (N ≤ MAX_BOXES + 1) × (M ≤ MAX_BOXES + 1) }
     requires room { 0 < spare table.old }
@@ -83,71 +77,27 @@ pub(crate) fn enter<const N: usize, const M: usize>(
     ensures waiting { open_of start table.new.entries ≡ let_in (seen_of start table.old.entries) (open_of start table.old.entries) (key.now, origin) }
     ensures room { spare table.old ≤ spare table.new + 1 }
 {
-    if is_kept(table, start, *last, key, origin, place) {
+    if is_kept(table, start, *last, key, origin) {
         return;
     }
     *last = last.later(origin);
-}
-
-// Offers enter, one after the other.
-fn enter_each<const N: usize, const M: usize>(
-    table: &mut IndexMap<Key<N, M>, ClosedOrigin>,
-    start: usize,
-    hints: &mut Hints,
-    offers: &[(Key<N, M>, Origin)],
-)
-    requires width { (N ≤ MAX_BOXES + 1) × (M ≤ MAX_BOXES + 1) }
-    requires room { length offers.now ≤ spare table.old }
-    requires found { IsFoundUpTo start table.old.entries hints.old }
-    ensures found { IsFoundUpTo start table.new.entries hints.new }
-    ensures seen { seen_of start table.new.entries ≡ seen_of start table.old.entries }
-    ensures waiting { open_of start table.new.entries ≡ all_let_in (seen_of start table.old.entries) (open_of start table.old.entries) offers.now }
-    ensures room { spare table.old ≤ spare table.new + length offers.now }
-{
-    hints.guesses.fit(table);
-    if hints.guesses.are_none() {
-        enter_in_turn(table, start, &mut hints.last, offers);
-    } else {
-        enter_by_parts(table, start, hints, offers);
-    }
-}
-
-// Offers enter, each by a look-up.
-fn enter_in_turn<const N: usize, const M: usize>(
-    table: &mut IndexMap<Key<N, M>, ClosedOrigin>,
-    start: usize,
-    last: &mut Origin,
-    offers: &[(Key<N, M>, Origin)],
-)
-    requires width { (N ≤ MAX_BOXES + 1) × (M ≤ MAX_BOXES + 1) }
-    requires room { length offers.now ≤ spare table.old }
-    requires found { IsFoundUpTo start table.old.entries last.old }
-    ensures found { IsFoundUpTo start table.new.entries last.new }
-    ensures seen { seen_of start table.new.entries ≡ seen_of start table.old.entries }
-    ensures waiting { open_of start table.new.entries ≡ all_let_in (seen_of start table.old.entries) (open_of start table.old.entries) offers.now }
-    ensures room { spare table.old ≤ spare table.new + length offers.now }
-{
-    for offer in offers {
-        let mut place = 0;
-        enter(table, start, last, &offer.0, offer.1, &mut place);
-    }
 }
 
 /// The offers of an inbox enter, and none is left. What is found stays as it was.
 pub(crate) fn enter_all<const N: usize, const M: usize>(
     table: &mut IndexMap<Key<N, M>, ClosedOrigin>,
     start: usize,
-    hints: &mut Hints,
+    last: &mut Origin,
     inbox: &mut Vec<(Key<N, M>, Origin)>,
 )
     requires width { (N ≤ MAX_BOXES + 1) × (M ≤ MAX_BOXES + 1) }
     requires room { length inbox.old.items ≤ spare table.old }
-    requires found { IsFoundUpTo start table.old.entries hints.old }
-    ensures found { IsFoundUpTo start table.new.entries hints.new }
+    requires found { IsFoundUpTo start table.old.entries last.old }
+    ensures found { IsFoundUpTo start table.new.entries last.new }
     ensures same { StaysFound start table.old.entries inbox.old.items table.new.entries [] }
     ensures empty { inbox.new.items ≡ [] }
 {
-    enter_each(table, start, hints, inbox.as_slice());
+    enter_by_parts(table, start, last, inbox.as_slice());
     inbox.clear();
 }
 

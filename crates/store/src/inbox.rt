@@ -9,7 +9,6 @@ ghost use Rattle.store.specs.inside.FoundUpTo.{IsFoundUpTo};
 ghost use Rattle.store.specs.FoundView.{StaysFound, offer_of, offers_of};
 
 use crate::entering::enter_all;
-use crate::guesses::Hints;
 use crate::key::Key;
 use crate::origin::{ClosedOrigin, MOST_RANKS, Origin};
 use crate::parts::PART;
@@ -18,23 +17,20 @@ use indexmap::IndexMap;
 use std::alloc::AllocError;
 use successors::{Parcel, Successor, share_by};
 
-/// So many offers wait before they enter where a book's own worker hands back; where the book is alone, a part that is looked up
-/// side by side.
-const FEW: usize = 32;
-
 /// So many offers wait in all the books together before they enter where another worker hands back: more than come between two
 /// turns of a book's own worker, and few beside the maps.
 const MANY: u32 = 4096;
 
 /// How many offers may wait in the inbox of the book of a share, one of so many, before they enter, where one of so many workers
 /// hands back to it. The books are dealt to the workers, and mostly it is a book's own worker that enters what all of them have brought,
-/// since what it entered before is in its processor's cache; the others append to the inbox, and soon let go of the lock.
+/// once that is a part that is looked up side by side, since what it entered before is in its processor's cache; the others append to the
+/// inbox, and soon let go of the lock.
 /// Where there are more workers than books, some own none.
 pub fn most_waiting(worker: u8, workers: u8, share: u8, shares: u8) -> usize
     requires { 0 < shares }
 {
     if workers == 0 || worker == share % workers {
-        if shares == 1 { PART } else { FEW }
+        PART
     } else {
         (MANY / u32::from(shares)) as usize
     }
@@ -45,21 +41,21 @@ pub fn most_waiting(worker: u8, workers: u8, share: u8, shares: u8) -> usize
 pub(crate) fn make_room<const N: usize, const M: usize>(
     table: &mut IndexMap<Key<N, M>, ClosedOrigin>,
     start: usize,
-    hints: &mut Hints,
+    last: &mut Origin,
     inbox: &mut Vec<(Key<N, M>, Origin)>,
     most: usize,
     successors: &[Successor],
 ) -> Result<(), AllocError>
     requires width { (N ≤ MAX_BOXES + 1) × (M ≤ MAX_BOXES + 1) }
     requires room { length inbox.old.items ≤ spare table.old }
-    requires found { IsFoundUpTo start table.old.entries hints.old }
-    ensures found { IsFoundUpTo start table.new.entries hints.new }
+    requires found { IsFoundUpTo start table.old.entries last.old }
+    ensures found { IsFoundUpTo start table.new.entries last.new }
     ensures same { StaysFound start table.old.entries inbox.old.items table.new.entries inbox.new.items }
     ensures room { length inbox.new.items ≤ spare table.new }
     ensures ok { OnOk result ((length inbox.new.items + length successors.now ≤ spare table.new) ×
         (vec_len inbox.new + length successors.now ≤ vec_capacity inbox.new)) }
 {
-    enter_if_full(table, start, hints, inbox, most);
+    enter_if_full(table, start, last, inbox, most);
     let more = successors.len();
     table.reserve(inbox.len() + more)?;
     inbox.reserve(more)
@@ -69,19 +65,19 @@ pub(crate) fn make_room<const N: usize, const M: usize>(
 fn enter_if_full<const N: usize, const M: usize>(
     table: &mut IndexMap<Key<N, M>, ClosedOrigin>,
     start: usize,
-    hints: &mut Hints,
+    last: &mut Origin,
     inbox: &mut Vec<(Key<N, M>, Origin)>,
     most: usize,
 )
     requires width { (N ≤ MAX_BOXES + 1) × (M ≤ MAX_BOXES + 1) }
     requires room { length inbox.old.items ≤ spare table.old }
-    requires found { IsFoundUpTo start table.old.entries hints.old }
-    ensures found { IsFoundUpTo start table.new.entries hints.new }
+    requires found { IsFoundUpTo start table.old.entries last.old }
+    ensures found { IsFoundUpTo start table.new.entries last.new }
     ensures same { StaysFound start table.old.entries inbox.old.items table.new.entries inbox.new.items }
     ensures room { length inbox.new.items ≤ spare table.new }
 {
     if inbox.len() >= most {
-        enter_all(table, start, hints, inbox);
+        enter_all(table, start, last, inbox);
     }
 }
 

@@ -14,9 +14,6 @@ use std::marker::Model;
 /// How many values a byte has. Where a grid has no more squares, the number of each is in its low byte.
 pub(crate) const BYTE_SQUARES: usize = 256;
 
-/// What the words of a key are multiplied with, so that each bit changes many of the higher ones.
-const FACTOR: u64 = 0x517c_c1b7_2722_0a95;
-
 /// A position of fewer than `N` boxes: the low bytes of the player's square and of the boxes', in rising order, and as many high
 /// bytes, or none where they are all 0. Zeros fill the rows.
 #[derive(Debug, Drop)]
@@ -70,13 +67,6 @@ impl<const N: usize, const M: usize> Key<N, M> {
             low: self.low,
             high: self.high,
         }
-    }
-
-    /// A number by which keys mostly differ, made in a few steps.
-    #[inline(always)]
-    pub(crate) fn mix(&self) -> u32 {
-        let low = mixed(&self.low, 0);
-        (mixed(&self.high, low) >> 32) as u32
     }
 
     /// The position.
@@ -187,19 +177,6 @@ fn square_of(low: u8, high: u8) -> Square
     ensures { result ≡ low + 256 * high }
 {
     Square(u16::from(low) + 256 * u16::from(high))
-}
-
-// A number with the bytes mixed in, four at a time; what is left at the end is passed over.
-#[inline(always)]
-fn mixed(bytes: &[u8], first: u64) -> u64 {
-    let mut all = first;
-    let mut rest = bytes;
-    while let [a, b, c, d, left @ ..] = rest {
-        let word = u64::from(u32::from_le_bytes([*a, *b, *c, *d]));
-        all = (all.rotate_left(5) ^ word).wrapping_mul(FACTOR);
-        rest = left;
-    }
-    all
 }
 
 impl<const N: usize, const M: usize> PartialEq for Key<N, M> {

@@ -15,7 +15,6 @@ mod closing;
 mod copying;
 mod entering;
 mod found;
-mod guesses;
 mod inbox;
 mod key;
 mod origin;

@@ -1,12 +1,11 @@
-//! Offers that enter a part at a time. Where the keys of a part stand is guessed for all of them first, and then compared, in loops
-//! without a branch, so that the waits for memory overlap. Mostly a guess is right and the offer changes nothing.
+//! Offers that enter a part at a time. The keys of a part are looked up first, so that the waits for memory overlap: no look waits for
+//! what another one found. Mostly an offer changes nothing where its key stands, and what the others want of the map is near then.
 ghost use Rattle.std.specs.Prelude.{◌≡◌, ◌+◌, ◌<◌, ◌≤◌, length, true};
 ghost use Rattle.indexmap.specs.IndexMap.{spare};
 ghost use Rattle.store.specs.inside.FoundUpTo.{IsFoundUpTo};
 ghost use Rattle.store.specs.FoundView.{all_let_in, keeps, let_in, open_of, seen_of};
 
 use crate::entering::enter;
-use crate::guesses::{Guesses, Hints, NOWHERE};
 use crate::key::Key;
 use crate::origin::{ClosedOrigin, Origin};
 use grid::MAX_BOXES;
@@ -15,17 +14,20 @@ use indexmap::IndexMap;
 /// So many offers are a part.
 pub(crate) const PART: usize = 64;
 
+/// No place, where no key stands.
+const NOWHERE: usize = usize::MAX;
+
 /// Offers enter, a part at a time.
 pub(crate) fn enter_by_parts<const N: usize, const M: usize>(
     table: &mut IndexMap<Key<N, M>, ClosedOrigin>,
     start: usize,
-    hints: &mut Hints,
+    last: &mut Origin,
     offers: &[(Key<N, M>, Origin)],
 )
     requires width { (N ≤ MAX_BOXES + 1) × (M ≤ MAX_BOXES + 1) }
     requires room { length offers.now ≤ spare table.old }
-    requires found { IsFoundUpTo start table.old.entries hints.old }
-    ensures found { IsFoundUpTo start table.new.entries hints.new }
+    requires found { IsFoundUpTo start table.old.entries last.old }
+    ensures found { IsFoundUpTo start table.new.entries last.new }
     ensures seen { seen_of start table.new.entries ≡ seen_of start table.old.entries }
     ensures waiting { open_of start table.new.entries ≡ all_let_in (seen_of start table.old.entries) (open_of start table.old.entries) offers.now }
     ensures room { spare table.old ≤ spare table.new + length offers.now }
@@ -33,7 +35,7 @@ pub(crate) fn enter_by_parts<const N: usize, const M: usize>(
     let mut rest = offers;
     while !rest.is_empty() {
         let count = rest.len().min(PART);
-        enter_part(table, start, hints, &rest[..count]);
+        enter_part(table, start, last, &rest[..count]);
         rest = &rest[count..];
     }
 }
@@ -42,109 +44,80 @@ pub(crate) fn enter_by_parts<const N: usize, const M: usize>(
 fn enter_part<const N: usize, const M: usize>(
     table: &mut IndexMap<Key<N, M>, ClosedOrigin>,
     start: usize,
-    hints: &mut Hints,
+    last: &mut Origin,
     offers: &[(Key<N, M>, Origin)],
 )
     requires width { (N ≤ MAX_BOXES + 1) × (M ≤ MAX_BOXES + 1) }
     requires few { length offers.now ≤ PART }
     requires room { length offers.now ≤ spare table.old }
-    requires found { IsFoundUpTo start table.old.entries hints.old }
-    ensures found { IsFoundUpTo start table.new.entries hints.new }
+    requires found { IsFoundUpTo start table.old.entries last.old }
+    ensures found { IsFoundUpTo start table.new.entries last.new }
     ensures seen { seen_of start table.new.entries ≡ seen_of start table.old.entries }
     ensures waiting { open_of start table.new.entries ≡ all_let_in (seen_of start table.old.entries) (open_of start table.old.entries) offers.now }
     ensures room { spare table.old ≤ spare table.new + length offers.now }
 {
-    let mut slots = [0; PART];
-    let mut places = [0; PART];
-    guess(&hints.guesses, offers, &mut slots, &mut places);
-    confirm(table, offers, &mut places);
-    enter_guessed(table, start, hints, offers, &slots, &places);
+    let mut places = [NOWHERE; PART];
+    look_up(table, offers, &mut places);
+    enter_each(table, start, last, offers, &places);
 }
 
-// The slot of each offer's key, and the place in it.
-fn guess<const N: usize, const M: usize>(
-    guesses: &Guesses,
-    offers: &[(Key<N, M>, Origin)],
-    slots: &mut [u32],
-    places: &mut [u32],
-)
-    requires slots { length offers.now ≤ length slots.old }
-    requires places { length offers.now ≤ length places.old }
-{
-    for (nth, offer) in offers.iter().enumerate() {
-        let slot = guesses.slot_of(&offer.0);
-        slots[nth] = slot;
-        places[nth] = guesses.place_in(slot);
-    }
-}
-
-// Of the places those at which the offers' keys stand; the others become no place.
-fn confirm<const N: usize, const M: usize>(
+// The places at which the offers' keys stand.
+fn look_up<const N: usize, const M: usize>(
     table: &IndexMap<Key<N, M>, ClosedOrigin>,
     offers: &[(Key<N, M>, Origin)],
-    places: &mut [u32],
+    places: &mut [usize],
 )
     requires width { (N ≤ MAX_BOXES + 1) × (M ≤ MAX_BOXES + 1) }
     requires places { length offers.now ≤ length places.old }
 {
     for (nth, offer) in offers.iter().enumerate() {
-        let place = places[nth];
-        places[nth] = if stands_at(table, place, &offer.0) {
-            place
-        } else {
-            NOWHERE
-        };
+        places[nth] = place_of(table, &offer.0);
     }
 }
 
-// Whether a key stands at a place.
-#[inline(always)]
-fn stands_at<const N: usize, const M: usize>(
+// The place at which a key stands, or no place.
+fn place_of<const N: usize, const M: usize>(
     table: &IndexMap<Key<N, M>, ClosedOrigin>,
-    place: u32,
     key: &Key<N, M>,
-) -> bool
+) -> usize
     requires width { (N ≤ MAX_BOXES + 1) × (M ≤ MAX_BOXES + 1) }
 {
-    match table.get_index(place as usize) {
-        Some((other, _)) => *other == *key,
-        None => false,
+    match table.get_index_of(key) {
+        Some(place) => place,
+        None => NOWHERE,
     }
 }
 
 // Offers enter, one after the other, whose keys may stand at these places.
-fn enter_guessed<const N: usize, const M: usize>(
+fn enter_each<const N: usize, const M: usize>(
     table: &mut IndexMap<Key<N, M>, ClosedOrigin>,
     start: usize,
-    hints: &mut Hints,
+    last: &mut Origin,
     offers: &[(Key<N, M>, Origin)],
-    slots: &[u32],
-    places: &[u32],
+    places: &[usize],
 )
     requires width { (N ≤ MAX_BOXES + 1) × (M ≤ MAX_BOXES + 1) }
-    requires guesses { (length offers.now ≤ length slots.now) × (length offers.now ≤ length places.now) }
+    requires places { length offers.now ≤ length places.now }
     requires room { length offers.now ≤ spare table.old }
-    requires found { IsFoundUpTo start table.old.entries hints.old }
-    ensures found { IsFoundUpTo start table.new.entries hints.new }
+    requires found { IsFoundUpTo start table.old.entries last.old }
+    ensures found { IsFoundUpTo start table.new.entries last.new }
     ensures seen { seen_of start table.new.entries ≡ seen_of start table.old.entries }
     ensures waiting { open_of start table.new.entries ≡ all_let_in (seen_of start table.old.entries) (open_of start table.old.entries) offers.now }
     ensures room { spare table.old ≤ spare table.new + length offers.now }
 {
     for (nth, offer) in offers.iter().enumerate() {
-        let mut place = places[nth] as usize;
-        enter_at(table, start, &mut hints.last, offer, &mut place);
-        hints.guesses.put(slots[nth], place);
+        enter_at(table, start, last, offer, places[nth]);
     }
 }
 
-// An offer enters, whose key may stand at a place, and where it stands then becomes the place.
+// An offer enters, whose key may stand at a place.
 #[inline(always)]
 fn enter_at<const N: usize, const M: usize>(
     table: &mut IndexMap<Key<N, M>, ClosedOrigin>,
     start: usize,
     last: &mut Origin,
     offer: &(Key<N, M>, Origin),
-    place: &mut usize,
+    place: usize,
 )
     requires width { (N ≤ MAX_BOXES + 1) × (M ≤ MAX_BOXES + 1) }
     requires room { 0 < spare table.old }
@@ -154,14 +127,14 @@ fn enter_at<const N: usize, const M: usize>(
     ensures waiting { open_of start table.new.entries ≡ let_in (seen_of start table.old.entries) (open_of start table.old.entries) offer.now }
     ensures room { spare table.old ≤ spare table.new + 1 }
 {
-    if changes_nothing(table, start, *last, offer, *place) {
+    if changes_nothing(table, start, *last, offer, place) {
         return;
     }
-    enter(table, start, last, &offer.0, offer.1, place);
+    enter(table, start, last, &offer.0, offer.1);
 }
 
 // Whether an offer surely changes nothing, since its key stands at a place that is closed, or stands open and the offer's origin is
-// not before the last one.
+// not before the last one, or not before the one that it has there.
 #[inline(always)]
 fn changes_nothing<const N: usize, const M: usize>(
     table: &IndexMap<Key<N, M>, ClosedOrigin>,
@@ -174,10 +147,13 @@ fn changes_nothing<const N: usize, const M: usize>(
     requires found { IsFoundUpTo start table.now.entries last }
     ensures { result ≡ true → true ≡ keeps (seen_of start table.now.entries) (open_of start table.now.entries) offer.now.0 offer.now.1 }
 {
-    let Some((key, _)) = table.get_index(place) else {
+    let Some((key, known)) = table.get_index(place) else {
         return false;
     };
     let stands = *key == offer.0;
     let late = !offer.1.is_before(last);
-    stands & ((place < start) | late)
+    if stands & ((place < start) | late) {
+        return true;
+    }
+    stands && !known.exceeds(offer.1)
 }

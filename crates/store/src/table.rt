@@ -10,7 +10,6 @@ ghost use Rattle.store.specs.inside.KeyRows.{SuitsLevel};
 use crate::closing::arrange;
 use crate::copying::{copy_entry, copy_from};
 use crate::entering::{count_new, enter_all};
-use crate::guesses::Hints;
 use crate::inbox::{append_parcel, make_room};
 use crate::key::Key;
 use crate::origin::{ClosedOrigin, MOST_RANKS, Origin};
@@ -28,8 +27,8 @@ pub(crate) struct Table<const N: usize, const M: usize> {
     table: IndexMap<Key<N, M>, ClosedOrigin>,
     // what stands open begins here
     start: usize,
-    // no origin of what stands open comes after theirs
-    hints: Hints,
+    // no origin of what stands open comes after this one
+    last: Origin,
     // what was offered since and is to enter, for which the map has room
     inbox: Vec<(Key<N, M>, Origin)>,
 }
@@ -49,7 +48,7 @@ impl<const N: usize, const M: usize> Model for Table<N, M> {
 
     ghost invariant = { λ a. ((N ≤ MAX_BOXES + 1) × (M ≤ MAX_BOXES + 1))
         × SuitsLevel N M a.boxes a.squares
-        × IsFoundUpTo a.start a.table.entries a.hints
+        × IsFoundUpTo a.start a.table.entries a.last
         × (length a.inbox.items ≤ spare a.table) };
 }
 
@@ -85,7 +84,7 @@ impl<const N: usize, const M: usize> Table<N, M> {
             squares,
             table,
             start,
-            hints: Hints::new(alloc),
+            last: Origin::lowest(),
             inbox: Vec::new(alloc),
         })
     }
@@ -169,8 +168,8 @@ impl<const N: usize, const M: usize> Table<N, M> {
         if self.inbox.len() + successors.len() <= room {
             return false;
         }
-        let hints = &mut self.hints;
-        enter_all(&mut self.table, self.start, hints, &mut self.inbox);
+        let last = &mut self.last;
+        enter_all(&mut self.table, self.start, last, &mut self.inbox);
         let room = limit - self.table.len();
         count_new(&self.table, self.start, share, shares, successors) > room
     }
@@ -191,11 +190,10 @@ impl<const N: usize, const M: usize> Table<N, M> {
         ensures err { OnErr result (self.new ≡ self.old) }
     {
         let successors = parcel.successors();
-        self.hints.tell_shares(shares);
         make_room(
             &mut self.table,
             self.start,
-            &mut self.hints,
+            &mut self.last,
             &mut self.inbox,
             most,
             successors,
@@ -210,7 +208,7 @@ impl<const N: usize, const M: usize> Table<N, M> {
         ensures same { self.new ≡ self.old }
     {
         let inbox = &mut self.inbox;
-        enter_all(&mut self.table, self.start, &mut self.hints, inbox);
+        enter_all(&mut self.table, self.start, &mut self.last, inbox);
         self.table.len()
     }
 
@@ -231,10 +229,10 @@ impl<const N: usize, const M: usize> Table<N, M> {
         ensures err { OnErr result (self.new ≡ self.old) }
     {
         let start = self.start;
-        enter_all(&mut self.table, start, &mut self.hints, &mut self.inbox);
-        arrange(&mut self.table, start, &mut self.hints)?;
+        enter_all(&mut self.table, start, &mut self.last, &mut self.inbox);
+        arrange(&mut self.table, start)?;
         self.start = self.table.len();
-        self.hints.close();
+        self.last = Origin::lowest();
         Ok(())
     }
 

@@ -1,5 +1,5 @@
 -- The bytes of a key: the low ones of its squares in one row, and the high ones in another where there are any.
-use Rattle.std.specs.Prelude.{◌≡◌, ℕ, zero, suc, ◌+◌, ◌*◌, ◌/◌, ◌%◌, ◌<◌, ◌≤◌, ◌==◌, ◌&&◌, ◌⊎◌, IsTrue, true, List, [], ◌∷◌, map, nat_eq, take, length}
+use Rattle.std.specs.Prelude.{◌≡◌, ℕ, zero, suc, ◌+◌, ◌*◌, ◌/◌, ◌%◌, ◌<◌, ◌≤◌, ◌==◌, ◌⊎◌, IsTrue, true, List, [], ◌∷◌, map, nat_eq, take, length}
 use Rattle.std.specs.Prelude.{slice_get, Some}
 use Rattle.std.specs.Cmp.{first_so, second_so, unsigned_Decides}
 use Rattle.std.specs.Cmp.Lexicographic.{pointwise, bytes_decides}

@@ -11,7 +11,7 @@ invariant-loop-rest g l =
     all_let_in (seen_of l.start l.initial.table.entries) (open_of l.start l.initial.table.entries) l.offers)
     × (length l.rest ≤ spare l.table)
     × (spare l.initial.table + length l.rest ≤ spare l.table + length l.offers)
-    × IsFoundUpTo l.start l.table.entries l.hints
+    × IsFoundUpTo l.start l.table.entries l.last
     × (seen_of l.start l.table.entries ≡ seen_of l.start l.initial.table.entries)
 
 abbrev pub decreases-loop-rest : goal.decreases-loop-rest

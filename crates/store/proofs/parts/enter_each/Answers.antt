@@ -5,7 +5,7 @@ use Rattle.grid.specs.Board.{Scene}
 use Rattle.store.specs.Entries.{Entry}
 use Rattle.store.specs.FoundView.{seen_of, open_of, let_in, all_let_in}
 use Rattle.store.proofs.Inboxes.{let_in_more}
-use Rattle.store.proofs.parts.enter_guessed.Goals as goal
+use Rattle.store.proofs.parts.enter_each.Goals as goal
 
 pub loop-nth-preserved : goal.loop-nth-preserved
 loop-nth-preserved g c =
