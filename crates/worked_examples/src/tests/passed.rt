@@ -75,6 +75,22 @@ impl Gate for Counting {
 /// Solves a level with two workers over so many locks; what passed in each layer.
 fn passed<R: Threads + Wait + Sync + Abort>(rt: &R, alloc: Global, locks: u8) -> [u64; 3] {
     let gate = Counting::new();
+    check_report(rt, alloc, locks, &gate);
+    assert_eq!(rt;
+        gate.ran_out.load(Ordering::SeqCst),
+        0,
+        "two workers at once"
+    );
+    gate.counts()
+}
+
+/// Checks what is told where two workers over so many locks solve the level past this gate.
+fn check_report<R: Threads + Wait + Sync + Abort>(
+    rt: &R,
+    alloc: Global,
+    locks: u8,
+    gate: &Counting,
+) {
     let config = Config {
         workers: 2,
         locks: locks.max(1).min(MAX_SHARES),
@@ -87,17 +103,11 @@ fn passed<R: Threads + Wait + Sync + Abort>(rt: &R, alloc: Global, locks: u8) ->
         alloc,
         &mut Reader::new(TWO_ENDS),
         SolveRequest { number: 1, config },
-        &gate,
+        gate,
         &mut Writer::new(&mut paper),
     );
     assert_eq!(rt; status, Ok(0));
     assert_eq!(rt; paper.text.as_slice(), REPORT);
-    assert_eq!(rt;
-        gate.ran_out.load(Ordering::SeqCst),
-        0,
-        "two workers at once"
-    );
-    gate.counts()
 }
 
 // The first layer has one position and the second two. Each is drawn once, and handed back once to each of the books, of
