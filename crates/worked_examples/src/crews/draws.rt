@@ -117,27 +117,32 @@ fn alone<R: Wait + Abort>(rt: &R, alloc: Global, layer: &Layer, book: Book) -> (
     worked(rt, alloc, layer, book, &ledger, own, count, 0, &Free)
 }
 
-/// A book of the room at work on its layer 3, and that layer, which has 87 positions.
-fn begun_room(rt: &impl Abort, alloc: Global) -> (Book, Layer) {
+/// A book of the room that has closed its layer 3.
+fn room_book(rt: &impl Abort, alloc: Global) -> Book {
     let mut book = book_of(rt, alloc, ROOM, AMPLE);
-    for _ in 0..3 {
-        turn(rt, alloc, &mut book);
-    }
-    let layer = joined(rt, alloc, &book);
-    book.begin(&layer).expect(rt, "a begin");
-    (book, layer)
+    turn(rt, alloc, &mut book);
+    turn(rt, alloc, &mut book);
+    turn(rt, alloc, &mut book);
+    book
+}
+
+/// Checks that one worker alone hands back all of layer 3 of the room to its book, from which layer 4 comes.
+fn check_room(rt: &(impl Wait + Abort), alloc: Global, layer: &Layer, book: Book) {
+    let (end, mut book) = alone(rt, alloc, layer, book);
+    assert!(rt; end == End::Drained);
+    assert!(rt; book.claim().is_none());
+    let closed = book.close().expect(rt, "a close");
+    assert!(rt; closed.layer == 4 && closed.count == 162);
 }
 
 #[test]
 fn a_worker_hands_back_each_rank_of_a_large_layer(rt: HostRuntime) {
     let alloc = rt.alloc();
-    let (book, layer) = begun_room(&rt, alloc);
+    let mut book = room_book(&rt, alloc);
+    let layer = joined(&rt, alloc, &book);
     assert!(rt; layer.len() == 87);
-    let (end, mut book) = alone(&rt, alloc, &layer, book);
-    assert!(rt; end == End::Drained);
-    assert!(rt; book.claim().is_none());
-    let closed = book.close().expect(&rt, "a close");
-    assert!(rt; closed.layer == 4 && closed.count == 162);
+    book.begin(&layer).expect(&rt, "a begin");
+    check_room(&rt, alloc, &layer, book);
 }
 
 #[test]

@@ -4,7 +4,7 @@ ghost use Rattle.claims.specs.Hands.{newcomer};
 
 use super::draws::{FIRST, again, begun, one_number, worked};
 use crate::boards::{ONE, TWO_ENDS};
-use crate::books::{AMPLE, book_of, level_of, turn};
+use crate::books::{AMPLE, book_of, level_of, start_of, turn};
 use crew::{End, Free, Gate};
 use layers::{Book, Layer, Refusal};
 use std::alloc::Global;
@@ -37,11 +37,23 @@ fn book_for(rt: &impl Abort, alloc: Global, text: &[u8], limit: u32, workers: u8
     book
 }
 
+/// How a worker of this number ends that works on a layer of one position with this book, and the book after it.
+fn over_one<R: Wait + Abort, G: Gate>(
+    rt: &R,
+    alloc: Global,
+    layer: &Layer,
+    book: Book,
+    worker: u8,
+    gate: &G,
+) -> (End, Book) {
+    let (ledger, _, own) = one_number(rt, alloc);
+    worked(rt, alloc, layer, book, &ledger, own, 1, worker, gate)
+}
+
 /// How a worker of this number ends that works on layer 0 of two ends with this book, and whether the book is as it was.
 fn ended<R: Wait + Abort>(rt: &R, alloc: Global, book: Book, worker: u8) -> (End, bool) {
-    let (_, layer) = begun(rt, alloc);
-    let (ledger, _, own) = one_number(rt, alloc);
-    let (end, mut book) = worked(rt, alloc, &layer, book, &ledger, own, 1, worker, &Free);
+    let layer = start_of(rt, alloc, TWO_ENDS);
+    let (end, mut book) = over_one(rt, alloc, &layer, book, worker, &Free);
     let kept = book.claim() == Some(FIRST);
     (end, kept)
 }
@@ -63,9 +75,7 @@ fn a_gate_stops_a_worker_that_drew(rt: HostRuntime) {
 fn a_gate_stops_a_worker_that_handed_back(rt: HostRuntime) {
     let alloc = rt.alloc();
     let (book, layer) = begun(&rt, alloc);
-    let (ledger, _, own) = one_number(&rt, alloc);
-    let gate = Closed { nth: 2 };
-    let (end, mut book) = worked(&rt, alloc, &layer, book, &ledger, own, 1, 0, &gate);
+    let (end, mut book) = over_one(&rt, alloc, &layer, book, 0, &Closed { nth: 2 });
     assert!(rt; end == End::Stopped);
     assert!(rt; again(&rt, alloc, &layer, &mut book) == Err(Refusal::Double));
 }

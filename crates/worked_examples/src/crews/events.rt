@@ -112,18 +112,30 @@ fn check<R: Threads + Wait + Sync + Abort>(
     locks: u8,
     turn: u8,
 ) {
-    let level = level_of(rt, alloc, ROOM);
     let gate = Meeting::new(rt, alloc, workers, turn);
+    check_answer(rt, alloc, workers, locks, &gate);
+    check_gate(rt, &gate, locks);
+}
+
+/// Checks the answer of a run of the room past this gate.
+fn check_answer<R: Threads + Wait + Sync + Abort>(
+    rt: &R,
+    alloc: Global,
+    workers: u8,
+    locks: u8,
+    gate: &Meeting,
+) {
+    let level = level_of(rt, alloc, ROOM);
     let config = Config {
         workers,
         locks,
         limit: 1_000_000,
         cap: None,
     };
-    let answer = solve(rt, alloc, &level, config, &gate);
+    let answer = solve(rt, alloc, &level, config, gate);
     assert!(rt;
         matches!(
-            answer,
+            &answer,
             Ok(Answer::Solved {
                 pushes: PUSHES,
                 positions: POSITIONS,
@@ -131,7 +143,6 @@ fn check<R: Threads + Wait + Sync + Abort>(
             })
         )
     );
-    check_gate(rt, &gate, locks);
 }
 
 /// Checks that no worker waited in vain, that each of them had events, which rise from 1, and that there are as many as ranks
