@@ -4,10 +4,10 @@
 //! With a `level` of one box:
 //!
 //! ```text
-//! let first = Position::start(&level);
-//! let found = Found::of(alloc, level.boxes(), level.squares(), &first).expect(&rt, "memory");
-//! assert_eq!(&rt; found.closed_len(), 1);
-//! assert!(&rt; found.closed_at(1).is_none());
+//! let first = Position::start(level);
+//! let found = Found::of(alloc, level.boxes(), level.squares(), &first).expect(rt, "memory");
+//! assert!(rt; found.closed_len() == 1);
+//! assert!(rt; found.closed_at(1).is_none());
 //! ```
 #![tactic(auto)]
 

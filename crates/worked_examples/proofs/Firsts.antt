@@ -1,9 +1,13 @@
 -- Layers of one level, from layer 0 on, one more each time.
-use Rattle.std.proofs.Common.{◌≡◌, ℕ, ◌<◌, ◌≤◌, ⊎_elim, List, [], ◌∷◌, ◌++◌, length, get_or, sym, ap, ◌∙◌, subst, arith}
-use Rattle.std.specs.Prelude.{Some, slice_get}
+use Rattle.std.proofs.Common.{◌≡◌, ℕ, ◌<◌, ◌≤◌, ⊎_elim, List, [], ◌∷◌, ◌++◌, length, get_or, sym, ap, ◌∙◌, subst, arith, Result, Ok}
+use Rattle.std.specs.Prelude.{Some, slice_get, MatchResult}
 use Rattle.std.proofs.lemmas.Bool.{cases_lt}
 use Rattle.std.proofs.lemmas.List.{length-append, get_or_append_left, get_or_push}
 use Rattle.std.proofs.lemmas.Option.{slice_get_within, get_or_from_slice_get, slice_get-get_or}
+use Rattle.std.proofs.lemmas.Result.{MatchResult-at_ok}
+use Rattle.layers.specs.Books.{IsJoinOf, JoinRefused}
+use Rattle.layers.specs.BookView.{BookView}
+use Rattle.layers.specs.declared.fault.JoinFault.{JoinFault}
 use Rattle.layers.specs.LayerView.{LayerView}
 use Rattle.successors.specs.Tasks.{Task}
 use Rattle.solo.specs.Leads.{AreFirstLayers}
@@ -32,3 +36,10 @@ pub are_first : (task : Task) (layers : List LayerView) → 1 ≤ length layers 
 are_first task [] some all = absurd (omega arith)
 are_first task (x ∷ xs) some all = let first = (all 0 x (slice_get-get_or (x ∷ xs) 0 x (omega arith))).0 in
     record { some = some; each = λ j l at. (let t = all j l at in (t.0 ∙ sym first, t.1)) }
+
+-- the layer of one book is of its level
+pub join_level : (books : List BookView) (book : BookView) (joined : Result LayerView JoinFault) (layer : LayerView) → books ≡ book ∷ [] →
+    joined ≡ Ok layer → MatchResult joined (λ l. IsJoinOf books l) (λ f. JoinRefused books f) → layer.level ≡ book.level
+join_level books book joined layer one ok join =
+    let is = MatchResult-at_ok (λ (l : LayerView). IsJoinOf books l) (λ (f : JoinFault). JoinRefused books f) layer ok join in
+    (is.1 book (ap (λ (bs : List BookView). slice_get bs 0) one)).0

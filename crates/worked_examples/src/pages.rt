@@ -1,5 +1,6 @@
 //! The examples on the pages of the crates, at the head of each `lib.rt`. `tests/cited` holds each page to the text here.
 ghost use Rattle.std.specs.Prelude.{◌≡◌, length};
+ghost use Rattle.grid.specs.Board.{start};
 ghost use Rattle.grid.specs.States.{FitsLevel};
 
 use crate::boards::{APART, BLOCKED, CORNER, ONE, TWO_ENDS};
@@ -194,16 +195,22 @@ fn page_of_successors(rt: HostRuntime) {
     assert_eq!(&rt; share_of(&start, 4), 2);
 }
 
+/// Checks that of this level the start alone is found at first.
+fn check_found(rt: &impl Abort, alloc: Global, level: &Level)
+    requires { FitsLevel level.now (start level.now) }
+{
+    assert!(rt; level.boxes() == 1);
+    let first = Position::start(level);
+    let found = Found::of(alloc, level.boxes(), level.squares(), &first).expect(rt, "memory");
+    assert!(rt; found.closed_len() == 1);
+    assert!(rt; found.closed_at(1).is_none());
+}
+
 #[test]
 fn page_of_store(rt: HostRuntime) {
-    let alloc = rt.alloc();
-    let level = level_of(&rt, alloc, CORNER);
+    let level = level_of(&rt, rt.alloc(), CORNER);
     level.tell_start();
-    assert!(&rt; level.boxes() == 1);
-    let first = Position::start(&level);
-    let found = Found::of(alloc, level.boxes(), level.squares(), &first).expect(&rt, "memory");
-    assert_eq!(&rt; found.closed_len(), 1);
-    assert!(&rt; found.closed_at(1).is_none());
+    check_found(&rt, rt.alloc(), &level);
 }
 
 #[test]
