@@ -20,34 +20,51 @@ pub(crate) fn work_alone<R: Print + Wait>(rt: &R, alloc: Global) -> Option<()> {
     work_twice(rt, alloc, &layer, book)
 }
 
-// Works on the layer, and once more where memory is refused.
+// Works on the layer, shows the book, and does so once more where memory was refused.
 fn work_twice<R: Print + Wait>(rt: &R, alloc: Global, layer: &Layer, book: Book) -> Option<()> {
     let lock = Mutex::new(book);
-    if is_refused(rt, with_pruner(rt, alloc, layer, &lock)?)? {
-        let lock = shown(rt, lock)?;
-        is_refused(rt, with_pruner(rt, alloc, layer, &lock)?)?;
-        shown(rt, lock)?;
-        return Some(());
-    }
-    shown(rt, lock)?;
-    Some(())
-}
-
-// Shows what is behind the lock.
-fn shown<R: Print>(rt: &R, lock: Mutex<Book>) -> Option<Mutex<Book>> {
+    let refused = works(rt, alloc, layer, &lock)?;
     let book = lock.into_inner();
     told::left(rt, slice::from_ref(&book))?;
-    Some(Mutex::new(book))
+    work_again(rt, alloc, layer, book, refused)
+}
+
+// Works on the layer once more where memory was refused, and shows the book.
+fn work_again<R: Print + Wait>(
+    rt: &R,
+    alloc: Global,
+    layer: &Layer,
+    book: Book,
+    refused: bool,
+) -> Option<()> {
+    if !refused {
+        return Some(());
+    }
+    let lock = Mutex::new(book);
+    works(rt, alloc, layer, &lock)?;
+    let book = lock.into_inner();
+    told::left(rt, slice::from_ref(&book))
+}
+
+// Works on the layer, and says whether memory was refused.
+fn works<R: Print + Wait>(
+    rt: &R,
+    alloc: Global,
+    layer: &Layer,
+    lock: &Mutex<Book>,
+) -> Option<bool> {
+    let end = with_pruner(rt, alloc, layer, lock)?;
+    is_refused(rt, &end)
 }
 
 // Prints how a worker ended, and says whether memory was refused.
-fn is_refused<R: Print>(rt: &R, end: End) -> Option<bool> {
+fn is_refused<R: Print>(rt: &R, end: &End) -> Option<bool> {
     match end {
         End::Drained => told::done(rt)?,
-        End::Refused(refusal) => told::refusal(rt, &refusal)?,
-        other => told::answer(rt, &other)?,
+        End::Refused(refusal) => told::refusal(rt, refusal)?,
+        other => told::answer(rt, other)?,
     }
-    Some(end == End::Refused(Refusal::OutOfMemory))
+    Some(*end == End::Refused(Refusal::OutOfMemory))
 }
 
 // How a worker of the layer ends.
