@@ -12,7 +12,7 @@ ghost use Rattle.crew.specs.inside.Shifts.{answers_to};
 use crate::end::End;
 use crate::gate::Gate;
 use crate::held::tell_growth;
-use crate::locking::lock_soon;
+use crate::locking::{lock_book, try_book};
 use crate::lots::{AHEAD, Lot, MOST};
 use crate::shift::Post;
 use crate::worker::pass;
@@ -36,7 +36,7 @@ pub(crate) fn hand_back<R: Wait, G: Gate>(
 {
     let shift = post.shift;
     for book in shift.books {
-        hand_to(post, lock_soon(post.rt, book), parcel, nth)?;
+        hand_to(post, lock_book(post, book), parcel, nth)?;
     }
     Ok(())
 }
@@ -102,7 +102,8 @@ fn hand_lot_to<'a, R: Wait, G: Gate>(
     Ok(())
 }
 
-// Takes a book's lock. While another worker holds it, this one draws on the next lot, as far as that goes, and then waits.
+// Takes a book's lock. While another worker holds it, this one lets enter what waits for its own book, draws on the next lot, as
+// far as that goes, and then waits.
 fn lock_or_draw<'a, 'b, R: Wait, G: Gate>(
     post: &Post<'_, '_, '_, 'a, R, G>,
     book: &'b Mutex<Book>,
@@ -120,14 +121,14 @@ fn lock_or_draw<'a, 'b, R: Wait, G: Gate>(
     ensures ready { IsReady post.now.shift.now post.now.worker scratch.new drawer.new }
 {
     for _ in 0..MOST {
-        if let Some(guard) = book.try_lock() {
+        if let Some(guard) = try_book(post, book) {
             return Ok(guard);
         }
         if !next.draw_more(post, drawer, scratch, nth, AHEAD)? {
             break;
         }
     }
-    Ok(lock_soon(post.rt, book))
+    Ok(lock_book(post, book))
 }
 
 // Hands a parcel back to a book whose lock is held, lets go of the lock, and then passes the gate.

@@ -1,24 +1,66 @@
-//! Locks that are mostly free again before a thread could fall asleep and wake.
+//! Books' locks, and what a worker does until the one that it wants is free.
+use crate::gate::Gate;
+use crate::held::tell_growth;
+use crate::shift::Post;
+use layers::Book;
 use std::sync::{Mutex, MutexGuard, Wait};
 use std::thread::yield_now;
 
-// How often a lock is tried before the thread sleeps until it is free.
+// How often a lock is tried before the thread sleeps until it is free: what the locks of a search are held for takes less time
+// than falling asleep and being woken.
 const TRIES: u32 = 60;
 
 // How often the thread lets others run between two tries. The one that holds the lock is slowed by each try, and mostly
 // takes the lock again at once for the next parcel of its lot, so a pause is some parcels long.
 const PAUSES: u32 = 8;
 
-// Takes a lock as `lock` does, after it has tried for a while: what the locks of a search are held for takes less time
-// than falling asleep and being woken.
-pub(crate) fn lock_soon<'b, T, R: Wait>(rt: &R, mutex: &'b Mutex<T>) -> MutexGuard<'b, T> {
+// So many successors wait at least where a worker lets them enter its own book meanwhile: fewer are not looked up side by side.
+const LEAST: usize = 16;
+
+// Takes a book's lock as `lock` does, after it has tried for a while.
+pub(crate) fn lock_book<'b, R: Wait, G: Gate>(
+    post: &Post<'_, '_, '_, '_, R, G>,
+    book: &'b Mutex<Book>,
+) -> MutexGuard<'b, Book> {
     for _ in 0..TRIES {
-        if let Some(guard) = mutex.try_lock() {
+        if let Some(guard) = try_book(post, book) {
             return guard;
         }
         pause();
     }
-    mutex.lock(rt)
+    book.lock(post.rt)
+}
+
+// Takes a book's lock, if it is free. While another worker holds it, this one does what it would do at its own book later, and
+// tries once more.
+pub(crate) fn try_book<'b, R: Wait, G: Gate>(
+    post: &Post<'_, '_, '_, '_, R, G>,
+    book: &'b Mutex<Book>,
+) -> Option<MutexGuard<'b, Book>> {
+    if let Some(guard) = book.try_lock() {
+        return Some(guard);
+    }
+    if !enter_own(post) {
+        return None;
+    }
+    book.try_lock()
+}
+
+// What waits to enter the worker's own book does so, if there is enough of it and no other worker holds the book; says whether it
+// did.
+fn enter_own<R: Wait, G: Gate>(post: &Post<'_, '_, '_, '_, R, G>) -> bool {
+    let shift = post.shift;
+    let Some(book) = shift.books.get(post.worker as usize) else {
+        return false;
+    };
+    let Some(mut guard) = book.try_lock() else {
+        return false;
+    };
+    let before = guard.positions_at_least();
+    let entered = guard.enter_waiting(LEAST);
+    tell_growth(shift.held, before, guard.positions_at_least());
+    drop(guard);
+    entered
 }
 
 // Lets a little time pass.

@@ -20,6 +20,14 @@ impl Book {
         self.found.count_entered() as u64
     }
 
+    /// Successors that came and wait to enter do so, where that are so many at least; says whether that is so. What the book shows
+    /// stays as it was: it shows them as entered in any case.
+    pub fn enter_waiting(&mut self, least: usize) -> bool
+        ensures { self.new ≡ self.old }
+    {
+        self.found.enter_waiting(least)
+    }
+
     /// Whether the limit was passed.
     pub fn is_over(&self) -> bool
         ensures { result ≡ self.now.over }

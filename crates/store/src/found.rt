@@ -189,6 +189,13 @@ impl Found {
         in_each!(&mut self.tables, table => table.count())
     }
 
+    /// What waits to enter does so, where that are so many at least; says whether that is so.
+    pub fn enter_waiting(&mut self, least: usize) -> bool
+        ensures { self.new ≡ self.old }
+    {
+        in_each!(&mut self.tables, table => table.enter_waiting(least))
+    }
+
     /// How many positions are found, but for those that wait to enter.
     pub fn count_entered(&self) -> usize
         ensures { result ≤ length self.now.seen + length self.now.waiting }

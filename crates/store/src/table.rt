@@ -212,6 +212,18 @@ impl<const N: usize, const M: usize> Table<N, M> {
         self.table.len()
     }
 
+    /// What waits in the inbox enters, where it is so much at least; says whether that is so.
+    pub(crate) fn enter_waiting(&mut self, least: usize) -> bool
+        ensures { self.new ≡ self.old }
+    {
+        if self.inbox.len() < least {
+            return false;
+        }
+        let inbox = &mut self.inbox;
+        enter_all(&mut self.table, self.start, &mut self.last, inbox);
+        true
+    }
+
     /// How many positions are found, but for those that wait in the inbox.
     pub(crate) fn count_entered(&self) -> usize
         ensures { result ≤ length self.now.seen + length self.now.waiting }
