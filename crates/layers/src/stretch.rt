@@ -232,7 +232,7 @@ fn append_stretch(
         IfOk result (λ follows. follows ≡ true → AreTaken books.now starts whole.new.ends.items whole.new.squares.items whole.new.origins.items) }
     ensures stretch { IsStretchOf books.now stretch.new }
 {
-    if !are_same(whole.ends.as_slice(), stretch.starts.as_slice()) {
+    if whole.ends.as_slice() != stretch.starts.as_slice() {
         return Ok(false);
     }
     let Some(mut more) = stretch.merged.take() else {
@@ -254,21 +254,6 @@ fn append<T>(list: &mut Vec<T>, more: &mut Vec<T>) -> Result<(), AllocError>
         return Ok(());
     }
     list.append(more)
-}
-
-// Whether the places are the same.
-fn are_same(places: &[usize], others: &[usize]) -> bool
-    ensures { result ≡ true → places.now ≡ others.now }
-{
-    if places.len() != others.len() {
-        return false;
-    }
-    for place in 0..places.len() {
-        if places[place] != others[place] {
-            return false;
-        }
-    }
-    true
 }
 
 // How many positions the layer has that the books closed last.

@@ -1,4 +1,5 @@
-use Rattle.std.proofs.Common.{◌≡◌, ◌∙◌, ◌++◌, refl, sym, subst}
+use Rattle.std.proofs.Common.{◌≡◌, ◌∙◌, ◌++◌, rules, sym, subst}
+use Rattle.std.specs.Cmp.Rules.{comparing}
 use Rattle.std.specs.Prelude.{IfSome, Some}
 use Rattle.layers.specs.inside.Merging.{AreTaken}
 use Rattle.layers.specs.declared.stretch.Merged.{Merged}
@@ -11,7 +12,8 @@ returns-clause-follows c = λ starts taken follows.
     let was : s.merged ≡ Some m = sym c.take.ensures.value ∙ c.in-Some.is in
     let held : AreTaken books s.starts.items m.ends.items m.squares.items m.origins.items = subst
     (λ o. IfSome o (λ (x : Merged). AreTaken books s.starts.items x.ends.items x.squares.items x.origins.items)) was c.requires in
-    let same : w.ends.items ≡ s.starts.items = sym c.as_slice.ensures.value ∙ c.if-not-are_same.ensures refl ∙ c.as_slice-2.ensures.value in
+    let differ = c.ne.ensures in let none = c.if-ne.false in
+    let same : w.ends.items ≡ s.starts.items = sym c.as_slice.ensures.value ∙ search (rules, comparing, differ, none) ∙ c.as_slice-2.ensures.value in
     let all = more_taken books starts s.starts.items m.ends.items w.squares.items m.squares.items w.origins.items m.origins.items
     (subst (λ ns. AreTaken books starts ns w.squares.items w.origins.items) same taken) held in
     let ends : c.swap.new.x.items ≡ m.ends.items = λ i. (c.swap.ensures.x_after i).items in
