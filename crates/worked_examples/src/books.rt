@@ -4,6 +4,7 @@ mod orders;
 mod refusals;
 mod shares;
 mod traces;
+mod waiting;
 
 use area::Scratch;
 use doom::{Bound, Dead};
