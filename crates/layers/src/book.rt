@@ -37,16 +37,18 @@ pub struct Book {
     pub(crate) workers: u8,
     pub(crate) share: u8,
     pub(crate) shares: u8,
-    // the closed positions, layer after layer, and those that stand open; and where each layer begins
-    pub(crate) found: Found,
-    pub(crate) starts: Vec<usize>,
+    // what each parcel asks for stands together, so that few lines of memory go from one worker's processor to another's
     pub(crate) begun: bool,
-    pub(crate) claimed: Marks,
+    pub(crate) over: bool,
     pub(crate) done: Marks,
+    pub(crate) tallies: Vec<u64>,
+    // where each closed layer begins among the closed positions
+    pub(crate) starts: Vec<usize>,
+    // the closed positions, layer after layer, and those that stand open
+    pub(crate) found: Found,
+    pub(crate) claimed: Marks,
     // each rank below it is claimed or done
     pub(crate) next: usize,
-    pub(crate) tallies: Vec<u64>,
-    pub(crate) over: bool,
     // keeps what is written of the next book in a list off the lines of memory that this one is on
     pub(crate) apart: [u64; APART],
 }

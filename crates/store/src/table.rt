@@ -22,15 +22,15 @@ use successors::{Parcel, Successor};
 /// The positions that a book has found, in keys with `N` low bytes and `M` high ones.
 #[derive(Debug, Drop)]
 pub(crate) struct Table<const N: usize, const M: usize> {
-    boxes: usize,
-    squares: usize,
+    // what was offered and is to enter, for which the map has room: each worker appends to it
+    inbox: Vec<(Key<N, M>, Origin)>,
     table: IndexMap<Key<N, M>, ClosedOrigin>,
     // what stands open begins here
     start: usize,
     // no origin of what stands open comes after this one
     last: Origin,
-    // what was offered since and is to enter, for which the map has room
-    inbox: Vec<(Key<N, M>, Origin)>,
+    boxes: usize,
+    squares: usize,
 }
 
 impl<const N: usize, const M: usize> Model for Table<N, M> {
