@@ -66,8 +66,8 @@ seen_both boxes xs ys (l ∷ ls) ks long = λ i. record {
     less = omega (arith, length-drop (suc boxes) xs, long)
 
 -- the squares of both are those of the labels of both
-pub whole_both : (boxes other : ℕ) (xs ys : List ℕ) (ls ks : List Label) → length xs ≡ length ls * suc boxes → length ys ≡ length ks * suc other → other ≡ boxes →
-    length (xs ++ ys) ≡ length (ls ++ ks) * suc boxes
+pub whole_both : (boxes other : ℕ) (xs ys : List ℕ) (ls ks : List Label) → length xs ≡ length ls * suc boxes → length ys ≡ length ks * suc other →
+    other ≡ boxes → length (xs ++ ys) ≡ length (ls ++ ks) * suc boxes
 whole_both boxes other xs ys ls ks long longer same =
     let apart : (length ls + length ks) * suc boxes ≡ length ls * suc boxes + length ks * suc boxes = omega arith in
     let both : length (ls ++ ks) * suc boxes ≡ length ls * suc boxes + length ks * suc boxes = ap (λ n. n * suc boxes) (length-append ls ks) ∙ apart in

@@ -1,5 +1,5 @@
 -- Steps of a search, over plain lists of what was seen.
-use Rattle.std.proofs.Common.{◌≡◌, ℕ, zero, suc, ◌+◌, ◌-◌, ◌≤◌, ◌<◌, ◌⊎◌, Bool, true, false, IsTrue, List, [], ◌∷◌, ◌++◌, length}
+use Rattle.std.proofs.Common.{◌≡◌, ℕ, zero, suc, ◌+◌, ◌*◌, ◌-◌, ◌≤◌, ◌<◌, ◌⊎◌, Bool, true, false, IsTrue, List, [], ◌∷◌, ◌++◌, length}
 use Rattle.std.proofs.Common.{Some, Result, Ok, Err, OnOk, OnErr}
 use Rattle.std.proofs.Common.{get_or, inl, inr, refl, sym, ap, subst, ◌∙◌, append-nil, append_assoc, arith}
 use Rattle.std.proofs.lemmas.Bool.{cases_lt, false≢true}
@@ -15,16 +15,23 @@ use Rattle.area.specs.Pushes.{ArePushes, CanPush}
 use Rattle.doom.specs.Lost.{IsLost}
 use Rattle.prices.specs.Solving.{NoneWithin, SolvableWithin}
 use Rattle.prices.proofs.lemmas.Solving.{none_fewer, none_is_not_solvable, norms_change_nothing}
+use Rattle.prover.specs.declared.cutting.Cut.{Cut}
 use Rattle.prover.specs.Frame.{Seen, IsSeen, Keeps}
 use Rattle.prover.specs.Pruning.{IsDone, after_push}
 use Rattle.prover.specs.inside.Entries.{EntriesView, Grows, IsReached, joined}
 use Rattle.prover.specs.inside.Progress.{IsChosen, IsDoneWith, AreDoneWith, AllFit, AreExpanded, AreUnsolved, IsUnderWay}
 use Rattle.prover.specs.inside.Sifting.{AreIn}
+use Rattle.prover.specs.inside.Stretching.{stretch_start}
 use Rattle.prover.proofs.lemmas.Frame.{search_decides}
 use Rattle.corrals.specs.Trying.{Suffice}
 use Rattle.corrals.specs.Corrals.{IsClosure}
 use Rattle.corrals.proofs.lemmas.Corrals.{corrals_suffice}
 use Rattle.prover.proofs.lemmas.Pruning.{all_suffice, keeps_so, tried_keep}
+
+-- ---- where stretches begin
+
+pub start_first : (cut : Cut) → stretch_start cut 0 ≡ cut.from
+start_first cut = let z : 0 * cut.size ≡ 0 = omega arith in omega (arith, z)
 
 -- ---- lists that grow
 

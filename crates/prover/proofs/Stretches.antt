@@ -3,7 +3,7 @@ use Rattle.std.proofs.Common.{◌≡◌, ◌⊎◌, ℕ, zero, suc, ◌+◌, ◌
 use Rattle.std.proofs.Common.{inl, inr, refl, sym, ap, subst, take, drop, ◌∙◌, add-one, arith}
 use Rattle.std.proofs.lemmas.List.{take-append-drop, length-append, length-drop, length-take-le}
 use Rattle.std.proofs.lemmas.Option.{same_Some, slice_get_within, get_or_from_slice_get}
-use Rattle.std.specs.Prelude.{slice_get}
+use Rattle.std.specs.Prelude.{slice_get, ◌/◌, ◌-◌, ◌^◌, min}
 use Rattle.std.specs.Result.{is_ok}
 use Rattle.grid.specs.Board.{Board, Scene}
 use Rattle.grid.specs.Lawful.{box_count}
@@ -11,18 +11,17 @@ use Rattle.prover.specs.declared.bench.Bench.{Bench}
 use Rattle.prover.specs.declared.cutting.Cut.{Cut}
 use Rattle.prover.specs.declared.sifting.Sieve.{Sieve}
 use Rattle.prover.specs.Frame.{Seen}
-use Rattle.prover.specs.inside.Benches.{AreAllWhole, AreReady, AreRoomy, AreWorked, IsRoomy, IsRound, IsWorked, stretch_start}
+use Rattle.prover.specs.inside.Benches.{AreAllWhole, AreReady, AreRoomy, AreWorked, IsRoomy, IsRound, IsWorked}
+use Rattle.prover.specs.inside.Stretching.{stretch_start}
 use Rattle.prover.specs.inside.Entries.{EntriesView, Grows, IsReached}
 use Rattle.prover.specs.inside.Progress.{AllFit, AreExpanded, AreUnsolved, IsUnderWay}
-use Rattle.prover.specs.inside.Sifting.{AllFound, AreAllFit, AreAllSieved, AreEntered, AreFor, AreSifted}
-use Rattle.prover.proofs.Progressing.{before_on, grows_none, in_back, in_either, in_front, length_on, seen_on, under_way_on, unsolved_on}
-use Rattle.prover.proofs.Sieves.{all_in, sifted_fit}
+use Rattle.prover.specs.inside.Sifting.{AllFound, AreAllIn, AreFor, AreSome}
+use Rattle.prover.proofs.Progressing.{before_on, grows_none, in_back, in_either, in_front, length_on, seen_on, start_first, under_way_on, unsolved_on}
+use Rattle.std.proofs.Math.Nat.{lt-div-mul-add}
+use Rattle.std.proofs.lemmas.Bool.{cases_lt}
 use Rattle.prover.proofs.lemmas.Pruning.{keeps_so}
 
 -- ---- where the stretches begin
-
-pub start_first : (cut : Cut) → stretch_start cut 0 ≡ cut.from
-start_first cut = let z : 0 * cut.size ≡ 0 = omega arith in omega (arith, z)
 
 pub start_low : (cut : Cut) (n : ℕ) → cut.from ≤ stretch_start cut n
 start_low cut n = omega arith
@@ -81,6 +80,20 @@ pub for_front : (boxes many : ℕ) (sieves : List Sieve) → AreFor boxes sieves
 for_front boxes many sieves are =
     each_before (λ (s : Sieve). s.left.boxes ≡ boxes) sieves (take many sieves) (drop many sieves) (sym (take-append-drop many sieves)) are
 
+-- a list of which the first ones were worked at is as long
+as_long : {A : Type 0} (many : ℕ) (xs ys : List A) → many ≤ length xs → length ys ≡ length (take many xs) → 0 < length xs → 0 < length (ys ++ drop many xs)
+as_long many xs ys le e some = omega (arith, le, e, some, length-append ys (drop many xs), length-drop many xs, length-take-le many xs le)
+
+-- after some of them have sifted the sieves are as many
+pub some_back : (board : Board) (many : ℕ) (sieves after : List Sieve) → AreSome board sieves → many ≤ length sieves → length after ≡ length (take many sieves)
+    → AreFor (box_count board) after → AreSome board (after ++ drop many sieves)
+some_back board many sieves after some few same are = record {
+  some = as_long many sieves after few same some.some;
+  boxes = each_joined (λ (s : Sieve). s.left.boxes ≡ box_count board) after (drop many sieves) are
+      (each_behind (λ (s : Sieve). s.left.boxes ≡ box_count board) sieves (take many sieves) (drop many sieves) (sym (take-append-drop many sieves))
+      some.boxes);
+}
+
 -- benches at which each has worked
 pub worked_each : (board : Board) (most : ℕ) (all : List Seen) (cut : Cut) (before after : List Bench) → length after ≡ length before
     → ((i : ℕ) (d : Bench) → i < length before → IsWorked board most all (stretch_start cut i) (stretch_start cut (i + 1)) (get_or after i d)) →
@@ -96,21 +109,14 @@ worked_roomy board most all cut benches worked i b at = (worked i b at).roomy
 
 -- after a round the workers' places are as many and as roomy
 pub ready_back : (board : Board) (most : ℕ) (all : List Seen) (cut : Cut) (many : ℕ) (benches after : List Bench) (sieves others : List Sieve) →
-    AreReady board benches sieves → many ≤ length benches → many ≤ length sieves → length after ≡ length (take many benches) →
-    length others ≡ length (take many sieves) → AreWorked board most all cut after → AreFor (box_count board) others →
-    AreReady board (after ++ drop many benches) (others ++ drop many sieves)
-ready_back board most all cut many benches after sieves others ready few few_too same same_too worked are = record {
-  some = size benches after few same ready.some;
-  some_too = size sieves others few_too same_too ready.some_too;
+    AreReady board benches sieves → many ≤ length benches → length after ≡ length (take many benches) → AreWorked board most all cut after →
+    AreSome board others → AreReady board (after ++ drop many benches) others
+ready_back board most all cut many benches after sieves others ready few same worked left = record {
+  some = as_long many benches after few same ready.some;
   roomy = each_joined (IsRoomy board) after (drop many benches) (worked_roomy board most all cut after worked)
       (each_behind (IsRoomy board) benches (take many benches) (drop many benches) (sym (take-append-drop many benches)) ready.roomy);
-  boxes = each_joined (λ (s : Sieve). s.left.boxes ≡ box_count board) others (drop many sieves) are
-      (each_behind (λ (s : Sieve). s.left.boxes ≡ box_count board) sieves (take many sieves) (drop many sieves) (sym (take-append-drop many sieves))
-      ready.boxes);
+  left = left;
 }
-  where
-    size : {A : Type 0} (xs ys : List A) → many ≤ length xs → length ys ≡ length (take many xs) → 0 < length xs → 0 < length (ys ++ drop many xs)
-    size xs ys le e some = omega (arith, le, e, some, length-append ys (drop many xs), length-drop many xs, length-take-le many xs le)
 
 -- what is told of a good answer is so where the answer is good
 pub on_whole : {T E A : Type 0} (r : Result T E) (whole : Bool) → whole ≡ is_ok r → OnOk r A → IsTrue whole → A
@@ -150,12 +156,13 @@ stood board most v w place within grows fit under =
     (λ i x ge lt at. absurd (omega (arith, ge, lt))) grows fit (λ i x at. absurd (let lt = slice_get_within [] i x at in omega (arith, lt)))
 
 -- what is left of what was found at the benches has entered, so the search has come to the end of the first stretches
-stretches_on : (board : Board) (most : ℕ) (v w : EntriesView) (cut : Cut) (benches : List Bench) (sieves : List Sieve) (count : ℕ)
-    → IsRound board most v.seen cut benches sieves → Grows v w → AllFit board w.seen → AreEntered w.seen sieves (length sieves) → count ≤ length benches →
-    IsUnderWay board most w.seen (stretch_start cut count)
-stretches_on board most v w cut benches sieves zero round grows fit entered le =
-    subst (IsUnderWay board most w.seen) (sym (start_first cut)) (stood board most v w cut.from (omega (arith, round.order, round.within)) grows fit round.under_way)
-stretches_on board most v w cut benches sieves (suc count) round grows fit entered le =
+stretches_on : (board : Board) (most : ℕ) (v w : EntriesView) (cut : Cut) (benches : List Bench) (count : ℕ)
+    → IsRound board most v.seen cut benches → Grows v w → AllFit board w.seen → AreAllIn board most w.seen benches (length benches)
+    → count ≤ length benches → IsUnderWay board most w.seen (stretch_start cut count)
+stretches_on board most v w cut benches zero round grows fit entered le =
+    subst (IsUnderWay board most w.seen) (sym (start_first cut)) (stood board most v w cut.from (omega (arith, round.order, round.within)) grows fit
+    round.under_way)
+stretches_on board most v w cut benches (suc count) round grows fit entered le =
     let lt : count < length benches = omega (arith, le) in
     let (b, at) = bench_at benches count lt in
     let done = round.worked count b at in
@@ -166,39 +173,51 @@ stretches_on board most v w cut benches sieves (suc count) round grows fit enter
     let unsolved = unsolved_on board v w cut.from cut.to grows within round.unsolved in
     subst (λ n. IsUnderWay board most w.seen (stretch_start cut n)) (add-one count)
     (under_way_on board most w w b.more.seen (stretch_start cut count) (stretch_start cut (count + 1))
-    (stretches_on board most v w cut benches sieves count round grows fit entered (omega (arith, le)))
+    (stretches_on board most v w cut benches count round grows fit entered (omega (arith, le)))
     (λ j x ge less here. unsolved j x (omega (arith, ge, low)) (omega (arith, less, high)) here)
     (omega (arith, high, within, long))
     (expanded_later board most v w b.more.seen (stretch_start cut count) (stretch_start cut (count + 1)) grows (omega (arith, high, within))
     (done.expanded (round.whole count b at)))
-    (grows_none w w refl) fit
-    (all_in board most w.seen benches sieves (suc count) round.sifted round.sieved round.many entered le count b (omega arith) at))
+    (grows_none w w refl) fit (entered count b lt at))
 
 -- a round is done: the search has come further, and no further than the cut
-pub round_done : (board : Board) (most : ℕ) (v w : EntriesView) (cut : Cut) (from to n : ℕ) (benches : List Bench) (sieves : List Sieve) →
+pub round_done : (board : Board) (most : ℕ) (v w : EntriesView) (cut : Cut) (from to n : ℕ) (benches : List Bench) →
     cut.from ≡ from → cut.to ≡ to → 0 < cut.size → 0 < length benches → from < to
     → IsUnderWay board most v.seen from → AreUnsolved board v.seen from to → to ≤ length v.seen → AreWorked board most v.seen cut benches
-    → AreAllWhole benches → AreSifted board most benches sieves → AreAllSieved sieves → length sieves ≡ length benches
-    → AreEntered w.seen sieves (length sieves) → ((at : Board) → AreAllFit at sieves → AllFit at v.seen → AllFit at w.seen) → Grows v w
+    → AreAllWhole benches → AreAllIn board most w.seen benches (length benches) → (AllFit board v.seen → AllFit board w.seen) → Grows v w
     → n ≡ stretch_start cut (length benches) → IsUnderWay board most w.seen n × (from < n) × (n ≤ to)
-round_done board most v w cut from to n benches sieves start end some many less under unsolved within worked whole sifted sieved same entered fit grows is =
+round_done board most v w cut from to n benches start end some many less under unsolved within worked whole entered fit grows is =
     let cut_less : cut.from < cut.to = omega (arith, start, end, less) in
     let further = start_further cut (length benches) many some cut_less in
     let high = start_high cut (length benches) (omega (arith, cut_less)) in
-    let round : IsRound board most v.seen cut benches sieves = record {
+    let round : IsRound board most v.seen cut benches = record {
       under_way = subst (IsUnderWay board most v.seen) (sym start) under;
       unsolved = λ i x ge lt at. unsolved i x (omega (arith, ge, start)) (omega (arith, lt, end)) at;
       order = omega (arith, cut_less);
       within = omega (arith, within, end);
       worked = worked;
       whole = whole;
-      sifted = sifted;
-      sieved = sieved;
-      many = same;
     } in (
       subst (IsUnderWay board most w.seen) (sym is)
-          (stretches_on board most v w cut benches sieves (length benches) round grows
-          (fit board (sifted_fit board most benches sieves sifted sieved) under.fit) entered (omega arith)),
+          (stretches_on board most v w cut benches (length benches) round grows (fit under.fit) entered (omega arith)),
       omega (arith, further, start, is),
       omega (arith, high, end, is),
     )
+
+-- even stretches, so many of them, are all there is
+pub even_all : (len parts size : ℕ) → 0 < parts → len < 2 ^ 64 → size ≡ min (len / parts + 1) (2 ^ 64 - 1) → 0 + min (parts * size) (len - 0) ≡ len
+even_all len (suc parts) size some few is =
+    let q = len / suc parts in
+    let low : len < q * suc parts + suc parts = lt-div-mul-add some in
+    let least : suc parts * size ≡ size + parts * size = omega arith in
+    elim (cases_lt q (2 ^ 64 - 1)) [
+      | inl less ↦
+          (let exact : size ≡ q + 1 = omega (arith, is, less) in
+          let wide : suc parts * size ≡ suc parts * (q + 1) = ap (λ n. suc parts * n) exact in
+          let apart : suc parts * (q + 1) ≡ q * suc parts + suc parts = omega arith in
+          omega (arith, low, wide, apart))
+      | inr ge ↦
+          (let exact : size ≡ 2 ^ 64 - 1 = omega (arith, is, ge) in
+          omega (arith, few, exact, least))
+    ]
+even_all len zero size some few is = absurd (omega (arith, some))

@@ -3,10 +3,11 @@
 ghost use Rattle.std.specs.Prelude.{◌≡◌, ◌+◌, ◌<◌, ◌≤◌, ◌^◌, IfOk, IsTrue, OnOk, length};
 ghost use Rattle.grid.specs.Board.{Board};
 ghost use Rattle.grid.specs.Lawful.{box_count};
-ghost use Rattle.prover.specs.inside.Benches.{AreAllWhole, AreReady, AreRoomy, AreWorked, IsRoomy, IsWorked, stretch_start};
+ghost use Rattle.prover.specs.inside.Benches.{AreAllWhole, AreReady, AreRoomy, AreWorked, IsRoomy, IsWorked};
+ghost use Rattle.prover.specs.inside.Stretching.{stretch_start};
 ghost use Rattle.prover.specs.inside.Entries.{Grows};
 ghost use Rattle.prover.specs.inside.Progress.{AllFit, AreUnsolved, IsUnderWay};
-ghost use Rattle.prover.specs.inside.Sifting.{AreAllFit, AreEntered, AreFor};
+ghost use Rattle.prover.specs.inside.Sifting.{AllFound, AreAllFit, AreAllIn, AreEntered, AreFor, AreSome};
 
 use crate::aim::Aim;
 use crate::bench::{Bench, work};
@@ -14,7 +15,7 @@ use crate::cutting::Cut;
 use crate::expansion::Span;
 use crate::pacing::most_of;
 use crate::pruner::Pruner;
-use crate::sifting::{Sieve, are_sifted, sift_beside};
+use crate::sifting::{Sieve, are_sifted, busy_sieves, sift_beside};
 use crate::store::Store;
 use spreading::for_each_spread;
 use std::alloc::AllocError;
@@ -61,21 +62,16 @@ fn expand_settled<R: Threads + Sync>(
     ensures grows { OnOk result (Grows store.old store.new) }
     ensures ready { AreReady aim.now.pruner.now benches.new sieves.new }
 {
-    let workers = benches.len().min(sieves.len());
+    let workers = benches.len();
     let size = most_of(store.entries(), span.from, benches);
     let cut = Cut::of(span, workers, size);
     let many = cut.busy(workers);
     let busy = &mut benches[..many];
-    let sieves = &mut sieves[..many];
     expand_beside(rt, aim.pruner, store, aim.most, cut, busy);
     if !are_whole(busy) {
         return Err(AllocError);
     }
-    sift_beside(rt, aim.pruner, aim.most, busy, sieves);
-    if !are_sifted(sieves) {
-        return Err(AllocError);
-    }
-    enter_each(store, sieves)?;
+    enter_found(rt, aim, store, busy, sieves)?;
     Ok(cut.start(many))
 }
 
@@ -119,6 +115,59 @@ fn are_whole(benches: &[Bench]) -> bool
         }
     }
     true
+}
+
+// Sifts what was found at each bench, one bench after the other, and enters what is left. After an error some of it may have
+// entered.
+fn enter_found<R: Threads + Sync>(
+    rt: &R,
+    aim: &Aim<'_, '_>,
+    store: &mut Store,
+    benches: &[Bench],
+    sieves: &mut [Sieve],
+) -> Result<(), AllocError>
+    requires found { AllFound aim.now.pruner.now benches.now }
+    requires boxes { store.old.boxes ≡ box_count aim.now.pruner.now }
+    requires sieves { AreSome aim.now.pruner.now sieves.old }
+    ensures entered { OnOk result (AreAllIn aim.now.pruner.now aim.now.most store.new.seen benches.now (length benches.now)) }
+    ensures fit { OnOk result (AllFit aim.now.pruner.now store.old.seen → AllFit aim.now.pruner.now store.new.seen) }
+    ensures grows { OnOk result (Grows store.old store.new) }
+    ensures sieves { AreSome aim.now.pruner.now sieves.new }
+{
+    for number in 0..benches.len() {
+        enter_bench(rt, aim, store, benches, number, sieves)?;
+    }
+    Ok(())
+}
+
+// The same for the bench of a number.
+fn enter_bench<R: Threads + Sync>(
+    rt: &R,
+    aim: &Aim<'_, '_>,
+    store: &mut Store,
+    benches: &[Bench],
+    number: usize,
+    sieves: &mut [Sieve],
+) -> Result<(), AllocError>
+    requires within { number < length benches.now }
+    requires found { AllFound aim.now.pruner.now benches.now }
+    requires boxes { store.old.boxes ≡ box_count aim.now.pruner.now }
+    requires sieves { AreSome aim.now.pruner.now sieves.old }
+    ensures entered { OnOk result (AreAllIn aim.now.pruner.now aim.now.most store.old.seen benches.now number →
+        AreAllIn aim.now.pruner.now aim.now.most store.new.seen benches.now (number + 1)) }
+    ensures fit { OnOk result (AllFit aim.now.pruner.now store.old.seen → AllFit aim.now.pruner.now store.new.seen) }
+    ensures grows { OnOk result (Grows store.old store.new) }
+    ensures sieves { AreSome aim.now.pruner.now sieves.new }
+{
+    let finds = benches[number].more.entries().len();
+    let busy = busy_sieves(finds, sieves.len());
+    let cut = Cut::even(finds, busy);
+    let sieves = &mut sieves[..busy];
+    sift_beside(rt, aim, benches, number, cut, sieves);
+    if !are_sifted(sieves) {
+        return Err(AllocError);
+    }
+    enter_each(store, sieves)
 }
 
 // Enters what is left at each sieve, one after the other. After an error some of it may have entered.

@@ -1,14 +1,18 @@
 //! What is left of a round's finds: each position once, and none whose boxes need more pushes than are left.
-ghost use Rattle.std.specs.Prelude.{◌≡◌, ◌<◌, ◌≤◌, ◌⊎◌, IfOk, IsTrue, OnOk, Some, length, slice_get};
+ghost use Rattle.std.specs.Prelude.{◌≡◌, ◌+◌, ◌<◌, ◌≤◌, ◌^◌, ◌⊎◌, IfOk, IsTrue, OnOk, Some, length, slice_get};
 ghost use Rattle.grid.specs.Lawful.{box_count};
 ghost use Rattle.grid.specs.States.{FitsLevel};
 ghost use Rattle.prover.specs.Frame.{Seen, IsSeen};
+ghost use Rattle.prover.specs.inside.Stretching.{stretch_start};
 ghost use Rattle.prover.specs.inside.Entries.{Grows};
 ghost use Rattle.prover.specs.inside.Progress.{AllFit};
 ghost use Rattle.prover.specs.inside.Sifting.{AllFound, AreAllSieved, AreFor, AreSieved, AreSifted, IsFound, IsSifted, IsSpare};
 
+use crate::aim::Aim;
 use crate::bench::Bench;
+use crate::cutting::Cut;
 use crate::entries::{Entries, Label};
+use crate::expansion::Span;
 use crate::pruner::Pruner;
 use crate::store::Store;
 use grid::{MAX_BOXES, Position};
@@ -17,8 +21,8 @@ use spreading::for_each_spread;
 use std::alloc::{AllocError, Global};
 use std::thread::Threads;
 
-/// What is left of the positions that were found at a bench, with their hashes, and the matching by which the others were
-/// refused. It has not looked at all of them where memory was refused.
+/// What is left of some of the positions that were found at a bench, with their hashes, and the matching by which the others
+/// were refused. It has not looked at all of them where memory was refused.
 #[derive(Debug, Drop)]
 pub(crate) struct Sieve {
     pub(crate) matching: Matching,
@@ -63,64 +67,90 @@ fn append_sieve(alloc: Global, boxes: usize, sieves: &mut Vec<Sieve>) -> Result<
     Ok(())
 }
 
-/// Sifts what was found at the bench of each sieve's number, side by side, each in a thread of its own where one can be
-/// started.
+/// Sifts what was found at the bench of a number, side by side: each sieve has a stretch of the finds, and a thread of its own
+/// where one can be started. So all have about as much to do, though what a find takes changes from bench to bench.
 pub(crate) fn sift_beside<R: Threads + Sync>(
     rt: &R,
-    pruner: &Pruner<'_>,
-    most: u32,
+    aim: &Aim<'_, '_>,
     benches: &[Bench],
+    number: usize,
+    cut: Cut,
     sieves: &mut [Sieve],
 )
-    requires found { AllFound pruner.now benches.now }
-    requires boxes { AreFor (box_count pruner.now) sieves.old }
-    ensures sifted { AreSifted pruner.now most benches.now sieves.new }
+    requires within { number < length benches.now }
+    requires found { AllFound aim.now.pruner.now benches.now }
+    requires order { cut.from ≤ cut.to }
+    requires boxes { AreFor (box_count aim.now.pruner.now) sieves.old }
+    ensures sifted { AreSifted aim.now.pruner.now aim.now.most benches.now number cut sieves.new }
     ensures many { length sieves.new ≡ length sieves.old }
 {
+    let pruner = aim.pruner;
+    let most = aim.most;
     for_each_spread(
         rt,
         sieves,
-        &|number, sieve: &mut Sieve|
+        &|part, sieve: &mut Sieve|
+            requires within { number < length benches.now }
             requires found { AllFound pruner.now benches.now }
+            requires order { cut.from ≤ cut.to }
+            requires part { part + 1 < 2 ^ 64 }
             requires boxes { sieve.now.left.boxes ≡ box_count pruner.now }
-            ensures { IsSifted pruner.entry.now most benches.entry.now number sieve.exit.now }
-        { sift(pruner, most, benches, number, sieve) },
+            ensures { IsSifted pruner.entry.now most benches.entry.now number (stretch_start cut part) (stretch_start cut (part + 1)) sieve.exit.now }
+        { sift(pruner, most, benches, number, cut.stretch(part), sieve) },
     );
 }
 
-// Sifts what was found at the bench of a number.
-fn sift(pruner: &Pruner<'_>, most: u32, benches: &[Bench], number: usize, sieve: &mut Sieve)
+/// For fewer finds than so many a further thread would take longer than it spares.
+const LEAST_FINDS: usize = 128;
+
+/// How many of so many sieves are to sift so many finds.
+pub(crate) fn busy_sieves(finds: usize, sieves: usize) -> usize
+    requires some { 0 < sieves }
+    ensures some { 0 < result }
+    ensures few { result ≤ sieves }
+{
+    (finds / LEAST_FINDS).min(sieves).max(1)
+}
+
+// Sifts some of what was found at the bench of a number.
+fn sift(
+    pruner: &Pruner<'_>,
+    most: u32,
+    benches: &[Bench],
+    number: usize,
+    span: Span,
+    sieve: &mut Sieve,
+)
+    requires within { number < length benches.now }
     requires found { AllFound pruner.now benches.now }
     requires boxes { sieve.old.left.boxes ≡ box_count pruner.now }
-    ensures { IsSifted pruner.now most benches.now number sieve.new }
+    ensures { IsSifted pruner.now most benches.now number span.from span.to sieve.new }
 {
-    if number >= benches.len() {
-        sieve.is_whole = false;
-        return;
-    }
     let (earlier, _) = benches.split_at(number);
     let more = &benches[number].more;
-    let sifted = sift_all(pruner, most, earlier, more, sieve);
+    let sifted = sift_all(pruner, most, earlier, more, span, sieve);
     sieve.is_whole = sifted.is_ok();
 }
 
-// Keeps what is left of the positions that were found at a bench.
+// Keeps what is left of the positions that were found at a bench and stand at some places there.
 fn sift_all(
     pruner: &Pruner<'_>,
     most: u32,
     earlier: &[Bench],
     more: &Store,
+    span: Span,
     sieve: &mut Sieve,
 ) -> Result<(), AllocError>
     requires fit { AllFit pruner.now more.now.seen }
     requires boxes { sieve.old.left.boxes ≡ box_count pruner.now }
-    ensures sieved { OnOk result (AreSieved pruner.now most earlier.now more.now.seen sieve.new.left.seen (length more.now.seen)) }
+    ensures sieved { OnOk result (AreSieved pruner.now most earlier.now more.now.seen sieve.new.left.seen span.from span.to) }
     ensures fit { OnOk result (AllFit pruner.now sieve.new.left.seen) }
     ensures boxes { sieve.new.left.boxes ≡ box_count pruner.now }
 {
     sieve.left.clear();
     sieve.hashes.clear();
-    for place in 0..more.entries().len() {
+    let end = span.to.min(more.entries().len());
+    for place in span.from..end {
         sift_one(pruner, most, earlier, more, place, sieve)?;
     }
     Ok(())
@@ -174,7 +204,7 @@ fn is_found(benches: &[Bench], position: &Position, hash: u64, pushes: u32) -> b
     false
 }
 
-/// Whether each sieve has looked at all that was found at its bench.
+/// Whether each sieve has looked at all that it was to.
 pub(crate) fn are_sifted(sieves: &[Sieve]) -> bool
     ensures { IsTrue result → AreAllSieved sieves.now }
 {
