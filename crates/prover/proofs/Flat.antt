@@ -1,7 +1,7 @@
 -- Positions that stand as squares, one after the other, each with its label.
 use Rattle.std.proofs.Common.{◌≡◌, ℕ, zero, suc, ◌+◌, ◌*◌, ◌<◌, ◌≤◌, List, [], ◌∷◌, ◌++◌, length, take, drop, get_or, Some, refl, sym, ap, subst, ◌∙◌, add-one}
 use Rattle.std.proofs.Common.{arith}
-use Rattle.std.proofs.lemmas.List.{drop-drop, length-drop, take-append-le, drop-append-le, get_or_append_left}
+use Rattle.std.proofs.lemmas.List.{drop-drop, length-append, length-drop, take-append-le, drop-append-le, get_or_append_left}
 use Rattle.std.specs.Prelude.{slice_get}
 use Rattle.grid.specs.Board.{Scene}
 use Rattle.prover.specs.declared.entries.Label.{Label}
@@ -40,10 +40,46 @@ seen_at boxes xs (l ∷ ls) (suc place) d lt =
     ap (λ ys. Some (record { scene = record { boxes = take boxes ys; player = get_or ys boxes 0 }; pushes = (get_or ls place d).pushes }))
     (drop-drop (place * suc boxes) (suc boxes) xs ∙ ap (λ n. drop n xs) e)
 
--- one more position, where the squares are those of the labels
+-- the positions of two lists, one after the other, where the squares of the first are those of its labels
+pub seen_both : (boxes : ℕ) (xs ys : List ℕ) (ls ks : List Label) → length xs ≡ length ls * suc boxes →
+    seen_of boxes (xs ++ ys) (ls ++ ks) ≡ seen_of boxes xs ls ++ seen_of boxes ys ks
+seen_both boxes [] ys [] ks long = refl
+seen_both boxes (x ∷ xs) ys [] ks long = absurd (omega (arith, long))
+seen_both boxes xs ys (l ∷ ls) ks long = λ i. record {
+  scene = record { boxes = front i; player = last i };
+  pushes = l.pushes;
+} ∷ (ap (λ zs. seen_of boxes zs (ls ++ ks)) rest ∙ seen_both boxes (drop (suc boxes) xs) ys ls ks less) i
+  where
+    enough : suc boxes ≤ length xs
+    enough = omega (arith, long)
+
+    front : take boxes (xs ++ ys) ≡ take boxes xs
+    front = take-append-le boxes xs ys (omega (arith, enough))
+
+    last : get_or (xs ++ ys) boxes 0 ≡ get_or xs boxes 0
+    last = get_or_append_left xs ys 0 boxes (omega (arith, enough))
+
+    rest : drop (suc boxes) (xs ++ ys) ≡ drop (suc boxes) xs ++ ys
+    rest = drop-append-le (suc boxes) xs ys enough
+
+    less : length (drop (suc boxes) xs) ≡ length ls * suc boxes
+    less = omega (arith, length-drop (suc boxes) xs, long)
+
+-- the squares of both are those of the labels of both
+pub whole_both : (boxes other : ℕ) (xs ys : List ℕ) (ls ks : List Label) → length xs ≡ length ls * suc boxes → length ys ≡ length ks * suc other →
+    other ≡ boxes → length (xs ++ ys) ≡ length (ls ++ ks) * suc boxes
+whole_both boxes other xs ys ls ks long longer same =
+    let apart : (length ls + length ks) * suc boxes ≡ length ls * suc boxes + length ks * suc boxes = omega arith in
+    let both : length (ls ++ ks) * suc boxes ≡ length ls * suc boxes + length ks * suc boxes = ap (λ n. n * suc boxes) (length-append ls ks) ∙ apart in
+    let more : length ys ≡ length ks * suc boxes = longer ∙ ap (λ n. length ks * suc n) same in
+    omega (arith, length-append xs ys, long, more, both)
+
+-- one more position
 pub seen_more : (boxes : ℕ) (xs : List ℕ) (ls : List Label) (n : Scene) (l : Label) → length xs ≡ length ls * suc boxes → length n.boxes ≡ boxes →
     seen_of boxes (xs ++ (n.boxes ++ n.player ∷ [])) (ls ++ l ∷ []) ≡ seen_of boxes xs ls ++ record { scene = n; pushes = l.pushes } ∷ []
-seen_more boxes [] [] n l long many = λ i. record { scene = record { boxes = front i; player = last i }; pushes = l.pushes } ∷ []
+seen_more boxes xs ls n l long many =
+    seen_both boxes xs (n.boxes ++ n.player ∷ []) ls (l ∷ []) long ∙
+    (λ i. seen_of boxes xs ls ++ record { scene = record { boxes = front i; player = last i }; pushes = l.pushes } ∷ [])
   where
     take_front : (ys zs : List ℕ) → take (length ys) (ys ++ zs) ≡ ys
     take_front [] zs = refl
@@ -58,29 +94,6 @@ seen_more boxes [] [] n l long many = λ i. record { scene = record { boxes = fr
 
     last : get_or (n.boxes ++ n.player ∷ []) boxes 0 ≡ n.player
     last = ap (λ k. get_or (n.boxes ++ n.player ∷ []) k 0) (sym many) ∙ read_next n.boxes [] n.player
-seen_more boxes (x ∷ xs) [] n l long many = absurd (omega (arith, long))
-seen_more boxes xs (k ∷ ls) n l long many = λ i. record {
-  scene = record { boxes = front i; player = last i };
-  pushes = k.pushes;
-} ∷ (ap (λ ys. seen_of boxes ys (ls ++ l ∷ [])) rest ∙ seen_more boxes (drop (suc boxes) xs) ls n l less many) i
-  where
-    enough : suc boxes ≤ length xs
-    enough = omega (arith, long)
-
-    more : List ℕ
-    more = n.boxes ++ n.player ∷ []
-
-    front : take boxes (xs ++ more) ≡ take boxes xs
-    front = take-append-le boxes xs more (omega (arith, enough))
-
-    last : get_or (xs ++ more) boxes 0 ≡ get_or xs boxes 0
-    last = get_or_append_left xs more 0 boxes (omega (arith, enough))
-
-    rest : drop (suc boxes) (xs ++ more) ≡ drop (suc boxes) xs ++ more
-    rest = drop-append-le (suc boxes) xs more enough
-
-    less : length (drop (suc boxes) xs) ≡ length ls * suc boxes
-    less = omega (arith, length-drop (suc boxes) xs, long)
 
 -- what contracts see at a place
 pub entry_at : (a : Inside) (v : EntriesView) → AreWhole a → entries_view a ≡ v → (boxes place : ℕ) → boxes ≡ a.boxes → place < length v.seen → (xs : List ℕ) →

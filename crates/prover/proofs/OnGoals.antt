@@ -1,6 +1,6 @@
 -- When every box is on a goal, as a test of the list of boxes.
-use Rattle.std.proofs.Common.{◌≡◌, ℕ, Bool, true, false, eqb, ◌||◌, List, [], ◌∷◌, refl, sym, subst}
-use Rattle.std.proofs.lemmas.Bool.{true≢false, and_parts, eq-eqb, eqb-true}
+use Rattle.std.proofs.Common.{◌≡◌, ℕ, Bool, true, false, eqb, ◌||◌, List, [], ◌∷◌, refl, sym}
+use Rattle.std.proofs.lemmas.Bool.{true≢false, eq-eqb}
 use Rattle.std.specs.List.{list_all}
 use Rattle.grid.specs.Squares.{contains}
 
@@ -18,14 +18,3 @@ all_contained test (x ∷ xs) f =
     tail : {c : Bool} (b : Bool) → c ≡ true → (b || c) ≡ true
     tail true e = refl
     tail false e = e
-
--- and the other way round
-pub contained_all : (test : ℕ → Bool) (xs : List ℕ) → list_all test xs ≡ true → (q : ℕ) → contains xs q ≡ true → test q ≡ true
-contained_all test [] all q there = absurd (true≢false (sym there))
-contained_all test (x ∷ xs) all q there =
-    let both = and_parts (test x) (list_all test xs) all in
-    by (eqb x q) refl (contained_all test xs both.1 q) both.0
-  where
-    by : (b : Bool) → eqb x q ≡ b → (contains xs q ≡ true → test q ≡ true) → test x ≡ true → test q ≡ true
-    by true e later here = subst (λ (n : ℕ). test n ≡ true) (eqb-true x q e) here
-    by false e later here = later (rw e at there)

@@ -1,12 +1,12 @@
 -- Steps of a search, over plain lists of what was seen.
-use Rattle.std.proofs.Common.{◌≡◌, ℕ, zero, suc, ◌+◌, ◌-◌, ◌≤◌, ◌<◌, ◌⊎◌, Bool, true, false, IsTrue, List, [], ◌∷◌, ◌++◌, length}
+use Rattle.std.proofs.Common.{◌≡◌, ℕ, zero, suc, ◌+◌, ◌*◌, ◌-◌, ◌≤◌, ◌<◌, ◌⊎◌, Bool, true, false, IsTrue, List, [], ◌∷◌, ◌++◌, length}
 use Rattle.std.proofs.Common.{Some, Result, Ok, Err, OnOk, OnErr}
 use Rattle.std.proofs.Common.{get_or, inl, inr, refl, sym, ap, subst, ◌∙◌, append-nil, append_assoc, arith}
 use Rattle.std.proofs.lemmas.Bool.{cases_lt, false≢true}
 use Rattle.std.proofs.lemmas.Option.{same_Some, slice_get_within, slice_get_read}
-use Rattle.std.specs.Prelude.{slice_get, slice_index_or}
+use Rattle.std.specs.Prelude.{slice_get}
 use Rattle.grid.specs.declared.square.Push.{Push}
-use Rattle.grid.specs.Board.{Board, Scene, start}
+use Rattle.grid.specs.Board.{Board, IsSolved, Scene, start}
 use Rattle.grid.specs.States.{IsScene, FitsLevel}
 use Rattle.grid.specs.Lawful.{IsLevel}
 use Rattle.grid.specs.Masks.{has_bit}
@@ -15,16 +15,23 @@ use Rattle.area.specs.Pushes.{ArePushes, CanPush}
 use Rattle.doom.specs.Lost.{IsLost}
 use Rattle.prices.specs.Solving.{NoneWithin, SolvableWithin}
 use Rattle.prices.proofs.lemmas.Solving.{none_fewer, none_is_not_solvable, norms_change_nothing}
+use Rattle.prover.specs.declared.cutting.Cut.{Cut}
 use Rattle.prover.specs.Frame.{Seen, IsSeen, Keeps}
 use Rattle.prover.specs.Pruning.{IsDone, after_push}
-use Rattle.prover.specs.inside.Entries.{EntriesView, Grows, IsReached}
+use Rattle.prover.specs.inside.Entries.{EntriesView, Grows, IsReached, joined}
 use Rattle.prover.specs.inside.Progress.{IsChosen, IsDoneWith, AreDoneWith, AllFit, AreExpanded, AreUnsolved, IsUnderWay}
 use Rattle.prover.specs.inside.Sifting.{AreIn}
+use Rattle.prover.specs.inside.Stretching.{stretch_start}
 use Rattle.prover.proofs.lemmas.Frame.{search_decides}
 use Rattle.corrals.specs.Trying.{Suffice}
 use Rattle.corrals.specs.Corrals.{IsClosure}
 use Rattle.corrals.proofs.lemmas.Corrals.{corrals_suffice}
 use Rattle.prover.proofs.lemmas.Pruning.{all_suffice, keeps_so, tried_keep}
+
+-- ---- where stretches begin
+
+pub start_first : (cut : Cut) → stretch_start cut 0 ≡ cut.from
+start_first cut = let z : 0 * cut.size ≡ 0 = omega arith in omega (arith, z)
 
 -- ---- lists that grow
 
@@ -52,11 +59,31 @@ either_at [] y (suc i) x at = absurd (let lt = slice_get_within (y ∷ []) (suc 
 either_at (a ∷ xs) y zero x at = inl at
 either_at (a ∷ xs) y (suc i) x at = either_at xs y i x at
 
+-- what stands in the first of two lists stands in both, and so does what stands in the second
+pub in_front : {A : Type 0} (xs ys : List A) (i : ℕ) (x : A) → slice_get xs i ≡ Some x → slice_get (xs ++ ys) i ≡ Some x
+in_front [] ys i x e = absurd (let lt = slice_get_within [] i x e in omega (arith, lt))
+in_front (z ∷ xs) ys zero x e = e
+in_front (z ∷ xs) ys (suc i) x e = in_front xs ys i x e
+
+pub in_back : {A : Type 0} (xs ys : List A) (i : ℕ) (x : A) → slice_get ys i ≡ Some x → (j : ℕ) × (slice_get (xs ++ ys) j ≡ Some x)
+in_back [] ys i x e = (i, e)
+in_back (z ∷ xs) ys i x e = (suc (in_back xs ys i x e).0, (in_back xs ys i x e).1)
+
+-- what stands in both stands in one of them
+pub in_either : {A : Type 0} (xs ys : List A) (i : ℕ) (x : A) → slice_get (xs ++ ys) i ≡ Some x →
+    (slice_get xs i ≡ Some x) ⊎ ((j : ℕ) × (slice_get ys j ≡ Some x))
+in_either [] ys i x e = inr (i, e)
+in_either (z ∷ xs) ys zero x e = inl e
+in_either (z ∷ xs) ys (suc i) x e = in_either xs ys i x e
+
 pub grows_none : (v w : EntriesView) → w ≡ v → Grows v w
 grows_none v w e = (ap (λ (u : EntriesView). u.boxes) e, ([], ap (λ (u : EntriesView). u.seen) e ∙ sym (append-nil v.seen)))
 
 pub grows_one : (v w : EntriesView) (n : Scene) (k : ℕ) → w ≡ record { boxes = v.boxes; seen = v.seen ++ record { scene = n; pushes = k } ∷ [] } → Grows v w
 grows_one v w n k e = (ap (λ (u : EntriesView). u.boxes) e, (record { scene = n; pushes = k } ∷ [], ap (λ (u : EntriesView). u.seen) e))
+
+pub grows_joined : (v w m : EntriesView) → w ≡ joined v m → Grows v w
+grows_joined v w m e = (ap (λ (u : EntriesView). u.boxes) e, (m.seen, ap (λ (u : EntriesView). u.seen) e))
 
 pub grows_on : (u v w : EntriesView) → Grows u v → Grows v w → Grows u w
 grows_on u v w (boxes, (more, grown)) (boxes', (others, grown')) =
@@ -87,6 +114,18 @@ last_seen v w n k e = (
   refl,
   omega arith,
 )
+
+pub seen_joined : (v w m : EntriesView) (k : ℕ) (s : Scene) → w ≡ joined v m → IsSeen m.seen k s → IsSeen w.seen k s
+seen_joined v w m k s e (i, x, at, same, le) =
+    let h = in_back v.seen m.seen i x at in
+    (h.0, x, subst (λ (u : EntriesView). slice_get u.seen h.0 ≡ Some x) (sym e) h.1, same, le)
+
+pub fit_joined : (board : Board) (v w m : EntriesView) → w ≡ joined v m → AllFit board v.seen → AllFit board m.seen → AllFit board w.seen
+fit_joined board v w m e fit fits =
+    subst (λ (u : EntriesView). AllFit board u.seen) (sym e) (λ i x at. elim (in_either v.seen m.seen i x at) [
+      | inl before ↦ fit i x before
+      | inr (j, there) ↦ fits j x there
+    ])
 
 pub fit_none : (board : Board) (v w : EntriesView) → w ≡ v → AllFit board v.seen → AllFit board w.seen
 fit_none board v w e fit = subst (λ (u : EntriesView). AllFit board u.seen) (sym e) fit
@@ -184,25 +223,23 @@ expanded_more board most all v w from place x grows here before keeps i y ge lt 
       subst (λ (z : Seen). Keeps board most (IsReached all w.seen (suc z.pushes)) z.pushes z.scene) e keeps
 ]
 
--- one more position has entered
-pub entered_more : (more : List Seen) (marks : List Bool) (v w : EntriesView) (place : ℕ) (marked : Bool) → Grows v w →
-    marked ≡ slice_index_or marks place false
-    → ((i : ℕ) (x : Seen) → i < place → slice_get more i ≡ Some x → slice_index_or marks i false ≡ true → IsSeen v.seen x.pushes x.scene)
-    → ((x : Seen) → slice_get more place ≡ Some x → IsTrue marked → IsSeen w.seen x.pushes x.scene)
-    → (i : ℕ) (x : Seen) → i < place + 1 → slice_get more i ≡ Some x → slice_index_or marks i false ≡ true → IsSeen w.seen x.pushes x.scene
-entered_more more marks v w place marked grows is before now i x lt at yes_so = elim (cases_lt i place) [
-  | inl less ↦ seen_on v w x.pushes x.scene grows (before i x less at yes_so)
-  | inr ge ↦
-      let same : i ≡ place = omega (arith, lt, ge) in
-      now x (ap (λ (j : ℕ). slice_get more j) (sym same) ∙ at) (is ∙ (ap (λ (j : ℕ). slice_index_or marks j false) (sym same) ∙ yes_so))
-]
-
 -- ---- the search
 
 -- positions that stay unsolved as the list grows
 pub unsolved_on : (board : Board) (v w : EntriesView) (from to : ℕ) → Grows v w → to ≤ length v.seen → AreUnsolved board v.seen from to →
     AreUnsolved board w.seen from to
 unsolved_on board v w from to grows within unsolved i x ge lt at = unsolved i x ge lt (before_on v w i x grows (omega (arith, lt, within)) at)
+
+-- one more position is not solved
+pub unsolved_more : (board : Board) (all : List Seen) (from place : ℕ) (told : Bool)
+    → ((x : Seen) → slice_get all place ≡ Some x → IsSolved board x.scene → IsTrue told) → told ≡ false → AreUnsolved board all from place →
+    AreUnsolved board all from (place + 1)
+unsolved_more board all from place told tells off before i x ge lt at solved = elim (cases_lt i place) [
+  | inl less ↦ before i x ge less at solved
+  | inr more ↦
+      (let same : i ≡ place = omega (arith, lt, more) in
+      absurd (false≢true (sym off ∙ tells x (ap (λ (j : ℕ). slice_get all j) (sym same) ∙ at) solved)))
+]
 
 -- what an expansion keeps may be given for anything else that holds of it where it is solvable with what is left
 pub keeps_in : (board : Board) (Kept More : Scene → Type 0) (most k : ℕ) (s : Scene)
@@ -299,10 +336,3 @@ on_ok_three (Err e) f a b c = tt
 -- the push at a place of a list that was read
 pub read_push : (xs ys : List Push) (i : ℕ) (p : Push) → xs ≡ ys → i < length xs → p ≡ get_or xs i p → slice_get ys i ≡ Some p
 read_push xs ys i p same lt is = subst (λ (zs : List Push). slice_get zs i ≡ Some p) same (slice_get_read xs (length xs) i p refl lt is)
-
--- what stands at a place has entered where it was appended
-pub entered_that : (v w : EntriesView) (more : List Seen) (place : ℕ) (n : Scene) (k : ℕ) → slice_get more place ≡ Some (record { scene = n; pushes = k })
-    → w ≡ record { boxes = v.boxes; seen = v.seen ++ record { scene = n; pushes = k } ∷ [] } → (x : Seen) → slice_get more place ≡ Some x →
-    IsSeen w.seen x.pushes x.scene
-entered_that v w more place n k here e x at =
-    subst (λ (z : Seen). IsSeen w.seen z.pushes z.scene) (same_Some (record { scene = n; pushes = k }) x (sym here ∙ at)) (last_seen v w n k e)

@@ -1,27 +1,27 @@
 -- Rounds of a search, whose positions are cut in stretches.
-use Rattle.std.proofs.Common.{◌≡◌, ◌⊎◌, ℕ, zero, suc, ◌+◌, ◌*◌, ◌≤◌, ◌<◌, List, [], ◌∷◌, ◌++◌, length, get_or, Some, IsTrue, Bool, Result, Ok, Err, OnOk, IfOk}
-use Rattle.std.proofs.Common.{inl, inr, refl, sym, ap, subst, take, drop, ◌∙◌, arith}
+use Rattle.std.proofs.Common.{◌≡◌, ◌⊎◌, ℕ, zero, suc, ◌+◌, ◌*◌, ◌≤◌, ◌<◌, List, [], ◌∷◌, ◌++◌, length, get_or, Some, IsTrue, Bool, Result, Ok, Err, OnOk}
+use Rattle.std.proofs.Common.{inl, inr, refl, sym, ap, subst, take, drop, ◌∙◌, add-one, arith}
 use Rattle.std.proofs.lemmas.List.{take-append-drop, length-append, length-drop, length-take-le}
 use Rattle.std.proofs.lemmas.Option.{same_Some, slice_get_within, get_or_from_slice_get}
-use Rattle.std.specs.Prelude.{slice_get}
+use Rattle.std.specs.Prelude.{slice_get, ◌/◌, ◌-◌, ◌^◌, min}
 use Rattle.std.specs.Result.{is_ok}
 use Rattle.grid.specs.Board.{Board, Scene}
 use Rattle.grid.specs.Lawful.{box_count}
 use Rattle.prover.specs.declared.bench.Bench.{Bench}
 use Rattle.prover.specs.declared.cutting.Cut.{Cut}
 use Rattle.prover.specs.declared.sifting.Sieve.{Sieve}
-use Rattle.prover.specs.Frame.{Seen, IsSeen}
-use Rattle.prover.specs.inside.Benches.{AreAllWhole, AreReady, AreRoomy, AreWorked, IsRoomy, IsRound, IsWorked, MayEnter, stretch_start}
+use Rattle.prover.specs.Frame.{Seen}
+use Rattle.prover.specs.inside.Benches.{AreAllWhole, AreReady, AreRoomy, AreWorked, IsRoomy, IsRound, IsWorked}
+use Rattle.prover.specs.inside.Stretching.{stretch_start}
 use Rattle.prover.specs.inside.Entries.{EntriesView, Grows, IsReached}
 use Rattle.prover.specs.inside.Progress.{AllFit, AreExpanded, AreUnsolved, IsUnderWay}
-use Rattle.prover.specs.inside.Sifting.{AllFound, AreAllIn, AreSifted}
-use Rattle.prover.proofs.Progressing.{before_on, length_on, seen_on, under_way_on, unsolved_on}
+use Rattle.prover.specs.inside.Sifting.{AllFound, AreAllIn, AreFor, AreSome}
+use Rattle.prover.proofs.Progressing.{before_on, grows_none, in_back, in_either, in_front, length_on, seen_on, start_first, under_way_on, unsolved_on}
+use Rattle.std.proofs.Math.Nat.{lt-div-mul-add}
+use Rattle.std.proofs.lemmas.Bool.{cases_lt}
 use Rattle.prover.proofs.lemmas.Pruning.{keeps_so}
 
 -- ---- where the stretches begin
-
-pub start_first : (cut : Cut) → stretch_start cut 0 ≡ cut.from
-start_first cut = let z : 0 * cut.size ≡ 0 = omega arith in omega (arith, z)
 
 pub start_low : (cut : Cut) (n : ℕ) → cut.from ≤ stretch_start cut n
 start_low cut n = omega arith
@@ -49,35 +49,50 @@ roomy_push board benches new is roomy i b at = elim (push_at benches new i b at)
   | inr h ↦ roomy i b h
 ]
 
--- what stands in the first of two lists stands in both, and so does what stands in the second
-in_front : {A : Type 0} (xs ys : List A) (i : ℕ) (x : A) → slice_get xs i ≡ Some x → slice_get (xs ++ ys) i ≡ Some x
-in_front [] ys i x e = absurd (let lt = slice_get_within [] i x e in omega (arith, lt))
-in_front (z ∷ xs) ys zero x e = e
-in_front (z ∷ xs) ys (suc i) x e = in_front xs ys i x e
-
-in_back : {A : Type 0} (xs ys : List A) (i : ℕ) (x : A) → slice_get ys i ≡ Some x → (j : ℕ) × (slice_get (xs ++ ys) j ≡ Some x)
-in_back [] ys i x e = (i, e)
-in_back (z ∷ xs) ys i x e = (suc (in_back xs ys i x e).0, (in_back xs ys i x e).1)
-
--- what stands in both stands in one of them
-in_either : {A : Type 0} (xs ys : List A) (i : ℕ) (x : A) → slice_get (xs ++ ys) i ≡ Some x → (slice_get xs i ≡ Some x) ⊎ ((j : ℕ) × (slice_get ys j ≡ Some x))
-in_either [] ys i x e = inr (i, e)
-in_either (z ∷ xs) ys zero x e = inl e
-in_either (z ∷ xs) ys (suc i) x e = in_either xs ys i x e
-
--- of roomy benches the first ones and the others are roomy
-roomy_cut : (board : Board) (all front back : List Bench) → all ≡ front ++ back → AreRoomy board all → AreRoomy board front × AreRoomy board back
-roomy_cut board all front back is roomy = (
-  (λ i b at. roomy i b (ap (λ l. slice_get l i) is ∙ in_front front back i b at)),
-  (λ i b at. let h = in_back front back i b at in roomy h.0 b (ap (λ l. slice_get l h.0) is ∙ h.1)),
-)
-
--- and both together are
-roomy_joined : (board : Board) (front back : List Bench) → AreRoomy board front → AreRoomy board back → AreRoomy board (front ++ back)
-roomy_joined board front back roomy others i b at = elim (in_either front back i b at) [
-  | inl h ↦ roomy i b h
-  | inr h ↦ others h.0 b h.1
+-- one more sieve is for as many boxes
+pub for_push : (boxes : ℕ) (sieves : List Sieve) (new : Sieve) → new.left.boxes ≡ boxes → AreFor boxes sieves → AreFor boxes (sieves ++ new ∷ [])
+for_push boxes sieves new is are i s at = elim (push_at sieves new i s at) [
+  | inl same ↦ subst (λ (q : Sieve). q.left.boxes ≡ boxes) same is
+  | inr h ↦ are i s h
 ]
+
+-- what holds of each of many holds of each of the others where the first ones have gone
+each_behind : {A : Type 0} (P : A → Type 0) (all front back : List A) → all ≡ front ++ back → ((i : ℕ) (x : A) → slice_get all i ≡ Some x → P x) →
+    (i : ℕ) (x : A) → slice_get back i ≡ Some x → P x
+each_behind P all front back is each i x at =
+    let h = in_back front back i x at in each h.0 x (ap (λ l. slice_get l h.0) is ∙ h.1)
+
+-- and among the first ones
+each_before : {A : Type 0} (P : A → Type 0) (all front back : List A) → all ≡ front ++ back → ((i : ℕ) (x : A) → slice_get all i ≡ Some x → P x) →
+    (i : ℕ) (x : A) → slice_get front i ≡ Some x → P x
+each_before P all front back is each i x at = each i x (ap (λ l. slice_get l i) is ∙ in_front front back i x at)
+
+-- what holds of each of the first ones and of each of the others holds of all
+each_joined : {A : Type 0} (P : A → Type 0) (front back : List A) → ((i : ℕ) (x : A) → slice_get front i ≡ Some x → P x) →
+    ((i : ℕ) (x : A) → slice_get back i ≡ Some x → P x) → (i : ℕ) (x : A) → slice_get (front ++ back) i ≡ Some x → P x
+each_joined P front back first others i x at = elim (in_either front back i x at) [
+  | inl h ↦ first i x h
+  | inr h ↦ others h.0 x h.1
+]
+
+-- the first sieves are for as many boxes as all are
+pub for_front : (boxes many : ℕ) (sieves : List Sieve) → AreFor boxes sieves → AreFor boxes (take many sieves)
+for_front boxes many sieves are =
+    each_before (λ (s : Sieve). s.left.boxes ≡ boxes) sieves (take many sieves) (drop many sieves) (sym (take-append-drop many sieves)) are
+
+-- a list of which the first ones were worked at is as long
+as_long : {A : Type 0} (many : ℕ) (xs ys : List A) → many ≤ length xs → length ys ≡ length (take many xs) → 0 < length xs → 0 < length (ys ++ drop many xs)
+as_long many xs ys le e some = omega (arith, le, e, some, length-append ys (drop many xs), length-drop many xs, length-take-le many xs le)
+
+-- after some of them have sifted the sieves are as many
+pub some_back : (board : Board) (many : ℕ) (sieves after : List Sieve) → AreSome board sieves → many ≤ length sieves → length after ≡ length (take many sieves)
+    → AreFor (box_count board) after → AreSome board (after ++ drop many sieves)
+some_back board many sieves after some few same are = record {
+  some = as_long many sieves after few same some.some;
+  boxes = each_joined (λ (s : Sieve). s.left.boxes ≡ box_count board) after (drop many sieves) are
+      (each_behind (λ (s : Sieve). s.left.boxes ≡ box_count board) sieves (take many sieves) (drop many sieves) (sym (take-append-drop many sieves))
+      some.boxes);
+}
 
 -- benches at which each has worked
 pub worked_each : (board : Board) (most : ℕ) (all : List Seen) (cut : Cut) (before after : List Bench) → length after ≡ length before
@@ -94,18 +109,14 @@ worked_roomy board most all cut benches worked i b at = (worked i b at).roomy
 
 -- after a round the workers' places are as many and as roomy
 pub ready_back : (board : Board) (most : ℕ) (all : List Seen) (cut : Cut) (many : ℕ) (benches after : List Bench) (sieves others : List Sieve) →
-    AreReady board benches sieves → many ≤ length benches → many ≤ length sieves → length after ≡ length (take many benches) →
-    length others ≡ length (take many sieves) → AreWorked board most all cut after →
-    AreReady board (after ++ drop many benches) (others ++ drop many sieves)
-ready_back board most all cut many benches after sieves others ready few few_too same same_too worked = record {
-  some = size benches after few same ready.some;
-  some_too = size sieves others few_too same_too ready.some_too;
-  roomy = roomy_joined board after (drop many benches) (worked_roomy board most all cut after worked)
-      (roomy_cut board benches (take many benches) (drop many benches) (sym (take-append-drop many benches)) ready.roomy).1;
+    AreReady board benches sieves → many ≤ length benches → length after ≡ length (take many benches) → AreWorked board most all cut after →
+    AreSome board others → AreReady board (after ++ drop many benches) others
+ready_back board most all cut many benches after sieves others ready few same worked left = record {
+  some = as_long many benches after few same ready.some;
+  roomy = each_joined (IsRoomy board) after (drop many benches) (worked_roomy board most all cut after worked)
+      (each_behind (IsRoomy board) benches (take many benches) (drop many benches) (sym (take-append-drop many benches)) ready.roomy);
+  left = left;
 }
-  where
-    size : {A : Type 0} (xs ys : List A) → many ≤ length xs → length ys ≡ length (take many xs) → 0 < length xs → 0 < length (ys ++ drop many xs)
-    size xs ys le e some = omega (arith, le, e, some, length-append ys (drop many xs), length-drop many xs, length-take-le many xs le)
 
 -- what is told of a good answer is so where the answer is good
 pub on_whole : {T E A : Type 0} (r : Result T E) (whole : Bool) → whole ≡ is_ok r → OnOk r A → IsTrue whole → A
@@ -137,71 +148,76 @@ pub all_found : (board : Board) (most : ℕ) (all : List Seen) (cut : Cut) (benc
     AllFound board benches
 all_found board most all cut benches worked whole i b at = (worked i b at).fit (whole i b at)
 
--- one more bench has entered what is left of what it found
-pub round_on : (board : Board) (most : ℕ) (v u w : EntriesView) (cut : Cut) (benches : List Bench) (sieves : List Sieve) (i : ℕ)
-    → i < length benches → Grows v u → Grows u w
-    → (AllFound board benches → AllFit board u.seen → AllFit board w.seen) → AreAllIn board most w.seen benches (i + 1)
-    → IsRound board most v.seen cut benches sieves → IsUnderWay board most u.seen (stretch_start cut i)
-    → IsUnderWay board most w.seen (stretch_start cut (i + 1))
-round_on board most v u w cut benches sieves i lt_n grown grows fit all_in round under =
-    let (b, at) = bench_at benches i lt_n in
-    let entered = all_in i b (omega arith) at in
-    let done = round.worked i b at in
-    let whole = round.whole i b at in
-    let low = start_low cut i in
-    let high = start_high cut (i + 1) round.order in
-    let long = length_on v u grown in
+-- a search stands where it stood when more is seen
+stood : (board : Board) (most : ℕ) (v w : EntriesView) (place : ℕ) → place ≤ length v.seen → Grows v w → AllFit board w.seen →
+    IsUnderWay board most v.seen place → IsUnderWay board most w.seen place
+stood board most v w place within grows fit under =
+    under_way_on board most v w [] place place under (λ i x ge lt at. absurd (omega (arith, ge, lt))) within
+    (λ i x ge lt at. absurd (omega (arith, ge, lt))) grows fit (λ i x at. absurd (let lt = slice_get_within [] i x at in omega (arith, lt)))
+
+-- what is left of what was found at the benches has entered, so the search has come to the end of the first stretches
+stretches_on : (board : Board) (most : ℕ) (v w : EntriesView) (cut : Cut) (benches : List Bench) (count : ℕ)
+    → IsRound board most v.seen cut benches → Grows v w → AllFit board w.seen → AreAllIn board most w.seen benches (length benches)
+    → count ≤ length benches → IsUnderWay board most w.seen (stretch_start cut count)
+stretches_on board most v w cut benches zero round grows fit entered le =
+    subst (IsUnderWay board most w.seen) (sym (start_first cut)) (stood board most v w cut.from (omega (arith, round.order, round.within)) grows fit
+    round.under_way)
+stretches_on board most v w cut benches (suc count) round grows fit entered le =
+    let lt : count < length benches = omega (arith, le) in
+    let (b, at) = bench_at benches count lt in
+    let done = round.worked count b at in
+    let low = start_low cut count in
+    let high = start_high cut (count + 1) round.order in
+    let long = length_on v w grows in
     let within = round.within in
-    let unsolved = unsolved_on board v u cut.from cut.to grown round.within round.unsolved in
-    under_way_on board most u w b.more.seen (stretch_start cut i) (stretch_start cut (i + 1)) under
-    (λ j x ge lt here. unsolved j x (omega (arith, ge, low)) (omega (arith, lt, high)) here)
+    let unsolved = unsolved_on board v w cut.from cut.to grows within round.unsolved in
+    subst (λ n. IsUnderWay board most w.seen (stretch_start cut n)) (add-one count)
+    (under_way_on board most w w b.more.seen (stretch_start cut count) (stretch_start cut (count + 1))
+    (stretches_on board most v w cut benches count round grows fit entered (omega (arith, le)))
+    (λ j x ge less here. unsolved j x (omega (arith, ge, low)) (omega (arith, less, high)) here)
     (omega (arith, high, within, long))
-    (expanded_later board most v u b.more.seen (stretch_start cut i) (stretch_start cut (i + 1)) grown (omega (arith, high, within)) (done.expanded whole))
-    grows (fit (all_found board most v.seen cut benches round.worked round.whole) under.fit) entered
-
--- before the first bench the search has come to where they begin
-pub round_start : (all : List Seen) (board : Board) (most : ℕ) (cut : Cut) (benches : List Bench) (sieves : List Sieve) →
-    IsRound board most all cut benches sieves → IsUnderWay board most all (stretch_start cut 0)
-round_start all board most cut benches sieves round = subst (IsUnderWay board most all) (sym (start_first cut)) round.under_way
-
--- after the last bench the search has come to the end of the stretches
-pub round_over : (board : Board) (most : ℕ) (all : List Seen) (cut : Cut) (i n : ℕ) → i ≡ n → IsUnderWay board most all (stretch_start cut i) →
-    IsUnderWay board most all (stretch_start cut n)
-round_over board most all cut i n same under = subst (λ k. IsUnderWay board most all (stretch_start cut k)) same under
-
--- and may be entered
-pub may_enter : (board : Board) (most : ℕ) (all : List Seen) (cut : Cut) (benches : List Bench) (boxes : ℕ) → boxes ≡ box_count board →
-    AreWorked board most all cut benches → AreAllWhole benches → MayEnter boxes benches
-may_enter board most all cut benches boxes same worked whole i b at =
-    let done = worked i b at in (
-      done.roomy.more ∙ sym same,
-      (λ j x here. let fits = done.fit (whole i b at) j x here in (fits.boxes ∙ sym done.roomy.more, fits.scene.rising)),
-    )
+    (expanded_later board most v w b.more.seen (stretch_start cut count) (stretch_start cut (count + 1)) grows (omega (arith, high, within))
+    (done.expanded (round.whole count b at)))
+    (grows_none w w refl) fit (entered count b lt at))
 
 -- a round is done: the search has come further, and no further than the cut
-pub round_done : {E : Type 0} (board : Board) (most : ℕ) (before after : List Seen) (cut : Cut) (from to : ℕ) (benches : List Bench) (sieves : List Sieve)
-    (r : Result ℕ E) →
+pub round_done : (board : Board) (most : ℕ) (v w : EntriesView) (cut : Cut) (from to n : ℕ) (benches : List Bench) →
     cut.from ≡ from → cut.to ≡ to → 0 < cut.size → 0 < length benches → from < to
-    → IsUnderWay board most before from → AreUnsolved board before from to → to ≤ length before → AreWorked board most before cut benches
-    → AreAllWhole benches → AreSifted board most benches sieves
-    → IfOk r (λ n. n ≡ stretch_start cut (length benches)) →
-    OnOk r ((at : Board) (k : ℕ) → IsRound at k before cut benches sieves → IsUnderWay at k after (stretch_start cut (length benches)))
-    → IfOk r (λ n. IsUnderWay board most after n × (from < n) × (n ≤ to))
-round_done board most before after cut from to benches sieves (Ok n) start end some many less under unsolved within worked whole sifted is told =
+    → IsUnderWay board most v.seen from → AreUnsolved board v.seen from to → to ≤ length v.seen → AreWorked board most v.seen cut benches
+    → AreAllWhole benches → AreAllIn board most w.seen benches (length benches) → (AllFit board v.seen → AllFit board w.seen) → Grows v w
+    → n ≡ stretch_start cut (length benches) → IsUnderWay board most w.seen n × (from < n) × (n ≤ to)
+round_done board most v w cut from to n benches start end some many less under unsolved within worked whole entered fit grows is =
     let cut_less : cut.from < cut.to = omega (arith, start, end, less) in
     let further = start_further cut (length benches) many some cut_less in
     let high = start_high cut (length benches) (omega (arith, cut_less)) in
-    let round : IsRound board most before cut benches sieves = record {
-      under_way = subst (IsUnderWay board most before) (sym start) under;
+    let round : IsRound board most v.seen cut benches = record {
+      under_way = subst (IsUnderWay board most v.seen) (sym start) under;
       unsolved = λ i x ge lt at. unsolved i x (omega (arith, ge, start)) (omega (arith, lt, end)) at;
       order = omega (arith, cut_less);
       within = omega (arith, within, end);
       worked = worked;
       whole = whole;
-      sifted = sifted;
     } in (
-      subst (IsUnderWay board most after) (sym is) (told board most round),
+      subst (IsUnderWay board most w.seen) (sym is)
+          (stretches_on board most v w cut benches (length benches) round grows (fit under.fit) entered (omega arith)),
       omega (arith, further, start, is),
       omega (arith, high, end, is),
     )
-round_done board most before after cut from to benches sieves (Err e) start end some many less under unsolved within worked whole sifted is told = tt
+
+-- even stretches, so many of them, are all there is
+pub even_all : (len parts size : ℕ) → 0 < parts → len < 2 ^ 64 → size ≡ min (len / parts + 1) (2 ^ 64 - 1) → 0 + min (parts * size) (len - 0) ≡ len
+even_all len (suc parts) size some few is =
+    let q = len / suc parts in
+    let low : len < q * suc parts + suc parts = lt-div-mul-add some in
+    let least : suc parts * size ≡ size + parts * size = omega arith in
+    elim (cases_lt q (2 ^ 64 - 1)) [
+      | inl less ↦
+          (let exact : size ≡ q + 1 = omega (arith, is, less) in
+          let wide : suc parts * size ≡ suc parts * (q + 1) = ap (λ n. suc parts * n) exact in
+          let apart : suc parts * (q + 1) ≡ q * suc parts + suc parts = omega arith in
+          omega (arith, low, wide, apart))
+      | inr ge ↦
+          (let exact : size ≡ 2 ^ 64 - 1 = omega (arith, is, ge) in
+          omega (arith, few, exact, least))
+    ]
+even_all len zero size some few is = absurd (omega (arith, some))

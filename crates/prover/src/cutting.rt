@@ -1,6 +1,6 @@
 //! How the positions of a round are cut in stretches, one for each worker.
 ghost use Rattle.std.specs.Prelude.{◌≡◌, ◌+◌, ◌<◌, ◌≤◌, ◌^◌};
-ghost use Rattle.prover.specs.inside.Benches.{stretch_start};
+ghost use Rattle.prover.specs.inside.Stretching.{stretch_start};
 
 use crate::expansion::Span;
 
@@ -29,6 +29,20 @@ impl Cut {
             from,
             to,
             size: share.max(LEAST).min(most).max(1),
+        }
+    }
+
+    /// So many places from the first on, cut in about even stretches, so many of them.
+    pub(crate) fn even(len: usize, parts: usize) -> Cut
+        requires some { 0 < parts }
+        ensures from { result.from ≡ 0 }
+        ensures to { result.to ≡ len }
+        ensures all { stretch_start result parts ≡ len }
+    {
+        Cut {
+            from: 0,
+            to: len,
+            size: (len / parts).saturating_add(1),
         }
     }
 

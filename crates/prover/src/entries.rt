@@ -3,7 +3,7 @@ ghost use Rattle.std.specs.Prelude.{◌≡◌, ◌+◌, ◌*◌, ◌<◌, ◌≤
 ghost use Rattle.grid.specs.Board.{Scene};
 ghost use Rattle.grid.specs.Rising.{is_rising};
 ghost use Rattle.prover.specs.Frame.{Seen};
-ghost use Rattle.prover.specs.inside.Entries.{EntriesView, with_entry, row_scene};
+ghost use Rattle.prover.specs.inside.Entries.{EntriesView, joined, with_entry, row_scene};
 
 use grid::{MAX_BOXES, Position, Square};
 use std::alloc::{AllocError, Global};
@@ -95,6 +95,14 @@ impl Entries {
         Some(read_row(self.squares.as_slice(), place, self.boxes))
     }
 
+    /// The boxes of the position at a place.
+    pub(crate) fn boxes_at(&self, place: usize) -> &[Square]
+        requires { place < length self.now.seen }
+        ensures { (x : Seen) → slice_get self.now.seen place ≡ Some x → result.now ≡ x.scene.boxes }
+    {
+        read_boxes(self.squares.as_slice(), place, self.boxes)
+    }
+
     /// Whether the position at a place is this one, and was seen after no more pushes.
     pub(crate) fn has_at(&self, place: usize, position: &Position, pushes: u32) -> bool
         requires { place < length self.now.seen }
@@ -133,6 +141,22 @@ impl Entries {
         }
         Ok(())
     }
+
+    /// Appends the positions of another list, with their labels. An error leaves the list as it was.
+    pub(crate) fn append_all(&mut self, more: &Entries) -> Result<(), AllocError>
+        requires { more.now.boxes ≡ self.old.boxes }
+        ensures ok { OnOk result (self.new ≡ joined self.old more.now) }
+        ensures err { OnErr result (self.new ≡ self.old) }
+    {
+        let len = self.squares.len();
+        self.squares.extend_from_slice(more.squares.as_slice())?;
+        let labels = more.labels.as_slice();
+        if self.labels.extend_from_slice(labels).is_err() {
+            self.squares.truncate(len);
+            return Err(AllocError);
+        }
+        Ok(())
+    }
 }
 
 // Appends the squares of a position: its boxes, then its player. An error leaves the list as it was.
@@ -159,6 +183,16 @@ fn read_position(squares: &[Square], place: usize, boxes: usize) -> Position
     let (_, row) = squares.split_at(place * (boxes + 1));
     let (front, _) = row.split_at(boxes);
     Position::of_rising(front, row[boxes])
+}
+
+// The boxes of the position at a place.
+fn read_boxes(squares: &[Square], place: usize, boxes: usize) -> &[Square]
+    requires { place * (boxes + 1) + (boxes + 1) ≤ length squares.now }
+    ensures { result.now ≡ take boxes (drop (place * (boxes + 1)) squares.now) }
+{
+    let (_, row) = squares.split_at(place * (boxes + 1));
+    let (front, _) = row.split_at(boxes);
+    front
 }
 
 // The squares of the position at a place.

@@ -1,22 +1,21 @@
 //! Rounds of a search: positions are expanded side by side, and then what they lead to is entered in the order of the places.
 //! So what is seen, and in which order, is the same for every number of workers.
-ghost use Rattle.std.specs.Prelude.{◌≡◌, ◌+◌, ◌<◌, ◌≤◌, ◌^◌, ℕ, IfOk, IsTrue, OnOk, Some, length, slice_get, slice_index_or, false, true};
+ghost use Rattle.std.specs.Prelude.{◌≡◌, ◌+◌, ◌<◌, ◌≤◌, ◌^◌, IfOk, IsTrue, OnOk, length};
 ghost use Rattle.grid.specs.Board.{Board};
 ghost use Rattle.grid.specs.Lawful.{box_count};
-ghost use Rattle.prover.specs.Frame.{Seen, IsSeen};
-ghost use Rattle.prover.specs.inside.Benches.{AreAllWhole, AreInOrder, AreReady, AreRoomy, AreWorked, IsRoomy, IsRound, IsWorked, MayEnter, stretch_start};
+ghost use Rattle.prover.specs.inside.Benches.{AreAllWhole, AreReady, AreRoomy, AreWorked, IsRoomy, IsWorked};
+ghost use Rattle.prover.specs.inside.Stretching.{stretch_start};
 ghost use Rattle.prover.specs.inside.Entries.{Grows};
 ghost use Rattle.prover.specs.inside.Progress.{AllFit, AreUnsolved, IsUnderWay};
-ghost use Rattle.prover.specs.inside.Sifting.{AllFound, AreAllIn, AreSifted};
+ghost use Rattle.prover.specs.inside.Sifting.{AllFound, AreAllFit, AreAllIn, AreEntered, AreFor, AreSome};
 
 use crate::aim::Aim;
 use crate::bench::{Bench, work};
 use crate::cutting::Cut;
-use crate::entries::{Entries, Label};
 use crate::expansion::Span;
 use crate::pacing::most_of;
 use crate::pruner::Pruner;
-use crate::sifting::{Sieve, sift_beside};
+use crate::sifting::{Sieve, are_sifted, busy_sieves, sift_beside};
 use crate::store::Store;
 use spreading::for_each_spread;
 use std::alloc::AllocError;
@@ -63,18 +62,17 @@ fn expand_settled<R: Threads + Sync>(
     ensures grows { OnOk result (Grows store.old store.new) }
     ensures ready { AreReady aim.now.pruner.now benches.new sieves.new }
 {
-    let workers = benches.len().min(sieves.len());
+    let workers = benches.len();
     let size = most_of(store.entries(), span.from, benches);
     let cut = Cut::of(span, workers, size);
     let many = cut.busy(workers);
     let busy = &mut benches[..many];
-    let sieves = &mut sieves[..many];
     expand_beside(rt, aim.pruner, store, aim.most, cut, busy);
     if !are_whole(busy) {
         return Err(AllocError);
     }
-    sift_beside(rt, aim.pruner, aim.most, busy, sieves);
-    enter_each(store, cut, busy, sieves)
+    enter_found(rt, aim, store, busy, sieves)?;
+    Ok(cut.start(many))
 }
 
 // Expands the stretch of each bench, side by side, each in a thread of its own where one can be started.
@@ -119,91 +117,68 @@ fn are_whole(benches: &[Bench]) -> bool
     true
 }
 
-// Enters what is left of what was found at each bench, one bench after the other. Gives where the stretches end. After an
-// error some of it may have entered.
-fn enter_each(
+// Sifts what was found at each bench, one bench after the other, and enters what is left. After an error some of it may have
+// entered.
+fn enter_found<R: Threads + Sync>(
+    rt: &R,
+    aim: &Aim<'_, '_>,
     store: &mut Store,
-    cut: Cut,
     benches: &[Bench],
-    sieves: &[Sieve],
-) -> Result<usize, AllocError>
-    requires lawful { MayEnter store.old.boxes benches.now }
-    requires order { cut.from ≤ cut.to }
-    ensures to { IfOk result (λ to. to ≡ stretch_start cut (length benches.now)) }
-    ensures under_way { OnOk result ((board : Board) (most : ℕ) → IsRound board most store.old.seen cut benches.now sieves.now →
-        IsUnderWay board most store.new.seen (stretch_start cut (length benches.now))) }
+    sieves: &mut [Sieve],
+) -> Result<(), AllocError>
+    requires found { AllFound aim.now.pruner.now benches.now }
+    requires boxes { store.old.boxes ≡ box_count aim.now.pruner.now }
+    requires sieves { AreSome aim.now.pruner.now sieves.old }
+    ensures entered { OnOk result (AreAllIn aim.now.pruner.now aim.now.most store.new.seen benches.now (length benches.now)) }
+    ensures fit { OnOk result (AllFit aim.now.pruner.now store.old.seen → AllFit aim.now.pruner.now store.new.seen) }
     ensures grows { OnOk result (Grows store.old store.new) }
+    ensures sieves { AreSome aim.now.pruner.now sieves.new }
 {
     for number in 0..benches.len() {
-        enter_sifted(store, benches, sieves, number)?;
-    }
-    Ok(cut.start(benches.len()))
-}
-
-// Enters what is left of what was found at the bench of a number. After an error some of it may have entered.
-fn enter_sifted(
-    store: &mut Store,
-    benches: &[Bench],
-    sieves: &[Sieve],
-    number: usize,
-) -> Result<(), AllocError>
-    requires within { number < length benches.now }
-    requires lawful { MayEnter store.old.boxes benches.now }
-    ensures entered { OnOk result ((board : Board) (most : ℕ) → AreSifted board most benches.now sieves.now →
-        AreAllIn board most store.old.seen benches.now number → AreAllIn board most store.new.seen benches.now (number + 1)) }
-    ensures fit { OnOk result ((board : Board) → AllFound board benches.now → AllFit board store.old.seen → AllFit board store.new.seen) }
-    ensures grows { OnOk result (Grows store.old store.new) }
-{
-    if number >= sieves.len() {
-        return Err(AllocError);
-    }
-    let sieve = &sieves[number];
-    if !sieve.is_whole {
-        return Err(AllocError);
-    }
-    let bench = &benches[number];
-    enter_marked(store, bench.more.entries(), sieve.marks.as_slice())
-}
-
-// Enters the positions that are marked. After an error some of them may have entered.
-fn enter_marked(store: &mut Store, more: &Entries, marks: &[bool]) -> Result<(), AllocError>
-    requires boxes { more.now.boxes ≡ store.old.boxes }
-    requires in_order { AreInOrder more.now }
-    ensures seen { OnOk result ((i : ℕ) (x : Seen) → slice_get more.now.seen i ≡ Some x → slice_index_or marks.now i false ≡ true →
-        IsSeen store.new.seen x.pushes x.scene) }
-    ensures fit { OnOk result ((board : Board) → AllFit board more.now.seen → AllFit board store.old.seen → AllFit board store.new.seen) }
-    ensures grows { OnOk result (Grows store.old store.new) }
-{
-    for place in 0..more.len() {
-        let marked = mark_at(marks, place);
-        enter_if(store, more, place, marked)?;
+        enter_bench(rt, aim, store, benches, number, sieves)?;
     }
     Ok(())
 }
 
-// Enters the position at a place if it is marked.
-fn enter_if(store: &mut Store, more: &Entries, place: usize, marked: bool) -> Result<(), AllocError>
-    requires within { place < length more.now.seen }
-    requires boxes { more.now.boxes ≡ store.old.boxes }
-    requires in_order { AreInOrder more.now }
-    ensures seen { OnOk result ((x : Seen) → slice_get more.now.seen place ≡ Some x → IsTrue marked → IsSeen store.new.seen x.pushes x.scene) }
-    ensures fit { OnOk result ((board : Board) → AllFit board more.now.seen → AllFit board store.old.seen → AllFit board store.new.seen) }
+// The same for the bench of a number.
+fn enter_bench<R: Threads + Sync>(
+    rt: &R,
+    aim: &Aim<'_, '_>,
+    store: &mut Store,
+    benches: &[Bench],
+    number: usize,
+    sieves: &mut [Sieve],
+) -> Result<(), AllocError>
+    requires within { number < length benches.now }
+    requires found { AllFound aim.now.pruner.now benches.now }
+    requires boxes { store.old.boxes ≡ box_count aim.now.pruner.now }
+    requires sieves { AreSome aim.now.pruner.now sieves.old }
+    ensures entered { OnOk result (AreAllIn aim.now.pruner.now aim.now.most store.old.seen benches.now number →
+        AreAllIn aim.now.pruner.now aim.now.most store.new.seen benches.now (number + 1)) }
+    ensures fit { OnOk result (AllFit aim.now.pruner.now store.old.seen → AllFit aim.now.pruner.now store.new.seen) }
     ensures grows { OnOk result (Grows store.old store.new) }
+    ensures sieves { AreSome aim.now.pruner.now sieves.new }
 {
-    if !marked {
-        return Ok(());
+    let finds = benches[number].more.entries().len();
+    let busy = busy_sieves(finds, sieves.len());
+    let cut = Cut::even(finds, busy);
+    let sieves = &mut sieves[..busy];
+    sift_beside(rt, aim, benches, number, cut, sieves);
+    if !are_sifted(sieves) {
+        return Err(AllocError);
     }
-    let (position, pushes) = more.get(place);
-    let parent = more.parent(place).unwrap_or(u32::MAX);
-    store.append(&position, Label { pushes, parent })
+    enter_each(store, sieves)
 }
 
-// The mark at a place.
-fn mark_at(marks: &[bool], place: usize) -> bool
-    ensures { result ≡ slice_index_or marks.now place false }
+// Enters what is left at each sieve, one after the other. After an error some of it may have entered.
+fn enter_each(store: &mut Store, sieves: &[Sieve]) -> Result<(), AllocError>
+    requires boxes { AreFor store.old.boxes sieves.now }
+    ensures entered { OnOk result (AreEntered store.new.seen sieves.now (length sieves.now)) }
+    ensures fit { OnOk result ((board : Board) → AreAllFit board sieves.now → AllFit board store.old.seen → AllFit board store.new.seen) }
+    ensures grows { OnOk result (Grows store.old store.new) }
 {
-    match marks.get(place) {
-        Some(mark) => *mark,
-        None => false,
+    for sieve in sieves {
+        store.append_all(&sieve.left, sieve.hashes.as_slice())?;
     }
+    Ok(())
 }

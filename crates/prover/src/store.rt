@@ -1,11 +1,11 @@
 //! The positions that a search has seen, found by their squares.
 ghost use Rattle.std.specs.Prelude.{◌≡◌, ◌⊎◌, ◌<◌, ◌≤◌, [], IsTrue, IfOk, IfNone, IfSome, OnErr, OnOk, length};
 ghost use Rattle.prover.specs.Frame.{IsSeen};
-ghost use Rattle.prover.specs.inside.Entries.{with_entry};
+ghost use Rattle.prover.specs.inside.Entries.{joined, with_entry};
 
 use crate::entries::{Entries, Label};
 use crate::table::{
-    BLOCK, NOTHING, Slot, free_slot, free_slots, hashes_for, put_all, put_from, slot_of,
+    BLOCK, NOTHING, Slot, free_slot, free_slots, hashes_for, put_all, put_known, put_part, slot_of,
 };
 use grid::{MAX_BOXES, Position};
 use std::alloc::{AllocError, Global};
@@ -23,7 +23,7 @@ pub(crate) struct Store {
     entries: Entries,
     settled: Vec<Slot>,
     fresh: Vec<Slot>,
-    // room for the hashes of positions that settle
+    // the hashes of those that are new, or of some of those that settle anew
     hashes: Vec<u64>,
     // the positions before this place have settled
     open: usize,
@@ -103,19 +103,27 @@ impl Store {
             return Ok(());
         };
         let place = self.entries.len();
+        self.hashes.push(hash)?;
         self.entries.append(position, label)?;
         self.fresh[slot] = slot_of(hash, place);
         Ok(())
     }
 
-    /// Appends a position that is not looked up, since it is none of those that were seen: one that is would stand there twice,
-    /// and cost memory alone. The only error is that memory was refused, and it leaves the positions as they were.
-    pub(crate) fn append(&mut self, position: &Position, label: Label) -> Result<(), AllocError>
-        requires { length position.now.boxes ≡ self.old.boxes }
-        ensures ok { OnOk result (self.new ≡ with_entry self.old position.now label.pushes) }
+    /// Appends positions that are not looked up, since they are none of those that were seen: one that is would stand there
+    /// twice, and cost memory alone. Their hashes spare making them. The only error is that memory was refused, and it leaves the
+    /// positions as they were.
+    pub(crate) fn append_all(&mut self, more: &Entries, hashes: &[u64]) -> Result<(), AllocError>
+        requires { more.now.boxes ≡ self.old.boxes }
+        ensures ok { OnOk result (self.new ≡ joined self.old more.now) }
         ensures err { OnErr result (self.new ≡ self.old) }
     {
-        self.entries.append(position, label)
+        self.hashes.extend_from_slice(hashes)?;
+        self.entries.append_all(more)
+    }
+
+    /// The hash of the position at a place, if none has settled.
+    pub(crate) fn hash(&self, place: usize) -> u64 {
+        self.hashes.get(place).copied().unwrap_or(0)
     }
 
     /// Lets all positions settle, by so many threads. The only error is that memory was refused.
@@ -130,13 +138,16 @@ impl Store {
         if grow(&mut self.settled, count)? {
             self.open = 0;
         }
-        let size = hashes_for(count.saturating_sub(self.open));
-        if self.hashes.len() < size {
-            self.hashes.resize(size, 0)?;
-        }
-        let hashes = self.hashes.as_mut_slice();
+        let many = count.saturating_sub(self.open);
         let slots = self.settled.as_mut_slice();
-        put_all(rt, &self.entries, self.open, slots, hashes, threads);
+        if self.hashes.len() == many {
+            put_known(rt, self.open, self.hashes.as_slice(), slots, threads);
+        } else {
+            self.hashes.resize(hashes_for(many), 0)?;
+            let hashes = self.hashes.as_mut_slice();
+            put_all(rt, &self.entries, self.open, slots, hashes, threads);
+        }
+        self.hashes.clear();
         self.open = count;
         self.fresh.as_mut_slice().fill(NOTHING);
         Ok(())
@@ -147,6 +158,7 @@ impl Store {
         ensures { self.new ≡ record { boxes = self.old.boxes; seen = [] } }
     {
         self.entries.clear();
+        self.hashes.clear();
         self.fresh.as_mut_slice().fill(NOTHING);
     }
 
@@ -156,7 +168,9 @@ impl Store {
     {
         let count = self.entries.len().saturating_sub(self.open);
         if grow(&mut self.fresh, count.saturating_add(1))? {
-            put_from(&self.entries, self.open, self.fresh.as_mut_slice());
+            let slots = self.fresh.as_mut_slice();
+            let size = slots.len();
+            put_part(self.open, self.hashes.as_slice(), size, 0, slots);
         }
         Ok(())
     }

@@ -109,6 +109,18 @@ pub(crate) fn put_all<R: Threads + Sync>(
     }
 }
 
+/// Writes the places of the positions from one on, which have these hashes, into free slots, by so many threads at most.
+pub(crate) fn put_known<R: Threads + Sync>(
+    rt: &R,
+    from: usize,
+    hashes: &[u64],
+    slots: &mut [Slot],
+    threads: usize,
+) {
+    let busy = threads.min(hashes.len() / LEAST_PLACES).max(1);
+    put_beside(rt, from, hashes, slots, busy);
+}
+
 // Makes the hashes of the positions from one on.
 fn hash_beside<R: Threads + Sync>(
     rt: &R,
@@ -153,33 +165,49 @@ fn put_beside<R: Threads + Sync>(
     );
 }
 
-// Writes those of these places into free slots that belong in a part of a table, which begins at a slot of it.
-fn put_part(from: usize, hashes: &[u64], size: usize, start: usize, part: &mut [Slot]) {
+/// So many slots are looked at before the first of them is written: no look waits for what another one finds, so the waits for
+/// memory overlap.
+const BATCH: usize = 64;
+
+/// Writes those of these places into free slots that belong in a part of a table, which begins at a slot of it.
+pub(crate) fn put_part(from: usize, hashes: &[u64], size: usize, start: usize, part: &mut [Slot]) {
     if size == 0 {
         return;
     }
-    for (place, hash) in hashes.iter().enumerate() {
-        let slot = first_slot(*hash, size);
-        if slot >= start && slot - start < part.len() {
-            put(
-                part,
-                slot - start,
-                slot_of(*hash, from.saturating_add(place)),
-            );
+    for batch in 0..hashes.len().div_ceil(BATCH) {
+        let done = batch.saturating_mul(BATCH).min(hashes.len());
+        let (_, rest) = hashes.split_at(done);
+        let (some, _) = rest.split_at(rest.len().min(BATCH));
+        let mut slots = [usize::MAX; BATCH];
+        look_ahead(some, size, start, part, &mut slots);
+        put_batch(from.saturating_add(done), some, &slots, part);
+    }
+}
+
+// Notes for each hash from which slot of the part on its place may stand: the first one, or the one after it if that is held; one
+// that the part does not have if it belongs elsewhere.
+fn look_ahead(hashes: &[u64], size: usize, start: usize, part: &[Slot], slots: &mut [usize])
+    requires { 1 ≤ size }
+{
+    for (nth, slot) in slots.iter_mut().enumerate() {
+        if nth < hashes.len() {
+            let first = first_slot(hashes[nth], size).wrapping_sub(start);
+            if first < part.len() {
+                let next = next_slot(first, part.len());
+                *slot = if part[first].tag == FREE { first } else { next };
+            }
         }
     }
 }
 
-/// Writes the places of the positions from one on into free slots.
-pub(crate) fn put_from(entries: &Entries, from: usize, slots: &mut [Slot]) {
-    let size = slots.len();
-    if size == 0 {
-        return;
-    }
-    for place in from..entries.len() {
-        if let Some(row) = entries.row(place) {
-            let hash = hash_of_row(row);
-            put(slots, first_slot(hash, size), slot_of(hash, place));
+// Writes the places of the positions from one on, which have these hashes, into free slots, from those on that are noted.
+fn put_batch(from: usize, hashes: &[u64], slots: &[usize], part: &mut [Slot]) {
+    for (nth, hash) in hashes.iter().enumerate() {
+        if nth < slots.len() {
+            let first = slots[nth];
+            if first < part.len() {
+                put(part, first, slot_of(*hash, from.saturating_add(nth)));
+            }
         }
     }
 }

@@ -26,6 +26,10 @@ entries_view a = record { boxes = a.boxes; seen = seen_of a.boxes a.squares.item
 abbrev pub with_entry : EntriesView → Scene → ℕ → EntriesView
 with_entry v n k = record { boxes = v.boxes; seen = v.seen ++ record { scene = n; pushes = k } ∷ [] }
 
+-- the positions of one list, and then those of another
+abbrev pub joined : EntriesView → EntriesView → EntriesView
+joined v w = record { boxes = v.boxes; seen = v.seen ++ w.seen }
+
 -- there are as many squares as the positions have, and no more boxes in one than there may be
 pub record AreWhole (a : Inside) : Type 0 where
   pub squares : length a.squares.items ≡ length a.labels.items * suc a.boxes

@@ -1,37 +1,40 @@
-use Rattle.std.proofs.Common.{◌≡◌, ◌<◌, refl, subst, sym, length, arith}
-use Rattle.prover.specs.inside.Benches.{MayEnter}
-use Rattle.prover.proofs.Progressing.{grows_none, grows_on}
-use Rattle.prover.proofs.Stretches.{round_on, round_over, round_start}
+use Rattle.std.proofs.Common.{◌≡◌, Some, refl, sym, ◌∙◌, length, arith}
+use Rattle.std.specs.Prelude.{slice_get}
+use Rattle.std.proofs.lemmas.Option.{slice_get_read}
+use Rattle.prover.proofs.Progressing.{fit_joined, grows_joined, grows_none, grows_on}
+use Rattle.prover.proofs.Sieves.{entered_one}
 use Rattle.prover.proofs.rounds.enter_each.Goals as goal
 
-pub enter_sifted-requires-clause-lawful : goal.enter_sifted-requires-clause-lawful
-enter_sifted-requires-clause-lawful c = subst (λ boxes. MayEnter boxes c.args.benches.now) (sym c.loop-number.invariant.grows.0) c.requires.lawful
+pub append_all-requires : goal.append_all-requires
+append_all-requires c =
+    let sieves = c.args.sieves.now in
+    let s = c.sieve-item.result in
+    let there : slice_get sieves c.loop-sieve.sieve-index ≡ Some s =
+    slice_get_read sieves (length sieves) c.loop-sieve.sieve-index s refl c.loop-sieve-test.true c.sieve-item.is in
+    c.requires.boxes c.loop-sieve.sieve-index s there ∙ sym c.loop-sieve.invariant.grows.0
 
-pub loop-number-init : goal.loop-number-init
-loop-number-init c = record {
-  under_way = λ board most round. round_start c.args.store.now.seen board most c.args.cut c.args.benches.now c.args.sieves.now round;
-  entered = λ board most round i b lt at. absurd (omega (arith, lt));
+pub loop-sieve-init : goal.loop-sieve-init
+loop-sieve-init c = record {
+  entered = λ i s lt at k t seen. absurd (omega (arith, lt));
+  fit = λ board are fit. fit;
   grows = grows_none c.args.store.now c.args.store.now refl;
 }
 
-pub loop-number-preserved : goal.loop-number-preserved
-loop-number-preserved c =
-    let benches = c.args.benches.now in
-    let i = c.loop-number.number in
-    let v = c.args.store.now in
-    let u = c.loop-number.store in
-    let w = c.enter_sifted.new.store in
-    let was = c.loop-number.invariant in
-    let did = c.in_ok-enter_sifted.ensures in
-    let size : i < length benches = omega (arith, c.loop-number-test.true) in
+pub loop-sieve-preserved : goal.loop-sieve-preserved
+loop-sieve-preserved c =
+    let sieves = c.args.sieves.now in
+    let s = c.sieve-item.result in
+    let i = c.loop-sieve.sieve-index in
+    let there : slice_get sieves i ≡ Some s = slice_get_read sieves (length sieves) i s refl c.loop-sieve-test.true c.sieve-item.is in
+    let u = c.loop-sieve.store in
+    let w = c.append_all.new.self in
+    let was = c.loop-sieve.invariant in
+    let e = c.in_ok-append_all.ensures.ok in
     record {
-      under_way = λ board most round. round_on board most v u w c.args.cut benches c.args.sieves.now i size was.grows did.grows (did.fit board)
-          (did.entered board most round.sifted (was.entered board most round)) round (was.under_way board most round);
-      entered = λ board most round. did.entered board most round.sifted (was.entered board most round);
-      grows = grows_on v u w was.grows did.grows;
+      entered = entered_one u w sieves i s there e was.entered;
+      fit = λ board fits fit. fit_joined board u w s.left e (was.fit board fits fit) (fits i s there);
+      grows = grows_on c.args.store.now u w was.grows (grows_joined u w s.left e);
     }
 
-pub returns-clause-under_way : goal.returns-clause-under_way
-returns-clause-under_way c = λ board most round.
-    round_over board most c.loop-number.store.seen c.args.cut c.loop-number.number (length c.args.benches.now)
-    (omega (arith, c.loop-number-test.false, c.loop-number.auto.number-end)) (c.loop-number.invariant.under_way board most round)
+pub returns-clause-entered : goal.returns-clause-entered
+returns-clause-entered c = λ i s lt at k t seen. c.loop-sieve.invariant.entered i s (omega (arith, lt, c.loop-sieve-test.false)) at k t seen
