@@ -13,48 +13,61 @@ use std::sync::{Mutex, Wait};
 
 /// Lets a worker do the one rank of a layer, also where it has no memory for lots.
 pub(crate) fn work_alone<R: Print + Wait>(rt: &R, alloc: Global) -> Option<()> {
-    let mut book = first_book(alloc, THERE_AND_BACK)?;
-    let layer = joined(alloc, &book)?;
-    book.begin(&layer).ok()?;
-    told::left(rt, slice::from_ref(&book))?;
-    work_twice(rt, alloc, &layer, book)
-}
-
-// Works on the layer, shows the book, and does so once more where memory was refused.
-fn work_twice<R: Print + Wait>(rt: &R, alloc: Global, layer: &Layer, book: Book) -> Option<()> {
+    let book = first_book(alloc, THERE_AND_BACK)?;
     let lock = Mutex::new(book);
-    let refused = works(rt, alloc, layer, &lock)?;
-    let book = lock.into_inner();
-    told::left(rt, slice::from_ref(&book))?;
-    work_again(rt, alloc, layer, book, refused)
+    begin_and_work(rt, alloc, &lock)
 }
 
-// Works on the layer once more where memory was refused, and shows the book.
-fn work_again<R: Print + Wait>(
+// Begins the layer of one rank in the book behind a lock, and lets a worker do that rank.
+fn begin_and_work<R: Print + Wait>(rt: &R, alloc: Global, lock: &Mutex<Book>) -> Option<()> {
+    let layer = begin_locked(rt, alloc, lock)?;
+    work_twice(rt, alloc, &layer, lock)
+}
+
+// Begins the last closed layer of the book behind a lock, and gives it.
+fn begin_locked<R: Wait>(rt: &R, alloc: Global, lock: &Mutex<Book>) -> Option<Layer> {
+    let mut book = lock.lock(rt);
+    begin_last(alloc, &mut book)
+}
+
+// Begins the last closed layer of a book, and gives it.
+fn begin_last(alloc: Global, book: &mut Book) -> Option<Layer> {
+    let layer = joined(alloc, book)?;
+    book.begin(&layer).ok()?;
+    Some(layer)
+}
+
+// Shows the book, works on the layer, and does so once more where memory was refused.
+fn work_twice<R: Print + Wait>(
     rt: &R,
     alloc: Global,
     layer: &Layer,
-    book: Book,
-    refused: bool,
+    lock: &Mutex<Book>,
 ) -> Option<()> {
-    if !refused {
-        return Some(());
+    show(rt, lock)?;
+    if work_once(rt, alloc, layer, lock)? {
+        work_once(rt, alloc, layer, lock)?;
     }
-    let lock = Mutex::new(book);
-    works(rt, alloc, layer, &lock)?;
-    let book = lock.into_inner();
-    told::left(rt, slice::from_ref(&book))
+    Some(())
 }
 
-// Works on the layer, and says whether memory was refused.
-fn works<R: Print + Wait>(
+// Prints what is left of the book behind a lock.
+fn show<R: Print + Wait>(rt: &R, lock: &Mutex<Book>) -> Option<()> {
+    let book = lock.lock(rt);
+    told::left(rt, slice::from_ref(&*book))
+}
+
+// Works on the layer, shows the book, and says whether memory was refused.
+fn work_once<R: Print + Wait>(
     rt: &R,
     alloc: Global,
     layer: &Layer,
     lock: &Mutex<Book>,
 ) -> Option<bool> {
     let end = with_pruner(rt, alloc, layer, lock)?;
-    is_refused(rt, &end)
+    let refused = is_refused(rt, &end)?;
+    show(rt, lock)?;
+    Some(refused)
 }
 
 // Prints how a worker ended, and says whether memory was refused.
