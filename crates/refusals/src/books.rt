@@ -14,26 +14,21 @@ use std::slice;
 
 /// Begins the first layer of a book, which takes memory for its marks, and a later one, and claims their ranks.
 pub(crate) fn begin<R: Print>(rt: &R, alloc: Global) -> Option<()> {
-    begin_first(rt, alloc)?;
-    begin_later(rt, alloc)
+    begin_in(rt, alloc, first_book(alloc, YARD)?)?;
+    begin_in(rt, alloc, yard(alloc)?)
 }
 
-// Begins the first layer of a book, and claims its ranks.
-fn begin_first<R: Print>(rt: &R, alloc: Global) -> Option<()> {
-    let mut book = first_book(alloc, YARD)?;
-    let layer = joined(alloc, &book)?;
-    begin_and_claim(rt, &mut book, &layer)
+// Begins the last closed layer of a book, and claims its ranks.
+fn begin_in<R: Print>(rt: &R, alloc: Global, mut book: Book) -> Option<()> {
+    let outcome = begin_and_claim(rt, alloc, &mut book);
+    drop(book);
+    outcome
 }
 
-// Begins a later layer, and claims its ranks.
-fn begin_later<R: Print>(rt: &R, alloc: Global) -> Option<()> {
-    let (mut book, layer) = yard(alloc)?;
-    begin_and_claim(rt, &mut book, &layer)
-}
-
-// Begins a layer, and claims its ranks.
-fn begin_and_claim<R: Print>(rt: &R, book: &mut Book, layer: &Layer) -> Option<()> {
-    begin_twice(rt, book, layer)?;
+// Begins the last closed layer of a book, and claims its ranks.
+fn begin_and_claim<R: Print>(rt: &R, alloc: Global, book: &mut Book) -> Option<()> {
+    let layer = joined(alloc, book)?;
+    begin_twice(rt, book, &layer)?;
     claim_all(rt, book)
 }
 
@@ -64,19 +59,22 @@ fn begin_twice<R: Print>(rt: &R, book: &mut Book, layer: &Layer) -> Option<()> {
 
 /// Hands each rank of a layer back, and shows the layer that follows.
 pub(crate) fn hand_back<R: Print>(rt: &R, alloc: Global) -> Option<()> {
-    let (mut book, layer) = yard(alloc)?;
-    hand_back_and_close(rt, alloc, &mut book, &layer)
+    let mut book = yard(alloc)?;
+    let outcome = hand_back_and_close(rt, alloc, &mut book);
+    drop(book);
+    outcome
 }
 
-// Hands each rank of a layer back, closes the next layer, and shows it.
-fn hand_back_and_close<R: Print>(
-    rt: &R,
-    alloc: Global,
-    book: &mut Book,
-    layer: &Layer,
-) -> Option<()> {
-    hand_back_all(rt, alloc, book, layer)?;
+// Hands each rank of the last closed layer of a book back, closes the next layer, and shows it.
+fn hand_back_and_close<R: Print>(rt: &R, alloc: Global, book: &mut Book) -> Option<()> {
+    hand_back_last(rt, alloc, book)?;
     show_next(rt, alloc, book)
+}
+
+// Begins the last closed layer of a book and hands each of its ranks back.
+fn hand_back_last<R: Print>(rt: &R, alloc: Global, book: &mut Book) -> Option<()> {
+    let layer = joined(alloc, book)?;
+    hand_back_all(rt, alloc, book, &layer)
 }
 
 // Closes a layer whose parcels are there, and shows the next one.
@@ -115,7 +113,9 @@ fn hand_back_twice<R: Print>(rt: &R, book: &mut Book, parcel: &Parcel<'_>) -> Op
 /// Closes layers whose parcels came in order.
 pub(crate) fn close<R: Print>(rt: &R, alloc: Global) -> Option<()> {
     let mut book = first_book(alloc, THERE_AND_BACK)?;
-    close_all(rt, alloc, &mut book)
+    let outcome = close_all(rt, alloc, &mut book);
+    drop(book);
+    outcome
 }
 
 // Closes layer after layer.
@@ -129,13 +129,16 @@ fn close_all<R: Print>(rt: &R, alloc: Global, book: &mut Book) -> Option<()> {
 
 /// Closes a layer whose parcels came from the last one on.
 pub(crate) fn close_turned<R: Print>(rt: &R, alloc: Global) -> Option<()> {
-    let (mut book, layer) = yard(alloc)?;
-    turn_and_close(rt, alloc, &mut book, &layer)
+    let mut book = yard(alloc)?;
+    let outcome = turn_and_close(rt, alloc, &mut book);
+    drop(book);
+    outcome
 }
 
-// Hands the ranks of a layer back from the last one on, and closes the next layer.
-fn turn_and_close<R: Print>(rt: &R, alloc: Global, book: &mut Book, layer: &Layer) -> Option<()> {
-    work_through(alloc, book, layer, true)?;
+// Hands the ranks of the last closed layer of a book back from the last one on, and closes the next layer.
+fn turn_and_close<R: Print>(rt: &R, alloc: Global, book: &mut Book) -> Option<()> {
+    let layer = joined(alloc, book)?;
+    work_through(alloc, book, &layer, true)?;
     close_twice(rt, book)
 }
 
@@ -227,9 +230,13 @@ fn all_books(alloc: Global, shares: u8) -> Option<Vec<Book>> {
 // The book of a share, which has closed layer 1.
 fn share_of(alloc: Global, start: &Layer, share: u8, shares: u8) -> Option<Book> {
     let mut book = new_share(alloc, share, shares)?;
-    work_through(alloc, &mut book, start, false)?;
-    close_book(&mut book)?;
-    Some(book)
+    work_and_close(alloc, &mut book, start).and(Some(book))
+}
+
+// Hands the ranks of a layer back, and closes the next layer.
+fn work_and_close(alloc: Global, book: &mut Book, layer: &Layer) -> Option<()> {
+    work_through(alloc, book, layer, false)?;
+    close_book(book)
 }
 
 // The book of a share.

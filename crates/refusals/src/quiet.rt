@@ -3,7 +3,7 @@ ghost use Rattle.std.specs.Prelude.{◌≡◌, length};
 ghost use Rattle.grid.specs.States.{IsScene};
 
 use crate::told;
-use crate::values::{hand, yard};
+use crate::values::{hand, joined, yard};
 use area::{Scratch, flood, normal};
 use claims::{Drawer, Ledger};
 use doom::{Dead, doomed};
@@ -14,15 +14,23 @@ use std::slice;
 
 /// Makes the values of each of these calls in turn, and then the call.
 pub(crate) fn calls<R: Print>(rt: &R, alloc: Global) -> Option<()> {
-    let (mut book, layer) = yard(alloc)?;
-    all_calls(rt, alloc, &mut book, &layer)
+    let mut book = yard(alloc)?;
+    let outcome = all_calls(rt, alloc, &mut book);
+    drop(book);
+    outcome
 }
 
 // The calls on a book and its last closed layer, and those on a ledger.
-fn all_calls<R: Print>(rt: &R, alloc: Global, book: &mut Book, layer: &Layer) -> Option<()> {
-    book_calls(rt, alloc, book, layer)?;
-    level_calls(rt, alloc, layer)?;
+fn all_calls<R: Print>(rt: &R, alloc: Global, book: &mut Book) -> Option<()> {
+    layer_calls(rt, alloc, book)?;
     ledger_calls(rt, alloc)
+}
+
+// The calls on a book and its last closed layer.
+fn layer_calls<R: Print>(rt: &R, alloc: Global, book: &mut Book) -> Option<()> {
+    let layer = joined(alloc, book)?;
+    book_calls(rt, alloc, book, &layer)?;
+    level_calls(rt, alloc, &layer)
 }
 
 // Calls on a book whose rank 1 alone is done.

@@ -1,4 +1,7 @@
 //! The values that the calls are made over.
+//!
+//! Who owns a book moves it on or drops it by name. At the end of a block it would be taken apart field by field in the proof of the function, which
+//! takes a minute or more for each such end.
 ghost use Rattle.std.specs.Prelude.{◌≡◌, ◌<◌, length};
 
 use area::Scratch;
@@ -86,25 +89,22 @@ pub(crate) fn work_through(
     Some(())
 }
 
-/// A book of the yard that has closed layer 2, and that layer.
-pub(crate) fn yard(alloc: Global) -> Option<(Book, Layer)> {
-    let book = yard_book(alloc)?;
-    let layer = joined(alloc, &book)?;
-    Some((book, layer))
-}
-
-// A book of the yard that has closed layer 2.
-fn yard_book(alloc: Global) -> Option<Book> {
+/// A book of the yard that has closed layer 2.
+pub(crate) fn yard(alloc: Global) -> Option<Book> {
     let mut book = first_book(alloc, YARD)?;
-    turn(alloc, &mut book)?;
-    turn(alloc, &mut book)?;
-    Some(book)
+    turn_twice(alloc, &mut book).and(Some(book))
 }
 
 /// A book of all positions of a level.
 pub(crate) fn first_book(alloc: Global, text: &[u8]) -> Option<Book> {
     let level = level_of(alloc, text)?;
     book_of(alloc, &level, 0, 1)
+}
+
+// Closes the next two layers of a book.
+fn turn_twice(alloc: Global, book: &mut Book) -> Option<()> {
+    turn(alloc, book)?;
+    turn(alloc, book)
 }
 
 // Closes the next layer of a book.
@@ -128,5 +128,7 @@ pub(crate) fn close_book(book: &mut Book) -> Option<()> {
 /// Layer 0 of the yard.
 pub(crate) fn start(alloc: Global) -> Option<Layer> {
     let book = first_book(alloc, YARD)?;
-    joined(alloc, &book)
+    let layer = joined(alloc, &book);
+    drop(book);
+    layer
 }
