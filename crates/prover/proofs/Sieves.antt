@@ -168,4 +168,5 @@ sifted_fit board most benches cut sieves sifted sieved i s at = (sifted i s at).
 
 -- what is no list may be played on any level
 pub none_fit : (board : Board) (v : EntriesView) (boxes : ℕ) → v ≡ record { boxes = boxes; seen = [] } → AllFit board v.seen
-none_fit board v boxes e = subst (λ (u : EntriesView). AllFit board u.seen) (sym e) (λ i x at. absurd (let lt = slice_get_within [] i x at in omega (arith, lt)))
+none_fit board v boxes e = subst (λ (u : EntriesView). AllFit board u.seen) (sym e) (λ i x at.
+    absurd (let lt = slice_get_within [] i x at in omega (arith, lt)))
