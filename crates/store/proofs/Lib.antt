@@ -6,3 +6,4 @@ pub mod Exchanging
 pub mod DealtOffers
 pub mod Bytes
 pub mod Lasts
+pub mod Digests

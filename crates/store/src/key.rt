@@ -4,11 +4,11 @@ ghost use Rattle.std.specs.Prelude.{Some, length, nat_eq, replicate, slice_get, 
 ghost use Rattle.grid.specs.Rising.{is_rising};
 ghost use Rattle.std.specs.Cmp.Lexicographic.{pointwise};
 ghost use Rattle.store.specs.Entries.{same_scene};
-ghost use Rattle.store.specs.inside.KeyRows.{Suits, high_bytes, joined_bytes, low_bytes, padded};
+ghost use Rattle.store.specs.inside.KeyRows.{Suits, high_bytes, joined_bytes, key_digest, low_bytes, padded};
 
 use arrayvec::ArrayVec;
 use grid::{MAX_BOXES, Position, Square};
-use std::hash::{Hash, Hasher};
+use std::hash::{FoldHasher, Hash, Hasher};
 use std::marker::Model;
 
 /// How many values a byte has. Where a grid has no more squares, the number of each is in its low byte.
@@ -67,6 +67,20 @@ impl<const N: usize, const M: usize> Key<N, M> {
             low: self.low,
             high: self.high,
         }
+    }
+
+    /// The number that stands for the key where it is hashed. A row is written at once: a hasher's work goes by writes.
+    #[inline(always)]
+    pub(crate) fn digest(&self) -> u64
+        ensures { result ≡ key_digest N M self.now }
+    {
+        let mut hasher = FoldHasher::default();
+        hasher.write(&self.low);
+        if M == 0 {
+            return hasher.finish();
+        }
+        hasher.write(&self.high);
+        hasher.finish()
     }
 
     /// The position.
@@ -223,19 +237,15 @@ fn same_bytes(bytes: &[u8], others: &[u8]) -> bool
 }
 
 impl<const N: usize, const M: usize> Hash for Key<N, M> {
-    ghost use Rattle.store.specs.inside.KeyRows.{key_writes, keys_alike};
+    ghost use Rattle.store.specs.inside.KeyRows.{key_input, keys_alike};
 
-    ghost hash_input = { key_writes N M };
+    ghost hash_input = { key_input N M };
 
     ghost respects_eq = { keys_alike N M };
 
-    // A row is written at once: a hasher's work goes by writes.
+    // The number is all that a hasher sees, so that it may be made before a key is looked up.
     #[inline(always)]
     fn hash<H: Hasher>(&self, state: &mut H) {
-        state.write(&self.low);
-        if M == 0 {
-            return;
-        }
-        state.write(&self.high);
+        state.write_u64(self.digest());
     }
 }

@@ -19,6 +19,7 @@ mod inbox;
 mod key;
 mod origin;
 mod parts;
+mod probe;
 mod table;
 
 pub use found::Found;

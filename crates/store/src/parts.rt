@@ -3,11 +3,13 @@
 ghost use Rattle.std.specs.Prelude.{◌≡◌, ◌+◌, ◌<◌, ◌≤◌, length, true};
 ghost use Rattle.indexmap.specs.IndexMap.{spare};
 ghost use Rattle.store.specs.inside.FoundUpTo.{IsFoundUpTo};
+ghost use Rattle.store.specs.inside.KeyRows.{AreDigests, key_digest};
 ghost use Rattle.store.specs.FoundView.{all_let_in, keeps, let_in, open_of, seen_of};
 
 use crate::entering::enter;
 use crate::key::Key;
 use crate::origin::{ClosedOrigin, Origin};
+use crate::probe::Probe;
 use grid::MAX_BOXES;
 use indexmap::IndexMap;
 
@@ -56,33 +58,54 @@ fn enter_part<const N: usize, const M: usize>(
     ensures waiting { open_of start table.new.entries ≡ all_let_in (seen_of start table.old.entries) (open_of start table.old.entries) offers.now }
     ensures room { spare table.old ≤ spare table.new + length offers.now }
 {
+    let mut digests = [0; PART];
+    digest_all(offers, &mut digests);
     let mut places = [NOWHERE; PART];
-    look_up(table, offers, &mut places);
+    look_up(table, offers, &digests, &mut places);
     enter_each(table, start, last, offers, &places);
 }
 
-// The places at which the offers' keys stand.
-fn look_up<const N: usize, const M: usize>(
-    table: &IndexMap<Key<N, M>, ClosedOrigin>,
-    offers: &[(Key<N, M>, Origin)],
-    places: &mut [usize],
-)
+// Makes the numbers of the offers' keys.
+fn digest_all<const N: usize, const M: usize>(offers: &[(Key<N, M>, Origin)], digests: &mut [u64])
     requires width { (N ≤ MAX_BOXES + 1) × (M ≤ MAX_BOXES + 1) }
-    requires places { length offers.now ≤ length places.old }
+    requires room { length offers.now ≤ length digests.old }
+    ensures digests { AreDigests N M offers.now digests.new }
+    ensures room { length digests.new ≡ length digests.old }
 {
     for (nth, offer) in offers.iter().enumerate() {
-        places[nth] = place_of(table, &offer.0);
+        digests[nth] = offer.0.digest();
     }
 }
 
-// The place at which a key stands, or no place.
+// The places at which the offers' keys stand, which have these numbers.
+fn look_up<const N: usize, const M: usize>(
+    table: &IndexMap<Key<N, M>, ClosedOrigin>,
+    offers: &[(Key<N, M>, Origin)],
+    digests: &[u64],
+    places: &mut [usize],
+)
+    requires width { (N ≤ MAX_BOXES + 1) × (M ≤ MAX_BOXES + 1) }
+    requires digests { AreDigests N M offers.now digests.now }
+    requires many { length offers.now ≤ length digests.now }
+    requires places { length offers.now ≤ length places.old }
+{
+    for (nth, offer) in offers.iter().enumerate() {
+        places[nth] = place_of(table, &offer.0, digests[nth]);
+    }
+}
+
+// The place at which a key stands that has this number, or no place.
+#[inline(always)]
 fn place_of<const N: usize, const M: usize>(
     table: &IndexMap<Key<N, M>, ClosedOrigin>,
     key: &Key<N, M>,
+    digest: u64,
 ) -> usize
     requires width { (N ≤ MAX_BOXES + 1) × (M ≤ MAX_BOXES + 1) }
+    requires digest { digest ≡ key_digest N M key.now }
 {
-    match table.get_index_of(key) {
+    let probe = Probe::of(key, digest);
+    match table.get_index_of(&probe) {
         Some(place) => place,
         None => NOWHERE,
     }

@@ -1,12 +1,14 @@
 -- The bytes of a key: the low ones of its squares in one row, and the high ones in another where there are any.
 use Rattle.std.specs.Prelude.{◌≡◌, ℕ, zero, suc, ◌+◌, ◌*◌, ◌/◌, ◌%◌, ◌<◌, ◌≤◌, ◌==◌, ◌⊎◌, IsTrue, true, List, [], ◌∷◌, map, nat_eq, take, length}
-use Rattle.std.specs.Prelude.{slice_get, Some}
+use Rattle.std.specs.Prelude.{slice_get, slice_index_or, Some, fold}
 use Rattle.std.specs.Cmp.{first_so, second_so, unsigned_Decides}
 use Rattle.std.specs.Cmp.Lexicographic.{pointwise, bytes_decides}
 use Rattle.std.specs.Hash as fed
+use Rattle.std.specs.Hash.FoldHasher as folding
+use Rattle.grid.specs.declared.square.Push.{Push}
 use Rattle.grid.specs.Board.{Scene}
 use Rattle.grid.specs.Rising.{is_rising}
-use Rattle.store.specs.Entries.{same_scene}
+use Rattle.store.specs.Entries.{Entry, same_scene}
 use Rattle.successors.specs.declared.parcel.Successor.{Successor}
 use Rattle.store.specs.FoundView.{AreBelow}
 
@@ -63,7 +65,7 @@ pub record SuitsLevel (n k boxes squares : ℕ) : Type 0 where
   pub room : boxes < n
   pub bytes : (k ≡ n) ⊎ ((k ≡ 0) × (squares ≤ 256))
 
--- what a key feeds a hasher: its rows, but for one that has no bytes
+-- the rows of a key, without one that has no bytes
 abbrev pub high_writes : ℕ → Scene → fed.HashWrites
 high_writes zero m = []
 high_writes (suc k) m = padded (suc k) (high_bytes (key_squares m)) ∷ []
@@ -71,9 +73,32 @@ high_writes (suc k) m = padded (suc k) (high_bytes (key_squares m)) ∷ []
 abbrev pub key_writes : ℕ → ℕ → Scene → fed.HashWrites
 key_writes n k m = padded n (low_bytes (key_squares m)) ∷ high_writes k m
 
--- equal positions feed the same
-pub keys_alike : (n k : ℕ) (s t : Scene) → IsTrue (same_scene s t) → key_writes n k s ≡ key_writes n k t
-keys_alike n k s t same =
+-- the number that stands for a key where it is hashed: the hash of its rows
+unfoldable pub key_digest : ℕ → ℕ → Scene → ℕ
+key_digest n k m = folding.finish (fold folding.write folding.initial (key_writes n k m))
+
+-- the numbers of the keys of offers
+abbrev pub AreDigests : ℕ → ℕ → List (Entry Scene Push) → List ℕ → Type 0
+AreDigests n k offers digests = (i : ℕ) (o : Entry Scene Push) → slice_get offers i ≡ Some o → slice_index_or digests i 0 ≡ key_digest n k o.0
+
+-- equal positions have equal numbers
+pub digests_alike : (n k : ℕ) (s t : Scene) → IsTrue (same_scene s t) → key_digest n k s ≡ key_digest n k t
+digests_alike n k s t same =
     let boxes = (bytes_decides s.boxes t.boxes).0 (first_so (pointwise nat_eq s.boxes t.boxes) (s.player == t.player) same) in
     let player = (unsigned_Decides s.player t.player).0 (second_so (pointwise nat_eq s.boxes t.boxes) (s.player == t.player) same) in
-    λ i. key_writes n k (record { boxes = boxes i; player = player i })
+    λ i. key_digest n k (record { boxes = boxes i; player = player i })
+
+-- what a key feeds a hasher: its number
+abbrev pub key_input : ℕ → ℕ → Scene → fed.HashWrites
+key_input n k m = fed.u64 (key_digest n k m)
+
+-- equal positions feed the same
+pub keys_alike : (n k : ℕ) (s t : Scene) → IsTrue (same_scene s t) → key_input n k s ≡ key_input n k t
+keys_alike n k s t same = λ i. fed.u64 (digests_alike n k s t same i)
+
+-- what is equal to a position is equal to the same ones
+pub same_alike : (q x y : Scene) → IsTrue (same_scene q x) → same_scene q y ≡ same_scene x y
+same_alike q x y same =
+    let boxes = (bytes_decides q.boxes x.boxes).0 (first_so (pointwise nat_eq q.boxes x.boxes) (q.player == x.player) same) in
+    let player = (unsigned_Decides q.player x.player).0 (second_so (pointwise nat_eq q.boxes x.boxes) (q.player == x.player) same) in
+    λ i. same_scene (record { boxes = boxes i; player = player i }) y
