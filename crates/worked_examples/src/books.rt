@@ -1,4 +1,6 @@
 //! Worked examples of layers and books.
+ghost use Rattle.std.specs.Prelude.{◌≡◌, ◌<◌, length};
+
 mod leads;
 mod orders;
 mod refusals;
@@ -42,7 +44,10 @@ pub(crate) fn joined(rt: &impl Abort, alloc: Global, book: &Book) -> Layer {
 
 /// Layer 0 of a level.
 pub(crate) fn start_of(rt: &impl Abort, alloc: Global, text: &[u8]) -> Layer {
-    joined(rt, alloc, &book_of(rt, alloc, text, AMPLE))
+    let book = book_of(rt, alloc, text, AMPLE);
+    let layer = joined(rt, alloc, &book);
+    drop(book);
+    layer
 }
 
 /// The parcel of a rank of a layer.
@@ -53,10 +58,24 @@ pub(crate) fn parcel_of<'a>(
     rank: u64,
 ) -> Parcel<'a> {
     assert!(rt; rank < layer.len());
+    let mut scratch = Scratch::new(alloc, layer.level()).expect(rt, "memory");
+    expanded(rt, alloc, layer, rank, &mut scratch)
+}
+
+/// The parcel of a rank of a layer, by this scratch.
+fn expanded<'a>(
+    rt: &impl Abort,
+    alloc: Global,
+    layer: &'a Layer,
+    rank: u64,
+    scratch: &mut Scratch,
+) -> Parcel<'a>
+    requires within { rank < length layer.now.places }
+    requires room { scratch.old.size ≡ length layer.now.level.board.cells }
+{
     let dead = Dead::of(alloc, layer.level()).expect(rt, "memory");
     let bound = Bound::of(alloc, layer.level()).expect(rt, "memory");
-    let mut scratch = Scratch::new(alloc, layer.level()).expect(rt, "memory");
-    expand(layer, &dead, &bound, rank, &mut scratch)
+    expand(layer, &dead, &bound, rank, scratch)
 }
 
 /// What a book answers where a worker hands back the parcel of a rank of a layer.

@@ -220,6 +220,7 @@ fn page_of_layers(rt: HostRuntime) {
     let book = Book::of(alloc, level, None, 1_000, 1, 0, 1).expect(&rt, "memory");
     let layer = Layer::join(alloc, slice::from_ref(&book)).expect(&rt, "memory");
     assert_eq!(&rt; (layer.number(), layer.len()), (0, 1));
+    drop(book);
 }
 
 #[test]
