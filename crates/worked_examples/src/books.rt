@@ -16,6 +16,7 @@ use std::alloc::Global;
 use std::process::Abort;
 use std::slice;
 use std::sync::Arc;
+use xsb::Entry;
 
 /// A position of a layer: the squares of its boxes, its player's square, and where it is no position of layer 0 its
 /// parent's rank and the square and direction of its push.
@@ -28,7 +29,14 @@ pub(crate) const AMPLE: u32 = 1_000_000;
 pub(crate) fn level_of(rt: &impl Abort, alloc: Global, text: &[u8]) -> Arc<Level> {
     let mut entries = xsb::read(alloc, text).expect(rt, "a collection");
     let entry = entries.pop().expect(rt, "a board");
-    Arc::new(alloc, entry.board.expect(rt, "a level")).expect(rt, "memory")
+    drop(entries);
+    board_of(rt, alloc, entry)
+}
+
+/// The level of an entry of a collection.
+fn board_of(rt: &impl Abort, alloc: Global, entry: Entry) -> Arc<Level> {
+    let level = entry.board.expect(rt, "a level");
+    Arc::new(alloc, level).expect(rt, "memory")
 }
 
 /// A book of a level with three workers, which holds all positions.

@@ -204,6 +204,7 @@ fn check_found(rt: &impl Abort, alloc: Global, level: &Level)
     let found = Found::of(alloc, level.boxes(), level.squares(), &first).expect(rt, "memory");
     assert!(rt; found.closed_len() == 1);
     assert!(rt; found.closed_at(1).is_none());
+    drop(found);
 }
 
 #[test]
