@@ -33,7 +33,7 @@ pub(crate) fn level_of(rt: &impl Abort, alloc: Global, text: &[u8]) -> Arc<Level
     board_of(rt, alloc, entry)
 }
 
-/// The level of an entry of a collection.
+// The level of an entry of a collection.
 fn board_of(rt: &impl Abort, alloc: Global, entry: Entry) -> Arc<Level> {
     let level = entry.board.expect(rt, "a level");
     Arc::new(alloc, level).expect(rt, "memory")
@@ -70,7 +70,7 @@ pub(crate) fn parcel_of<'a>(
     expanded(rt, alloc, layer, rank, &mut scratch)
 }
 
-/// The parcel of a rank of a layer, by this scratch.
+// The parcel of a rank of a layer, by this scratch.
 fn expanded<'a>(
     rt: &impl Abort,
     alloc: Global,
