@@ -1,4 +1,6 @@
 //! Worked examples of layers and books.
+ghost use Rattle.std.specs.Prelude.{◌≡◌, ◌<◌, length};
+
 mod leads;
 mod orders;
 mod refusals;
@@ -14,6 +16,7 @@ use std::alloc::Global;
 use std::process::Abort;
 use std::slice;
 use std::sync::Arc;
+use xsb::Entry;
 
 /// A position of a layer: the squares of its boxes, its player's square, and where it is no position of layer 0 its
 /// parent's rank and the square and direction of its push.
@@ -26,7 +29,14 @@ pub(crate) const AMPLE: u32 = 1_000_000;
 pub(crate) fn level_of(rt: &impl Abort, alloc: Global, text: &[u8]) -> Arc<Level> {
     let mut entries = xsb::read(alloc, text).expect(rt, "a collection");
     let entry = entries.pop().expect(rt, "a board");
-    Arc::new(alloc, entry.board.expect(rt, "a level")).expect(rt, "memory")
+    drop(entries);
+    board_of(rt, alloc, entry)
+}
+
+// The level of an entry of a collection.
+fn board_of(rt: &impl Abort, alloc: Global, entry: Entry) -> Arc<Level> {
+    let level = entry.board.expect(rt, "a level");
+    Arc::new(alloc, level).expect(rt, "memory")
 }
 
 /// A book of a level with three workers, which holds all positions.
@@ -42,7 +52,10 @@ pub(crate) fn joined(rt: &impl Abort, alloc: Global, book: &Book) -> Layer {
 
 /// Layer 0 of a level.
 pub(crate) fn start_of(rt: &impl Abort, alloc: Global, text: &[u8]) -> Layer {
-    joined(rt, alloc, &book_of(rt, alloc, text, AMPLE))
+    let book = book_of(rt, alloc, text, AMPLE);
+    let layer = joined(rt, alloc, &book);
+    drop(book);
+    layer
 }
 
 /// The parcel of a rank of a layer.
@@ -53,10 +66,24 @@ pub(crate) fn parcel_of<'a>(
     rank: u64,
 ) -> Parcel<'a> {
     assert!(rt; rank < layer.len());
+    let mut scratch = Scratch::new(alloc, layer.level()).expect(rt, "memory");
+    expanded(rt, alloc, layer, rank, &mut scratch)
+}
+
+// The parcel of a rank of a layer, by this scratch.
+fn expanded<'a>(
+    rt: &impl Abort,
+    alloc: Global,
+    layer: &'a Layer,
+    rank: u64,
+    scratch: &mut Scratch,
+) -> Parcel<'a>
+    requires within { rank < length layer.now.places }
+    requires room { scratch.old.size ≡ length layer.now.level.board.cells }
+{
     let dead = Dead::of(alloc, layer.level()).expect(rt, "memory");
     let bound = Bound::of(alloc, layer.level()).expect(rt, "memory");
-    let mut scratch = Scratch::new(alloc, layer.level()).expect(rt, "memory");
-    expand(layer, &dead, &bound, rank, &mut scratch)
+    expand(layer, &dead, &bound, rank, scratch)
 }
 
 /// What a book answers where a worker hands back the parcel of a rank of a layer.

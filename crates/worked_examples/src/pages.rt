@@ -204,6 +204,7 @@ fn check_found(rt: &impl Abort, alloc: Global, level: &Level)
     let found = Found::of(alloc, level.boxes(), level.squares(), &first).expect(rt, "memory");
     assert!(rt; found.closed_len() == 1);
     assert!(rt; found.closed_at(1).is_none());
+    drop(found);
 }
 
 #[test]
@@ -220,6 +221,7 @@ fn page_of_layers(rt: HostRuntime) {
     let book = Book::of(alloc, level, None, 1_000, 1, 0, 1).expect(&rt, "memory");
     let layer = Layer::join(alloc, slice::from_ref(&book)).expect(&rt, "memory");
     assert_eq!(&rt; (layer.number(), layer.len()), (0, 1));
+    drop(book);
 }
 
 #[test]

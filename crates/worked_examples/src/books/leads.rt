@@ -63,6 +63,7 @@ fn lead_of(rt: &impl Abort, alloc: Global, count: u64) -> Vec<u8>
 {
     let mut book = book_of(rt, alloc, THERE_AND_BACK, AMPLE);
     let layers = first_layers(rt, alloc, &mut book, count);
+    drop(book);
     lead_to(rt, alloc, layers.as_slice())
 }
 

@@ -108,11 +108,24 @@ fn check_book(
     events: &[Event],
 ) {
     let mut book = book_of(rt, alloc, TWO_ENDS, limit);
-    let first = joined(rt, alloc, &book);
+    check_answers(rt, alloc, &mut book, foreign, goes_on, events);
+    drop(book);
+}
+
+// Checks a book that has closed layer 0, after it has closed layer 1 if told so.
+fn check_answers(
+    rt: &impl Abort,
+    alloc: Global,
+    book: &mut Book,
+    foreign: &Layer,
+    goes_on: bool,
+    events: &[Event],
+) {
+    let first = joined(rt, alloc, book);
     if goes_on {
-        check_next(rt, alloc, &mut book, &first, foreign, events);
+        check_next(rt, alloc, book, &first, foreign, events);
     } else {
-        check_events(rt, alloc, &mut book, [&first, &first, foreign], events);
+        check_events(rt, alloc, book, [&first, &first, foreign], events);
     }
 }
 

@@ -94,6 +94,7 @@ fn a_worker_draws_its_ranks_from_the_ledger(rt: HostRuntime) {
     let (end, mut book) = worked(&rt, alloc, &layer, book, &ledger, own, 1, 0, &Free);
     assert!(rt; end == End::Drained);
     assert!(rt; book.claim() == Some(FIRST), "the book is as it was");
+    drop(book);
 }
 
 #[test]
@@ -107,6 +108,7 @@ fn a_worker_does_what_it_drew(rt: HostRuntime) {
     assert!(rt; again(&rt, alloc, &layer, &mut book) == Err(Refusal::Double));
     let closed = book.close().expect(&rt, "a close");
     assert!(rt; closed.layer == 1 && closed.count == 2);
+    drop(book);
 }
 
 /// How a worker ends that is alone with a layer, and the book after it.
@@ -133,6 +135,7 @@ fn check_room(rt: &(impl Wait + Abort), alloc: Global, layer: &Layer, book: Book
     assert!(rt; book.claim().is_none());
     let closed = book.close().expect(rt, "a close");
     assert!(rt; closed.layer == 4 && closed.count == 162);
+    drop(book);
 }
 
 #[test]
@@ -158,4 +161,5 @@ fn a_place_is_taken(rt: HostRuntime) {
         ledger.draw(&mut other) == Some(0),
         "the worker drew nothing"
     );
+    drop(book);
 }

@@ -55,6 +55,7 @@ fn ended<R: Wait + Abort>(rt: &R, alloc: Global, book: Book, worker: u8) -> (End
     let layer = start_of(rt, alloc, TWO_ENDS);
     let (end, mut book) = over_one(rt, alloc, &layer, book, worker, &Free);
     let kept = book.claim() == Some(FIRST);
+    drop(book);
     (end, kept)
 }
 
@@ -69,6 +70,7 @@ fn a_gate_stops_a_worker_that_drew(rt: HostRuntime) {
     assert!(rt; book.claim() == Some(FIRST), "the book is as it was");
     assert!(rt; ledger.enrol(&mut other, 1));
     assert!(rt; ledger.draw(&mut other).is_none(), "the rank was drawn");
+    drop(book);
 }
 
 #[test]
@@ -78,6 +80,7 @@ fn a_gate_stops_a_worker_that_handed_back(rt: HostRuntime) {
     let (end, mut book) = over_one(&rt, alloc, &layer, book, 0, &Closed { nth: 2 });
     assert!(rt; end == End::Stopped);
     assert!(rt; again(&rt, alloc, &layer, &mut book) == Err(Refusal::Double));
+    drop(book);
 }
 
 #[test]
