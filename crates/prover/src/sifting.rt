@@ -21,7 +21,7 @@ use spreading::for_each_spread;
 use std::alloc::{AllocError, Global};
 use std::thread::Threads;
 
-/// What is left of some of the positions that were found at a bench, with their hashes, and the matching by which the others
+/// What is left of some of the positions that were found at the benches, with their hashes, and the matching by which the others
 /// were refused. It has not looked at all of them where memory was refused.
 #[derive(Debug, Drop)]
 pub(crate) struct Sieve {
