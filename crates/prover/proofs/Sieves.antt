@@ -13,10 +13,8 @@ use Rattle.prover.specs.declared.cutting.Cut.{Cut}
 use Rattle.prover.specs.declared.sifting.Sieve.{Sieve}
 use Rattle.prover.specs.Frame.{Seen, IsSeen}
 use Rattle.prover.specs.inside.Entries.{EntriesView, Grows, joined}
-use Rattle.prover.specs.inside.Progress.{AllFit}
 use Rattle.prover.specs.inside.Stretching.{stretch_start}
-use Rattle.prover.specs.inside.Sifting.{AreAllFit, AreAllIn, AreAllSieved, AreEntered, AreFor, AreIn, AreSieved, AreSievedBelow, AreSifted, IsSifted, IsSpare}
-use Rattle.prover.specs.inside.Sifting.{found_before}
+use Rattle.prover.specs.inside.Sifting.{AreAllFit, AreAllIn, AreAllSieved, AreEntered, AreFor, AreIn, AreSieved, AreSifted, IsSifted, IsSpare}
 use Rattle.prover.proofs.Progressing.{grows_joined, seen_joined, seen_on, start_first}
 
 -- one more position is kept, or need not enter
@@ -33,55 +31,13 @@ sieved_more board most earlier more v w from place grows now before i x ge lt at
       now x (ap (λ (j : ℕ). slice_get more j) (sym same) ∙ at)
 ]
 
--- what was sieved stays so where more is left
-pub sieved_on : (board : Board) (most : ℕ) (earlier : List Bench) (more : List Seen) (v w : EntriesView) (from to : ℕ) → Grows v w →
-    AreSieved board most earlier more v.seen from to → AreSieved board most earlier more w.seen from to
-sieved_on board most earlier more v w from to grows before i x ge lt at = elim (before i x ge lt at) [
-  | inl seen ↦ inl (seen_on v w x.pushes x.scene grows seen)
-  | inr spare ↦ inr spare
-]
-
--- one bench more is sieved
-pub sieved_next : (board : Board) (most : ℕ) (benches : List Bench) (v w : EntriesView) (from to number : ℕ) (b : Bench) → Grows v w
-    → slice_get benches number ≡ Some b
-    → AreSieved board most (take number benches) b.more.seen w.seen (from - found_before benches number) (to - found_before benches number)
-    → AreSievedBelow board most benches v.seen from to number → AreSievedBelow board most benches w.seen from to (number + 1)
-sieved_next board most benches v w from to number b grows here now before n c lt at = elim (cases_lt n number) [
-  | inl less ↦ sieved_on board most (take n benches) c.more.seen v w (from - found_before benches n) (to - found_before benches n) grows
-      (before n c less at)
-  | inr ge ↦
-      let same : number ≡ n = omega (arith, lt, ge) in
-      let e : b ≡ c = same_Some b c (sym here ∙ (ap (λ (j : ℕ). slice_get benches j) same ∙ at)) in
-      subst (λ (m : ℕ). AreSieved board most (take m benches) c.more.seen w.seen (from - found_before benches m) (to - found_before benches m)) same
-      (subst (λ (d : Bench). AreSieved board most (take number benches) d.more.seen w.seen (from - found_before benches number)
-      (to - found_before benches number)) e now)
-]
-
--- so many more were found with one bench more
-found_more : (benches : List Bench) (n : ℕ) (b : Bench) → slice_get benches n ≡ Some b →
-    found_before benches (suc n) ≡ found_before benches n + length b.more.seen
-found_more [] n b at = absurd (let lt = slice_get_within [] n b at in omega (arith, lt))
-found_more (x ∷ xs) zero b at = (let e : x ≡ b = same_Some x b at in let f = ap (λ (d : Bench). length d.more.seen) e in omega (arith, f))
-found_more (x ∷ xs) (suc n) b at = (let rest = found_more xs n b at in omega (arith, rest))
-
-pub found_next : (benches : List Bench) (n : ℕ) (b : Bench) → slice_get benches n ≡ Some b →
-    found_before benches (n + 1) ≡ found_before benches n + length b.more.seen
-found_next benches n b at = ap (λ (m : ℕ). found_before benches m) (add-one n) ∙ found_more benches n b at
-
--- what was found at one bench and at those before it is no more than what was found at all
-found_within : (benches : List Bench) (n : ℕ) (b : Bench) → slice_get benches n ≡ Some b →
-    found_before benches n + length b.more.seen ≤ found_before benches (length benches)
-found_within [] n b at = absurd (let lt = slice_get_within [] n b at in omega (arith, lt))
-found_within (x ∷ xs) zero b at = (let e : x ≡ b = same_Some x b at in let f = ap (λ (d : Bench). length d.more.seen) e in omega (arith, f))
-found_within (x ∷ xs) (suc n) b at = (let rest = found_within xs n b at in omega (arith, rest))
-
 -- each sieve has looked at its stretch
-pub sifted_each : (board : Board) (most : ℕ) (benches : List Bench) (cut : Cut) (before after : List Sieve) → length after ≡ length before
+pub sifted_each : (board : Board) (most : ℕ) (benches : List Bench) (number : ℕ) (cut : Cut) (before after : List Sieve) → length after ≡ length before
     → ((i : ℕ) (d : Sieve) → i < length before →
-    IsSifted board most benches (stretch_start cut i) (stretch_start cut (i + 1)) (get_or after i d)) → AreSifted board most benches cut after
-sifted_each board most benches cut before after same each i s at =
+    IsSifted board most benches number (stretch_start cut i) (stretch_start cut (i + 1)) (get_or after i d)) → AreSifted board most benches number cut after
+sifted_each board most benches number cut before after same each i s at =
     let lt : i < length before = omega (arith, slice_get_within after i s at, same) in
-    subst (IsSifted board most benches (stretch_start cut i) (stretch_start cut (i + 1))) (get_or_from_slice_get after i s s at) (each i s lt)
+    subst (IsSifted board most benches number (stretch_start cut i) (stretch_start cut (i + 1))) (get_or_from_slice_get after i s s at) (each i s lt)
 
 -- ---- what has entered
 
@@ -109,23 +65,20 @@ sieve_at (x ∷ xs) (suc i) lt = sieve_at xs i (omega (arith, lt))
 -- of what was found at a bench that which the first sieves have looked at is in: what is left has entered, and what need not enter
 -- stands there or is lost
 sieves_in : (board : Board) (most : ℕ) (all : List Seen) (benches : List Bench) (number : ℕ) (b : Bench) (cut : Cut) (sieves : List Sieve) (count : ℕ)
-    → slice_get benches number ≡ Some b → cut.from ≡ 0 → AreSifted board most benches cut sieves → AreAllSieved sieves
+    → slice_get benches number ≡ Some b → cut.from ≡ 0 → AreSifted board most benches number cut sieves → AreAllSieved sieves
     → AreEntered all sieves (length sieves) → AreAllIn board most all benches number → count ≤ length sieves
-    → (j : ℕ) (x : Seen) → found_before benches number + j < stretch_start cut count → slice_get b.more.seen j ≡ Some x →
+    → (j : ℕ) (x : Seen) → j < stretch_start cut count → slice_get b.more.seen j ≡ Some x →
     IsSeen all x.pushes x.scene ⊎ NoneWithin board (most - x.pushes) x.scene
 sieves_in board most all benches number b cut sieves zero here first sifted sieved entered before few j x lt at =
     absurd (let none : stretch_start cut 0 ≡ 0 = start_first cut ∙ first in omega (arith, lt, none))
 sieves_in board most all benches number b cut sieves (suc count) here first sifted sieved entered before few j x lt at =
-    elim (cases_lt (found_before benches number + j) (stretch_start cut count)) [
+    elim (cases_lt j (stretch_start cut count)) [
       | inl less ↦ sieves_in board most all benches number b cut sieves count here first sifted sieved entered before (omega (arith, few)) j x less at
       | inr ge ↦
           (let within : count < length sieves = omega (arith, few) in
           let (s, there) = sieve_at sieves count within in
-          let upto : found_before benches number + j < stretch_start cut (count + 1) =
-          subst (λ n. found_before benches number + j < stretch_start cut n) (sym (add-one count)) lt in
-          let low : stretch_start cut count - found_before benches number ≤ j = omega (arith, ge) in
-          let high : j < stretch_start cut (count + 1) - found_before benches number = omega (arith, upto) in
-          elim ((sifted count s there).sieved (sieved count s there) number b (slice_get_within benches number b here) here j x low high at) [
+          let upto : j < stretch_start cut (count + 1) = subst (λ n. j < stretch_start cut n) (sym (add-one count)) lt in
+          elim ((sifted count s there).sieved (sieved count s there) b here j x ge upto at) [
             | inl left ↦ inl (entered count s within there x.pushes x.scene left)
             | inr (inl (n, c, place, seen)) ↦
                 (let (less, stands_there) = in_take benches number n c place in
@@ -134,17 +87,28 @@ sieves_in board most all benches number b cut sieves (suc count) here first sift
           ])
     ]
 
--- of the first benches all is in
-pub benches_in : (board : Board) (most : ℕ) (all : List Seen) (benches : List Bench) (cut : Cut) (sieves : List Sieve) → cut.from ≡ 0
-    → stretch_start cut (length sieves) ≡ found_before benches (length benches)
-    → AreSifted board most benches cut sieves → AreAllSieved sieves → AreEntered all sieves (length sieves) → (count : ℕ)
-    → AreAllIn board most all benches count
-benches_in board most all benches cut sieves first whole sifted sieved entered zero n c lt at = absurd (omega (arith, lt))
-benches_in board most all benches cut sieves first whole sifted sieved entered (suc count) n c lt at =
-    λ j x there. sieves_in board most all benches n c cut sieves (length sieves) at first sifted sieved entered
-    (λ i d less place. benches_in board most all benches cut sieves first whole sifted sieved entered count i d (omega (arith, less, lt)) place)
-    (omega arith) j x
-    (let within = slice_get_within c.more.seen j x there in let most_of = found_within benches n c at in omega (arith, within, most_of, whole)) there
+in_on : (board : Board) (most : ℕ) (v w : EntriesView) (more : List Seen) → Grows v w → AreIn board most v.seen more → AreIn board most w.seen more
+in_on board most v w more grows are i x at = elim (are i x at) [
+  | inl seen ↦ inl (seen_on v w x.pushes x.scene grows seen)
+  | inr none ↦ inr none
+]
+
+-- of one more bench all is in
+pub bench_in : (board : Board) (most : ℕ) (u w : EntriesView) (benches : List Bench) (number : ℕ) (b : Bench) (cut : Cut) (sieves : List Sieve)
+    → slice_get benches number ≡ Some b → cut.from ≡ 0 → stretch_start cut (length sieves) ≡ length b.more.seen
+    → AreSifted board most benches number cut sieves → AreAllSieved sieves → AreEntered w.seen sieves (length sieves) → Grows u w
+    → AreAllIn board most u.seen benches number → AreAllIn board most w.seen benches (number + 1)
+bench_in board most u w benches number b cut sieves here first whole sifted sieved entered grows before n c lt at =
+    elim (cases_lt n number) [
+      | inl less ↦ in_on board most u w c.more.seen grows (before n c less at)
+      | inr ge ↦
+          let same : n ≡ number = omega (arith, lt, ge) in
+          let e : b ≡ c = same_Some b c (sym here ∙ (ap (λ (j : ℕ). slice_get benches j) (sym same) ∙ at)) in
+          subst (λ (d : Bench). AreIn board most w.seen d.more.seen) e
+          (λ j x there. sieves_in board most w.seen benches number b cut sieves (length sieves) here first sifted sieved entered
+          (λ i d less place. in_on board most u w d.more.seen grows (before i d less place)) (omega arith) j x
+          (let within = slice_get_within b.more.seen j x there in omega (arith, within, whole)) there)
+    ]
 
 -- what is left at one more sieve has entered
 pub entered_one : (u w : EntriesView) (sieves : List Sieve) (count : ℕ) (s : Sieve) → slice_get sieves count ≡ Some s → w ≡ joined u s.left →
@@ -158,15 +122,10 @@ entered_one u w sieves count s here e before i r lt at k t seen = elim (cases_lt
 ]
 
 -- what is left at sieves that have sifted is for the level's boxes, and where they have looked at all it may be played on the level
-pub sifted_for : (board : Board) (most : ℕ) (benches : List Bench) (cut : Cut) (sieves : List Sieve) →
-    AreSifted board most benches cut sieves → AreFor (box_count board) sieves
-sifted_for board most benches cut sieves sifted i s at = (sifted i s at).boxes
+pub sifted_for : (board : Board) (most : ℕ) (benches : List Bench) (number : ℕ) (cut : Cut) (sieves : List Sieve) →
+    AreSifted board most benches number cut sieves → AreFor (box_count board) sieves
+sifted_for board most benches number cut sieves sifted i s at = (sifted i s at).boxes
 
-pub sifted_fit : (board : Board) (most : ℕ) (benches : List Bench) (cut : Cut) (sieves : List Sieve) →
-    AreSifted board most benches cut sieves → AreAllSieved sieves → AreAllFit board sieves
-sifted_fit board most benches cut sieves sifted sieved i s at = (sifted i s at).fit (sieved i s at)
-
--- what is no list may be played on any level
-pub none_fit : (board : Board) (v : EntriesView) (boxes : ℕ) → v ≡ record { boxes = boxes; seen = [] } → AllFit board v.seen
-none_fit board v boxes e = subst (λ (u : EntriesView). AllFit board u.seen) (sym e) (λ i x at.
-    absurd (let lt = slice_get_within [] i x at in omega (arith, lt)))
+pub sifted_fit : (board : Board) (most : ℕ) (benches : List Bench) (number : ℕ) (cut : Cut) (sieves : List Sieve) →
+    AreSifted board most benches number cut sieves → AreAllSieved sieves → AreAllFit board sieves
+sifted_fit board most benches number cut sieves sifted sieved i s at = (sifted i s at).fit (sieved i s at)

@@ -15,7 +15,7 @@ use crate::cutting::Cut;
 use crate::expansion::Span;
 use crate::pacing::most_of;
 use crate::pruner::Pruner;
-use crate::sifting::{Sieve, are_sifted, busy_sieves, count_finds, sift_beside};
+use crate::sifting::{Sieve, are_sifted, busy_sieves, sift_beside};
 use crate::store::Store;
 use spreading::for_each_spread;
 use std::alloc::AllocError;
@@ -117,7 +117,8 @@ fn are_whole(benches: &[Bench]) -> bool
     true
 }
 
-// Sifts what was found at the benches, and enters what is left. After an error some of it may have entered.
+// Sifts what was found at each bench, one bench after the other, and enters what is left. After an error some of it may have
+// entered.
 fn enter_found<R: Threads + Sync>(
     rt: &R,
     aim: &Aim<'_, '_>,
@@ -133,11 +134,36 @@ fn enter_found<R: Threads + Sync>(
     ensures grows { OnOk result (Grows store.old store.new) }
     ensures sieves { AreSome aim.now.pruner.now sieves.new }
 {
-    let finds = count_finds(benches)?;
+    for number in 0..benches.len() {
+        enter_bench(rt, aim, store, benches, number, sieves)?;
+    }
+    Ok(())
+}
+
+// The same for the bench of a number.
+fn enter_bench<R: Threads + Sync>(
+    rt: &R,
+    aim: &Aim<'_, '_>,
+    store: &mut Store,
+    benches: &[Bench],
+    number: usize,
+    sieves: &mut [Sieve],
+) -> Result<(), AllocError>
+    requires within { number < length benches.now }
+    requires found { AllFound aim.now.pruner.now benches.now }
+    requires boxes { store.old.boxes ≡ box_count aim.now.pruner.now }
+    requires sieves { AreSome aim.now.pruner.now sieves.old }
+    ensures entered { OnOk result (AreAllIn aim.now.pruner.now aim.now.most store.old.seen benches.now number →
+        AreAllIn aim.now.pruner.now aim.now.most store.new.seen benches.now (number + 1)) }
+    ensures fit { OnOk result (AllFit aim.now.pruner.now store.old.seen → AllFit aim.now.pruner.now store.new.seen) }
+    ensures grows { OnOk result (Grows store.old store.new) }
+    ensures sieves { AreSome aim.now.pruner.now sieves.new }
+{
+    let finds = benches[number].more.entries().len();
     let busy = busy_sieves(finds, sieves.len());
     let cut = Cut::even(finds, busy);
     let sieves = &mut sieves[..busy];
-    sift_beside(rt, aim, benches, cut, sieves);
+    sift_beside(rt, aim, benches, number, cut, sieves);
     if !are_sifted(sieves) {
         return Err(AllocError);
     }

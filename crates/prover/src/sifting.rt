@@ -6,7 +6,7 @@ ghost use Rattle.prover.specs.Frame.{Seen, IsSeen};
 ghost use Rattle.prover.specs.inside.Stretching.{stretch_start};
 ghost use Rattle.prover.specs.inside.Entries.{Grows};
 ghost use Rattle.prover.specs.inside.Progress.{AllFit};
-ghost use Rattle.prover.specs.inside.Sifting.{AllFound, AreAllSieved, AreFor, AreSieved, AreSievedBelow, AreSifted, IsFound, IsSifted, IsSpare, found_before};
+ghost use Rattle.prover.specs.inside.Sifting.{AllFound, AreAllSieved, AreFor, AreSieved, AreSifted, IsFound, IsSifted, IsSpare};
 
 use crate::aim::Aim;
 use crate::bench::Bench;
@@ -21,7 +21,7 @@ use spreading::for_each_spread;
 use std::alloc::{AllocError, Global};
 use std::thread::Threads;
 
-/// What is left of some of the positions that were found at the benches, with their hashes, and the matching by which the others
+/// What is left of some of the positions that were found at a bench, with their hashes, and the matching by which the others
 /// were refused. It has not looked at all of them where memory was refused.
 #[derive(Debug, Drop)]
 pub(crate) struct Sieve {
@@ -67,19 +67,21 @@ fn append_sieve(alloc: Global, boxes: usize, sieves: &mut Vec<Sieve>) -> Result<
     Ok(())
 }
 
-/// Sifts what was found at the benches, side by side: each sieve has a stretch of all finds, and a thread of its own where one can
-/// be started. So all have about as much to do, though what a find takes changes from bench to bench, and threads are started once.
+/// Sifts what was found at the bench of a number, side by side: each sieve has a stretch of the finds, and a thread of its own
+/// where one can be started. So all have about as much to do, though what a find takes changes from bench to bench.
 pub(crate) fn sift_beside<R: Threads + Sync>(
     rt: &R,
     aim: &Aim<'_, '_>,
     benches: &[Bench],
+    number: usize,
     cut: Cut,
     sieves: &mut [Sieve],
 )
+    requires within { number < length benches.now }
     requires found { AllFound aim.now.pruner.now benches.now }
     requires order { cut.from ≤ cut.to }
     requires boxes { AreFor (box_count aim.now.pruner.now) sieves.old }
-    ensures sifted { AreSifted aim.now.pruner.now aim.now.most benches.now cut sieves.new }
+    ensures sifted { AreSifted aim.now.pruner.now aim.now.most benches.now number cut sieves.new }
     ensures many { length sieves.new ≡ length sieves.old }
 {
     let pruner = aim.pruner;
@@ -88,28 +90,14 @@ pub(crate) fn sift_beside<R: Threads + Sync>(
         rt,
         sieves,
         &|part, sieve: &mut Sieve|
+            requires within { number < length benches.now }
             requires found { AllFound pruner.now benches.now }
             requires order { cut.from ≤ cut.to }
             requires part { part + 1 < 2 ^ 64 }
             requires boxes { sieve.now.left.boxes ≡ box_count pruner.now }
-            ensures { IsSifted pruner.entry.now most benches.entry.now (stretch_start cut part) (stretch_start cut (part + 1)) sieve.exit.now }
-        { sift(pruner, most, benches, cut.stretch(part), sieve) },
+            ensures { IsSifted pruner.entry.now most benches.entry.now number (stretch_start cut part) (stretch_start cut (part + 1)) sieve.exit.now }
+        { sift(pruner, most, benches, number, cut.stretch(part), sieve) },
     );
-}
-
-/// How many positions were found at the benches, one that was found at several counted as often. The only error is that no memory
-/// would hold as many.
-pub(crate) fn count_finds(benches: &[Bench]) -> Result<usize, AllocError>
-    ensures { IfOk result (λ finds. finds ≡ found_before benches.now (length benches.now)) }
-{
-    let mut finds: usize = 0;
-    for bench in benches {
-        let Some(more) = finds.checked_add(bench.more.entries().len()) else {
-            return Err(AllocError);
-        };
-        finds = more;
-    }
-    Ok(finds)
 }
 
 /// For fewer finds than so many a further thread would take longer than it spares.
@@ -124,42 +112,24 @@ pub(crate) fn busy_sieves(finds: usize, sieves: usize) -> usize
     (finds / LEAST_FINDS).min(sieves).max(1)
 }
 
-// Sifts what stands at some places of all that was found at the benches, one bench after the other.
-fn sift(pruner: &Pruner<'_>, most: u32, benches: &[Bench], span: Span, sieve: &mut Sieve)
-    requires found { AllFound pruner.now benches.now }
-    requires boxes { sieve.old.left.boxes ≡ box_count pruner.now }
-    ensures { IsSifted pruner.now most benches.now span.from span.to sieve.new }
-{
-    sieve.left.clear();
-    sieve.hashes.clear();
-    let sifted = sift_each(pruner, most, benches, span, sieve);
-    sieve.is_whole = sifted.is_ok();
-}
-
-// Keeps what is left of what stands at these places.
-fn sift_each(
+// Sifts some of what was found at the bench of a number.
+fn sift(
     pruner: &Pruner<'_>,
     most: u32,
     benches: &[Bench],
+    number: usize,
     span: Span,
     sieve: &mut Sieve,
-) -> Result<(), AllocError>
+)
+    requires within { number < length benches.now }
     requires found { AllFound pruner.now benches.now }
     requires boxes { sieve.old.left.boxes ≡ box_count pruner.now }
-    ensures sieved { OnOk result (AreSievedBelow pruner.now most benches.now sieve.new.left.seen span.from span.to (length benches.now)) }
-    ensures fit { OnOk result (AllFit pruner.now sieve.old.left.seen → AllFit pruner.now sieve.new.left.seen) }
-    ensures boxes { sieve.new.left.boxes ≡ box_count pruner.now }
+    ensures { IsSifted pruner.now most benches.now number span.from span.to sieve.new }
 {
-    let Span { mut from, mut to } = span;
-    for number in 0..benches.len() {
-        let (earlier, _) = benches.split_at(number);
-        let more = &benches[number].more;
-        sift_all(pruner, most, earlier, more, Span { from, to }, sieve)?;
-        let finds = more.entries().len();
-        from = from.saturating_sub(finds);
-        to = to.saturating_sub(finds);
-    }
-    Ok(())
+    let (earlier, _) = benches.split_at(number);
+    let more = &benches[number].more;
+    let sifted = sift_all(pruner, most, earlier, more, span, sieve);
+    sieve.is_whole = sifted.is_ok();
 }
 
 // Keeps what is left of the positions that were found at a bench and stand at some places there.
@@ -174,9 +144,11 @@ fn sift_all(
     requires fit { AllFit pruner.now more.now.seen }
     requires boxes { sieve.old.left.boxes ≡ box_count pruner.now }
     ensures sieved { OnOk result (AreSieved pruner.now most earlier.now more.now.seen sieve.new.left.seen span.from span.to) }
-    ensures fit { OnOk result (AllFit pruner.now sieve.old.left.seen → AllFit pruner.now sieve.new.left.seen) }
-    ensures grows { Grows sieve.old.left sieve.new.left }
+    ensures fit { OnOk result (AllFit pruner.now sieve.new.left.seen) }
+    ensures boxes { sieve.new.left.boxes ≡ box_count pruner.now }
 {
+    sieve.left.clear();
+    sieve.hashes.clear();
     let end = span.to.min(more.entries().len());
     for place in span.from..end {
         sift_one(pruner, most, earlier, more, place, sieve)?;

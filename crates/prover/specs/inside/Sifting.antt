@@ -1,5 +1,5 @@
 -- What is left of what was found at the benches, and what of it has entered.
-use Rattle.std.specs.Prelude.{◌≡◌, ℕ, zero, suc, ◌+◌, ◌-◌, ◌≤◌, ◌<◌, ◌⊎◌, List, [], ◌∷◌, IsTrue, slice_get, Some, take, length}
+use Rattle.std.specs.Prelude.{◌≡◌, ℕ, ◌+◌, ◌-◌, ◌≤◌, ◌<◌, ◌⊎◌, List, IsTrue, slice_get, Some, take, length}
 use Rattle.grid.specs.Board.{Board, Scene}
 use Rattle.grid.specs.Lawful.{box_count}
 use Rattle.prices.specs.Solving.{NoneWithin}
@@ -24,28 +24,18 @@ abbrev pub AreSieved : Board → ℕ → List Bench → List Seen → List Seen 
 AreSieved board most earlier more left from to = (i : ℕ) (x : Seen) → from ≤ i → i < to → slice_get more i ≡ Some x →
     IsSeen left x.pushes x.scene ⊎ IsSpare board most earlier x.pushes x.scene
 
--- how many positions were found at the first benches
-abbrev pub found_before : List Bench → ℕ → ℕ
-found_before benches zero = 0
-found_before [] (suc n) = 0
-found_before (b ∷ benches) (suc n) = length b.more.seen + found_before benches n
-
--- so is what was found at the first benches, as far as it stands at these places of all that was found, one bench after the other
-abbrev pub AreSievedBelow : Board → ℕ → List Bench → List Seen → ℕ → ℕ → ℕ → Type 0
-AreSievedBelow board most benches left from to count = (n : ℕ) (b : Bench) → n < count → slice_get benches n ≡ Some b →
-    AreSieved board most (take n benches) b.more.seen left (from - found_before benches n) (to - found_before benches n)
-
--- the sieve has looked at what stands at some places of all that was found at the benches, or it says that it has not; what is left
--- may be played on the level
-pub record IsSifted (board : Board) (most : ℕ) (benches : List Bench) (from to : ℕ) (s : Sieve) : Type 0 where
-  pub sieved : IsTrue s.is_whole → AreSievedBelow board most benches s.left.seen from to (length benches)
+-- the sieve has looked at what was found at the bench of a number and stands at some places, or it says that it has not; what is
+-- left may be played on the level
+pub record IsSifted (board : Board) (most : ℕ) (benches : List Bench) (number from to : ℕ) (s : Sieve) : Type 0 where
+  pub sieved : IsTrue s.is_whole → (b : Bench) → slice_get benches number ≡ Some b →
+      AreSieved board most (take number benches) b.more.seen s.left.seen from to
   pub fit : IsTrue s.is_whole → AllFit board s.left.seen
   pub boxes : s.left.boxes ≡ box_count board
 
 -- each sieve has the stretch of its number
-abbrev pub AreSifted : Board → ℕ → List Bench → Cut → List Sieve → Type 0
-AreSifted board most benches cut sieves = (i : ℕ) (s : Sieve) → slice_get sieves i ≡ Some s →
-    IsSifted board most benches (stretch_start cut i) (stretch_start cut (i + 1)) s
+abbrev pub AreSifted : Board → ℕ → List Bench → ℕ → Cut → List Sieve → Type 0
+AreSifted board most benches number cut sieves = (i : ℕ) (s : Sieve) → slice_get sieves i ≡ Some s →
+    IsSifted board most benches number (stretch_start cut i) (stretch_start cut (i + 1)) s
 
 -- each sieve is for positions of so many boxes
 abbrev pub AreFor : ℕ → List Sieve → Type 0

@@ -1,4 +1,5 @@
-use Rattle.prover.specs.inside.Entries.{Grows}
+use Rattle.std.proofs.Common.{◌≡◌}
+use Rattle.grid.specs.Lawful.{box_count}
 use Rattle.prover.specs.inside.Progress.{AllFit}
 use Rattle.prover.specs.inside.Sifting.{AreSieved}
 use Rattle.prover.proofs.sifting.sift_all.Given as goal
@@ -6,6 +7,6 @@ use Rattle.prover.proofs.sifting.sift_all.Given as goal
 abbrev pub invariant-loop-place : goal.invariant-loop-place
 invariant-loop-place l = record {
   sieved : AreSieved l.pruner l.most l.earlier l.more.seen l.sieve.left.seen l.fn.span.from l.place;
-  fit : AllFit l.pruner l.fn.sieve.left.seen → AllFit l.pruner l.sieve.left.seen;
-  grows : Grows l.fn.sieve.left l.sieve.left;
+  fit : AllFit l.pruner l.sieve.left.seen;
+  boxes : l.sieve.left.boxes ≡ box_count l.pruner;
 }
