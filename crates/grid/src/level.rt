@@ -246,14 +246,34 @@ impl Eq for Level {
     ghost laws = { Prim.search (comparing, rules) };
 }
 
-// Whether the cells are the same. Where they are, each has to be looked at, so this goes on to the end, by several cells at
-// once.
+// So many cells are looked at together.
+const AT_ONCE: usize = 16;
+
+// Whether the cells are the same. What is left over of so many at once would be looked at one by one, so the last ones are looked
+// at together once more.
 fn same_cells(cells: &[Cell], others: &[Cell]) -> bool
     ensures { IsTrue result ↔ (cells.now ≡ others.now) }
 {
-    if cells.len() != others.len() {
+    let count = cells.len();
+    if count != others.len() {
         return false;
     }
+    if count < AT_ONCE {
+        return are_same(cells, others);
+    }
+    let whole = count / AT_ONCE * AT_ONCE;
+    let last = count - AT_ONCE;
+    let front = are_same(&cells[..whole], &others[..whole]);
+    let back = are_same(&cells[last..], &others[last..]);
+    front & back
+}
+
+// The same of as many cells. Where they are the same, each has to be looked at, so this goes on to the end, by several cells at once.
+#[inline(always)]
+fn are_same(cells: &[Cell], others: &[Cell]) -> bool
+    requires { length cells.now ≡ length others.now }
+    ensures { IsTrue result ↔ (cells.now ≡ others.now) }
+{
     let mut same = true;
     for (place, cell) in cells.iter().enumerate() {
         same &= *cell == others[place];

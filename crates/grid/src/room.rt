@@ -47,20 +47,11 @@ fn fill(
     ensures closed { OnOk result (¬ (IsOpen (board_of cols cells.now))) }
     ensures err { IfErr result (λ f. IsRoomFault (board_of cols cells.now) f) }
 {
-    let mut pending = only(alloc, player)?;
+    let mut pending = vec![in alloc; player; 1]?;
     while let Some(square) = pending.pop() {
         fill_from(cols, cells, room, &mut pending, square)?;
     }
     Ok(())
-}
-
-// A list of one square.
-fn only(alloc: Global, square: Square) -> Result<Vec<Square>, AllocError>
-    ensures { IfOk result (λ list. list.items ≡ square ∷ []) }
-{
-    let mut list = Vec::new(alloc);
-    list.push(square)?;
-    Ok(list)
 }
 
 // Marks the run of a pending square, unless it has its marks.

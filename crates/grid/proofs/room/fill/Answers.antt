@@ -13,7 +13,7 @@ pub loop-square-init : goal.loop-square-init
 loop-square-init c =
     let board : Board = board_of c.args.cols c.args.cells.now in
     let floor = subst (λ (q : ℕ). is_wall board q ≡ false) c.requires.start c.requires.floor in
-    fill_start board c.args.room.now c.in_ok-pending.pending.items c.requires.size c.requires.clear (c.in_ok-pending.ensures ∙
+    fill_start board c.args.room.now c.in_ok-pending.pending.items c.requires.size c.requires.clear (c.in_ok-pending.ensures.items_if_clones_equal (λ y e. e) ∙
     ap (λ (q : ℕ). q ∷ []) c.requires.start) floor
 
 pub fill_from-requires-clause-filling : goal.fill_from-requires-clause-filling

@@ -1,6 +1,6 @@
 use Rattle.std.proofs.Common.{◌≡◌, ◌↔◌, ◌<◌, ℕ, IsTrue, length, get_or}
 use Rattle.grid.specs.declared.cell.Cell.TheVariants.{Wall}
-use Rattle.grid.proofs.level.same_cells.Given as goal
+use Rattle.grid.proofs.level.are_same.Given as goal
 
 abbrev pub invariant-loop-place : goal.invariant-loop-place
 invariant-loop-place l =
