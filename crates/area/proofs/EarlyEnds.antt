@@ -20,7 +20,8 @@ use Rattle.area.specs.Words.{squares_of, word_bit}
 use Rattle.area.specs.inside.Flooding.{IsGrowing}
 use Rattle.area.specs.inside.RoomFloods.{AreFree, FindsLeast, is_left, HasSides, IsLowest, IsBeside, IsSought, IsWidened, Meets, PassesOver}
 use Rattle.area.proofs.Gathers.{from_left, from_right, from_above, from_below}
-use Rattle.area.proofs.Widening.{widened_none, widened_then, widened_grows, widened_whole}
+use Rattle.area.proofs.OnBoards.{widened_grows, widened_whole}
+use Rattle.area.proofs.Widening.{widened_none, widened_then}
 use Rattle.area.proofs.Arrays.{AreBits, bits_next}
 use Rattle.area.proofs.lemmas.Moving.{moved_bit}
 use Rattle.area.proofs.lemmas.Flooding.{flood_inside, flood_whole, words_enough}

@@ -13,6 +13,7 @@ pub mod Visiting
 pub mod Carries
 pub mod Arrays
 pub mod Widening
+pub mod OnBoards
 pub mod EarlyEnds
 pub mod Chains
 pub mod PushLists

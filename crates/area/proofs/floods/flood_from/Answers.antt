@@ -1,6 +1,6 @@
 use Rattle.std.proofs.Common.{◌≡◌, length, inl, inr, ◌∙◌}
 use Rattle.grid.specs.Masks.{word_count}
-use Rattle.area.proofs.Widening.{area_in_room}
+use Rattle.area.proofs.OnBoards.{area_in_room}
 use Rattle.area.proofs.lemmas.Flooding.{flood_inside, flood_whole}
 use Rattle.area.proofs.floods.flood_from.Goals as goal
 

@@ -1,7 +1,7 @@
 use Rattle.std.proofs.Common.{ℕ, inl, inr, subst}
 use Rattle.grid.specs.Masks.{has_bit}
 use Rattle.area.specs.inside.RoomFloods.{IsWidened, PassesOver}
-use Rattle.area.proofs.Widening.{are_free, widened_grows, widened_whole}
+use Rattle.area.proofs.OnBoards.{are_free, widened_grows, widened_whole}
 use Rattle.area.proofs.rooms.grow_words_in_room.Goals as goal
 
 pub returns-clause-growing : goal.returns-clause-growing
