@@ -49,7 +49,7 @@ pub place_kept : (m : Scene) (o last : Origin Push) (start place : ℕ) (es : Li
     StandsAt es place m → (late : Bool) → late ≡ not (is_lt (origin_cmp push_cmp o last)) → (ltb place start || late) ≡ true →
     true ≡ keeps (seen_of start es) (open_of start es) m o
 place_kept m o last start place es found none at late is_late told =
-    let w = standing m place es at in standing_kept m o last start place es w.0 found none w.1 true late (sym w.2) is_late told
+    let w = standing m place es at in standing_kept m o last start place es w.0 found none w.1 w.2 late is_late told
 
 -- nor where the origin does not come before the one that it has there
 pub place_less : (m : Scene) (o : Origin Push) (start place : ℕ) (es : List Closed) (k : Scene) (v : Option (Origin Push)) (less : Bool) → IsFound start es →

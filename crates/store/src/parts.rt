@@ -183,7 +183,7 @@ fn changes_nothing<const N: usize, const M: usize>(
         return true;
     }
     let Some((_, known)) = table.get_index(place) else {
-        return false;
+        unreachable!()
     };
     !known.exceeds(offer.1)
 }
