@@ -1,5 +1,5 @@
 -- The last of the origins of what stands open, and what it tells of an offer.
-use Rattle.std.proofs.Common.{◌≡◌, ℕ, zero, suc, ◌+◌, ◌<◌, ◌≤◌, Bool, true, false, cond, ◌&&◌, ◌||◌, not, is_some, List, [], ◌∷◌, length, position}
+use Rattle.std.proofs.Common.{◌≡◌, ℕ, zero, suc, ◌+◌, ◌<◌, ◌≤◌, Bool, true, false, cond, ◌||◌, not, is_some, List, [], ◌∷◌, length, position}
 use Rattle.std.proofs.Common.{ltb, Option, Some, None, refl, sym, ap, subst, ◌∙◌, if◌then◌else◌, arith}
 use Rattle.std.proofs.lemmas.Bool.Decides.{nat_tests}
 use Rattle.std.proofs.lemmas.Option.{same_Some, none-some}
@@ -18,7 +18,7 @@ use Rattle.store.specs.Entries.{Origin, origin_cmp, Entry, lesser, same_scene, C
 use Rattle.store.specs.Entering.{offered}
 use Rattle.store.specs.FoundView.{IsFound, NoneExceed, is_least, keeps, let_in, open_of, seen_of}
 use Rattle.store.proofs.lemmas.Origins.{origin_total}
-use Rattle.store.proofs.lemmas.Offers.{and_both, origin-listed, same_flipped, same_true}
+use Rattle.store.proofs.lemmas.Offers.{origin-listed, same_flipped, same_true}
 use Rattle.store.proofs.Tails.{as_closed, below, joined, least_first, let_in_put, look_rest, no_some, not_greater, placed, seen_at}
 
 order : IsTotalOrder (origin_cmp push_cmp)
@@ -70,15 +70,15 @@ at_place m (x ∷ es) (suc i) e at same = go (same_scene m x.0) (at_place m es i
 
 -- so an offer of the position of an entry changes nothing where this is closed, or the offer's origin does not come before the last one
 pub standing_kept : (m : Scene) (o last : Origin Push) (start i : ℕ) (es : List Closed) (e : Closed) → IsFound start es → NoneExceed (open_of start es) last →
-    slice_get es i ≡ Some e → (stands late : Bool) → stands ≡ same_scene e.0 m → late ≡ not (is_lt (origin_cmp push_cmp o last)) →
-    (stands && (ltb i start || late)) ≡ true → true ≡ keeps (seen_of start es) (open_of start es) m o
-standing_kept m o last start i es e found none at stands late is_same is_late told = go (ltb i start) refl (and_both stands (ltb i start || late) told)
+    slice_get es i ≡ Some e → same_scene e.0 m ≡ true → (late : Bool) → late ≡ not (is_lt (origin_cmp push_cmp o last)) →
+    (ltb i start || late) ≡ true → true ≡ keeps (seen_of start es) (open_of start es) m o
+standing_kept m o last start i es e found none at same late is_late told = go (ltb i start) refl
   where
-    there : stands ≡ true → same_scene m e.0 ≡ true
-    there t = same_flipped m e.0 ∙ sym is_same ∙ t
+    there : same_scene m e.0 ≡ true
+    there = same_flipped m e.0 ∙ same
 
-    closed : stands ≡ true → ltb i start ≡ true → is_some (lookup (same_scene m) (seen_of start es)) ≡ true
-    closed t lt = let w = at_place m (seen_of start es) i e (seen_at start es i (let h = lt in grind (arith, nat_tests)) ∙ at) (there t) in ap is_some w.1
+    closed : ltb i start ≡ true → is_some (lookup (same_scene m) (seen_of start es)) ≡ true
+    closed lt = let w = at_place m (seen_of start es) i e (seen_at start es i (let h = lt in grind (arith, nat_tests)) ∙ at) there in ap is_some w.1
 
     after : late ≡ true → is_lt (origin_cmp push_cmp o last) ≡ false
     after l = flipped (is_lt (origin_cmp push_cmp o last)) (sym is_late ∙ l)
@@ -87,10 +87,10 @@ standing_kept m o last start i es e found none at stands late is_same is_late to
         flipped true f = cc
         flipped false f = refl
 
-    go : (b : Bool) → ltb i start ≡ b → (stands ≡ true) × ((ltb i start || late) ≡ true) → true ≡ keeps (seen_of start es) (open_of start es) m o
-    go true lt w = ap (λ x. x || is_least (origin_of (open_of start es) m) o) (sym (closed w.0 lt))
-    go false lt w = let v = at_place m es i e at (there w.0) in
-        late_kept m o start es found v.0 last v.1 none (after (ap (λ b. b || late) (sym lt) ∙ w.1))
+    go : (b : Bool) → ltb i start ≡ b → true ≡ keeps (seen_of start es) (open_of start es) m o
+    go true lt = ap (λ x. x || is_least (origin_of (open_of start es) m) o) (sym (closed lt))
+    go false lt = let v = at_place m es i e at there in
+        late_kept m o start es found v.0 last v.1 none (after (ap (λ b. b || late) (sym lt) ∙ told))
 
 -- nor does one of what is there with an origin that the offer's does not come before
 pub less_kept : (m : Scene) (o : Origin Push) (start : ℕ) (es : List Closed) → IsFound start es → (v : Option (Origin Push)) (less : Bool) →

@@ -7,3 +7,4 @@ pub mod DealtOffers
 pub mod Bytes
 pub mod Lasts
 pub mod Digests
+pub mod Standing

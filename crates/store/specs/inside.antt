@@ -5,3 +5,4 @@ pub mod Offers
 pub mod Copies
 pub mod KeyRows
 pub mod FoundUpTo
+pub mod Standing

@@ -1,5 +1,5 @@
 //! Positions in as few bytes as their boxes and their grid want, which is what a book holds.
-ghost use Rattle.std.specs.Prelude.{◌≡◌, ◌+◌, ◌*◌, ◌/◌, ◌%◌, ◌<◌, ◌≤◌, ◌∷◌};
+ghost use Rattle.std.specs.Prelude.{◌≡◌, ◌+◌, ◌*◌, ◌/◌, ◌%◌, ◌<◌, ◌≤◌, ◌==◌, ◌&&◌, ◌∷◌};
 ghost use Rattle.std.specs.Prelude.{Some, length, nat_eq, replicate, slice_get, true};
 ghost use Rattle.grid.specs.Rising.{is_rising};
 ghost use Rattle.std.specs.Cmp.Lexicographic.{pointwise};
@@ -18,9 +18,9 @@ pub(crate) const BYTE_SQUARES: usize = 256;
 /// bytes, or none where they are all 0. Zeros fill the rows.
 #[derive(Debug, Drop)]
 pub(crate) struct Key<const N: usize, const M: usize> {
-    boxes: u8,
-    low: [u8; N],
-    high: [u8; M],
+    pub(crate) boxes: u8,
+    pub(crate) low: [u8; N],
+    pub(crate) high: [u8; M],
 }
 
 impl<const N: usize, const M: usize> Model for Key<N, M> {
@@ -207,9 +207,14 @@ impl<const N: usize, const M: usize> PartialEq for Key<N, M> {
     fn eq(&self, other: &Key<N, M>) -> bool
         ensures { result ≡ same_scene self.now other.now }
     {
-        let same_low = same_bytes(&self.low, &other.low);
-        let same_high = same_bytes(&self.high, &other.high);
-        (self.boxes == other.boxes) & same_low & same_high
+        same_rows(
+            self.boxes,
+            &self.low,
+            &self.high,
+            other.boxes,
+            &other.low,
+            &other.high,
+        )
     }
 }
 
@@ -218,6 +223,23 @@ impl<const N: usize, const M: usize> Eq for Key<N, M> {
     ghost use Rattle.std.specs.Cmp.Rules.{comparing};
 
     ghost laws = { Prim.search (comparing, rules) };
+}
+
+/// Whether the fields of a key are those of another one.
+#[inline(always)]
+pub(crate) fn same_rows(
+    boxes: u8,
+    low: &[u8],
+    high: &[u8],
+    others: u8,
+    lower: &[u8],
+    higher: &[u8],
+) -> bool
+    ensures { result ≡ (((boxes == others) && pointwise nat_eq low.now lower.now) && pointwise nat_eq high.now higher.now) }
+{
+    let same_low = same_bytes(low, lower);
+    let same_high = same_bytes(high, higher);
+    (boxes == others) & same_low & same_high
 }
 
 // Whether the bytes are the same. A map asks this of keys with one hash, which are mostly the same, so it goes on to the

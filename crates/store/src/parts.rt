@@ -4,6 +4,7 @@ ghost use Rattle.std.specs.Prelude.{◌≡◌, ◌+◌, ◌<◌, ◌≤◌, leng
 ghost use Rattle.indexmap.specs.IndexMap.{spare};
 ghost use Rattle.store.specs.inside.FoundUpTo.{IsFoundUpTo};
 ghost use Rattle.store.specs.inside.KeyRows.{AreDigests, key_digest};
+ghost use Rattle.store.specs.inside.Standing.{AllStand, StandsIfAt};
 ghost use Rattle.store.specs.FoundView.{all_let_in, keeps, let_in, open_of, seen_of};
 
 use crate::entering::enter;
@@ -88,6 +89,7 @@ fn look_up<const N: usize, const M: usize>(
     requires digests { AreDigests N M offers.now digests.now }
     requires many { length offers.now ≤ length digests.now }
     requires places { length offers.now ≤ length places.old }
+    ensures { AllStand table.now.entries offers.now places.new }
 {
     for (nth, offer) in offers.iter().enumerate() {
         places[nth] = place_of(table, &offer.0, digests[nth]);
@@ -103,6 +105,7 @@ fn place_of<const N: usize, const M: usize>(
 ) -> usize
     requires width { (N ≤ MAX_BOXES + 1) × (M ≤ MAX_BOXES + 1) }
     requires digest { digest ≡ key_digest N M key.now }
+    ensures { StandsIfAt table.now.entries result key.now }
 {
     let probe = Probe::of(key, digest);
     match table.get_index_of(&probe) {
@@ -111,7 +114,7 @@ fn place_of<const N: usize, const M: usize>(
     }
 }
 
-// Offers enter, one after the other, whose keys may stand at these places.
+// Offers enter, one after the other, whose keys stand at these places, where there is one.
 fn enter_each<const N: usize, const M: usize>(
     table: &mut IndexMap<Key<N, M>, ClosedOrigin>,
     start: usize,
@@ -120,7 +123,7 @@ fn enter_each<const N: usize, const M: usize>(
     places: &[usize],
 )
     requires width { (N ≤ MAX_BOXES + 1) × (M ≤ MAX_BOXES + 1) }
-    requires places { length offers.now ≤ length places.now }
+    requires stand { AllStand table.old.entries offers.now places.now }
     requires room { length offers.now ≤ spare table.old }
     requires found { IsFoundUpTo start table.old.entries last.old }
     ensures found { IsFoundUpTo start table.new.entries last.new }
@@ -133,7 +136,7 @@ fn enter_each<const N: usize, const M: usize>(
     }
 }
 
-// An offer enters, whose key may stand at a place.
+// An offer enters, whose key stands at a place, where there is one.
 #[inline(always)]
 fn enter_at<const N: usize, const M: usize>(
     table: &mut IndexMap<Key<N, M>, ClosedOrigin>,
@@ -143,6 +146,7 @@ fn enter_at<const N: usize, const M: usize>(
     place: usize,
 )
     requires width { (N ≤ MAX_BOXES + 1) × (M ≤ MAX_BOXES + 1) }
+    requires stands { StandsIfAt table.old.entries place offer.now.0 }
     requires room { 0 < spare table.old }
     requires found { IsFoundUpTo start table.old.entries last.old }
     ensures found { IsFoundUpTo start table.new.entries last.new }
@@ -157,7 +161,7 @@ fn enter_at<const N: usize, const M: usize>(
 }
 
 // Whether an offer surely changes nothing, since its key stands at a place that is closed, or stands open and the offer's origin is
-// not before the last one, or not before the one that it has there.
+// not before the last one, or not before the one that it has there. No key is read.
 #[inline(always)]
 fn changes_nothing<const N: usize, const M: usize>(
     table: &IndexMap<Key<N, M>, ClosedOrigin>,
@@ -167,16 +171,19 @@ fn changes_nothing<const N: usize, const M: usize>(
     place: usize,
 ) -> bool
     requires width { (N ≤ MAX_BOXES + 1) × (M ≤ MAX_BOXES + 1) }
+    requires stands { StandsIfAt table.now.entries place offer.now.0 }
     requires found { IsFoundUpTo start table.now.entries last }
     ensures { result ≡ true → true ≡ keeps (seen_of start table.now.entries) (open_of start table.now.entries) offer.now.0 offer.now.1 }
 {
-    let Some((key, known)) = table.get_index(place) else {
+    if place == NOWHERE {
         return false;
-    };
-    let stands = *key == offer.0;
+    }
     let late = !offer.1.is_before(last);
-    if stands & ((place < start) | late) {
+    if (place < start) | late {
         return true;
     }
-    stands && !known.exceeds(offer.1)
+    let Some((_, known)) = table.get_index(place) else {
+        unreachable!()
+    };
+    !known.exceeds(offer.1)
 }

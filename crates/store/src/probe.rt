@@ -2,45 +2,51 @@
 ghost use Rattle.std.specs.Prelude.{◌≡◌};
 ghost use Rattle.store.specs.inside.KeyRows.{key_digest};
 
-use crate::key::Key;
+use crate::key::{Key, same_rows};
 use indexmap::Equivalent;
 use std::hash::{Hash, Hasher};
 use std::marker::Model;
 
-/// A key with the number that stands for it where it is hashed, so that a look does not wait for that to be made.
+/// A key's fields, which are lent, with the number that stands for the key where it is hashed, so that a look does not wait for that
+/// to be made.
 #[derive(Debug, Drop)]
-pub(crate) struct Probe<const N: usize, const M: usize> {
-    key: Key<N, M>,
+pub(crate) struct Probe<'k, const N: usize, const M: usize> {
+    boxes: u8,
+    low: &'k [u8],
+    high: &'k [u8],
     digest: u64,
 }
 
-impl<const N: usize, const M: usize> Model for Probe<N, M> {
+impl<'k, const N: usize, const M: usize> Model for Probe<'k, N, M> {
     ghost use Rattle.std.specs.Prelude.{◌≡◌};
     ghost use Rattle.grid.specs.Board.{Scene};
-    ghost use Rattle.store.specs.inside.KeyRows.{key_digest};
+    ghost use Rattle.store.specs.inside.KeyRows.{IsKey, key_digest, key_scene};
 
     ghost Value = { Scene };
 
-    ghost view = { λ a. a.key };
+    ghost view = { λ a. key_scene a.boxes a.low.now a.high.now };
 
-    ghost invariant = { λ a. a.digest ≡ key_digest N M a.key };
+    ghost invariant = { λ a. IsKey N M a.boxes a.low.now a.high.now
+        × (a.digest ≡ key_digest N M (key_scene a.boxes a.low.now a.high.now)) };
 }
 
-impl<const N: usize, const M: usize> Probe<N, M> {
-    /// A key, which is copied, with its number.
+impl<'k, const N: usize, const M: usize> Probe<'k, N, M> {
+    /// A key, which is lent, with its number.
     #[inline(always)]
-    pub(crate) fn of(key: &Key<N, M>, digest: u64) -> Probe<N, M>
+    pub(crate) fn of(key: &'k Key<N, M>, digest: u64) -> Probe<'k, N, M>
         requires { digest ≡ key_digest N M key.now }
         ensures { result ≡ key.now }
     {
         Probe {
-            key: key.copy(),
+            boxes: key.boxes,
+            low: &key.low,
+            high: &key.high,
             digest,
         }
     }
 }
 
-impl<const N: usize, const M: usize> PartialEq for Probe<N, M> {
+impl<'k, const N: usize, const M: usize> PartialEq for Probe<'k, N, M> {
     ghost use Rattle.std.proofs.Common.{rules};
     ghost use Rattle.std.specs.Cmp.Rules.{comparing};
     ghost use Rattle.store.specs.Entries.{same_scene};
@@ -49,19 +55,26 @@ impl<const N: usize, const M: usize> PartialEq for Probe<N, M> {
 
     ghost laws = { Prim.search (comparing, rules) };
 
-    fn eq(&self, other: &Probe<N, M>) -> bool {
-        self.key == other.key
+    fn eq(&self, other: &Probe<'k, N, M>) -> bool {
+        same_rows(
+            self.boxes,
+            self.low,
+            self.high,
+            other.boxes,
+            other.low,
+            other.high,
+        )
     }
 }
 
-impl<const N: usize, const M: usize> Eq for Probe<N, M> {
+impl<'k, const N: usize, const M: usize> Eq for Probe<'k, N, M> {
     ghost use Rattle.std.proofs.Common.{rules};
     ghost use Rattle.std.specs.Cmp.Rules.{comparing};
 
     ghost laws = { Prim.search (comparing, rules) };
 }
 
-impl<const N: usize, const M: usize> Hash for Probe<N, M> {
+impl<'k, const N: usize, const M: usize> Hash for Probe<'k, N, M> {
     ghost use Rattle.store.specs.inside.KeyRows.{key_input, keys_alike};
 
     ghost hash_input = { key_input N M };
@@ -74,7 +87,7 @@ impl<const N: usize, const M: usize> Hash for Probe<N, M> {
     }
 }
 
-impl<const N: usize, const M: usize> Equivalent<Key<N, M>> for &Probe<N, M> {
+impl<'k, const N: usize, const M: usize> Equivalent<Key<N, M>> for &Probe<'k, N, M> {
     ghost use Rattle.store.specs.Entries.{same_scene};
     ghost use Rattle.store.specs.inside.KeyRows.{keys_alike, same_alike};
 
@@ -86,6 +99,8 @@ impl<const N: usize, const M: usize> Equivalent<Key<N, M>> for &Probe<N, M> {
 
     #[inline(always)]
     fn equivalent(&self, key: &Key<N, M>) -> bool {
-        self.key == *key
+        same_rows(
+            self.boxes, self.low, self.high, key.boxes, &key.low, &key.high,
+        )
     }
 }

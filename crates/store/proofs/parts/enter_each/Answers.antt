@@ -1,11 +1,24 @@
-use Rattle.std.proofs.Common.{◌≡◌, ◌+◌, ◌∷◌, [], ◌++◌, take, ap, sym, ◌∙◌, arith}
+use Rattle.std.proofs.Common.{rules, ◌≡◌, ◌+◌, ◌∷◌, [], ◌++◌, length, take, refl, ap, sym, ◌∙◌, arith}
 use Rattle.std.proofs.lemmas.List.{take_more}
+use Rattle.std.proofs.lemmas.Option.{slice_get_read}
+use Rattle.std.specs.Prelude.{slice_index_or}
 use Rattle.grid.specs.declared.square.Push.{Push}
 use Rattle.grid.specs.Board.{Scene}
 use Rattle.store.specs.Entries.{Entry}
 use Rattle.store.specs.FoundView.{seen_of, open_of, let_in, all_let_in}
+use Rattle.store.specs.inside.Standing.{StandsIfAt}
 use Rattle.store.proofs.Inboxes.{let_in_more}
+use Rattle.store.proofs.Standing.{stays}
 use Rattle.store.proofs.parts.enter_each.Goals as goal
+
+pub enter_at-requires : goal.enter_at-requires
+enter_at-requires g c =
+    let os = c.args.offers.now in let i = c.loop-nth.nth in
+    let o = c.index-offers-nth.result in let place = slice_index_or c.args.places.now i 0 in
+    let read = slice_get_read os (length os) i o refl c.loop-nth-test.true c.index-offers-nth.is in
+    let stands : StandsIfAt c.loop-nth.table.entries place o.0 = λ some.
+    stays c.args.start c.args.table.now.entries c.loop-nth.table.entries (take i os) place o.0 c.requires.found.found c.loop-nth.invariant.2.found
+    c.loop-nth.invariant.3 c.loop-nth.invariant.0 (c.requires.stand.each i o read some) in search (rules, stands)
 
 pub loop-nth-preserved : goal.loop-nth-preserved
 loop-nth-preserved g c =
