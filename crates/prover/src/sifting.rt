@@ -39,10 +39,10 @@ pub(crate) struct Sieve {
     apart: [u64; 16],
 }
 
-/// What a sieve goes by: what leaves positions out, how many pushes a play has at most, the benches, in how many stretches the
-/// finds of each are cut, and which of them it has.
+// What a sieve goes by: what leaves positions out, how many pushes a play has at most, the benches, in how many stretches the
+// finds of each are cut, and which of them it has.
 #[derive(Drop)]
-pub(crate) struct Stint<'s, 'l> {
+struct Stint<'s, 'l> {
     pruner: &'s Pruner<'l>,
     most: u32,
     benches: &'s [Bench],
@@ -181,8 +181,8 @@ fn sift(
     sieve.is_whole = sifted.is_ok();
 }
 
-// Sifts the stretch of one bench after the other. It has not looked at all where memory was refused, or where there are fewer parts
-// than benches.
+// Sifts the stretch of each bench's finds, one bench after the other. An error says that memory was refused, or that there are
+// fewer parts than benches, and `sieves_of` makes no fewer.
 fn sift_each(
     stint: &Stint<'_, '_>,
     matching: &mut Matching,

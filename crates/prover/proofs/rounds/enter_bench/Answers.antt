@@ -1,7 +1,6 @@
-use Rattle.std.proofs.Common.{◌≡◌, List, Some, get_or, refl, sym, ap, subst, ◌∙◌, length, arith}
+use Rattle.std.proofs.Common.{◌≡◌, Some, refl, sym, ap, ◌∙◌, length, arith}
 use Rattle.std.specs.Prelude.{slice_get}
 use Rattle.std.proofs.lemmas.Option.{slice_get_read}
-use Rattle.prover.specs.declared.sifting.Part.{Part}
 use Rattle.prover.proofs.Progressing.{fit_joined, grows_joined, grows_none, grows_on}
 use Rattle.prover.proofs.Sieves.{entered_one, part_read}
 use Rattle.prover.proofs.rounds.enter_bench.Goals as goal

@@ -1,7 +1,7 @@
-use Rattle.std.proofs.Common.{◌≡◌, ◌<◌, length, sym, subst, take, ◌∙◌, arith}
+use Rattle.std.proofs.Common.{◌≡◌, ◌<◌, length, sym, subst, take, arith}
 use Rattle.std.proofs.lemmas.List.{length-take-le}
 use Rattle.std.proofs.lemmas.Result.{on_ok_weaker}
-use Rattle.prover.specs.inside.Sifting.{AreFor, AreSifted}
+use Rattle.prover.specs.inside.Sifting.{AreFor}
 use Rattle.prover.proofs.Sieves.{benches_in, sifted_fit, sifted_for, sifted_parts}
 use Rattle.prover.proofs.Stretches.{for_front, some_back}
 use Rattle.prover.proofs.rounds.enter_found.Goals as goal
