@@ -9,13 +9,14 @@ use Rattle.grid.specs.Board.{Board, Scene}
 use Rattle.grid.specs.Lawful.{box_count}
 use Rattle.prover.specs.declared.bench.Bench.{Bench}
 use Rattle.prover.specs.declared.cutting.Cut.{Cut}
+use Rattle.prover.specs.declared.sifting.Part.{Part}
 use Rattle.prover.specs.declared.sifting.Sieve.{Sieve}
 use Rattle.prover.specs.Frame.{Seen}
 use Rattle.prover.specs.inside.Benches.{AreAllWhole, AreReady, AreRoomy, AreWorked, IsRoomy, IsRound, IsWorked}
 use Rattle.prover.specs.inside.Stretching.{stretch_start}
 use Rattle.prover.specs.inside.Entries.{EntriesView, Grows, IsReached}
 use Rattle.prover.specs.inside.Progress.{AllFit, AreExpanded, AreUnsolved, IsUnderWay}
-use Rattle.prover.specs.inside.Sifting.{AllFound, AreAllIn, AreFor, AreSome}
+use Rattle.prover.specs.inside.Sifting.{AllFound, AreAllIn, AreFor, ArePartsFor, AreSome}
 use Rattle.prover.proofs.Progressing.{before_on, grows_none, in_back, in_either, in_front, length_on, seen_on, start_first, under_way_on, unsolved_on}
 use Rattle.std.proofs.Math.Nat.{lt-div-mul-add}
 use Rattle.std.proofs.lemmas.Bool.{cases_lt}
@@ -42,19 +43,34 @@ push_at [] y (suc i) x e = absurd (let lt = slice_get_within (y ∷ []) (suc i) 
 push_at (z ∷ xs) y zero x e = inr e
 push_at (z ∷ xs) y (suc i) x e = push_at xs y i x e
 
--- one more bench is as roomy
-pub roomy_push : (board : Board) (benches : List Bench) (new : Bench) → IsRoomy board new → AreRoomy board benches → AreRoomy board (benches ++ new ∷ [])
-roomy_push board benches new is roomy i b at = elim (push_at benches new i b at) [
-  | inl same ↦ subst (IsRoomy board) same is
-  | inr h ↦ roomy i b h
+-- what holds of each and of one more holds of all
+each_push : {A : Type 0} (P : A → Type 0) (xs : List A) (y : A) → P y → ((i : ℕ) (x : A) → slice_get xs i ≡ Some x → P x) →
+    (i : ℕ) (x : A) → slice_get (xs ++ y ∷ []) i ≡ Some x → P x
+each_push P xs y is each i x at = elim (push_at xs y i x at) [
+  | inl same ↦ subst P same is
+  | inr h ↦ each i x h
 ]
 
--- one more sieve is for as many boxes
-pub for_push : (boxes : ℕ) (sieves : List Sieve) (new : Sieve) → new.left.boxes ≡ boxes → AreFor boxes sieves → AreFor boxes (sieves ++ new ∷ [])
-for_push boxes sieves new is are i s at = elim (push_at sieves new i s at) [
-  | inl same ↦ subst (λ (q : Sieve). q.left.boxes ≡ boxes) same is
-  | inr h ↦ are i s h
-]
+-- one more bench is as roomy
+pub roomy_push : (board : Board) (benches : List Bench) (new : Bench) → IsRoomy board new → AreRoomy board benches → AreRoomy board (benches ++ new ∷ [])
+roomy_push board benches new is roomy = each_push (IsRoomy board) benches new is roomy
+
+-- one more sieve is for as many boxes, and one more part
+pub for_push : (boxes : ℕ) (sieves : List Sieve) (new : Sieve) → ArePartsFor boxes new.parts.items → AreFor boxes sieves →
+    AreFor boxes (sieves ++ new ∷ [])
+for_push boxes sieves new is are = each_push (λ (s : Sieve). ArePartsFor boxes s.parts.items) sieves new is are
+
+pub part_push : (boxes : ℕ) (parts : List Part) (new : Part) → new.left.boxes ≡ boxes → ArePartsFor boxes parts → ArePartsFor boxes (parts ++ new ∷ [])
+part_push boxes parts new is are = each_push (λ (p : Part). p.left.boxes ≡ boxes) parts new is are
+
+-- what was written over the whole of a list is what the list holds
+pub written_whole : {A : Type 0} (many : ℕ) (ys xs : List A) → length ys ≡ length xs → many ≡ length xs → take many (ys ++ drop (length ys) xs) ≡ ys
+written_whole zero [] [] same all = refl
+written_whole (suc n) [] [] same all = absurd (omega (arith, all))
+written_whole many [] (x ∷ xs) same all = absurd (omega (arith, same))
+written_whole many (y ∷ ys) [] same all = absurd (omega (arith, same))
+written_whole zero (y ∷ ys) (x ∷ xs) same all = absurd (omega (arith, all))
+written_whole (suc n) (y ∷ ys) (x ∷ xs) same all = ap (λ (l : List _). y ∷ l) (written_whole n ys xs (omega (arith, same)) (omega (arith, all)))
 
 -- what holds of each of many holds of each of the others where the first ones have gone
 each_behind : {A : Type 0} (P : A → Type 0) (all front back : List A) → all ≡ front ++ back → ((i : ℕ) (x : A) → slice_get all i ≡ Some x → P x) →
@@ -78,7 +94,7 @@ each_joined P front back first others i x at = elim (in_either front back i x at
 -- the first sieves are for as many boxes as all are
 pub for_front : (boxes many : ℕ) (sieves : List Sieve) → AreFor boxes sieves → AreFor boxes (take many sieves)
 for_front boxes many sieves are =
-    each_before (λ (s : Sieve). s.left.boxes ≡ boxes) sieves (take many sieves) (drop many sieves) (sym (take-append-drop many sieves)) are
+    each_before (λ (s : Sieve). ArePartsFor boxes s.parts.items) sieves (take many sieves) (drop many sieves) (sym (take-append-drop many sieves)) are
 
 -- a list of which the first ones were worked at is as long
 as_long : {A : Type 0} (many : ℕ) (xs ys : List A) → many ≤ length xs → length ys ≡ length (take many xs) → 0 < length xs → 0 < length (ys ++ drop many xs)
@@ -89,9 +105,9 @@ pub some_back : (board : Board) (many : ℕ) (sieves after : List Sieve) → Are
     → AreFor (box_count board) after → AreSome board (after ++ drop many sieves)
 some_back board many sieves after some few same are = record {
   some = as_long many sieves after few same some.some;
-  boxes = each_joined (λ (s : Sieve). s.left.boxes ≡ box_count board) after (drop many sieves) are
-      (each_behind (λ (s : Sieve). s.left.boxes ≡ box_count board) sieves (take many sieves) (drop many sieves) (sym (take-append-drop many sieves))
-      some.boxes);
+  boxes = each_joined (λ (s : Sieve). ArePartsFor (box_count board) s.parts.items) after (drop many sieves) are
+      (each_behind (λ (s : Sieve). ArePartsFor (box_count board) s.parts.items) sieves (take many sieves) (drop many sieves)
+      (sym (take-append-drop many sieves)) some.boxes);
 }
 
 -- benches at which each has worked

@@ -1,6 +1,6 @@
 //! How the positions of a round are cut in stretches, one for each worker.
 ghost use Rattle.std.specs.Prelude.{◌≡◌, ◌+◌, ◌<◌, ◌≤◌, ◌^◌};
-ghost use Rattle.prover.specs.inside.Stretching.{stretch_start};
+ghost use Rattle.prover.specs.inside.Stretching.{even_cut, stretch_start};
 
 use crate::expansion::Span;
 
@@ -35,8 +35,7 @@ impl Cut {
     /// So many places from the first on, cut in about even stretches, so many of them.
     pub(crate) fn even(len: usize, parts: usize) -> Cut
         requires some { 0 < parts }
-        ensures from { result.from ≡ 0 }
-        ensures to { result.to ≡ len }
+        ensures is { result ≡ even_cut len parts }
         ensures all { stretch_start result parts ≡ len }
     {
         Cut {

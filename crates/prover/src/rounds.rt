@@ -7,7 +7,7 @@ ghost use Rattle.prover.specs.inside.Benches.{AreAllWhole, AreReady, AreRoomy, A
 ghost use Rattle.prover.specs.inside.Stretching.{stretch_start};
 ghost use Rattle.prover.specs.inside.Entries.{Grows};
 ghost use Rattle.prover.specs.inside.Progress.{AllFit, AreUnsolved, IsUnderWay};
-ghost use Rattle.prover.specs.inside.Sifting.{AllFound, AreAllFit, AreAllIn, AreEntered, AreFor, AreSome};
+ghost use Rattle.prover.specs.inside.Sifting.{AllFound, AreAllEntered, AreAllFit, AreAllIn, AreEntered, AreFit, AreFor, AreSome, HaveParts};
 
 use crate::aim::Aim;
 use crate::bench::{Bench, work};
@@ -117,8 +117,7 @@ fn are_whole(benches: &[Bench]) -> bool
     true
 }
 
-// Sifts what was found at each bench, one bench after the other, and enters what is left. After an error some of it may have
-// entered.
+// Sifts what was found at the benches, and then enters what is left. After an error some of it may have entered.
 fn enter_found<R: Threads + Sync>(
     rt: &R,
     aim: &Aim<'_, '_>,
@@ -134,51 +133,43 @@ fn enter_found<R: Threads + Sync>(
     ensures grows { OnOk result (Grows store.old store.new) }
     ensures sieves { AreSome aim.now.pruner.now sieves.new }
 {
-    for number in 0..benches.len() {
-        enter_bench(rt, aim, store, benches, number, sieves)?;
+    let many = benches.len();
+    let busy = busy_sieves(benches, sieves.len());
+    let sieves = &mut sieves[..busy];
+    sift_beside(rt, aim, benches, sieves);
+    if !are_sifted(sieves) {
+        return Err(AllocError);
+    }
+    enter_each(store, many, sieves)
+}
+
+// Enters what is left of what was found at so many benches, one after the other. After an error some of it may have entered.
+fn enter_each(store: &mut Store, many: usize, sieves: &[Sieve]) -> Result<(), AllocError>
+    requires boxes { AreFor store.old.boxes sieves.now }
+    requires parts { HaveParts sieves.now many }
+    ensures entered { OnOk result (AreAllEntered store.new.seen sieves.now many) }
+    ensures fit { OnOk result ((board : Board) → AreAllFit board sieves.now many → AllFit board store.old.seen → AllFit board store.new.seen) }
+    ensures grows { OnOk result (Grows store.old store.new) }
+{
+    for number in 0..many {
+        enter_bench(store, number, sieves)?;
     }
     Ok(())
 }
 
-// The same for the bench of a number.
-fn enter_bench<R: Threads + Sync>(
-    rt: &R,
-    aim: &Aim<'_, '_>,
-    store: &mut Store,
-    benches: &[Bench],
-    number: usize,
-    sieves: &mut [Sieve],
-) -> Result<(), AllocError>
-    requires within { number < length benches.now }
-    requires found { AllFound aim.now.pruner.now benches.now }
-    requires boxes { store.old.boxes ≡ box_count aim.now.pruner.now }
-    requires sieves { AreSome aim.now.pruner.now sieves.old }
-    ensures entered { OnOk result (AreAllIn aim.now.pruner.now aim.now.most store.old.seen benches.now number →
-        AreAllIn aim.now.pruner.now aim.now.most store.new.seen benches.now (number + 1)) }
-    ensures fit { OnOk result (AllFit aim.now.pruner.now store.old.seen → AllFit aim.now.pruner.now store.new.seen) }
-    ensures grows { OnOk result (Grows store.old store.new) }
-    ensures sieves { AreSome aim.now.pruner.now sieves.new }
-{
-    let finds = benches[number].more.entries().len();
-    let busy = busy_sieves(finds, sieves.len());
-    let cut = Cut::even(finds, busy);
-    let sieves = &mut sieves[..busy];
-    sift_beside(rt, aim, benches, number, cut, sieves);
-    if !are_sifted(sieves) {
-        return Err(AllocError);
-    }
-    enter_each(store, sieves)
-}
-
-// Enters what is left at each sieve, one after the other. After an error some of it may have entered.
-fn enter_each(store: &mut Store, sieves: &[Sieve]) -> Result<(), AllocError>
+// Enters what is left at each sieve of what was found at the bench of a number, one sieve after the other: so it stands in the
+// order in which it was found. After an error some of it may have entered.
+fn enter_bench(store: &mut Store, number: usize, sieves: &[Sieve]) -> Result<(), AllocError>
     requires boxes { AreFor store.old.boxes sieves.now }
-    ensures entered { OnOk result (AreEntered store.new.seen sieves.now (length sieves.now)) }
-    ensures fit { OnOk result ((board : Board) → AreAllFit board sieves.now → AllFit board store.old.seen → AllFit board store.new.seen) }
+    requires parts { HaveParts sieves.now (number + 1) }
+    ensures entered { OnOk result (AreEntered store.new.seen sieves.now number (length sieves.now)) }
+    ensures fit { OnOk result ((board : Board) → AreFit board sieves.now number → AllFit board store.old.seen → AllFit board store.new.seen) }
     ensures grows { OnOk result (Grows store.old store.new) }
 {
     for sieve in sieves {
-        store.append_all(&sieve.left, sieve.hashes.as_slice())?;
+        let parts = sieve.parts.as_slice();
+        let part = &parts[number];
+        store.append_all(&part.left, part.hashes.as_slice())?;
     }
     Ok(())
 }

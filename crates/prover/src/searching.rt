@@ -133,7 +133,7 @@ fn search_pruned<R: Threads + Sync>(
     ensures { IfOk result (λ outcome. IsOutcome pruner.now most outcome) }
 {
     let mut benches = benches_of(alloc, pruner.level(), effort.workers)?;
-    let mut sieves = sieves_of(alloc, pruner.level().boxes(), effort.workers)?;
+    let mut sieves = sieves_of(alloc, pruner.level().boxes(), benches.len())?;
     let aim = Aim {
         pruner,
         most,

@@ -1,62 +1,55 @@
-use Rattle.std.proofs.Common.{◌≡◌, Some, length, refl, sym, ap, subst, ◌∙◌}
+use Rattle.std.proofs.Common.{◌≡◌, Some, refl, sym, ap, ◌∙◌, length, arith}
 use Rattle.std.specs.Prelude.{slice_get}
-use Rattle.std.proofs.lemmas.List.{length-take-le}
 use Rattle.std.proofs.lemmas.Option.{slice_get_read}
-use Rattle.std.proofs.lemmas.Result.{on_ok_weaker}
-use Rattle.prover.specs.declared.bench.Bench.{Bench}
-use Rattle.prover.specs.inside.Entries.{EntriesView}
-use Rattle.prover.specs.inside.Sifting.{AreFor}
-use Rattle.prover.specs.inside.Stretching.{stretch_start}
-use Rattle.prover.proofs.Progressing.{on_ok_three}
-use Rattle.prover.proofs.Sieves.{bench_in, sifted_fit, sifted_for}
-use Rattle.prover.proofs.Stretches.{for_front, some_back}
+use Rattle.prover.proofs.Progressing.{fit_joined, grows_joined, grows_none, grows_on}
+use Rattle.prover.proofs.Sieves.{entered_one, part_read}
 use Rattle.prover.proofs.rounds.enter_bench.Goals as goal
 
-pub sift_beside-requires-clause-boxes : goal.sift_beside-requires-clause-boxes
-sift_beside-requires-clause-boxes g c κs within = for_front _ c.busy_sieves-busy.result c.args.sieves.now c.requires.sieves.boxes
+pub bounds-parts-number : goal.bounds-parts-number
+bounds-parts-number c =
+    let sieves = c.args.sieves.now in
+    let s = c.sieve-item.result in
+    let there : slice_get sieves c.loop-sieve.sieve-index ≡ Some s =
+    slice_get_read sieves (length sieves) c.loop-sieve.sieve-index s refl c.loop-sieve-test.true c.sieve-item.is in
+    omega (arith, c.requires.parts c.loop-sieve.sieve-index s there, ap length c.as_slice-parts.ensures.value)
 
-pub enter_each-requires : goal.enter_each-requires
-enter_each-requires g c = record {
-  boxes = subst (λ n. AreFor n c.sift_beside.new.sieves) (sym c.requires.boxes)
-      (sifted_for c.args.aim.now.pruner.now c.args.aim.now.most c.args.benches.now c.args.number c.even-cut.result c.sift_beside.new.sieves
-      c.sift_beside.ensures.sifted);
+pub append_all-requires : goal.append_all-requires
+append_all-requires c =
+    let sieves = c.args.sieves.now in
+    let s = c.sieve-item.result in
+    let i = c.loop-sieve.sieve-index in
+    let p = c.index-parts-number.result in
+    let there : slice_get sieves i ≡ Some s = slice_get_read sieves (length sieves) i s refl c.loop-sieve-test.true c.sieve-item.is in
+    let placed = part_read s c.as_slice-parts.result.now c.args.number p c.as_slice-parts.ensures.value (c.requires.parts i s there)
+    c.index-parts-number.is in
+    c.requires.boxes i s there c.args.number p placed ∙ sym c.loop-sieve.invariant.grows.0
+
+pub loop-sieve-init : goal.loop-sieve-init
+loop-sieve-init c = record {
+  entered = λ i s p lt at there k t seen. absurd (omega (arith, lt));
+  fit = λ board are fit. fit;
+  grows = grows_none c.args.store.now c.args.store.now refl;
 }
 
-pub returns-then-not-are_sifted-clause-sieves : goal.returns-then-not-are_sifted-clause-sieves
-returns-then-not-are_sifted-clause-sieves g c =
-    some_back c.args.aim.now.pruner.now c.busy_sieves-busy.result c.args.sieves.now c.sift_beside.new.sieves c.requires.sieves
-    c.busy_sieves-busy.ensures.few c.sift_beside.ensures.many
-    (sifted_for c.args.aim.now.pruner.now c.args.aim.now.most c.args.benches.now c.args.number c.even-cut.result c.sift_beside.new.sieves
-    c.sift_beside.ensures.sifted)
-
-pub returns-clause-sieves : goal.returns-clause-sieves
-returns-clause-sieves g c =
-    some_back c.args.aim.now.pruner.now c.busy_sieves-busy.result c.args.sieves.now c.sift_beside.new.sieves c.requires.sieves
-    c.busy_sieves-busy.ensures.few c.sift_beside.ensures.many
-    (sifted_for c.args.aim.now.pruner.now c.args.aim.now.most c.args.benches.now c.args.number c.even-cut.result c.sift_beside.new.sieves
-    c.sift_beside.ensures.sifted)
+pub loop-sieve-preserved : goal.loop-sieve-preserved
+loop-sieve-preserved c =
+    let sieves = c.args.sieves.now in
+    let s = c.sieve-item.result in
+    let i = c.loop-sieve.sieve-index in
+    let p = c.index-parts-number.result in
+    let there : slice_get sieves i ≡ Some s = slice_get_read sieves (length sieves) i s refl c.loop-sieve-test.true c.sieve-item.is in
+    let placed = part_read s c.as_slice-parts.result.now c.args.number p c.as_slice-parts.ensures.value (c.requires.parts i s there)
+    c.index-parts-number.is in
+    let u = c.loop-sieve.store in
+    let w = c.append_all.new.self in
+    let was = c.loop-sieve.invariant in
+    let e = c.in_ok-append_all.ensures.ok in
+    record {
+      entered = entered_one u w sieves c.args.number i s p there placed e was.entered;
+      fit = λ board fits fit. fit_joined board u w p.left e (was.fit board fits fit) (fits i s p there placed);
+      grows = grows_on c.args.store.now u w was.grows (grows_joined u w p.left e);
+    }
 
 pub returns-clause-entered : goal.returns-clause-entered
-returns-clause-entered g c =
-    let benches = c.args.benches.now in
-    let b = c.index-benches-number.result in
-    let here : slice_get benches c.args.number ≡ Some b =
-    slice_get_read benches (length benches) c.args.number b refl c.requires.within c.index-benches-number.is in
-    let cut = c.even-cut.result in
-    let busy = c.busy_sieves-busy.result in
-    let sieves = c.sift_beside.new.sieves in
-    let size : length sieves ≡ busy = c.sift_beside.ensures.many ∙ length-take-le busy c.args.sieves.now c.busy_sieves-busy.ensures.few in
-    let whole : stretch_start cut (length sieves) ≡ length b.more.seen =
-    ap (stretch_start cut) size ∙ (c.even-cut.ensures.all ∙ (c.len-finds.ensures ∙ (ap (λ (v : EntriesView). length v.seen) c.entries.ensures ∙
-    ap (λ (d : Bench). length d.more.seen) (sym c.index-benches-number.is)))) in
-    on_ok_three c.enter_each.result
-    (λ entered grows same before. bench_in c.args.aim.now.pruner.now c.args.aim.now.most c.args.store.now c.enter_each.new.store benches c.args.number b
-    cut sieves here c.even-cut.ensures.from whole c.sift_beside.ensures.sifted (c.are_sifted.ensures c.if-not-are_sifted.false) entered grows before)
-    c.enter_each.ensures.entered c.enter_each.ensures.grows c.enter_each.ensures.grows
-
-pub returns-clause-fit : goal.returns-clause-fit
-returns-clause-fit g c =
-    on_ok_weaker c.enter_each.result
-    (λ fit old. fit c.args.aim.now.pruner.now (sifted_fit c.args.aim.now.pruner.now c.args.aim.now.most c.args.benches.now c.args.number c.even-cut.result
-    c.sift_beside.new.sieves c.sift_beside.ensures.sifted (c.are_sifted.ensures c.if-not-are_sifted.false)) old)
-    c.enter_each.ensures.fit
+returns-clause-entered c = λ i s p lt at there k t seen.
+    c.loop-sieve.invariant.entered i s p (omega (arith, lt, c.loop-sieve-test.false)) at there k t seen

@@ -1,40 +1,32 @@
-use Rattle.std.proofs.Common.{◌≡◌, Some, refl, sym, ◌∙◌, length, arith}
-use Rattle.std.specs.Prelude.{slice_get}
-use Rattle.std.proofs.lemmas.Option.{slice_get_read}
-use Rattle.prover.proofs.Progressing.{fit_joined, grows_joined, grows_none, grows_on}
-use Rattle.prover.proofs.Sieves.{entered_one}
+use Rattle.std.proofs.Common.{refl, sym, subst, arith}
+use Rattle.prover.specs.inside.Sifting.{AreFor}
+use Rattle.prover.proofs.Progressing.{grows_none, grows_on}
+use Rattle.prover.proofs.Sieves.{entered_bench}
 use Rattle.prover.proofs.rounds.enter_each.Goals as goal
 
-pub append_all-requires : goal.append_all-requires
-append_all-requires c =
-    let sieves = c.args.sieves.now in
-    let s = c.sieve-item.result in
-    let there : slice_get sieves c.loop-sieve.sieve-index ≡ Some s =
-    slice_get_read sieves (length sieves) c.loop-sieve.sieve-index s refl c.loop-sieve-test.true c.sieve-item.is in
-    c.requires.boxes c.loop-sieve.sieve-index s there ∙ sym c.loop-sieve.invariant.grows.0
+pub enter_bench-requires-clause-boxes : goal.enter_bench-requires-clause-boxes
+enter_bench-requires-clause-boxes c = subst (λ n. AreFor n c.args.sieves.now) (sym c.loop-number.invariant.grows.0) c.requires.boxes
 
-pub loop-sieve-init : goal.loop-sieve-init
-loop-sieve-init c = record {
-  entered = λ i s lt at k t seen. absurd (omega (arith, lt));
-  fit = λ board are fit. fit;
+pub enter_bench-requires-clause-parts : goal.enter_bench-requires-clause-parts
+enter_bench-requires-clause-parts c = λ i s at. omega (arith, c.requires.parts i s at, c.loop-number-test.true)
+
+pub loop-number-init : goal.loop-number-init
+loop-number-init c = record {
+  entered = λ number lt. absurd (omega (arith, lt));
+  fit = λ board fits fit. fit;
   grows = grows_none c.args.store.now c.args.store.now refl;
 }
 
-pub loop-sieve-preserved : goal.loop-sieve-preserved
-loop-sieve-preserved c =
-    let sieves = c.args.sieves.now in
-    let s = c.sieve-item.result in
-    let i = c.loop-sieve.sieve-index in
-    let there : slice_get sieves i ≡ Some s = slice_get_read sieves (length sieves) i s refl c.loop-sieve-test.true c.sieve-item.is in
-    let u = c.loop-sieve.store in
-    let w = c.append_all.new.self in
-    let was = c.loop-sieve.invariant in
-    let e = c.in_ok-append_all.ensures.ok in
+pub loop-number-preserved : goal.loop-number-preserved
+loop-number-preserved c =
+    let was = c.loop-number.invariant in
+    let did = c.in_ok-enter_bench.ensures in
+    let number = c.loop-number.number in
     record {
-      entered = entered_one u w sieves i s there e was.entered;
-      fit = λ board fits fit. fit_joined board u w s.left e (was.fit board fits fit) (fits i s there);
-      grows = grows_on c.args.store.now u w was.grows (grows_joined u w s.left e);
+      entered = entered_bench c.loop-number.store c.enter_bench.new.store c.args.sieves.now number did.grows did.entered was.entered;
+      fit = λ board fits fit. did.fit board (fits number c.loop-number-test.true) (was.fit board fits fit);
+      grows = grows_on c.args.store.now c.loop-number.store c.enter_bench.new.store was.grows did.grows;
     }
 
 pub returns-clause-entered : goal.returns-clause-entered
-returns-clause-entered c = λ i s lt at k t seen. c.loop-sieve.invariant.entered i s (omega (arith, lt, c.loop-sieve-test.false)) at k t seen
+returns-clause-entered c = λ number lt. c.loop-number.invariant.entered number (omega (arith, lt, c.loop-number-test.false))

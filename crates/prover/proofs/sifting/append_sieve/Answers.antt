@@ -1,5 +1,4 @@
-use Rattle.std.proofs.Common.{sym, ap, subst}
-use Rattle.prover.specs.inside.Entries.{EntriesView}
+use Rattle.std.proofs.Common.{sym, subst}
 use Rattle.prover.specs.inside.Sifting.{AreFor}
 use Rattle.prover.proofs.Stretches.{for_push}
 use Rattle.prover.proofs.sifting.append_sieve.Goals as goal
@@ -9,4 +8,4 @@ returns-in_err-push-clause-boxes c = λ are. subst (AreFor c.args.boxes) (sym c.
 
 pub returns-clause-boxes : goal.returns-clause-boxes
 returns-clause-boxes c = λ are. subst (AreFor c.args.boxes) (sym c.in_ok-push.ensures.items)
-    (for_push c.args.boxes c.args.sieves.now.items _ (ap (λ (v : EntriesView). v.boxes) c.new-2.ensures) are)
+    (for_push c.args.boxes c.args.sieves.now.items _ c.in_ok-parts.ensures are)

@@ -9,8 +9,8 @@ loop-place-preserved c =
     let was = c.loop-place.invariant in
     let did = c.sift_one.ensures in
     record {
-      sieved = sieved_more c.args.pruner.now c.args.most c.args.earlier.now c.args.more.now.seen c.loop-place.sieve.left c.sift_one.new.sieve.left
-          c.args.span.from c.loop-place.place did.grows c.in_ok-sift_one.ensures.sieved was.sieved;
+      sieved = sieved_more c.args.stint.now.pruner.now c.args.stint.now.most c.args.earlier.now c.args.more.now.seen c.loop-place.part.left
+          c.sift_one.new.part.left c.args.span.from c.loop-place.place did.grows c.in_ok-sift_one.ensures.sieved was.sieved;
       fit = c.in_ok-sift_one.ensures.fit was.fit;
       boxes = did.grows.0 ∙ was.boxes;
     }

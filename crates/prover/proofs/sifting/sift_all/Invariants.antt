@@ -6,7 +6,7 @@ use Rattle.prover.proofs.sifting.sift_all.Given as goal
 
 abbrev pub invariant-loop-place : goal.invariant-loop-place
 invariant-loop-place l = record {
-  sieved : AreSieved l.pruner l.most l.earlier l.more.seen l.sieve.left.seen l.fn.span.from l.place;
-  fit : AllFit l.pruner l.sieve.left.seen;
-  boxes : l.sieve.left.boxes ≡ box_count l.pruner;
+  sieved : AreSieved l.stint.pruner.now l.stint.most l.earlier l.more.seen l.part.left.seen l.fn.span.from l.place;
+  fit : AllFit l.stint.pruner.now l.part.left.seen;
+  boxes : l.part.left.boxes ≡ box_count l.stint.pruner.now;
 }

@@ -21,9 +21,9 @@ returns-then-refused-clause-sieved c = λ x at.
     let y : Seen = record { scene = c.get-position.result.0; pushes = c.get-position.result.1 } in
     let here : slice_get c.args.more.now.seen c.args.place ≡ Some y =
     subst (λ (v : EntriesView). slice_get v.seen c.args.place ≡ Some y) c.entries-finds.ensures c.get-position.ensures in
-    let none : NoneWithin c.args.pruner.now (c.args.most - y.pushes) y.scene =
-    subst (λ (n : ℕ). NoneWithin c.args.pruner.now n y.scene) c.saturating_sub-left.ensures (c.refuses-refused.ensures c.if-refused.true) in
-    inr (inr (subst (λ (z : Seen). NoneWithin c.args.pruner.now (c.args.most - z.pushes) z.scene) (same_Some y x (sym here ∙ at)) none))
+    let none : NoneWithin c.args.stint.now.pruner.now (c.args.stint.now.most - y.pushes) y.scene =
+    subst (λ (n : ℕ). NoneWithin c.args.stint.now.pruner.now n y.scene) c.saturating_sub-left.ensures (c.refuses-refused.ensures c.if-refused.true) in
+    inr (inr (subst (λ (z : Seen). NoneWithin c.args.stint.now.pruner.now (c.args.stint.now.most - z.pushes) z.scene) (same_Some y x (sym here ∙ at)) none))
 
 pub refuses-refused-requires : goal.refuses-refused-requires
 refuses-refused-requires c =
@@ -46,7 +46,7 @@ returns-clause-sieved c =
     subst (λ (v : EntriesView). slice_get v.seen c.args.place ≡ Some y) c.entries-finds.ensures c.get-position.ensures in
     on_ok_weaker c.append.result
     (λ is x at. inl (subst (λ (z : Seen). IsSeen c.append.new.self.seen z.pushes z.scene) (same_Some y x (sym here ∙ at))
-    (last_seen c.args.sieve.now.left c.append.new.self y.scene y.pushes is)))
+    (last_seen c.args.part.now.left c.append.new.self y.scene y.pushes is)))
     c.append.ensures.ok
 
 pub returns-clause-fit : goal.returns-clause-fit
@@ -55,11 +55,11 @@ returns-clause-fit c =
     let here : slice_get c.args.more.now.seen c.args.place ≡ Some y =
     subst (λ (v : EntriesView). slice_get v.seen c.args.place ≡ Some y) c.entries-finds.ensures c.get-position.ensures in
     on_ok_weaker c.append.result
-    (λ is fit. fit_one c.args.pruner.now c.args.sieve.now.left c.append.new.self y.scene y.pushes is (c.requires.fit c.args.place y here) fit)
+    (λ is fit. fit_one c.args.stint.now.pruner.now c.args.part.now.left c.append.new.self y.scene y.pushes is (c.requires.fit c.args.place y here) fit)
     c.append.ensures.ok
 
 pub returns-clause-grows : goal.returns-clause-grows
 returns-clause-grows c =
     let y : Seen = record { scene = c.get-position.result.0; pushes = c.get-position.result.1 } in
-    entered_either c.args.sieve.now.left c.append.new.self y.scene y.pushes c.append.result (on_ok_weaker c.append.result (λ is. inr is) c.append.ensures.ok)
+    entered_either c.args.part.now.left c.append.new.self y.scene y.pushes c.append.result (on_ok_weaker c.append.result (λ is. inr is) c.append.ensures.ok)
     c.append.ensures.err
