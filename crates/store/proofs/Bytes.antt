@@ -1,8 +1,8 @@
 -- The rows of bytes of a key: how they are written, and what is read from them.
-use Rattle.std.proofs.Common.{◌≡◌, ℕ, zero, suc, ◌+◌, ◌*◌, ◌/◌, ◌%◌, ◌<◌, ◌≤◌, Bool, true, false, ◌&&◌, ◌==◌, inl, inr, List, [], ◌∷◌, ◌++◌, length}
+use Rattle.std.proofs.Common.{◌≡◌, ℕ, zero, suc, ◌+◌, ◌-◌, ◌*◌, ◌/◌, ◌%◌, ◌<◌, ◌≤◌, Bool, true, false, ◌&&◌, ◌==◌, inl, inr, List, [], ◌∷◌, ◌++◌, length}
 use Rattle.std.proofs.Common.{map, take, drop, set, fold, replicate, get_or, nat_eq, Some, add-one, refl, sym, ap, subst, ◌∙◌, arith}
 use Rattle.std.proofs.lemmas.Bool.Decides.{nat_tests}
-use Rattle.std.proofs.lemmas.List.{append_assoc, length-map, length-take-le}
+use Rattle.std.proofs.lemmas.List.{length-map, length-take-le, take_more_set, take-take}
 use Rattle.std.proofs.lemmas.Option.{same_Some}
 use lib.Pointwise.{pointwise, bytes_decides}
 use Rattle.std.specs.Prelude.{slice_get}
@@ -140,10 +140,37 @@ taken (y ∷ xs) (suc i) x at = ap (λ zs. y ∷ zs) (taken xs i x at)
 pub one_more : (xs ys more : List ℕ) (i x : ℕ) → ys ≡ take i xs → slice_get xs i ≡ Some x → more ≡ ys ++ x ∷ [] → more ≡ take (i + 1) xs
 one_more xs ys more i x e at is = is ∙ ap (λ zs. zs ++ x ∷ []) e ∙ sym (taken xs i x at) ∙ ap (λ k. take k xs) (sym (add-one i))
 
-pub one_pushed : (old xs ys more : List ℕ) (i x : ℕ) → ys ≡ old ++ take i xs → slice_get xs i ≡ Some x → more ≡ ys ++ x ∷ [] → more ≡ old ++ take (i + 1) xs
-one_pushed old xs ys more i x e at is =
-    is ∙ ap (λ zs. zs ++ x ∷ []) e ∙ append_assoc old (take i xs) (x ∷ []) ∙
-    ap (λ zs. old ++ zs) (sym (taken xs i x at) ∙ ap (λ k. take k xs) (sym (add-one i)))
+-- one more square was written to a row
+pub one_written : (row ys : List ℕ) (i x : ℕ) → take i row ≡ take i ys → slice_get ys i ≡ Some x → i < length row → take (i + 1) (set row i x) ≡ take (i + 1) ys
+one_written row ys i x e at lt = one_more ys (take i row) (take (i + 1) (set row i x)) i x e at (take_more_set row i x lt)
+
+pub behind_first : (xs : List ℕ) (i x : ℕ) → slice_get xs (i + 1) ≡ Some x → slice_get (drop 1 xs) i ≡ Some x
+behind_first xs i x at = go xs (ap (slice_get xs) (sym (add-one i)) ∙ at)
+  where
+    go : (ys : List ℕ) → slice_get ys (suc i) ≡ Some x → slice_get (drop 1 ys) i ≡ Some x
+    go [] e = cc
+    go (y ∷ []) e = cc
+    go (y ∷ z ∷ ys) e = e
+
+none_taken : (n : ℕ) → take {A = ℕ} n [] ≡ []
+none_taken zero = refl
+none_taken (suc n) = refl
+
+boxes_in : (count : ℕ) (all : List ℕ) → take count (drop 1 all) ≡ (scene_in count all).boxes
+boxes_in count [] = none_taken count
+boxes_in count (x ∷ []) = refl
+boxes_in count (x ∷ y ∷ ys) = refl
+
+-- the squares of the boxes were written to a row, and the player's after them
+pub all_written : (n count player : ℕ) (row all : List ℕ) (m : Scene) → take (n - 1) row ≡ take (n - 1) (drop 1 all) → count < n → length row ≡ n →
+    scene_in count all ≡ m → player ≡ m.player → take (count + 1) (set row count player) ≡ m.boxes ++ m.player ∷ []
+all_written n count player row all m e lt long view player_is =
+    take_more_set row count player (omega (arith, lt, long)) ∙ (λ i. boxes i ++ player_is i ∷ [])
+  where
+    boxes : take count row ≡ m.boxes
+    boxes =
+        sym (take-take count (n - 1) row (omega (arith, lt))) ∙ ap (take count) e ∙ take-take count (n - 1) (drop 1 all) (omega (arith, lt)) ∙
+        boxes_in count all ∙ ap (λ (s : Scene). s.boxes) view
 
 -- a key that was made of a position's squares shows it
 pub made : (n k count player : ℕ) (low high boxes : List ℕ) (m : Scene) → Suits n k m → boxes ≡ m.boxes → player ≡ m.player → is_rising boxes ≡ true →

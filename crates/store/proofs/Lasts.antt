@@ -19,7 +19,8 @@ use Rattle.store.specs.Entering.{offered}
 use Rattle.store.specs.FoundView.{IsFound, NoneExceed, is_least, keeps, let_in, open_of, seen_of}
 use Rattle.store.proofs.lemmas.Origins.{origin_total}
 use Rattle.store.proofs.lemmas.Offers.{origin-listed, same_flipped, same_true}
-use Rattle.store.proofs.Tails.{as_closed, below, joined, least_first, let_in_put, look_rest, no_some, not_greater, placed, seen_at}
+use Rattle.store.proofs.Tails.{as_closed, below, joined, let_in_put, look_rest, no_some, placed, seen_at}
+use Rattle.store.proofs.RisingOrigins.{least_first, not_greater}
 
 order : IsTotalOrder (origin_cmp push_cmp)
 order = origin_total push_cmp_total

@@ -1,7 +1,9 @@
 pub mod lemmas
 pub mod Packing
 pub mod Tails
+pub mod RisingOrigins
 pub mod Inboxes
+pub mod Strays
 pub mod Exchanging
 pub mod DealtOffers
 pub mod Bytes

@@ -20,24 +20,11 @@ pub(crate) fn copy_entry<const N: usize, const M: usize>(
     requires { (N ≤ MAX_BOXES + 1) × (M ≤ MAX_BOXES + 1) }
     ensures { OnOk result (IsCopied (key.now, origin) squares.old.items squares.new.items origins.old.items origins.new.items) }
 {
-    copy_boxes(key, squares)?;
-    squares.push(key.player())?;
+    let mut row = [Square(0); N];
+    let count = key.write_squares(&mut row);
+    squares.extend_from_slice(&row[..count])?;
     if let Some(origin) = origin.get() {
         origins.push(origin)?;
-    }
-    Ok(())
-}
-
-// Appends the boxes' squares of a position.
-fn copy_boxes<const N: usize, const M: usize>(
-    key: &Key<N, M>,
-    squares: &mut Vec<Square>,
-) -> Result<(), AllocError>
-    requires { (N ≤ MAX_BOXES + 1) × (M ≤ MAX_BOXES + 1) }
-    ensures { OnOk result (squares.new.items ≡ squares.old.items ++ key.now.boxes) }
-{
-    for place in 0..key.len() {
-        squares.push(key.box_at(place))?;
     }
     Ok(())
 }

@@ -1,6 +1,6 @@
 //! Positions in as few bytes as their boxes and their grid want, which is what a book holds.
-ghost use Rattle.std.specs.Prelude.{◌≡◌, ◌+◌, ◌*◌, ◌/◌, ◌%◌, ◌<◌, ◌≤◌, ◌==◌, ◌&&◌, ◌∷◌};
-ghost use Rattle.std.specs.Prelude.{Some, length, nat_eq, replicate, slice_get, true};
+ghost use Rattle.std.specs.Prelude.{◌≡◌, ◌+◌, ◌-◌, ◌*◌, ◌/◌, ◌%◌, ◌<◌, ◌≤◌, ◌==◌, ◌&&◌, ◌∷◌, [], ◌++◌};
+ghost use Rattle.std.specs.Prelude.{Some, drop, length, nat_eq, replicate, slice_get, take, true};
 ghost use Rattle.grid.specs.Rising.{is_rising};
 ghost use Rattle.std.specs.Cmp.Lexicographic.{pointwise};
 ghost use Rattle.store.specs.Entries.{same_scene};
@@ -112,6 +112,21 @@ impl<const N: usize, const M: usize> Key<N, M> {
         square_at(&self.low, &self.high, place + 1)
     }
 
+    /// Writes the squares of the boxes, and after them the player's, to a row of as many places as the low bytes have, and says how
+    /// many they are. However few the boxes are, as much of the row is written, so that several squares are made at once.
+    #[inline(always)]
+    pub(crate) fn write_squares(&self, row: &mut [Square]) -> usize
+        requires { length row.old ≡ N }
+        ensures squares { take result row.new ≡ self.now.boxes ++ self.now.player ∷ [] }
+        ensures room { (result ≤ N) × (length row.new ≡ N) }
+    {
+        let count = self.len();
+        write_boxes(row, &self.low, &self.high);
+        let player = self.player();
+        row[count] = player;
+        count + 1
+    }
+
     /// The player's square.
     pub(crate) fn player(&self) -> Square
         ensures { result ≡ self.now.player }
@@ -150,6 +165,20 @@ fn write_high(row: &mut [u8], boxes: &[Square], player: Square)
     for (place, square) in boxes.iter().enumerate() {
         let byte = high_byte(*square);
         row[place + 1] = byte;
+    }
+}
+
+// Writes the squares of two rows of bytes to another row, but for the first, which is the player's.
+#[inline(always)]
+fn write_boxes(row: &mut [Square], low: &[u8], high: &[u8])
+    requires some { 0 < length low.now }
+    requires room { length row.old ≡ length low.now }
+    ensures squares { take (length low.now - 1) row.new ≡ take (length low.now - 1) (drop 1 (joined_bytes low.now high.now)) }
+    ensures room { length row.new ≡ length row.old }
+{
+    for place in 0..low.len() - 1 {
+        let square = square_at(low, high, place + 1);
+        row[place] = square;
     }
 }
 

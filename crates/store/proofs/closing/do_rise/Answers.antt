@@ -6,7 +6,8 @@ use Rattle.store.specs.Entries.{Origin, Entry, origin_cmp, Closed}
 use Rattle.store.specs.Entering.{RiseByOrigin}
 use Rattle.store.specs.FoundView.{NoneExceed, open_of, open_entry}
 use Rattle.successors.proofs.lemmas.Lists.{take_short}
-use Rattle.store.proofs.Tails.{entry_at, open_none, open_more, rise_none, rise_more}
+use Rattle.store.proofs.Tails.{entry_at, open_none, open_more}
+use Rattle.store.proofs.RisingOrigins.{rise_none, rise_more}
 use Rattle.store.proofs.closing.do_rise.Goals as goal
 
 pub loop-place-init : goal.loop-place-init

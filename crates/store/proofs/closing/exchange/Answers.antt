@@ -3,7 +3,8 @@ use Rattle.std.proofs.lemmas.List.Edits.{length-swap}
 use Rattle.std.proofs.lemmas.Option.{slice_get_read}
 use Rattle.std.specs.Prelude.{slice_get}
 use Rattle.std.specs.List.{swap}
-use Rattle.store.proofs.Exchanging.{IsExchanged, strays, one_exchanged, all_exchanged, fewer}
+use Rattle.store.proofs.Exchanging.{IsExchanged, one_exchanged, all_exchanged}
+use Rattle.store.proofs.Strays.{strays, fewer}
 use Rattle.store.proofs.closing.exchange.Goals as goal
 
 pub overflow_add-start : goal.overflow_add-start

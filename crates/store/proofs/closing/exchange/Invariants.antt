@@ -1,5 +1,6 @@
 use Rattle.std.proofs.Common.{◌+◌, ◌-◌, length}
-use Rattle.store.proofs.Exchanging.{IsExchanged, strays}
+use Rattle.store.proofs.Exchanging.{IsExchanged}
+use Rattle.store.proofs.Strays.{strays}
 use Rattle.store.proofs.closing.exchange.Given as goal
 
 abbrev pub invariant-loop-place : goal.invariant-loop-place
