@@ -22,11 +22,8 @@ use std::sync::Wait;
 // The greatest number of ranks of a lot.
 pub(crate) const MOST: u64 = 16;
 
-// So many times as many ranks as a lot is to have it gets at most, while its worker would wait for a book.
+// So many times as many ranks as a lot is to have it gets at most, while its worker would wait for a book, but for the greatest lots.
 pub(crate) const AHEAD: usize = 2;
-
-// The greatest number of ranks that a lot is to have.
-const USUAL: u64 = MOST / AHEAD as u64;
 
 // A lot is to have one of so many parts of the ranks that are left, as far as it may have as many.
 const PARTS: u64 = 64;
@@ -207,7 +204,7 @@ fn shares_of(books: usize) -> u8 {
 fn lot_size(left: u64) -> usize
     ensures { 0 < result }
 {
-    (left / PARTS).clamp(1, USUAL) as usize
+    (left / PARTS).clamp(1, MOST) as usize
 }
 
 // How many ranks a lot is to have that has so many: where it gets its first one, what those tell that are left, as far as there
