@@ -14,6 +14,9 @@ use std::marker::Model;
 /// How many values a byte has. Where a grid has no more squares, the number of each is in its low byte.
 pub(crate) const BYTE_SQUARES: usize = 256;
 
+/// A row of so many bytes is short.
+const SHORT: usize = 4;
+
 /// A position of fewer than `N` boxes: the low bytes of the player's square and of the boxes', in rising order, and as many high
 /// bytes, or none where they are all 0. Zeros fill the rows.
 #[derive(Debug, Drop)]
@@ -48,8 +51,7 @@ impl<const N: usize, const M: usize> Key<N, M> {
         let player = position.player();
         let mut low = [0; N];
         let mut high = [0; M];
-        write_low(&mut low, boxes, player);
-        write_high(&mut high, boxes, player);
+        write_rows(&mut low, &mut high, boxes, player);
         Key {
             boxes: boxes.len() as u8,
             low,
@@ -132,6 +134,47 @@ impl<const N: usize, const M: usize> Key<N, M> {
         ensures { result ≡ self.now.player }
     {
         square_at(&self.low, &self.high, 0)
+    }
+}
+
+// Writes the low bytes of squares to the beginning of a row of zeros, and the high ones to that of another, if there is one.
+#[inline(always)]
+fn write_rows(low: &mut [u8], high: &mut [u8], boxes: &[Square], player: Square)
+    requires low { low.old ≡ replicate (length low.old) 0 }
+    requires high { high.old ≡ replicate (length high.old) 0 }
+    requires room { length boxes.now < length low.old }
+    requires high_room { 0 < length high.old → length boxes.now < length high.old }
+    ensures low { low.new ≡ padded (length low.old) (low_bytes (player ∷ boxes.now)) }
+    ensures high { high.new ≡ padded (length high.old) (high_bytes (player ∷ boxes.now)) }
+{
+    if low.len() == SHORT && high.len() == SHORT {
+        write_short(low, high, boxes, player);
+        return;
+    }
+    write_low(low, boxes, player);
+    write_high(high, boxes, player);
+}
+
+// The same where both rows are short. That the squares are few is said once more, so that the compiler makes no loop of many bytes at
+// once for them.
+#[inline(always)]
+fn write_short(low: &mut [u8], high: &mut [u8], boxes: &[Square], player: Square)
+    requires low { low.old ≡ padded SHORT [] }
+    requires high { high.old ≡ padded SHORT [] }
+    requires room { length boxes.now < SHORT }
+    ensures low { low.new ≡ padded SHORT (low_bytes (player ∷ boxes.now)) }
+    ensures high { high.new ≡ padded SHORT (high_bytes (player ∷ boxes.now)) }
+{
+    let first = low_byte(player);
+    let first_high = high_byte(player);
+    low[0] = first;
+    high[0] = first_high;
+    for place in 0..boxes.len().min(SHORT - 1) {
+        let square = boxes[place];
+        let byte = low_byte(square);
+        let most = high_byte(square);
+        low[place + 1] = byte;
+        high[place + 1] = most;
     }
 }
 
