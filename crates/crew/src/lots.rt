@@ -1,10 +1,10 @@
 //! The lots of ranks that a worker draws at a time, and their parcels.
-ghost use Rattle.std.specs.Prelude.{◌≡◌, ◌+◌, ◌<◌, ◌≤◌, [], ◌∷◌, ◌++◌, true, false, IfErr, IfOk, OnOk, length, slice_set, vec_capacity};
-ghost use Rattle.crew.specs.Work.{EndsWith};
+ghost use Rattle.std.specs.Prelude.{◌≡◌, ℕ, ◌+◌, ◌<◌, ◌≤◌, [], ◌∷◌, ◌++◌, true, false, IfErr, IfOk, OnOk, length, slice_set, vec_capacity};
+ghost use Rattle.crew.specs.Work.{EndsWith, IsAtPlace};
 ghost use Rattle.crew.specs.declared.end.End.TheVariants.{Drained};
 ghost use Rattle.crew.specs.inside.Ends.{HasEnded, IsReady};
 ghost use Rattle.crew.specs.inside.Events.{Works, WorksUntil};
-ghost use Rattle.crew.specs.inside.Lots.{IsGrown, IsOfRank, IsPut};
+ghost use Rattle.crew.specs.inside.Lots.{AreDrawn, ArePut, AreRanks, IsGrown, IsOfRank, IsPut};
 ghost use Rattle.crew.specs.inside.Shifts.{answers_to};
 ghost use Rattle.successors.specs.ParcelView.{ParcelView};
 
@@ -139,8 +139,11 @@ impl<'a> Lot<'a> {
         self.filled = 0;
     }
 
-    /// Draws one more rank, and puts its parcel behind the others; `false` where the lot has so many times as many as it is to
-    /// have, or as there is room for, or no rank is left.
+    /// Draws one more rank, or all that the lot lacks where `times` is 1, and puts their parcels behind the others; `false` where
+    /// the lot has so many times as many as it is to have, or as there is room for, or no rank is left.
+    ///
+    /// The ranks are drawn one directly after the other, and only then expanded, so that the word that all workers draw them from
+    /// comes to this processor once for all of them and not once for each.
     pub(crate) fn draw_more<R: Wait, G: Gate>(
         &mut self,
         post: &Post<'_, '_, '_, 'a, R, G>,
@@ -151,7 +154,7 @@ impl<'a> Lot<'a> {
     ) -> Result<bool, End>
         requires ready { IsReady post.now.shift.now post.now.worker scratch.old drawer.old }
         ensures grown { IfOk result (λ more. IsGrown post.now.shift.now.layer drawer.old.hand self.old self.new drawer.new.hand) }
-        ensures more { IfOk result (λ more. more ≡ true → length self.new ≡ length self.old + 1) }
+        ensures more { IfOk result (λ more. more ≡ true → length self.old < length self.new) }
         ensures no_more { IfOk result (λ more. more ≡ false → (self.new ≡ self.old) × (self.new ≡ [] → EndsWith post.now.worker drawer.new.hand Drained)) }
         ensures ends { IfErr result (λ end. HasEnded G.may_stop post.now.shift.now.layer post.now.worker drawer.new.hand end) }
         ensures works { OnOk result (Works (answers_to G.may_answer post.now.shift.now post.now.worker) 0 drawer.old.hand nth.old drawer.new.hand nth.new) }
@@ -176,8 +179,14 @@ impl<'a> Lot<'a> {
             shift.layer.len() - rank,
             self.parcels.capacity(),
         );
-        put(shift, rank, scratch, &mut self.parcels, place, self.shares);
-        self.filled = place + 1;
+        let mut ranks = [0; MOST as usize];
+        let wanted = more_at_once(place + 1, self.size, times);
+        let count = draw_ranks(post, drawer, nth, &mut ranks[..wanted])?;
+        let parcels = &mut self.parcels;
+        let shares = self.shares;
+        put(shift, rank, scratch, parcels, place, shares);
+        put_each(shift, &ranks[..count], scratch, parcels, place + 1, shares);
+        self.filled = place + 1 + count;
         Ok(true)
     }
 }
@@ -217,6 +226,70 @@ fn size_at(place: usize, size: usize, left: u64, room: usize) -> usize
         lot_size(left).min(room)
     } else {
         size
+    }
+}
+
+// How many ranks more a lot gets at once that has so many, is to have so many, and may get so many times as many: all that it lacks
+// where it may get no more than those. Else none, since its worker is then about to wait for a book, and asks for it again after
+// each rank.
+fn more_at_once(filled: usize, size: usize, times: usize) -> usize
+    ensures few { result ≤ MOST }
+    ensures fits { (room : ℕ) → filled ≤ room → size ≤ room → filled + result ≤ room }
+{
+    if times == 1 {
+        size.saturating_sub(filled).min(MOST as usize)
+    } else {
+        0
+    }
+}
+
+// Draws ranks one directly after the other, and puts them into the places of a slice, in order, until it is full or no rank is left.
+// It answers how many these are.
+fn draw_ranks<R: Wait, G: Gate>(
+    post: &Post<'_, '_, '_, '_, R, G>,
+    drawer: &mut Drawer,
+    nth: &mut u64,
+    ranks: &mut [u64],
+) -> Result<usize, End>
+    requires place { IsAtPlace post.now.shift.now.ledger post.now.worker drawer.old }
+    ensures drawn { IfOk result (λ count. AreDrawn post.now.shift.now.layer drawer.old.hand count ranks.new drawer.new.hand) }
+    ensures all { IfOk result (λ count. count < length ranks.new → EndsWith post.now.worker drawer.new.hand Drained) }
+    ensures ends { IfErr result (λ end. HasEnded G.may_stop post.now.shift.now.layer post.now.worker drawer.new.hand end) }
+    ensures works { OnOk result (Works (answers_to G.may_answer post.now.shift.now post.now.worker) 0 drawer.old.hand nth.old drawer.new.hand nth.new) }
+    ensures gate { IfErr result (λ end. WorksUntil (answers_to G.may_answer post.now.shift.now post.now.worker)
+        0 drawer.old.hand nth.old drawer.new.hand nth.new end) }
+    ensures place { IsAtPlace post.now.shift.now.ledger post.now.worker drawer.new }
+{
+    for place in 0..ranks.len() {
+        match draw(post, drawer, nth) {
+            Ok(rank) => ranks[place] = rank,
+            Err(End::Drained) => return Ok(place),
+            Err(other) => return Err(other),
+        }
+    }
+    Ok(ranks.len())
+}
+
+// Makes the parcels of ranks, in order, those in the places of a list from one on, or behind its last one, where there is room,
+// and deals their successors to so many shares.
+fn put_each<'a, G: Gate>(
+    shift: &Shift<'_, 'a, G>,
+    ranks: &[u64],
+    scratch: &mut Scratch,
+    parcels: &mut Vec<Parcel<'a>>,
+    place: usize,
+    shares: u8,
+)
+    requires within { AreRanks shift.now.layer ranks.now }
+    requires room { scratch.old.size ≡ length shift.now.layer.level.board.cells }
+    requires place { place ≤ length parcels.old.items }
+    requires capacity { place + length ranks.now ≤ vec_capacity parcels.old }
+    ensures put { ArePut shift.now.layer ranks.now (length ranks.now) place parcels.old.items parcels.new.items }
+    ensures capacity { vec_capacity parcels.new ≡ vec_capacity parcels.old }
+    ensures size { scratch.new.size ≡ scratch.old.size }
+{
+    for (offset, rank) in ranks.iter().enumerate() {
+        put(shift, *rank, scratch, parcels, place + offset, shares);
     }
 }
 
