@@ -12,7 +12,7 @@ use Rattle.crew.specs.Work.{DrawEnds, IsOfLayer}
 use Rattle.crew.specs.declared.end.End.{End}
 use Rattle.crew.specs.declared.end.End.TheVariants.{Drained, Foreign, NoPlace, Refused, Stopped}
 use Rattle.crew.specs.inside.Ends.{HasEnded}
-use Rattle.crew.specs.inside.Lots.{AreDrawn, AreOfLayer, ArePut, AreRanks, IfDrained, IsGrown, IsLot, IsPut}
+use Rattle.crew.specs.inside.Lots.{AreDrawn, AreOfLayer, ArePut, AreRanks, IfDrained, IsGrown, IsPut}
 
 -- ---- parcels
 
@@ -37,18 +37,6 @@ rank_more layer (x ∷ xs) r of it zero q at = of 0 q at
 rank_more layer (x ∷ xs) r of it (suc i) q at = rank_more layer xs r (λ j s e. of (suc j) s e) it i q at
 
 -- ---- lots
-
--- one more rank is drawn, and its parcel put behind the others
-pub one_more : (layer : LayerView) (before : Hand) (filled : ℕ) (parcels more : List ParcelView) (hand after : Hand) (rank : ℕ) →
-    IsLot layer before (take filled parcels) hand → after.numbers ≡ hand.numbers ++ rank ∷ [] → IsPut layer rank filled parcels more →
-    IsLot layer before (take (filled + 1) more) after
-one_more layer before filled parcels more hand after rank so drew (parcel, of, is, long) =
-    let xs = take filled parcels in let rank_of : ParcelView → ℕ = λ p. p.rank in record {
-      of = subst (AreOfLayer layer) (sym is) (of_more layer xs parcel so.of of.0);
-      drawn = drew ∙ ap (λ (ns : List ℕ). ns ++ rank ∷ []) so.drawn ∙ append_assoc before.numbers (map rank_of xs) (rank ∷ [])
-          ∙ ap (λ (ns : List ℕ). before.numbers ++ ns) (ap (λ r. map rank_of xs ++ r ∷ []) (sym of.1) ∙ sym (map-append rank_of xs (parcel ∷ []))
-          ∙ ap (map rank_of) (sym is));
-    }
 
 -- one more rank is drawn into the next place of a list
 pub drawn_more : (layer : LayerView) (before hand after : Hand) (place rank : ℕ) (ranks : List ℕ) → AreDrawn layer before place ranks hand →
