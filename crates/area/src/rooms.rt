@@ -138,7 +138,8 @@ pub(crate) fn array_of<const W: usize>(words: &[u64]) -> [u64; W]
     array
 }
 
-// Visits each word once; says whether one grew.
+// Visits each word once; says whether one grew. The visits stand one after the other, since a loop of two is not always taken apart
+// where it is compiled, and then the words leave their registers.
 #[inline(always)]
 pub(crate) fn round<const W: usize>(cols: usize, free: &[u64; W], words: &mut [u64; W]) -> bool
     requires columns { 1 ≤ cols }
@@ -146,11 +147,15 @@ pub(crate) fn round<const W: usize>(cols: usize, free: &[u64; W], words: &mut [u
     requires few { W ≤ 2 }
     ensures { IsRound cols free.now words.old words.new result }
 {
-    let mut grew = false;
-    for place in 0..W {
-        grew |= visit_few(cols, free, words, place);
+    if W == 0 {
+        return false;
     }
-    grew
+    let first = visit_few(cols, free, words, 0);
+    if W == 1 {
+        return first;
+    }
+    let second = visit_few(cols, free, words, 1);
+    first | second
 }
 
 // Adds to one word the free numbers beside the set, and some of those that steps within the word lead to from there; says

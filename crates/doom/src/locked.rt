@@ -112,7 +112,7 @@ pub(crate) fn peel_words(holds: &Holds, cols: usize, members: &mut [u64]) -> boo
 
 // Takes out of one word the squares that are not held; says whether one went. In large rooms most words have none.
 #[inline(always)]
-fn peel_word(holds: &Holds, cols: usize, members: &mut [u64], place: usize) -> bool
+pub(crate) fn peel_word(holds: &Holds, cols: usize, members: &mut [u64], place: usize) -> bool
     requires place { place < length members.old }
     requires holds { HaveRoom holds.now (length members.old) }
     ensures { IsLook holds.now cols place members.old members.new result }

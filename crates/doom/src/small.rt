@@ -3,10 +3,10 @@ ghost use Rattle.std.specs.Prelude.{◌≡◌, ℕ, ◌*◌, ◌<◌, ◌≤◌,
 ghost use Rattle.grid.specs.Masks.{has_bit, word_count};
 ghost use Rattle.grid.specs.Squares.{Squares, contains, insert, remove};
 ghost use Rattle.area.specs.Words.{squares_of};
-ghost use Rattle.doom.specs.inside.Locking.{AreLocked, HaveRoom, TellsLocked};
+ghost use Rattle.doom.specs.inside.Locking.{AreLocked, HaveRoom, IsPass, TellsLocked};
 
 use crate::holds::Holds;
-use crate::locked::{is_other_word, peel_words};
+use crate::locked::{is_other_word, peel_word, peel_words};
 use area::Scratch;
 use area::bits::{put, take_out};
 use grid::{Level, Square, WORD_BITS};
@@ -87,24 +87,46 @@ fn is_locked<const W: usize>(
     put(to, &mut moved);
     let mut pushed = [0; W];
     put(to, &mut pushed);
-    has_locked_round(holds, cols, &pushed, &mut moved)
+    has_locked_round::<W>(holds, cols, &pushed, &mut moved)
 }
 
 // Whether some squares of the set are locked, where none are without one of another set.
 #[inline(always)]
-fn has_locked_round(holds: &Holds, cols: usize, pushed: &[u64], members: &mut [u64]) -> bool
-    requires holds { HaveRoom holds.now (length members.old) }
-    requires room { length pushed.now ≡ length members.old }
+fn has_locked_round<const W: usize>(
+    holds: &Holds,
+    cols: usize,
+    pushed: &[u64; W],
+    members: &mut [u64; W],
+) -> bool
+    requires holds { HaveRoom holds.now W }
     requires round { (part : Squares) → AreLocked holds.now cols (squares_of members.old) part →
         (q : ℕ) × (has_bit pushed.now q ≡ true) × (contains part q ≡ true) }
     ensures { TellsLocked holds.now cols (squares_of members.old) result }
 {
-    while peel_words(holds, cols, members) {
+    while peel_few(holds, cols, members) {
         if !meets(pushed, members) {
             return false;
         }
     }
     is_other_word(members, holds.goals.as_words())
+}
+
+// Looks at each word once, and takes out the squares that are not held; says whether one went. Of one word or two the looks stand one
+// after the other, so that they stay in registers.
+#[inline(always)]
+fn peel_few<const W: usize>(holds: &Holds, cols: usize, members: &mut [u64; W]) -> bool
+    requires holds { HaveRoom holds.now W }
+    ensures { IsPass holds.now cols members.old members.new result }
+{
+    if W == 1 {
+        return peel_word(holds, cols, members, 0);
+    }
+    if W == 2 {
+        let first = peel_word(holds, cols, members, 0);
+        let second = peel_word(holds, cols, members, 1);
+        return first | second;
+    }
+    peel_words(holds, cols, members)
 }
 
 // Whether two sets have a square in common.

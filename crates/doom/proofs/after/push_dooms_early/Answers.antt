@@ -1,5 +1,5 @@
-use Rattle.std.proofs.Common.{◌≡◌, ◌<◌, ◌↔◌, ℕ, true, false, length, refl, sym, subst, inr}
-use Rattle.grid.specs.Board.{Board, is_wall, next}
+use Rattle.std.proofs.Common.{◌≡◌, ◌<◌, ℕ, true, length, refl, sym, subst, inr}
+use Rattle.grid.specs.Board.{Board, next}
 use Rattle.grid.specs.Squares.{Squares, contains, insert, remove}
 use Rattle.grid.proofs.lemmas.Squares.{contains-insert_here}
 use Rattle.grid.proofs.lemmas.Steps.{inside_grid}

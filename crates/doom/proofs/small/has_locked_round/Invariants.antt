@@ -4,7 +4,7 @@ use Rattle.doom.proofs.Passes.{IsPeeling}
 use Rattle.doom.proofs.small.has_locked_round.Given as goal
 
 abbrev pub invariant-loop-members : goal.invariant-loop-members
-invariant-loop-members l = IsPeeling l.holds l.cols (squares_of l.fn.members) (squares_of l.members)
+invariant-loop-members g l = IsPeeling l.holds l.cols (squares_of l.fn.members) (squares_of l.members)
 
 abbrev pub decreases-loop-members : goal.decreases-loop-members
-decreases-loop-members l = weight l.members
+decreases-loop-members g l = weight l.members
