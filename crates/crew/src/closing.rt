@@ -18,7 +18,7 @@ use std::thread::Threads;
 
 // The least number of positions of a layer after which the books close side by side. After fewer a close takes less time
 // than the start of a thread.
-const SIDE_BY_SIDE: u64 = 4096;
+pub(crate) const SIDE_BY_SIDE: u64 = 4096;
 
 // So many books close side by side at most: each takes memory to sort what it closes, and threads keep some of theirs.
 const MOST: u8 = 4;
@@ -44,35 +44,27 @@ pub(crate) fn finish_all<R: Threads + Sync, G: Gate>(
     // the caller's own number is the last one
     let own = terms.config.workers;
     let within = do_rest(books, layer, terms.pruner, scratch, own, terms.config.limit)?;
-    let Some(left) = within else {
+    if within.is_none() {
         return Ok(Worked::Over);
-    };
-    close_side_by_side(rt, books, layer, own, left);
+    }
+    close_side_by_side(rt, books, layer, own);
     let worked = finish_rest(books, layer, terms.pruner, scratch, own)?;
     Ok(worked)
 }
 
 // Where the layer is large, closes the next one in each of the books whose ranks are all done, as many of them side by side as
-// there are workers, and each takes room ahead for its part of what the limit leaves at most. A book that is refused memory stays as
-// it was.
-fn close_side_by_side<R: Threads + Sync>(
-    rt: &R,
-    books: &mut [Book],
-    layer: &Layer,
-    workers: u8,
-    left: u64,
-)
+// there are workers. A book that is refused memory stays as it was.
+fn close_side_by_side<R: Threads + Sync>(rt: &R, books: &mut [Book], layer: &Layer, workers: u8)
     ensures { MayBeClosedEach books.old books.new }
 {
     if books.len() < 2 || layer.len() < SIDE_BY_SIDE {
         return;
     }
-    let room = left / books.len() as u64;
-    close_in_turns(rt, books, workers.clamp(1, MOST) as usize, room);
+    close_in_turns(rt, books, workers.clamp(1, MOST) as usize);
 }
 
 // Closes the next layer in each of the books whose ranks are all done, in so many of them side by side.
-fn close_in_turns<R: Threads + Sync>(rt: &R, books: &mut [Book], many: usize, room: u64)
+fn close_in_turns<R: Threads + Sync>(rt: &R, books: &mut [Book], many: usize)
     requires { 1 ≤ many }
     ensures { MayBeClosedEach books.old books.new }
 {
@@ -80,12 +72,12 @@ fn close_in_turns<R: Threads + Sync>(rt: &R, books: &mut [Book], many: usize, ro
         return;
     }
     let (next, rest) = books.split_at_mut(many.min(books.len()));
-    close_each(rt, next, room);
-    close_in_turns(rt, rest, many, room);
+    close_each(rt, next);
+    close_in_turns(rt, rest, many);
 }
 
 // Closes the next layer in each of the books whose ranks are all done, each in a thread of its own where one can be started.
-fn close_each<R: Threads + Sync>(rt: &R, books: &mut [Book], room: u64)
+fn close_each<R: Threads + Sync>(rt: &R, books: &mut [Book])
     ensures { MayBeClosedEach books.old books.new }
 {
     for_each_spread(
@@ -93,6 +85,6 @@ fn close_each<R: Threads + Sync>(rt: &R, books: &mut [Book], room: u64)
         books,
         &|_, book: &mut Book|
             ensures { MayBeClosed book.entry.now book.exit.now }
-        { close_ahead(book, room) },
+        { close_ahead(book) },
     );
 }

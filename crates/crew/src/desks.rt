@@ -100,9 +100,15 @@ impl<'a> Desks<'a> {
             ledger: loan.ledger,
             gate: &within,
             held: &held,
+            room: room_of_each(loan),
         };
         work_first(rt, self.desks.as_mut_slice(), &shift, drawer);
     }
+}
+
+// For how many positions more each book may make room: its part of what the limit leaves.
+fn room_of_each(loan: &Loan<'_>) -> u64 {
+    u64::from(loan.limit).saturating_sub(loan.positions) / (loan.books.len() as u64).max(1)
 }
 
 // Desks for so many workers over so many books, or for as many as memory can be had for.

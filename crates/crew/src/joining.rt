@@ -4,6 +4,7 @@ ghost use Rattle.layers.specs.Books.{AreAllShares, IsJoinOf};
 ghost use Rattle.layers.specs.inside.Merging.{IsStretchOf};
 ghost use Rattle.crew.specs.inside.Stretched.{AreStretchesOf};
 
+use grid::Square;
 use layers::{Book, JoinFault, Layer, Stretch};
 use solo::turn::last_layer;
 use spreading::for_each_spread;
@@ -24,28 +25,30 @@ const LEAST_OF_A_TURN: usize = 65536;
 
 // The last layer that the books have closed, which are all the shares in order. Where it is large it is merged in as many
 // stretches as there are workers, each in a thread of its own where one can be started, and a very large one in several
-// turns. The only error is that memory was refused.
+// turns. Its squares take the memory that those of the layer before took, as far as that goes. The only error is that memory was
+// refused.
 pub(crate) fn join_layer<R: Threads + Sync>(
     rt: &R,
     alloc: Global,
     books: &[Book],
     workers: u8,
+    room: Vec<Square>,
 ) -> Result<Layer, AllocError>
     requires { AreAllShares books.now }
     ensures { IfOk result (λ layer. IsJoinOf books.now layer) }
 {
     if workers < 2 {
-        return last_layer(alloc, books);
+        return last_layer(alloc, books, room);
     }
     let many = workers.min(MOST) as usize;
     let turns = Stretch::parts(books, TURNS, LEAST_OF_A_TURN).max(1);
     let most = turns.saturating_mul(many);
-    let Ok(mut stretches) = Stretch::all(alloc, books, most, LEAST) else {
-        return last_layer(alloc, books);
+    let Ok(mut stretches) = Stretch::all(alloc, books, most, LEAST, room) else {
+        return last_layer(alloc, books, Vec::new(alloc));
     };
     let stretches = stretches.as_mut_slice();
     if stretches.is_empty() {
-        return last_layer(alloc, books);
+        return last_layer(alloc, books, Vec::new(alloc));
     }
     join_side_by_side(rt, alloc, books, stretches, many)
 }

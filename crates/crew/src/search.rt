@@ -122,6 +122,7 @@ fn all_turns<R: Threads + Wait + Sync, G: Gate + Sync>(
     let mut history = History {
         trail: Vec::new(terms.alloc),
         positions: 0,
+        room: Vec::new(terms.alloc),
     };
     let mut books = first;
     loop {

@@ -20,6 +20,8 @@ pub(crate) struct Shift<'s, 'a, G: Gate> {
     pub(crate) gate: &'s G,
     // how many positions the books hold together, as the workers tell
     pub(crate) held: &'s AtomicU64,
+    // for how many positions more each book may make room ahead
+    pub(crate) room: u64,
 }
 
 impl<'s, 'a, G: Gate> Model for Shift<'s, 'a, G> {

@@ -3,6 +3,7 @@ use crate::config::Config;
 use crate::desks::Desks;
 use crate::gate::Gate;
 use area::Scratch;
+use grid::Square;
 use layers::{Parents, Pruner};
 use std::alloc::Global;
 
@@ -15,11 +16,13 @@ pub(crate) struct Terms<'s, G: Gate> {
     pub(crate) gate: &'s G,
 }
 
-/// The layers that were looked at: the parents of the positions of each, and how many positions they have together.
+/// The layers that were looked at: the parents of the positions of each, how many positions they have together, and the memory that
+/// the last one's squares took.
 #[derive(Drop)]
 pub(crate) struct History {
     pub(crate) trail: Vec<Parents>,
     pub(crate) positions: u64,
+    pub(crate) room: Vec<Square>,
 }
 
 /// Who works on the layers of a level: the caller in its scratch, and the workers at their desks.

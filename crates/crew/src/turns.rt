@@ -17,6 +17,7 @@ use layers::{Book, Layer, Parents};
 use solo::Answer;
 use solo::turn::{Worked, begin_each, look};
 use std::alloc::AllocError;
+use std::mem::swap;
 use std::sync::Wait;
 use std::thread::Threads;
 
@@ -48,7 +49,9 @@ pub(crate) fn turn<R: Threads + Wait + Sync, G: Gate + Sync>(
     ensures crew { IsCrewOf terms.now.pruner.now.board crew.new }
 {
     let config = terms.config;
-    let layer = join_layer(rt, terms.alloc, books.as_slice(), config.workers)?;
+    let mut room = Vec::new(terms.alloc);
+    swap(&mut room, &mut history.room);
+    let layer = join_layer(rt, terms.alloc, books.as_slice(), config.workers, room)?;
     let found = look(
         terms.alloc,
         history.trail.as_slice(),
@@ -85,7 +88,9 @@ fn go_on<R: Threads + Wait + Sync, G: Gate + Sync>(
     let Some((worked, after)) = back else {
         return Ok(Turned::Foreign);
     };
-    history.trail.push(Parents::of(layer))?;
+    let (parents, room) = Parents::of(layer);
+    history.trail.push(parents)?;
+    history.room = room;
     match worked {
         Worked::Over => Ok(Turned::Found(Answer::Limit)),
         Worked::Through => Ok(Turned::Onward(after)),

@@ -67,6 +67,7 @@ pub fn work<R: Wait, G: Gate>(
         ledger,
         gate,
         held: &held,
+        room: 0,
     };
     work_on(rt, &shift, drawer, worker, scratch)
 }

@@ -4,6 +4,10 @@ ghost use Rattle.layers.specs.Holding.{held};
 
 use crate::book::Book;
 
+/// So many positions a book has room for at least once it has made room ahead. What holds them is then so large that the C
+/// library maps it in pages of its own, which grow in place; smaller ones lie among others, and leave gaps where they grow.
+const LEAST_ROOM: u64 = 16384;
+
 impl Book {
     /// How many positions the book holds: those that are closed and those that stand open.
     pub fn positions(&mut self) -> u64
@@ -35,10 +39,16 @@ impl Book {
         self.over
     }
 
-    /// Makes room for so many positions more, where memory can be had for it. What the book shows stays as it was.
-    pub fn have_room(&mut self, more: u64)
+    /// Makes room for as many positions more as the book closed last, since mostly about as many come next, unless these are more
+    /// than `most`; and for some thousands in any case, as far as `most` goes. What memory is refused for is left for later. What
+    /// the book shows stays as it was.
+    pub fn have_room_ahead(&mut self, most: u64)
         ensures { self.new ≡ self.old }
     {
-        self.found.have_room(more as usize);
+        let more = self.last_len() as u64;
+        if more <= most {
+            self.found
+                .have_room(more.max(most.min(LEAST_ROOM)) as usize);
+        }
     }
 }

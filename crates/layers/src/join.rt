@@ -22,10 +22,18 @@ impl Layer {
     pub fn join(alloc: Global, books: &[Book]) -> Result<Layer, JoinFault>
         ensures { MatchResult result (λ layer. IsJoinOf books.now layer) (λ fault. JoinRefused books.now fault) }
     {
+        Layer::join_in(alloc, books, Vec::new(alloc))
+    }
+
+    /// The same, in room that another layer left ([`Parents::of`](crate::Parents::of)), so that a search need not
+    /// ask for new memory layer by layer.
+    pub fn join_in(alloc: Global, books: &[Book], room: Vec<Square>) -> Result<Layer, JoinFault>
+        ensures { MatchResult result (λ layer. IsJoinOf books.now layer) (λ fault. JoinRefused books.now fault) }
+    {
         let Some(first) = first_of_all(books) else {
             return Err(JoinFault::NotWhole);
         };
-        match join_all(alloc, books, first) {
+        match join_all(alloc, books, first, room) {
             Ok(layer) => Ok(layer),
             Err(_) => Err(JoinFault::OutOfMemory),
         }
@@ -79,14 +87,19 @@ fn are_all_shares(books: &[Book], first: &Book) -> bool
 }
 
 // The last closed layer of all the shares, the first of which is given.
-fn join_all(alloc: Global, books: &[Book], first: &Book) -> Result<Layer, AllocError>
+fn join_all(
+    alloc: Global,
+    books: &[Book],
+    first: &Book,
+    room: Vec<Square>,
+) -> Result<Layer, AllocError>
     requires first { slice_get books.now 0 ≡ Some first.now }
     requires all { AreAllShares books.now }
     ensures { IfOk result (λ layer. IsJoinOf books.now layer) }
 {
     tell_all(books);
     let boxes = first.boxes();
-    let rows = merged_rows(alloc, books, boxes)?;
+    let rows = merged_rows(alloc, books, boxes, room)?;
     layer_of(books, first, rows)
 }
 
@@ -133,19 +146,21 @@ fn layer_of(
     })
 }
 
-// How many positions the last closed lists of the books have, their squares and their origins, merged by the origins.
+// How many positions the last closed lists of the books have, their squares, in the memory of another list, and their origins,
+// merged by the origins.
 fn merged_rows(
     alloc: Global,
     books: &[Book],
     boxes: usize,
+    room: Vec<Square>,
 ) -> Result<(usize, Vec<Square>, Vec<Origin>), AllocError>
     requires boxes { boxes ≤ MAX_BOXES }
     requires few { total (map last_list books.now) ≤ MOST_POSITIONS }
     ensures { IfOk result (λ r. AreMerged (map last_list books.now) r.0 r.1.items r.2.items) }
 {
     match books {
-        [book] => book.last_rows(alloc),
-        _ => merge(alloc, books, boxes),
+        [book] => book.last_rows(alloc, room),
+        _ => merge(alloc, books, boxes, room),
     }
 }
 
@@ -180,13 +195,17 @@ impl Book {
         self.starts.len() == first.starts.len()
     }
 
-    // The squares of the positions of the last closed list and their origins, and how many they are.
-    fn last_rows(&self, alloc: Global) -> Result<(usize, Vec<Square>, Vec<Origin>), AllocError>
+    // The squares of the positions of the last closed list, in the memory of another list, and their origins, and how many they are.
+    fn last_rows(
+        &self,
+        alloc: Global,
+        room: Vec<Square>,
+    ) -> Result<(usize, Vec<Square>, Vec<Origin>), AllocError>
         ensures { IfOk result (λ r. AreMerged (last_list self.now ∷ []) r.0 r.1.items r.2.items) }
     {
         let from = last_start(self.starts.as_slice());
         let count = self.found.closed_len() - from;
-        let (squares, origins) = self.found.closed_from(alloc, from)?;
+        let (squares, origins) = self.found.closed_from(alloc, from, room)?;
         Ok((count, squares, origins))
     }
 }

@@ -11,7 +11,7 @@ use crate::book::{Book, last_start};
 use grid::{MAX_BOXES, Square};
 use std::alloc::{AllocError, Global};
 use std::marker::Model;
-use store::{Found, Origin};
+use store::{Found, Origin, room_in};
 
 /// What is left of a book's last closed list while it is merged.
 #[derive(Drop)]
@@ -83,12 +83,13 @@ impl<'a> Rest<'a> {
     }
 }
 
-/// The squares of the positions of all the books' last closed lists and their origins, merged by the origins, and how
-/// many they are. The only error is that memory was refused.
+/// The squares of the positions of all the books' last closed lists, in the memory of another list, and their origins, merged by
+/// the origins, and how many they are. The only error is that memory was refused.
 pub(crate) fn merge(
     alloc: Global,
     books: &[Book],
     boxes: usize,
+    room: Vec<Square>,
 ) -> Result<(usize, Vec<Square>, Vec<Origin>), AllocError>
     requires boxes { boxes ≤ MAX_BOXES }
     requires few { total (map last_list books.now) ≤ MOST_POSITIONS }
@@ -96,7 +97,7 @@ pub(crate) fn merge(
 {
     let mut rests = rests_of(alloc, books, &[])?;
     let count = count_all(rests.as_slice());
-    let mut squares = Vec::with_capacity(alloc, count.saturating_mul(boxes + 1))?;
+    let mut squares = room_in(alloc, room, count.saturating_mul(boxes + 1))?;
     let mut origins = Vec::with_capacity(alloc, count)?;
     while let Some(place) = least_of(rests.as_slice()) {
         rests[place].take(&mut squares, &mut origins)?;

@@ -2,7 +2,7 @@
 ghost use Rattle.std.specs.Prelude.{◌≡◌, slice_get};
 
 use crate::layer::Layer;
-use grid::Push;
+use grid::{Push, Square};
 use std::marker::Model;
 use store::Origin;
 
@@ -23,12 +23,17 @@ impl Model for Parents {
 }
 
 impl Parents {
-    /// Those of a layer, which is given up for them.
-    pub fn of(layer: Layer) -> Parents
-        ensures { result ≡ layer.origins }
+    /// Those of a layer, which is given up for them, and the memory that its positions' squares took, for another layer
+    /// ([`Layer::join_in`]).
+    pub fn of(layer: Layer) -> (Parents, Vec<Square>)
+        ensures { result.0 ≡ layer.origins }
     {
-        let Layer { origins, .. } = layer;
-        Parents { origins }
+        let Layer {
+            origins,
+            squares,
+            ..
+        } = layer;
+        (Parents { origins }, squares)
     }
 
     /// The rank of a position's parent in the layer before, and the push that leads from there; `None` exactly in

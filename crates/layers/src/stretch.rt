@@ -12,7 +12,7 @@ use crate::merging::{count_all, is_none_left, next_of, rests_of};
 use grid::Square;
 use std::alloc::{AllocError, Global};
 use std::mem::swap;
-use store::Origin;
+use store::{Origin, room_in};
 
 /// How often a list is halved at most until one place is left.
 const HALVINGS: u32 = 64;
@@ -25,8 +25,9 @@ pub struct Stretch {
     pub(crate) starts: Vec<usize>,
     // it ends before the first origin that does not come before this one, if there is one
     bound: Option<Origin>,
-    // how many positions there is to be room for
+    // how many positions there is to be room for, and memory that their squares may take
     room: usize,
+    lent: Vec<Square>,
     pub(crate) merged: Option<Merged>,
 }
 
@@ -48,12 +49,14 @@ impl Stretch {
     }
 
     /// The layer that the books closed last, in up to `most` stretches of about as many positions each, and `least` or more;
-    /// none where that would be one stretch, or where there is one book. The only error is that memory was refused.
+    /// none where that would be one stretch, or where there is one book. The first one, to which the others are to be appended, has the
+    /// room that another layer left. The only error is that memory was refused.
     pub fn all(
         alloc: Global,
         books: &[Book],
         most: usize,
         least: usize,
+        room: Vec<Square>,
     ) -> Result<Vec<Stretch>, AllocError>
         ensures { IfOk result (λ stretches. length stretches.items ≤ most) }
     {
@@ -62,8 +65,10 @@ impl Stretch {
         if parts < 2 || books.len() < 2 {
             return Ok(stretches);
         }
+        let mut room = room;
         for part in 0..parts {
-            let stretch = Stretch::of_part(alloc, books, part, parts)?;
+            let mut stretch = Stretch::of_part(alloc, books, part, parts)?;
+            swap(&mut stretch.lent, &mut room);
             stretches.push(stretch)?;
         }
         Ok(stretches)
@@ -90,15 +95,17 @@ impl Stretch {
         };
         // the others are to be appended to the first one; these have room for each position of theirs and no more
         let ends = places_at(alloc, books, &bound)?;
-        let room = if part == 0 {
-            count_of(books)
-        } else {
-            sum_of(ends.as_slice()).saturating_sub(sum_of(starts.as_slice()))
-        };
+        let mut room = if part == 0 { count_of(books) } else { 0 };
+        for (start, end) in starts.iter().zip(ends.iter()) {
+            if part > 0 {
+                room = room.saturating_add(end.saturating_sub(*start));
+            }
+        }
         Ok(Stretch {
             starts,
             bound,
             room,
+            lent: Vec::new(alloc),
             merged: None,
         })
     }
@@ -112,8 +119,10 @@ impl Stretch {
         if self.starts.len() != books.len() {
             return;
         }
+        let mut lent = Vec::new(alloc);
+        swap(&mut lent, &mut self.lent);
         let starts = self.starts.as_slice();
-        if let Ok(merged) = merge_upto(alloc, books, starts, self.bound, self.room) {
+        if let Ok(merged) = merge_upto(alloc, books, starts, self.bound, self.room, lent) {
             self.merged = Some(merged);
         }
     }
@@ -134,14 +143,15 @@ impl Stretch {
     }
 }
 
-// Merges what is left of the books' last lists once so many of each were taken, up to a bound, in room for so many positions. The
-// only error is that memory was refused.
+// Merges what is left of the books' last lists once so many of each were taken, up to a bound, in room for so many positions, for
+// whose squares there is memory of another list. The only error is that memory was refused.
 fn merge_upto(
     alloc: Global,
     books: &[Book],
     starts: &[usize],
     bound: Option<Origin>,
     room: usize,
+    lent: Vec<Square>,
 ) -> Result<Merged, AllocError>
     requires { length starts.now ≡ length books.now }
     ensures { IfOk result (λ merged. AreTaken books.now starts.now merged.ends.items merged.squares.items merged.origins.items) }
@@ -155,7 +165,7 @@ fn merge_upto(
         Some(book) => book.boxes().saturating_add(1),
         None => 1,
     };
-    let mut squares = Vec::with_capacity(alloc, room.saturating_mul(row))?;
+    let mut squares = room_in(alloc, lent, room.saturating_mul(row))?;
     let mut origins = Vec::with_capacity(alloc, room)?;
     while let Some(place) = next_of(rests.as_slice(), &bound) {
         rests[place].take(&mut squares, &mut origins)?;
@@ -265,15 +275,6 @@ fn count_of(books: &[Book]) -> usize {
     count
 }
 
-// The sum of places.
-fn sum_of(places: &[usize]) -> usize {
-    let mut sum: usize = 0;
-    for place in places {
-        sum = sum.saturating_add(*place);
-    }
-    sum
-}
-
 // The origin of the position with which a part of so many begins, by the book with the most positions.
 fn bound_at(books: &[Book], part: usize, parts: usize) -> Option<Origin>
     requires { 1 ≤ parts }
@@ -306,7 +307,7 @@ fn places_at(
 
 impl Book {
     // How many positions the last closed list has.
-    fn last_len(&self) -> usize {
+    pub(crate) fn last_len(&self) -> usize {
         let from = last_start(self.starts.as_slice());
         self.found.closed_len().saturating_sub(from)
     }

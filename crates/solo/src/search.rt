@@ -122,7 +122,7 @@ fn turn(
         (GoesOn terms.now.pruner.now terms.now.limit books.new trail.new.items positions.old positions.new)) }
     ensures size { scratch.new.size ≡ scratch.old.size }
 {
-    let layer = last_layer(terms.alloc, books)?;
+    let layer = last_layer(terms.alloc, books, Vec::new(terms.alloc))?;
     let found = look(
         terms.alloc,
         trail.as_slice(),
@@ -136,7 +136,8 @@ fn turn(
     }
     begin_each(books, &layer)?;
     let worked = finish_each(books, &layer, terms.pruner, scratch, 0)?;
-    trail.push(Parents::of(layer))?;
+    let (parents, _) = Parents::of(layer);
+    trail.push(parents)?;
     match worked {
         Worked::Over => Ok(Some(Answer::Limit)),
         Worked::Through => Ok(None),

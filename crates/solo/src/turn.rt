@@ -23,7 +23,7 @@ use crate::answer::Answer;
 use crate::goals::first_solved;
 use crate::lead::moves_back;
 use area::Scratch;
-use grid::Level;
+use grid::{Level, Square};
 use layers::{
     BeginFault, Book, BookFault, CloseFault, Dealing, JoinFault, Layer, Parcel, Parents, Pruner,
     Refusal, expand_over, expand_over_into,
@@ -142,12 +142,12 @@ fn solved(
     })
 }
 
-/// The last layer that the books have closed, which are all the shares in order.
-pub fn last_layer(alloc: Global, books: &[Book]) -> Result<Layer, AllocError>
+/// The last layer that the books have closed, which are all the shares in order, in room that the layer before left.
+pub fn last_layer(alloc: Global, books: &[Book], room: Vec<Square>) -> Result<Layer, AllocError>
     requires { AreAllShares books.now }
     ensures { IfOk result (λ layer. IsJoinOf books.now layer) }
 {
-    match Layer::join(alloc, books) {
+    match Layer::join_in(alloc, books, room) {
         Ok(layer) => Ok(layer),
         Err(JoinFault::NotWhole) => unreachable!(),
         Err(JoinFault::OutOfMemory) => Err(AllocError),
@@ -340,21 +340,12 @@ fn enter(book: &mut Book, worker: u8, parcel: &Parcel<'_>) -> Result<bool, Alloc
     }
 }
 
-// So many positions a book has room for at least once it has closed a layer ahead. What holds them is then so large that the C
-// library maps it in pages of its own, which grow in place; smaller ones lie among others, and leave gaps where they grow.
-const LEAST_ROOM: u64 = 16384;
-
-/// Closes the next layer ahead of [`finish`], where each rank is done, and makes room for as many positions more as it has,
-/// which the one after it mostly has too, unless these are more than `room`, and for some thousands in any case, as far as `room`
-/// goes. Where a rank is not done, or memory is refused, the book stays as it was.
-pub fn close_ahead(book: &mut Book, room: u64)
+/// Closes the next layer ahead of [`finish`], where each rank is done. Where one is not, or memory is refused, the book stays as it
+/// was.
+pub fn close_ahead(book: &mut Book)
     ensures { MayBeClosed book.old book.new }
 {
-    if let Ok(closed) = book.close() {
-        if closed.count <= room {
-            book.have_room(closed.count.max(room.min(LEAST_ROOM)));
-        }
-    }
+    let _ = book.close();
 }
 
 // Closes the next layer, once each rank is done.

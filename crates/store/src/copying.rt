@@ -1,8 +1,7 @@
 //! Entries of a map that are copied into lists of squares and of origins.
-ghost use Rattle.std.specs.Prelude.{◌≡◌, ◌+◌, ◌++◌, ◌≤◌, IfOk, OnOk, drop, length, map, take};
+ghost use Rattle.std.specs.Prelude.{◌≡◌, ◌+◌, ◌++◌, ◌≤◌, [], IfOk, OnOk, drop, length, map, take};
 ghost use Rattle.store.specs.Entries.{origins_of};
 ghost use Rattle.store.specs.inside.Copies.{IsCopied, squares_of};
-ghost use Rattle.std.specs.Prelude.{◌≡◌, ◌≤◌, IfOk, OnOk, drop, length, map, take};
 
 use crate::key::Key;
 use crate::origin::{ClosedOrigin, Origin};
@@ -29,14 +28,29 @@ pub(crate) fn copy_entry<const N: usize, const M: usize>(
     Ok(())
 }
 
-/// What stands in a map from a place up to another: the squares of the positions, which have at most so many boxes, and
-/// the origins of those that have one.
+/// An empty list with room for so many squares: in the memory of another list, which goes for it, unless that would be more than
+/// twice as much. The only error is that memory was refused.
+pub fn room_in(alloc: Global, room: Vec<Square>, squares: usize) -> Result<Vec<Square>, AllocError>
+    ensures { IfOk result (λ list. list.items ≡ []) }
+{
+    if room.capacity() / 2 > squares {
+        return Vec::with_capacity(alloc, squares);
+    }
+    let mut list = room;
+    list.clear();
+    list.reserve_exact(squares)?;
+    Ok(list)
+}
+
+/// What stands in a map from a place up to another: the squares of the positions, which have at most so many boxes, in the
+/// memory of another list, and the origins of those that have one.
 pub(crate) fn copy_from<const N: usize, const M: usize>(
     alloc: Global,
     table: &IndexMap<Key<N, M>, ClosedOrigin>,
     boxes: usize,
     from: usize,
     to: usize,
+    room: Vec<Square>,
 ) -> Result<(Vec<Square>, Vec<Origin>), AllocError>
     requires width { (N ≤ MAX_BOXES + 1) × (M ≤ MAX_BOXES + 1) }
     requires order { from ≤ to }
@@ -46,7 +60,7 @@ pub(crate) fn copy_from<const N: usize, const M: usize>(
     ensures origins { IfOk result (λ r. r.1.items ≡ origins_of (drop from (take to table.now.entries))) }
 {
     let count = to - from;
-    let mut squares = Vec::with_capacity(alloc, count.saturating_mul(boxes + 1))?;
+    let mut squares = room_in(alloc, room, count.saturating_mul(boxes + 1))?;
     let mut origins = Vec::with_capacity(alloc, count)?;
     for place in from..to {
         if let Some((key, origin)) = table.get_index(place) {

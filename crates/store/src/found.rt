@@ -136,18 +136,19 @@ impl Found {
         in_each!(&self.tables, table => table.copy_at(place, squares, origins))
     }
 
-    /// What is closed from a place on: the squares of the positions, one after the other, and the origins of those that
-    /// have one. The only error is that memory was refused.
+    /// What is closed from a place on: the squares of the positions, one after the other, in the memory of another list, as
+    /// [`room_in`] has it, and the origins of those that have one. The only error is that memory was refused.
     pub fn closed_from(
         &self,
         alloc: Global,
         from: usize,
+        room: Vec<Square>,
     ) -> Result<(Vec<Square>, Vec<Origin>), AllocError>
         requires { from ≤ length self.now.seen }
         ensures squares { IfOk result (λ r. r.0.items ≡ squares_of (map (λ e. e.0) (drop from self.now.seen))) }
         ensures origins { IfOk result (λ r. r.1.items ≡ origins_of (drop from self.now.seen)) }
     {
-        in_each!(&self.tables, table => table.closed_from(alloc, from))
+        in_each!(&self.tables, table => table.closed_from(alloc, from, room))
     }
 
     /// Whether there would be more positions than a limit once the wanted successors of a rank have entered.

@@ -22,6 +22,7 @@ mod parts;
 mod probe;
 mod table;
 
+pub use copying::room_in;
 pub use found::Found;
 pub use inbox::most_waiting;
 pub use origin::{MOST_RANKS, Origin};

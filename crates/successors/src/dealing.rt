@@ -1,6 +1,6 @@
 //! The successors of a parcel, dealt to the shares before any book is locked, so that a book that is one of several need
 //! not look at those of the others.
-ghost use Rattle.std.specs.Prelude.{◌≡◌, ℕ, ◌+◌, ◌*◌, ◌<◌, ◌≤◌, length, slice_set, slice_index_or};
+ghost use Rattle.std.specs.Prelude.{◌≡◌, ℕ, ◌+◌, ◌*◌, ◌<◌, ◌≤◌, [], ◌∷◌, length, slice_set, slice_index_or};
 ghost use Rattle.successors.specs.inside.Dealt.{IsDealt};
 
 use crate::limits::MAX_SHARES;
@@ -57,12 +57,41 @@ fn deal_all(shares: u8, sums: &[u32], rows: &mut [u8; ROWS], lens: &mut [u8; MAX
     ensures { IsDealt shares rows.new lens.new sums.now }
 {
     match shares {
-        2 => deal_each(2, sums, rows, lens),
+        2 => deal_both(sums, rows, lens),
         4 => deal_each(4, sums, rows, lens),
         8 => deal_each(8, sums, rows, lens),
         16 => deal_each(16, sums, rows, lens),
         _ => deal_each(shares, sums, rows, lens),
     }
+}
+
+// The same for two shares, of which it is counted beside the rows how many successors each has, so that no count waits for the one
+// before it to be written and read.
+fn deal_both(sums: &[u32], rows: &mut [u8; ROWS], lens: &mut [u8; MAX_SHARES as usize])
+    requires few { length sums.now ≤ MOST_DEALT }
+    ensures { IsDealt 2 rows.new lens.new sums.now }
+{
+    let mut evens: usize = 0;
+    let mut odds: usize = 0;
+    for (place, sum) in sums.iter().enumerate() {
+        let share = share_by(*sum, 2) as usize;
+        let len = len_of(share, evens, odds);
+        rows[share * MOST_DEALT + len] = place as u8;
+        evens += 1 - share;
+        odds += share;
+    }
+    *lens = [0; MAX_SHARES as usize];
+    lens[0] = evens as u8;
+    lens[1] = odds as u8;
+}
+
+// How many places one of two shares has, which have so many.
+#[inline(always)]
+fn len_of(share: usize, evens: usize, odds: usize) -> usize
+    requires { share < 2 }
+    ensures { result ≡ slice_index_or (evens ∷ odds ∷ []) share 0 }
+{
+    if share == 0 { evens } else { odds }
 }
 
 // Puts the place of each successor into the row of its share, one after the other. No branch hangs on a sum, since none could

@@ -1,6 +1,6 @@
 -- Successors that are dealt to the shares.
-use Rattle.std.proofs.Common.{◌≡◌, ◌≢◌, ℕ, zero, suc, ◌+◌, ◌*◌, ◌%◌, ◌<◌, ◌≤◌, ◌==◌, Bool, true, false, List, [], ◌∷◌, ◌++◌, length, take, drop, map, get_or}
-use Rattle.std.proofs.Common.{set, replicate, Some, inl, inr, refl, sym, ap, subst, ◌∙◌, if◌then◌else◌, arith}
+use Rattle.std.proofs.Common.{◌≡◌, ◌≢◌, ℕ, zero, suc, ◌+◌, ◌-◌, ◌*◌, ◌%◌, ◌<◌, ◌≤◌, ◌==◌, Bool, true, false, List, [], ◌∷◌, ◌++◌, length, take, drop}
+use Rattle.std.proofs.Common.{map, get_or, set, replicate, Some, inl, inr, refl, sym, ap, subst, ◌∙◌, if◌then◌else◌, arith}
 use Rattle.std.proofs.lemmas.Bool.{cases_lt, cases_eq, eq-eqb, ne_eqb}
 use Rattle.std.proofs.lemmas.List.{append-nil, length-map, length-replicate, length-set, length-take-le, take_all, take-set-le, take_more, take_more_set}
 use Rattle.std.proofs.lemmas.List.{drop-append-le, drop-set-lt, get_or-replicate, get_or-set_same, get_or-set_other}
@@ -169,6 +169,23 @@ module _ (shares place share : ℕ) (rows lens sums : List ℕ) (held : AreListe
       | inr ne ↦ row_other other less ne
     ];
   }
+
+-- one of two shares has one more
+pub both_listed : (place share len evens odds : ℕ) (rows sums rest : List ℕ) → AreListed 2 place rows (evens ∷ odds ∷ rest) sums → place < length sums →
+    length sums ≤ MOST_DEALT → share ≡ get_or sums place 0 % 2 → share < 2 → len ≡ get_or (evens ∷ odds ∷ []) share 0 →
+    AreListed 2 (place + 1) (set rows (share * MOST_DEALT + len) place) ((evens + (1 - share)) ∷ (odds + share) ∷ rest) sums
+both_listed place zero len evens odds rows sums rest held lt few is own same =
+    let more : evens + 1 ≡ evens + (1 - 0) = omega arith in
+    let kept : odds ≡ odds + 0 = omega arith in
+    subst (λ (n : ℕ). AreListed 2 (place + 1) (set rows (0 * MOST_DEALT + n) place) ((evens + (1 - 0)) ∷ (odds + 0) ∷ rest) sums) (sym same)
+    (subst (λ (lens : List ℕ). AreListed 2 (place + 1) (set rows (0 * MOST_DEALT + evens) place) lens sums) (λ i. more i ∷ kept i ∷ rest)
+    (one_listed 2 place 0 rows (evens ∷ odds ∷ rest) sums held (omega arith) lt few is own))
+both_listed place (suc zero) len evens odds rows sums rest held lt few is own same =
+    let kept : evens ≡ evens + (1 - 1) = omega arith in
+    subst (λ (n : ℕ). AreListed 2 (place + 1) (set rows (1 * MOST_DEALT + n) place) ((evens + (1 - 1)) ∷ (odds + 1) ∷ rest) sums) (sym same)
+    (subst (λ (n : ℕ). AreListed 2 (place + 1) (set rows (1 * MOST_DEALT + odds) place) (n ∷ (odds + 1) ∷ rest) sums) kept
+    (one_listed 2 place 1 rows (evens ∷ odds ∷ rest) sums held (omega arith) lt few is own))
+both_listed place (suc (suc share)) len evens odds rows sums rest held lt few is own same = absurd (omega (arith, own))
 
 -- once all sums are looked at, they are dealt
 pub all_listed : (shares place : ℕ) (rows lens sums : List ℕ) → AreListed shares place rows lens sums → shares ≤ MAX_SHARES → length sums ≡ place →

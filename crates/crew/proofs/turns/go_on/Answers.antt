@@ -35,7 +35,7 @@ returns-in-Through-clause-turned g c = λ before looked.
     let work : AreWorkedBy config layer worked after.items = subst (λ back. IfSome back (λ b. AreWorkedBy config layer b.0 b.1.items)) c.in-Some.is
     c.in_ok-back.ensures.worked in (
       goes_on config c.args.terms.now.pruner.now c.args.books.items c.args.history.now.trail.items before c.requires.limits looked.turn layer
-          c.args.history.now.positions after.items c.push.new.self.items c.of.result looked.join looked.counted.looked
-          (subst (λ w. AreWorkedBy config layer w after.items) c.in-Through.is work) c.in_ok-push.ensures.items c.of.ensures,
+          c.args.history.now.positions after.items c.push.new.self.items c.of-parents.result.0 looked.join looked.counted.looked
+          (subst (λ w. AreWorkedBy config layer w after.items) c.in-Through.is work) c.in_ok-push.ensures.items c.of-parents.ensures,
       omega (arith, looked.counted.ranks.0, looked.counted.count),
     )

@@ -13,7 +13,7 @@ pub loop-place-init : goal.loop-place-init
 loop-place-init c = (
   [],
   subst (Takes (map last_list c.args.books.now) []) (sym (c.in_ok-rests.ensures ∙ left_all c.args.books.now)) nothing,
-  c.in_ok-squares.ensures.items,
+  c.in_ok-squares.ensures,
   c.in_ok-origins.ensures.items,
 )
 

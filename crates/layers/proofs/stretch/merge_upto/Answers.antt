@@ -13,7 +13,7 @@ loop-place-init c = (
   (
     [],
     subst (Takes (left_of c.args.books.now c.args.starts.now) []) (sym c.in_ok-rests.ensures) nothing,
-    c.in_ok-squares.ensures.items,
+    c.in_ok-squares.ensures,
     c.in_ok-origins.ensures.items,
   ),
   c.in_ok-rests.ensures ∙ ap (left_of c.args.books.now) (sym (c.in_ok-extend_from_slice.ensures.items

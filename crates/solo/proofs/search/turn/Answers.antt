@@ -98,7 +98,7 @@ returns-in-Through-clause-onward c =
     let counted = subst (λ found. IfNone found (IsCounted limit c.as_slice.result.now layer positions count)) c.in_default.is c.in_ok-found.ensures.onward in
     let looked : IsLookedAt layer.level limit (trail ++ layer.origins ∷ []) count = subst
     (λ ls. IsLookedAt layer.level limit (ls ++ layer.origins ∷ []) count) c.as_slice.ensures.value counted.looked in (
-      trail_grown task limit 1 1 after trail c.push.new.self.items c.of.result count layer c.in_ok-push.ensures.items c.of.ensures
+      trail_grown task limit 1 1 after trail c.push.new.self.items c.of-parents.result.0 count layer c.in_ok-push.ensures.items c.of-parents.ensures
           (turn_on task limit 1 1 after trail count layer next looked (
             mid,
             working.0,

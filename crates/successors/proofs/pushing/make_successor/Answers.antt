@@ -1,8 +1,5 @@
-use Rattle.std.proofs.Common.{◌≡◌, refl, sym, ◌∙◌}
+use Rattle.std.proofs.Common.{sym, ◌∙◌}
 use Rattle.std.proofs.lemmas.Bool.{false≢true}
-use Rattle.grid.specs.Board.{Board, Scene}
-use Rattle.doom.specs.Deadlocks.{Undoomed}
-use Rattle.successors.specs.Expansion.{after_push}
 use Rattle.successors.proofs.lemmas.Successors.{come_by}
 use Rattle.successors.proofs.pushing.make_successor.Goals as goal
 
