@@ -187,7 +187,7 @@ fn join_twice<R: Print>(rt: &R, alloc: Global, books: &[Book], stretched: bool) 
 
 // Joins books in up to three stretches of a position or more.
 fn join_stretched(alloc: Global, books: &[Book]) -> Result<Layer, JoinFault> {
-    let Ok(mut stretches) = Stretch::all(alloc, books, 3, 1) else {
+    let Ok(mut stretches) = Stretch::all(alloc, books, 3, 1, Vec::new(alloc)) else {
         return Err(JoinFault::OutOfMemory);
     };
     merge_each(alloc, books, stretches.as_mut_slice());
