@@ -20,7 +20,10 @@ use std::marker::Model;
 use std::sync::Wait;
 
 // The greatest number of ranks of a lot.
-pub(crate) const MOST: u64 = 16;
+pub(crate) const MOST: u64 = 32;
+
+// The same for a worker that is alone: no line of memory comes to it from another one's processor, so greater lots bring nothing.
+const MOST_ALONE: usize = 16;
 
 // So many times as many ranks as a lot is to have it gets at most, while its worker would wait for a book, but for the greatest lots.
 pub(crate) const AHEAD: usize = 2;
@@ -28,8 +31,8 @@ pub(crate) const AHEAD: usize = 2;
 // A lot is to have one of so many parts of the ranks that are left, as far as it may have as many.
 const PARTS: u64 = 64;
 
-// So many ranks the lots of all workers have at most, of those that are handed back and of those that are drawn next: up to
-// four workers keep the greatest lots. A parcel takes some 40 KB, whatever the level.
+// So many ranks the lots of several workers have at most together, of those that are handed back and of those that are drawn next:
+// two workers have the greatest lots, and four have half as many ranks. A parcel takes some 40 KB, whatever the level.
 const MOST_OF_ALL: usize = 64;
 
 /// The lots of a worker: the one that it hands back, and the one that it draws next.
@@ -42,9 +45,10 @@ pub(crate) struct Lots<'a> {
 }
 
 impl<'a> Lots<'a> {
-    /// Lots of a rank each for so many books, and none is drawn. The only error is that memory was refused.
+    /// Lots of a rank each for so many books, and none is drawn. They grow as those of one of two workers. The only error is that
+    /// memory was refused.
     pub(crate) fn of(alloc: Global, books: usize) -> Result<Lots<'a>, AllocError> {
-        Lots::of_one_of(alloc, books, 1)
+        Lots::of_one_of(alloc, books, 2)
     }
 
     /// The same for one of so many workers, whose lots grow less where these are many.
@@ -193,9 +197,10 @@ impl<'a> Lot<'a> {
 
 // How many ranks the lot of one of so many workers has at most: one at least.
 fn most_of_one(workers: u8) -> usize {
-    match workers {
-        0 => MOST_OF_ALL,
-        _ => (MOST_OF_ALL / workers as usize).max(1),
+    if workers < 2 {
+        MOST_ALONE
+    } else {
+        (MOST_OF_ALL / workers as usize).max(1)
     }
 }
 

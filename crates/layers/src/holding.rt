@@ -2,7 +2,7 @@
 ghost use Rattle.std.specs.Prelude.{◌≡◌, ◌≤◌};
 ghost use Rattle.layers.specs.Holding.{held};
 
-use crate::book::Book;
+use crate::book::{Book, last_start};
 
 /// So many positions a book has room for at least once it has made room ahead. What holds them is then so large that the C
 /// library maps it in pages of its own, which grow in place; smaller ones lie among others, and leave gaps where they grow.
@@ -39,13 +39,17 @@ impl Book {
         self.over
     }
 
-    /// Makes room for as many positions more as the book closed last, since mostly about as many come next, unless these are more
-    /// than `most`; and for some thousands in any case, as far as `most` goes. What memory is refused for is left for later. What
-    /// the book shows stays as it was.
+    /// Makes room for as many positions more as probably come next, unless these are more than `most`; and for some thousands in any
+    /// case, as far as `most` goes. Those are as many as the book closed last; or fewer, in the same ratio, where these were fewer
+    /// than the time before. What memory is refused for is left for later. What the book shows stays as it was.
     pub fn have_room_ahead(&mut self, most: u64)
         ensures { self.new ≡ self.old }
     {
-        let more = self.last_len() as u64;
+        let last = self.last_len() as u64;
+        let starts = self.starts.as_slice();
+        let from = starts[starts.len().saturating_sub(2)];
+        let before = last_start(starts).saturating_sub(from) as u64;
+        let more = last.min(last.saturating_mul(last) / before.max(1));
         if more <= most {
             self.found
                 .have_room(more.max(most.min(LEAST_ROOM)) as usize);
