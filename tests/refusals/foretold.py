@@ -175,6 +175,7 @@ def quiet():
 
 # each call, with what it prints and whether it takes memory; what takes none goes on where all requests are refused from some point on
 CALLS = {"begin": (begin, True), "hand_back": (hand_back, True), "close": (close, True), "close_turned": (close_turned, True),
-         "join": (lambda: join(1), True), "join_shares": (lambda: join(3), True), "join_stretches": (lambda: join(3), True), "ledger": (ledger, True), "read": (read, True),
+         "join": (lambda: join(1), True), "join_shares": (lambda: join(3), True), "join_in": (lambda: join(3), True),
+         "join_stretches": (lambda: join(3), True), "ledger": (ledger, True), "read": (read, True),
          "next_board": (next_board, True), "write_level": (write_level, True), "parse": (parse, True), "write_moves": (write_moves, True), "walk": (walk, True),
          "work": (work, True), "quiet": (quiet, False)}

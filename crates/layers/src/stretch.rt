@@ -93,14 +93,13 @@ impl Stretch {
         } else {
             None
         };
-        // the others are to be appended to the first one; these have room for each position of theirs and no more
         let ends = places_at(alloc, books, &bound)?;
-        let mut room = if part == 0 { count_of(books) } else { 0 };
+        let mut own: usize = 0;
         for (start, end) in starts.iter().zip(ends.iter()) {
-            if part > 0 {
-                room = room.saturating_add(end.saturating_sub(*start));
-            }
+            own = own.saturating_add(end.saturating_sub(*start));
         }
+        // the others are to be appended to the first one; these have room for each position of theirs and no more
+        let room = if part == 0 { count_of(books) } else { own };
         Ok(Stretch {
             starts,
             bound,

@@ -8,7 +8,8 @@ use crate::values::{
     work_last, work_through, yard,
 };
 use claims::Ledger;
-use layers::{BeginFault, Book, CloseFault, JoinFault, Layer, Parcel, Refusal, Stretch};
+use grid::Square;
+use layers::{BeginFault, Book, CloseFault, JoinFault, Layer, Parcel, Parents, Refusal, Stretch};
 use std::alloc::Global;
 use std::slice;
 
@@ -159,23 +160,37 @@ fn close_twice<R: Print>(rt: &R, book: &mut Book) -> Option<()> {
 /// Joins the books of all shares that have closed layer 1.
 pub(crate) fn join<R: Print>(rt: &R, alloc: Global, shares: u8) -> Option<()> {
     let books = all_books(alloc, shares)?;
-    join_twice(rt, alloc, books.as_slice(), false)
+    join_twice(rt, alloc, books.as_slice(), Way::Whole)
 }
 
-/// Joins the books of three shares that have closed layer 1, in stretches.
+/// Joins the books of three shares that have closed layer 1, in the room that the start's layer left.
+pub(crate) fn join_in<R: Print>(rt: &R, alloc: Global) -> Option<()> {
+    let books = all_books(alloc, 3)?;
+    join_twice(rt, alloc, books.as_slice(), Way::InRoom)
+}
+
+/// Joins the books of three shares that have closed layer 1, in stretches, the first of which has the room that the start's layer left.
 pub(crate) fn join_stretches<R: Print>(rt: &R, alloc: Global) -> Option<()> {
     let books = all_books(alloc, 3)?;
-    join_twice(rt, alloc, books.as_slice(), true)
+    join_twice(rt, alloc, books.as_slice(), Way::Stretched)
 }
 
-// Joins books, as a whole or in stretches, and once more where memory is refused.
-fn join_twice<R: Print>(rt: &R, alloc: Global, books: &[Book], stretched: bool) -> Option<()> {
+// How books are joined.
+#[derive(Clone, Copy)]
+enum Way {
+    Whole,
+    InRoom,
+    Stretched,
+}
+
+// Joins books in a way, and once more where memory is refused.
+fn join_twice<R: Print>(rt: &R, alloc: Global, books: &[Book], way: Way) -> Option<()> {
     told::left(rt, books)?;
     for _ in 0..2 {
-        let answer = if stretched {
-            join_stretched(alloc, books)
-        } else {
-            Layer::join(alloc, books)
+        let answer = match way {
+            Way::Whole => Layer::join(alloc, books),
+            Way::InRoom => Layer::join_in(alloc, books, room(alloc)?),
+            Way::Stretched => join_stretched(alloc, books, room(alloc)?),
         };
         if !is_refused(rt, &answer)? {
             break;
@@ -185,9 +200,15 @@ fn join_twice<R: Print>(rt: &R, alloc: Global, books: &[Book], stretched: bool) 
     Some(())
 }
 
+// The room that the start's layer leaves, which holds its squares yet and is too small for layer 1.
+fn room(alloc: Global) -> Option<Vec<Square>> {
+    let (_, room) = Parents::of(start(alloc)?);
+    Some(room)
+}
+
 // Joins books in up to three stretches of a position or more.
-fn join_stretched(alloc: Global, books: &[Book]) -> Result<Layer, JoinFault> {
-    let Ok(mut stretches) = Stretch::all(alloc, books, 3, 1, Vec::new(alloc)) else {
+fn join_stretched(alloc: Global, books: &[Book], room: Vec<Square>) -> Result<Layer, JoinFault> {
+    let Ok(mut stretches) = Stretch::all(alloc, books, 3, 1, room) else {
         return Err(JoinFault::OutOfMemory);
     };
     merge_each(alloc, books, stretches.as_mut_slice());

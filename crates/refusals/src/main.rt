@@ -35,6 +35,7 @@ fn perform<R: Print + Wait>(rt: &R, alloc: Global, call: &str) -> Option<()> {
         "close_turned" => books::close_turned(rt, alloc),
         "join" => books::join(rt, alloc, 1),
         "join_shares" => books::join(rt, alloc, 3),
+        "join_in" => books::join_in(rt, alloc),
         "join_stretches" => books::join_stretches(rt, alloc),
         "ledger" => books::ledger(rt, alloc),
         "read" => letters::read(rt, alloc),

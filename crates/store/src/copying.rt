@@ -28,8 +28,8 @@ pub(crate) fn copy_entry<const N: usize, const M: usize>(
     Ok(())
 }
 
-/// An empty list with room for so many squares: in the memory of another list, which goes for it, unless that would be more than
-/// twice as much. The only error is that memory was refused.
+/// An empty list with room for so many squares, in the memory of another list, which is given up for it; in memory of its own where
+/// that would be more than twice as much. The only error is that memory was refused.
 pub fn room_in(alloc: Global, room: Vec<Square>, squares: usize) -> Result<Vec<Square>, AllocError>
     ensures { IfOk result (λ list. list.items ≡ []) }
 {
