@@ -22,8 +22,9 @@ use std::sync::Wait;
 // The greatest number of ranks of a lot.
 pub(crate) const MOST: u64 = 32;
 
-// The same for a worker that is alone: no line of memory comes to it from another one's processor, so greater lots bring nothing.
-const MOST_ALONE: usize = 16;
+// The same for a worker that is alone: no line of memory comes to it from another one's processor, so greater lots bring nothing, and
+// each parcel of them takes time to make and room in the cache.
+const MOST_ALONE: usize = 4;
 
 // So many times as many ranks as a lot is to have it gets at most, while its worker would wait for a book, but for the greatest lots.
 pub(crate) const AHEAD: usize = 2;

@@ -1,5 +1,5 @@
 //! Positions whose boxes all stand on goals.
-ghost use Rattle.std.specs.Prelude.{◌≡◌, ◌↔◌, IsTrue, MatchOption};
+ghost use Rattle.std.specs.Prelude.{◌≡◌, ◌↔◌, ◌<◌, true, false, IsTrue, MatchOption, length, slice_index_or};
 ghost use Rattle.std.specs.List.{list_all};
 ghost use Rattle.grid.specs.Board.{Scene, IsSolved, is_goal};
 ghost use Rattle.solo.specs.Leads.{AreUnsolved, IsFirstSolved};
@@ -12,24 +12,46 @@ use layers::Layer;
 pub fn first_solved(layer: &Layer) -> Option<u64>
     ensures { MatchOption result (AreUnsolved layer.now.level.board layer.now.places) (λ rank. IsFirstSolved layer.now.level.board layer.now.places rank) }
 {
+    let mut likely = 0;
     for rank in 0..layer.len() {
-        if is_solved(layer.level(), layer.boxes_at(rank)) {
+        if is_solved(layer.level(), layer.boxes_at(rank), &mut likely) {
             return Some(rank);
         }
     }
     None
 }
 
-// Whether each box of a position stands on a goal.
-fn is_solved(level: &Level, boxes: &[Square]) -> bool
+// Whether each box of a position stands on a goal. One that does not is told by its place, and looked at first next time: positions
+// of near ranks have most of their boxes in common.
+fn is_solved(level: &Level, boxes: &[Square], likely: &mut usize) -> bool
     ensures { (n : Scene) → boxes.now ≡ n.boxes → IsTrue result ↔ IsSolved level.now n }
 {
-    are_goals(boxes, level)
+    are_goals(boxes, level, likely)
 }
 
-// Whether each square has a goal.
-fn are_goals(squares: &[Square], level: &Level) -> bool
+// Whether each square has a goal, of which that at the likely place is looked at first.
+fn are_goals(squares: &[Square], level: &Level, likely: &mut usize) -> bool
     ensures { result ≡ list_all (is_goal level.now) squares.now }
 {
-    squares.iter().all(|square| level.is_goal(*square))
+    if is_off_goal(squares, level, *likely) {
+        return false;
+    }
+    for place in 0..squares.len() {
+        if is_off_goal(squares, level, place) {
+            *likely = place;
+            return false;
+        }
+    }
+    true
+}
+
+// Whether there is a square at a place, and it has no goal.
+fn is_off_goal(squares: &[Square], level: &Level, place: usize) -> bool
+    ensures off { result ≡ true → (place < length squares.now) × (is_goal level.now (slice_index_or squares.now place 0) ≡ false) }
+    ensures on { result ≡ false → place < length squares.now → is_goal level.now (slice_index_or squares.now place 0) ≡ true }
+{
+    match squares.get(place) {
+        Some(square) => !level.is_goal(*square),
+        None => false,
+    }
 }

@@ -17,10 +17,10 @@ pub(crate) const ROWS: usize = MOST_DEALT * MAX_SHARES as usize;
 pub(crate) struct Deal {
     // they are dealt to so many shares; 0 where they are not dealt
     pub(crate) shares: u8,
-    // for each share a row that begins with the places of its successors, in their order
-    pub(crate) rows: [u8; ROWS],
     // how many successors each share has
     pub(crate) lens: [u8; MAX_SHARES as usize],
+    // for each share a row that begins with the places of its successors, in their order
+    pub(crate) rows: [u8; ROWS],
 }
 
 impl Deal {

@@ -22,8 +22,8 @@ pub struct Successor {
 /// be written over.
 #[derive(Debug, Drop)]
 pub(crate) struct Slots {
-    pub(crate) successors: ArrayVec<Successor, MAX_SUCCESSORS>,
     pub(crate) sums: ArrayVec<u32, MAX_SUCCESSORS>,
+    pub(crate) successors: ArrayVec<Successor, MAX_SUCCESSORS>,
 }
 
 impl Slots {
@@ -71,10 +71,12 @@ pub struct Parcel<'a> {
     pub(crate) layer: u64,
     pub(crate) rank: u64,
     // the first so many of its slots are the successors and their sums
-    pub(crate) sheet: Sheet,
     pub(crate) count: usize,
     // how the successors are dealt to shares, if they are
     pub(crate) deal: Deal,
+    // comes last, since it ends with the slots of successors, of which mostly a few are filled: so what is read of a parcel lies close
+    // together
+    pub(crate) sheet: Sheet,
 }
 
 impl<'a> Model for Parcel<'a> {

@@ -1,0 +1,7 @@
+use Rattle.std.proofs.Common.{◌≡◌, true, take}
+use Rattle.std.specs.List.{list_all}
+use Rattle.grid.specs.Board.{is_goal}
+use Rattle.solo.proofs.goals.are_goals.Given as goal
+
+abbrev pub invariant-loop-place : goal.invariant-loop-place
+invariant-loop-place l = list_all (is_goal l.level) (take l.place l.squares) ≡ true
