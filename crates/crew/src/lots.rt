@@ -32,6 +32,10 @@ pub(crate) const AHEAD: usize = 2;
 // A lot is to have one of so many parts of the ranks that are left, as far as it may have as many.
 const PARTS: u64 = 64;
 
+// Lots have room for as many ranks as a layer of one of so many parts of the positions wants. A parcel takes as long to make as
+// some fifty positions to expand, so more of them pay only in a large layer.
+const PAYS: u64 = 16;
+
 // So many ranks the lots of several workers have at most together, of those that are handed back and of those that are drawn next:
 // two workers have the greatest lots, and four have half as many ranks. A parcel takes some 40 KB, whatever the level.
 const MOST_OF_ALL: usize = 64;
@@ -68,9 +72,12 @@ impl<'a> Lots<'a> {
         })
     }
 
-    /// Makes room for the greatest lots of a layer of so many positions. Where memory is refused the lots stay as small as they are.
+    /// Makes room for the greatest lots that pay in a layer of so many positions. Where memory is refused the lots stay as small as they
+    /// are.
     pub(crate) fn have_room(&mut self, positions: u64) {
-        let most = lot_size(positions).saturating_mul(AHEAD).min(self.most);
+        let most = lot_size(positions / PAYS)
+            .saturating_mul(AHEAD)
+            .min(self.most);
         self.ready.have_room(most);
         self.next.have_room(most);
     }
