@@ -37,14 +37,15 @@ pub(crate) struct Desks<'a> {
     desks: Vec<Desk<'a>>,
 }
 
-/// What is lent to the workers of a layer: the layer, its books, which hold so many positions together and may hold so many, and the
-/// ledger of its ranks.
+/// What is lent to the workers of a layer: the layer, its books, which hold so many positions together, the largest of them so many, and may
+/// hold so many, and the ledger of its ranks.
 #[derive(Drop)]
 pub(crate) struct Loan<'s> {
     pub(crate) layer: &'s Layer,
     pub(crate) books: &'s [Mutex<Book>],
     pub(crate) ledger: &'s Ledger,
     pub(crate) positions: u64,
+    pub(crate) largest: u64,
     pub(crate) limit: u32,
 }
 
@@ -101,6 +102,7 @@ impl<'a> Desks<'a> {
             gate: &within,
             held: &held,
             room: room_of_each(loan),
+            largest: loan.largest,
         };
         work_first(rt, self.desks.as_mut_slice(), &shift, drawer);
     }

@@ -13,7 +13,7 @@ use crate::end::End;
 use crate::gate::Gate;
 use crate::held::tell_growth;
 use crate::locking::{lock_book, try_book};
-use crate::lots::{AHEAD, Lot, MOST};
+use crate::lots::{AHEAD, Lot, MOST_AHEAD};
 use crate::shift::Post;
 use crate::worker::pass;
 use area::Scratch;
@@ -120,7 +120,7 @@ fn lock_or_draw<'a, 'b, R: Wait, G: Gate>(
         0 drawer.old.hand nth.old drawer.new.hand nth.new end) }
     ensures ready { IsReady post.now.shift.now post.now.worker scratch.new drawer.new }
 {
-    for _ in 0..MOST {
+    for _ in 0..MOST_AHEAD {
         if let Some(guard) = try_book(post, book) {
             return Ok(guard);
         }

@@ -34,16 +34,27 @@ pub(crate) fn lend<R: Threads + Wait + Sync, G: Gate + Sync>(
     let alloc = terms.alloc;
     let limit = terms.config.limit;
     let (ledger, drawer) = ledger_of(alloc, layer, limit)?;
+    let largest = largest_of(books.as_slice());
     let locks = lock_each(alloc, books)?;
     let loan = Loan {
         layer,
         books: locks.as_slice(),
         ledger: &ledger,
         positions,
+        largest,
         limit,
     };
     desks.work(rt, terms, &loan, drawer);
     unlock_each(alloc, locks)
+}
+
+// How many positions the largest of these books holds.
+fn largest_of(books: &[Book]) -> u64 {
+    let mut most = 0;
+    for book in books {
+        most = book.positions_at_least().max(most);
+    }
+    most
 }
 
 // A ledger of the layer's ranks, of which there are no more than a limit, and a drawer without a place. The only error is that memory

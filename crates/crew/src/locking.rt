@@ -76,7 +76,7 @@ pub(crate) fn have_room_ahead<G: Gate>(shift: &Shift<'_, '_, G>, worker: usize, 
             continue;
         }
         if let Some(mut guard) = book.try_lock() {
-            guard.have_room_ahead(shift.room);
+            guard.have_room_ahead(shift.room, shift.largest);
         }
     }
 }

@@ -19,14 +19,17 @@ use std::alloc::{AllocError, Global};
 use std::marker::Model;
 use std::sync::Wait;
 
-// The greatest number of ranks of a lot.
-pub(crate) const MOST: u64 = 32;
+// The greatest number of ranks that a lot is to have.
+const MOST: u64 = 32;
 
-// The same for a worker that is alone: no line of memory comes to it from another one's processor, so greater lots bring nothing, and
-// each parcel of them takes time to make and room in the cache.
+// The greatest number that a lot gets while its worker would wait for a book.
+pub(crate) const MOST_AHEAD: usize = 64;
+
+// The greatest number of ranks of a lot whose worker is alone: no line of memory comes to it from another one's processor, so greater
+// lots bring nothing, and each parcel of them takes time to make and room in the cache.
 const MOST_ALONE: usize = 4;
 
-// So many times as many ranks as a lot is to have it gets at most, while its worker would wait for a book, but for the greatest lots.
+// So many times as many ranks as a lot is to have it gets at most, while its worker would wait for a book.
 pub(crate) const AHEAD: usize = 2;
 
 // A lot is to have one of so many parts of the ranks that are left, as far as it may have as many.
@@ -36,8 +39,8 @@ const PARTS: u64 = 64;
 // some fifty positions to expand, so more of them pay only in a large layer.
 const PAYS: u64 = 16;
 
-// So many ranks the lots of several workers have at most together, of those that are handed back and of those that are drawn next:
-// two workers have the greatest lots, and four have half as many ranks. A parcel takes some 40 KB, whatever the level.
+// So many ranks the lots of more than two workers have at most together, of those that are handed back and of those that are drawn
+// next. A parcel takes some 40 KB, whatever the level.
 const MOST_OF_ALL: usize = 64;
 
 /// The lots of a worker: the one that it hands back, and the one that it draws next.
@@ -203,12 +206,13 @@ impl<'a> Lot<'a> {
     }
 }
 
-// How many ranks the lot of one of so many workers has at most: one at least.
+// How many ranks the lot of one of so many workers has at most: one at least. One of two workers has room for a lot and as many ranks
+// again, which it draws while the other one lets enter what waits for its book.
 fn most_of_one(workers: u8) -> usize {
-    if workers < 2 {
-        MOST_ALONE
-    } else {
-        (MOST_OF_ALL / workers as usize).max(1)
+    match workers {
+        0 | 1 => MOST_ALONE,
+        2 => MOST_AHEAD,
+        _ => (MOST_OF_ALL / workers as usize).max(1),
     }
 }
 

@@ -22,6 +22,8 @@ pub(crate) struct Shift<'s, 'a, G: Gate> {
     pub(crate) held: &'s AtomicU64,
     // for how many positions more each book may make room ahead
     pub(crate) room: u64,
+    // how many positions the largest of the books holds as the layer begins
+    pub(crate) largest: u64,
 }
 
 impl<'s, 'a, G: Gate> Model for Shift<'s, 'a, G> {

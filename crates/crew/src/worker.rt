@@ -68,6 +68,7 @@ pub fn work<R: Wait, G: Gate>(
         gate,
         held: &held,
         room: 0,
+        largest: 0,
     };
     work_on(rt, &shift, drawer, worker, scratch)
 }

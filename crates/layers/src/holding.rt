@@ -40,16 +40,23 @@ impl Book {
     }
 
     /// Makes room for as many positions more as probably come next, unless these are more than `most`; and for some thousands in any
-    /// case, as far as `most` goes. Those are as many as the book closed last; or fewer, in the same ratio, where these were fewer
-    /// than the time before. What memory is refused for is left for later. What the book shows stays as it was.
-    pub fn have_room_ahead(&mut self, most: u64)
+    /// case, as far as `most` goes. Those are as many as the book closed last, or fewer, in the same ratio, where these were fewer than
+    /// the time before; or as many as the time before, where most of each second layer is in other books. The book makes room as though
+    /// it held `largest` positions, as the largest of several books does, so that all of them make room at the same time. What memory is
+    /// refused for is left for later. What the book shows stays as it was.
+    pub fn have_room_ahead(&mut self, most: u64, largest: u64)
         ensures { self.new ≡ self.old }
     {
         let last = self.last_len() as u64;
+        let held = self.found.count_entered() as u64;
         let starts = self.starts.as_slice();
         let from = starts[starts.len().saturating_sub(2)];
         let before = last_start(starts).saturating_sub(from) as u64;
-        let more = last.min(last.saturating_mul(last) / before.max(1));
+        let steady = last.min(last.saturating_mul(last) / before.max(1));
+        let in_turns = before.min(before.saturating_sub(last).saturating_mul(2));
+        let more = steady
+            .max(in_turns)
+            .saturating_add(largest.saturating_sub(held));
         if more <= most {
             self.found
                 .have_room(more.max(most.min(LEAST_ROOM)) as usize);
