@@ -1,9 +1,9 @@
 # make         proves the program and builds it at target/sokopar; what the prover says is kept in target/build.log
 # make install builds it and copies it to PREFIX/bin
-# make quick   builds target/sokopar-unproved from the program's text alone, in a minute or two, with nothing proved
+# make quick   builds target/quick/sokopar from the program's text alone, in a minute or two, with nothing proved
 # make demo    runs the proved program on the collections of levels/, or the unproved one where no proved one is built
-# make test    checks the table of what must be believed, proves everything from nothing, runs the tests, and then tests the
-#              program that this built as a process
+# make test    checks what documents cite, proves everything, tries the must-fail edits and runs the tests (`rt ci`), and then tests the program
+#              that this built as a process
 # make check   tries in minutes what a change touches, for whoever makes it
 # make bench   measures it
 
@@ -21,25 +21,27 @@ install: all
 	@install -m 755 target/sokopar $(DESTDIR)$(PREFIX)/bin/sokopar
 	@echo "$(DESTDIR)$(PREFIX)/bin/sokopar"
 
-quick: target/sokopar-unproved
+quick: target/quick/sokopar
+	@echo 'PATH=$$PWD/target/quick:$$PATH'
 
-target/sokopar-unproved: $(SOURCES) crates.txt build/quick | toolchain
+target/quick/sokopar: $(SOURCES) crates.txt build/quick | toolchain
 	@echo "$@: a minute or two of compiling, with nothing proved"
 	@RT=$(RT) build/quick cli $@
 
 demo:
-	@[ -x target/sokopar ] || $(MAKE) --no-print-directory quick
-	@if [ -x target/sokopar ]; then levels/demo target/sokopar; else levels/demo target/sokopar-unproved; fi
+	@[ -x target/sokopar ] || $(MAKE) --no-print-directory target/quick/sokopar
+	@if [ -x target/sokopar ]; then levels/demo target/sokopar; else levels/demo target/quick/sokopar; fi
+
+# the tests that run what `rt ci` built
+TESTS = cli workers prove hostile fuzz
 
 test: needs
-	@tests/believed
-	@tests/edits_named
-	@tests/cited
-	@tests/sizes
-	@rm -f target/sokopar target/refusals-unproved
-	@RT=$(RT) tests/gate
-	@for it in cli before workers prove hostile fuzz; do tests/timed tests/$$it tests/$$it/run target/sokopar || exit 1; done
-	@tests/timed tests/refusals tests/refusals/run target/refusals-unproved
+	@tests/timed believed tests/believed
+	@tests/timed cited tests/cited
+	@tests/timed sources tests/sources
+	@tests/timed ci $(RT) ci
+	@for it in $(TESTS); do tests/timed $$it tests/$$it/run crates/cli/out/cli || exit 1; done
+	@tests/timed refusals tests/refusals/run crates/lower_examples/out/lower_examples_tests
 
 check: needs
 	@RT=$(RT) tests/check $(BASE)

@@ -5,7 +5,8 @@ import subprocess
 import sys
 
 TESTS = os.path.dirname(os.path.abspath(__file__))
-SECONDS = 60
+# after so long a run hangs
+SECONDS = 600
 
 
 def compiler():

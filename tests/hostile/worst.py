@@ -8,9 +8,6 @@ SIZE = 1 << 20
 MOST = 1 << 24
 ONE = b"#####\n#@$.#\n#####\n"
 
-# so many times as much as one worker over one lock asks for any others may ask for at most
-TO_ONE_WORKER = 1.3
-
 # an open room of 22 rows and columns with 11 boxes, which has far more positions than the default limit
 WIDE_ROWS = [" " * 20] * 7 + ["    $$$$$$$$$$$     "] + [" " * 20] * 5 + ["    ...........     "] + [" " * 20] * 5 + [" " * 19 + "@"]
 WIDE_ROOM = "\n".join(["#" * 22, *(f"#{row}#" for row in WIDE_ROWS), "#" * 22, ""]).encode()

@@ -1,5 +1,6 @@
 //! The operands and the options of the command line.
 use clap::Arg;
+use layers::{MAX_SHARES, MAX_WORKERS};
 use std::alloc::Global;
 
 /// The limit of positions where none is given.
@@ -10,6 +11,12 @@ const DEFAULT_WORKERS: &str = "1";
 
 /// The number of locks where none is given.
 const DEFAULT_LOCKS: &str = "1";
+
+/// The greatest number of workers.
+pub(crate) const MOST_WORKERS: u32 = MAX_WORKERS as u32;
+
+/// The greatest number of locks.
+pub(crate) const MOST_LOCKS: u32 = MAX_SHARES as u32;
 
 /// The operand FILE.
 pub(crate) fn file_operand<'a>(alloc: Global) -> Arg<'a> {
@@ -37,7 +44,7 @@ pub(crate) fn limit_option<'a>(alloc: Global) -> Arg<'a> {
     Arg::new(alloc, "limit")
         .long("limit")
         .value_name("L")
-        .help("Gives up beyond so many positions")
+        .help("Stops beyond L positions")
         .default_value(DEFAULT_LIMIT)
 }
 
@@ -63,6 +70,6 @@ pub(crate) fn locks_option<'a>(alloc: Global) -> Arg<'a> {
     Arg::new(alloc, "locks")
         .long("locks")
         .value_name("K")
-        .help("Number of locks: as many as workers is best")
+        .help("Number of locks, usually best equal to W")
         .default_value(DEFAULT_LOCKS)
 }

@@ -1,14 +1,17 @@
 //! A function for each subcommand, which opens its files, all before the first is read, and runs its engine.
+ghost use Rattle.std.specs.Prelude.{◌≡◌, ◌≤◌, IfOk, min};
+ghost use Rattle.std.specs.Int.NonZero.{non_zero_u32_get};
 ghost use Rattle.crew.specs.Configured.{IsWithinLimits};
+ghost use Rattle.cli.specs.Requests.{IsStatusOfBest, IsStatusOfProve, IsStatusOfSolve};
+ghost use Rattle.cli.specs.declared.arguments.TheConstants.{MOST_WORKERS, MOST_LOCKS};
 
+use crate::arguments::{MOST_LOCKS, MOST_WORKERS};
 use crate::steady::Steady;
 use crate::trouble::Trouble;
 use crew::Config;
-use layers::{MAX_SHARES, MAX_WORKERS};
-use prover::Effort;
 use sokopar::{
-    ProveRequest, Reader, RunFault, Writer, run_check, run_dead, run_prove, run_replay, run_show,
-    run_solve,
+    Reader, RunFault, SearchRequest, Writer, run_best, run_check, run_dead, run_prove, run_replay,
+    run_show, run_solve,
 };
 use std::alloc::Global;
 use std::num::NonZeroU32;
@@ -77,24 +80,29 @@ pub(crate) fn replay<'a, R: Files + Print>(
     Ok(run_replay(alloc, &mut source, number.get(), &mut letters, &mut sink)?)
 }
 
-/// How a level is solved by so many workers over so many locks, which the command line holds to their ranges, under a
-/// limit of positions, and within a cap of pushes if one is set.
+/// The configuration with these workers and locks, each at most its greatest number, this limit of positions and this cap of
+/// pushes, if any.
 pub(crate) fn config_of(
     workers: NonZeroU32,
     locks: NonZeroU32,
     limit: NonZeroU32,
     cap: Option<u32>,
 ) -> Config
-    ensures { IsWithinLimits result }
+    ensures limits { IsWithinLimits result }
+    ensures workers { result.workers ≡ min (non_zero_u32_get workers) MOST_WORKERS }
+    ensures locks { result.locks ≡ min (non_zero_u32_get locks) MOST_LOCKS }
+    ensures limit { result.limit ≡ non_zero_u32_get limit }
+    ensures cap { result.cap ≡ cap }
 {
     Config {
-        workers: workers.get().min(MAX_WORKERS as u32) as u8,
-        locks: locks.get().min(MAX_SHARES as u32) as u8,
+        workers: workers.get().min(MOST_WORKERS) as u8,
+        locks: locks.get().min(MOST_LOCKS) as u8,
         limit: limit.get(),
         cap,
     }
 }
 
+#[tactic(auto, using(crate::proofs::Statuses::status_of_run))]
 /// Solves a level. Gives the exit status.
 pub(crate) fn solve<'a, R: Files + Print + Threads + Wait + Sync>(
     rt: &R,
@@ -104,35 +112,55 @@ pub(crate) fn solve<'a, R: Files + Print + Threads + Wait + Sync>(
     config: Config,
 ) -> Result<u8, Trouble<'a>>
     requires { IsWithinLimits config }
+    ensures { IfOk result (IsStatusOfSolve config.cap config.limit (non_zero_u32_get number)) }
 {
     let mut source = open(rt, file)?;
     let mut sink = Writer::new(Steady::new(io::writer(rt)));
     Ok(run_solve(rt, alloc, &mut source, number.get(), config, &mut sink)?)
 }
 
-/// What a proof may take: by so many workers, which the command line holds to their range, and under a limit of positions.
-pub(crate) fn effort_of(workers: NonZeroU32, limit: NonZeroU32) -> Effort {
-    Effort {
-        workers: workers.get().min(MAX_WORKERS as u32) as u8,
+/// The search of level N under a limit of positions.
+pub(crate) fn search_of(number: NonZeroU32, limit: NonZeroU32) -> SearchRequest
+    ensures number { result.number ≡ non_zero_u32_get number }
+    ensures limit { result.limit ≡ non_zero_u32_get limit }
+    ensures level { 1 ≤ result.number }
+{
+    SearchRequest {
+        number: number.get(),
         limit: limit.get(),
     }
 }
 
-/// Proves that a solution has the fewest pushes on a level. Gives the exit status.
-pub(crate) fn prove<'a, R: Files + Print + Threads + Sync>(
+#[tactic(auto, using(crate::proofs::Statuses::status_of_best))]
+/// Finds a solution with the fewest pushes of a level. Gives the exit status.
+pub(crate) fn best<'a, R: Files + Print>(
     rt: &R,
     alloc: Global,
     file: &'a str,
-    number: NonZeroU32,
+    request: SearchRequest,
+) -> Result<u8, Trouble<'a>>
+    requires { 1 ≤ request.number }
+    ensures { IfOk result (IsStatusOfBest request.limit request.number) }
+{
+    let mut source = open(rt, file)?;
+    let mut sink = Writer::new(Steady::new(io::writer(rt)));
+    Ok(run_best(alloc, &mut source, request, &mut sink)?)
+}
+
+#[tactic(auto, using(crate::proofs::Statuses::status_of_prove))]
+/// Proves that a solution has the fewest pushes on a level. Gives the exit status.
+pub(crate) fn prove<'a, R: Files + Print>(
+    rt: &R,
+    alloc: Global,
+    file: &'a str,
     solution: &'a str,
-    effort: Effort,
-) -> Result<u8, Trouble<'a>> {
+    request: SearchRequest,
+) -> Result<u8, Trouble<'a>>
+    requires { 1 ≤ request.number }
+    ensures { IfOk result (IsStatusOfProve request.limit request.number) }
+{
     let mut source = open(rt, file)?;
     let mut letters = open(rt, solution)?;
     let mut sink = Writer::new(Steady::new(io::writer(rt)));
-    let request = ProveRequest {
-        number: number.get(),
-        effort,
-    };
-    Ok(run_prove(rt, alloc, &mut source, &mut letters, request, &mut sink)?)
+    Ok(run_prove(alloc, &mut source, &mut letters, request, &mut sink)?)
 }

@@ -13,6 +13,7 @@ pub struct Notes {
     pub check: String,
     pub replay: String,
     pub solve: String,
+    pub best: String,
     pub prove: String,
 }
 
@@ -23,12 +24,14 @@ impl Notes {
         let check = check_notes(alloc)?;
         let replay = replay_notes(alloc)?;
         let solve = solve_notes(alloc)?;
+        let best = best_notes(alloc)?;
         let prove = prove_notes(alloc)?;
         Ok(Notes {
             program,
             check,
             replay,
             solve,
+            best,
             prove,
         })
     }
@@ -53,13 +56,13 @@ Exit status:
   4  the limit of positions was passed
   5  out of memory";
 
-/// An example, in the help of the program.
-const EXAMPLE: &str = "\
-Example:
+/// Examples, in the help of the program.
+const EXAMPLES: &str = "\
+Examples:
   sokopar check levels.xsb
   sokopar solve levels.xsb 1";
 
-/// The end of the help of the program: notations, limits, statuses and an example.
+/// The end of the help of the program: notations, limits, statuses and examples.
 fn program_notes(alloc: Global) -> Result<String, AllocError> {
     format!(in alloc;
         "{NOTATIONS}\n\n\
@@ -67,7 +70,7 @@ fn program_notes(alloc: Global) -> Result<String, AllocError> {
           {MAX_ROWS} rows and {MAX_COLS} columns a level, {MAX_BOXES} boxes to solve it\n  \
           {MAX_MOVES} moves a solution\n  \
           {MAX_FILE} bytes a file\n\n\
-        {STATUSES}\n\n{EXAMPLE}"
+        {STATUSES}\n\n{EXAMPLES}"
     )
 }
 
@@ -86,18 +89,22 @@ const FAULTS: &str = "
 
 /// How levels get lost, in the help of `check`.
 const MISSING: &str = "\
-Where a level is missing, split or joined to another:
-  A line with a tab, a letter, a comment after the row or any other byte that is
-  no cell is text, and so is a line without a wall. Text ends a level, and two
-  levels with no line of text between them (an empty one will do) are one. Lines
-  end by LF or CRLF; ASCII and UTF-8 are read, and no other encoding.";
+If a level is missing, split or joined to another:
+  A line is text if it has no wall, or has a tab, a letter, a comment after the
+  row or any other byte that is no cell. Text ends a level. Two levels need a
+  line of text between them; an empty line will do. Lines end with LF or CRLF.
+  The encoding is ASCII or UTF-8.
+
+If the report is '0 levels, 0 good' (status 0), no line of FILE is a row. Usual
+causes: FILE is UTF-16, or packed (gzip, zip), its lines end with CR alone, or
+they are quoted, as in mail (> ####). Convert FILE first.";
 
 /// The end of the help of `check`: what its lines say, the faults, how levels get lost, and an example.
 fn check_notes(alloc: Global) -> Result<String, AllocError> {
     format!(in alloc;
-        "A line for each level tells its number, the line of the file on which it begins,\n\
-        'ok' with rows x columns and boxes, or 'fault' with what is wrong, and its name.\n\n\
-        The faults (of several, the first of these is told; a bar begins a new row):\n  \
+        "Each line has the number of a level, the line of FILE on which it begins, 'ok'\n\
+        with rows x columns and boxes, or 'fault' with the fault, and the level's name.\n\n\
+        The faults (a level with several has the first of these; | begins a new row):\n  \
           1 TooTall     More than {MAX_ROWS} rows. If these are two levels, put an empty line\n                \
                         between them.\n  \
           2 TooWide     More than {MAX_COLS} columns. Look for a count that is too great, as in\n                \
@@ -107,41 +114,53 @@ fn check_notes(alloc: Global) -> Result<String, AllocError> {
     )
 }
 
+/// The squares of the map, in the help of `dead`.
+pub const DEAD: &str = "\
+The map has # for walls, . for goals and x for dead squares. A square is dead if
+the player can reach it once the boxes are taken away, and no play brings a box
+from it to a goal. A box on a dead square leaves the level unsolvable. Other
+squares are blank, also those of the boxes and the player.
+
+Example:
+  sokopar dead levels.xsb 1";
+
 /// The verdicts, in the help of `replay`.
 const VERDICTS: &str = "\
-What it tells of a solution, and what to do (moves are counted from 1; the
-examples are for the level #####|#@$.#|#####):
-  solved P pushes, M moves    All boxes are on goals at the end: R
-  unsolved P pushes, M moves  All moves can be made, but a box is not on a goal
+Verdicts on a solution (moves count from 1; the examples are for the level
+#####|#@$.#|#####):
+  solved P pushes, S moves    All boxes are on goals at the end: R
+  unsolved P pushes, S moves  All moves are possible, but a box is not on a goal
                               at the end: the empty file. Moves are missing, or
-                              it is a solution of another level.
-  blocked at I                Move I cannot be made, since a wall is there, or
-                              behind the box a wall or another box: L is blocked
-                              at 1. Is it the right level, and not turned?
+                              SOLUTION is for another level.
+  blocked at I                Move I is impossible: a wall is in the way, or a
+                              wall or another box is behind the box. L is
+                              blocked at 1. Is the level the right one, and not
+                              turned?
   wrong case at I             Move I pushes a box and is a small letter, or it
-                              pushes none and is a capital one: r is the wrong
-                              case at 1. Write capital letters for pushes.";
+                              pushes none and is a capital letter: r has the
+                              wrong case at 1. Write capital letters for pushes.";
 
 /// The faults of solution texts that have no limit in them, in the help of `replay`.
 const TEXT_FAULTS: &str = "
-  bad byte at A   Byte A of the file is no letter of l, u, r, d, L, U, R, D, no
-                  digit, blank or end of a line: Rx has it at 2. Leave out
-                  titles, comments, and the first line of what solve writes.
-  bad count at A  The digits from byte A on are no count: it has 1 to 4 digits,
-                  is not 0, and a letter comes right after it. 0R and 2 R have
-                  no count. It says how often the letter stands: 3r is rrr.";
+  bad byte at A   Byte A of SOLUTION is no letter of l, u, r, d, L, U, R, D, no
+                  digit, blank or end of a line: Rx has one at 2. Leave out
+                  titles, comments, and the first line that solve writes.
+  bad count at A  The digits from byte A on are no count. A count has 1 to 4
+                  digits, is not 0, and a letter comes right after it: 3r means
+                  rrr. 0R and 2 R have no count.";
 
 /// The end of the help of `replay`: verdicts, the faults of texts, and an example.
 fn replay_notes(alloc: Global) -> Result<String, AllocError> {
     format!(in alloc;
         "{VERDICTS}\n\n\
-        What it tells where the file is no solution text (bytes are counted from 1):\
+        Reports if SOLUTION is no text of moves (bytes count from 1):\
         {TEXT_FAULTS}\n  \
-          too many moves  More than {MAX_MOVES} moves. Longer solutions are not replayed.\n  \
-          file too long   More than {MAX_FILE} bytes (said on standard error).\n\n\
-        Of a level it tells 'no level N', or its fault: see sokopar check --help.\n\n\
-        SOLUTION may be /dev/stdin. The first line that solve writes is its verdict, and\n\
-        no part of the solution.\n\n\
+          too many moves  More than {MAX_MOVES} moves, the most that replay takes.\n  \
+          file too long   More than {MAX_FILE} bytes (on standard error).\n\n\
+        If FILE has no level N, the report is 'no level N'. If the level has a fault, it\n\
+        is that fault: see 'sokopar check --help'.\n\n\
+        SOLUTION may be /dev/stdin. Leave out the first line that solve writes, which is\n\
+        its verdict.\n\n\
         Example:\n  \
           sokopar solve levels.xsb 1 | tail -n +2 |\n      \
               sokopar replay levels.xsb 1 /dev/stdin"
@@ -150,30 +169,30 @@ fn replay_notes(alloc: Global) -> Result<String, AllocError> {
 
 /// What is found, pushes and moves, in the help of `solve`.
 const ANSWERS: &str = "\
-The first line tells what was found:
-  solved P pushes, M moves, Q positions  The second line is the solution.
+The first line says what was found:
+  solved P pushes, S moves, Q positions  The second line is the solution.
   unsolvable, Q positions                There is no solution.
-  none within M pushes, Q positions      There is none with so few pushes.
-  limit L reached                        More positions are needed to know: give
-                                         a greater --limit.";
+  none within M pushes, Q positions      No solution has M pushes or fewer.
+  limit L reached                        Undecided: give a greater --limit.";
 
 /// What a solution with the fewest pushes is, what a search takes, and examples, in the help of `solve`.
 const SEARCH: &str = "\
-No solution has fewer pushes than the one that is written. Others may have fewer
-moves, with more pushes or with as many: the solution with the fewest pushes is
-not the one with the fewest moves. Each step of the player is a move, and each
-step that pushes a box is a push too.
+No solution has fewer pushes than the one that solve writes. Others may have
+fewer moves: the solution with the fewest pushes need not be the one with the
+fewest moves. Each step of the player is a move. A step that pushes a box is
+also a push.
 
-The answer is the same with any numbers of workers and locks. As many locks as
-workers is mostly fastest: --workers 4 --locks 4 on four processors.
+The report is the same for every number of workers and locks. Usually fastest
+with as many locks as workers: --workers 4 --locks 4 on four processors.
 
 A position takes up to 150 bytes and 1 to 5 microseconds. So the default limit
 needs at most about 150 MB and 5 seconds, and 100000000 positions 15 GB and 10
 to 15 minutes. With more than 11 boxes a position takes up to 240 bytes, with
 more than 35 up to 370, and in the largest rooms some 50 microseconds.
 
-With --max-pushes M only solutions with at most M pushes are looked for. That
-takes fewer positions, since those are left out from which the boxes need more.
+With --max-pushes M the search looks only for solutions with at most M pushes.
+It needs fewer positions, since it leaves out those from which the boxes need
+more.
 
 Examples:
   sokopar solve levels.xsb 1 --limit 5000000
@@ -190,29 +209,63 @@ fn solve_notes(alloc: Global) -> Result<String, AllocError> {
     )
 }
 
-/// What is found of a solution, and an example, in the help of `prove`.
+/// The reports, in the help of `best`.
+const FEWEST: &str = "\
+The first line says what was found:
+  optimal P pushes                       The second line is a solution with P
+                                         pushes. No solution has fewer.
+  unsolvable                             There is no solution.
+  limit L reached, at least P pushes     Undecided: give a greater --limit. No
+                                         solution has fewer than P pushes.";
+
+/// How `best` compares with `solve`, its memory, and examples, in the help of `best`.
+const BEST: &str = "\
+Several solutions can have the fewest pushes. best writes one of them, which is
+not always the one with the fewest moves. 'sokopar solve' writes the first of
+them in a fixed order and counts positions, and usually needs more positions.
+
+The search counts the positions that it stores, and stops when they exceed the
+limit. In rooms of ordinary size a position takes as much memory as in 'sokopar
+solve' and 1 to 5 microseconds, so the default limit takes about 5 seconds.
+
+Examples:
+  sokopar best levels.xsb 1
+  sokopar best levels.xsb 1 --limit 5000000
+  sokopar best levels.xsb 1 | tail -n +2 |
+      sokopar replay levels.xsb 1 /dev/stdin";
+
+/// The end of the help of `best`.
+fn best_notes(alloc: Global) -> Result<String, AllocError> {
+    format!(in alloc;
+        "{FEWEST}\n  \
+          too many boxes                         The level has more than {MAX_BOXES} boxes.\n\n\
+        {BEST}"
+    )
+}
+
+/// The reports on a solution, in the help of `prove`.
 const JUDGEMENTS: &str = "\
-What it tells of a solution, where it solves the level:
-  optimal P pushes                       No solution has fewer pushes.
-  not optimal P pushes, Q pushes found   The second line is a solution with Q
-                                         pushes, which are fewer than P.
-  limit L reached                        More positions are needed to know: give
-                                         a greater --limit.";
+If SOLUTION solves the level, the first line says whether it has the fewest
+pushes:
+  optimal P pushes                       It has P pushes. No solution has fewer.
+  not optimal P pushes, optimal F pushes The second line is a solution with F
+                                         pushes. No solution has fewer.
+  limit L reached, at least P pushes     Undecided: give a greater --limit. No
+                                         solution has fewer than P pushes.";
 
-/// What a proof takes, in the help of `prove`.
+/// How `prove` compares with `replay` and `best`, its memory, and examples, in the help of `prove`.
 const PROOF: &str = "\
-Of any other text it tells what 'sokopar replay' tells, with the same exit
-status. The solution that is found need not have the fewest pushes: prove it in
-turn, or solve the level.
+If SOLUTION does not solve the level, prove writes what 'sokopar replay' writes,
+with the same exit status.
 
-This asks less than 'sokopar solve', and mostly takes fewer positions.
-
-What it tells is the same with any number of workers: --workers 4 on four
-processors.
+A known solution bounds the search: prove usually needs fewer positions than
+'sokopar best'. The search counts the positions that it stores, and stops when
+they exceed the limit. A position takes as much time and memory as in 'sokopar
+best'.
 
 Examples:
   sokopar prove levels.xsb 1 solution.lurd
-  sokopar prove levels.xsb 1 solution.lurd --workers 4 --limit 50000000";
+  sokopar prove levels.xsb 1 solution.lurd --limit 50000000";
 
 /// The end of the help of `prove`.
 fn prove_notes(alloc: Global) -> Result<String, AllocError> {

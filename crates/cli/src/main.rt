@@ -1,15 +1,18 @@
 //! The program: reads its command line, opens its files and runs an engine.
 #![tactic(auto)]
 
+ghost use Rattle.cli.specs.Requests.{Performs};
+
 mod arguments;
 mod commands;
 mod help;
 mod request;
+mod stack;
 mod steady;
 mod trouble;
 
 use clap::error::ErrorKind;
-use commands::{check, config_of, dead, effort_of, prove, replay, show, solve};
+use commands::{best, check, config_of, dead, prove, replay, search_of, show, solve};
 use help::Notes;
 use request::Request;
 use sokopar::RunFault;
@@ -30,7 +33,9 @@ fn perform<'a, R: Files + Print + Threads + Wait + Sync>(
     rt: &R,
     alloc: Global,
     request: Request<'a>,
-) -> Result<u8, Trouble<'a>> {
+) -> Result<u8, Trouble<'a>>
+    ensures { Performs request.entry result }
+{
     match request {
         Request::Check { file } => check(rt, alloc, file),
         Request::Show { file, number } => show(rt, alloc, file, number),
@@ -40,16 +45,17 @@ fn perform<'a, R: Files + Print + Threads + Wait + Sync>(
             number,
             solution,
         } => replay(rt, alloc, file, number, solution),
+        Request::Best {
+            file,
+            number,
+            limit,
+        } => best(rt, alloc, file, search_of(number, limit)),
         Request::Prove {
             file,
             number,
             solution,
-            workers,
             limit,
-        } => {
-            let effort = effort_of(workers, limit);
-            prove(rt, alloc, file, number, solution, effort)
-        }
+        } => prove(rt, alloc, file, solution, search_of(number, limit)),
         Request::Solve {
             file,
             number,
@@ -122,16 +128,24 @@ fn words<R: Env + AllocGlobal>(rt: &R) -> io::Result<Vec<String>> {
     Ok(words)
 }
 
-fn main(rt: HostRuntime) -> ExitCode {
-    let status = match words(&rt) {
-        Ok(words) => run(&rt, rt.alloc(), words.as_slice()),
+/// Reads the words of the command line, and does what they ask for. Gives the exit status.
+fn start<R: Env + Files + Print + Eprint + Threads + Wait + Sync + AllocGlobal>(rt: &R) -> u8 {
+    match words(rt) {
+        Ok(words) => run(rt, rt.alloc(), words.as_slice()),
         Err(error) if error.kind() == io::ErrorKind::OutOfMemory => {
-            complain(&rt, Trouble::Run(RunFault::OutOfMemory))
+            complain(rt, Trouble::Run(RunFault::OutOfMemory))
         }
         Err(_) => {
-            let _ = eprintln!(&rt; "error: a word of the command line is no UTF-8 text");
+            let _ = eprintln!(rt; "error: a word of the command line is no UTF-8 text");
             USAGE
         }
+    }
+}
+
+fn main(rt: HostRuntime) -> ExitCode {
+    let status = match stack::enlarge(rt.alloc()) {
+        Ok(()) => start(&rt),
+        Err(_) => complain(&rt, Trouble::Run(RunFault::OutOfMemory)),
     };
     ExitCode::from(status)
 }

@@ -1,12 +1,16 @@
+ghost use Rattle.std.specs.Prelude.{◌≡◌, ◌≤◌, ◌==◌, IfOk, IfSome, codes, slice_index};
+ghost use Rattle.std.specs.Int.NonZero.{non_zero_u32_get};
+ghost use Rattle.cli.specs.Words.{IsNumber, HasNumber, MayHaveNumber};
+ghost use Rattle.cli.specs.Requests.{AsksForBest, AsksToProve, AsksToSolve};
+
 use crate::arguments::{
-    file_operand, limit_option, locks_option, max_pushes_option, number_operand, solution_operand,
-    workers_option,
+    MOST_LOCKS, MOST_WORKERS, file_operand, limit_option, locks_option, max_pushes_option,
+    number_operand, solution_operand, workers_option,
 };
 use crate::help;
 use crate::help::Notes;
 use clap::error::ErrorKind;
 use clap::{ArgMatches, Command, Error};
-use layers::{MAX_SHARES, MAX_WORKERS};
 use std::alloc::{AllocError, Global};
 use std::num::NonZeroU32;
 
@@ -33,13 +37,17 @@ pub enum Request<'a> {
         number: NonZeroU32,
         solution: &'a str,
     },
-    /// Prove that the solution of a file has the fewest pushes on level N of a collection, by some workers, under a limit of
-    /// positions.
+    /// Find a solution with the fewest pushes of level N of a collection, under a limit of positions.
+    Best {
+        file: &'a str,
+        number: NonZeroU32,
+        limit: NonZeroU32,
+    },
+    /// Prove that the solution of a file has the fewest pushes on level N of a collection, under a limit of positions.
     Prove {
         file: &'a str,
         number: NonZeroU32,
         solution: &'a str,
-        workers: NonZeroU32,
         limit: NonZeroU32,
     },
     /// Solve level N of a collection by some workers over some locks, under a limit of positions, and within a cap of
@@ -81,11 +89,12 @@ fn show_command<'a>(alloc: Global) -> Result<Command<'a>, AllocError> {
 
 /// The subcommand `dead`.
 fn dead_command<'a>(alloc: Global) -> Result<Command<'a>, AllocError> {
-    level_command(
+    let command = level_command(
         alloc,
         "dead",
         "Shows walls, goals and dead squares of a level",
-    )
+    )?;
+    Ok(command.after_help(help::DEAD))
 }
 
 /// The subcommand `replay`.
@@ -93,6 +102,13 @@ fn replay_command<'a>(alloc: Global, notes: &'a str) -> Result<Command<'a>, Allo
     level_command(alloc, "replay", "Replays a solution on a level")?
         .after_help(notes)
         .arg(solution_operand(alloc))
+}
+
+/// The subcommand `best`.
+fn best_command<'a>(alloc: Global, notes: &'a str) -> Result<Command<'a>, AllocError> {
+    level_command(alloc, "best", "Finds a solution with the fewest pushes")?
+        .after_help(notes)
+        .arg(limit_option(alloc))
 }
 
 /// The subcommand `prove`.
@@ -104,7 +120,6 @@ fn prove_command<'a>(alloc: Global, notes: &'a str) -> Result<Command<'a>, Alloc
     )?
     .after_help(notes)
     .arg(solution_operand(alloc))?
-    .arg(workers_option(alloc))?
     .arg(limit_option(alloc))
 }
 
@@ -146,13 +161,23 @@ fn with_plays<'a>(
         .subcommand(solve_command(alloc, notes.solve.as_str())?)
 }
 
+/// A command line with the subcommands that search for the fewest pushes.
+fn with_searches<'a>(
+    alloc: Global,
+    line: Command<'a>,
+    notes: &'a Notes,
+) -> Result<Command<'a>, AllocError> {
+    line.subcommand(best_command(alloc, notes.best.as_str())?)?
+        .subcommand(prove_command(alloc, notes.prove.as_str())?)
+}
+
 /// The command line that the program understands; the notes end its helps.
 fn command<'a>(alloc: Global, notes: &'a Notes) -> Result<Command<'a>, AllocError> {
     let bare = bare_command(alloc, notes.program.as_str())?;
     let checks = bare.subcommand(check_command(alloc, notes.check.as_str())?)?;
     let looks = with_looks(alloc, checks)?;
     let plays = with_plays(alloc, looks, notes)?;
-    plays.subcommand(prove_command(alloc, notes.prove.as_str())?)
+    with_searches(alloc, plays, notes)
 }
 
 /// A value that its argument does not take.
@@ -166,12 +191,25 @@ struct BadValue<'a> {
     most: u32,
 }
 
+/// Whether a word begins with a plus, which `parse` takes.
+fn has_plus(word: &str) -> bool
+    ensures { result ≡ (slice_index word.now 0 == 43) }
+{
+    match word.as_bytes() {
+        [first, ..] => *first == b'+',
+        [] => false,
+    }
+}
+
+#[tactic(auto, using(crate::proofs::Signs::no_sign))]
 /// A number of the command line: decimal digits alone, from 1 to a greatest number.
-fn number_from(text: &str, most: u32) -> Option<NonZeroU32> {
-    if !text.bytes().all(|byte| byte.is_ascii_digit()) {
+fn number_from(word: &str, most: u32) -> Option<NonZeroU32>
+    ensures { IfSome result (λ n. IsNumber word.now (non_zero_u32_get n) × (non_zero_u32_get n ≤ most)) }
+{
+    if has_plus(word) {
         return None;
     }
-    let number = text.parse::<NonZeroU32>().ok()?;
+    let number = word.parse::<NonZeroU32>().ok()?;
     if number.get() <= most {
         Some(number)
     } else {
@@ -179,12 +217,25 @@ fn number_from(text: &str, most: u32) -> Option<NonZeroU32> {
     }
 }
 
+#[tactic(auto, using(crate::proofs::Signs::no_sign))]
 /// A cap of the command line: decimal digits alone, from 0 to the greatest `u32`.
-fn cap_from(text: &str) -> Option<u32> {
-    if !text.bytes().all(|byte| byte.is_ascii_digit()) {
+fn cap_from(word: &str) -> Option<u32>
+    ensures { IfSome result (λ n. IsNumber word.now n) }
+{
+    if has_plus(word) {
         return None;
     }
-    text.parse::<u32>().ok()
+    word.parse::<u32>().ok()
+}
+
+/// The value is no number from 1 to the greatest one that its argument takes.
+fn out_of_range<'a>(argument: &'static str, value: &'a str, most: u32) -> BadValue<'a> {
+    BadValue {
+        argument,
+        value,
+        least: 1,
+        most,
+    }
 }
 
 /// The number, at most so great, that an argument has that usage shows so.
@@ -193,18 +244,22 @@ fn number_of<'a>(
     name: &str,
     argument: &'static str,
     most: u32,
-) -> Result<NonZeroU32, BadValue<'a>> {
-    let value = matches.get_str(name).unwrap_or("");
-    number_from(value, most).ok_or(BadValue {
-        argument,
-        value,
-        least: 1,
-        most,
-    })
+) -> Result<NonZeroU32, BadValue<'a>>
+    ensures { IfOk result (λ n. HasNumber matches.now name.now (non_zero_u32_get n)) }
+{
+    let Some(value) = matches.get_str(name) else {
+        return Err(out_of_range(argument, "", most));
+    };
+    match number_from(value, most) {
+        Some(number) => Ok(number),
+        None => Err(out_of_range(argument, value, most)),
+    }
 }
 
 /// The cap of pushes, if one is given.
-fn cap_of<'a>(matches: &ArgMatches<'a>) -> Result<Option<u32>, BadValue<'a>> {
+fn cap_of<'a>(matches: &ArgMatches<'a>) -> Result<Option<u32>, BadValue<'a>>
+    ensures { IfOk result (λ cap. MayHaveNumber matches.now (codes "max-pushes") cap) }
+{
     let Some(value) = matches.get_str("max-pushes") else {
         return Ok(None);
     };
@@ -224,9 +279,11 @@ fn solve_request<'a>(
     file: &'a str,
     number: NonZeroU32,
     matches: &ArgMatches<'a>,
-) -> Result<Request<'a>, BadValue<'a>> {
-    let workers = number_of(matches, "workers", "--workers <W>", MAX_WORKERS as u32)?;
-    let locks = number_of(matches, "locks", "--locks <K>", MAX_SHARES as u32)?;
+) -> Result<Request<'a>, BadValue<'a>>
+    ensures { IfOk result (AsksToSolve file.now (non_zero_u32_get number) matches.now) }
+{
+    let workers = number_of(matches, "workers", "--workers <W>", MOST_WORKERS)?;
+    let locks = number_of(matches, "locks", "--locks <K>", MOST_LOCKS)?;
     let limit = number_of(matches, "limit", "--limit <L>", u32::MAX)?;
     let cap = cap_of(matches)?;
     Ok(Request::Solve {
@@ -239,20 +296,36 @@ fn solve_request<'a>(
     })
 }
 
+/// What the matches of `best` ask for.
+fn best_request<'a>(
+    file: &'a str,
+    number: NonZeroU32,
+    matches: &ArgMatches<'a>,
+) -> Result<Request<'a>, BadValue<'a>>
+    ensures { IfOk result (AsksForBest file.now (non_zero_u32_get number) matches.now) }
+{
+    let limit = number_of(matches, "limit", "--limit <L>", u32::MAX)?;
+    Ok(Request::Best {
+        file,
+        number,
+        limit,
+    })
+}
+
 /// What the matches of `prove` ask for.
 fn prove_request<'a>(
     file: &'a str,
     number: NonZeroU32,
     solution: &'a str,
     matches: &ArgMatches<'a>,
-) -> Result<Request<'a>, BadValue<'a>> {
-    let workers = number_of(matches, "workers", "--workers <W>", MAX_WORKERS as u32)?;
+) -> Result<Request<'a>, BadValue<'a>>
+    ensures { IfOk result (AsksToProve file.now (non_zero_u32_get number) solution.now matches.now) }
+{
     let limit = number_of(matches, "limit", "--limit <L>", u32::MAX)?;
     Ok(Request::Prove {
         file,
         number,
         solution,
-        workers,
         limit,
     })
 }
@@ -272,6 +345,9 @@ fn level_request<'a>(
     }
     if name == "solve" {
         return solve_request(file, number, matches);
+    }
+    if name == "best" {
+        return best_request(file, number, matches);
     }
     let solution = matches.get_str("SOLUTION").unwrap_or("");
     if name == "prove" {
@@ -304,6 +380,9 @@ fn own_command<'a>(alloc: Global, name: &str) -> Result<Command<'a>, AllocError>
     }
     if name == "replay" {
         return replay_command(alloc, "");
+    }
+    if name == "best" {
+        return best_command(alloc, "");
     }
     if name == "prove" {
         return prove_command(alloc, "");

@@ -5,6 +5,7 @@ ghost use Rattle.grid.specs.Board.{is_goal};
 ghost use Rattle.grid.specs.Masks.{has_bit};
 ghost use Rattle.grid.specs.Squares.{contains};
 ghost use Rattle.corrals.specs.Corrals.{IsBarred, IsClosure, IsReady, LeadsIn};
+ghost use Rattle.prices.specs.Solving.{Allows};
 ghost use Rattle.corrals.specs.inside.Checking.{IsReadyBox, are_inside, has_to_change, shut_beside, shut_round};
 ghost use Rattle.corrals.specs.inside.Views.{HasRoom};
 
@@ -25,7 +26,8 @@ pub(crate) fn is_closure(
 ) -> bool
     requires room { HasRoom (length ground.now.board.cells) sets.old }
     requires spare { spare.old.size ≡ length ground.now.board.cells }
-    ensures closure { IsTrue result → IsClosure ground.now.board (suc ground.now.left) (has_bit sets.new.held) (has_bit sets.new.room) ground.now.scene }
+    ensures closure { IsTrue result → (m : ℕ) → Allows ground.now.left m
+        → IsClosure ground.now.board (suc m) (has_bit sets.new.held) (has_bit sets.new.room) ground.now.scene }
     ensures room { HasRoom (length ground.now.board.cells) sets.new }
     ensures spare { spare.new ≡ spare.old }
 {
@@ -59,7 +61,8 @@ fn is_found(
     requires held { (q : ℕ) → has_bit sets.now.held q ≡ contains boxes.now q }
     requires room { (q : ℕ) → has_bit sets.now.room q ≡ contains squares.now q }
     requires spare { spare.old.size ≡ length ground.now.board.cells }
-    ensures closure { IsTrue result → IsClosure ground.now.board (suc ground.now.left) (has_bit sets.now.held) (has_bit sets.now.room) ground.now.scene }
+    ensures closure { IsTrue result → (m : ℕ) → Allows ground.now.left m
+        → IsClosure ground.now.board (suc m) (has_bit sets.now.held) (has_bit sets.now.room) ground.now.scene }
     ensures spare { spare.new ≡ spare.old }
 {
     let outside = !sets.room.has(ground.position().player());
@@ -131,8 +134,8 @@ fn is_shut_beside(ground: &Ground<'_>, square: Square, dir: Dir, sets: &Sets) ->
 fn are_ready(ground: &Ground<'_>, boxes: &[Square], sets: &Sets, spare: &mut Scratch) -> bool
     requires held { (q : ℕ) → has_bit sets.now.held q ≡ contains boxes.now q }
     requires spare { spare.old.size ≡ length ground.now.board.cells }
-    ensures ready { IsTrue result → (b : ℕ) → contains boxes.now b ≡ true →
-        IsReadyBox ground.now.board (suc ground.now.left) (has_bit sets.now.held) (has_bit sets.now.room) ground.now.scene b }
+    ensures ready { IsTrue result → (m : ℕ) → Allows ground.now.left m → (b : ℕ) → contains boxes.now b ≡ true
+        → IsReadyBox ground.now.board (suc m) (has_bit sets.now.held) (has_bit sets.now.room) ground.now.scene b }
     ensures spare { spare.new ≡ spare.old }
 {
     for square in boxes {
@@ -153,7 +156,8 @@ fn is_ready_round(
 ) -> bool
     requires held { (q : ℕ) → has_bit sets.now.held q ≡ contains boxes.now q }
     requires spare { spare.old.size ≡ length ground.now.board.cells }
-    ensures ready { IsTrue result → IsReadyBox ground.now.board (suc ground.now.left) (has_bit sets.now.held) (has_bit sets.now.room) ground.now.scene square }
+    ensures ready { IsTrue result → (m : ℕ) → Allows ground.now.left m
+        → IsReadyBox ground.now.board (suc m) (has_bit sets.now.held) (has_bit sets.now.room) ground.now.scene square }
     ensures spare { spare.new ≡ spare.old }
 {
     if !ground.has(square) || !ground.has_box(square) {
@@ -178,7 +182,8 @@ fn is_ready_along(
     requires inside { square < length ground.now.board.cells }
     requires held { (q : ℕ) → has_bit sets.now.held q ≡ contains boxes.now q }
     requires spare { spare.old.size ≡ length ground.now.board.cells }
-    ensures ready { IsTrue result → IsReady ground.now.board (suc ground.now.left) (has_bit sets.now.held) (has_bit sets.now.room) ground.now.scene square dir }
+    ensures ready { IsTrue result → (m : ℕ) → Allows ground.now.left m
+        → IsReady ground.now.board (suc m) (has_bit sets.now.held) (has_bit sets.now.room) ground.now.scene square dir }
     ensures spare { spare.new ≡ spare.old }
 {
     let barred = is_barred(ground, square, dir, sets);

@@ -1,9 +1,10 @@
 //! Corrals that are looked for in a position.
-ghost use Rattle.std.specs.Prelude.{◌≡◌, suc, IsTrue};
+ghost use Rattle.std.specs.Prelude.{◌≡◌, ℕ, suc, IsTrue};
 ghost use Rattle.grid.specs.Masks.{has_bit};
 ghost use Rattle.grid.specs.States.{FitsLevel};
 ghost use Rattle.area.specs.After.{IsAreaOf};
 ghost use Rattle.corrals.specs.Corrals.{IsClosure};
+ghost use Rattle.prices.specs.Solving.{Allows};
 
 use crate::checking::is_closure;
 use crate::corral::Corral;
@@ -29,7 +30,8 @@ pub fn find(
     requires flooded { IsAreaOf level.now position.now scratch.now.reached }
     requires boxes { scratch.now.boxes ≡ position.now.boxes }
     requires slack { (slack.now.board ≡ level.now) × (slack.now.scene ≡ position.now) }
-    ensures { IsTrue result → IsClosure level.now (suc slack.now.left) (has_bit corral.new.held) (has_bit corral.new.room) position.now }
+    ensures { IsTrue result → (m : ℕ) → Allows slack.now.left m
+        → IsClosure level.now (suc m) (has_bit corral.new.held) (has_bit corral.new.room) position.now }
 {
     let ground = Ground::of(level, dead, position, scratch, slack);
     let chosen = corral.choice.choose(&ground);

@@ -8,6 +8,7 @@ ghost use Rattle.area.specs.After.{IsAreaOf};
 ghost use Rattle.area.specs.Area.{Area};
 ghost use Rattle.doom.specs.Deadlocks.{IsFrozen};
 ghost use Rattle.prices.specs.Helping.{NeverHelps};
+ghost use Rattle.prices.specs.Solving.{Allows};
 
 use area::Scratch;
 use doom::Dead;
@@ -16,7 +17,7 @@ use prices::Slack;
 use std::marker::Model;
 
 /// A position of a level, of which the last flood in the scratch was. Contracts see the level, the position, and how many
-/// pushes are left after the next.
+/// pushes are left after the next; `None` is any number.
 #[derive(Debug, Drop)]
 pub(crate) struct Ground<'a> {
     level: &'a Level,
@@ -107,7 +108,7 @@ impl<'a> Ground<'a> {
     /// Whether a push of the box on the square never helps, where one stands there: it leads onto a dead square, or costs more
     /// than is left.
     pub(crate) fn never_helps(&self, square: Square, dir: Dir) -> bool
-        ensures { IsTrue result → NeverHelps self.now.board (suc self.now.left) self.now.scene square dir }
+        ensures { IsTrue result → (m : ℕ) → Allows self.now.left m → NeverHelps self.now.board (suc m) self.now.scene square dir }
     {
         if !self.has(square) || !self.has_box(square) {
             return false;

@@ -12,7 +12,7 @@
 //! ```text
 //! area::flood(level, start, scratch);
 //! // one push is left after the next
-//! let slack = Slack::of(distances, start, 1, &matching);
+//! let slack = Slack::of(distances, start, Some(1), &matching);
 //! corrals::find(level, dead, start, scratch, &slack, corral)
 //! ```
 #![tactic(auto)]

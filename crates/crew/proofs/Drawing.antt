@@ -140,10 +140,10 @@ pub stopped_not_drained : (P : Type 0) (end : End) → end ≡ Stopped → IfDra
 stopped_not_drained P end is = subst (λ e. IfDrained e P) (sym is) tt
 
 -- a draw that gives no rank ends a worker as a worker may end
-pub drawn_at_last : (may_stop : Bool) (layer : LayerView) (worker : ℕ) (hand : Hand) (end : End) → DrawEnds worker hand end →
-    HasEnded may_stop layer worker hand end
-drawn_at_last may_stop layer worker hand Drained ends = record { may = tt; left = ends; answered = tt }
-drawn_at_last may_stop layer worker hand Stopped ends = absurd ends
-drawn_at_last may_stop layer worker hand Foreign ends = absurd ends
-drawn_at_last may_stop layer worker hand NoPlace ends = absurd ends
-drawn_at_last may_stop layer worker hand (Refused refusal) ends = absurd ends
+pub drawn_at_last : (may_stop : Bool) (layer : LayerView) (workers worker : ℕ) (hand : Hand) (end : End) → DrawEnds worker hand end →
+    HasEnded may_stop layer workers worker hand end
+drawn_at_last may_stop layer workers worker hand Drained ends = record { may = tt; left = ends; answered = tt }
+drawn_at_last may_stop layer workers worker hand Stopped ends = absurd ends
+drawn_at_last may_stop layer workers worker hand Foreign ends = absurd ends
+drawn_at_last may_stop layer workers worker hand NoPlace ends = absurd ends
+drawn_at_last may_stop layer workers worker hand (Refused refusal) ends = absurd ends

@@ -256,23 +256,23 @@ asks_drawn may books nth after hand mid later NoPlace has it = absurd it
 -- ---- under a book's lock
 
 -- an end by the book comes with no event
-pub ends_by_book : (layer : LayerView) (worker : ℕ) (book : BookView) (parcel : ParcelView) (may : ℕ → Bool → Bool) (nth : ℕ) (end : End) →
-    HandEnds layer worker book parcel end → EndsAtOnce may nth nth end
-ends_by_book layer worker book parcel may nth Foreign it = refl
-ends_by_book layer worker book parcel may nth (Refused refusal) it = refl
-ends_by_book layer worker book parcel may nth Drained it = absurd it
-ends_by_book layer worker book parcel may nth Stopped it = absurd it
-ends_by_book layer worker book parcel may nth NoPlace it = absurd it
+pub ends_by_book : (layer : LayerView) (workers worker : ℕ) (book : BookView) (parcel : ParcelView) (may : ℕ → Bool → Bool) (nth : ℕ) (end : End) →
+    HandEnds layer workers worker book parcel end → EndsAtOnce may nth nth end
+ends_by_book layer workers worker book parcel may nth Foreign it = refl
+ends_by_book layer workers worker book parcel may nth (Refused refusal) it = refl
+ends_by_book layer workers worker book parcel may nth Drained it = absurd it
+ends_by_book layer workers worker book parcel may nth Stopped it = absurd it
+ends_by_book layer workers worker book parcel may nth NoPlace it = absurd it
 
-pub over_by_book : (layer : LayerView) (worker : ℕ) (book : BookView) (parcel : ParcelView) (end : End) → HandEnds layer worker book parcel end →
-    HandOverEnds layer worker book parcel end
-over_by_book layer worker book parcel Foreign it = it
-over_by_book layer worker book parcel (Refused refusal) it = it
-over_by_book layer worker book parcel Drained it = absurd it
-over_by_book layer worker book parcel Stopped it = absurd it
-over_by_book layer worker book parcel NoPlace it = absurd it
+pub over_by_book : (layer : LayerView) (workers worker : ℕ) (book : BookView) (parcel : ParcelView) (end : End) →
+    HandEnds layer workers worker book parcel end → HandOverEnds layer workers worker book parcel end
+over_by_book layer workers worker book parcel Foreign it = it
+over_by_book layer workers worker book parcel (Refused refusal) it = it
+over_by_book layer workers worker book parcel Drained it = absurd it
+over_by_book layer workers worker book parcel Stopped it = absurd it
+over_by_book layer workers worker book parcel NoPlace it = absurd it
 
 -- or by the gate
-pub over_by_gate : (layer : LayerView) (worker : ℕ) (book : BookView) (parcel : ParcelView) (end : End) → end ≡ Stopped →
-    IsOwn layer worker book × MayEnter book parcel → HandOverEnds layer worker book parcel end
-over_by_gate layer worker book parcel end is may = subst (HandOverEnds layer worker book parcel) (sym is) may
+pub over_by_gate : (layer : LayerView) (workers worker : ℕ) (book : BookView) (parcel : ParcelView) (end : End) → end ≡ Stopped →
+    IsOwn layer workers worker book × MayEnter book parcel → HandOverEnds layer workers worker book parcel end
+over_by_gate layer workers worker book parcel end is may = subst (HandOverEnds layer workers worker book parcel) (sym is) may

@@ -9,10 +9,11 @@ use Rattle.claims.specs.Hands.{LedgerView, DrawerView, Drew}
 use Rattle.crew.specs.declared.end.End.{End}
 use Rattle.crew.specs.declared.end.End.TheVariants.{Drained, Refused, Stopped, Foreign, NoPlace}
 
--- the book is of the layer's level, it has closed that layer last, and it is made for more workers than this number
-pub record IsOwn (layer : LayerView) (worker : ℕ) (book : BookView) : Type 0 where
+-- the book is of the layer's level, it has closed that layer last, and it is made for this number of workers, the worker among them
+pub record IsOwn (layer : LayerView) (workers worker : ℕ) (book : BookView) : Type 0 where
   pub level : layer.level ≡ book.level
   pub last : layer.number ≡ last_layer book
+  pub made_for : book.workers ≡ workers
   pub member : worker < book.workers
 
 -- the parcel is of the layer
@@ -41,21 +42,21 @@ DrawEnds worker after NoPlace = ⊥
 DrawEnds worker after (Refused refusal) = ⊥
 
 -- how a hand back ends a worker: the book is not its own, or refuses the parcel
-abbrev pub HandEnds : LayerView → ℕ → BookView → ParcelView → End → Type 0
-HandEnds layer worker book parcel Foreign = ¬ (IsOwn layer worker book)
-HandEnds layer worker book parcel (Refused refusal) = IsOwn layer worker book × HandBackRefused book parcel refusal
-HandEnds layer worker book parcel Drained = ⊥
-HandEnds layer worker book parcel Stopped = ⊥
-HandEnds layer worker book parcel NoPlace = ⊥
+abbrev pub HandEnds : LayerView → ℕ → ℕ → BookView → ParcelView → End → Type 0
+HandEnds layer workers worker book parcel Foreign = ¬ (IsOwn layer workers worker book)
+HandEnds layer workers worker book parcel (Refused refusal) = IsOwn layer workers worker book × HandBackRefused book parcel refusal
+HandEnds layer workers worker book parcel Drained = ⊥
+HandEnds layer workers worker book parcel Stopped = ⊥
+HandEnds layer workers worker book parcel NoPlace = ⊥
 
 -- how a hand back ends a worker that then asks the gate: the book answered so, or the gate did not let it go on, where the book
 -- was its own and nothing stood in the parcel's way
-abbrev pub HandOverEnds : LayerView → ℕ → BookView → ParcelView → End → Type 0
-HandOverEnds layer worker book parcel Stopped = IsOwn layer worker book × MayEnter book parcel
-HandOverEnds layer worker book parcel Foreign = HandEnds layer worker book parcel Foreign
-HandOverEnds layer worker book parcel (Refused refusal) = HandEnds layer worker book parcel (Refused refusal)
-HandOverEnds layer worker book parcel Drained = ⊥
-HandOverEnds layer worker book parcel NoPlace = ⊥
+abbrev pub HandOverEnds : LayerView → ℕ → ℕ → BookView → ParcelView → End → Type 0
+HandOverEnds layer workers worker book parcel Stopped = IsOwn layer workers worker book × MayEnter book parcel
+HandOverEnds layer workers worker book parcel Foreign = HandEnds layer workers worker book parcel Foreign
+HandOverEnds layer workers worker book parcel (Refused refusal) = HandEnds layer workers worker book parcel (Refused refusal)
+HandOverEnds layer workers worker book parcel Drained = ⊥
+HandOverEnds layer workers worker book parcel NoPlace = ⊥
 
 -- the book after a hand back that ended a worker: over, where it passed its limit, and else as it was
 abbrev pub after_end : BookView → End → BookView
@@ -84,13 +85,13 @@ EndsWith worker hand Foreign = Unit {0}
 
 -- a worker ends as refused only where a lawful book of its own did not accept a parcel of the layer, and as foreign only
 -- where the book was not its own
-abbrev pub WasAnswered : LayerView → ℕ → End → Type 0
-WasAnswered layer worker (Refused refusal) = (book : BookView) × (parcel : ParcelView) × IsLawfulBook book × IsOfLayer layer parcel
-    × HandEnds layer worker book parcel (Refused refusal)
-WasAnswered layer worker Foreign = (book : BookView) × IsLawfulBook book × ¬ (IsOwn layer worker book)
-WasAnswered layer worker Drained = Unit {0}
-WasAnswered layer worker NoPlace = Unit {0}
-WasAnswered layer worker Stopped = Unit {0}
+abbrev pub WasAnswered : LayerView → ℕ → ℕ → End → Type 0
+WasAnswered layer workers worker (Refused refusal) = (book : BookView) × (parcel : ParcelView) × IsLawfulBook book × IsOfLayer layer parcel
+    × HandEnds layer workers worker book parcel (Refused refusal)
+WasAnswered layer workers worker Foreign = (book : BookView) × IsLawfulBook book × ¬ (IsOwn layer workers worker book)
+WasAnswered layer workers worker Drained = Unit {0}
+WasAnswered layer workers worker NoPlace = Unit {0}
+WasAnswered layer workers worker Stopped = Unit {0}
 
 -- ---- events and the gate
 

@@ -100,6 +100,7 @@ impl<'a> Desks<'a> {
             books: loan.books,
             ledger: loan.ledger,
             gate: &within,
+            workers: terms.config.workers.saturating_add(1),
             held: &held,
             room: room_of_each(loan),
             largest: loan.largest,

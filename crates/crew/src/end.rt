@@ -9,7 +9,8 @@ pub enum End {
     Refused(Refusal),
     /// The gate did not let it go on.
     Stopped,
-    /// A book behind its lock is of another level, at another layer, or not made for a worker of its number.
+    /// A book behind its lock is of another level, at another layer, or made for another number of workers, or for none of this
+    /// worker's number.
     Foreign,
     /// Another drawer has its place in the ledger.
     NoPlace,

@@ -19,6 +19,7 @@ use crate::worker::pass;
 use area::Scratch;
 use claims::Drawer;
 use layers::{Book, Layer, Parcel, Refusal};
+use std::sync::atomic::AtomicU64;
 use std::sync::{Mutex, MutexGuard, Wait};
 
 // Hands a parcel back to each of the books in order.
@@ -30,7 +31,7 @@ pub(crate) fn hand_back<R: Wait, G: Gate>(
     requires { IsOfLayer post.now.shift.now.layer parcel.now }
     ensures end { IfErr result (λ end. MayEnd G.may_stop end) }
     ensures hand { (hand : Hand) → IfErr result (λ end. EndsWith post.now.worker hand end) }
-    ensures answered { IfErr result (λ end. WasAnswered post.now.shift.now.layer post.now.worker end) }
+    ensures answered { IfErr result (λ end. WasAnswered post.now.shift.now.layer post.now.shift.now.workers post.now.worker end) }
     ensures goes_on { OnOk result (GoesOn (answers_to G.may_answer post.now.shift.now post.now.worker) nth.old post.now.shift.now.books nth.new) }
     ensures gate { IfErr result (λ end. IsCutOff (answers_to G.may_answer post.now.shift.now post.now.worker) post.now.shift.now.books nth.old nth.new end) }
 {
@@ -54,7 +55,7 @@ pub(crate) fn hand_lot<'a, R: Wait, G: Gate>(
     requires ready { IsReady post.now.shift.now post.now.worker scratch.old drawer.old }
     requires lot { AreOfLayer post.now.shift.now.layer lot.now }
     ensures grown { OnOk result (IsGrown post.now.shift.now.layer drawer.old.hand next.old next.new drawer.new.hand) }
-    ensures ends { IfErr result (λ end. HasEnded G.may_stop post.now.shift.now.layer post.now.worker drawer.new.hand end) }
+    ensures ends { IfErr result (λ end. HasEnded G.may_stop post.now.shift.now.layer post.now.shift.now.workers post.now.worker drawer.new.hand end) }
     ensures works { OnOk result (Works (answers_to G.may_answer post.now.shift.now post.now.worker)
         (post.now.shift.now.books * length lot.now) drawer.old.hand nth.old drawer.new.hand nth.new) }
     ensures gate { IfErr result (λ end. WorksUntil (answers_to G.may_answer post.now.shift.now post.now.worker)
@@ -88,7 +89,7 @@ fn hand_lot_to<'a, R: Wait, G: Gate>(
     requires ready { IsReady post.now.shift.now post.now.worker scratch.old drawer.old }
     requires lot { AreOfLayer post.now.shift.now.layer errand.now.lot.now }
     ensures grown { OnOk result (IsGrown post.now.shift.now.layer drawer.old.hand next.old next.new drawer.new.hand) }
-    ensures ends { IfErr result (λ end. HasEnded G.may_stop post.now.shift.now.layer post.now.worker drawer.new.hand end) }
+    ensures ends { IfErr result (λ end. HasEnded G.may_stop post.now.shift.now.layer post.now.shift.now.workers post.now.worker drawer.new.hand end) }
     ensures works { OnOk result (Works (answers_to G.may_answer post.now.shift.now post.now.worker)
         (length errand.now.lot.now) drawer.old.hand nth.old drawer.new.hand nth.new) }
     ensures gate { IfErr result (λ end. WorksUntil (answers_to G.may_answer post.now.shift.now post.now.worker)
@@ -114,7 +115,7 @@ fn lock_or_draw<'a, 'b, R: Wait, G: Gate>(
 ) -> Result<MutexGuard<'b, Book>, End>
     requires ready { IsReady post.now.shift.now post.now.worker scratch.old drawer.old }
     ensures grown { OnOk result (IsGrown post.now.shift.now.layer drawer.old.hand next.old next.new drawer.new.hand) }
-    ensures ends { IfErr result (λ end. HasEnded G.may_stop post.now.shift.now.layer post.now.worker drawer.new.hand end) }
+    ensures ends { IfErr result (λ end. HasEnded G.may_stop post.now.shift.now.layer post.now.shift.now.workers post.now.worker drawer.new.hand end) }
     ensures works { OnOk result (Works (answers_to G.may_answer post.now.shift.now post.now.worker) 0 drawer.old.hand nth.old drawer.new.hand nth.new) }
     ensures gate { IfErr result (λ end. WorksUntil (answers_to G.may_answer post.now.shift.now post.now.worker)
         0 drawer.old.hand nth.old drawer.new.hand nth.new end) }
@@ -141,37 +142,56 @@ fn hand_to<R: Wait, G: Gate>(
     requires { IsOfLayer post.now.shift.now.layer parcel.now }
     ensures end { IfErr result (λ end. MayEnd G.may_stop end) }
     ensures hand { (hand : Hand) → IfErr result (λ end. EndsWith post.now.worker hand end) }
-    ensures answered { IfErr result (λ end. WasAnswered post.now.shift.now.layer post.now.worker end) }
-    ensures ok { OnOk result (IsOwn post.now.shift.now.layer post.now.worker (mutex_guard_value guard.entry)
+    ensures answered { IfErr result (λ end. WasAnswered post.now.shift.now.layer post.now.shift.now.workers post.now.worker end) }
+    ensures ok { OnOk result (IsOwn post.now.shift.now.layer post.now.shift.now.workers post.now.worker (mutex_guard_value guard.entry)
         × MayEnter (mutex_guard_value guard.entry) parcel.now) }
-    ensures refused { IfErr result (λ end. HandOverEnds post.now.shift.now.layer post.now.worker (mutex_guard_value guard.entry) parcel.now end) }
+    ensures refused { IfErr result (λ end. HandOverEnds post.now.shift.now.layer post.now.shift.now.workers post.now.worker
+        (mutex_guard_value guard.entry) parcel.now end) }
     ensures goes_on { OnOk result (IsTold (answers_to G.may_answer post.now.shift.now post.now.worker) nth.old true nth.new) }
     ensures gate { IfErr result (λ end. EndsAtOnce (answers_to G.may_answer post.now.shift.now post.now.worker) nth.old nth.new end) }
 {
     let shift = post.shift;
     let mut guard = guard;
-    let before = guard.positions_at_least();
-    let handed = hand_in(&mut *guard, shift.layer, post.worker, parcel);
-    tell_growth(shift.held, before, guard.positions_at_least());
+    let handed = hand_in(
+        &mut *guard,
+        shift.layer,
+        shift.workers,
+        shift.held,
+        post.worker,
+        parcel,
+    );
     drop(guard);
     handed?;
     pass(post, nth)
 }
 
-// Hands back a parcel of the layer.
-fn hand_in(book: &mut Book, layer: &Layer, worker: u8, parcel: &Parcel<'_>) -> Result<(), End>
+// Hands a parcel of the layer back to a book whose lock is held, and tells the other workers how much the book grew.
+fn hand_in(
+    book: &mut Book,
+    layer: &Layer,
+    workers: u8,
+    held: &AtomicU64,
+    worker: u8,
+    parcel: &Parcel<'_>,
+) -> Result<(), End>
     requires { IsOfLayer layer.now parcel.now }
-    ensures may { OnOk result (IsOwn layer.now worker book.old × MayEnter book.old parcel.now) }
+    ensures may { OnOk result (IsOwn layer.now workers worker book.old × MayEnter book.old parcel.now) }
     ensures ok { OnOk result (book.new ≡ with_parcel book.old worker parcel.now) }
-    ensures end { IfErr result (λ end. HandEnds layer.now worker book.old parcel.now end) }
-    ensures answered { IfErr result (λ end. WasAnswered layer.now worker end) }
+    ensures end { IfErr result (λ end. HandEnds layer.now workers worker book.old parcel.now end) }
+    ensures answered { IfErr result (λ end. WasAnswered layer.now workers worker end) }
     ensures kept { IfErr result (λ end. book.new ≡ after_end book.old end) }
 {
     book.tell();
-    if worker >= book.workers() {
+    if book.workers() != workers {
         return Err(End::Foreign);
     }
-    match book.hand_back(worker, parcel) {
+    if worker >= workers {
+        return Err(End::Foreign);
+    }
+    let before = book.positions_at_least();
+    let handed = book.hand_back(worker, parcel);
+    tell_growth(held, before, book.positions_at_least());
+    match handed {
         Ok(()) => Ok(()),
         Err(Refusal::OtherLevel) => Err(End::Foreign),
         Err(Refusal::OtherLayer) => Err(End::Foreign),

@@ -1,9 +1,12 @@
 //! Books' locks, and what a worker does until the one that it wants is free.
+ghost use Rattle.std.specs.Prelude.{◌≡◌};
+
 use crate::closing::SIDE_BY_SIDE;
 use crate::gate::Gate;
 use crate::held::tell_growth;
 use crate::shift::{Post, Shift};
 use layers::Book;
+use std::sync::atomic::AtomicU64;
 use std::sync::{Mutex, MutexGuard, Wait};
 use std::thread::yield_now;
 
@@ -57,10 +60,17 @@ fn enter_own<R: Wait, G: Gate>(post: &Post<'_, '_, '_, '_, R, G>) -> bool {
     let Some(mut guard) = book.try_lock() else {
         return false;
     };
-    let before = guard.positions_at_least();
-    let entered = guard.enter_waiting(LEAST);
-    tell_growth(shift.held, before, guard.positions_at_least());
-    drop(guard);
+    enter_into(&mut *guard, shift.held)
+}
+
+// What waits to enter a book whose lock is held does so, if there is enough of it, and the other workers are told how much the
+// book grew; says whether it did. The book shows the same as before.
+fn enter_into(book: &mut Book, held: &AtomicU64) -> bool
+    ensures { book.new ≡ book.old }
+{
+    let before = book.positions_at_least();
+    let entered = book.enter_waiting(LEAST);
+    tell_growth(held, before, book.positions_at_least());
     entered
 }
 

@@ -171,7 +171,7 @@ impl<'a> Lot<'a> {
         ensures grown { IfOk result (λ more. IsGrown post.now.shift.now.layer drawer.old.hand self.old self.new drawer.new.hand) }
         ensures more { IfOk result (λ more. more ≡ true → length self.old < length self.new) }
         ensures no_more { IfOk result (λ more. more ≡ false → (self.new ≡ self.old) × (self.new ≡ [] → EndsWith post.now.worker drawer.new.hand Drained)) }
-        ensures ends { IfErr result (λ end. HasEnded G.may_stop post.now.shift.now.layer post.now.worker drawer.new.hand end) }
+        ensures ends { IfErr result (λ end. HasEnded G.may_stop post.now.shift.now.layer post.now.shift.now.workers post.now.worker drawer.new.hand end) }
         ensures works { OnOk result (Works (answers_to G.may_answer post.now.shift.now post.now.worker) 0 drawer.old.hand nth.old drawer.new.hand nth.new) }
         ensures gate { IfErr result (λ end. WorksUntil (answers_to G.may_answer post.now.shift.now post.now.worker)
             0 drawer.old.hand nth.old drawer.new.hand nth.new end) }
@@ -271,7 +271,7 @@ fn draw_ranks<R: Wait, G: Gate>(
     requires place { IsAtPlace post.now.shift.now.ledger post.now.worker drawer.old }
     ensures drawn { IfOk result (λ count. AreDrawn post.now.shift.now.layer drawer.old.hand count ranks.new drawer.new.hand) }
     ensures all { IfOk result (λ count. count < length ranks.new → EndsWith post.now.worker drawer.new.hand Drained) }
-    ensures ends { IfErr result (λ end. HasEnded G.may_stop post.now.shift.now.layer post.now.worker drawer.new.hand end) }
+    ensures ends { IfErr result (λ end. HasEnded G.may_stop post.now.shift.now.layer post.now.shift.now.workers post.now.worker drawer.new.hand end) }
     ensures works { OnOk result (Works (answers_to G.may_answer post.now.shift.now post.now.worker) 0 drawer.old.hand nth.old drawer.new.hand nth.new) }
     ensures gate { IfErr result (λ end. WorksUntil (answers_to G.may_answer post.now.shift.now post.now.worker)
         0 drawer.old.hand nth.old drawer.new.hand nth.new end) }

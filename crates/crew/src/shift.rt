@@ -8,8 +8,8 @@ use std::sync::atomic::AtomicU64;
 use std::sync::{Mutex, Wait};
 
 /// What the workers of a layer share: the layer and its level, what leaves positions out, the books, each behind a lock of its
-/// own, the ledger of the layer's ranks, the gate, and how many positions the books hold. Contracts see the layer, the ledger, how
-/// many books there are, and the gate.
+/// own, the ledger of the layer's ranks, the gate, for how many workers the books are made, and how many positions they hold.
+/// Contracts see the layer, the ledger, how many books there are, their number of workers, and the gate.
 #[derive(Drop)]
 pub(crate) struct Shift<'s, 'a, G: Gate> {
     pub(crate) level: &'a Level,
@@ -18,6 +18,7 @@ pub(crate) struct Shift<'s, 'a, G: Gate> {
     pub(crate) books: &'s [Mutex<Book>],
     pub(crate) ledger: &'s Ledger,
     pub(crate) gate: &'s G,
+    pub(crate) workers: u8,
     // how many positions the books hold together, as the workers tell
     pub(crate) held: &'s AtomicU64,
     // for how many positions more each book may make room ahead
@@ -32,7 +33,7 @@ impl<'s, 'a, G: Gate> Model for Shift<'s, 'a, G> {
 
     ghost Value = { ShiftView G };
 
-    ghost view = { λ a. record { layer = a.layer.now; ledger = a.ledger.now; books = length a.books.now; gate = a.gate.now } };
+    ghost view = { λ a. record { layer = a.layer.now; ledger = a.ledger.now; books = length a.books.now; workers = a.workers; gate = a.gate.now } };
 
     ghost invariant = { λ a. AreOfOneLayer a.layer.now a.level.now a.pruner.now a.ledger.now };
 }

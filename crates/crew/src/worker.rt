@@ -1,4 +1,4 @@
-ghost use Rattle.std.specs.Prelude.{◌≡◌, ◌<◌, ◌≤◌, [], ◌∷◌, ◌++◌, IsNone, true, IfErr, IfOk, OnErr, OnOk, length};
+ghost use Rattle.std.specs.Prelude.{◌≡◌, ℕ, ◌<◌, ◌≤◌, [], ◌∷◌, ◌++◌, IsNone, true, IfErr, IfOk, OnErr, OnOk, length};
 ghost use Rattle.claims.specs.declared.views.Hand.{Hand};
 ghost use Rattle.crew.specs.Work.{IsAtPlace, HasDrawn, DrawEnds, MayEnd, EndsWith, WasAnswered, AsksTheGate};
 ghost use Rattle.crew.specs.declared.end.End.TheVariants.{Stopped};
@@ -20,17 +20,19 @@ use std::mem::swap;
 use std::sync::atomic::AtomicU64;
 use std::sync::{Mutex, Wait};
 
-/// Works on a layer as one worker, until it ends: draws a lot of ranks, expands each of them while no lock is held, and
-/// hands the parcels back to each of the books in order, under one lock at a time and each under a lock of its own. A lot
+/// Works on a layer as one worker, until it ends: draws a batch of ranks, expands each of them while no lock is held, and
+/// hands the parcels back to each of the books in order, under one lock at a time and each under a lock of its own. A batch
 /// is one rank or a few, fewer in a small layer and toward the end of a large one. While another worker holds the book that
-/// it comes to, it draws on the next lot. The worker's place in the ledger is its number. After each draw that gives a rank,
-/// and each parcel that a book accepted, it asks the gate, with no lock held.
+/// it comes to, it enters what waits for the book of its own number, and draws on the next batch. The worker's place in the
+/// ledger is its number. After each draw that gives a rank, and each parcel that a book accepted, it asks the gate, with no
+/// lock held.
 ///
-/// What is behind a lock may be any book, so under the lock the worker asks for level, layer and its own number
-/// again. It ends with [`End::Stopped`] only where the gate may stop a worker, with [`End::Drained`] only where its
-/// drawer has its place and is spent out, with [`End::NoPlace`] only where its drawer has seen that place taken, with
-/// [`End::Refused`] only where a book of its own did not accept a parcel of the layer, for that reason, and with
-/// [`End::Foreign`] only where a book was not its own.
+/// Each of the books is made for `workers` workers. Any book may be behind a lock, so under the lock the worker compares
+/// level, layer and number of workers. It ends with [`End::Stopped`] only if the gate may stop a worker, with
+/// [`End::Drained`] only if its drawer has its place and is spent out, with [`End::NoPlace`] only if its drawer has seen
+/// that place taken, with [`End::Refused`] only if a book of its own did not accept a parcel of the layer, for that reason,
+/// and with [`End::Foreign`] only if a book was not its own: of another level, at another layer, or made for another number
+/// of workers or for none of its number.
 ///
 /// Its events are the ranks that it drew and the parcels that books accepted, and it tells the gate of each, by its number; it
 /// goes on only where the gate lets it, and ends as stopped at the first event after which the gate does not. Where it is
@@ -42,6 +44,7 @@ pub fn work<R: Wait, G: Gate>(
     books: &[Mutex<Book>],
     ledger: &Ledger,
     drawer: &mut Drawer,
+    workers: u8,
     worker: u8,
     scratch: &mut Scratch,
     gate: &G,
@@ -53,7 +56,7 @@ pub fn work<R: Wait, G: Gate>(
     requires place { worker < PLACES }
     ensures end { MayEnd G.may_stop result }
     ensures hand { EndsWith worker drawer.new.hand result }
-    ensures answered { WasAnswered layer.now worker result }
+    ensures answered { WasAnswered layer.now workers worker result }
     ensures gate { AsksTheGate (G.may_answer gate.now layer.now.number worker) (length books.now) drawer.old.hand drawer.new.hand result }
     ensures ledger { drawer.new.ledger ≡ ledger.now }
     ensures size { scratch.new.size ≡ scratch.old.size }
@@ -66,6 +69,7 @@ pub fn work<R: Wait, G: Gate>(
         books,
         ledger,
         gate,
+        workers,
         held: &held,
         room: 0,
         largest: 0,
@@ -84,7 +88,7 @@ fn work_on<R: Wait, G: Gate>(
     requires room { scratch.old.size ≡ length shift.now.layer.level.board.cells }
     requires drawer { (drawer.old.ledger ≡ shift.now.ledger) × IsNone drawer.old.hand.place }
     requires place { worker < PLACES }
-    ensures ends { HasEnded G.may_stop shift.now.layer worker drawer.new.hand result }
+    ensures ends { HasEnded G.may_stop shift.now.layer shift.now.workers worker drawer.new.hand result }
     ensures gate { AsksTheGate (answers_to G.may_answer shift.now worker) shift.now.books drawer.old.hand drawer.new.hand result }
     ensures ledger { drawer.new.ledger ≡ shift.now.ledger }
     ensures size { scratch.new.size ≡ scratch.old.size }
@@ -107,7 +111,7 @@ pub(crate) fn work_at<'a, R: Wait, G: Gate>(
     requires room { scratch.old.size ≡ length post.now.shift.now.layer.level.board.cells }
     requires drawer { (drawer.old.ledger ≡ post.now.shift.now.ledger) × IsNone drawer.old.hand.place }
     requires place { post.now.worker < PLACES }
-    ensures ends { HasEnded G.may_stop post.now.shift.now.layer post.now.worker drawer.new.hand result }
+    ensures ends { HasEnded G.may_stop post.now.shift.now.layer post.now.shift.now.workers post.now.worker drawer.new.hand result }
     ensures gate { AsksTheGate (answers_to G.may_answer post.now.shift.now post.now.worker) post.now.shift.now.books drawer.old.hand drawer.new.hand result }
     ensures ledger { drawer.new.ledger ≡ post.now.shift.now.ledger }
     ensures size { scratch.new.size ≡ scratch.old.size }
@@ -130,7 +134,7 @@ fn work_by_ones<R: Wait, G: Gate>(
     requires room { scratch.old.size ≡ length post.now.shift.now.layer.level.board.cells }
     requires drawer { (drawer.old.ledger ≡ post.now.shift.now.ledger) × IsNone drawer.old.hand.place }
     requires place { post.now.worker < PLACES }
-    ensures ends { HasEnded G.may_stop post.now.shift.now.layer post.now.worker drawer.new.hand result }
+    ensures ends { HasEnded G.may_stop post.now.shift.now.layer post.now.shift.now.workers post.now.worker drawer.new.hand result }
     ensures gate { AsksTheGate (answers_to G.may_answer post.now.shift.now post.now.worker) post.now.shift.now.books drawer.old.hand drawer.new.hand result }
     ensures ledger { drawer.new.ledger ≡ post.now.shift.now.ledger }
     ensures size { scratch.new.size ≡ scratch.old.size }
@@ -149,7 +153,7 @@ fn by_ones<R: Wait, G: Gate>(
     scratch: &mut Scratch,
 ) -> End
     requires ready { IsReady post.now.shift.now post.now.worker scratch.old drawer.old }
-    ensures ends { HasEnded G.may_stop post.now.shift.now.layer post.now.worker drawer.new.hand result }
+    ensures ends { HasEnded G.may_stop post.now.shift.now.layer post.now.shift.now.workers post.now.worker drawer.new.hand result }
     ensures gate { AsksTheGate (answers_to G.may_answer post.now.shift.now post.now.worker) post.now.shift.now.books drawer.old.hand drawer.new.hand result }
     ensures ledger { drawer.new.ledger ≡ post.now.shift.now.ledger }
     ensures size { scratch.new.size ≡ scratch.old.size }
@@ -186,7 +190,7 @@ fn by_lots<'a, R: Wait, G: Gate>(
 ) -> End
     requires ready { IsReady post.now.shift.now post.now.worker scratch.old drawer.old }
     requires lot { next.old ≡ [] }
-    ensures ends { HasEnded G.may_stop post.now.shift.now.layer post.now.worker drawer.new.hand result }
+    ensures ends { HasEnded G.may_stop post.now.shift.now.layer post.now.shift.now.workers post.now.worker drawer.new.hand result }
     ensures gate { AsksTheGate (answers_to G.may_answer post.now.shift.now post.now.worker) post.now.shift.now.books drawer.old.hand drawer.new.hand result }
     ensures ledger { drawer.new.ledger ≡ post.now.shift.now.ledger }
     ensures size { scratch.new.size ≡ scratch.old.size }
@@ -221,7 +225,7 @@ pub(crate) fn draw<R: Wait, G: Gate>(
     ensures within { IfOk result (λ rank. rank < length post.now.shift.now.layer.places) }
     ensures drawn { IfOk result (λ rank. drawer.new.hand.numbers ≡ drawer.old.hand.numbers ++ rank ∷ []) }
     ensures none { IfErr result (λ end. IfDrained end (drawer.new.hand.numbers ≡ drawer.old.hand.numbers)) }
-    ensures ends { IfErr result (λ end. HasEnded G.may_stop post.now.shift.now.layer post.now.worker drawer.new.hand end) }
+    ensures ends { IfErr result (λ end. HasEnded G.may_stop post.now.shift.now.layer post.now.shift.now.workers post.now.worker drawer.new.hand end) }
     ensures goes_on { OnOk result (IsTold (answers_to G.may_answer post.now.shift.now post.now.worker) nth.old true nth.new) }
     ensures gate { IfErr result (λ end. DrawsAtLast (answers_to G.may_answer post.now.shift.now post.now.worker)
         drawer.old.hand nth.old drawer.new.hand nth.new end) }
@@ -256,7 +260,7 @@ pub(crate) fn pass<R: Wait, G: Gate>(
     ensures stops { IfErr result (λ end. end ≡ Stopped) }
     ensures end { IfErr result (λ end. MayEnd G.may_stop end) }
     ensures hand { (hand : Hand) → IfErr result (λ end. EndsWith post.now.worker hand end) }
-    ensures answered { (layer : LayerView) → IfErr result (λ end. WasAnswered layer post.now.worker end) }
+    ensures answered { (layer : LayerView) (workers : ℕ) → IfErr result (λ end. WasAnswered layer workers post.now.worker end) }
     ensures goes_on { OnOk result (IsTold (answers_to G.may_answer post.now.shift.now post.now.worker) nth.old true nth.new) }
     ensures gate { IfErr result (λ end. EndsAtOnce (answers_to G.may_answer post.now.shift.now post.now.worker) nth.old nth.new end) }
 {

@@ -1,7 +1,7 @@
 -- What is left of the books' last closed lists once so many entries of each were taken.
-use Rattle.std.proofs.Common.{◌≡◌, ℕ, zero, suc, ◌+◌, ◌^◌, ◌<◌, List, [], ◌∷◌, ◌++◌, length, map, take, drop, get_or, set, replicate, Some, refl, sym, ap}
-use Rattle.std.proofs.Common.{subst, ◌∙◌, arith}
-use Rattle.std.proofs.lemmas.List.{append-nil, append_assoc}
+use Rattle.std.proofs.Common.{◌≡◌, ℕ, zero, suc, ◌+◌, ◌^◌, ◌<◌, List, [], ◌∷◌, ◌++◌, length, map, take, drop, get_or, set, replicate, Some, None, refl, sym, ap}
+use Rattle.std.proofs.Common.{inl, inr, subst, ◌∙◌, arith}
+use Rattle.std.proofs.lemmas.List.{append-nil, append_assoc, length-set}
 use Rattle.std.proofs.lemmas.Option.{same_Some, none-some}
 use Rattle.std.specs.Prelude.{slice_get}
 use Rattle.std.specs.Option.{option_to_list}
@@ -10,7 +10,8 @@ use Rattle.store.specs.Entries.{Origin, Closed, places_of, origins_of}
 use Rattle.successors.specs.Reaching.{total}
 use Rattle.layers.specs.BookView.{BookView, last_layer, last_list, AreLawfulBooks}
 use Rattle.store.specs.inside.Copies.{squares_of}
-use Rattle.layers.specs.inside.Merging.{AreMerged, AreTaken, Takes, left_of}
+use Rattle.layers.specs.declared.stretch.Stretch.{Stretch}
+use Rattle.layers.specs.inside.Merging.{AreKeptOrTaken, AreMerged, AreTaken, IsKeptOrTaken, Takes, left_of}
 use Rattle.layers.specs.inside.Merging.Takes.{nothing, one}
 use Rattle.layers.proofs.Rests.{drop_first, first_left, taken_counted}
 use Rattle.layers.proofs.Joined.{one_of_all}
@@ -132,3 +133,30 @@ all_taken books ends squares origins all none =
       squares_are = all.squares_are;
       origins_are = all.origins_are;
     }
+
+-- ---- what stretches hold after they were appended
+
+-- none was appended yet
+pub all_kept : (ss : List Stretch) → AreKeptOrTaken ss ss
+all_kept ss = (refl, λ i s at. (s, at, inl refl))
+
+kept_on : (a b c : Stretch) → IsKeptOrTaken a b → IsKeptOrTaken b c → IsKeptOrTaken a c
+kept_on a b c (inl same) next = subst (λ x. IsKeptOrTaken x c) same next
+kept_on a b c (inr taken) (inl same) = inr (same ∙ taken)
+kept_on a b c (inr taken) (inr again) = inr (again ∙ ap (λ (x : Stretch). record x { merged = None }) taken)
+
+one_set : (now : List Stretch) (place i : ℕ) (s t u : Stretch) → slice_get now place ≡ Some s → IsKeptOrTaken s t → slice_get now i ≡ Some u →
+    (w : Stretch) × (slice_get (set now place t) i ≡ Some w) × IsKeptOrTaken u w
+one_set [] place i s t u at so here = absurd (none-some u here)
+one_set (x ∷ now) zero zero s t u at so here = (t, refl, subst (λ v. IsKeptOrTaken v t) (same_Some s u (sym at ∙ here)) so)
+one_set (x ∷ now) zero (suc i) s t u at so here = (u, here, inl refl)
+one_set (x ∷ now) (suc place) zero s t u at so here = (u, here, inl refl)
+one_set (x ∷ now) (suc place) (suc i) s t u at so here = one_set now place i s t u at so here
+
+-- one more is appended, or is not
+pub kept_set : (before now : List Stretch) (place : ℕ) (s t : Stretch) → AreKeptOrTaken before now → slice_get now place ≡ Some s → IsKeptOrTaken s t →
+    AreKeptOrTaken before (set now place t)
+kept_set before now place s t (same, each) at so = (
+  length-set now place t ∙ same,
+  λ i v here. (let u = each i v here in let w = one_set now place i s t u.0 at so u.1 in (w.0, w.1, kept_on v u.0 w.0 u.2 w.2)),
+)

@@ -5,7 +5,7 @@ ghost use Rattle.successors.specs.Reaching.{total};
 ghost use Rattle.std.specs.Bool.{MatchBool};
 ghost use Rattle.layers.specs.BookView.{AreLawfulBooks, last_layer, last_list};
 ghost use Rattle.layers.specs.Books.{AreAllShares, IsJoinOf, IsShareBeside, JoinRefused};
-ghost use Rattle.layers.specs.inside.Merging.{AreMerged, IsStretchOf};
+ghost use Rattle.layers.specs.inside.Merging.{AreKeptOrTaken, AreMerged, IsStretchOf};
 
 use crate::book::{Book, last_start};
 use crate::fault::JoinFault;
@@ -40,14 +40,17 @@ impl Layer {
     }
 
     /// What [`Layer::join`] gives, made of stretches of that layer where all of it was merged in them, and otherwise of the
-    /// books. The stretches hold nothing any more where it was made of them. The errors are those of [`Layer::join`].
+    /// books. The errors are those of [`Layer::join`]. [`JoinFault::NotWhole`] leaves the stretches unchanged; otherwise
+    /// each of them is unchanged or holds nothing any more.
     pub fn join_stretches(
         alloc: Global,
         books: &[Book],
         stretches: &mut [Stretch],
     ) -> Result<Layer, JoinFault>
         requires { (i : ℕ) (s : Stretch) → slice_get stretches.old i ≡ Some s → IsStretchOf books.now s }
-        ensures { MatchResult result (λ layer. IsJoinOf books.now layer) (λ fault. JoinRefused books.now fault) }
+        ensures layer { MatchResult result (λ layer. IsJoinOf books.now layer) (λ fault. JoinRefused books.now fault) }
+        ensures stretches { AreKeptOrTaken stretches.old stretches.new }
+        ensures not_whole { ¬ (AreAllShares books.now) → stretches.new ≡ stretches.old }
     {
         let Some(first) = first_of_all(books) else {
             return Err(JoinFault::NotWhole);
@@ -113,7 +116,8 @@ fn join_merged(
     requires first { slice_get books.now 0 ≡ Some first.now }
     requires all { AreAllShares books.now }
     requires stretches { (i : ℕ) (s : Stretch) → slice_get stretches.old i ≡ Some s → IsStretchOf books.now s }
-    ensures { IfOk result (λ found. IfSome found (λ layer. IsJoinOf books.now layer)) }
+    ensures layer { IfOk result (λ found. IfSome found (λ layer. IsJoinOf books.now layer)) }
+    ensures stretches { AreKeptOrTaken stretches.old stretches.new }
 {
     tell_all(books);
     match put_together(alloc, books, stretches)? {

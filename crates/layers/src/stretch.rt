@@ -4,7 +4,7 @@ ghost use Rattle.std.specs.Prelude.{◌≡◌, ℕ, ◌<◌, ◌≤◌, List, []
 ghost use Rattle.layers.specs.declared.limits.TheConstants.{MOST_POSITIONS};
 ghost use Rattle.successors.specs.Reaching.{total};
 ghost use Rattle.layers.specs.BookView.{last_list};
-ghost use Rattle.layers.specs.inside.Merging.{AreMerged, AreTaken, IsStretchOf};
+ghost use Rattle.layers.specs.inside.Merging.{AreKeptOrTaken, AreMerged, AreTaken, IsKeptOrTaken, IsStretchOf};
 
 use crate::book::{Book, last_start};
 use crate::join::tell_all;
@@ -186,7 +186,8 @@ pub(crate) fn put_together(
 ) -> Result<Option<(usize, Vec<Square>, Vec<Origin>)>, AllocError>
     requires few { total (map last_list books.now) ≤ MOST_POSITIONS }
     requires stretches { (i : ℕ) (s : Stretch) → slice_get stretches.old i ≡ Some s → IsStretchOf books.now s }
-    ensures { IfOk result (λ found. IfSome found (λ r. AreMerged (map last_list books.now) r.0 r.1.items r.2.items)) }
+    ensures merged { IfOk result (λ found. IfSome found (λ r. AreMerged (map last_list books.now) r.0 r.1.items r.2.items)) }
+    ensures stretches { AreKeptOrTaken stretches.old stretches.new }
 {
     let whole = rests_of(alloc, books, &[])?;
     let count = count_all(whole.as_slice());
@@ -218,8 +219,9 @@ fn append_each(
     stretches: &mut [Stretch],
 ) -> Result<bool, AllocError>
     requires stretches { (i : ℕ) (s : Stretch) → slice_get stretches.old i ≡ Some s → IsStretchOf books.now s }
-    ensures { (starts : List ℕ) → AreTaken books.now starts whole.old.ends.items whole.old.squares.items whole.old.origins.items →
+    ensures follow { (starts : List ℕ) → AreTaken books.now starts whole.old.ends.items whole.old.squares.items whole.old.origins.items →
         IfOk result (λ follow. follow ≡ true → AreTaken books.now starts whole.new.ends.items whole.new.squares.items whole.new.origins.items) }
+    ensures stretches { AreKeptOrTaken stretches.old stretches.new }
 {
     for place in 0..stretches.len() {
         if !append_stretch(whole, books, &mut stretches[place])? {
@@ -240,6 +242,7 @@ fn append_stretch(
     ensures follows { (starts : List ℕ) → AreTaken books.now starts whole.old.ends.items whole.old.squares.items whole.old.origins.items →
         IfOk result (λ follows. follows ≡ true → AreTaken books.now starts whole.new.ends.items whole.new.squares.items whole.new.origins.items) }
     ensures stretch { IsStretchOf books.now stretch.new }
+    ensures taken { IsKeptOrTaken stretch.old stretch.new }
 {
     if whole.ends.as_slice() != stretch.starts.as_slice() {
         return Ok(false);

@@ -35,3 +35,28 @@ pub(crate) fn level_of(rt: &impl Abort, alloc: Global, board: Text) -> Level {
     assert!(rt; cells.len() % cols == 0);
     Level::from_cells(alloc, cols, cells).expect(rt, "a level")
 }
+
+/// One box next to its goal.
+pub(crate) const ONE: &[u8] = b"#####\n#@$.#\n#####\n";
+
+/// A box on its goal.
+pub(crate) const SOLVED: &[u8] = b"####\n#@*#\n####\n";
+
+/// A box in a corner room, with its goal at the other corner.
+pub(crate) const CORNER: &[u8] = b"#####\n#.  #\n# $ #\n#  @#\n#####\n";
+
+/// A box beside its goal, with the player behind it.
+pub(crate) const HALL: &[u8] = b"######\n#.$  #\n#    #\n#   @#\n######\n";
+
+/// Two boxes, one on each side of the player.
+pub(crate) const TWO_ENDS: &[u8] = b"#######\n#.$@$.#\n#######\n";
+
+/// A box that comes back to its first square, with the player on its other side.
+pub(crate) const THERE_AND_BACK: &[u8] = b"8#|4#3-#|#.@$3-#|4#3-#|8#\n";
+
+/// Two boxes side by side, with their goals beyond.
+pub(crate) const BLOCKED: &[u8] =
+    b"#######\n#     #\n#     #\n#@$$..#\n#     #\n#     #\n#######\n";
+
+/// A box that the player does not reach.
+pub(crate) const APART: &[u8] = b"########\n#@ # $.#\n########\n";

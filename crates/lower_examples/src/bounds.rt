@@ -19,9 +19,6 @@ const WRONG_SIDE: Text = (6, b"#######.@$ #######");
 // the same with a way round
 const WAY_ROUND: Text = (6, b"#######    ##.@$ ##    #######");
 
-// both boxes are nearest to one goal
-const ONE_NEAR: Text = (8, b"#########      ##.$$  .##  @   ##      #########");
-
 // each box reaches the goal on the left alone
 const ONE_GOAL_FOR_TWO: Text = (9, b"##########.$ $@ .##########");
 
@@ -39,15 +36,6 @@ const DOORS: Text = (
     b"###########    #   ## @$   . ##    #   ##### ##  ##        ###########",
 );
 
-// What the bound says of the start of a level.
-fn lower_of(rt: &impl Abort, alloc: Global, board: Text) -> u64 {
-    let level = level_of(rt, alloc, board);
-    let distances = distances_of(rt, alloc, &level);
-    let position = Position::start(&level).expect(rt, "few boxes");
-    assert!(rt; position.fits(&level));
-    distances.lower(&position, &mut Matching::new())
-}
-
 fn distances_of(rt: &impl Abort, alloc: Global, level: &Level) -> Distances
     ensures { result.level ≡ level.now }
 {
@@ -56,36 +44,20 @@ fn distances_of(rt: &impl Abort, alloc: Global, level: &Level) -> Distances
 }
 
 #[test]
-fn starts_need_pushes(rt: HostRuntime) {
-    let rows = [
-        (WAY_ROUND, 2),
-        (ONE_NEAR, 4),
-        (TWO_BOXES, 2),
-        (THREE_BOXES, 3),
-    ];
-    for (row, (board, pushes)) in rows.into_iter().enumerate() {
-        let low = lower_of(&rt, rt.alloc(), board);
-        assert_eq!(&rt; low, pushes, "row {row}");
+fn what_no_matching_brings_home_is_lost(rt: HostRuntime) {
+    for (board, is_lost) in [
+        (WRONG_SIDE, true),
+        (ONE_GOAL_FOR_TWO, true),
+        (WAY_ROUND, false),
+    ] {
+        let level = level_of(&rt, rt.alloc(), board);
+        let distances = distances_of(&rt, rt.alloc(), &level);
+        let position = Position::start(&level).expect(&rt, "few boxes");
+        assert!(&rt; position.fits(&level));
+        let mut matching = Matching::new();
+        distances.meet(&position, &mut matching);
+        assert!(&rt; distances.is_lost(&position, &matching) == is_lost);
     }
-}
-
-#[test]
-fn what_no_matching_brings_home_is_never_solved(rt: HostRuntime) {
-    for board in [WRONG_SIDE, ONE_GOAL_FOR_TWO] {
-        let low = lower_of(&rt, rt.alloc(), board);
-        assert!(&rt; low >= u64::from(NEVER), "at least {low}");
-    }
-}
-
-#[test]
-fn more_than_the_bound_is_not_refused(rt: HostRuntime) {
-    let level = level_of(&rt, rt.alloc(), ONE_NEAR);
-    let distances = distances_of(&rt, rt.alloc(), &level);
-    let position = Position::start(&level).expect(&rt, "few boxes");
-    assert!(&rt; position.fits(&level));
-    let mut matching = Matching::default();
-    assert!(&rt; distances.needs_more(&position, 3, &mut matching));
-    assert!(&rt; !distances.needs_more(&position, 4, &mut matching));
 }
 
 // All positions of a level with at most three boxes, in the order of their squares.

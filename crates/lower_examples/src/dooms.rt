@@ -92,24 +92,6 @@ fn check_live(rt: &impl Abort, dead: &Dead, live: &[u16]) {
 }
 
 #[test]
-fn a_box_needs_pushes(rt: HostRuntime) {
-    let level = level_of(&rt, rt.alloc(), THERE_AND_BACK);
-    let bound = Bound::of(rt.alloc(), &level).expect(&rt, "memory");
-    let rows = [
-        (17, Some(0)),
-        (18, Some(1)),
-        (19, Some(2)),
-        (20, Some(3)),
-        (21, Some(4)),
-        (22, None),
-        (12, None),
-    ];
-    for (square, pushes) in rows {
-        check_lower(&rt, &level, &bound, square, pushes);
-    }
-}
-
-#[test]
 fn boxes_need_the_sum_of_their_pushes(rt: HostRuntime) {
     let rows: [(Text, &[Square], u16, Option<u32>); 8] = [
         (TWO_ENDS, &[Square(9), Square(11)], 10, Some(2)),
@@ -140,15 +122,6 @@ fn needed(
     let position = Position::of(boxes, player).expect(rt, "a position");
     assert!(rt; position.fits(&level));
     bound.lower(&position)
-}
-
-// What the bound says of one box on a square, while the player stands on another.
-fn check_lower(rt: &impl Abort, level: &Level, bound: &Bound, square: u16, pushes: Option<u32>)
-    requires { bound.now ≡ level.now }
-{
-    let position = Position::of(&[Square(square)], Square(28)).expect(rt, "a position");
-    assert!(rt; position.fits(level));
-    assert_eq!(rt; bound.lower(&position), pushes, "square {square}");
 }
 
 #[test]
@@ -214,21 +187,16 @@ fn asked(
 }
 
 #[test]
-fn three_boxes_freeze_one_another(rt: HostRuntime) {
-    let level = level_of(&rt, rt.alloc(), THREE_FROZEN);
-    assert_eq!(&rt; told(&rt, rt.alloc(), &level, Dir::L), (true, true));
-}
-
-#[test]
-fn three_boxes_are_free(rt: HostRuntime) {
-    let level = level_of(&rt, rt.alloc(), THREE_FREE);
-    assert_eq!(&rt; told(&rt, rt.alloc(), &level, Dir::R), (false, false));
-}
-
-#[test]
-fn a_box_on_a_dead_square_elsewhere_is_not_looked_at(rt: HostRuntime) {
-    let level = level_of(&rt, rt.alloc(), DEAD_ELSEWHERE);
-    assert_eq!(&rt; told(&rt, rt.alloc(), &level, Dir::R), (false, true));
+fn the_group_of_a_pushed_box_freezes_or_any_box_is_doomed(rt: HostRuntime) {
+    let rows = [
+        (THREE_FROZEN, Dir::L, (true, true)),
+        (THREE_FREE, Dir::R, (false, false)),
+        (DEAD_ELSEWHERE, Dir::R, (false, true)),
+    ];
+    for (row, (board, dir, want)) in rows.into_iter().enumerate() {
+        let level = level_of(&rt, rt.alloc(), board);
+        assert_eq!(&rt; told(&rt, rt.alloc(), &level, dir), want, "row {row}");
+    }
 }
 
 // What is said of a push from the start of a level, which is not doomed, by the boxes of a flood as a set.
@@ -273,41 +241,7 @@ fn a_push_freezes_three_boxes_or_none(rt: HostRuntime) {
 }
 
 #[test]
-fn pushed_boxes_are_loose_or_not(rt: HostRuntime) {
-    let rows = [
-        (PUSH_RIGHT, 7, Dir::R, false),
-        (TWO_ENDS, 9, Dir::L, false),
-        (TWO_ENDS, 9, Dir::R, false),
-        (PAIR_AT_WALL, 8, Dir::L, false),
-        (COLUMN_AT_WALL, 11, Dir::U, false),
-        (COLUMN_AT_WALL, 11, Dir::R, true),
-        (BESIDE_A_FREE_BOX, 17, Dir::D, true),
-        (BESIDE_A_FREE_BOX, 18, Dir::R, false),
-        (ABOVE_A_FREE_BOX, 17, Dir::U, true),
-        (ABOVE_A_FREE_BOX, 22, Dir::R, true),
-        (ABOVE_A_FREE_BOX, 22, Dir::D, false),
-        (THERE_AND_BACK, 19, Dir::R, true),
-    ];
-    for (row, (board, square, dir, want)) in rows.into_iter().enumerate() {
-        let level = level_of(&rt, rt.alloc(), board);
-        let found = is_loose_after(&rt, rt.alloc(), &level, Square(square), dir);
-        assert_eq!(&rt; found, want, "row {row}");
-    }
-}
-
-// Whether a push from the start of a level leaves its box loose.
-fn is_loose_after(rt: &impl Abort, alloc: Global, level: &Level, square: Square, dir: Dir) -> bool {
-    let dead = Dead::of(alloc, level).expect(rt, "memory");
-    let mut scratch = Scratch::new(alloc, level).expect(rt, "memory");
-    let position = Position::start(level).expect(rt, "few boxes");
-    assert!(rt; position.fits(level));
-    assert!(rt; usize::from(square.0) < level.squares());
-    area::flood(level, &position, &mut scratch);
-    is_loose(level, &dead, &scratch, Push { square, dir })
-}
-
-#[test]
-fn pushes_are_spared_whose_boxes_are_loose(rt: HostRuntime) {
+fn pushed_boxes_are_loose_and_spared_or_neither(rt: HostRuntime) {
     let rows = [
         (TWO_ENDS, 9, Dir::L, false),
         (COLUMN_AT_WALL, 11, Dir::R, true),
@@ -319,13 +253,19 @@ fn pushes_are_spared_whose_boxes_are_loose(rt: HostRuntime) {
     ];
     for (row, (board, square, dir, want)) in rows.into_iter().enumerate() {
         let level = level_of(&rt, rt.alloc(), board);
-        let found = is_spared(&rt, rt.alloc(), &level, Square(square), dir);
-        assert_eq!(&rt; found, want, "row {row}");
+        let found = looked_at(&rt, rt.alloc(), &level, Square(square), dir);
+        assert_eq!(&rt; found, (want, want), "row {row}");
     }
 }
 
-// Whether it is known that a push from the start of a level leaves its box loose.
-fn is_spared(rt: &impl Abort, alloc: Global, level: &Level, square: Square, dir: Dir) -> bool {
+// Whether a push from the start of a level leaves its box loose, and whether that is known of all pushes there at once.
+fn looked_at(
+    rt: &impl Abort,
+    alloc: Global,
+    level: &Level,
+    square: Square,
+    dir: Dir,
+) -> (bool, bool) {
     let dead = Dead::of(alloc, level).expect(rt, "memory");
     let mut scratch = Scratch::new(alloc, level).expect(rt, "memory");
     let position = Position::start(level).expect(rt, "few boxes");
@@ -334,7 +274,11 @@ fn is_spared(rt: &impl Abort, alloc: Global, level: &Level, square: Square, dir:
     area::flood(level, &position, &mut scratch);
     let mut dangers = Dangers::unknown();
     dangers.find(level, &dead, &scratch);
-    dangers.spare(level.next(square, dir), dir)
+    let spared = dangers.spare(level.next(square, dir), dir);
+    (
+        is_loose(level, &dead, &scratch, Push { square, dir }),
+        spared,
+    )
 }
 
 #[test]

@@ -8,7 +8,7 @@ use area::laws::{
     what_boxes_decide_lasts,
 };
 use area::{Scratch, flood, normal, normalise_after, walk};
-use grid::{Dir, Level, MAX_COLS, MAX_SQUARES, Moves, Position, Push, Square, State, Step};
+use grid::{Dir, Level, Moves, Position, Push, Square, State, Step};
 use std::alloc::Global;
 use std::process::Abort;
 
@@ -20,12 +20,6 @@ const LOOP: Text = (8, b"############   ##.@$   #####   #########");
 
 // A hall with two boxes.
 const PAIR: Text = (6, b"#######@   ##$#  ## $..#######");
-
-// A crooked room, a room of its own beneath it, and squares outside, also at the edge of the grid.
-const ROOMS: Text = (
-    10,
-    b"  ####     ##  ####  # $    #  # .## @#  ########   #  #      ####    ",
-);
 
 fn letter_of(dir: Dir) -> u8 {
     match dir {
@@ -71,124 +65,6 @@ fn normal_of(rt: &impl Abort, alloc: Global, level: &Level, position: &Position)
 // Whether a position has one box and the player on these squares.
 fn stands(position: &Position, box_square: u16, player: u16) -> bool {
     position.boxes() == [Square(box_square)].as_slice() && position.player() == Square(player)
-}
-
-// Whether the square at a place, or one beside it, was reached.
-fn is_beside(rt: &impl Abort, cols: usize, reached: &[bool], place: usize) -> bool {
-    assert!(rt; cols >= 1 && cols <= MAX_COLS && place < MAX_SQUARES);
-    let is_reached = |other: usize| reached.get(other).map_or(false, |flag| *flag);
-    is_reached(place)
-        || is_reached(place + cols)
-        || (place >= cols && is_reached(place - cols))
-        || (place % cols != 0 && is_reached(place - 1))
-        || ((place + 1) % cols != 0 && is_reached(place + 1))
-}
-
-// What a player reaches, by rows and columns alone: what is reached grows until nothing is added.
-fn plain_flood(rt: &impl Abort, alloc: Global, board: Text, position: &Position) -> Vec<bool> {
-    let (_, bytes) = board;
-    let mut reached = Vec::new(alloc);
-    for place in 0..bytes.len() {
-        reached
-            .push(place == position.player().0 as usize)
-            .expect(rt, "memory");
-    }
-    for _ in bytes {
-        let more = spread(rt, alloc, board, position, reached.as_slice());
-        if more.as_slice() == reached.as_slice() {
-            break;
-        }
-        reached = more;
-    }
-    reached
-}
-
-// What is reached, and the free squares beside it.
-fn spread(
-    rt: &impl Abort,
-    alloc: Global,
-    board: Text,
-    position: &Position,
-    reached: &[bool],
-) -> Vec<bool> {
-    let (cols, bytes) = board;
-    let mut more = Vec::new(alloc);
-    for (place, byte) in bytes.iter().enumerate() {
-        let is_box = position
-            .boxes()
-            .iter()
-            .any(|square| square.0 as usize == place);
-        let is_free = *byte != b'#' && !is_box;
-        more.push(is_free && is_beside(rt, cols, reached, place))
-            .expect(rt, "memory");
-    }
-    more
-}
-
-// Floods twice in the same memory, and compares what is reached with a plain flood.
-fn compare(rt: &impl Abort, alloc: Global, board: Text, level: &Level, position: &Position) {
-    let first = Position::start(level).expect(rt, "a position");
-    let mut scratch = Scratch::new(alloc, level).expect(rt, "memory");
-    flood_twice(rt, level, &first, position, &mut scratch);
-    let reached = plain_flood(rt, alloc, board, position);
-    compare_reached(rt, &scratch, reached.as_slice());
-}
-
-fn flood_twice(
-    rt: &impl Abort,
-    level: &Level,
-    first: &Position,
-    position: &Position,
-    scratch: &mut Scratch,
-)
-    requires room { scratch.old.size ≡ length level.now.cells }
-{
-    assert!(rt; first.fits(level) && position.fits(level));
-    flood(level, first, scratch);
-    flood(level, position, scratch);
-}
-
-fn compare_reached(rt: &impl Abort, scratch: &Scratch, reached: &[bool]) {
-    for place in 0..100u16 {
-        let expected = reached.get(place as usize).map_or(false, |flag| *flag);
-        assert_eq!(rt; scratch.reaches(Square(place)), expected, "square {place}");
-    }
-}
-
-#[test]
-fn floods_with_one_box_reach_what_a_plain_flood_reaches(rt: HostRuntime) {
-    for board in [HALL, LOOP, ROOMS] {
-        let level = level_of(&rt, rt.alloc(), board);
-        for number in 0..6400u16 {
-            let boxes = [Square(number / 80)];
-            compare_with(&rt, rt.alloc(), board, &level, &boxes, Square(number % 80));
-        }
-    }
-}
-
-#[test]
-fn floods_with_two_boxes_reach_what_a_plain_flood_reaches(rt: HostRuntime) {
-    let level = level_of(&rt, rt.alloc(), PAIR);
-    for number in 0..27000u16 {
-        let boxes = [Square(number / 900), Square(number / 30 % 30)];
-        compare_with(&rt, rt.alloc(), PAIR, &level, &boxes, Square(number % 30));
-    }
-}
-
-// The same, where boxes and player make a position of the level.
-fn compare_with(
-    rt: &impl Abort,
-    alloc: Global,
-    board: Text,
-    level: &Level,
-    boxes: &[Square],
-    player: Square,
-) {
-    if let Some(position) = Position::of(boxes, player) {
-        if position.fits(level) {
-            compare(rt, alloc, board, level, &position);
-        }
-    }
 }
 
 // The normal position after a push from somewhere in the area, by a flood of the position before it; none where the
@@ -276,7 +152,7 @@ fn walks_are_the_least_of_the_shortest(rt: HostRuntime) {
         let mut scratch = Scratch::new(rt.alloc(), &level).expect(&rt, "memory");
         let mut moves = Moves::new(rt.alloc());
         let found = walk(&level, &state, Square(to), &mut scratch, &mut moves);
-        assert!(&rt; matches!(found, Ok(found) if found == reached), "to {to}");
+        assert_eq!(&rt; found, Ok(reached), "to {to}");
         assert!(&rt; is_text(&moves, text), "to {to}");
     }
 }
@@ -296,10 +172,10 @@ fn check_walks(rt: &impl Abort, alloc: Global, level: &Level, state: &State)
     let mut scratch = Scratch::new(alloc, level).expect(rt, "memory");
     let mut moves = Moves::new(alloc);
     let there = walk(level, state, Square(22), &mut scratch, &mut moves);
-    assert!(rt; matches!(there, Ok(true)));
+    assert_eq!(rt; there, Ok(true));
     assert!(rt; is_text(&moves, b"drru"));
     let box_square = walk(level, state, Square(21), &mut scratch, &mut moves);
-    assert!(rt; matches!(box_square, Ok(false)));
+    assert_eq!(rt; box_square, Ok(false));
     assert!(rt; is_text(&moves, b"drru"));
 }
 

@@ -1,8 +1,13 @@
-//! Worked examples of the crates below the books, each over the public calls of one crate, run over memory.
+//! Worked examples of the crates below `crew`, each over public calls, run over memory.
+//!
+//! Who owns a book moves it on or drops it by name. At the end of a block the proof of the function would take it apart field by
+//! field, which takes most of a minute for each such end.
 #![tactic(auto)]
 
 #[cfg(test)]
 mod boards;
+#[cfg(test)]
+mod books;
 #[cfg(test)]
 mod bounds;
 #[cfg(test)]
@@ -17,3 +22,9 @@ mod floods;
 mod ledgers;
 #[cfg(test)]
 mod letters;
+#[cfg(test)]
+mod memory;
+#[cfg(test)]
+mod pages;
+#[cfg(test)]
+mod values;

@@ -1,4 +1,4 @@
-ghost use Rattle.std.specs.Prelude.{◌≡◌, ◌≤◌, ◌<◌, ◌+◌, ◌*◌, ℕ, IfOk, IsTrue};
+ghost use Rattle.std.specs.Prelude.{◌≡◌, ◌≤◌, ◌<◌, ◌+◌, ◌*◌, ℕ, IfOk};
 ghost use Rattle.grid.specs.Lawful.{box_count};
 ghost use Rattle.grid.specs.States.{IsScene};
 ghost use Rattle.prices.specs.Prices.{ComesOfTolls};
@@ -76,19 +76,16 @@ impl Pairs {
         &self.distances
     }
 
-    /// Whether the boxes need more than `most` pushes: then no play from the position with at most so many ends solved.
-    /// Takes no memory. The prices are asked first, and the pairs only where these say nothing.
-    pub fn needs_more(&self, position: &Position, most: u32, matching: &mut Matching) -> bool
+    /// How many pushes the boxes need at least: no play from the position with fewer ends solved. Takes no memory. The
+    /// matching may be one of any other position; one of a position that differs by a push or two takes least time.
+    pub fn lower(&self, position: &Position, matching: &mut Matching) -> u64
         requires { IsScene self.now position.now }
-        ensures { IsTrue result → NoneWithin self.now most position.now }
+        ensures { (m : ℕ) → m < result → NoneWithin self.now m position.now }
     {
         let low = self.distances.lower(position, matching);
-        if u64::from(most) < low {
-            return true;
-        }
         match &self.table {
-            Some(table) => u64::from(most) < low + above(&self.distances, table, position),
-            None => false,
+            Some(table) => low.saturating_add(above(&self.distances, table, position)),
+            None => low,
         }
     }
 }

@@ -11,8 +11,7 @@
 //! let pairs = Pairs::of(alloc, &level).expect(&rt, "memory");
 //! let mut matching = Matching::new();
 //! // each box is two pushes from a goal, and one of them has to be pushed out of the row and back
-//! assert!(&rt; pairs.needs_more(&start, 5, &mut matching));
-//! assert!(&rt; !pairs.needs_more(&start, 6, &mut matching));
+//! assert_eq!(&rt; pairs.lower(&start, &mut matching), 6);
 //! ```
 #![tactic(auto)]
 

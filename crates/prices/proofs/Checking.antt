@@ -10,7 +10,7 @@ use Rattle.grid.proofs.lemmas.Steps.{inside_grid, next_back}
 use Rattle.prices.specs.declared.table.Side.{Side}
 use Rattle.prices.specs.declared.table.Table.{Table}
 use Rattle.prices.specs.Prices.{AreFar, CanStand, goals_of}
-use Rattle.prices.specs.inside.Checks.{AreClosed, AreNoneAtHome, KeepRows, LessenByOne}
+use Rattle.prices.specs.inside.Checks.{AreClosed, AreNoneAtHome, KeepRows, LessenByOne, StayAway}
 use Rattle.prices.specs.inside.Tables.{far_in, has_number, number_of, place_in, row_by, row_in, sides_of, spot_of}
 use Rattle.prices.proofs.lemmas.Goals.{contains-goals}
 use Rattle.prices.proofs.lemmas.Tables.{place_inside}
@@ -103,8 +103,13 @@ are_far board t goals kept none less = record {
       let e : far_in t g b p ≡ far_in t g b (next board p d) = ap (λ (row : List ℕ). number_of t.goals.items row g) (kept b p d here there) in
       omega (arith, e)
       );
-  push = λ g p d here ahead. less p d (inside_grid board p here.player) here.player here.floor ahead.floor (place_in t.goals.items g);
+  push = λ g p d here ahead. (less p d (inside_grid board p here.player) here.player here.floor ahead.floor).within (place_in t.goals.items g);
 }
+
+-- and a box that can't be brought to a goal can't be brought there after a push either
+pub stay_away : (board : Board) (t : Table) → LessenByOne board t → StayAway board (far_in t)
+stay_away board t less g p d here ahead =
+    (less p d (inside_grid board p here.player) here.player here.floor ahead.floor).never (place_in t.goals.items g)
 
 nothing : (n k i : ℕ) → let none : List ℕ = [] in get_or (take n (drop k none)) i 0 ≡ 0
 nothing zero zero i = refl
@@ -112,16 +117,20 @@ nothing zero (suc k) i = refl
 nothing (suc n) zero i = refl
 nothing (suc n) (suc k) i = refl
 
--- no distances at all say that no box needs a push
-pub none_far : (board : Board) (t : Table) → t.far.items ≡ [] → AreFar board (far_in t)
-none_far board t none =
-    let zero_far : (g b p : ℕ) → far_in t g b p ≡ 0 = λ g b p. (
+zero_far : (t : Table) → t.far.items ≡ [] → (g b p : ℕ) → far_in t g b p ≡ 0
+zero_far t none g b p =
     let start = row_by (sides_of t.spots.items t.sides.items b) (spot_of t.spots.items p).number (spot_of t.spots.items b).row in
     let i = place_in t.goals.items g in
     ap (λ (xs : List ℕ). get_or (take (length t.goals.items) (drop start xs)) i 0) none ∙ nothing (length t.goals.items) start i
-    ) in
-    record {
-      home = λ g p goal stands. zero_far g g p;
-      walk = λ g b p d here there. (let e = zero_far g b p in omega (arith, e));
-      push = λ g p d here ahead. (let e = zero_far g (next board p d) p in omega (arith, e));
-    }
+
+-- no distances at all say that no box needs a push
+pub none_far : (board : Board) (t : Table) → t.far.items ≡ [] → AreFar board (far_in t)
+none_far board t none = record {
+  home = λ g p goal stands. zero_far t none g g p;
+  walk = λ g b p d here there. (let e = zero_far t none g b p in omega (arith, e));
+  push = λ g p d here ahead. (let e = zero_far t none g (next board p d) p in omega (arith, e));
+}
+
+-- and that each can be brought to each goal
+pub none_away : (board : Board) (t : Table) → t.far.items ≡ [] → StayAway board (far_in t)
+none_away board t none g p d here ahead never = let e = zero_far t none g (next board p d) p in absurd (omega (arith, e, never))

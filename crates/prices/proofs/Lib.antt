@@ -4,3 +4,4 @@ pub mod Checking
 pub mod Sums
 pub mod Counts
 pub mod Slacks
+pub mod Losing

@@ -1,5 +1,7 @@
 -- What is left above what boxes need tells of pushes that never help.
-use Rattle.std.proofs.Common.{◌≡◌, ◌+◌, ◌≤◌, ℕ, true, List, length, ap, ◌∙◌, arith}
+use Rattle.std.proofs.Common.{◌≡◌, ◌+◌, ◌≤◌, ℕ, suc, true, Option, Some, None, List, length, refl, ap, ◌∙◌, arith}
+use Rattle.std.proofs.lemmas.Bool.{false≢true}
+use Rattle.std.specs.Option.{is_some}
 use Rattle.grid.specs.declared.dir.Dir.{Dir}
 use Rattle.grid.specs.Board.{Board, Scene, next}
 use Rattle.grid.specs.States.{IsScene}
@@ -7,6 +9,7 @@ use Rattle.grid.specs.Squares.{contains, remove}
 use Rattle.grid.specs.Rising.{is_rising}
 use Rattle.prices.specs.declared.table.Table.{Table}
 use Rattle.prices.specs.Helping.{NeverHelps}
+use Rattle.prices.specs.Solving.{Allows}
 use Rattle.prices.specs.Prices.{AreFar, goals_of, least_of, need_of, sum_over, total_need}
 use Rattle.prices.specs.inside.Tables.{far_in, number_of}
 use Rattle.prices.specs.inside.Sums.{greatest, need_by, need_seen, total}
@@ -37,3 +40,10 @@ dear_never_helps board t tolls m spare after s b d far goals size scene there le
     let others = sum_le (λ z. need_seen t tolls z s.player) (λ z. need_by t tolls z s.player) (remove s.boxes b) (λ z h. seen_low t tolls z s.player size) in
     costs_tell board toll need m s b d (tolls_are_free board (far_in t) toll greatest far) scene there
     (omega (arith, pay, same, all, one, ahead, seen, real, others, left, low, dear))
+
+-- a push that never helps with as many pushes as a cap allows helps with none that it allows
+pub never_under : (board : Board) (cap : Option ℕ) (s : Scene) (b : ℕ) (d : Dir) → is_some cap ≡ true
+    → ((left : ℕ) → cap ≡ Some left → NeverHelps board (suc left) s b d) → (m : ℕ) → Allows cap m → NeverHelps board (suc m) s b d
+never_under board None s b d some never m le = absurd (false≢true some)
+never_under board (Some left) s b d some never m le =
+    λ x y ds ps n play step e fits. never left refl x y ds ps n play step e (omega (arith, fits, le))

@@ -17,7 +17,7 @@ use Rattle.prices.proofs.lemmas.Tables.{place_inside}
 use Rattle.prices.proofs.lemmas.Prices.{in_tail, needs_refuse, sum_le, tolls_are_free}
 
 -- what is at most each cost and the cap is at most the least
-at_least : (cost : ℕ → ℕ) (cap n : ℕ) (gs : List ℕ) → ((g : ℕ) → contains gs g ≡ true → n ≤ cost g) → n ≤ cap → n ≤ least_of cost cap gs
+pub at_least : (cost : ℕ → ℕ) (cap n : ℕ) (gs : List ℕ) → ((g : ℕ) → contains gs g ≡ true → n ≤ cost g) → n ≤ cap → n ≤ least_of cost cap gs
 at_least cost cap n [] each le = le
 at_least cost cap n (g ∷ gs) each le =
     let here = each g (contains_head g gs) in

@@ -1,5 +1,5 @@
 -- Pushes that no play with few pushes that ends solved makes.
-use Rattle.std.specs.Prelude.{◌≡◌, ℕ, suc, ◌+◌, ◌≤◌, true, List, length}
+use Rattle.std.specs.Prelude.{◌≡◌, ℕ, suc, ◌+◌, ◌≤◌, true, Option, List, length}
 use Rattle.grid.specs.declared.dir.Dir.{Dir}
 use Rattle.grid.specs.declared.square.Push.{Push}
 use Rattle.grid.specs.Squares.{contains}
@@ -26,8 +26,8 @@ CostsTell board = (toll : ℕ → ℕ) (need : ℕ → ℕ → ℕ) (m : ℕ) (s
     → contains s.boxes b ≡ true
     → m + sum_over toll (goals_of board) + need b s.player ≤ total_need need s + need (next board b d) b → NeverHelps board m s b d
 
--- a position of a level, and how many pushes are left after the next
+-- a position of a level, and how many pushes at most may follow the next one: any number, where there is no cap
 pub record SlackView : Type 0 where
   pub board : Board
   pub scene : Scene
-  pub left : ℕ
+  pub left : Option ℕ

@@ -1,5 +1,5 @@
 -- States that plays with few pushes solve.
-use Rattle.std.specs.Prelude.{◌≡◌, ℕ, suc, ◌≤◌, ◌<◌, ◌↔◌, List, [], length}
+use Rattle.std.specs.Prelude.{◌≡◌, ℕ, suc, ◌≤◌, ◌<◌, ◌↔◌, Option, Some, None, List, [], length}
 use Rattle.grid.specs.declared.dir.Dir.{Dir}
 use Rattle.grid.specs.declared.square.Push.{Push}
 use Rattle.grid.specs.Board.{Board, Scene, IsSolved, Pushes}
@@ -17,6 +17,11 @@ SolvableWithin board m s =
 abbrev pub NoneWithin : Board → ℕ → Scene → Type 0
 NoneWithin board m s =
     (ds : List Dir) (ps : List Push) (t : Scene) → Play board Any s ds ps t → IsSolved board t → m < length ps
+
+-- m pushes are no more than a cap allows; without a cap every number is
+abbrev pub Allows : Option ℕ → ℕ → Type 0
+Allows None m = Unit {0}
+Allows (Some most) m = m ≤ most
 
 -- that none does is that the state is not solvable within m
 abbrev pub NoneIsNotSolvable : Board → Type 0

@@ -2,5 +2,7 @@
 pub mod Tables
 pub mod Checks
 pub mod Sums
+pub mod Goals
 pub mod Slacks
+pub mod Matchings
 pub mod Views

@@ -1,9 +1,10 @@
 //! Whether distances pass the look that makes them lower bounds: one step of the player, or one push, at a time.
 ghost use Rattle.std.specs.Prelude.{◌≡◌, ℕ, ◌<◌, IsTrue, true, length, slice_index_or};
 ghost use Rattle.prices.specs.Prices.{AreFar, CanStand, goals_of};
-ghost use Rattle.prices.specs.inside.Checks.{AreClosed, AreNoneAtHome, AreWithinOne, IsClosed, KeepRows, LessenByOne, LessensByOne, StaysIn};
+ghost use Rattle.prices.specs.inside.Checks.{AreClosed, AreNoneAtHome, AreWithinOne, IsClosed, KeepRows, LessenByOne, LessensByOne, StayAway, StaysIn};
 ghost use Rattle.prices.specs.inside.Tables.{far_in, row_in, has_number, spot_of};
 
+use crate::pulls::NEVER;
 use crate::table::{Side, Table};
 use grid::{Dir, Level, Square};
 
@@ -12,6 +13,7 @@ use grid::{Dir, Level, Square};
 pub(crate) fn make_sure(level: &Level, table: &mut Table)
     requires { table.old.goals.items ≡ goals_of level.now }
     ensures far { AreFar level.now (far_in table.new) }
+    ensures away { StayAway level.now (far_in table.new) }
     ensures goals { table.new.goals ≡ table.old.goals }
 {
     if !are_far(level, table) {
@@ -22,7 +24,8 @@ pub(crate) fn make_sure(level: &Level, table: &mut Table)
 // Whether the distances are lower bounds.
 fn are_far(level: &Level, table: &Table) -> bool
     requires { table.now.goals.items ≡ goals_of level.now }
-    ensures { IsTrue result → AreFar level.now (far_in table.now) }
+    ensures far { IsTrue result → AreFar level.now (far_in table.now) }
+    ensures away { IsTrue result → StayAway level.now (far_in table.now) }
 {
     let kept = keep_rows(level, table);
     let none = are_none_at_home(level, table);
@@ -125,7 +128,7 @@ fn number_at(numbers: &[u32], place: usize) -> u32
     }
 }
 
-// Whether each push lessens each distance of the box by one at most.
+// Whether each push lessens each distance of the box by one at most, and leaves one of `NEVER` so.
 fn lessen_by_one(level: &Level, table: &Table) -> bool
     ensures { IsTrue result → LessenByOne level.now table.now }
 {
@@ -169,7 +172,8 @@ fn lessens_by_one(level: &Level, table: &Table, player: Square, dir: Dir) -> boo
     are_within_one(table.row(from, player), table.row(to, from))
 }
 
-// Whether no number is greater than the other at its place by more than one.
+// Whether no number is greater than the other at its place by more than one, and beside one of `NEVER` or more stands
+// another.
 fn are_within_one(numbers: &[u32], others: &[u32]) -> bool
     ensures { IsTrue result → AreWithinOne numbers.now others.now }
 {
@@ -177,8 +181,10 @@ fn are_within_one(numbers: &[u32], others: &[u32]) -> bool
         return false;
     }
     let mut within = true;
+    let mut never = true;
     for (place, number) in numbers.iter().enumerate() {
         within &= *number <= others[place].saturating_add(1);
+        never &= *number < NEVER || others[place] >= NEVER;
     }
-    within
+    within & never
 }

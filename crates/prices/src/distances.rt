@@ -1,16 +1,18 @@
 ghost use Rattle.std.specs.Prelude.{◌≡◌, ℕ, ◌<◌, ◌≤◌, IfOk, IsTrue, length};
 ghost use Rattle.grid.specs.Lawful.{box_count};
 ghost use Rattle.grid.specs.States.{IsScene};
+ghost use Rattle.doom.specs.Lost.{IsLost};
 ghost use Rattle.prices.specs.Solving.{NoneWithin};
 ghost use Rattle.prices.specs.Prices.{AreFar, ComesOfTolls, goals_of};
 ghost use Rattle.prices.specs.inside.Tables.{far_in, row_in};
 
 use crate::check::make_sure;
+use crate::lost::mark_count;
 use crate::matching::Matching;
 use crate::needs::sum;
 use crate::pulls::distances;
 use crate::sides::sides_of;
-use crate::table::Table;
+use crate::table::{Table, part};
 use grid::{Level, MAX_BOXES, Position, Square};
 use std::alloc::{AllocError, Global};
 use std::marker::Model;
@@ -29,6 +31,7 @@ pub struct Distances {
 impl Model for Distances {
     ghost use Rattle.std.specs.Prelude.{◌≡◌};
     ghost use Rattle.prices.specs.Prices.{AreFar, goals_of};
+    ghost use Rattle.prices.specs.inside.Checks.{StayAway};
     ghost use Rattle.prices.specs.inside.Tables.{far_in};
     ghost use Rattle.prices.specs.inside.Views.{DistancesView};
 
@@ -36,7 +39,7 @@ impl Model for Distances {
 
     ghost view = { λ a. record { level = a.level; table = a.table } };
 
-    ghost invariant = { λ a. AreFar a.level (far_in a.table) × (a.table.goals.items ≡ goals_of a.level) };
+    ghost invariant = { λ a. AreFar a.level (far_in a.table) × (a.table.goals.items ≡ goals_of a.level) × StayAway a.level (far_in a.table) };
 }
 
 impl Distances {
@@ -54,16 +57,6 @@ impl Distances {
         })
     }
 
-    /// Whether the boxes need more than `most` pushes: then no play from the position with at most so many ends solved.
-    /// Takes no memory. The matching may be one that was used for any other position; for one that differs by a push or
-    /// two it takes least time.
-    pub fn needs_more(&self, position: &Position, most: u32, matching: &mut Matching) -> bool
-        requires { IsScene self.now.level position.now }
-        ensures { IsTrue result → NoneWithin self.now.level most position.now }
-    {
-        u64::from(most) < self.lower(position, matching)
-    }
-
     /// Matches the boxes of a position with the goals, for what asks for the matching's tolls. Takes no memory.
     pub fn meet(&self, position: &Position, matching: &mut Matching) {
         matching.meet(&self.table, position);
@@ -71,7 +64,8 @@ impl Distances {
 
     /// How many pushes the boxes need at least: no play from the position with fewer ends solved. It is
     /// [`NEVER`](crate::NEVER) or more where the distances say that the boxes can't all be brought to goals, no two to one.
-    /// Takes no memory.
+    /// Takes no memory. The matching may be one of any other position; one of a position that differs by a push or two
+    /// takes least time.
     pub fn lower(&self, position: &Position, matching: &mut Matching) -> u64
         requires { IsScene self.now.level position.now }
         ensures bound { (m : ℕ) → m < result → NoneWithin self.now.level m position.now }
@@ -79,6 +73,24 @@ impl Distances {
     {
         matching.meet(&self.table, position);
         self.needs_above(position, matching.tolls(self.table.goals.len()))
+    }
+
+    /// Whether some boxes can be brought to fewer goals than they are: then no play from the position ends solved. The
+    /// matching is that of the position, as `lower` or `meet` leaves it; another may have it say `false`, which says nothing.
+    /// Takes no memory.
+    pub fn is_lost(&self, position: &Position, matching: &Matching) -> bool
+        requires { IsScene self.now.level position.now }
+        ensures { IsTrue result → IsLost self.now.level position.now }
+    {
+        let wanted = matching.wanted(&self.table);
+        let marks = part(&wanted, 0, self.table.goals.len());
+        if marks.len() != self.table.goals.len() {
+            return false;
+        }
+        let keep = self
+            .table
+            .keep_to(marks, position.boxes(), position.player());
+        mark_count(marks) < keep
     }
 
     /// Tells that the distances are lower bounds, for each goal of the level.

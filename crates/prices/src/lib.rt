@@ -14,14 +14,14 @@
 //! let distances = Distances::of(alloc, &level).expect(&rt, "memory");
 //! let mut matching = Matching::new();
 //! // the box is two pushes from its goal
-//! assert!(&rt; distances.needs_more(&start, 1, &mut matching));
-//! assert!(&rt; !distances.needs_more(&start, 2, &mut matching));
+//! assert_eq!(&rt; distances.lower(&start, &mut matching), 2);
 //! ```
 #![tactic(auto)]
 
 mod check;
 mod distances;
 pub mod laws;
+mod lost;
 mod matching;
 mod mending;
 mod needs;

@@ -1,6 +1,7 @@
 //! A matching of boxes with goals that costs least, and the tolls that it gives the goals. Nothing is promised of it: the
 //! bound holds for any tolls whatever.
 ghost use Rattle.std.specs.Prelude.{◌≤◌, length};
+ghost use Rattle.prices.specs.inside.Matchings.{IsCopy};
 
 use crate::table::{Table, part};
 use grid::{MAX_BOXES, Position, Square};
@@ -38,6 +39,17 @@ impl Matching {
             from: [NONE; MAX_BOXES],
             left: [false; MAX_BOXES],
         }
+    }
+
+    /// Becomes a copy of another matching, ready to be mended to a position that differs by a push or two.
+    pub fn copy_from(&mut self, other: &Matching)
+        ensures { IsCopy self.new other.now }
+    {
+        self.rows = other.rows;
+        self.count = other.count;
+        self.goals = other.goals;
+        self.boxes = other.boxes;
+        self.tolls = other.tolls;
     }
 
     /// The tolls of so many goals.

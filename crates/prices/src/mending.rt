@@ -3,6 +3,7 @@
 ghost use Rattle.std.specs.Prelude.{◌<◌, ◌≤◌};
 
 use crate::matching::{Matching, NONE};
+use crate::pulls::NEVER;
 use crate::table::Table;
 use grid::MAX_BOXES;
 
@@ -22,6 +23,42 @@ impl Matching {
             self.left[goal] = true;
             self.go_on(table, goal, owner);
         }
+    }
+
+    /// The goals to which boxes can be brought that compete for too few: a box that lacks a goal to which it can be brought,
+    /// the boxes that have the goals to which it can be, and so on. None where no box lacks a goal.
+    pub(crate) fn wanted(&self, table: &Table) -> [bool; MAX_BOXES] {
+        let mut wanted = [false; MAX_BOXES];
+        let mut boxes = [self.first_without(table); MAX_BOXES];
+        let mut found = 1;
+        for turn in 0..MAX_BOXES {
+            if turn >= found || boxes[turn] == NONE {
+                return wanted;
+            }
+            let row = table.row_at(self.rows[boxes[turn] as usize % MAX_BOXES]);
+            for (goal, far) in row.iter().enumerate() {
+                if goal < MAX_BOXES && *far < NEVER && !wanted[goal] {
+                    wanted[goal] = true;
+                    if self.boxes[goal] != NONE && found < MAX_BOXES {
+                        boxes[found] = self.boxes[goal];
+                        found += 1;
+                    }
+                }
+            }
+        }
+        wanted
+    }
+
+    // The first box that is not matched with a goal to which it can be brought.
+    fn first_without(&self, table: &Table) -> u8 {
+        for place in 0..self.count.min(MAX_BOXES) {
+            let row = table.row_at(self.rows[place]);
+            match row.get(self.goals[place] as usize) {
+                Some(far) if *far < NEVER => {}
+                _ => return place as u8,
+            }
+        }
+        NONE
     }
 
     // Each goal costs the box at a place its distance and toll.

@@ -2,6 +2,7 @@ ghost use Rattle.std.specs.Prelude.{◌≡◌, ℕ, suc, IsTrue, true};
 ghost use Rattle.grid.specs.Squares.{contains};
 ghost use Rattle.grid.specs.States.{IsScene};
 ghost use Rattle.prices.specs.Helping.{NeverHelps};
+ghost use Rattle.prices.specs.Solving.{Allows};
 
 use crate::distances::Distances;
 use crate::matching::Matching;
@@ -11,15 +12,15 @@ use grid::{Dir, Level, MAX_BOXES, Position, Square};
 use std::marker::Model;
 
 /// How many more pushes are left than the boxes of a position need, by the tolls of a matching. Contracts see the level, the
-/// position, and how many pushes are left after the next.
+/// position, and how many pushes are left after the next; `None` is any number.
 #[derive(Debug, Drop)]
 pub struct Slack<'a> {
     level: &'a Level,
     table: &'a Table,
     position: &'a Position,
     tolls: [u32; MAX_BOXES],
-    left: u32,
-    // what a box may need more after its push than before, so much and no more
+    left: Option<u32>,
+    // under a cap, what a box may need more after its push than before, so much and no more
     spare: u64,
 }
 
@@ -35,12 +36,12 @@ impl<'a> Model for Slack<'a> {
 }
 
 impl<'a> Slack<'a> {
-    /// That of a position, where so many pushes are left after the next one. The matching may be any: one of the position's
-    /// boxes leaves least.
+    /// That of a position, where at most `left` pushes are left after the next one, or any number if that is `None`. The
+    /// matching may be any: one of the position's boxes leaves least.
     pub fn of(
         distances: &'a Distances,
         position: &'a Position,
-        left: u32,
+        left: Option<u32>,
         matching: &Matching,
     ) -> Slack<'a>
         requires { IsScene distances.now.level position.now }
@@ -54,7 +55,7 @@ impl<'a> Slack<'a> {
         } else {
             0
         };
-        let all = u64::from(left) + 1 + sum(tolls);
+        let all = u64::from(left.unwrap_or(u32::MAX)) + 1 + sum(tolls);
         Slack {
             level: &distances.level,
             table,
@@ -65,19 +66,22 @@ impl<'a> Slack<'a> {
         }
     }
 
-    /// How many pushes are left after the next.
-    pub fn left(&self) -> u32
+    /// How many pushes are left after the next; `None` is any number.
+    pub fn left(&self) -> Option<u32>
         ensures { result ≡ self.now.left }
     {
         self.left
     }
 
-    /// Whether a push of one of the boxes costs more than is left: no play with so few pushes that ends solved pushes it there
-    /// before it has been moved. `false` says nothing.
+    /// Whether a push of one of the boxes costs more than is left: no play that ends solved with as few pushes as are left
+    /// pushes the box there before it has been moved. `false` says nothing, and is what it says where any number is left.
     pub fn never_helps(&self, square: Square, dir: Dir) -> bool
         requires { contains self.now.scene.boxes square ≡ true }
-        ensures { IsTrue result → NeverHelps self.now.board (suc self.now.left) self.now.scene square dir }
+        ensures { IsTrue result → (m : ℕ) → Allows self.now.left m → NeverHelps self.now.board (suc m) self.now.scene square dir }
     {
+        if self.left.is_none() {
+            return false;
+        }
         let tolls = part(&self.tolls, 0, self.table.goals.len());
         if tolls.len() != self.table.goals.len() {
             return false;

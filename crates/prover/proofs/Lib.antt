@@ -1,8 +1,8 @@
 pub mod lemmas
 pub mod Columns
-pub mod Flat
-pub mod Progressing
 pub mod OnGoals
-pub mod Judgements
-pub mod Stretches
-pub mod Sieves
+pub mod Openings
+pub mod Entering
+pub mod Steps
+pub mod Queues
+pub mod ReadingBack

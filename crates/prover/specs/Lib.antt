@@ -1,5 +1,5 @@
-pub mod Frame
-pub mod Pruning
+pub mod Fewest
 pub mod Parity
+pub mod Frontier
 pub mod Outcomes
 pub mod inside

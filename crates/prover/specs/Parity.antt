@@ -7,6 +7,7 @@ use Rattle.grid.specs.States.{FitsLevel}
 use Rattle.grid.specs.Plays.{Play, Any, IsSolution}
 use Rattle.grid.specs.Lawful.{IsLevel}
 use Rattle.prices.specs.Solving.{NoneWithin}
+use Rattle.prover.specs.Fewest.{NoneHasFewer}
 
 -- the number is odd
 abbrev pub is_odd : ℕ → Bool
@@ -17,10 +18,6 @@ is_odd (suc n) = not (is_odd n)
 abbrev pub SolutionsAlike : Board → Type 0
 SolutionsAlike board = IsLevel board → (s t u : Scene) (ds es : List Dir) (ps qs : List Push) → FitsLevel board s → Play board Any s ds ps t →
     IsSolved board t → Play board Any s es qs u → IsSolved board u → is_odd (length ps) ≡ is_odd (length qs)
-
--- no solution has fewer pushes
-abbrev pub NoneHasFewer : Board → ℕ → Type 0
-NoneHasFewer board pushes = (ds : List Dir) (ps : List Push) → IsSolution board ds ps → pushes ≤ length ps
 
 -- some solution has so many pushes
 abbrev pub SomeHas : Board → ℕ → Type 0

@@ -1,7 +1,4 @@
--- What keeps the books of the code: what its loops keep, what fields hold. No outcome rests on it.
-pub mod Entries
-pub mod Progress
-pub mod Stretching
-pub mod Benches
-pub mod Sifting
+-- What keeps the books of the code: what its calls ask for, how its loops end. No outcome rests on it.
+pub mod Tickets
 pub mod Working
+pub mod Rounds

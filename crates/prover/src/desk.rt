@@ -1,4 +1,4 @@
-//! What a worker keeps from one position to the next.
+//! What a search keeps from one position to the next.
 ghost use Rattle.std.specs.Prelude.{◌≡◌, IfOk, length};
 
 use area::{MAX_PUSHES, Scratch};
@@ -8,13 +8,15 @@ use grid::{Level, Position, Push};
 use prices::Matching;
 use std::alloc::{AllocError, Global};
 
-/// Room for a worker: its floods, the pushes of a position, what one of them leads to, a matching, and a corral.
+/// Room for floods, for the pushes of a position and its matching, for what one of the pushes leads to and its
+/// matching, and for a corral.
 #[derive(Debug, Drop)]
 pub(crate) struct Desk {
     pub(crate) scratch: Scratch,
     pub(crate) pushes: ArrayVec<Push, MAX_PUSHES>,
-    pub(crate) after: Position,
     pub(crate) matching: Matching,
+    pub(crate) after: Position,
+    pub(crate) next_matching: Matching,
     pub(crate) corral: Corral,
 }
 
@@ -26,8 +28,9 @@ impl Desk {
         Ok(Desk {
             scratch: Scratch::new(alloc, level)?,
             pushes: ArrayVec::new(),
-            after: Position::default(),
             matching: Matching::new(),
+            after: Position::default(),
+            next_matching: Matching::new(),
             corral: Corral::new(alloc, level)?,
         })
     }

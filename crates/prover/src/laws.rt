@@ -1,20 +1,14 @@
-//! Laws of the search for solutions of few pushes. Each is the contract of a function that does nothing.
-ghost use Rattle.prover.specs.Frame.{SearchDecides, SearchFinds};
+//! Laws of the search for a solution with the fewest pushes. Each is the contract of a function that does nothing.
+ghost use Rattle.prover.specs.Frontier.{ClosedDecides, LeastBounds, NothingIsLost};
 ghost use Rattle.prover.specs.Parity.{FewDecide, SolutionsAlike, TwoLessDecide};
-ghost use Rattle.prover.specs.Pruning.{AllDone};
 
 use grid::Level;
 
-/// The laws that a search whose expansions keep what is asked of them finds a solved position where there is one, and that it
-/// decides that there is none.
-pub fn a_search_finds(level: &Level)
-    ensures finds { SearchFinds level.now }
-    ensures decides { SearchDecides level.now }
-{}
-
-/// The law of what an expansion may leave out.
-pub fn an_expansion_is_done_with_all_pushes(level: &Level)
-    ensures { AllDone level.now }
+/// The laws of what a search's open positions say of the level's solutions.
+pub fn open_positions_tell(level: &Level)
+    ensures lost { NothingIsLost level.now }
+    ensures least { LeastBounds level.now }
+    ensures closed { ClosedDecides level.now }
 {}
 
 /// The laws that the solutions of a level have pushes of one parity, and what that decides.

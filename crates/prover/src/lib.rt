@@ -1,39 +1,31 @@
-//! Whether a level has a solution with at most so many pushes: a search that may leave out whatever provably loses none.
+//! The fewest pushes that solve a level, by one best-first search.
+//!
+//! The total of a position is the pushes that led to it and a lower bound on those that it still needs. The search
+//! expands the open position of the least total first, so the first solved position that comes up has the fewest
+//! pushes. What an expansion leaves out leads to no solution that the cap allows.
 //!
 //! With the `level` of a room of three rows of three squares, the box in the middle, its goal at the top left and the
 //! player at the bottom right:
 //!
 //! ```text
-//! let one = prover::search(&rt, alloc, &level, 1, effort).expect(&rt, "memory");
-//! assert!(&rt; matches!(&one, Outcome::None));
-//! let two = prover::search(&rt, alloc, &level, 2, effort).expect(&rt, "memory");
-//! assert!(&rt; matches!(&two, Outcome::Found { pushes: 2, .. }));
+//! let best = prover::search(alloc, &level, None, 1_000).expect(&rt, "memory");
+//! assert!(&rt; matches!(&best, Outcome::Least { pushes: 2, .. }));
+//! let fewer = prover::search(alloc, &level, Some(1), 1_000).expect(&rt, "memory");
+//! assert!(&rt; matches!(&fewer, Outcome::NoneWithin));
 //! ```
 #![tactic(auto)]
 
-mod aim;
-mod bench;
-mod cutting;
 mod desk;
-mod effort;
-mod entries;
 mod expansion;
-mod hashing;
-mod judging;
+mod frontier;
 pub mod laws;
 mod outcome;
-mod pacing;
 mod pruner;
 mod pushing;
+mod queue;
 mod retracing;
-mod rounds;
 mod searching;
-mod sifting;
 mod solved;
-mod store;
-mod table;
 
-pub use effort::Effort;
-pub use judging::judge;
 pub use outcome::{Outcome, SearchFault};
 pub use searching::search;

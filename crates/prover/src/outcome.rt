@@ -5,15 +5,17 @@ use grid::{MAX_BOXES, Moves};
 use std::alloc::AllocError;
 use thiserror::Error;
 
-/// What a search for a solution with few pushes found.
+/// What a search for a solution with the fewest pushes found.
 #[derive(Debug, Drop)]
 pub enum Outcome {
-    /// There is none.
-    None,
-    /// These moves are one, with so many pushes.
-    Found { moves: Moves, pushes: usize },
-    /// The limit of positions was passed first, and nothing is said of the level.
-    Limit,
+    /// These moves solve the level with this many pushes, and no solution has fewer.
+    Least { moves: Moves, pushes: usize },
+    /// No solution has as few pushes as the cap allows.
+    NoneWithin,
+    /// The level has no solution.
+    Unsolvable,
+    /// The search found more positions than the limit; every solution has at least this many pushes.
+    Limit { at_least: u32 },
 }
 
 /// Why there was no search.

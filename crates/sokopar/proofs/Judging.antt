@@ -1,63 +1,103 @@
--- The report of a solution that is proved to have the fewest pushes, or not.
-use Rattle.std.proofs.Common.{◌≡◌, ℕ, ◌<◌, ◌≤◌, List, length, Option, Some, codes, decimal, ◌++◌, Result, Ok, Err, IfOk, inl, inr, refl, sym, subst}
+-- The reports of a search for the fewest pushes.
+use Rattle.std.proofs.Common.{◌≡◌, ℕ, suc, ◌<◌, ◌≤◌, List, length, Option, Some, None, Result, Ok, Err, IfOk, codes, inl, inr, sym, ap, subst, ◌∙◌, arith}
+use Rattle.std.proofs.Common.{unwrap_or}
+use Rattle.std.proofs.lemmas.List.Sums.{count_by-le-length}
 use Rattle.grid.specs.Board.{Board}
-use Rattle.grid.specs.Lawful.{box_count}
+use Rattle.grid.specs.Lawful.{IsLevel, box_count}
 use Rattle.grid.specs.declared.limits.TheConstants.{MAX_BOXES}
 use Rattle.grid.specs.declared.moves.Letter.{Letter}
 use Rattle.lurd.specs.Text.{IsText, HasTextFault}
 use Rattle.lurd.specs.Verdict.{IsVerdict}
 use Rattle.lurd.specs.declared.fault.LurdFault.{LurdFault}
+use Rattle.lurd.specs.declared.limits.TheConstants.{MAX_MOVES}
 use Rattle.lurd.specs.declared.verdict.Verdict.{Verdict}
 use Rattle.lurd.specs.declared.verdict.Verdict.TheVariants.{Solved, Unsolved, Blocked, WrongCase}
 use Rattle.lurd.proofs.lemmas.Solutions.{solution_of_solved}
-use Rattle.prover.specs.Parity.{NoneHasFewer, SomeHas}
-use Rattle.grid.specs.declared.fault.LevelFault.{LevelFault}
-use Rattle.sokopar.specs.Ends.{Seen}
-use Rattle.sokopar.specs.Runs.{ReadsWhole, ReadsIfSome}
-use Rattle.sokopar.specs.Listing.{Listed, IsListing, level_at}
-use Rattle.sokopar.specs.Report.{Report, one_line, verdict_report, text_fault_report}
-use Rattle.sokopar.specs.Proving.{IsProofOf, IsProvedBy, ProvesOn, IsProveReport, beaten_report, optimal_report}
+use Rattle.prover.specs.Fewest.{NoneHasFewer}
+use Rattle.prover.specs.Parity.{SomeHas, TwoLessDecide}
+use Rattle.prover.specs.Outcomes.{IsOutcome}
+use Rattle.prover.specs.declared.outcome.Outcome.{Outcome}
+use Rattle.prover.specs.declared.outcome.Outcome.TheVariants.{Least, NoneWithin as none_within, Unsolvable, Limit}
+use Rattle.sokopar.specs.Best as best
+use Rattle.sokopar.specs.Proving as proving
+use Rattle.sokopar.specs.Report.{Report, IsSearchOf, one_line, too_many_boxes, verdict_report, text_fault_report}
 
--- a text that was read on a lawful level, with its report
-pub prove_read : (old new : Seen) (limit n : ℕ) (level : Option (Result Board LevelFault)) (board : Board) (text : List ℕ) (report : Report)
-    → level ≡ Some (Ok board) → ReadsWhole old new text → IsProofOf limit board text report
-    → (read : Option (List ℕ)) × ReadsIfSome old new read × ProvesOn limit n level read report
-prove_read old new limit n level board text report is reads proved =
-    let P : Option (Result Board LevelFault) → Type 0 = λ at. ProvesOn limit n at (Some text) report in
-    (Some text, reads, subst P (sym is) (text, refl, proved))
+-- ---- a level
 
--- the report on the level that was chosen is that on the level of the number
-pub proved_at : {E : Type 0} (bytes : List ℕ) (limit n : ℕ) (chosen : Option (Result Board LevelFault)) (old new : Seen) (result : Result Report E)
-    → (listing : List Listed) × IsListing bytes listing × (chosen ≡ level_at listing n)
-    → IfOk result (λ r. (text : Option (List ℕ)) × ReadsIfSome old new text × ProvesOn limit n chosen text r)
-    → IfOk result (λ r. (text : Option (List ℕ)) × ReadsIfSome old new text × IsProveReport limit n bytes text r)
-proved_at bytes limit n chosen old new (Ok r) has is = (is.0, is.1, (has.0, has.1, subst (λ at. ProvesOn limit n at is.0 r) has.2 is.2))
-proved_at bytes limit n chosen old new (Err e) has is = tt
+-- the report of a level
+abbrev pub IsBestOf : ℕ → Board → Report → Type 0
+IsBestOf limit board report = IsSearchOf (best.IsBest limit) board report
 
--- the report of a solution that solves the level: whatever its moves
+pub best_least : {E : Type 0} (limit : ℕ) (board : Board) (letters : List Letter) (pushes : ℕ) (o : Outcome) (r : Result Report E) → o ≡ Least letters pushes
+    → box_count board ≤ MAX_BOXES → IsOutcome board None limit o → IfOk r (λ report. report ≡ best.optimal_report pushes letters)
+    → IfOk r (λ report. IsBestOf limit board report)
+best_least limit board letters pushes o (Ok report) e few so is =
+    let found = subst (λ (x : Outcome). IsOutcome board None limit x) e so in inr (few, best.optimal letters pushes (found.0, found.1) is)
+best_least limit board letters pushes o (Err x) e few so is = tt
+
+pub best_unsolvable : {E : Type 0} (limit : ℕ) (board : Board) (r : Result Report E) → box_count board ≤ MAX_BOXES →
+    IsOutcome board None limit Unsolvable → IfOk r (λ report. report ≡ one_line (codes "unsolvable") 1) → IfOk r (λ report. IsBestOf limit board report)
+best_unsolvable limit board (Ok report) few lost is = inr (few, best.unsolvable (λ ds ps solution. lost.1 solution.0 ds ps solution.1 solution.2) is)
+best_unsolvable limit board (Err e) few lost is = tt
+
+pub best_limit : {E : Type 0} (limit : ℕ) (board : Board) (bound : ℕ) (r : Result Report E) → box_count board ≤ MAX_BOXES →
+    IsOutcome board None limit (Limit bound) → IfOk r (λ report. report ≡ best.undecided_report limit bound) → IfOk r (λ report. IsBestOf limit board report)
+best_limit limit board bound (Ok report) few so is = inr (few, best.undecided (bound, so.0, so.1, is))
+best_limit limit board bound (Err e) few so is = tt
+
+pub best_many : {E : Type 0} (limit : ℕ) (board : Board) (r : Result Report E) → MAX_BOXES < box_count board →
+    IfOk r (λ report. report ≡ too_many_boxes) → IfOk r (λ report. IsBestOf limit board report)
+best_many limit board (Ok report) many is = inl (many, is)
+best_many limit board (Err e) many is = tt
+
+-- the report of a level is that of its outcome, beside best_least
+pub ruleset of_best = (best_unsolvable, best_limit, best_many)
+
+-- ---- a solution
+
+-- the report of a solution that solves the level
 abbrev pub IsOfSolved : ℕ → Board → ℕ → Report → Type 0
-IsOfSolved limit board pushes report = (moves : ℕ) → IsProvedBy limit board (Solved pushes moves) report
+IsOfSolved limit board pushes report = IsSearchOf (proving.IsJudged limit pushes) board report
 
-pub of_optimal : {E : Type 0} (limit : ℕ) (board : Board) (pushes : ℕ) (r : Result Report E) → box_count board ≤ MAX_BOXES → NoneHasFewer board pushes →
-    IfOk r (λ report. report ≡ optimal_report pushes) → IfOk r (λ report. IsOfSolved limit board pushes report)
-of_optimal limit board pushes (Ok report) few none is = λ moves. inr (few, inl (none, is))
-of_optimal limit board pushes (Err e) few none is = tt
+pub judged_optimal : {E : Type 0} (limit : ℕ) (board : Board) (pushes : ℕ) (r : Result Report E) → box_count board ≤ MAX_BOXES →
+    NoneHasFewer board pushes → IfOk r (λ report. report ≡ one_line (best.optimal_words pushes) 0) → IfOk r (λ report. IsOfSolved limit board pushes report)
+judged_optimal limit board pushes (Ok report) few none is = inr (few, proving.optimal none is)
+judged_optimal limit board pushes (Err e) few none is = tt
 
-pub of_beaten : {E : Type 0} (limit : ℕ) (board : Board) (pushes fewer : ℕ) (letters : List Letter) (r : Result Report E) → box_count board ≤ MAX_BOXES →
-    IsVerdict board letters (Solved fewer (length letters)) × (fewer < pushes) → IfOk r (λ report. report ≡ beaten_report pushes fewer letters) →
+-- no solution has as few pushes as two less
+pub none_has_fewer : (board : Board) (limit pushes : ℕ) (most : ℕ) (o : Outcome) → TwoLessDecide board → IsLevel board → SomeHas board pushes →
+    IsOutcome board (Some most) limit o → o ≡ none_within → pushes ≡ suc (suc most) → NoneHasFewer board pushes
+none_has_fewer board limit pushes most o law level some so e two = by (subst (λ (x : Outcome). IsOutcome board (Some most) limit x) e so)
+  where
+    by : IsOutcome board (Some most) limit none_within → NoneHasFewer board pushes
+    by (cap, is, none) =
+        let same : cap ≡ most = sym (ap (λ (n : Option ℕ). unwrap_or n 0) is) in
+        let long : pushes ≡ suc (suc cap) = omega (arith, same, two) in
+        subst (λ (n : ℕ). NoneHasFewer board n) (sym long) (law level cap (subst (λ (n : ℕ). SomeHas board n) long some) none)
+
+pub judged_least : {E : Type 0} (limit : ℕ) (board : Board) (pushes fewest : ℕ) (letters : List Letter) (most : ℕ) (o : Outcome) (r : Result Report E) →
+    box_count board ≤ MAX_BOXES → IsOutcome board (Some most) limit o → o ≡ Least letters fewest → most < pushes →
+    IfOk r (λ report. report ≡ proving.beaten_report pushes fewest letters) → IfOk r (λ report. IsOfSolved limit board pushes report)
+judged_least limit board pushes fewest letters most o (Ok report) few so e less is =
+    let found = subst (λ (x : Outcome). IsOutcome board (Some most) limit x) e so in
+    inr (few, proving.beaten letters fewest (let bound = found.2 in omega (arith, bound, less)) (found.0, found.1) is)
+judged_least limit board pushes fewest letters most o (Err x) few so e less is = tt
+
+pub judged_limit : {E : Type 0} (limit most : ℕ) (board : Board) (pushes bound : ℕ) (r : Result Report E) → box_count board ≤ MAX_BOXES →
+    IsOutcome board (Some most) limit (Limit bound) → IfOk r (λ report. report ≡ best.undecided_report limit bound) →
     IfOk r (λ report. IsOfSolved limit board pushes report)
-of_beaten limit board pushes fewer letters (Ok report) few found is = λ moves. inr (few, inr (inl (fewer, letters, found.0, found.1, is)))
-of_beaten limit board pushes fewer letters (Err e) few found is = tt
+judged_limit limit most board pushes bound (Ok report) few so is = inr (few, proving.undecided (bound, so.0, so.1, is))
+judged_limit limit most board pushes bound (Err e) few so is = tt
 
-pub of_limit : {E : Type 0} (limit : ℕ) (board : Board) (pushes : ℕ) (r : Result Report E) → box_count board ≤ MAX_BOXES →
-    IfOk r (λ report. report ≡ one_line (codes "limit " ++ decimal limit ++ codes " reached") 4) → IfOk r (λ report. IsOfSolved limit board pushes report)
-of_limit limit board pushes (Ok report) few is = λ moves. inr (few, inr (inr is))
-of_limit limit board pushes (Err e) few is = tt
+pub judged_many : {E : Type 0} (limit : ℕ) (board : Board) (pushes : ℕ) (r : Result Report E) → MAX_BOXES < box_count board →
+    IfOk r (λ report. report ≡ too_many_boxes) → IfOk r (λ report. IsOfSolved limit board pushes report)
+judged_many limit board pushes (Ok report) many is = inl (many, is)
+judged_many limit board pushes (Err e) many is = tt
 
-pub of_many : {E : Type 0} (limit : ℕ) (board : Board) (pushes : ℕ) (r : Result Report E) → MAX_BOXES < box_count board →
-    IfOk r (λ report. report ≡ one_line (codes "too many boxes") 1) → IfOk r (λ report. IsOfSolved limit board pushes report)
-of_many limit board pushes (Ok report) many is = λ moves. inl (many, is)
-of_many limit board pushes (Err e) many is = tt
+-- the report of a solution is that of the outcome of the search for one with fewer pushes, beside judged_optimal and judged_least
+pub ruleset of_judged = (judged_limit, judged_many)
+
+-- ---- letters and texts
 
 -- letters that solve the level write a solution
 pub some_has : (board : Board) (letters : List Letter) (v : Verdict) (pushes moves : ℕ) → v ≡ Solved pushes moves → IsVerdict board letters v →
@@ -65,14 +105,23 @@ pub some_has : (board : Board) (letters : List Letter) (v : Verdict) (pushes mov
 some_has board letters v pushes moves e is =
     let w = solution_of_solved board letters pushes moves (subst (λ (u : Verdict). IsVerdict board letters u) e is) in (_, w.list, w.solution, w.pushes_are)
 
+-- and they have no more pushes than moves
+pub few_pushes : (board : Board) (letters : List Letter) (v : Verdict) (pushes moves : ℕ) → v ≡ Solved pushes moves → IsVerdict board letters v →
+    length letters ≤ MAX_MOVES → pushes ≤ MAX_MOVES
+few_pushes board letters v pushes moves e is few =
+    let solved = subst (λ (u : Verdict). IsVerdict board letters u) e is in
+    let count = solved.1 in
+    let less = count_by-le-length (λ (letter : Letter). letter.push) letters in
+    omega (arith, count, less, few)
+
 -- the report of letters
 abbrev pub IsOfMoves : ℕ → Board → List Letter → Report → Type 0
-IsOfMoves limit board letters report = (v : Verdict) × IsVerdict board letters v × IsProvedBy limit board v report
+IsOfMoves limit board letters report = (v : Verdict) × IsVerdict board letters v × proving.IsProvedBy limit board v report
 
 pub of_solved : {E : Type 0} (limit : ℕ) (board : Board) (letters : List Letter) (v : Verdict) (pushes moves : ℕ) (r : Result Report E) →
     v ≡ Solved pushes moves → IsVerdict board letters v → IfOk r (λ report. IsOfSolved limit board pushes report) →
     IfOk r (λ report. IsOfMoves limit board letters report)
-of_solved limit board letters v pushes moves (Ok report) e is has = (Solved pushes moves, subst (λ (u : Verdict). IsVerdict board letters u) e is, has moves)
+of_solved limit board letters v pushes moves (Ok report) e is has = (Solved pushes moves, subst (λ (u : Verdict). IsVerdict board letters u) e is, has)
 of_solved limit board letters v pushes moves (Err x) e is has = tt
 
 pub of_unsolved : {E : Type 0} (limit : ℕ) (board : Board) (letters : List Letter) (v : Verdict) (pushes moves : ℕ) (r : Result Report E) →
@@ -94,16 +143,16 @@ of_wrong_case limit board letters v place (Ok report) e is has =
     (WrongCase place, subst (λ (u : Verdict). IsVerdict board letters u) e is, subst (λ (u : Verdict). report ≡ verdict_report u) e has)
 of_wrong_case limit board letters v place (Err x) e is has = tt
 
--- the report of letters goes by their verdict
-pub ruleset of_verdict = (some_has, of_solved, of_unsolved, of_blocked, of_wrong_case)
+-- the report of letters depends on their verdict
+pub ruleset of_verdict = (some_has, few_pushes, of_solved, of_unsolved, of_blocked, of_wrong_case)
 
 -- the report of a text
 pub of_text : {E : Type 0} (limit : ℕ) (board : Board) (solution : List ℕ) (letters : List Letter) (r : Result Report E) → IsText solution letters →
-    IfOk r (λ report. IsOfMoves limit board letters report) → IfOk r (λ report. IsProofOf limit board solution report)
+    IfOk r (λ report. IsOfMoves limit board letters report) → IfOk r (λ report. proving.IsProofOf limit board solution report)
 of_text limit board solution letters (Ok report) text has = inl (letters, has.0, text, has.1, has.2)
 of_text limit board solution letters (Err e) text has = tt
 
 pub of_fault : {E : Type 0} (limit : ℕ) (board : Board) (solution : List ℕ) (fault : LurdFault) (r : Result Report E) → HasTextFault solution fault →
-    IfOk r (λ report. report ≡ text_fault_report fault) → IfOk r (λ report. IsProofOf limit board solution report)
+    IfOk r (λ report. report ≡ text_fault_report fault) → IfOk r (λ report. proving.IsProofOf limit board solution report)
 of_fault limit board solution fault (Ok report) has is = inr (fault, has, is)
 of_fault limit board solution fault (Err e) has is = tt

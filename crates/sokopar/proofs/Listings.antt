@@ -19,7 +19,7 @@ use Rattle.xsb.specs.inside.Progress.{HasRead, GivesNext, lines_left}
 use Rattle.sokopar.specs.Entries.{listed_of}
 use Rattle.sokopar.specs.Listing.{Listed, IsListed, IsListing, IsLevelOf, level_at}
 use Rattle.sokopar.specs.inside.Parts.{is_good}
-use Rattle.sokopar.specs.Report.{Report, IsReplayOf, ReplaysOn, IsReplayReport, IsCheckReport, line, check_line, check_lines, good_count}
+use Rattle.sokopar.specs.Report.{Report, ReportsOnText, IsCheckReport, line, check_line, check_lines, good_count}
 
 -- the boards so far, judged
 pub record HasListed (bytes : List ℕ) (left : Collection) (listing : List Listed) : Type 0 where
@@ -208,13 +208,13 @@ looked-on {bytes} {first} {number} {count} {chosen} last entry is next fewer som
       room = omega arith;
     }
 
--- a text that was read on a lawful level, with its report
-pub replay_read : (old new : Seen) (n : ℕ) (level : Option (Result Board LevelFault)) (board : Board) (text : List ℕ) (report : Report)
-    → level ≡ Some (Ok board) → ReadsWhole old new text → IsReplayOf board text report
-    → (read : Option (List ℕ)) × ReadsIfSome old new read × ReplaysOn n level read report
-replay_read old new n level board text report is reads replayed =
-    let P : Option (Result Board LevelFault) → Type 0 = λ at. ReplaysOn n at (Some text) report in
-    (Some text, reads, subst P (sym is) (text, refl, replayed))
+-- the text of a solution that was read on a lawful level, with its report
+pub text_read : (Has : Board → List ℕ → Report → Type 0) (old new : Seen) (n : ℕ) (level : Option (Result Board LevelFault)) (board : Board)
+    (text : List ℕ) (report : Report) → level ≡ Some (Ok board) → ReadsWhole old new text → Has board text report
+    → (read : Option (List ℕ)) × ReadsIfSome old new read × ReportsOnText Has n level read report
+text_read Has old new n level board text report is reads has =
+    let P : Option (Result Board LevelFault) → Type 0 = λ at. ReportsOnText Has n at (Some text) report in
+    (Some text, reads, subst P (sym is) (text, refl, has))
 
 -- the level that was chosen is that of the number
 pub at_number : {E : Type 0} (bytes : List ℕ) (n : ℕ) (chosen : Option (Result Board LevelFault)) (P : Option (Result Board LevelFault) → Report →
@@ -224,12 +224,13 @@ pub at_number : {E : Type 0} (bytes : List ℕ) (n : ℕ) (chosen : Option (Resu
 at_number bytes n chosen P (Ok r) has is = (has.0, has.1, subst (λ at. P at r) has.2 is)
 at_number bytes n chosen P (Err e) has is = tt
 
-pub replayed_at : {E : Type 0} (bytes : List ℕ) (n : ℕ) (chosen : Option (Result Board LevelFault)) (old new : Seen) (result : Result Report E)
-    → (listing : List Listed) × IsListing bytes listing × (chosen ≡ level_at listing n)
-    → IfOk result (λ r. (text : Option (List ℕ)) × ReadsIfSome old new text × ReplaysOn n chosen text r)
-    → IfOk result (λ r. (text : Option (List ℕ)) × ReadsIfSome old new text × IsReplayReport n bytes text r)
-replayed_at bytes n chosen old new (Ok r) has is = (is.0, is.1, (has.0, has.1, subst (λ at. ReplaysOn n at is.0 r) has.2 is.2))
-replayed_at bytes n chosen old new (Err e) has is = tt
+pub text_at : {E : Type 0} (Has : Board → List ℕ → Report → Type 0) (bytes : List ℕ) (n : ℕ) (chosen : Option (Result Board LevelFault)) (old new : Seen)
+    (result : Result Report E) → (listing : List Listed) × IsListing bytes listing × (chosen ≡ level_at listing n)
+    → IfOk result (λ r. (text : Option (List ℕ)) × ReadsIfSome old new text × ReportsOnText Has n chosen text r)
+    → IfOk result (λ r. (text : Option (List ℕ)) × ReadsIfSome old new text ×
+    ((listing : List Listed) × IsListing bytes listing × ReportsOnText Has n (level_at listing n) text r))
+text_at Has bytes n chosen old new (Ok r) has is = (is.0, is.1, (has.0, has.1, subst (λ at. ReportsOnText Has n at is.0 r) has.2 is.2))
+text_at Has bytes n chosen old new (Err e) has is = tt
 
 pub stopped_at : (bytes : List ℕ) (n : ℕ) (chosen : Option (Result Board LevelFault)) (old new : Seen) (result : Result Report RunFault)
     → (listing : List Listed) × IsListing bytes listing × (chosen ≡ level_at listing n)

@@ -22,8 +22,8 @@ use Rattle.sokopar.specs.DeadMap.{IsMark, wall, goal, dead, other, AreMarks, IsD
 use Rattle.sokopar.specs.Listing.{Listed, IsListed, IsListing, level_at}
 use Rattle.sokopar.specs.OneAtMost.{IsOneAtMost}
 use Rattle.sokopar.specs.OneReport.{IsOnlyReport}
-use Rattle.sokopar.specs.Report.{Report, IsReplayOf, IsCheckReport, IsShowReport, IsReplayReport, ReplaysOn, ReportsOn, IsShown, check_report, verdict_report}
-use Rattle.sokopar.specs.Report.{text_fault_report}
+use Rattle.sokopar.specs.Report.{Report, IsReplayOf, IsCheckReport, IsShowReport, IsReplayReport, ReportsOnText, ReportsOn, IsShown, check_report}
+use Rattle.sokopar.specs.Report.{text_fault_report, verdict_report}
 use Rattle.sokopar.specs.Solving.{IsSolveOf, IsSolveReport, answer_report}
 use Rattle.sokopar.specs.inside.Parts.{MapsOn, SolvesOn}
 
@@ -175,7 +175,7 @@ same_replay reading judging board bytes report others (inr (fault, bad, told)) (
     tells ∙ ap text_fault_report same ∙ sym told
 
 same_replay_on : IsOneReading → IsOneVerdict → (n : ℕ) (level : Option (Result Board LevelFault)) (solution : Option (List ℕ)) →
-    IsOneAtMost (λ report. ReplaysOn n level solution report)
+    IsOneAtMost (λ report. ReportsOnText IsReplayOf n level solution report)
 same_replay_on reading judging n None solution report others told also = also.1 ∙ sym told.1
 same_replay_on reading judging n (Some (Err fault)) solution report others told also = also.1 ∙ sym told.1
 same_replay_on reading judging n (Some (Ok board)) solution report others (xs, read, told) (ys, reads, also) =
@@ -225,7 +225,7 @@ one_dead_report law n bytes report others (xs, lists, told) (ys, listed, also) =
 pub one_replay_report : AreOneCollection → IsOneReading → IsOneVerdict → (n : ℕ) (bytes : List ℕ) (solution : Option (List ℕ)) →
     IsOneAtMost (λ report. IsReplayReport n bytes solution report)
 one_replay_report law reading judging n bytes solution report others (xs, lists, told) (ys, listed, also) =
-    let P : List Listed → Type 0 = λ l. ReplaysOn n (level_at l n) solution others in
+    let P : List Listed → Type 0 = λ l. ReportsOnText IsReplayOf n (level_at l n) solution others in
     same_replay_on reading judging n (level_at xs n) solution report others told (subst P (one_listing law bytes xs ys lists listed) also)
 
 pub one_solve_report : AreOneCollection → IsOneAnswer → (cap : Option ℕ) (limit n : ℕ) (bytes : List ℕ) →

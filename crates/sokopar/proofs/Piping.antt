@@ -11,7 +11,7 @@ use Rattle.solo.specs.declared.answer.Answer.TheVariants as answer
 use Rattle.successors.specs.Capping.{capped}
 use Rattle.solo.specs.Answers.{IsAnswer}
 use Rattle.sokopar.specs.Listing.{Listed, IsListing, level_at}
-use Rattle.sokopar.specs.Report.{Report, IsReplayReport, ReplaysOn, line, verdict_report}
+use Rattle.sokopar.specs.Report.{Report, IsReplayOf, IsReplayReport, ReportsOnText, line, verdict_report}
 use Rattle.sokopar.specs.Solving.{IsSolveReport, answer_report}
 use Rattle.sokopar.specs.inside.Parts.{SolvesOn}
 use Rattle.sokopar.specs.Retelling.{ReplaysAsTold}
@@ -40,7 +40,7 @@ told_replays laws cap limit n bytes board has report (answer.Solved moves pushes
     let solved = verdict.Solved pushes (length moves) in
     let judged = solution_replays board cap limit moves pushes positions is in
     let reads : length moves ≤ MAX_MOVES → IsText text moves = λ few. text_line (bytes_of moves) moves (laws.written moves few) in
-    let R : Option (Result Board LevelFault) → Type 0 = λ level. ReplaysOn n level (Some text) (verdict_report solved) in
+    let R : Option (Result Board LevelFault) → Type 0 = λ level. ReportsOnText IsReplayOf n level (Some text) (verdict_report solved) in
     let replays : length moves ≤ MAX_MOVES → IsReplayReport n bytes (Some text) (verdict_report solved) =
     λ few. (has.listing, has.lists, subst R (sym has.is) (text, refl, inl (moves, solved, reads few, judged, refl))) in
     record {

@@ -5,8 +5,8 @@ pub mod Entries
 pub mod Report
 pub mod Runs
 pub mod Solving
+pub mod Best
 pub mod Proving
-pub mod ProvingRuns
 pub mod OneReport
 pub mod OneAtMost
 pub mod Retelling

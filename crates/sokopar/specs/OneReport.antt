@@ -1,4 +1,4 @@
--- Each input has one report.
+-- Each input of the commands except `best` and `prove` has one report.
 use Rattle.std.specs.Prelude.{◌≡◌, ℕ, List, Option}
 use Rattle.sokopar.specs.Report.{Report}
 use Rattle.sokopar.specs.Solving.{IsSolveReport}

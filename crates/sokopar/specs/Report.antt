@@ -1,10 +1,12 @@
 -- What the program writes, and its exit status.
+use Rattle.std.specs.Prelude.{◌<◌, ◌≤◌}
 use Rattle.std.specs.Prelude.{◌≡◌, ℕ, suc, ◌==◌, if◌then◌else◌, List, [], ◌∷◌, ◌++◌, length, count_by, is_ok, Result, Ok, Err, Option, Some, None, codes}
 use Rattle.std.specs.Prelude.{decimal, ◌⊎◌}
 use Rattle.grid.specs.Board.{Board}
 use Rattle.grid.specs.Lawful.{row_count, box_count}
 use Rattle.grid.specs.declared.fault.LevelFault.{LevelFault}
 use Rattle.grid.specs.declared.fault.LevelFault.TheVariants as level
+use Rattle.grid.specs.declared.limits.TheConstants.{MAX_BOXES}
 use Rattle.grid.specs.declared.moves.Letter.{Letter}
 use Rattle.lurd.specs.Text.{IsText, HasTextFault}
 use Rattle.lurd.specs.Verdict.{IsVerdict}
@@ -107,17 +109,30 @@ text_fault_report (text.BadCount at) = one_line (codes "bad count at " ++ decima
 text_fault_report text.TooManyMoves = one_line (codes "too many moves") 1
 text_fault_report text.OutOfMemory = one_line (codes "out of memory") 1
 
--- the report of replaying a text on a lawful level: the first fault of the text, or the verdict on its letters
-abbrev pub IsReplayOf : Board → List ℕ → Report → Type 0
-IsReplayOf board solution report =
-    ((letters : List Letter) × (v : Verdict) × IsText solution letters × IsVerdict board letters v × (report ≡ verdict_report v)) ⊎
+-- the report on the text of a solution of a lawful level: the first fault of the text, or what is reported of the verdict on its letters
+abbrev pub IsOfText : (Board → Verdict → Report → Type 0) → Board → List ℕ → Report → Type 0
+IsOfText Reports board solution report =
+    ((letters : List Letter) × (v : Verdict) × IsText solution letters × IsVerdict board letters v × Reports board v report) ⊎
     ((fault : LurdFault) × HasTextFault solution fault × (report ≡ text_fault_report fault))
 
--- the report of a replay on level n of a listing; a solution is read exactly where the level is lawful
-abbrev pub ReplaysOn : ℕ → Option (Result Board LevelFault) → Option (List ℕ) → Report → Type 0
-ReplaysOn n None solution report = (solution ≡ None) × (report ≡ no_level n)
-ReplaysOn n (Some (Err fault)) solution report = (solution ≡ None) × (report ≡ fault_report fault)
-ReplaysOn n (Some (Ok board)) solution report = (read : List ℕ) × (solution ≡ Some read) × IsReplayOf board read report
+-- the report of replaying a text on a lawful level: the verdict on its letters
+abbrev pub IsReplayOf : Board → List ℕ → Report → Type 0
+IsReplayOf board solution report = IsOfText (λ b v r. r ≡ verdict_report v) board solution report
+
+-- the report on level n of a listing and a solution, which is read exactly where the level is lawful
+abbrev pub ReportsOnText : (Board → List ℕ → Report → Type 0) → ℕ → Option (Result Board LevelFault) → Option (List ℕ) → Report → Type 0
+ReportsOnText Has n None solution report = (solution ≡ None) × (report ≡ no_level n)
+ReportsOnText Has n (Some (Err fault)) solution report = (solution ≡ None) × (report ≡ fault_report fault)
+ReportsOnText Has n (Some (Ok board)) solution report = (read : List ℕ) × (solution ≡ Some read) × Has board read report
+
+-- the report where a level has more boxes than a search takes
+abbrev pub too_many_boxes : Report
+too_many_boxes = one_line (codes "too many boxes") 1
+
+-- the report of a search on a lawful level: that its boxes are too many, or what the search finds
+abbrev pub IsSearchOf : (Board → Report → Type 0) → Board → Report → Type 0
+IsSearchOf Finds board report =
+    ((MAX_BOXES < box_count board) × (report ≡ too_many_boxes)) ⊎ ((box_count board ≤ MAX_BOXES) × Finds board report)
 
 -- the report of checking these bytes
 abbrev pub IsCheckReport : List ℕ → Report → Type 0
@@ -130,4 +145,4 @@ IsShowReport n bytes report = (listing : List Listed) × IsListing bytes listing
 -- the report of replaying on level n of these bytes a solution, if one was read
 abbrev pub IsReplayReport : ℕ → List ℕ → Option (List ℕ) → Report → Type 0
 IsReplayReport n bytes solution report =
-    (listing : List Listed) × IsListing bytes listing × ReplaysOn n (level_at listing n) solution report
+    (listing : List Listed) × IsListing bytes listing × ReportsOnText IsReplayOf n (level_at listing n) solution report

@@ -7,7 +7,7 @@ use Rattle.sokopar.specs.declared.fault.RunFault.TheVariants.{Read, Write, TooLo
 use Rattle.xsb.specs.declared.limits.TheConstants.{MAX_FILE}
 use Rattle.sokopar.specs.Ends.{Act, moved, failed, Seen, Pass, WereAll}
 use Rattle.sokopar.specs.Listing.{IsLevelOf}
-use Rattle.sokopar.specs.Report.{Report, IsReplayReport}
+use Rattle.sokopar.specs.Report.{Report}
 
 -- the source was read to its end: reads gave these bytes, no more than a file may have, then one gave none, and no
 -- other was asked for; where it is known which bytes were left, they were these
@@ -77,13 +77,13 @@ StopsInTwo n source read second second_read fault =
     (Stops source read fault × (second_read ≡ second)) ⊎
     ((bytes : List ℕ) × (board : Board) × ReadsWhole source read bytes × IsLevelOf bytes n board × Stops second second_read fault)
 
--- what a replay does, by its answer, as a run over one source does; the solution is read to its end where level n is
--- lawful, and not read at all elsewhere
-abbrev pub Replays : ℕ → Seen → Seen → Seen → Seen → Seen → Seen → Result ℕ RunFault → Type 0
-Replays n source read second second_read sink written (Ok status) =
+-- what a run over two sources does, by its answer, as a run over one source does: a collection, and a solution, which is read to its end
+-- where level n is lawful, and left alone elsewhere
+abbrev pub RunsInTwo : (List ℕ → Option (List ℕ) → Report → Type 0) → ℕ → Seen → Seen → Seen → Seen → Seen → Seen → Result ℕ RunFault → Type 0
+RunsInTwo IsReport n source read second second_read sink written (Ok status) =
     (bytes : List ℕ) × (solution : Option (List ℕ)) × (report : Report) × ReadsWhole source read bytes × ReadsIfSome second second_read solution ×
-    IsReplayReport n bytes solution report × WritesWhole sink written report.text × (status ≡ report.status)
-Replays n source read second second_read sink written (Err Write) =
+    IsReport bytes solution report × WritesWhole sink written report.text × (status ≡ report.status)
+RunsInTwo IsReport n source read second second_read sink written (Err Write) =
     (bytes : List ℕ) × (solution : Option (List ℕ)) × (report : Report) × ReadsWhole source read bytes × ReadsIfSome second second_read solution ×
-    IsReplayReport n bytes solution report × WritesPart sink written report.text
-Replays n source read second second_read sink written (Err fault) = StopsInTwo n source read second second_read fault × (written ≡ sink)
+    IsReport bytes solution report × WritesPart sink written report.text
+RunsInTwo IsReport n source read second second_read sink written (Err fault) = StopsInTwo n source read second second_read fault × (written ≡ sink)

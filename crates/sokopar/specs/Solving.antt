@@ -1,14 +1,12 @@
 -- What solving a level writes.
-use Rattle.std.specs.Prelude.{◌≡◌, ℕ, ◌<◌, ◌≤◌, ◌⊎◌, List, [], ◌++◌, length, Option, Some, None, codes, decimal}
+use Rattle.std.specs.Prelude.{◌≡◌, ℕ, List, [], ◌++◌, length, Option, Some, None, codes, decimal}
 use Rattle.grid.specs.Board.{Board}
-use Rattle.grid.specs.Lawful.{box_count}
-use Rattle.grid.specs.declared.limits.TheConstants.{MAX_BOXES}
 use Rattle.lurd.specs.Text.{bytes_of}
 use Rattle.solo.specs.Answers.{IsAnswer}
 use Rattle.solo.specs.declared.answer.Answer.{Answer}
 use Rattle.solo.specs.declared.answer.Answer.TheVariants.{Solved, Unsolvable, NoneWithin, Limit}
 use Rattle.sokopar.specs.Listing.{Listed, IsListing, level_at}
-use Rattle.sokopar.specs.Report.{Report, ReportsOn, line, one_line, counts_words}
+use Rattle.sokopar.specs.Report.{Report, ReportsOn, IsSearchOf, line, one_line, counts_words}
 
 -- a number of positions
 abbrev pub positions_words : ℕ → List ℕ
@@ -29,12 +27,14 @@ answer_report cap limit (Unsolvable positions) = one_line (codes "unsolvable" ++
 answer_report cap limit (NoneWithin positions) = one_line (codes "none within " ++ cap_words cap ++ codes " pushes" ++ positions_words positions) 1
 answer_report cap limit Limit = one_line (codes "limit " ++ decimal limit ++ codes " reached") 4
 
+-- the report of an answer to a level under a cap of pushes and a limit of positions
+abbrev pub IsAnswered : Option ℕ → ℕ → Board → Report → Type 0
+IsAnswered cap limit board report =
+    (answer : Answer) × IsAnswer (record { board = board; cap = cap }) limit answer × (report ≡ answer_report cap limit answer)
+
 -- the report of solving a lawful level under a cap of pushes and a limit of positions: that its boxes are too many, or an answer
 abbrev pub IsSolveOf : Option ℕ → ℕ → Board → Report → Type 0
-IsSolveOf cap limit board report =
-    ((MAX_BOXES < box_count board) × (report ≡ one_line (codes "too many boxes") 1)) ⊎
-    ((box_count board ≤ MAX_BOXES) ×
-    ((answer : Answer) × IsAnswer (record { board = board; cap = cap }) limit answer × (report ≡ answer_report cap limit answer)))
+IsSolveOf cap limit board report = IsSearchOf (IsAnswered cap limit) board report
 
 -- the report of solving level n of these bytes under a cap of pushes and a limit of positions
 abbrev pub IsSolveReport : Option ℕ → ℕ → ℕ → List ℕ → Report → Type 0

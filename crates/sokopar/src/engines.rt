@@ -2,8 +2,8 @@ ghost use Rattle.std.specs.Prelude.{◌≡◌, ◌≤◌};
 ghost use Rattle.crew.specs.Configured.{IsWithinLimits};
 ghost use Rattle.sokopar.specs.DeadMap.{IsDeadReport};
 ghost use Rattle.sokopar.specs.OneReport.{IsOnlySolveReport};
-ghost use Rattle.sokopar.specs.Report.{IsCheckReport, IsShowReport};
-ghost use Rattle.sokopar.specs.Runs.{Runs, Replays};
+ghost use Rattle.sokopar.specs.Report.{IsCheckReport, IsReplayReport, IsShowReport};
+ghost use Rattle.sokopar.specs.Runs.{Runs, RunsInTwo};
 
 use crate::check::check_report;
 use crate::dead::dead_in;
@@ -84,7 +84,8 @@ pub fn run_replay<S: Source, T: Source, K: Sink>(
     sink: &mut K,
 ) -> Result<u8, RunFault>
     requires { 1 ≤ number }
-    ensures { Replays number (S.seen source.old) (S.seen source.new) (T.seen solution.old) (T.seen solution.new) (K.seen sink.old) (K.seen sink.new) result }
+    ensures { RunsInTwo (IsReplayReport number) number (S.seen source.old) (S.seen source.new) (T.seen solution.old) (T.seen solution.new)
+        (K.seen sink.old) (K.seen sink.new) result }
 {
     let bytes = read_whole(alloc, source)?;
     let report = replay_in(alloc, bytes.as_slice(), number, solution)?;

@@ -1,4 +1,5 @@
-//! Laws of reports, as the clauses of functions that do nothing.
+//! Laws of the reports of all commands except `best` and `prove`, as the clauses of functions that do nothing. A level may
+//! have several solutions with the fewest pushes, so `best` and `prove` may have several right reports.
 ghost use Rattle.std.specs.Prelude.{◌≡◌, ℕ, List, Option, length};
 ghost use Rattle.grid.specs.Board.{Board};
 ghost use Rattle.grid.specs.declared.moves.Letter.{Letter};
@@ -36,8 +37,8 @@ pub fn printed_solution_replays()
     one_collection();
 }
 
-/// Each input has at most one report: for each command, level number, solution, cap and limit two reports of the same bytes
-/// are the same text and the same status.
+/// Each input of `check`, `show`, `dead`, `replay` and `solve` has at most one report: for the same bytes, level number,
+/// solution, cap and limit two reports have the same text and the same status.
 pub fn one_report()
     ensures check { (bytes : List ℕ) → IsOneAtMost (λ report. IsCheckReport bytes report) }
     ensures show { (n : ℕ) (bytes : List ℕ) → IsOneAtMost (λ report. IsShowReport n bytes report) }

@@ -17,6 +17,7 @@
 //! ```
 #![tactic(auto)]
 
+mod best;
 mod check;
 mod dead;
 mod engines;
@@ -41,7 +42,7 @@ pub use engines::{
 };
 pub use fault::RunFault;
 pub use laws::{one_report, printed_solution_replays, solution_replays};
-pub use proving::{ProveRequest, run_prove};
+pub use proving::{SearchRequest, run_best, run_prove};
 pub use sink::{Sink, Writer};
 pub use source::{Reader, Source};
 pub use trail::Failed;

@@ -1,93 +1,104 @@
 ghost use Rattle.std.specs.Prelude.{◌≡◌, ◌⊎◌, ◌≤◌, ℕ, List, Option, Some, Ok, length, IfOk, IfErr};
 ghost use Rattle.grid.specs.Board.{Board};
 ghost use Rattle.lurd.specs.Verdict.{IsVerdict};
+ghost use Rattle.lurd.specs.declared.limits.TheConstants.{MAX_MOVES};
 ghost use Rattle.prover.specs.Parity.{SomeHas};
+ghost use Rattle.sokopar.specs.Best.{optimal_words};
 ghost use Rattle.sokopar.specs.Listing.{IsLevelOf};
-ghost use Rattle.sokopar.specs.Proving.{IsProofOf, IsProvedBy, IsProveReport, ProvesOn, beaten_report, optimal_report};
+ghost use Rattle.sokopar.specs.Proving.{IsJudged, IsProofOf, IsProvedBy, IsProveReport, beaten_report};
+ghost use Rattle.sokopar.specs.Report.{IsSearchOf, ReportsOnText, one_line};
 ghost use Rattle.sokopar.specs.Runs.{ReadsIfSome, Stops};
 
+use crate::best::{put_optimal, undecided};
 use crate::fault::RunFault;
 use crate::listing::{Chosen, level_of};
 use crate::reads::read_whole;
 use crate::replay::{text_fault_report, verdict_report};
 use crate::report::Report;
 use crate::show::{fault_report, no_level};
-use crate::solve::{limit_reached, too_many_boxes};
+use crate::solve::too_many_boxes;
 use crate::source::Source;
 use crate::text::Text;
-use grid::{Level, Moves};
+use grid::{Level, MAX_BOXES, Moves};
 use lurd::{Verdict, parse, replay};
-use prover::{Effort, Outcome, SearchFault};
+use prover::laws::solutions_are_alike;
+use prover::{Outcome, SearchFault};
 use std::alloc::{AllocError, Global};
-use std::thread::Threads;
 use xsb::MAX_FILE;
 
 /// The report that no solution has fewer pushes.
 fn optimal(alloc: Global, pushes: usize) -> Result<Report, AllocError>
-    ensures { IfOk result (λ report. report ≡ optimal_report pushes) }
+    ensures { IfOk result (λ report. report ≡ one_line (optimal_words pushes) 0) }
 {
     let mut text = Text::new(alloc);
-    text.put(b"optimal ")?;
-    text.put_number(pushes)?;
-    text.put(b" pushes\n")?;
+    put_optimal(&mut text, pushes)?;
+    text.put(b"\n")?;
     Ok(Report::new(text, 0))
 }
 
-/// The report of a solution with fewer pushes.
-fn beaten(alloc: Global, pushes: usize, fewer: usize, moves: &Moves) -> Result<Report, AllocError>
-    ensures { IfOk result (λ report. report ≡ beaten_report pushes fewer moves.now) }
+/// The report that a solution with the fewest pushes has fewer.
+fn beaten(alloc: Global, pushes: usize, fewest: usize, moves: &Moves) -> Result<Report, AllocError>
+    ensures { IfOk result (λ report. report ≡ beaten_report pushes fewest moves.now) }
 {
     let mut text = Text::new(alloc);
     text.put(b"not optimal ")?;
     text.put_number(pushes)?;
     text.put(b" pushes, ")?;
-    text.put_number(fewer)?;
-    text.put(b" pushes found\n")?;
+    put_optimal(&mut text, fewest)?;
+    text.put(b"\n")?;
     text.put_letters(moves)?;
     text.put(b"\n")?;
     Ok(Report::new(text, 1))
 }
 
-#[tactic(auto, using(crate::proofs::Judging::of_optimal, crate::proofs::Judging::of_beaten, crate::proofs::Judging::of_limit, crate::proofs::Judging::of_many))]
-/// The report of a solution of so many pushes.
-fn judged<R: Threads + Sync>(
-    rt: &R,
-    alloc: Global,
-    level: &Level,
-    pushes: usize,
-    effort: Effort,
-) -> Result<Report, AllocError>
-    requires { SomeHas level.now pushes }
-    ensures { IfOk result (λ report. (moves : ℕ) → IsProvedBy effort.limit level.now (Verdict.Solved pushes moves) report) }
+#[tactic(auto, using(crate::proofs::Judging::of_judged))]
+/// The report of a solution by its number of pushes, under a limit of positions.
+///
+/// The solutions of a level all have an even number of pushes, or all an odd one. So a solution has the fewest pushes unless
+/// another one has at least two fewer.
+fn judged(alloc: Global, level: &Level, pushes: usize, limit: u32) -> Result<Report, AllocError>
+    requires some { SomeHas level.now pushes }
+    requires few { pushes ≤ MAX_MOVES }
+    ensures { IfOk result (λ report. IsSearchOf (IsJudged limit pushes) level.now report) }
 {
-    match prover::judge(rt, alloc, level, pushes, effort) {
-        Ok(Outcome::None) => optimal(alloc, pushes),
+    level.tell();
+    solutions_are_alike(level);
+    if level.boxes() > MAX_BOXES {
+        return too_many_boxes(alloc);
+    }
+    if pushes < 2 {
+        return optimal(alloc, pushes);
+    }
+    let most = (pushes - 2) as u32;
+    match prover::search(alloc, level, Some(most), limit) {
         Ok(
-            Outcome::Found {
+            Outcome::Least {
                 moves,
-                pushes: fewer,
+                pushes: fewest,
             },
-        ) => beaten(alloc, pushes, fewer, &moves),
-        Ok(Outcome::Limit) => limit_reached(alloc, effort.limit),
+        ) => beaten(alloc, pushes, fewest, &moves),
+        Ok(Outcome::NoneWithin) => optimal(alloc, pushes),
+        Ok(Outcome::Unsolvable) => unreachable!(),
+        Ok(Outcome::Limit { at_least }) => undecided(alloc, limit, at_least),
         Err(SearchFault::TooManyBoxes) => too_many_boxes(alloc),
         Err(SearchFault::OutOfMemory) => Err(AllocError),
     }
 }
 
 #[tactic(auto, using(crate::proofs::Judging::of_verdict))]
-/// The report of moves.
-fn moves_report<R: Threads + Sync>(
-    rt: &R,
+/// The report of moves under a limit of positions.
+fn moves_report(
     alloc: Global,
     level: &Level,
     moves: &Moves,
-    effort: Effort,
+    limit: u32,
 ) -> Result<Report, AllocError>
-    ensures { IfOk result (λ report. (v : Verdict) × IsVerdict level.now moves.now v × IsProvedBy effort.limit level.now v report) }
+    requires { length moves.now ≤ MAX_MOVES }
+    ensures { IfOk result (λ report. (v : Verdict) × IsVerdict level.now moves.now v × IsProvedBy limit level.now v report) }
 {
     let verdict = replay(alloc, level, moves)?;
     match verdict {
-        Verdict::Solved { pushes, .. } => judged(rt, alloc, level, pushes, effort),
+        Verdict::Solved { pushes, .. } => judged(alloc, level, pushes, limit),
         Verdict::Unsolved { .. } => verdict_report(alloc, verdict),
         Verdict::Blocked { .. } => verdict_report(alloc, verdict),
         Verdict::WrongCase { .. } => verdict_report(alloc, verdict),
@@ -95,35 +106,34 @@ fn moves_report<R: Threads + Sync>(
 }
 
 #[tactic(auto, using(crate::proofs::Judging::of_text, crate::proofs::Judging::of_fault))]
-/// The report of proving a text on a level.
-fn prove_report<R: Threads + Sync>(
-    rt: &R,
+/// The report of proving a text on a level under a limit of positions.
+fn prove_report(
     alloc: Global,
     level: &Level,
     solution: &[u8],
-    effort: Effort,
+    limit: u32,
 ) -> Result<Report, AllocError>
-    ensures { IfOk result (λ report. IsProofOf effort.limit level.now solution.now report) }
+    ensures { IfOk result (λ report. IsProofOf limit level.now solution.now report) }
 {
     match parse(alloc, solution) {
-        Ok(moves) => moves_report(rt, alloc, level, &moves, effort),
+        Ok(moves) => moves_report(alloc, level, &moves, limit),
         Err(fault) => text_fault_report(alloc, fault),
     }
 }
 
 #[tactic(auto, using(crate::proofs::Reading::stops_after))]
-/// The report of proving on level N; the solution is read to its end exactly where the level is lawful.
-fn prove_level<R: Threads + Sync, T: Source>(
-    rt: &R,
+/// The report of proving on level N under a limit of positions; the solution is read to its end exactly where the level is
+/// lawful.
+fn prove_level<T: Source>(
     alloc: Global,
     chosen: &Chosen,
     number: u32,
-    effort: Effort,
+    limit: u32,
     solution: &mut T,
 ) -> Result<Report, RunFault>
     requires { 1 ≤ number }
     ensures ok { IfOk result (λ report. (text : Option (List ℕ)) × ReadsIfSome (T.seen solution.old) (T.seen solution.new) text
-        × ProvesOn effort.limit number chosen.now text report) }
+        × ReportsOnText (IsProofOf limit) number chosen.now text report) }
     ensures err { IfErr result (λ fault. ((fault ≡ RunFault.OutOfMemory) × (T.seen solution.new ≡ T.seen solution.old))
         ⊎ ((board : Board) × (chosen.now ≡ Some (Ok board)) × Stops (T.seen solution.old) (T.seen solution.new) fault)) }
 {
@@ -132,27 +142,27 @@ fn prove_level<R: Threads + Sync, T: Source>(
         Some(Err(fault)) => Ok(fault_report(alloc, *fault)?),
         Some(Ok(level)) => {
             let text = read_whole(alloc, solution)?;
-            Ok(prove_report(rt, alloc, level, text.as_slice(), effort)?)
+            Ok(prove_report(alloc, level, text.as_slice(), limit)?)
         }
     }
 }
 
-/// The report of proving on level N of a collection; the solution is read to its end exactly where the level is lawful.
-pub(crate) fn prove_in<R: Threads + Sync, T: Source>(
-    rt: &R,
+/// The report of proving on level N of a collection under a limit of positions; the solution is read to its end exactly where
+/// the level is lawful.
+pub(crate) fn prove_in<T: Source>(
     alloc: Global,
     bytes: &[u8],
     number: u32,
-    effort: Effort,
+    limit: u32,
     solution: &mut T,
 ) -> Result<Report, RunFault>
     requires number { 1 ≤ number }
     requires bound { length bytes.now ≤ MAX_FILE }
     ensures ok { IfOk result (λ report. (text : Option (List ℕ)) × ReadsIfSome (T.seen solution.old) (T.seen solution.new) text
-        × IsProveReport effort.limit number bytes.now text report) }
+        × IsProveReport limit number bytes.now text report) }
     ensures err { IfErr result (λ fault. ((fault ≡ RunFault.OutOfMemory) × (T.seen solution.new ≡ T.seen solution.old))
         ⊎ ((board : Board) × IsLevelOf bytes.now number board × Stops (T.seen solution.old) (T.seen solution.new) fault)) }
 {
     let chosen = level_of(alloc, bytes, number)?;
-    prove_level(rt, alloc, &chosen, number, effort, solution)
+    prove_level(alloc, &chosen, number, limit, solution)
 }

@@ -1,42 +1,66 @@
+//! The engines that look for a solution with the fewest pushes. Their reports are proved, and not proved to be the only ones:
+//! several solutions may have the fewest pushes, and a search may end at its limit with another bound. So
+//! [`one_report`](crate::one_report) does not cover them.
 ghost use Rattle.std.specs.Prelude.{◌≤◌};
-ghost use Rattle.sokopar.specs.ProvingRuns.{Proves};
+ghost use Rattle.sokopar.specs.Best.{IsBestReport};
+ghost use Rattle.sokopar.specs.Proving.{IsProveReport};
+ghost use Rattle.sokopar.specs.Runs.{Runs, RunsInTwo};
 
+use crate::best::best_in;
 use crate::fault::RunFault;
 use crate::prove::prove_in;
 use crate::reads::read_whole;
 use crate::sink::Sink;
 use crate::source::Source;
-use prover::Effort;
 use std::alloc::Global;
-use std::thread::Threads;
 
-/// What [`run_prove`] is asked: to prove a solution of the level with a number, counted from 1, with so much effort.
+/// What [`run_best`] and [`run_prove`] search: the level with this number, counted from 1. The search ends undecided once it
+/// finds more positions than the limit.
 #[derive(Clone, Copy, PartialEq, Eq, Debug)]
-pub struct ProveRequest {
+pub struct SearchRequest {
     pub number: u32,
-    pub effort: Effort,
+    pub limit: u32,
 }
 
 #[tactic(auto, using(crate::proofs::Reading::stops_after))]
-/// Proves that a solution, which is LURD text, has the fewest pushes of all solutions of a level of a collection, counted from
-/// 1, or writes one with fewer; by so many workers, and within a limit of positions. Gives the exit status: 0 where none has
-/// fewer, 4 where the limit was reached, which says nothing of the solution, else 1. What is written is the same for every number
-/// of workers. Of what is no solution it writes what [`run_replay`](crate::run_replay) does. The collection is read first; the
-/// solution is read only where the level is lawful. The faults are those of [`run_check`](crate::run_check).
-pub fn run_prove<R: Threads + Sync, S: Source, T: Source, K: Sink>(
-    rt: &R,
+/// Finds a solution with the fewest pushes of a level of a collection: writes their number and the solution as LURD text; or
+/// that the level has no solution; or that the search found more positions than the limit, and how many pushes every solution
+/// has at least. Gives the exit status: 0 for a solution, 4 at the limit, else 1. The faults are those of
+/// [`run_check`](crate::run_check).
+pub fn run_best<S: Source, K: Sink>(
     alloc: Global,
     source: &mut S,
-    solution: &mut T,
-    request: ProveRequest,
+    request: SearchRequest,
     sink: &mut K,
 ) -> Result<u8, RunFault>
     requires { 1 ≤ request.number }
-    ensures { Proves request.effort.limit request.number (S.seen source.old) (S.seen source.new) (T.seen solution.old) (T.seen solution.new)
-        (K.seen sink.old) (K.seen sink.new) result }
+    ensures { Runs (IsBestReport request.limit request.number) (S.seen source.old) (S.seen source.new) (K.seen sink.old) (K.seen sink.new) result }
 {
-    let ProveRequest { number, effort } = request;
+    let SearchRequest { number, limit } = request;
     let bytes = read_whole(alloc, source)?;
-    let report = prove_in(rt, alloc, bytes.as_slice(), number, effort, solution)?;
+    let report = best_in(alloc, bytes.as_slice(), number, limit)?;
+    report.send(sink)
+}
+
+#[tactic(auto, using(crate::proofs::Reading::stops_after))]
+/// Proves that a solution, which is LURD text, has the fewest pushes of all solutions of a level of a collection; or writes a
+/// solution that has the fewest, which are fewer; or that the search found more positions than the limit, and how many pushes
+/// every solution has at least. Gives the exit status: 0 if the solution has the fewest pushes, 4 at the limit, else 1. If the
+/// text does not solve the level, it writes what [`run_replay`](crate::run_replay) writes. The collection is read first; the
+/// solution is read only if the level is lawful. The faults are those of [`run_check`](crate::run_check).
+pub fn run_prove<S: Source, T: Source, K: Sink>(
+    alloc: Global,
+    source: &mut S,
+    solution: &mut T,
+    request: SearchRequest,
+    sink: &mut K,
+) -> Result<u8, RunFault>
+    requires { 1 ≤ request.number }
+    ensures { RunsInTwo (IsProveReport request.limit request.number) request.number (S.seen source.old) (S.seen source.new) (T.seen solution.old)
+        (T.seen solution.new) (K.seen sink.old) (K.seen sink.new) result }
+{
+    let SearchRequest { number, limit } = request;
+    let bytes = read_whole(alloc, source)?;
+    let report = prove_in(alloc, bytes.as_slice(), number, limit, solution)?;
     report.send(sink)
 }

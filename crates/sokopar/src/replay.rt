@@ -1,5 +1,5 @@
 ghost use Rattle.std.specs.Prelude.{◌≡◌, ◌≢◌, ◌++◌, ◌⊎◌, ◌≤◌, ℕ, List, length, Option, OnOk, IfOk, IfErr};
-ghost use Rattle.sokopar.specs.Report.{counts_words, verdict_report, text_fault_report, IsReplayOf, ReplaysOn, IsReplayReport};
+ghost use Rattle.sokopar.specs.Report.{counts_words, verdict_report, text_fault_report, IsReplayOf, ReportsOnText, IsReplayReport};
 ghost use Rattle.sokopar.specs.Runs.{ReadsIfSome, Stops};
 ghost use Rattle.grid.specs.Board.{Board};
 ghost use Rattle.sokopar.specs.Listing.{IsLevelOf};
@@ -103,7 +103,7 @@ pub(crate) fn replay_level<T: Source>(
 ) -> Result<Report, RunFault>
     requires { 1 ≤ number }
     ensures ok { IfOk result (λ report. (text : Option (List ℕ)) × ReadsIfSome (T.seen solution.old) (T.seen solution.new) text
-        × ReplaysOn number chosen.now text report) }
+        × ReportsOnText IsReplayOf number chosen.now text report) }
     ensures err { IfErr result (λ fault. ((fault ≡ RunFault.OutOfMemory) × (T.seen solution.new ≡ T.seen solution.old))
         ⊎ ((board : Board) × (chosen.now ≡ Some (Ok board)) × Stops (T.seen solution.old) (T.seen solution.new) fault)) }
 {

@@ -1,9 +1,9 @@
 ghost use Rattle.std.specs.Prelude.{◌≡◌, ◌++◌, ◌≤◌, None, OnOk, IfOk, length};
 ghost use Rattle.sokopar.specs.OneReport.{IsOnlySolveReport};
-ghost use Rattle.sokopar.specs.Report.{line};
+ghost use Rattle.sokopar.specs.Report.{line, too_many_boxes};
 ghost use Rattle.sokopar.specs.Solving.{positions_words, answer_report, IsSolveOf};
 ghost use Rattle.sokopar.specs.Retelling.{solved_text};
-ghost use Rattle.sokopar.specs.inside.Parts.{too_many_boxes, none_within, SolvesOn};
+ghost use Rattle.sokopar.specs.inside.Parts.{limit_words, none_within, SolvesOn};
 ghost use Rattle.lurd.specs.Text.{bytes_of};
 ghost use Rattle.crew.specs.Configured.{IsWithinLimits};
 
@@ -21,7 +21,7 @@ use std::sync::{Arc, Wait};
 use std::thread::Threads;
 use xsb::MAX_FILE;
 
-/// The report where the level has more boxes than the solver takes.
+/// The report where the level has more boxes than a search takes.
 pub(crate) fn too_many_boxes(alloc: Global) -> Result<Report, AllocError>
     ensures { IfOk result (λ report. report ≡ too_many_boxes) }
 {
@@ -64,14 +64,22 @@ fn unsolvable(alloc: Global, positions: u64) -> Result<Report, AllocError>
     Ok(Report::new(text, 1))
 }
 
+/// Appends that the limit was reached.
+pub(crate) fn put_limit(text: &mut Text, limit: u32) -> Result<(), AllocError>
+    ensures { OnOk result (text.new ≡ text.old ++ limit_words limit) }
+{
+    text.put(b"limit ")?;
+    text.put_number(limit as usize)?;
+    text.put(b" reached")
+}
+
 /// The report where the limit was reached.
-pub(crate) fn limit_reached(alloc: Global, limit: u32) -> Result<Report, AllocError>
+fn limit_reached(alloc: Global, limit: u32) -> Result<Report, AllocError>
     ensures { IfOk result (λ report. report ≡ answer_report None limit Answer.Limit) }
 {
     let mut text = Text::new(alloc);
-    text.put(b"limit ")?;
-    text.put_number(limit as usize)?;
-    text.put(b" reached\n")?;
+    put_limit(&mut text, limit)?;
+    text.put(b"\n")?;
     Ok(Report::new(text, 4))
 }
 

@@ -1,16 +1,17 @@
 -- What books hold is counted one place after the other, and books are still at work one place after the other.
-use Rattle.std.proofs.Common.{◌≡◌, ℕ, zero, suc, ◌+◌, ◌<◌, ◌≤◌, List, [], ◌∷◌, length, set, take, Some, inl, inr, refl, sym, ap, subst, ◌∙◌, arith}
+use Rattle.std.proofs.Common.{◌≡◌, ℕ, zero, suc, ◌+◌, ◌<◌, ◌≤◌, List, [], ◌∷◌, length, set, take, Option}
+use Rattle.std.proofs.Common.{None, Some, IfSome, inl, inr, refl, sym, ap, subst, ◌∙◌, arith}
 use Rattle.std.specs.Prelude.{slice_get}
 use Rattle.std.proofs.lemmas.Bool.{cases_lt}
 use Rattle.std.proofs.lemmas.List.{length-set}
 use Rattle.std.proofs.lemmas.List.Sums.{sum_by_push}
-use Rattle.std.proofs.lemmas.Option.{same_Some, slice_get_within}
+use Rattle.std.proofs.lemmas.Option.{none-some, same_Some, slice_get_within}
 use Rattle.layers.specs.LayerView.{LayerView}
-use Rattle.layers.specs.BookView.{BookView, IsLawfulBook}
-use Rattle.layers.specs.Books.{HasBegun}
+use Rattle.layers.specs.BookView.{AreLawfulBooks, BookView, IsLawfulBook}
+use Rattle.layers.specs.Books.{AllDone, HasBegun}
 use Rattle.layers.specs.Holding.{all_held, held}
-use Rattle.successors.proofs.lemmas.Lists.{take_push}
-use Rattle.solo.specs.inside.Together.{AreStill, IsStill}
+use Rattle.successors.proofs.lemmas.Lists.{sum_by_first, take_push}
+use Rattle.solo.specs.inside.Together.{AreStill, IsFull, IsStill, PassTogether}
 use Rattle.solo.proofs.Each.{set_here, set_there}
 use Rattle.solo.proofs.lemmas.Together.{back_to}
 
@@ -74,3 +75,48 @@ take_whole (x ∷ xs) (suc n) le = ap (λ ys. x ∷ ys) (take_whole xs n (omega 
 -- a lawful book holds fewer positions than a number of 32 bits counts
 pub held_few : (v : BookView) → IsLawfulBook v → held v ≤ 4294967295
 held_few v book = omega (arith, book.within, book.bounds.limits)
+
+-- ---- one of several books works on
+
+-- what all hold then
+held_set : (books : List BookView) (place : ℕ) (v w : BookView) → slice_get books place ≡ Some v →
+    all_held (set books place w) + held v ≡ all_held books + held w
+held_set [] place v w at = absurd (none-some v at)
+held_set (b ∷ books) zero v w at = omega (arith, sum_by_first held w books, sum_by_first held b books, ap held (same_Some b v at))
+held_set (b ∷ books) (suc place) v w at =
+    omega (arith, sum_by_first held b (set books place w), sum_by_first held b books, held_set books place v w at)
+
+-- all are lawful
+lawful_set : (books : List BookView) (place : ℕ) (w : BookView) → ((i : ℕ) (v : BookView) → slice_get books i ≡ Some v → IsLawfulBook v) → IsLawfulBook w →
+    (i : ℕ) (v : BookView) → slice_get (set books place w) i ≡ Some v → IsLawfulBook v
+lawful_set [] place w all new i v at = absurd (none-some v at)
+lawful_set (b ∷ books) zero w all new zero v at = subst IsLawfulBook (same_Some w v at) new
+lawful_set (b ∷ books) zero w all new (suc i) v at = all (suc i) v at
+lawful_set (b ∷ books) (suc place) w all new zero v at = all zero v at
+lawful_set (b ∷ books) (suc place) w all new (suc i) v at = lawful_set books place w (λ j. all (suc j)) new i v at
+
+-- the first so many have done all their ranks, and one more
+pub done_set : (books : List BookView) (place : ℕ) (w : BookView) → place < length books →
+    ((i : ℕ) (v : BookView) → i < place → slice_get books i ≡ Some v → AllDone v) → AllDone w →
+    (i : ℕ) (v : BookView) → i < place + 1 → slice_get (set books place w) i ≡ Some v → AllDone v
+done_set books place w lt all new i v before at = elim (cases_lt i place) [
+  | inl less ↦ all i v less (sym (set_there books place i w (λ e. absurd (omega (arith, e, less)))) ∙ at)
+  | inr more ↦ (let e : place ≡ i = omega arith in
+      subst AllDone (same_Some w v (sym (set_here books place w lt) ∙ ap (slice_get (set books place w)) e ∙ at)) new)
+]
+
+-- where it holds more than the limit leaves, or is over, they pass the limit together
+pub full_pass : (limit left : ℕ) (books : List BookView) (place : ℕ) (v w : BookView) → left + all_held books ≡ limit → AreLawfulBooks books →
+    slice_get books place ≡ Some v → IsLawfulBook w → IsFull (held v + left) w → PassTogether limit (set books place w)
+full_pass limit left books place v w leaves all at new full = (
+  lawful_set books place w all new,
+  elim full [
+    | inl over ↦ inl (place, w, set_here books place w (slice_get_within books place v at), over)
+    | inr more ↦ inr (omega (arith, leaves, more, held_set books place v w at))
+  ],
+)
+
+-- what holds whatever is given, beside what holds of it
+pub both_if_some : {A : Type 0} {P : Type 0} (Q : A → Type 0) (o : Option A) → P → IfSome o Q → IfSome o (λ x. P × Q x)
+both_if_some Q None p q = tt
+both_if_some Q (Some x) p q = (p, q)

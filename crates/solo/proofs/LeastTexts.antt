@@ -14,7 +14,7 @@ use Rattle.grid.proofs.lemmas.Plays.{play_any}
 use Rattle.layers.specs.Leads.{IsLeadOf}
 use Rattle.layers.proofs.lemmas.Orders.{shortlex_same, shortlex_shorter}
 use Rattle.solo.specs.Leads.{WritesLead}
-use Rattle.solo.proofs.LeastPlays.{dirs_written}
+use Rattle.successors.proofs.lemmas.LeastPlays.{dirs_written}
 use Rattle.solo.proofs.NextLayers.{and_so, decided, dir_same, sure}
 
 -- ---- the shortest

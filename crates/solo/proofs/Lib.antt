@@ -4,7 +4,6 @@ pub mod Credits
 pub mod Each
 pub mod Existence
 pub mod Finishing
-pub mod LeastPlays
 pub mod LeastTexts
 pub mod Limits
 pub mod Looking

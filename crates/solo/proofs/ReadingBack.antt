@@ -16,8 +16,9 @@ use Rattle.layers.specs.Leads.{IsLeadOf}
 use Rattle.layers.specs.Origins.{HasOrigin}
 use Rattle.solo.specs.Leads.{AreFirstLayers, WritesLead, places_or_none, last_places, level_of}
 use Rattle.solo.specs.inside.Searched.{AreTrailed, IsNextOf}
-use Rattle.solo.specs.inside.LeastPlays.{ArePlayed, WritesLeastPlay, IsLeadAt, IsOriginAt, IsReadBack}
-use Rattle.solo.proofs.LeastPlays.{lead_written}
+use Rattle.solo.specs.inside.LeadsBack.{IsLeadAt, IsOriginAt, IsReadBack}
+use Rattle.successors.specs.LeastPlays.{ArePlayed, WritesLeastPlay}
+use Rattle.successors.proofs.lemmas.LeastPlays.{least_written, none_lesser}
 
 abbrev nowhere : Scene
 nowhere = record { boxes = []; player = 0 }
@@ -300,6 +301,13 @@ lead_played task other places rank ps qs level same lead =
     let reached = lead.lead.reached in
     let played : ArePlayed task.board ps = (reached.0, reached.1, play_any reached.2) in
     subst (λ (b : Board). ArePlayed b qs) (sym level) (subst (ArePlayed task.board) (sym same) played)
+
+-- the least play whose pushes are a lead
+lead_written : (board : Board) (n : Scene) (ps : List Push) (t : Scene) (xs : List Letter) → IsLeadOf board n ps → WritesLeastPlay board ps t xs →
+    WritesLead board n xs
+lead_written board n ps t xs lead w =
+    let play = least_written board ps t xs w in
+    record { pushes = ps; lead = lead; end = t; play = play.0; written = play.1; least = none_lesser board ps t xs w }
 
 -- so its least play is the one that is asked for
 pub lead_moves : (task : Task) (other : Board) (places : List Scene) (rank : ℕ) (ps qs : List Push) (letters : List Letter) → other ≡ task.board → qs ≡ ps →

@@ -6,14 +6,14 @@ ghost use Rattle.successors.specs.Tasks.{Task};
 ghost use Rattle.layers.specs.LayerView.{LayerView, IsWhole};
 ghost use Rattle.store.specs.Entries.{Origin};
 ghost use Rattle.solo.specs.Leads.{AreFirstLayers, WritesLead, level_of, last_places};
-ghost use Rattle.solo.specs.inside.LeastPlays.{IsLeadAt};
+ghost use Rattle.solo.specs.inside.LeadsBack.{IsLeadAt};
 ghost use Rattle.solo.specs.inside.Searched.{AreTrailed, IsNextOf};
 
-use crate::plays::play_pushes;
 use area::Scratch;
 use grid::{Moves, Push};
 use layers::{Layer, Parents};
 use std::alloc::{AllocError, Global};
+use successors::play_pushes;
 
 /// The play that leads to the position with a rank of the last layer: its pushes are the least push list that leads
 /// there, and of the plays with these pushes it has the fewest moves, and of those the least text in the order `d`,

@@ -14,7 +14,6 @@ mod answer;
 mod goals;
 pub mod laws;
 mod lead;
-mod plays;
 pub mod rest;
 mod search;
 pub mod turn;

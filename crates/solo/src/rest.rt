@@ -1,10 +1,11 @@
 //! What is left of a layer in books that several workers shared, within what the limit leaves over all of them.
-ghost use Rattle.std.specs.Prelude.{◌≡◌, ◌<◌, ◌≤◌, ℕ, Some, true, IfNone, IfOk, OnOk, length, slice_get};
+ghost use Rattle.std.specs.Prelude.{◌≡◌, ◌+◌, ◌<◌, ◌≤◌, ℕ, Some, true, IfNone, IfOk, IfSome, MatchBool, OnOk, length, slice_get};
 ghost use Rattle.successors.specs.declared.limits.TheConstants.{MAX_SHARES};
-ghost use Rattle.layers.specs.BookView.{BookView, AreLawfulBooks};
-ghost use Rattle.layers.specs.Books.{HasBegun};
-ghost use Rattle.layers.specs.Holding.{all_held};
-ghost use Rattle.solo.specs.inside.Together.{AreStill, IsOneOver, IsStill, PassTogether};
+ghost use Rattle.layers.specs.BookView.{BookView, AreLawfulBooks, IsLawfulBook};
+ghost use Rattle.layers.specs.Books.{AllDone, HasBegun};
+ghost use Rattle.layers.specs.Holding.{all_held, held};
+ghost use Rattle.solo.specs.inside.Together.{AreAllDone, AreStill, IsFull, IsOneOver, IsStill, PassTogether};
+ghost use Rattle.solo.specs.inside.Turns.{AreDoneBy, IsDoneBy};
 
 use crate::turn::do_ranks;
 use area::Scratch;
@@ -13,7 +14,8 @@ use std::alloc::AllocError;
 
 /// Does as one of the workers whatever ranks are left of the last closed layer in each of the books, one after the other, and
 /// closes none; until they pass the limit: one of them is over, or all of them together hold more positions. Gives what the
-/// limit leaves, or `None` where it is passed.
+/// limit leaves once each rank is done, or `None` where the limit is passed. After an error each book is still at work on
+/// that layer, perhaps with more of its ranks done. That worker alone is credited, with each rank that is done here.
 pub fn do_rest(
     books: &mut [Book],
     layer: &Layer,
@@ -27,7 +29,9 @@ pub fn do_rest(
     requires worker { (i : ℕ) (v : BookView) → slice_get books.old i ≡ Some v → worker < v.workers }
     requires pruner_of_level { pruner.now ≡ layer.now.level }
     requires room { scratch.old.size ≡ length layer.now.level.board.cells }
-    ensures still { IfOk result (λ left. AreStill layer.now books.old books.new) }
+    ensures still { AreStill layer.now books.old books.new }
+    ensures credited { AreDoneBy worker books.old books.new }
+    ensures done { IfOk result (λ left. IfSome left (λ n. AreAllDone books.new × (n + all_held books.new ≡ limit))) }
     ensures passed { IfOk result (λ left. IfNone left (PassTogether limit books.new)) }
     ensures size { scratch.new.size ≡ scratch.old.size }
 {
@@ -35,13 +39,15 @@ pub fn do_rest(
         let Some(left) = left_of(books, limit) else {
             return Ok(None);
         };
-        do_rest_of(&mut books[place], layer, pruner, scratch, worker, left)?;
+        if !do_rest_of(&mut books[place], layer, pruner, scratch, worker, left)? {
+            return Ok(None);
+        }
     }
     Ok(left_of(books, limit))
 }
 
-// Does whatever ranks are left of the last closed layer in one of the books, until it is over or holds more than so many
-// positions more.
+// Does whatever ranks are left of the last closed layer in one of the books, until it is over or holds more than `left`
+// positions more; `false` where it does.
 fn do_rest_of(
     book: &mut Book,
     layer: &Layer,
@@ -49,26 +55,33 @@ fn do_rest_of(
     scratch: &mut Scratch,
     worker: u8,
     left: u64,
-) -> Result<(), AllocError>
+) -> Result<bool, AllocError>
+    requires few { left ≤ 4294967295 }
     requires begun { HasBegun book.old layer.now }
     requires worker { worker < book.old.workers }
     requires pruner_of_level { pruner.now ≡ layer.now.level }
     requires room { scratch.old.size ≡ length layer.now.level.board.cells }
-    ensures still { OnOk result (IsStill layer.now book.old book.new) }
+    ensures still { IsStill layer.now book.old book.new }
+    ensures credited { IsDoneBy worker book.old book.new }
+    ensures within { IfOk result (λ within. MatchBool within (AllDone book.new) (IsFull (held book.old + left) book.new)) }
+    ensures lawful { OnOk result (IsLawfulBook book.new) }
     ensures size { scratch.new.size ≡ scratch.old.size }
 {
     book.tell();
     layer.tell();
-    let most = book.positions().saturating_add(left);
+    let most = book.positions() + left;
     book.reopen();
-    do_ranks(book, layer, pruner, scratch, worker, most)?;
-    Ok(())
+    let within = do_ranks(book, layer, pruner, scratch, worker, most)?;
+    book.tell();
+    Ok(within)
 }
 
 // What the limit leaves over all the books; `None` where one of them is over, or all of them together hold more positions.
 fn left_of(books: &mut [Book], limit: u32) -> Option<u64>
     requires few { length books.old ≤ MAX_SHARES }
+    ensures left { IfSome result (λ left. left + all_held books.new ≡ limit) }
     ensures passed { IfNone result (PassTogether limit books.new) }
+    ensures lawful { AreLawfulBooks books.new }
     ensures same { books.new ≡ books.old }
 {
     let all = count_all(books);

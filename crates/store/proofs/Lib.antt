@@ -10,3 +10,4 @@ pub mod Bytes
 pub mod Lasts
 pub mod Digests
 pub mod Standing
+pub mod EntriesOf

@@ -3,3 +3,4 @@ pub mod Origins
 pub mod Offers
 pub mod Closings
 pub mod Copies
+pub mod Fitting

@@ -1,5 +1,6 @@
 pub mod Entries
 pub mod Entering
 pub mod FoundView
+pub mod Visited
 pub mod Widths
 pub mod inside

@@ -1,8 +1,11 @@
--- What contracts see of what is found, whatever the width of its keys.
+-- What contracts see of what is found, and of what is visited, whatever the width of the keys.
 use Rattle.store.specs.declared.found.Tables.{Tables}
 use Rattle.store.specs.declared.found.Tables.TheVariants.{NarrowLow, MiddleLow, HalfLow, WideLow, BroadLow, WidestLow, Narrow, Middle, Half, Wide, Broad}
 use Rattle.store.specs.declared.found.Tables.TheVariants.{Widest}
+use Rattle.store.specs.declared.visited.AnyLabels.{AnyLabels}
+use Rattle.store.specs.declared.visited.AnyLabels.TheVariants as any
 use Rattle.store.specs.FoundView.{FoundView}
+use Rattle.store.specs.Visited.{VisitedView}
 
 abbrev pub tables_view : Tables → FoundView
 tables_view (NarrowLow v) = v
@@ -17,3 +20,17 @@ tables_view (Half v) = v
 tables_view (Wide v) = v
 tables_view (Broad v) = v
 tables_view (Widest v) = v
+
+abbrev pub labels_view : AnyLabels → VisitedView
+labels_view (any.NarrowLow v) = v
+labels_view (any.MiddleLow v) = v
+labels_view (any.HalfLow v) = v
+labels_view (any.WideLow v) = v
+labels_view (any.BroadLow v) = v
+labels_view (any.WidestLow v) = v
+labels_view (any.Narrow v) = v
+labels_view (any.Middle v) = v
+labels_view (any.Half v) = v
+labels_view (any.Wide v) = v
+labels_view (any.Broad v) = v
+labels_view (any.Widest v) = v

@@ -1,4 +1,4 @@
-//! What stands open becomes a closed layer, in the map that holds it behind what is closed.
+//! The open positions become a closed layer, in the map that holds them behind the closed ones.
 ghost use Rattle.std.specs.Prelude.{◌≡◌, ◌+◌, ◌<◌, ◌≤◌, length, map, true, slice_get, Some, OnOk, OnErr, IfOk, IsPermutation};
 ghost use Rattle.std.specs.List.{IsDistinct};
 ghost use Rattle.grid.specs.Board.{push_cmp};
@@ -14,7 +14,8 @@ use indexmap::IndexMap;
 use std::alloc::{AllocError, Global};
 use std::cmp::Ordering;
 
-/// Puts what stands open, from the start on, into the order of the origins. An error leaves all as it was.
+/// Sorts the open positions, from the start on, by their origins. The only error is running out of memory. Then
+/// nothing changes.
 pub(crate) fn arrange<const N: usize, const M: usize>(
     table: &mut IndexMap<Key<N, M>, ClosedOrigin>,
     start: usize,
@@ -34,7 +35,7 @@ pub(crate) fn arrange<const N: usize, const M: usize>(
     Ok(())
 }
 
-// Whether the origins of what stands open rise already, as they do where the ranks were handed back in their order.
+// Whether the origins of the open positions rise already, as they do if the ranks were handed back in their order.
 fn do_rise<const N: usize, const M: usize>(
     table: &IndexMap<Key<N, M>, ClosedOrigin>,
     start: usize,
@@ -55,7 +56,7 @@ fn do_rise<const N: usize, const M: usize>(
     true
 }
 
-// The origin at a place, which is one of what stands open.
+// The origin of the open position at a place.
 fn origin_at<const N: usize, const M: usize>(
     table: &IndexMap<Key<N, M>, ClosedOrigin>,
     place: usize,
@@ -70,7 +71,7 @@ fn origin_at<const N: usize, const M: usize>(
     closed.opened()
 }
 
-// The rows of what stands open.
+// The rows of the open positions: the origin of each, and its place among them.
 fn rows_from<const N: usize, const M: usize>(
     table: &IndexMap<Key<N, M>, ClosedOrigin>,
     start: usize,
@@ -86,7 +87,7 @@ fn rows_from<const N: usize, const M: usize>(
     Ok(rows)
 }
 
-// Puts rows into the order of the origins.
+// Sorts rows by their origins.
 fn sort_rows(rows: &mut Vec<(Origin, usize)>)
     ensures sorted { RowsRise rows.new.items }
     ensures same { IsPermutation rows.old.items rows.new.items }
@@ -98,7 +99,7 @@ fn sort_rows(rows: &mut Vec<(Origin, usize)>)
     );
 }
 
-// The target of each place, which is where its row stands.
+// For each place the index of its row, which is its target.
 fn targets_of(alloc: Global, rows: &[(Origin, usize)]) -> Result<Vec<usize>, AllocError>
     requires { HaveAllPlaces rows.now }
     ensures { IfOk result (λ targets. AreTargets rows.now targets.items) }
@@ -111,7 +112,7 @@ fn targets_of(alloc: Global, rows: &[(Origin, usize)]) -> Result<Vec<usize>, All
     Ok(targets)
 }
 
-// Brings each entry from the start on to its target, by exchanges of two.
+// Moves each entry from the start on to its target by swaps.
 fn exchange<const N: usize, const M: usize>(
     table: &mut IndexMap<Key<N, M>, ClosedOrigin>,
     start: usize,

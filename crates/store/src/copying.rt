@@ -1,4 +1,4 @@
-//! Entries of a map that are copied into lists of squares and of origins.
+//! Copies entries of a map into lists of squares and of origins.
 ghost use Rattle.std.specs.Prelude.{◌≡◌, ◌+◌, ◌++◌, ◌≤◌, [], IfOk, OnOk, drop, length, map, take};
 ghost use Rattle.store.specs.Entries.{origins_of};
 ghost use Rattle.store.specs.inside.Copies.{IsCopied, squares_of};
@@ -9,7 +9,7 @@ use grid::{MAX_BOXES, Square};
 use indexmap::IndexMap;
 use std::alloc::{AllocError, Global};
 
-/// Appends the squares of a position, and its origin if it has one.
+/// Appends the squares of a position, and its origin if it has one. The only error is running out of memory.
 pub(crate) fn copy_entry<const N: usize, const M: usize>(
     key: &Key<N, M>,
     origin: ClosedOrigin,
@@ -28,8 +28,8 @@ pub(crate) fn copy_entry<const N: usize, const M: usize>(
     Ok(())
 }
 
-/// An empty list with room for so many squares, in the memory of another list, which is given up for it; in memory of its own where
-/// that would be more than twice as much. The only error is that memory was refused.
+/// An empty list with room for `squares` squares. It takes over the memory of `room`, unless that is more than twice
+/// as much. The only error is running out of memory.
 pub fn room_in(alloc: Global, room: Vec<Square>, squares: usize) -> Result<Vec<Square>, AllocError>
     ensures { IfOk result (λ list. list.items ≡ []) }
 {
@@ -42,8 +42,8 @@ pub fn room_in(alloc: Global, room: Vec<Square>, squares: usize) -> Result<Vec<S
     Ok(list)
 }
 
-/// What stands in a map from a place up to another: the squares of the positions, which have at most so many boxes, in the
-/// memory of another list, and the origins of those that have one.
+/// The squares of a map's positions from one place up to another, in the memory of another list, and the origins of
+/// those that have one. The positions have at most `boxes` boxes. The only error is running out of memory.
 pub(crate) fn copy_from<const N: usize, const M: usize>(
     alloc: Global,
     table: &IndexMap<Key<N, M>, ClosedOrigin>,

@@ -1,4 +1,4 @@
-//! Offers that enter what stands open, in the map that holds it behind what is closed.
+//! Offers that enter the open positions, which the map holds behind the closed ones.
 ghost use Rattle.std.specs.Prelude.{◌≡◌, ℕ, ◌+◌, ◌<◌, ◌≤◌, ◌&&◌, ◌||◌, [], IsTrue, Some, false, not, is_some, length, fold};
 ghost use Rattle.indexmap.specs.IndexMap.{insert_entry, spare};
 ghost use Rattle.std.specs.List.{list_any};
@@ -17,9 +17,9 @@ use indexmap::IndexMap;
 use indexmap::map::Entry;
 use successors::{Successor, share_of};
 
-// Puts an offer of a position into the map by one look-up, unless it changes nothing: the position is closed, or stands open
-// with an origin that is no greater. Says whether it changes nothing. Those before the start are closed, and no origin of the
-// others comes after the last one, so that mostly no origin is read.
+// Puts an offer into the map by one look-up, unless it changes nothing, and says whether it does. It changes nothing
+// if the position is closed, which places before the start are, or is open with an origin that is no greater. No
+// origin of an open position comes after the last one, so most look-ups read no origin.
 #[inline(always)]
 fn is_kept<const N: usize, const M: usize>(
     table: &mut IndexMap<Key<N, M>, ClosedOrigin>,
@@ -60,7 +60,7 @@ fn is_kept<const N: usize, const M: usize>(
     }
 }
 
-/// An offer enters: where its position stands open already it keeps the lesser origin, and where it is new it comes last.
+/// Enters an offer: an open position keeps the lesser origin, and a new one comes last.
 #[inline(always)]
 pub(crate) fn enter<const N: usize, const M: usize>(
     table: &mut IndexMap<Key<N, M>, ClosedOrigin>,
@@ -83,7 +83,7 @@ pub(crate) fn enter<const N: usize, const M: usize>(
     *last = last.later(origin);
 }
 
-/// The offers of an inbox enter, and none is left. What is found stays as it was.
+/// Enters all offers of an inbox and empties it. The positions found, waiting ones included, stay the same.
 pub(crate) fn enter_all<const N: usize, const M: usize>(
     table: &mut IndexMap<Key<N, M>, ClosedOrigin>,
     start: usize,
@@ -101,7 +101,7 @@ pub(crate) fn enter_all<const N: usize, const M: usize>(
     inbox.clear();
 }
 
-/// How many positions more stand open once the wanted successors of a rank have entered.
+/// How many positions would open if the successors of the share entered.
 pub(crate) fn count_new<const N: usize, const M: usize>(
     table: &IndexMap<Key<N, M>, ClosedOrigin>,
     start: usize,
@@ -133,7 +133,7 @@ pub(crate) fn count_new<const N: usize, const M: usize>(
     count
 }
 
-// Whether a successor stands open only once it has entered after those before it. What is before the start is closed.
+// Whether a successor would open a position that neither the map nor a successor before it has.
 fn is_new<const N: usize, const M: usize>(
     table: &IndexMap<Key<N, M>, ClosedOrigin>,
     start: usize,

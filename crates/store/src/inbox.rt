@@ -1,4 +1,4 @@
-//! Offers that wait in an inbox until they enter, many at a time.
+//! Offers that wait in an inbox until many of them enter together.
 ghost use Rattle.std.specs.Prelude.{◌≡◌, ℕ, ◌+◌, ◌<◌, ◌≤◌, ◌++◌, Some, length, slice_get, vec_len, OnOk};
 ghost use Rattle.std.specs.Vec.{vec_capacity};
 ghost use Rattle.indexmap.specs.IndexMap.{spare};
@@ -17,15 +17,14 @@ use indexmap::IndexMap;
 use std::alloc::AllocError;
 use successors::{Parcel, Successor, share_by};
 
-/// So many offers wait in all the books together before they enter where another worker hands back: more than come between two
-/// turns of a book's own worker, and few beside the maps.
+/// The number of offers that may wait in all books together before another worker enters them. More than arrive
+/// between two turns of a book's own worker, and few compared with the maps.
 const MANY: u32 = 4096;
 
-/// How many offers may wait in the inbox of the book of a share, one of so many, before they enter, where one of so many workers
-/// hands back to it. The books are dealt to the workers, and mostly it is a book's own worker that enters what all of them have brought,
-/// once that is a part that is looked up side by side, since what it entered before is in its processor's cache; the others append to the
-/// inbox, and soon let go of the lock.
-/// Where there are more workers than books, some own none.
+/// How many offers may wait in the inbox of a share's book when a worker hands back to it. The books are dealt to the
+/// workers. A book's own worker enters the waiting offers as soon as they are a batch, since its processor has that
+/// book in the cache. The other workers append to the inbox and release the lock. If there are more workers than
+/// books, some own none.
 pub fn most_waiting(worker: u8, workers: u8, share: u8, shares: u8) -> usize
     requires { 0 < shares }
 {
@@ -36,8 +35,8 @@ pub fn most_waiting(worker: u8, workers: u8, share: u8, shares: u8) -> usize
     }
 }
 
-/// Makes room for the offers of a rank's successors, in the inbox and in the map that they are to enter; where
-/// as many wait already as may, these enter first. What is found stays as it was. The only error is that memory was refused.
+/// Makes room for the offers of successors, in the inbox and in the map. If `most` offers wait already, they enter
+/// first. The positions found, waiting ones included, stay the same. The only error is running out of memory.
 pub(crate) fn make_room<const N: usize, const M: usize>(
     table: &mut IndexMap<Key<N, M>, ClosedOrigin>,
     start: usize,
@@ -61,7 +60,7 @@ pub(crate) fn make_room<const N: usize, const M: usize>(
     inbox.reserve(more)
 }
 
-// The offers of an inbox enter, if as many wait as may. What is found stays as it was.
+// Enters the offers of an inbox if `most` of them wait. The positions found, waiting ones included, stay the same.
 fn enter_if_full<const N: usize, const M: usize>(
     table: &mut IndexMap<Key<N, M>, ClosedOrigin>,
     start: usize,
@@ -81,8 +80,8 @@ fn enter_if_full<const N: usize, const M: usize>(
     }
 }
 
-/// Appends the offers of a parcel's successors that are of the share. Where they are dealt to as many shares, those of
-/// other shares are not looked at.
+/// Appends the offers of the parcel's successors of the share. If the parcel is dealt to as many shares, it skips the
+/// successors of the others.
 pub(crate) fn append_parcel<const N: usize, const M: usize>(
     inbox: &mut Vec<(Key<N, M>, Origin)>,
     share: u8,
@@ -104,7 +103,7 @@ pub(crate) fn append_parcel<const N: usize, const M: usize>(
     }
 }
 
-// Appends the offers of those of a rank's successors that stand at these places.
+// Appends the offers of the successors at these places.
 fn append_dealt<const N: usize, const M: usize>(
     inbox: &mut Vec<(Key<N, M>, Origin)>,
     rank: u64,
@@ -123,8 +122,8 @@ fn append_dealt<const N: usize, const M: usize>(
     }
 }
 
-// Appends the offers of a rank's successors that are of the share, which the sum of each tells. The number of shares is
-// looked at once, so that no successor waits for a division where it is a power of two.
+// Appends the offers of the successors of the share, which the sums give. The number of shares is a constant in each
+// branch, so that powers of two need no division.
 fn append_all<const N: usize, const M: usize>(
     inbox: &mut Vec<(Key<N, M>, Origin)>,
     share: u8,

@@ -1,4 +1,4 @@
-//! Positions in as few bytes as their boxes and their grid want, which is what a book holds.
+//! Positions in as few bytes as their boxes and their grid want: the keys of maps.
 ghost use Rattle.std.specs.Prelude.{◌≡◌, ◌+◌, ◌-◌, ◌*◌, ◌/◌, ◌%◌, ◌<◌, ◌≤◌, ◌==◌, ◌&&◌, ◌∷◌, [], ◌++◌};
 ghost use Rattle.std.specs.Prelude.{Some, drop, length, nat_eq, replicate, slice_get, take, true};
 ghost use Rattle.grid.specs.Rising.{is_rising};
@@ -11,14 +11,14 @@ use grid::{MAX_BOXES, Position, Square};
 use std::hash::{FoldHasher, Hash, Hasher};
 use std::marker::Model;
 
-/// How many values a byte has. Where a grid has no more squares, the number of each is in its low byte.
+/// The number of values of a byte. On grids with no more squares a square's number is its low byte.
 pub(crate) const BYTE_SQUARES: usize = 256;
 
-/// A row of so many bytes is short.
+/// The length of a short row.
 const SHORT: usize = 4;
 
-/// A position of fewer than `N` boxes: the low bytes of the player's square and of the boxes', in rising order, and as many high
-/// bytes, or none where they are all 0. Zeros fill the rows.
+/// A position of fewer than `N` boxes: the low bytes of the player's square and of the boxes' squares, in rising
+/// order, and as many high bytes, or none if they are all 0. Zeros fill the rows.
 #[derive(Debug, Drop)]
 pub(crate) struct Key<const N: usize, const M: usize> {
     pub(crate) boxes: u8,
@@ -71,7 +71,8 @@ impl<const N: usize, const M: usize> Key<N, M> {
         }
     }
 
-    /// The number that stands for the key where it is hashed. A row is written at once: a hasher's work goes by writes.
+    /// The number that the key feeds to a hasher. It writes whole rows, since a hasher's work grows with the number
+    /// of writes.
     #[inline(always)]
     pub(crate) fn digest(&self) -> u64
         ensures { result ≡ key_digest N M self.now }
@@ -106,7 +107,7 @@ impl<const N: usize, const M: usize> Key<N, M> {
         self.boxes as usize
     }
 
-    /// The square of a box, of which those before it in the rising order are so many.
+    /// The square of the box with `place` boxes before it in the rising order.
     pub(crate) fn box_at(&self, place: usize) -> Square
         requires { place < length self.now.boxes }
         ensures { slice_get self.now.boxes place ≡ Some result }
@@ -114,8 +115,8 @@ impl<const N: usize, const M: usize> Key<N, M> {
         square_at(&self.low, &self.high, place + 1)
     }
 
-    /// Writes the squares of the boxes, and after them the player's, to a row of as many places as the low bytes have, and says how
-    /// many they are. However few the boxes are, as much of the row is written, so that several squares are made at once.
+    /// Writes the squares of the boxes and then the player's square to a row of `N` places, and returns their number.
+    /// It writes the whole row however few the boxes are, so that the compiler makes several squares at once.
     #[inline(always)]
     pub(crate) fn write_squares(&self, row: &mut [Square]) -> usize
         requires { length row.old ≡ N }
@@ -137,7 +138,8 @@ impl<const N: usize, const M: usize> Key<N, M> {
     }
 }
 
-// Writes the low bytes of squares to the beginning of a row of zeros, and the high ones to that of another, if there is one.
+// Writes the low bytes of squares to the beginning of a row of zeros, and the high bytes to another one, if there is
+// one.
 #[inline(always)]
 fn write_rows(low: &mut [u8], high: &mut [u8], boxes: &[Square], player: Square)
     requires low { low.old ≡ replicate (length low.old) 0 }
@@ -155,8 +157,8 @@ fn write_rows(low: &mut [u8], high: &mut [u8], boxes: &[Square], player: Square)
     write_high(high, boxes, player);
 }
 
-// The same where both rows are short. That the squares are few is said once more, so that the compiler makes no loop of many bytes at
-// once for them.
+// The same for two short rows. The loop's bound repeats that the squares are few, so that the compiler makes no loop
+// over many bytes at once.
 #[inline(always)]
 fn write_short(low: &mut [u8], high: &mut [u8], boxes: &[Square], player: Square)
     requires low { low.old ≡ padded SHORT [] }
@@ -193,7 +195,7 @@ fn write_low(row: &mut [u8], boxes: &[Square], player: Square)
     }
 }
 
-// Writes the high bytes of squares to the beginning of a row of zeros, if there is one.
+// Writes the high bytes of squares to the beginning of a row of zeros, if there is such a row.
 #[inline(always)]
 fn write_high(row: &mut [u8], boxes: &[Square], player: Square)
     requires zeros { row.old ≡ replicate (length row.old) 0 }
@@ -211,7 +213,7 @@ fn write_high(row: &mut [u8], boxes: &[Square], player: Square)
     }
 }
 
-// Writes the squares of two rows of bytes to another row, but for the first, which is the player's.
+// Writes the squares of two rows of bytes to another row, except the first one, which is the player's.
 #[inline(always)]
 fn write_boxes(row: &mut [Square], low: &[u8], high: &[u8])
     requires some { 0 < length low.now }
@@ -297,7 +299,7 @@ impl<const N: usize, const M: usize> Eq for Key<N, M> {
     ghost laws = { Prim.search (comparing, rules) };
 }
 
-/// Whether the fields of a key are those of another one.
+/// Whether two keys have the same fields.
 #[inline(always)]
 pub(crate) fn same_rows(
     boxes: u8,
@@ -314,8 +316,8 @@ pub(crate) fn same_rows(
     (boxes == others) & same_low & same_high
 }
 
-// Whether the bytes are the same. A map asks this of keys with one hash, which are mostly the same, so it goes on to the
-// end, by several bytes at once.
+// Whether the bytes are the same. A map compares keys with equal hashes, and most of those are equal. So it reads all
+// bytes, several at once.
 #[inline(always)]
 fn same_bytes(bytes: &[u8], others: &[u8]) -> bool
     ensures { result ≡ pointwise nat_eq bytes.now others.now }
@@ -337,7 +339,7 @@ impl<const N: usize, const M: usize> Hash for Key<N, M> {
 
     ghost respects_eq = { keys_alike N M };
 
-    // The number is all that a hasher sees, so that it may be made before a key is looked up.
+    // A hasher sees the digest alone, so that it can be made before the look-up.
     #[inline(always)]
     fn hash<H: Hasher>(&self, state: &mut H) {
         state.write_u64(self.digest());

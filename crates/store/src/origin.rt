@@ -1,4 +1,4 @@
-//! Origins of positions, each in one word, so that books and layers are small.
+//! Origins of positions, each in one word, which keeps books and layers small.
 ghost use Rattle.std.specs.Prelude.{◌≡◌, ◌<◌, None, Some, false};
 ghost use Rattle.std.specs.Ordering.{is_gt, is_lt};
 ghost use Rattle.grid.specs.Board.{push_cmp, dir_number};
@@ -14,17 +14,17 @@ use std::marker::Model;
 /// The number of directions.
 const DIRECTIONS: u64 = 4;
 
-/// How many numbers a square may have.
+/// How many values a square's number has.
 const SQUARES: u64 = u16::MAX as u64 + 1;
 
-/// A rank that fits into a word with a push is less, and that word is never `NO_ORIGIN`.
+/// A rank below this fits into a word with a push, and that word is not `NO_ORIGIN`.
 pub const MOST_RANKS: u64 = u64::MAX / (SQUARES * DIRECTIONS);
 
 /// The word of a closed position that has no origin.
 const NO_ORIGIN: u64 = u64::MAX;
 
-/// A parent's rank and a push, in one word: the rank, then the square, then the direction, so that the order of the
-/// words is that of the origins.
+/// A parent's rank and a push in one word: the rank, then the square, then the direction. So origins compare as their
+/// words do.
 #[derive(Clone, Copy, Debug)]
 pub struct Origin(u64);
 
@@ -58,7 +58,7 @@ impl Origin {
         Origin(place * DIRECTIONS + number_of(dir))
     }
 
-    /// An origin that none comes before.
+    /// The least origin.
     pub fn lowest() -> Origin
         ensures { result ≡ origin_in None }
     {
@@ -83,21 +83,21 @@ impl Origin {
         (place / SQUARES, push)
     }
 
-    /// The order of origins: by the rank, then by the push.
+    /// Compares two origins: by the rank, then by the push.
     pub(crate) fn compare(self, other: Origin) -> Ordering
         ensures { result ≡ origin_cmp push_cmp self other }
     {
         self.0.cmp(&other.0)
     }
 
-    /// Whether an origin comes before another.
+    /// Whether it comes before another origin.
     pub fn is_before(self, other: Origin) -> bool
         ensures { result ≡ is_lt (origin_cmp push_cmp self other) }
     {
         self.0 < other.0
     }
 
-    /// One of two origins that neither of them comes after.
+    /// The later one of two origins.
     #[tactic(auto, using(crate::proofs::Lasts::itself, crate::proofs::Lasts::less_least, crate::proofs::Lasts::other_least))]
     pub(crate) fn later(self, other: Origin) -> Origin
         ensures this { is_gt (origin_cmp push_cmp self result) ≡ false }
@@ -152,7 +152,7 @@ impl ClosedOrigin {
         }
     }
 
-    /// The origin of a position that stands open, which has one.
+    /// The origin of an open position, which has one.
     pub(crate) fn opened(self) -> Origin
         ensures { result ≡ origin_in self }
     {
@@ -162,7 +162,7 @@ impl ClosedOrigin {
         }
     }
 
-    /// Whether an origin comes before this one; where there is none the answer may be either.
+    /// Whether an origin comes before this one. If there is none here, the answer may be either.
     pub(crate) fn exceeds(self, origin: Origin) -> bool
         ensures { (known : Parted Push) → self ≡ Some known → result ≡ is_lt (origin_cmp push_cmp origin known) }
     {

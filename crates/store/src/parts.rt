@@ -1,5 +1,6 @@
-//! Offers that enter a part at a time. The keys of a part are looked up first, so that the waits for memory overlap: no look waits for
-//! what another one found. Mostly an offer changes nothing where its key stands, and what the others want of the map is near then.
+//! Offers enter in batches. The keys of a batch are looked up first, so that the processor waits for several of them
+//! at once: no look-up depends on another one. Most offers change nothing where their keys stand, and the rest find
+//! the map in the cache.
 ghost use Rattle.std.specs.Prelude.{◌≡◌, ◌+◌, ◌<◌, ◌≤◌, length, true};
 ghost use Rattle.indexmap.specs.IndexMap.{spare};
 ghost use Rattle.store.specs.inside.FoundUpTo.{IsFoundUpTo};
@@ -14,13 +15,13 @@ use crate::probe::Probe;
 use grid::MAX_BOXES;
 use indexmap::IndexMap;
 
-/// So many offers are a part.
+/// The number of offers in a batch.
 pub(crate) const PART: usize = 64;
 
-/// No place, where no key stands.
+/// The place of a key that the map does not have.
 const NOWHERE: usize = usize::MAX;
 
-/// Offers enter, a part at a time.
+/// Enters offers in batches.
 pub(crate) fn enter_by_parts<const N: usize, const M: usize>(
     table: &mut IndexMap<Key<N, M>, ClosedOrigin>,
     start: usize,
@@ -43,7 +44,7 @@ pub(crate) fn enter_by_parts<const N: usize, const M: usize>(
     }
 }
 
-// The offers of a part enter.
+// Enters a batch of offers.
 fn enter_part<const N: usize, const M: usize>(
     table: &mut IndexMap<Key<N, M>, ClosedOrigin>,
     start: usize,
@@ -66,7 +67,7 @@ fn enter_part<const N: usize, const M: usize>(
     enter_each(table, start, last, offers, &places);
 }
 
-// Makes the numbers of the offers' keys.
+// Writes the digests of the offers' keys.
 fn digest_all<const N: usize, const M: usize>(offers: &[(Key<N, M>, Origin)], digests: &mut [u64])
     requires width { (N ≤ MAX_BOXES + 1) × (M ≤ MAX_BOXES + 1) }
     requires room { length offers.now ≤ length digests.old }
@@ -78,7 +79,7 @@ fn digest_all<const N: usize, const M: usize>(offers: &[(Key<N, M>, Origin)], di
     }
 }
 
-// The places at which the offers' keys stand, which have these numbers.
+// Writes the places of the offers' keys, which have these digests.
 fn look_up<const N: usize, const M: usize>(
     table: &IndexMap<Key<N, M>, ClosedOrigin>,
     offers: &[(Key<N, M>, Origin)],
@@ -96,7 +97,7 @@ fn look_up<const N: usize, const M: usize>(
     }
 }
 
-// The place at which a key stands that has this number, or no place.
+// The place of a key that has this digest, or `NOWHERE`.
 #[inline(always)]
 fn place_of<const N: usize, const M: usize>(
     table: &IndexMap<Key<N, M>, ClosedOrigin>,
@@ -114,7 +115,7 @@ fn place_of<const N: usize, const M: usize>(
     }
 }
 
-// Offers enter, one after the other, whose keys stand at these places, where there is one.
+// Enters offers one after the other. Their keys stand at these places, except those with `NOWHERE`.
 fn enter_each<const N: usize, const M: usize>(
     table: &mut IndexMap<Key<N, M>, ClosedOrigin>,
     start: usize,
@@ -136,7 +137,7 @@ fn enter_each<const N: usize, const M: usize>(
     }
 }
 
-// An offer enters, whose key stands at a place, where there is one.
+// Enters an offer. Its key stands at the place, unless that is `NOWHERE`.
 #[inline(always)]
 fn enter_at<const N: usize, const M: usize>(
     table: &mut IndexMap<Key<N, M>, ClosedOrigin>,
@@ -160,8 +161,8 @@ fn enter_at<const N: usize, const M: usize>(
     enter(table, start, last, &offer.0, offer.1);
 }
 
-// Whether an offer surely changes nothing, since its key stands at a place that is closed, or stands open and the offer's origin is
-// not before the last one, or not before the one that it has there. No key is read.
+// Whether an offer changes nothing for sure: its key stands at the place of a closed position, or of an open one
+// whose origin is no greater. Reads no key.
 #[inline(always)]
 fn changes_nothing<const N: usize, const M: usize>(
     table: &IndexMap<Key<N, M>, ClosedOrigin>,

@@ -1,4 +1,4 @@
-//! Keys that are looked up by numbers which were made beforehand.
+//! Keys that are looked up by digests made beforehand.
 ghost use Rattle.std.specs.Prelude.{◌≡◌};
 ghost use Rattle.store.specs.inside.KeyRows.{key_digest};
 
@@ -7,8 +7,7 @@ use indexmap::Equivalent;
 use std::hash::{Hash, Hasher};
 use std::marker::Model;
 
-/// A key's fields, which are lent, with the number that stands for the key where it is hashed, so that a look does not wait for that
-/// to be made.
+/// The borrowed fields of a key, with its digest, so that a look-up does not wait for that to be made.
 #[derive(Debug, Drop)]
 pub(crate) struct Probe<'k, const N: usize, const M: usize> {
     boxes: u8,
@@ -31,7 +30,7 @@ impl<'k, const N: usize, const M: usize> Model for Probe<'k, N, M> {
 }
 
 impl<'k, const N: usize, const M: usize> Probe<'k, N, M> {
-    /// A key, which is lent, with its number.
+    /// A borrowed key with its digest.
     #[inline(always)]
     pub(crate) fn of(key: &'k Key<N, M>, digest: u64) -> Probe<'k, N, M>
         requires { digest ≡ key_digest N M key.now }

@@ -1,5 +1,5 @@
-//! What a book has found, with keys of one width: in a map the closed positions, and after them those that stand open, and
-//! in an inbox those that were offered since.
+//! The positions that a book has found, in keys of one width. A map holds the closed positions and behind them the
+//! open ones. An inbox holds the offers that are not looked up yet.
 ghost use Rattle.std.specs.Prelude.{◌≡◌, ℕ, ◌+◌, ◌<◌, ◌≤◌, [], length, map, drop, nat_lt, option_map, slice_get, IfOk, IfSome, OnOk, OnErr, Some};
 ghost use Rattle.store.specs.Entries.{Closed, origins_of};
 ghost use Rattle.store.specs.Entering.{IsSortedAppend};
@@ -22,12 +22,12 @@ use successors::{Parcel, Successor};
 /// The positions that a book has found, in keys with `N` low bytes and `M` high ones.
 #[derive(Debug, Drop)]
 pub(crate) struct Table<const N: usize, const M: usize> {
-    // what was offered and is to enter, for which the map has room: each worker appends to it
+    // the offers that are not looked up yet; the map has room for them
     inbox: Vec<(Key<N, M>, Origin)>,
     table: IndexMap<Key<N, M>, ClosedOrigin>,
-    // what stands open begins here
+    // the first place of an open position
     start: usize,
-    // no origin of what stands open comes after this one
+    // no origin of an open position comes after this one
     last: Origin,
     boxes: usize,
     squares: usize,
@@ -53,7 +53,7 @@ impl<const N: usize, const M: usize> Model for Table<N, M> {
 }
 
 impl<const N: usize, const M: usize> Table<N, M> {
-    /// What is found at first: a closed position, or nothing. The only error is that memory was refused.
+    /// At first one closed position or none. The only error is running out of memory.
     #[tactic(auto, using(crate::proofs::Lasts::none_open, crate::proofs::Bytes::suits))]
     pub(crate) fn of(
         alloc: Global,
@@ -96,7 +96,7 @@ impl<const N: usize, const M: usize> Table<N, M> {
         self.start
     }
 
-    /// The closed position at a place; `None` exactly beyond them.
+    /// The closed position at a place. `None` exactly if the place is not below [`Table::closed_len`].
     pub(crate) fn closed_at(&self, place: usize) -> Option<Position>
         ensures { result ≡ option_map (λ e. e.0) (slice_get self.now.seen place) }
     {
@@ -107,7 +107,7 @@ impl<const N: usize, const M: usize> Table<N, M> {
         Some(key.position())
     }
 
-    /// The origin of the closed position at a place; `None` exactly beyond them.
+    /// The origin of the closed position at a place. `None` exactly if the place is not below [`Table::closed_len`].
     pub(crate) fn origin_at(&self, place: usize) -> Option<Origin>
         ensures { result ≡ option_map (λ e. origin_in e.1) (slice_get self.now.seen place) }
     {
@@ -118,8 +118,8 @@ impl<const N: usize, const M: usize> Table<N, M> {
         Some(origin.opened())
     }
 
-    /// Appends the squares of the closed position at a place, and its origin if it has one. The only error is that
-    /// memory was refused.
+    /// Appends the squares of the closed position at a place, and its origin if it has one. The only error is running
+    /// out of memory.
     pub(crate) fn copy_at(
         &self,
         place: usize,
@@ -136,8 +136,8 @@ impl<const N: usize, const M: usize> Table<N, M> {
         copy_entry(key, *origin, squares, origins)
     }
 
-    /// What is closed from a place on: the squares of the positions, one after the other, in the memory of another list, and the
-    /// origins of those that have one. The only error is that memory was refused.
+    /// The squares of the closed positions from a place on, in the memory of another list, and the origins of those
+    /// that have one. The only error is running out of memory.
     pub(crate) fn closed_from(
         &self,
         alloc: Global,
@@ -151,7 +151,7 @@ impl<const N: usize, const M: usize> Table<N, M> {
         copy_from(alloc, &self.table, self.boxes, from, self.start, room)
     }
 
-    /// Whether there would be more positions than a limit once the wanted successors of a rank have entered.
+    /// Whether the positions would be more than a limit if the successors of the share entered.
     pub(crate) fn passes(
         &mut self,
         limit: usize,
@@ -175,8 +175,8 @@ impl<const N: usize, const M: usize> Table<N, M> {
         count_new(&self.table, self.start, share, shares, successors) > room
     }
 
-    /// Enters the wanted successors of a parcel's rank, one after the other; so many offers may wait in the inbox. An
-    /// error leaves all as it was.
+    /// Offers the parcel's successors of the share, one after the other. Up to `most` offers wait in the inbox. The
+    /// only error is running out of memory. Then nothing changes.
     pub(crate) fn enter_all(
         &mut self,
         most: usize,
@@ -203,7 +203,7 @@ impl<const N: usize, const M: usize> Table<N, M> {
         Ok(())
     }
 
-    /// How many positions are found. What waits in the inbox enters first.
+    /// The number of positions. Looks up the waiting offers first.
     pub(crate) fn count(&mut self) -> usize
         ensures count { result ≡ length self.old.seen + length self.old.waiting }
         ensures same { self.new ≡ self.old }
@@ -213,7 +213,7 @@ impl<const N: usize, const M: usize> Table<N, M> {
         self.table.len()
     }
 
-    /// What waits in the inbox enters, where it is so much at least; says whether that is so.
+    /// Looks up the waiting offers if they are `least` or more, and says whether they were.
     pub(crate) fn enter_waiting(&mut self, least: usize) -> bool
         ensures { self.new ≡ self.old }
     {
@@ -225,14 +225,15 @@ impl<const N: usize, const M: usize> Table<N, M> {
         true
     }
 
-    /// How many positions are found, but for those that wait in the inbox.
+    /// The number of positions without those of waiting offers.
     pub(crate) fn count_entered(&self) -> usize
         ensures { result ≤ length self.now.seen + length self.now.waiting }
     {
         self.table.len()
     }
 
-    /// Closes what stands open, in the order of the origins. An error leaves all as it was.
+    /// Closes the open positions in the order of their origins. The only error is running out of memory. Then nothing
+    /// changes.
     #[tactic(auto, using(crate::proofs::Lasts::none_open))]
     pub(crate) fn close(&mut self) -> Result<(), AllocError>
         ensures boxes { self.new.boxes ≡ self.old.boxes }
@@ -249,7 +250,7 @@ impl<const N: usize, const M: usize> Table<N, M> {
         Ok(())
     }
 
-    /// Makes room for so many positions more, where memory can be had for it.
+    /// Makes room for that many more positions, if there is memory for it.
     pub(crate) fn have_room(&mut self, more: usize)
         ensures { self.new ≡ self.old }
     {

@@ -4,3 +4,4 @@ pub mod Appending
 pub mod Bringing
 pub mod Picking
 pub mod Shifting
+pub mod LeastPlays

@@ -2,3 +2,4 @@
 pub mod Lists
 pub mod Successors
 pub mod Dealt
+pub mod LeastPlays

@@ -6,4 +6,5 @@ pub mod Distances
 pub mod Expansion
 pub mod Shares
 pub mod ParcelView
+pub mod LeastPlays
 pub mod inside

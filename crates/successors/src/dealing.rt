@@ -1,23 +1,23 @@
-//! The successors of a parcel, dealt to the shares before any book is locked, so that a book that is one of several need
-//! not look at those of the others.
+//! Deals the successors of a parcel to the shares before any book is locked, so that the book of a share can skip the
+//! successors of the others.
 ghost use Rattle.std.specs.Prelude.{◌≡◌, ℕ, ◌+◌, ◌*◌, ◌<◌, ◌≤◌, [], ◌∷◌, length, slice_set, slice_index_or};
 ghost use Rattle.successors.specs.inside.Dealt.{IsDealt};
 
 use crate::limits::MAX_SHARES;
 use crate::sums::share_by;
 
-/// Where there are more successors than this, they are not dealt. Each share has a row of so many places.
+/// More successors than this are not dealt. Each share has a row of this many places.
 pub(crate) const MOST_DEALT: usize = 64;
 
-/// The rows of all shares have so many places.
+/// The number of places in the rows of all shares.
 pub(crate) const ROWS: usize = MOST_DEALT * MAX_SHARES as usize;
 
 /// The places of successors, those of each share in a row of its own.
 #[derive(Debug, Drop)]
 pub(crate) struct Deal {
-    // they are dealt to so many shares; 0 where they are not dealt
+    // the number of shares, or 0 if nothing is dealt
     pub(crate) shares: u8,
-    // how many successors each share has
+    // the number of successors of each share
     pub(crate) lens: [u8; MAX_SHARES as usize],
     // for each share a row that begins with the places of its successors, in their order
     pub(crate) rows: [u8; ROWS],
@@ -35,7 +35,7 @@ impl Deal {
         }
     }
 
-    /// Deals successors with these sums to so many shares, unless they are too many.
+    /// Deals successors with these sums to `shares` shares, unless there are too many successors or shares.
     pub(crate) fn deal(&mut self, shares: u8, sums: &[u32])
         ensures { IsDealt self.new.shares self.new.rows self.new.lens sums.now }
     {
@@ -48,8 +48,8 @@ impl Deal {
     }
 }
 
-// Puts the place of each successor into the row of its share. The number of shares is looked at once, so that no sum waits for
-// a division where it is a power of two.
+// Puts the place of each successor into the row of its share. The number of shares is a constant in each branch, so
+// that powers of two need no division.
 fn deal_all(shares: u8, sums: &[u32], rows: &mut [u8; ROWS], lens: &mut [u8; MAX_SHARES as usize])
     requires some { 0 < shares }
     requires shares { shares ≤ MAX_SHARES }
@@ -65,8 +65,8 @@ fn deal_all(shares: u8, sums: &[u32], rows: &mut [u8; ROWS], lens: &mut [u8; MAX
     }
 }
 
-// The same for two shares, of which it is counted beside the rows how many successors each has, so that no count waits for the one
-// before it to be written and read.
+// The same for two shares. It counts the successors of each share in a local variable, so that no count waits for the
+// one before it to be written and read.
 fn deal_both(sums: &[u32], rows: &mut [u8; ROWS], lens: &mut [u8; MAX_SHARES as usize])
     requires few { length sums.now ≤ MOST_DEALT }
     ensures { IsDealt 2 rows.new lens.new sums.now }
@@ -85,7 +85,7 @@ fn deal_both(sums: &[u32], rows: &mut [u8; ROWS], lens: &mut [u8; MAX_SHARES as 
     lens[1] = odds as u8;
 }
 
-// How many places one of two shares has, which have so many.
+// The number of places of one of two shares.
 #[inline(always)]
 fn len_of(share: usize, evens: usize, odds: usize) -> usize
     requires { share < 2 }
@@ -94,8 +94,8 @@ fn len_of(share: usize, evens: usize, odds: usize) -> usize
     if share == 0 { evens } else { odds }
 }
 
-// Puts the place of each successor into the row of its share, one after the other. No branch hangs on a sum, since none could
-// be foreseen.
+// Puts the place of each successor into the row of its share, one after the other. No branch depends on a sum, since
+// the processor could not predict it.
 #[inline(always)]
 fn deal_each(shares: u8, sums: &[u32], rows: &mut [u8; ROWS], lens: &mut [u8; MAX_SHARES as usize])
     requires some { 0 < shares }
@@ -109,7 +109,7 @@ fn deal_each(shares: u8, sums: &[u32], rows: &mut [u8; ROWS], lens: &mut [u8; MA
     }
 }
 
-// Puts a place behind the others in the row of a share.
+// Appends a place to the row of a share.
 #[inline(always)]
 fn put(share: u8, place: u8, rows: &mut [u8; ROWS], lens: &mut [u8; MAX_SHARES as usize])
     requires share { share < MAX_SHARES }

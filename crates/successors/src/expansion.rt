@@ -14,7 +14,7 @@ use area::Scratch;
 use doom::{Bound, Dead};
 use grid::{Level, Position};
 
-/// A position that is expanded, and where it stands: its rank in a layer of its level under a cap, or under none.
+/// A position to expand, and where it stands: its rank in a layer of its level, under a cap or none.
 #[derive(Debug, Drop)]
 pub struct Source {
     pub cap: Option<u32>,
@@ -24,8 +24,8 @@ pub struct Source {
 }
 
 impl<'a> Parcel<'a> {
-    /// The undoomed successors of a position, in the order of their pushes; where a cap is set, those alone from which the
-    /// level may be solved within it, by the bound, which is there then. Takes no memory.
+    /// The undoomed successors of a position in the order of their pushes. Under a cap, only those from which the
+    /// level's bound allows a solution within the cap. A cap needs the bound. Takes no memory.
     pub fn of(
         level: &'a Level,
         source: &Source,
@@ -54,7 +54,7 @@ impl<'a> Parcel<'a> {
         parcel
     }
 
-    /// Makes the parcel, of whichever position, the one that [`Parcel::of`] gives by a pruner. Takes no memory.
+    /// Fills the parcel with what [`Parcel::of`] gives for a source and a pruner. Takes no memory.
     pub fn fill(
         &mut self,
         level: &'a Level,
@@ -73,7 +73,7 @@ impl<'a> Parcel<'a> {
         self.cap = source.cap;
         self.layer = source.layer;
         self.rank = source.rank;
-        // what it held was dealt, and what it will hold is not
+        // the new successors are not dealt yet
         self.deal.shares = 0;
         self.count = successors_of(
             level,
@@ -86,9 +86,9 @@ impl<'a> Parcel<'a> {
     }
 }
 
-// Writes the undoomed successors of a position that are admitted over the first slots, in the order of their pushes, and tells
-// how many there are. What the slots and the pushes held is not cleared, so what is done goes by the successors, and not by
-// how many there may be.
+// Writes the admitted undoomed successors of a position over the first slots, in the order of their pushes, and
+// returns their number. It does not clear what the slots and the pushes held, so its work depends on the number of
+// successors alone.
 fn successors_of(
     level: &Level,
     source: &Source,

@@ -1,5 +1,6 @@
-//! The successors of a position: what its pushes lead to, but for what is doomed or not admitted under a cap, as parcels that
-//! are dealt to the shares of the positions.
+//! The successors of a position: the positions that its pushes lead to, except those that are doomed or that the cap
+//! does not admit. A [`Parcel`] holds them and deals them to the shares of the positions. [`play_pushes`] writes the
+//! least play with given pushes.
 //!
 //! With the start of a row that has two boxes, on the squares 9 and 11, and the player between them:
 //!
@@ -14,6 +15,7 @@ mod dealing;
 mod expansion;
 mod limits;
 mod parcel;
+mod plays;
 mod pruner;
 mod pruning;
 mod pushing;
@@ -23,6 +25,7 @@ mod task;
 pub use expansion::Source;
 pub use limits::{MAX_SHARES, MAX_SUCCESSORS};
 pub use parcel::{Parcel, Successor};
+pub use plays::play_pushes;
 pub use pruner::Pruner;
 pub use pruning::{bound_for, is_admitted};
 pub use sums::{share_by, share_of};

@@ -11,15 +11,15 @@ use doom::Dangers;
 use grid::{Level, Position, Push};
 use std::marker::Model;
 
-/// A successor of a position: the push that leads there, and the normal position after it.
+/// A successor of a position: the push that leads there, and the normal position after that push.
 #[derive(Debug, Default, Drop)]
 pub struct Successor {
     pub push: Push,
     pub position: Position,
 }
 
-/// Successors, and beside each the sum of its squares, in lists of which the first so many count; the others are there to
-/// be written over.
+/// Successors, and beside each the sum of its squares. A parcel counts how many of the first slots are in use; the
+/// others are there to be overwritten.
 #[derive(Debug, Drop)]
 pub(crate) struct Slots {
     pub(crate) sums: ArrayVec<u32, MAX_SUCCESSORS>,
@@ -27,7 +27,7 @@ pub(crate) struct Slots {
 }
 
 impl Slots {
-    /// Lists that hold nothing.
+    /// Empty lists.
     pub(crate) fn new() -> Slots
         ensures successors { result.successors.items ≡ [] }
         ensures sums { result.sums.items ≡ [] }
@@ -39,8 +39,8 @@ impl Slots {
     }
 }
 
-/// What a position is expanded on: the pushes that are tried, where they may bring a box to be held, and the slots that
-/// their successors are written to.
+/// The working memory of an expansion: the pushes to try, the squares where they may freeze a box, and the slots for
+/// their successors.
 #[derive(Debug, Drop)]
 pub(crate) struct Sheet {
     pub(crate) pushes: ArrayVec<Push, MAX_SUCCESSORS>,
@@ -49,7 +49,7 @@ pub(crate) struct Sheet {
 }
 
 impl Sheet {
-    /// One that holds nothing.
+    /// An empty sheet.
     pub(crate) fn new() -> Sheet
         ensures successors { result.slots.successors.items ≡ [] }
         ensures sums { result.slots.sums.items ≡ [] }
@@ -62,20 +62,18 @@ impl Sheet {
     }
 }
 
-/// The undoomed successors of the position with a rank of a layer that are admitted in the next one, in the order of their
-/// pushes.
+/// The undoomed successors of a layer's position that the next layer admits, in the order of their pushes.
 #[derive(Debug, Drop)]
 pub struct Parcel<'a> {
     pub(crate) level: &'a Level,
     pub(crate) cap: Option<u32>,
     pub(crate) layer: u64,
     pub(crate) rank: u64,
-    // the first so many of its slots are the successors and their sums
+    // the first `count` slots are the successors and their sums
     pub(crate) count: usize,
     // how the successors are dealt to shares, if they are
     pub(crate) deal: Deal,
-    // comes last, since it ends with the slots of successors, of which mostly a few are filled: so what is read of a parcel lies close
-    // together
+    // comes last, since most of its slots are unused: what is read of a parcel lies close together
     pub(crate) sheet: Sheet,
 }
 
@@ -98,7 +96,7 @@ impl<'a> Model for Parcel<'a> {
 }
 
 impl<'a> Parcel<'a> {
-    /// Tells what is true of every parcel; it does nothing, and is there for proofs.
+    /// States what is true of every parcel. It does nothing and is there for proofs.
     pub fn tell(&self)
         ensures { IsParcel self.now }
     {
@@ -112,50 +110,51 @@ impl<'a> Parcel<'a> {
         self.level
     }
 
-    /// The greatest number of pushes of a solution; `None` where no cap is set.
+    /// The greatest number of pushes of a solution. `None` if no cap is set.
     pub fn cap(&self) -> Option<u32>
         ensures { result ≡ self.now.level.cap }
     {
         self.cap
     }
 
-    /// Whether it is of this level with this cap. It is public for books, which take parcels of their own task alone.
+    /// Whether the parcel is of this level with this cap. Public for books, which accept only parcels of their own
+    /// task.
     pub fn is_of(&self, task: &Task) -> bool
         ensures { IsTrue result ↔ (task.now ≡ self.now.level) }
     {
         task.is_that(self.level, self.cap)
     }
 
-    /// The layer's number.
+    /// The number of the layer.
     pub fn layer(&self) -> u64
         ensures { result ≡ self.now.layer }
     {
         self.layer
     }
 
-    /// The rank whose position the successors are of.
+    /// The rank of the position that was expanded.
     pub fn rank(&self) -> u64
         ensures { result ≡ self.now.rank }
     {
         self.rank
     }
 
-    /// The undoomed successors of the position with that rank that are admitted in the next layer, in the order of their pushes.
+    /// The undoomed successors that the next layer admits, in the order of their pushes.
     pub fn successors(&self) -> &[Successor]
         ensures { result.now ≡ self.now.successors }
     {
         &self.sheet.slots.successors.as_slice()[..self.count]
     }
 
-    /// The sum of the squares of each successor's position. It is public for those that store successors by their shares.
+    /// The sum of the squares of each successor's position. Public for crates that store successors by their shares.
     pub fn sums(&self) -> &[u32]
         ensures { AreSums self.now.successors result.now }
     {
         &self.sheet.slots.sums.as_slice()[..self.count]
     }
 
-    /// Deals the successors to so many shares, so that a book that is one of so many need not look at those of the others.
-    /// What the parcel is stays as it was.
+    /// Deals the successors to `shares` shares, so that the book of a share can skip the successors of the others.
+    /// Contracts see the same parcel after it.
     pub fn deal(&mut self, shares: u8)
         ensures { self.new ≡ self.old }
     {
@@ -163,8 +162,8 @@ impl<'a> Parcel<'a> {
         self.deal.deal(shares, sums);
     }
 
-    /// The places of those successors that are of the share, where they are dealt to so many shares. It is public for those that
-    /// store successors by their shares.
+    /// The places of the successors of a share. `None` if the parcel is not dealt to `shares` shares. Public for
+    /// crates that store successors by their shares.
     pub fn places(&self, share: u8, shares: u8) -> Option<&[u8]>
         requires { share < shares }
         ensures { IfSome result (λ places. places.now ≡ successor_places shares share self.now.successors) }

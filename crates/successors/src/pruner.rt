@@ -7,8 +7,8 @@ use grid::Level;
 use std::alloc::{AllocError, Global};
 use std::marker::Model;
 
-/// What positions are left out by: the dead squares of a level and, only where a cap is set, its bound. Contracts see the
-/// level with its cap.
+/// What decides which positions are left out: the dead squares of a level and, if a cap is set, the level's bound.
+/// Contracts see the level with its cap.
 #[derive(Debug, Drop)]
 pub struct Pruner {
     dead: Dead,
@@ -28,7 +28,7 @@ impl Model for Pruner {
 }
 
 impl Pruner {
-    /// That of a level with a cap or with none. The only error is that memory was refused.
+    /// The pruner of a level with a cap or none. The only error is running out of memory.
     pub fn of(alloc: Global, level: &Level, cap: Option<u32>) -> Result<Pruner, AllocError>
         ensures { IfOk result (λ pruner. pruner ≡ capped level.now cap) }
     {
@@ -44,14 +44,14 @@ impl Pruner {
         &self.dead
     }
 
-    /// The cap. It is public for those that make books of the same cap.
+    /// The cap. Public for crates that make books of the same cap.
     pub fn cap(&self) -> Option<u32>
         ensures { result ≡ self.now.cap }
     {
         self.cap
     }
 
-    /// The bound, where a cap is set. It is public for those that ask by [`is_admitted`](crate::is_admitted).
+    /// The bound, if a cap is set. Public for callers of [`is_admitted`](crate::is_admitted).
     pub fn bound(&self) -> &Option<Bound>
         ensures { HasBound self.now result.now }
     {

@@ -1,4 +1,4 @@
-//! Positions from which a cap of pushes is not kept, by what lone boxes need.
+//! Leaves out positions from which no solution can keep the cap, by the pushes that lone boxes need.
 ghost use Rattle.std.specs.Prelude.{◌≡◌, ◌<◌, ◌≤◌, ◌↔◌, Some, IsTrue, IfOk, length, take};
 ghost use Rattle.std.specs.List.{swap};
 ghost use Rattle.grid.specs.Board.{Scene};
@@ -14,8 +14,8 @@ use doom::Bound;
 use grid::{Level, Position};
 use std::alloc::{AllocError, Global};
 
-/// The bound of a level, where a cap is set. The only error is that memory was refused. It is public for those that ask
-/// [`is_admitted`] where there is no [`Pruner`](crate::Pruner).
+/// The bound of a level, if a cap is set. The only error is running out of memory. Public for callers of
+/// [`is_admitted`] that have no [`Pruner`](crate::Pruner).
 pub fn bound_for(
     alloc: Global,
     level: &Level,
@@ -30,7 +30,7 @@ pub fn bound_for(
     Ok(Some(bound))
 }
 
-/// Whether a position is admitted before the first push. It is public for those that make layer 0.
+/// Whether a position is admitted before the first push. Public for crates that make layer 0.
 pub fn is_admitted(task: &Task, bound: &Option<Bound>, position: &Position) -> bool
     requires bound_of_level { HasBound task.now bound.now }
     requires fits { FitsLevel task.now.board position.now }
@@ -42,7 +42,7 @@ pub fn is_admitted(task: &Task, bound: &Option<Bound>, position: &Position) -> b
     }
 }
 
-/// Whether the boxes of a position need no more pushes than so many.
+/// Whether the boxes of a position need at most `most` pushes by the bound.
 pub(crate) fn is_within(bound: &Bound, most: u32, position: &Position) -> bool
     requires { FitsLevel bound.now position.now }
     ensures { IsTrue result ↔ IsWithin bound.now position.now.boxes most }
@@ -53,8 +53,8 @@ pub(crate) fn is_within(bound: &Bound, most: u32, position: &Position) -> bool
     }
 }
 
-/// Brings those of the first so many successors of a position of a layer to the front that are admitted in the next one,
-/// in their order and with their sums, and tells how many they are.
+/// Moves those of the first `count` successors that the next layer admits to the front, in their order and with their
+/// sums, and returns their number.
 pub(crate) fn keep_admitted(
     bound: &Bound,
     most: u32,
@@ -79,8 +79,8 @@ pub(crate) fn keep_admitted(
     pick(bound, (most - layer - 1) as u32, slots, sums, count)
 }
 
-// Brings those of the first so many successors to the front whose boxes need no more pushes than so many, in their order
-// and with their sums, and tells how many they are.
+// Moves those of the first `count` successors whose boxes need at most `most` pushes to the front, in their order and
+// with their sums, and returns their number.
 fn pick(bound: &Bound, most: u32, slots: &mut [Successor], sums: &mut [u32], count: usize) -> usize
     requires filled { count ≤ length slots.old }
     requires fits { FitLevel bound.now (take count slots.old) }
@@ -99,7 +99,7 @@ fn pick(bound: &Bound, most: u32, slots: &mut [Successor], sums: &mut [u32], cou
     kept
 }
 
-// Brings a successor and its sum to a place that is not behind it; what stood there comes where they were.
+// Swaps a successor and its sum with those at a place that is not behind them.
 fn bring(slots: &mut [Successor], sums: &mut [u32], front: usize, place: usize)
     requires order { front ≤ place }
     requires slots { place < length slots.old }

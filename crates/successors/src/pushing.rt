@@ -1,4 +1,4 @@
-//! What the pushes of a position lead to, made in the slots of a parcel.
+//! Makes the successors of a position in the slots of a parcel.
 ghost use Rattle.std.specs.Prelude.{◌≡◌, ℕ, ◌+◌, ◌*◌, ◌<◌, ◌≤◌, ◌↔◌, ◌++◌, ◌∷◌, [], IsTrue, IfSome, false, length, sum, take};
 ghost use Rattle.grid.specs.Board.{Scene, next};
 ghost use Rattle.grid.specs.States.{FitsLevel};
@@ -18,8 +18,8 @@ use arrayvec::ArrayVec;
 use doom::{Dangers, Dead};
 use grid::{Level, MAX_BOXES, Position, Push, Square};
 
-/// A position that is expanded: its level with the dead squares, the sum of the squares of its boxes, and where pushes may bring
-/// one of them to be held.
+/// A position to expand: its level with the dead squares, the sum of the squares of its boxes, and the squares where
+/// pushes may freeze a box.
 #[derive(Drop)]
 pub(crate) struct Site<'a> {
     pub(crate) level: &'a Level,
@@ -29,8 +29,8 @@ pub(crate) struct Site<'a> {
     pub(crate) dangers: &'a Dangers,
 }
 
-/// Writes what the pushes lead to over the first slots, but for doomed positions, where the last flood was that of the
-/// position, and tells how many there are.
+/// Writes the undoomed positions that the pushes lead to over the first slots, and returns their number. The last
+/// flood was that of the position.
 pub(crate) fn successors_by(
     site: &Site<'_>,
     pushes: &[Push],
@@ -55,8 +55,8 @@ pub(crate) fn successors_by(
     count
 }
 
-// The first place from a given one on of a box whose square is not less: that of the box on the square, where the boxes
-// before have lesser ones.
+// The first place from a given one on whose box has no lesser square: the place of the box on the square, if the
+// boxes before the given place have lesser squares.
 fn box_from(boxes: &[Square], place: usize, square: Square) -> usize {
     let mut place = place;
     while place < boxes.len() && boxes[place] < square {
@@ -65,9 +65,9 @@ fn box_from(boxes: &[Square], place: usize, square: Square) -> usize {
     place
 }
 
-// Writes what a push leads to after the first so many slots, where the last flood was that of the position before it, whose
-// box is looked for at a place first, and tells how many are held then; none more exactly where that is doomed. The position
-// is made in its slot, so that it is not copied there.
+// Writes the position after a push behind the first `count` slots, and returns the number of slots then in use, which
+// stays the same exactly if that position is doomed. The last flood was that of the position before the push. `place`
+// is where the pushed box may be found. The position is made in its slot, so that nothing is copied.
 fn append_successor(
     site: &Site<'_>,
     place: usize,
@@ -113,8 +113,8 @@ fn append_successor(
     count + 1
 }
 
-// The sum of the squares of the position after a push, where the boxes before it have this sum: one of them left a square
-// for another.
+// The sum of the squares of the position after a push. `total` is the sum of the boxes before it, one of which left a
+// square for the one ahead.
 fn sum_after(total: u32, left: Square, ahead: Square, after: &Position) -> u32
     requires moved { total + ahead ≡ sum after.now.boxes + left }
     requires small { total ≤ 65535 * MAX_BOXES }
@@ -123,7 +123,7 @@ fn sum_after(total: u32, left: Square, ahead: Square, after: &Position) -> u32
     total + u32::from(ahead.0) - u32::from(left.0) + u32::from(after.player().0)
 }
 
-// Makes a slot after the first so many, where there is none yet.
+// Makes a slot behind the first `count`, if there is none yet.
 fn have_slot(slots: &mut ArrayVec<Successor, MAX_SUCCESSORS>, count: usize)
     requires place { count < MAX_SUCCESSORS }
     requires filled { count ≤ length slots.old.items }
@@ -135,7 +135,7 @@ fn have_slot(slots: &mut ArrayVec<Successor, MAX_SUCCESSORS>, count: usize)
     }
 }
 
-// Writes a sum after the first so many.
+// Writes a sum behind the first `count`.
 fn put_sum(sums: &mut ArrayVec<u32, MAX_SUCCESSORS>, count: usize, sum: u32)
     requires place { count < MAX_SUCCESSORS }
     requires filled { count ≤ length sums.old.items }
@@ -148,8 +148,9 @@ fn put_sum(sums: &mut ArrayVec<u32, MAX_SUCCESSORS>, count: usize, sum: u32)
     }
 }
 
-// Writes a push to a square ahead that is not dead and what it leads to into a slot, where the last flood was that of the position
-// before it; `false` exactly where that is doomed. Where that is told by the boxes before it, nothing is made in vain.
+// Writes a push to a square ahead that is not dead, and the position after it, into a slot. Returns `false` exactly
+// if that position is doomed. The last flood was that of the position before the push. If that position's boxes
+// decide it, the position after it is not made.
 fn make_successor(
     site: &Site<'_>,
     place: usize,
@@ -186,7 +187,8 @@ fn make_successor(
     }
 }
 
-// Whether a push to a square that is not dead dooms the position, where that is told before the position after it is made.
+// Whether a push to a square that is not dead dooms the position, if that can be seen before the position after it is
+// made.
 fn foretold(site: &Site<'_>, push: Push, ahead: Square, scratch: &Scratch) -> Option<bool>
     requires ready { IsReady site.now scratch.now }
     requires possible { CanPush site.now.level.now site.now.position.now push }
@@ -202,7 +204,8 @@ fn foretold(site: &Site<'_>, push: Push, ahead: Square, scratch: &Scratch) -> Op
     doom::push_dooms_early(site.level, site.dead, Push { square, dir }, scratch)
 }
 
-// Makes a position the successor by a push that dooms nothing, where the last flood was that of the position before it.
+// Makes a position the successor by a push that dooms nothing. The last flood was that of the position before the
+// push.
 fn make_safe(
     site: &Site<'_>,
     place: usize,
@@ -224,8 +227,8 @@ fn make_safe(
     area::normalise_after(site.level, site.position, push, moved, scratch);
 }
 
-// Makes a position what a push to a square that is not dead leads to, and normal unless it is doomed, which it tells by
-// `false`; where the last flood was that of the position before it.
+// Makes a position the one after a push to a square that is not dead, and normal, unless it is doomed: then it
+// returns `false`. The last flood was that of the position before the push.
 fn make_if_safe(
     site: &Site<'_>,
     place: usize,

@@ -1,4 +1,4 @@
-//! The sums that the shares of positions are told by.
+//! The sums that decide the shares of positions.
 ghost use Rattle.std.specs.Prelude.{◌≡◌, ◌*◌, ◌%◌, ◌<◌, ◌≤◌, sum};
 ghost use Rattle.successors.specs.Shares.{share_of};
 ghost use Rattle.successors.specs.inside.Sums.{scene_sum};
@@ -25,9 +25,9 @@ pub(crate) fn sum_of(position: &Position) -> u32
     box_sum(position) + u32::from(position.player().0)
 }
 
-/// The share of a position whose squares have this sum: what is left of it modulo the number of shares. A division takes
-/// longer than all else that is asked of a successor here, so the powers of two go without one. It is public for those that
-/// store what a parcel holds.
+/// The share of a position whose squares have this sum: the sum modulo the number of shares, which is at least 1. A
+/// division takes longer than everything else done for a successor here, so powers of two avoid it. Public for crates
+/// that store what a parcel holds.
 pub fn share_by(sum: u32, shares: u8) -> u8
     requires { 0 < shares }
     ensures { result ≡ sum % shares }
@@ -42,8 +42,8 @@ pub fn share_by(sum: u32, shares: u8) -> u8
     }
 }
 
-/// The share of a position: the sum of its box squares and its player's square, modulo the number of shares. It is public for
-/// those that keep the positions of a share.
+/// The share of a position: the sum of its box squares and its player's square, modulo the number of shares, which is
+/// at least 1. Public for crates that keep the positions of a share.
 pub fn share_of(position: &Position, shares: u8) -> u8
     requires { 0 < shares }
     ensures { result ≡ share_of shares position.now }

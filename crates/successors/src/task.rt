@@ -8,8 +8,8 @@ use std::alloc::AllocError;
 use std::marker::Model;
 use std::sync::Arc;
 
-/// What is searched: a level, and the greatest number of pushes of a solution, if one is set. It is public for those that keep
-/// one beside the positions of its level.
+/// What a search works on: a level, and the greatest number of pushes of a solution, if a cap is set. Public for
+/// crates that keep one beside the positions of its level.
 #[derive(Debug, Drop)]
 pub struct Task {
     level: Arc<Level>,
@@ -27,14 +27,14 @@ impl Model for Task {
 }
 
 impl Task {
-    /// A level with a cap or with none.
+    /// A level with a cap or none.
     pub fn of(level: Arc<Level>, cap: Option<u32>) -> Task
         ensures { result ≡ capped (arc_value level) cap }
     {
         Task { level, cap }
     }
 
-    /// The same level with the same cap. The only error is that memory was refused.
+    /// The same level with the same cap. The only error is running out of memory.
     pub fn try_clone(&self) -> Result<Task, AllocError>
         ensures { IfOk result (λ task. task ≡ self.now) }
     {
@@ -52,7 +52,7 @@ impl Task {
         &*self.level
     }
 
-    /// Tells that the level is lawful; it does nothing, and is there for proofs.
+    /// States that the level is lawful. It does nothing and is there for proofs.
     pub fn tell(&self)
         ensures { IsLevel self.now.board }
     {
@@ -66,21 +66,21 @@ impl Task {
         self.level.boxes()
     }
 
-    /// The cap.
+    /// The cap. `None` if none is set.
     pub fn cap(&self) -> Option<u32>
         ensures { result ≡ self.now.cap }
     {
         self.cap
     }
 
-    /// Whether the other one is the same level with the same cap.
+    /// Whether another task has the same level and the same cap.
     pub fn is(&self, other: &Task) -> bool
         ensures { IsTrue result ↔ (self.now ≡ other.now) }
     {
         self.cap == other.cap && *self.level == *other.level
     }
 
-    /// Whether it is this level with this cap.
+    /// Whether the task has this level and this cap.
     pub(crate) fn is_that(&self, level: &Level, cap: Option<u32>) -> bool
         ensures { IsTrue result ↔ (self.now ≡ capped level.now cap) }
     {

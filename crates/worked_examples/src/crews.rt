@@ -19,7 +19,7 @@ use std::thread;
 use std::thread::Threads;
 
 /// How often a worker that is held looks for the one that frees it.
-const TURNS: u32 = 20_000_000;
+const TURNS: u32 = 1_000_000;
 
 /// The layer in which a worker is held.
 const HELD_LAYER: u64 = 1;
@@ -27,11 +27,19 @@ const HELD_LAYER: u64 = 1;
 /// The number of no worker.
 const NOBODY: u64 = u64::MAX;
 
-/// A gate that counts the events of each layer, and in one layer holds the worker that drew first until a parcel
-/// of another worker was accepted there by one of the books, of which there are so many.
+/// The event after which a gate holds the worker whose event of that kind comes first.
+#[derive(Clone, Copy, PartialEq, Eq)]
+enum After {
+    Draw,
+    HandBack,
+}
+
+/// A gate that counts the events of each layer. In one layer it holds the worker whose draw, or whose accepted parcel, comes
+/// first, until a parcel of another worker is accepted there by one of the `locks` books.
 #[derive(Drop)]
 struct Holding {
     locks: u8,
+    after: After,
     held: AtomicU64,
     freed: AtomicU64,
     ran_out: AtomicU64,
@@ -39,13 +47,29 @@ struct Holding {
 }
 
 impl Holding {
-    fn new(locks: u8) -> Holding {
+    fn new(locks: u8, after: After) -> Holding {
         Holding {
             locks,
+            after,
             held: AtomicU64::new(NOBODY),
             freed: AtomicU64::new(0),
             ran_out: AtomicU64::new(0),
             calls: [AtomicU64::new(0), AtomicU64::new(0), AtomicU64::new(0)],
+        }
+    }
+
+    /// Whether this worker's event comes first.
+    fn is_first(&self, me: u64) -> bool {
+        self.held
+            .compare_exchange(NOBODY, me, Ordering::SeqCst, Ordering::SeqCst)
+            .is_ok()
+    }
+
+    /// Lets the worker go that is held, if it is another one than this.
+    fn let_go(&self, me: u64) {
+        let held = self.held.load(Ordering::SeqCst);
+        if held != NOBODY && held != me {
+            self.freed.store(1, Ordering::SeqCst);
         }
     }
 
@@ -72,17 +96,15 @@ impl Gate for Holding {
         }
         // each draw of a worker is followed by a parcel that each of the books accepted
         let me = worker as u64;
-        if nth % (self.locks as u64 + 1) != 1 {
-            let held = self.held.load(Ordering::SeqCst);
-            if held != NOBODY && held != me {
-                self.freed.store(1, Ordering::SeqCst);
-            }
-        } else if self
-            .held
-            .compare_exchange(NOBODY, me, Ordering::SeqCst, Ordering::SeqCst)
-            .is_ok()
-        {
+        let event = if nth % (self.locks as u64 + 1) == 1 {
+            After::Draw
+        } else {
+            After::HandBack
+        };
+        if event == self.after && self.is_first(me) {
             self.hold();
+        } else if event == After::HandBack {
+            self.let_go(me);
         }
         true
     }
@@ -114,9 +136,10 @@ fn held<R: Threads + Wait + Sync + Abort>(
     alloc: Global,
     locks: u8,
     limit: u32,
+    after: After,
 ) -> (Result<Answer, SolveFault>, [u64; 3]) {
     let level = level_of(rt, alloc, TWO_ENDS);
-    let gate = Holding::new(locks);
+    let gate = Holding::new(locks, after);
     let config = Config {
         workers: 2,
         locks,
@@ -143,28 +166,44 @@ fn held<R: Threads + Wait + Sync + Abort>(
     (answer, calls)
 }
 
+/// Checks the answer and the events of two workers over so many locks.
+fn check_held<R: Threads + Wait + Sync + Abort>(
+    rt: &R,
+    alloc: Global,
+    locks: u8,
+    after: After,
+    expected: [u64; 3],
+) {
+    let (answer, calls) = held(rt, alloc, locks, 1_000_000, after);
+    assert!(rt;
+        matches!(
+            &answer,
+            Ok(Answer::Solved {
+                pushes: 2,
+                positions: 4,
+                ..
+            })
+        )
+    );
+    assert_eq!(rt; calls, expected, "{locks} locks");
+}
+
 #[test]
 fn workers_share_a_layer(rt: HostRuntime) {
-    for (locks, expected) in [(1, [2, 4, 0]), (2, [3, 6, 0])] {
-        let (answer, calls) = held(&rt, rt.alloc(), locks, 1_000_000);
-        assert!(&rt;
-            matches!(
-                &answer,
-                Ok(Answer::Solved {
-                    pushes: 2,
-                    positions: 4,
-                    ..
-                })
-            )
-        );
-        assert_eq!(&rt; calls, expected, "{locks} locks");
-    }
+    check_held(&rt, rt.alloc(), 1, After::Draw, [2, 4, 0]);
+    check_held(&rt, rt.alloc(), 2, After::Draw, [3, 6, 0]);
+}
+
+#[test]
+fn no_lock_is_held_while_a_gate_is_asked(rt: HostRuntime) {
+    check_held(&rt, rt.alloc(), 1, After::HandBack, [2, 4, 0]);
+    check_held(&rt, rt.alloc(), 2, After::HandBack, [3, 6, 0]);
 }
 
 #[test]
 fn the_limit_is_counted_over_all_books(rt: HostRuntime) {
     // the layers hold 4 positions, each of the two books 2, and both accept each parcel
-    let (answer, calls) = held(&rt, rt.alloc(), 2, 3);
+    let (answer, calls) = held(&rt, rt.alloc(), 2, 3, After::Draw);
     assert!(&rt; matches!(&answer, Ok(Answer::Limit)));
     assert_eq!(&rt; calls, [3, 6, 0]);
 }

@@ -15,5 +15,7 @@ mod ends;
 mod pages;
 #[cfg(test)]
 mod tests;
+#[cfg(test)]
+mod texts;
 
 pub use ends::{Paper, Pieces};

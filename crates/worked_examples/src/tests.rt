@@ -1,18 +1,13 @@
-mod asserts;
-mod checked;
+//! The engines over memory.
 mod failing;
-mod large;
-mod mapped;
 mod once;
 mod passed;
-mod replayed;
-mod shown;
-mod solved;
+mod reports;
 mod stopped;
 
 use crate::{Paper, Pieces};
 use crew::Config;
-use layers::{MAX_SHARES, MAX_WORKERS};
+use layers::MAX_SHARES;
 use sokopar::{
     Reader, RunFault, Sink, Source, Writer, run_check, run_dead, run_replay, run_show, run_solve,
 };
@@ -50,8 +45,8 @@ pub(crate) const WELL: Ends = Ends {
     write_fails: 0,
 };
 
-/// So many workers over so many locks.
-pub(crate) type Crew = (u8, u8);
+/// The limit of positions that the program takes where none is given.
+pub(crate) const DEFAULT_LIMIT: u32 = 1_000_000;
 
 /// What is asked of a collection.
 #[derive(Clone, Copy)]
@@ -60,12 +55,11 @@ pub(crate) enum Command<'a> {
     Show(u32),
     Dead(u32),
     Replay(u32, &'a [u8]),
-    /// The number of a level, of workers and of locks, and a limit of positions.
-    Solve(u32, Crew, u32),
+    /// The number of a level, and of both workers and locks.
+    Solve(u32, u8),
 }
 
-/// Runs the engine of a command. Numbers of levels, of workers, of locks and of limits outside their ranges are taken for
-/// the nearest within.
+/// Runs the engine of a command. Numbers of levels, of workers and of locks outside their ranges are taken for the nearest within.
 fn perform<R: Threads + Wait + Sync, S: Source, T: Source, K: Sink>(
     rt: &R,
     alloc: Global,
@@ -79,11 +73,11 @@ fn perform<R: Threads + Wait + Sync, S: Source, T: Source, K: Sink>(
         Command::Show(number) => run_show(alloc, source, number.max(1), sink),
         Command::Dead(number) => run_dead(alloc, source, number.max(1), sink),
         Command::Replay(number, _) => run_replay(alloc, source, number.max(1), solution, sink),
-        Command::Solve(number, (workers, locks), limit) => {
+        Command::Solve(number, workers) => {
             let config = Config {
-                workers: workers.max(1).min(MAX_WORKERS),
-                locks: locks.max(1).min(MAX_SHARES),
-                limit: limit.max(1),
+                workers: workers.max(1).min(MAX_SHARES),
+                locks: workers.max(1).min(MAX_SHARES),
+                limit: DEFAULT_LIMIT,
                 cap: None,
             };
             run_solve(rt, alloc, source, number.max(1), config, sink)
@@ -123,14 +117,16 @@ pub(crate) fn run<R: Threads + Wait + Sync>(
     }
 }
 
-/// Checks what a command writes of a collection, and its status.
-pub(crate) fn writes<R: Threads + Wait + Sync + Abort>(
-    rt: &R,
-    alloc: Global,
-    file: &[u8],
-    command: Command<'_>,
-    report: &[u8],
-    status: u8,
-) {
-    run(rt, alloc, file, command, WELL).is(rt, report, status);
+impl Outcome {
+    /// Checks that the run wrote this report and answered this status.
+    pub(crate) fn is(&self, rt: &impl Abort, report: &[u8], status: u8) {
+        assert_eq!(rt; self.answer, Ok(status));
+        assert_eq!(rt; self.text.as_slice(), report);
+    }
+
+    /// Checks that the run answered this fault and wrote nothing.
+    pub(crate) fn is_fault(&self, rt: &impl Abort, fault: RunFault) {
+        assert_eq!(rt; self.answer, Err(fault));
+        assert!(rt; self.text.is_empty());
+    }
 }

@@ -1,15 +1,15 @@
 -- What contracts see of where a corral is looked for.
-use Rattle.std.specs.Prelude.{◌≡◌, ℕ}
+use Rattle.std.specs.Prelude.{◌≡◌, ℕ, Option}
 use Rattle.grid.specs.Board.{Board, Scene}
 use Rattle.grid.specs.States.{FitsLevel}
 use Rattle.area.specs.After.{IsAreaOf}
 use Rattle.corrals.specs.declared.ground.Ground.TheInside.{Inside}
 
--- a level, a position of it, and how many pushes are left after the next
+-- a level, a position of it, and how many pushes at most may follow the next one: any number, where there is no cap
 pub record GroundView : Type 0 where
   pub board : Board
   pub scene : Scene
-  pub left : ℕ
+  pub left : Option ℕ
 
 abbrev pub ground_view : Inside → GroundView
 ground_view a = record { board = a.level.now; scene = a.position.now; left = a.slack.now.left }

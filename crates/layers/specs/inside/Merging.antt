@@ -1,5 +1,5 @@
 -- Lists that are merged by their origins: again and again the least first entry of all is taken.
-use Rattle.std.specs.Prelude.{◌≡◌, ℕ, false, List, [], ◌∷◌, ◌++◌, drop, length, slice_get, slice_set, Option, Some, None, IfSome}
+use Rattle.std.specs.Prelude.{◌≡◌, ◌⊎◌, ℕ, false, List, [], ◌∷◌, ◌++◌, drop, length, slice_get, slice_set, Option, Some, None, IfSome}
 use Rattle.std.specs.Ordering.{is_gt}
 use Rattle.grid.specs.declared.square.Push.{Push}
 use Rattle.grid.specs.Board.{push_cmp}
@@ -60,3 +60,13 @@ pub record AreTaken (books : List BookView) (starts ends squares : List ℕ) (or
 -- the stretch holds what was taken of the books' last closed lists from its start on, if it was merged
 abbrev pub IsStretchOf : List BookView → Stretch → Type 0
 IsStretchOf books s = IfSome s.merged (λ m. AreTaken books s.starts.items m.ends.items m.squares.items m.origins.items)
+
+-- the stretch is as it was, or holds nothing any more
+abbrev pub IsKeptOrTaken : Stretch → Stretch → Type 0
+IsKeptOrTaken before after = (after ≡ before) ⊎ (after ≡ record before { merged = None })
+
+-- so is each of several stretches, in their order
+abbrev pub AreKeptOrTaken : List Stretch → List Stretch → Type 0
+AreKeptOrTaken before after =
+    (length after ≡ length before)
+    × ((i : ℕ) (s : Stretch) → slice_get before i ≡ Some s → (t : Stretch) × (slice_get after i ≡ Some t) × IsKeptOrTaken s t)

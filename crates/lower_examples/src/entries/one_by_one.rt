@@ -71,3 +71,16 @@ fn levels_are_made_of_boards(rt: HostRuntime) {
     assert_eq!(&rt; (level.rows(), level.cols(), level.boxes()), (3, 5, 1));
     assert_eq!(&rt; level.player(), Square(6));
 }
+
+#[test]
+fn levels_are_copied_and_compared(rt: HostRuntime) {
+    let level = Level::of_board(rt.alloc(), hall(&rt, rt.alloc())).expect(&rt, "memory");
+    let copy = level.copy().expect(&rt, "memory");
+    assert!(&rt; copy == level);
+    let mut cells = cells_of(&rt, rt.alloc(), HALL);
+    cells.as_mut_slice().reverse();
+    assert!(rt; cells.len() % 5 == 0);
+    let other = Level::from_cells(rt.alloc(), 5, cells).expect(&rt, "a level");
+    assert!(&rt; copy != other);
+    assert!(&rt; level.in_room(Square(8)) && !level.in_room(Square(9)));
+}

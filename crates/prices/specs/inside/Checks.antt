@@ -3,6 +3,7 @@ use Rattle.std.specs.Prelude.{◌≡◌, ◌<◌, ◌≤◌, ℕ, suc, true, fal
 use Rattle.grid.specs.declared.dir.Dir.{Dir}
 use Rattle.grid.specs.Board.{Board, is_wall, next}
 use Rattle.grid.specs.Squares.{contains}
+use Rattle.prices.specs.declared.pulls.TheConstants.{NEVER}
 use Rattle.prices.specs.declared.table.Side.{Side}
 use Rattle.prices.specs.declared.table.Table.{Table}
 use Rattle.prices.specs.Prices.{CanStand}
@@ -32,11 +33,12 @@ KeepRows board t = (b p : ℕ) (d : Dir) → let q = next board p d in
 abbrev pub AreNoneAtHome : Board → Table → Type 0
 AreNoneAtHome board t = (g p : ℕ) → contains t.goals.items g ≡ true → p < length board.cells → far_in t g g p ≡ 0
 
--- no number is greater than the other at its place by more than one
-abbrev pub AreWithinOne : List ℕ → List ℕ → Type 0
-AreWithinOne xs ys = (i : ℕ) → slice_index_or xs i 0 ≤ suc (slice_index_or ys i 0)
+-- no number is greater than the other at its place by more than one, and beside one of `NEVER` or more stands another
+pub record AreWithinOne (xs ys : List ℕ) : Type 0 where
+  pub within : (i : ℕ) → slice_index_or xs i 0 ≤ suc (slice_index_or ys i 0)
+  pub never : (i : ℕ) → NEVER ≤ slice_index_or xs i 0 → NEVER ≤ slice_index_or ys i 0
 
--- a push from the player's square lessens each distance of the box by one at most
+-- a push from the player's square lessens each distance of the box by one at most, and leaves one of `NEVER` so
 abbrev pub LessensByOne : Board → Table → ℕ → Dir → Type 0
 LessensByOne board t p d = let q = next board p d in let r = next board q d in
     is_wall board p ≡ false → is_wall board q ≡ false → is_wall board r ≡ false → AreWithinOne (row_in t q p) (row_in t r q)
@@ -44,3 +46,8 @@ LessensByOne board t p d = let q = next board p d in let r = next board q d in
 -- so does each push
 abbrev pub LessenByOne : Board → Table → Type 0
 LessenByOne board t = (p : ℕ) (d : Dir) → p < length board.cells → LessensByOne board t p d
+
+-- a box that can't be brought to a goal can't be brought there after a push either
+abbrev pub StayAway : Board → (ℕ → ℕ → ℕ → ℕ) → Type 0
+StayAway board far = (g p : ℕ) (d : Dir) → let q = next board p d in let r = next board q d in
+    CanStand board q p → CanStand board r q → NEVER ≤ far g q p → NEVER ≤ far g r q

@@ -15,9 +15,9 @@ use Rattle.area.specs.Pushes.{CanPush}
 use Rattle.area.proofs.lemmas.Norms.{area_scene}
 use Rattle.prices.specs.Solving.{SolvableWithin}
 use Rattle.corrals.specs.Trying.{Suffice}
-use Rattle.prover.specs.Frame.{Keeps}
-use Rattle.prover.specs.Pruning.{after_push, IsDone, IsAmong, AllDone}
-use Rattle.prices.proofs.lemmas.Solving.{first_push_leads, norms_change_nothing}
+use Rattle.successors.specs.Expansion.{after_push}
+use Rattle.prover.specs.Frontier.{Keeps}
+use Rattle.prices.proofs.lemmas.Solving.{first_push_leads}
 
 -- ---- the state after a push
 
@@ -33,6 +33,10 @@ module _ (board : Board) (s : Scene) (p : Push) (scene : IsScene board s) (can :
   pub pushed_from : Pushes board (at s behind) p.dir (after_push board s p)
   pushed_from = subst (λ (k : ℕ). (contains s.boxes k ≡ true) × IsFree board s.boxes (next board k p.dir) ×
       (after_push board s p ≡ record { boxes = insert (remove s.boxes k) (next board k p.dir); player = k })) (sym there) (can.there, can.ahead, refl)
+
+  -- the push is made behind the box
+  pub pushed_push : push_at board (at s behind) p.dir ≡ p
+  pushed_push = λ i. record { square = there i; dir = p.dir }
 
   pub after_scene : IsScene board (after_push board s p)
   after_scene = scene_after_push board (at s behind) p.dir (after_push board s p) (area_scene board s behind scene can.behind) pushed_from
@@ -50,22 +54,6 @@ moved board s b t d same pushed = pushed.2 ∙
 
 -- ---- what an expansion keeps
 
--- what is kept of one push
-pub done_keeps : (board : Board) (Kept : Scene → Type 0) (most k m : ℕ) (s : Scene) (p : Push) → IsScene board s → CanPush board s p → k + suc m ≤ most →
-    SolvableWithin board m (after_push board s p) → IsDone board most Kept k s p → (t : Scene) × Kept t × SolvableWithin board m t
-done_keeps board Kept most k m s p scene can few rest (inl (n, norm, kept)) =
-    (n, kept, (norms_change_nothing board (after_push board s p) n (after_scene board s p scene can) norm m).0 rest)
-done_keeps board Kept most k m s p scene can few (ds, ps, t, play, solved, le) (inr (j, more, none)) = absurd (let lt = none ds ps t play solved in
-    omega (arith, lt, le, few, more))
-
--- what is kept of pushes that it suffices to try
-pub tried_keep : (board : Board) (Kept : Scene → Type 0) (Tried : Push → Type 0) (most k left : ℕ) (s : Scene) → IsScene board s → most ≤ suc k + left
-    → Suffice board left Tried s → ((p : Push) → Tried p → CanPush board s p → IsDone board most Kept k s p) → Keeps board most Kept k s
-tried_keep board Kept Tried most k left s scene enough suffice done m few unsolved solvable =
-    let (p, t, tried, pushed, rest) = suffice m (omega (arith, few, enough)) unsolved solvable in
-    let can : CanPush board s p = record { there = pushed.there; behind = pushed.behind; ahead = pushed.ahead } in
-    done_keeps board Kept most k m s p scene can few (subst (SolvableWithin board m) pushed.after rest) (done p tried can)
-
 -- all pushes suffice
 pub all_suffice : (board : Board) (left : ℕ) (s : Scene) → IsScene board s → Suffice board left (λ p. Unit {0}) s
 all_suffice board left s scene m le unsolved solvable =
@@ -76,15 +64,6 @@ all_suffice board left s scene m le unsolved solvable =
     let rest : SolvableWithin board m first.after = subst (λ (j : ℕ). SolvableWithin board j first.after) one first.rest in
     let can = first.possible in
     (p, first.after, tt, record { there = can.there; behind = can.behind; ahead = can.ahead; after = same }, rest)
-
--- what is kept of all pushes
-pub all_keep : (board : Board) (Kept : Scene → Type 0) (most k : ℕ) (s : Scene) → IsScene board s →
-    ((p : Push) → CanPush board s p → IsDone board most Kept k s p) → Keeps board most Kept k s
-all_keep board Kept most k s scene done =
-    tried_keep board Kept (λ p. Unit {0}) most k most s scene (omega arith) (all_suffice board most s scene) (λ p tried can. done p can)
-
-pub all_done : (board : Board) → AllDone board
-all_done board most k kept s scene done = all_keep board (IsAmong kept) most k s scene done
 
 -- what is kept may be told in other words
 pub keeps_so : (board : Board) (Kept Other : Scene → Type 0) (most k : ℕ) (s : Scene) → ((t : Scene) → Kept t → Other t) → Keeps board most Kept k s →

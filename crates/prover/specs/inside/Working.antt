@@ -1,11 +1,28 @@
--- What calls of a round ask for, each under one name.
-use Rattle.std.specs.Prelude.{◌≡◌, ℕ, ◌≤◌, List, length}
-use Rattle.grid.specs.Board.{Board, Scene}
+-- What the calls of a search ask for and tell, each under one name.
+use Rattle.std.specs.Prelude.{◌≡◌, ℕ, zero, suc, ◌+◌, ◌*◌, ◌-◌, ◌≤◌, ◌<◌, ◌⊎◌, Bool, true, IsTrue, List, [], ◌∷◌, ◌++◌, length, slice_get, slice_set, ◌^◌}
+use Rattle.std.specs.Prelude.{Option, None, Some}
+use Rattle.std.specs.List.{Contains}
+use Rattle.grid.specs.declared.dir.Dir.{Dir}
+use Rattle.grid.specs.declared.square.Push.{Push}
+use Rattle.grid.specs.Board.{Board, Scene, IsSolved, start}
+use Rattle.grid.specs.Masks.{has_bit}
 use Rattle.grid.specs.States.{FitsLevel}
+use Rattle.grid.specs.Lawful.{box_count}
+use Rattle.grid.specs.Plays.{Play, Any}
+use Rattle.area.specs.Area.{IsNorm}
 use Rattle.area.specs.After.{IsAreaOf}
 use Rattle.area.specs.Reach.{Reach}
-use Rattle.prover.specs.Frame.{Seen}
-use Rattle.prover.specs.inside.Progress.{AreUnsolved, IsUnderWay}
+use Rattle.successors.specs.Expansion.{after_push}
+use Rattle.prices.specs.Solving.{Allows, SolvableWithin}
+use Rattle.prover.specs.declared.pushing.Expanded.{Expanded}
+use Rattle.prover.specs.declared.queue.Ticket.{Ticket}
+use Rattle.store.specs.Visited.{Entry, VisitedView, closed}
+use Rattle.prover.specs.Frontier.{IsFound, Keeps, AreFew, AreFrom, ComesFrom, IsBound, IsUnderWay}
+
+-- a level, and a cap on the pushes of its solutions
+pub record PrunerView : Type 0 where
+  pub board : Board
+  pub cap : Option ℕ
 
 -- a position may be played on the level, for which the scratch is, and the scratch's last flood was that of the position
 pub record IsFlooded (board : Board) (reach : Reach) (s : Scene) : Type 0 where
@@ -14,9 +31,137 @@ pub record IsFlooded (board : Board) (reach : Reach) (s : Scene) : Type 0 where
   pub flooded : IsAreaOf board s reach.reached
   pub boxes : reach.boxes ≡ s.boxes
 
--- a search has come to one place, and none of the positions from there up to another is solved
-pub record IsAhead (board : Board) (most : ℕ) (all : List Seen) (from to : ℕ) : Type 0 where
-  pub under_way : IsUnderWay board most all from
-  pub unsolved : AreUnsolved board all from to
-  pub order : from ≤ to
-  pub within : to ≤ length all
+-- ---- the queue
+
+-- a ticket of the place waits, with this least total
+abbrev pub Waits : List Ticket → ℕ → ℕ → Type 0
+Waits tickets least place = (t : Ticket) × Contains tickets t × (t.least.0 ≡ least) × (t.place ≡ place)
+
+-- the ticket is the first, and none that waits has a lesser total
+pub record IsFirst (tickets : List Ticket) (t : Ticket) : Type 0 where
+  pub at : slice_get tickets 0 ≡ Some t
+  pub least : (least place : ℕ) → Waits tickets least place → t.least.0 ≤ least
+
+-- each open position waits
+abbrev pub IsQueued : List Entry → List Ticket → Type 0
+IsQueued all tickets = (i : ℕ) (x : Entry) (least : ℕ) → slice_get all i ≡ Some x → x.least ≡ Some least → Waits tickets least i
+
+-- ---- how what was found changes
+
+-- a search is under way, and what it has found is of the board's size
+pub record IsSearched (board : Board) (cap : Option ℕ) (v : VisitedView) : Type 0 where
+  pub under_way : IsUnderWay board cap v.entries
+  pub boxes : v.boxes ≡ box_count board
+  pub squares : v.squares ≡ length board.cells
+
+-- both are for positions of one size
+abbrev pub SameSize : VisitedView → VisitedView → Type 0
+SameSize old new = (new.boxes ≡ old.boxes) × (new.squares ≡ old.squares)
+
+-- each position stands where it stood, found with no more pushes
+abbrev pub StillStand : List Entry → List Entry → Type 0
+StillStand old new = (i : ℕ) (x : Entry) → slice_get old i ≡ Some x →
+    (y : Entry) × (slice_get new i ≡ Some y) × (y.position ≡ x.position) × (y.pushes ≤ x.pushes)
+
+-- positions that were found with at most so many pushes are as they were
+abbrev pub StayBelow : ℕ → List Entry → List Entry → Type 0
+StayBelow k old new = (i : ℕ) (x : Entry) → slice_get old i ≡ Some x → x.pushes ≤ k → slice_get new i ≡ Some x
+
+-- 1 while it is open
+abbrev pub openness : Option ℕ → ℕ
+openness None = 0
+openness (Some least) = 1
+
+-- how often the positions that were found can be opened and closed again at most, where each new opening is one with fewer pushes
+abbrev pub turns : List Entry → ℕ
+turns [] = 0
+turns (x ∷ all) = 2 * x.pushes + openness x.least + turns all
+
+-- how many more times a search of no more positions than the limit can turn
+abbrev pub turns_left : ℕ → List Entry → ℕ
+turns_left limit all = turns all + (limit - length all) * (2 * limit + 2)
+
+-- there are no fewer positions, and no more turns are left
+pub record GoesOn (old new : List Entry) : Type 0 where
+  pub more : length old ≤ length new
+  pub turns : (limit : ℕ) → length new ≤ limit → turns_left limit new ≤ turns_left limit old
+
+-- the entry is noted, if its position was not found with as few pushes
+pub record Enters (old new : List Entry) (e : Entry) : Type 0 where
+  pub still : StillStand old new
+  pub below : StayBelow e.pushes old new
+  pub found : IsFound new e.pushes e.position
+  pub each : (i : ℕ) (y : Entry) → slice_get new i ≡ Some y → (slice_get old i ≡ Some y) ⊎ (y ≡ e)
+  pub few : e.pushes ≤ length old → AreFew old → AreFew new
+  pub goes_on : e.pushes ≤ length old → GoesOn old new
+
+-- the position at the place is open with this least total, and no open one has a lesser total
+abbrev pub IsLeastOpen : List Entry → ℕ → ℕ → Type 0
+IsLeastOpen all place least = (x : Entry) × (slice_get all place ≡ Some x) × (x.least ≡ Some least) × AreFrom least all
+
+-- the position stands at the place, found with so many pushes
+abbrev pub Stands : List Entry → ℕ → Scene → ℕ → Type 0
+Stands all place s k = (x : Entry) × (slice_get all place ≡ Some x) × (x.position ≡ s) × (x.pushes ≡ k)
+
+-- the position at the place is open with this least total, and not solved
+abbrev pub IsUnsolvedOpen : Board → List Entry → ℕ → ℕ → Type 0
+IsUnsolvedOpen board all place least = (x : Entry) × (slice_get all place ≡ Some x) × (x.least ≡ Some least) × ¬ (IsSolved board x.position)
+
+-- the position is closed at the place, and nothing else changes
+abbrev pub IsClosedAt : List Entry → ℕ → List Entry → Type 0
+IsClosedAt old place new = (x : Entry) → slice_get old place ≡ Some x → new ≡ slice_set old place (closed x)
+
+-- ---- expansions
+
+-- the position that is expanded stands at its place, and its total is a bound
+pub record IsExpanding (board : Board) (cap : Option ℕ) (v : VisitedView) (from : Expanded) : Type 0 where
+  pub searched : IsSearched board cap v
+  pub stands : Stands v.entries from.place from.position from.pushes
+  pub bound : IsBound board from.pushes from.position from.least
+  pub few : suc from.pushes < 2 ^ 32
+
+-- an expansion of a position with k pushes has gone on: what was found still stands, and what more was found has more pushes
+pub record Widens (board : Board) (cap : Option ℕ) (k : ℕ) (old new : VisitedView) : Type 0 where
+  pub searched : IsSearched board cap new
+  pub still : StillStand old.entries new.entries
+  pub below : StayBelow (suc k) old.entries new.entries
+  pub goes_on : GoesOn old.entries new.entries
+
+-- what an expansion has to keep was found, for every number of pushes that the cap allows
+abbrev pub Expands : Board → Option ℕ → List Entry → ℕ → Scene → Type 0
+Expands board cap all k s = (most : ℕ) → Allows cap most → Keeps board most (IsFound all (suc k)) k s
+
+-- a push after k pushes is done with: where a play that the cap allows goes on with it and ends solved, some position was found from
+-- which one ends solved with no more pushes
+abbrev pub IsTaken : Board → Option ℕ → List Entry → ℕ → Scene → Push → Type 0
+IsTaken board cap all k s p = (m : ℕ) → Allows cap (k + suc m) → SolvableWithin board m (after_push board s p) →
+    (t : Scene) × IsFound all (suc k) t × SolvableWithin board m t
+
+-- the push is to be tried: any is, or with `only` those of the boxes that are held
+abbrev pub IsChosen : Bool → List ℕ → Push → Type 0
+IsChosen only held p = IsTrue only → has_bit held p.square ≡ true
+
+-- of the first pushes, those that are to be tried are done with
+abbrev pub AreTaken : Board → Option ℕ → List Entry → (Push → Type 0) → ℕ → Scene → List Push → ℕ → Type 0
+AreTaken board cap all Tried k s pushes count = (i : ℕ) (p : Push) → i < count → slice_get pushes i ≡ Some p → Tried p → IsTaken board cap all k s p
+
+-- ---- reading back
+
+-- a play from the start with these pushes leads to a state whose normal form is the position
+abbrev pub AreLeading : Board → List Push → Scene → Type 0
+AreLeading board ps n = (ds : List Dir) × (s : Scene) × Play board Any (start board) ds ps s × IsNorm board s n
+
+-- each position that was found comes from its parent, or is the start
+abbrev pub AreTraced : Board → List Entry → Type 0
+AreTraced board all = (i : ℕ) (x : Entry) → slice_get all i ≡ Some x → FitsLevel board x.position × ComesFrom board all x x.parent
+
+-- with how many pushes the position at the place was found
+abbrev pub pushes_at : List Entry → ℕ → ℕ
+pushes_at [] place = 0
+pushes_at (x ∷ all) zero = x.pushes
+pushes_at (x ∷ all) (suc place) = pushes_at all place
+
+-- the pushes that were read back from one position to another lead on from there, and are so many at most as they were found with
+pub record AreReadBack (board : Board) (from to : Entry) (late : List Push) : Type 0 where
+  pub leading : (ps : List Push) → AreLeading board ps from.position → AreLeading board (ps ++ late) to.position
+  pub few : length late + from.pushes ≤ to.pushes

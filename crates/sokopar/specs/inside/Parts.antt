@@ -3,9 +3,10 @@ use Rattle.std.specs.Prelude.{ℕ, Bool, List, ◌++◌, Result, Option, is_ok, 
 use Rattle.grid.specs.Board.{Board}
 use Rattle.grid.specs.Lawful.{row_count, box_count}
 use Rattle.grid.specs.declared.fault.LevelFault.{LevelFault}
+use Rattle.sokopar.specs.Best.{IsBest}
 use Rattle.sokopar.specs.DeadMap.{IsMapOf}
 use Rattle.sokopar.specs.Listing.{Listed}
-use Rattle.sokopar.specs.Report.{Report, ReportsOn, one_line}
+use Rattle.sokopar.specs.Report.{Report, ReportsOn, IsSearchOf, one_line}
 use Rattle.sokopar.specs.Solving.{IsSolveOf, cap_words, positions_words}
 
 -- the board is a lawful level
@@ -17,9 +18,9 @@ abbrev pub level_words : Board → List ℕ
 level_words board =
     codes "ok " ++ decimal (row_count board) ++ codes "x" ++ decimal board.cols ++ codes " " ++ decimal (box_count board) ++ codes " boxes"
 
--- the report where the level has more boxes than the solver takes
-abbrev pub too_many_boxes : Report
-too_many_boxes = one_line (codes "too many boxes") 1
+-- that a limit of positions was reached
+abbrev pub limit_words : ℕ → List ℕ
+limit_words limit = codes "limit " ++ decimal limit ++ codes " reached"
 
 -- the report that no play solves a level within a cap
 abbrev pub none_within : Option ℕ → ℕ → Report
@@ -32,3 +33,7 @@ MapsOn n level report = ReportsOn IsMapOf n level report
 -- the report of solving level n of a listing under a cap of pushes and a limit of positions
 abbrev pub SolvesOn : Option ℕ → ℕ → ℕ → Option (Result Board LevelFault) → Report → Type 0
 SolvesOn cap limit n level report = ReportsOn (IsSolveOf cap limit) n level report
+
+-- the report of finding a solution with the fewest pushes of level n of a listing, under a limit of positions
+abbrev pub FindsOn : ℕ → ℕ → Option (Result Board LevelFault) → Report → Type 0
+FindsOn limit n level report = ReportsOn (IsSearchOf (IsBest limit)) n level report

@@ -3,7 +3,7 @@ use Rattle.std.specs.Prelude.{◌≡◌, ℕ, ◌<◌, ◌⊎◌, true, List, le
 use Rattle.layers.specs.LayerView.{LayerView}
 use Rattle.layers.specs.BookView.{BookView, AreLawfulBooks}
 use Rattle.layers.specs.Holding.{all_held, held}
-use Rattle.layers.specs.Books.{HasBegun}
+use Rattle.layers.specs.Books.{AllDone, HasBegun}
 use Rattle.layers.specs.Events.{AreMadeAlike}
 use Rattle.solo.specs.inside.Turns.{WorkAnswers}
 use Rattle.solo.specs.declared.turn.Worked.{Worked}
@@ -29,6 +29,10 @@ IsStill layer before after = AreMadeAlike before after × (after.closed ≡ befo
 abbrev pub AreStill : LayerView → List BookView → List BookView → Type 0
 AreStill layer before after =
     (length after ≡ length before) × ((i : ℕ) (v : BookView) → slice_get before i ≡ Some v → (w : BookView) × (slice_get after i ≡ Some w) × IsStill layer v w)
+
+-- each rank of each of the books is done
+abbrev pub AreAllDone : List BookView → Type 0
+AreAllDone books = (i : ℕ) (v : BookView) → slice_get books i ≡ Some v → AllDone v
 
 -- how the last ranks of a layer leave books: each has closed the next layer; or one of them is over its limit; or they are
 -- still at work, and pass the limit together

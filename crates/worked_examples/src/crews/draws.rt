@@ -13,13 +13,16 @@ use std::process::Abort;
 use std::slice;
 use std::sync::{Mutex, Wait};
 
+/// For how many workers the books are made.
+pub(super) const WORKERS: u8 = 3;
+
 /// The claim of the first rank.
 pub(super) const FIRST: Claim = Claim { layer: 0, rank: 0 };
 
 /// A book at work on layer 0, and that layer, which has one position.
 pub(super) fn begun(rt: &impl Abort, alloc: Global) -> (Book, Layer) {
     let level = level_of(rt, alloc, TWO_ENDS);
-    let mut book = Book::of(alloc, level, None, 1_000_000, 2, 0, 1).expect(rt, "a book");
+    let mut book = Book::of(alloc, level, None, 1_000_000, WORKERS, 0, 1).expect(rt, "a book");
     let layer = Layer::join(alloc, slice::from_ref(&book)).expect(rt, "a layer");
     book.begin(&layer).expect(rt, "a begin");
     (book, layer)
@@ -50,24 +53,44 @@ pub(super) fn worked<R: Wait + Abort, G: Gate>(
     requires len { ledger.now.len ≡ count }
     requires drawer { drawer ≡ newcomer ledger.now }
 {
+    let lock = Mutex::new(book);
+    let books = slice::from_ref(&lock);
+    let end = worked_over(rt, alloc, layer, books, ledger, drawer, count, worker, gate);
+    (end, lock.into_inner())
+}
+
+/// The same over several books.
+pub(super) fn worked_over<R: Wait + Abort, G: Gate>(
+    rt: &R,
+    alloc: Global,
+    layer: &Layer,
+    books: &[Mutex<Book>],
+    ledger: &Ledger,
+    drawer: Drawer,
+    count: u32,
+    worker: u8,
+    gate: &G,
+) -> End
+    requires len { ledger.now.len ≡ count }
+    requires drawer { drawer ≡ newcomer ledger.now }
+{
     assert!(rt; layer.len() >= u64::from(count));
     assert!(rt; worker < PLACES);
     let pruner = Pruner::of(alloc, layer.level(), layer.cap()).expect(rt, "memory");
     let mut scratch = Scratch::new(alloc, layer.level()).expect(rt, "memory");
-    let lock = Mutex::new(book);
     let mut own = drawer;
-    let end = work(
+    work(
         rt,
         layer,
         &pruner,
-        slice::from_ref(&lock),
+        books,
         ledger,
         &mut own,
+        WORKERS,
         worker,
         &mut scratch,
         gate,
-    );
-    (end, lock.into_inner())
+    )
 }
 
 /// What the book answers where the parcel of the first rank is handed back.
@@ -109,6 +132,30 @@ fn a_worker_does_what_it_drew(rt: HostRuntime) {
     let closed = book.close().expect(&rt, "a close");
     assert!(rt; closed.layer == 1 && closed.count == 2);
     drop(book);
+}
+
+/// Checks that a worker that draws one of two ranks leaves the other one to be claimed.
+fn check_two(rt: &(impl Wait + Abort), alloc: Global, layer: &Layer, book: Book) {
+    let (ledger, _, own) = one_number(rt, alloc);
+    let (end, mut book) = worked(rt, alloc, layer, book, &ledger, own, 1, 0, &Free);
+    assert!(rt; end == End::Drained);
+    assert!(rt;
+        book.claim() == Some(Claim { layer: 1, rank: 1 }),
+        "the worker claims no rank"
+    );
+    assert!(rt; book.claim().is_none());
+    drop(book);
+}
+
+#[test]
+fn a_worker_claims_no_rank_of_a_book(rt: HostRuntime) {
+    let alloc = rt.alloc();
+    let mut book = book_of(&rt, alloc, TWO_ENDS, AMPLE);
+    turn(&rt, alloc, &mut book);
+    let layer = joined(&rt, alloc, &book);
+    assert!(rt; layer.len() == 2);
+    book.begin(&layer).expect(&rt, "a begin");
+    check_two(&rt, alloc, &layer, book);
 }
 
 /// How a worker ends that is alone with a layer, and the book after it.

@@ -2,7 +2,7 @@
 ghost use Rattle.std.specs.Prelude.{◌≡◌, true};
 ghost use Rattle.claims.specs.Hands.{newcomer};
 
-use super::draws::{FIRST, again, begun, one_number, worked};
+use super::draws::{FIRST, WORKERS, again, begun, one_number, worked, worked_over};
 use crate::boards::{ONE, TWO_ENDS};
 use crate::books::{AMPLE, book_of, level_of, start_of, turn};
 use crew::{End, Free, Gate};
@@ -10,7 +10,7 @@ use layers::{Book, Layer, Refusal};
 use std::alloc::Global;
 use std::process::Abort;
 use std::slice;
-use std::sync::Wait;
+use std::sync::{Mutex, Wait};
 
 /// A gate that says no to an event of this number.
 #[derive(Drop)]
@@ -86,7 +86,7 @@ fn a_gate_stops_a_worker_that_handed_back(rt: HostRuntime) {
 #[test]
 fn a_book_of_another_level_is_foreign(rt: HostRuntime) {
     let alloc = rt.alloc();
-    let book = book_for(&rt, alloc, ONE, AMPLE, 2);
+    let book = book_for(&rt, alloc, ONE, AMPLE, WORKERS);
     assert!(rt; ended(&rt, alloc, book, 0) == (End::Foreign, true));
 }
 
@@ -100,20 +100,29 @@ fn a_book_at_another_layer_is_foreign(rt: HostRuntime) {
 }
 
 #[test]
-fn a_book_made_for_fewer_workers_is_foreign(rt: HostRuntime) {
+fn a_book_made_for_another_number_of_workers_is_foreign(rt: HostRuntime) {
     let alloc = rt.alloc();
-    let book = book_for(&rt, alloc, TWO_ENDS, AMPLE, 2);
-    assert!(rt; ended(&rt, alloc, book, 2) == (End::Foreign, true));
+    let fewer = book_for(&rt, alloc, TWO_ENDS, AMPLE, WORKERS - 1);
+    assert!(rt; ended(&rt, alloc, fewer, 0) == (End::Foreign, true));
+    let more = book_for(&rt, alloc, TWO_ENDS, AMPLE, WORKERS + 1);
+    assert!(rt; ended(&rt, alloc, more, 0) == (End::Foreign, true));
+}
+
+#[test]
+fn a_book_without_the_worker_is_foreign(rt: HostRuntime) {
+    let alloc = rt.alloc();
+    let book = book_for(&rt, alloc, TWO_ENDS, AMPLE, WORKERS);
+    assert!(rt; ended(&rt, alloc, book, WORKERS) == (End::Foreign, true));
 }
 
 #[test]
 fn a_book_at_its_limit_refuses(rt: HostRuntime) {
     let alloc = rt.alloc();
     // layer 0 has one position, and two come from it
-    let book = book_for(&rt, alloc, TWO_ENDS, 2, 2);
+    let book = book_for(&rt, alloc, TWO_ENDS, 2, WORKERS);
     let (end, _) = ended(&rt, alloc, book, 0);
     assert!(rt; end == End::Refused(Refusal::Over));
-    let book = book_for(&rt, alloc, TWO_ENDS, 3, 2);
+    let book = book_for(&rt, alloc, TWO_ENDS, 3, WORKERS);
     assert!(rt; ended(&rt, alloc, book, 0) == (End::Drained, false));
 }
 
@@ -124,4 +133,45 @@ fn a_rank_that_was_handed_back_is_refused(rt: HostRuntime) {
     again(&rt, alloc, &layer, &mut book).expect(&rt, "an accepted parcel");
     let (end, _) = ended(&rt, alloc, book, 0);
     assert!(rt; end == End::Refused(Refusal::Double));
+}
+
+/// Share 0 of two of two ends, at work on layer 0 and at its limit: the start is of this share, and so is one of the two
+/// positions that come from it.
+fn full_share(rt: &impl Abort, alloc: Global) -> Book {
+    let level = level_of(rt, alloc, TWO_ENDS);
+    let mut book = Book::of(alloc, level, None, 1, WORKERS, 0, 2).expect(rt, "a book");
+    book.begin(&start_of(rt, alloc, TWO_ENDS))
+        .expect(rt, "a begin");
+    book
+}
+
+/// How a worker ends that works on layer 0 of two ends with two books, in this order.
+fn ended_over<R: Wait + Abort>(rt: &R, alloc: Global, first: Book, second: Book) -> End {
+    let layer = start_of(rt, alloc, TWO_ENDS);
+    let (ledger, _, own) = one_number(rt, alloc);
+    let mut locks = Vec::new(alloc);
+    locks.push(Mutex::new(first)).expect(rt, "memory");
+    locks.push(Mutex::new(second)).expect(rt, "memory");
+    worked_over(
+        rt,
+        alloc,
+        &layer,
+        locks.as_slice(),
+        &ledger,
+        own,
+        1,
+        0,
+        &Free,
+    )
+}
+
+#[test]
+fn the_first_book_that_does_not_accept_ends_the_worker(rt: HostRuntime) {
+    let alloc = rt.alloc();
+    let full = full_share(&rt, alloc);
+    let other = book_for(&rt, alloc, ONE, AMPLE, WORKERS);
+    assert!(rt; ended_over(&rt, alloc, full, other) == End::Refused(Refusal::Over));
+    let full = full_share(&rt, alloc);
+    let other = book_for(&rt, alloc, ONE, AMPLE, WORKERS);
+    assert!(rt; ended_over(&rt, alloc, other, full) == End::Foreign);
 }

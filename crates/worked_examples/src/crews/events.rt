@@ -1,4 +1,4 @@
-//! The events of each worker in a layer of some hundred ranks.
+//! The events of each worker in a layer of some hundred ranks, and of some thousand.
 ghost use Rattle.std.specs.Prelude.{◌≡◌, false};
 
 use crate::boards::ROOM;
@@ -12,15 +12,34 @@ use std::sync::atomic::{AtomicU64, Ordering};
 use std::thread;
 use std::thread::Threads;
 
-/// The layer whose events are counted, and how many ranks it has.
-const COUNTED: u64 = 6;
+/// A level, the layer whose events are counted, how many ranks that layer has, and what is needed to know the answer.
+#[derive(Clone, Copy)]
+struct Counted {
+    text: &'static [u8],
+    layer: u64,
+    ranks: u64,
+    pushes: u64,
+    positions: u64,
+}
 
-const RANKS: u64 = 233;
+/// The room with three boxes, and its largest layer.
+const SMALL: Counted = Counted {
+    text: ROOM,
+    layer: 6,
+    ranks: 233,
+    pushes: 8,
+    positions: 1053,
+};
 
-/// How many pushes the room takes, and how many positions are needed to know.
-const PUSHES: u64 = 8;
-
-const POSITIONS: u64 = 1053;
+/// A room with five boxes. The search that counted the layers of the other room counted here 1, 18, 141, 670, 2219 and 5533
+/// positions, of which one of the last is solved.
+const LARGE: Counted = Counted {
+    text: b"##########\n#@ .     #\n#  * $ * #\n#    .$  #\n# $      #\n# .      #\n##########\n",
+    layer: 4,
+    ranks: 2219,
+    pushes: 5,
+    positions: 8582,
+};
 
 /// How often a worker that is held looks whether it may go on.
 const TURNS: u32 = 20_000_000;
@@ -30,6 +49,8 @@ const TURNS: u32 = 20_000_000;
 /// handed a parcel back meanwhile.
 #[derive(Drop)]
 struct Meeting {
+    layer: u64,
+    ranks: u64,
     turn: u64,
     workers: u64,
     events: AtomicU64,
@@ -41,12 +62,14 @@ struct Meeting {
 }
 
 impl Meeting {
-    fn new(rt: &impl Abort, alloc: Global, workers: u8, turn: u8) -> Meeting {
+    fn new(rt: &impl Abort, alloc: Global, room: Counted, workers: u8, turn: u8) -> Meeting {
         let mut last = Vec::new(alloc);
         for _ in 0..workers {
             last.push(AtomicU64::new(0)).expect(rt, "memory");
         }
         Meeting {
+            layer: room.layer,
+            ranks: room.ranks,
             turn: turn as u64,
             workers: workers as u64,
             events: AtomicU64::new(0),
@@ -87,7 +110,7 @@ impl Gate for Meeting {
     ghost may_stop = { false };
 
     fn pass(&self, layer: u64, worker: u8, nth: u64) -> bool {
-        if layer != COUNTED {
+        if layer != self.layer {
             return true;
         }
         self.note(worker, nth);
@@ -96,7 +119,7 @@ impl Gate for Meeting {
             self.came.fetch_add(1, Ordering::SeqCst);
             self.hold(&self.came, self.workers);
             if worker as u64 == self.turn && self.workers > 1 {
-                self.hold(&self.events, RANKS + 1);
+                self.hold(&self.events, self.ranks.saturating_add(1));
                 self.let_go.fetch_add(1, Ordering::SeqCst);
             }
         }
@@ -108,12 +131,13 @@ impl Gate for Meeting {
 fn check<R: Threads + Wait + Sync + Abort>(
     rt: &R,
     alloc: Global,
+    room: Counted,
     workers: u8,
     locks: u8,
     turn: u8,
 ) {
-    let gate = Meeting::new(rt, alloc, workers, turn);
-    check_answer(rt, alloc, workers, locks, &gate);
+    let gate = Meeting::new(rt, alloc, room, workers, turn);
+    check_answer(rt, alloc, room, workers, locks, &gate);
     check_gate(rt, &gate, locks);
 }
 
@@ -121,11 +145,12 @@ fn check<R: Threads + Wait + Sync + Abort>(
 fn check_answer<R: Threads + Wait + Sync + Abort>(
     rt: &R,
     alloc: Global,
+    room: Counted,
     workers: u8,
     locks: u8,
     gate: &Meeting,
 ) {
-    let level = level_of(rt, alloc, ROOM);
+    let level = level_of(rt, alloc, room.text);
     let config = Config {
         workers,
         locks,
@@ -133,16 +158,16 @@ fn check_answer<R: Threads + Wait + Sync + Abort>(
         cap: None,
     };
     let answer = solve(rt, alloc, &level, config, gate);
-    assert!(rt;
-        matches!(
-            &answer,
-            Ok(Answer::Solved {
-                pushes: PUSHES,
-                positions: POSITIONS,
+    match &answer {
+        Ok(
+            Answer::Solved {
+                pushes,
+                positions,
                 ..
-            })
-        )
-    );
+            },
+        ) => assert!(rt; *pushes == room.pushes && *positions == room.positions),
+        _ => assert!(rt; false, "the room is solved"),
+    }
 }
 
 /// Checks that no worker waited in vain, that each of them had events, which rise from 1, and that there are as many as ranks
@@ -160,7 +185,7 @@ fn check_gate(rt: &impl Abort, gate: &Meeting, locks: u8) {
         "{workers} workers"
     );
     assert_eq!(rt; gate.came.load(Ordering::SeqCst), workers);
-    let events = RANKS * (1 + locks as u64);
+    let events = gate.ranks.saturating_mul(1 + locks as u64);
     assert_eq!(rt;
         gate.events.load(Ordering::SeqCst),
         events,
@@ -177,7 +202,7 @@ fn check_gate(rt: &impl Abort, gate: &Meeting, locks: u8) {
 #[test]
 fn one_worker_draws_each_rank_and_hands_it_to_each_book(rt: HostRuntime) {
     for locks in [1, 2, 16] {
-        check(&rt, rt.alloc(), 1, locks, 0);
+        check(&rt, rt.alloc(), SMALL, 1, locks, 0);
     }
 }
 
@@ -185,7 +210,7 @@ fn one_worker_draws_each_rank_and_hands_it_to_each_book(rt: HostRuntime) {
 fn two_workers_are_held_in_turn(rt: HostRuntime) {
     for locks in [1, 2, 16] {
         for turn in 0..2 {
-            check(&rt, rt.alloc(), 2, locks, turn);
+            check(&rt, rt.alloc(), SMALL, 2, locks, turn);
         }
     }
 }
@@ -194,7 +219,7 @@ fn two_workers_are_held_in_turn(rt: HostRuntime) {
 fn four_workers_are_held_in_turn(rt: HostRuntime) {
     for locks in [1, 2, 16] {
         for turn in 0..4 {
-            check(&rt, rt.alloc(), 4, locks, turn);
+            check(&rt, rt.alloc(), SMALL, 4, locks, turn);
         }
     }
 }
@@ -202,9 +227,20 @@ fn four_workers_are_held_in_turn(rt: HostRuntime) {
 #[test]
 fn sixteen_workers_are_held_in_turn(rt: HostRuntime) {
     for turn in 0..16 {
-        check(&rt, rt.alloc(), 16, 1, turn);
+        check(&rt, rt.alloc(), SMALL, 16, 1, turn);
     }
     for locks in [2, 16] {
-        check(&rt, rt.alloc(), 16, locks, 15);
+        check(&rt, rt.alloc(), SMALL, 16, locks, 15);
     }
+}
+
+#[test]
+fn sixty_four_workers_are_held_at_once(rt: HostRuntime) {
+    check(&rt, rt.alloc(), SMALL, 64, 1, 63);
+}
+
+#[test]
+fn workers_share_a_layer_of_some_thousand_ranks(rt: HostRuntime) {
+    check(&rt, rt.alloc(), LARGE, 2, 1, 0);
+    check(&rt, rt.alloc(), LARGE, 4, 2, 3);
 }

@@ -1,7 +1,7 @@
-//! Workers that a gate stops change no answer: at each event in turn, at all events, all workers but one.
+//! Workers that a gate stops change no answer.
 ghost use Rattle.std.specs.Prelude.{◌≡◌, true};
 
-use super::solved::DEFAULT_LIMIT;
+use super::DEFAULT_LIMIT;
 use crate::boards::{CORNER, THERE_AND_BACK, TWO_ENDS};
 use crate::books::level_of;
 use crew::{Config, Gate, solve};
@@ -12,14 +12,13 @@ use std::process::Abort;
 use std::sync::{Arc, Wait};
 use std::thread::Threads;
 
-/// A level, its number of layers that are worked on, the most positions of one of them, and its answer: pushes,
-/// positions and moves.
-type Worked = (&'static [u8], u64, u64, (u64, u64, &'static [u8]));
+/// A level, and its answer: pushes, positions and moves.
+type Worked = (&'static [u8], (u64, u64, &'static [u8]));
 
 const LEVELS: [Worked; 3] = [
-    (CORNER, 2, 2, (2, 4, b"uLdlU")),
-    (TWO_ENDS, 2, 2, (2, 4, b"LrR")),
-    (THERE_AND_BACK, 6, 1, (6, 7, b"RRdrruLLLL")),
+    (CORNER, (2, 4, b"uLdlU")),
+    (TWO_ENDS, (2, 4, b"LrR")),
+    (THERE_AND_BACK, (6, 7, b"RRdrruLLLL")),
 ];
 
 const WORKERS: u8 = 2;
@@ -27,7 +26,17 @@ const WORKERS: u8 = 2;
 /// Numbers of locks that are tried. Each position is drawn once and handed back once to each of so many books.
 const LOCKS: [u8; 3] = [1, 2, 4];
 
-const MOST_EVENTS: u64 = 5;
+/// When workers are stopped: always, all but one, and at some event of one.
+const STOPS: [Stops; 8] = [
+    Stops::Always,
+    Stops::Others(0),
+    Stops::Others(1),
+    Stops::At(0, 0, 1),
+    Stops::At(0, 0, 2),
+    Stops::At(1, 0, 1),
+    Stops::At(1, 0, 3),
+    Stops::At(1, 1, 2),
+];
 
 /// When a gate stops a worker.
 #[derive(Clone, Copy)]
@@ -53,37 +62,11 @@ impl Gate for Stops {
 }
 
 #[test]
-fn a_worker_is_stopped_at_each_event(rt: HostRuntime) {
-    for worked in LEVELS {
-        let level = level_of(&rt, rt.alloc(), worked.0);
-        for layer in 0..worked.1 {
-            for nth in 1..=worked.2.saturating_mul(MOST_EVENTS) {
-                check_workers(&rt, rt.alloc(), &level, layer, nth, worked.3);
-            }
-        }
-    }
-}
-
-// Checks the answer where each worker in turn is stopped at an event.
-fn check_workers(
-    rt: &(impl Abort + Threads + Wait + Sync),
-    alloc: Global,
-    level: &Arc<Level>,
-    layer: u64,
-    nth: u64,
-    answer: (u64, u64, &[u8]),
-) {
-    for worker in 0..WORKERS {
-        check_answer(rt, alloc, level, Stops::At(layer, worker, nth), answer);
-    }
-}
-
-#[test]
-fn workers_are_always_stopped(rt: HostRuntime) {
-    for worked in LEVELS {
-        let level = level_of(&rt, rt.alloc(), worked.0);
-        for stops in [Stops::Always, Stops::Others(0), Stops::Others(1)] {
-            check_answer(&rt, rt.alloc(), &level, stops, worked.3);
+fn stopped_workers_change_no_answer(rt: HostRuntime) {
+    for (text, answer) in LEVELS {
+        let level = level_of(&rt, rt.alloc(), text);
+        for stops in STOPS {
+            check_answer(&rt, rt.alloc(), &level, stops, answer);
         }
     }
 }

@@ -14,7 +14,8 @@ hand_to-requires g c =
 pub returns-in_err-hand_to-clause-ends : goal.returns-in_err-hand_to-clause-ends
 returns-in_err-hand_to-clause-ends g c =
     let is = c.in_err-hand_to.ensures in
-    let ended : HasEnded g.G.Gate.may_stop c.args.post.now.shift.now.layer c.args.post.now.worker c.lock_or_draw.new.drawer.hand c.in_err-hand_to.field-0.0 =
+    let ended : HasEnded g.G.Gate.may_stop c.args.post.now.shift.now.layer c.args.post.now.shift.now.workers c.args.post.now.worker
+    c.lock_or_draw.new.drawer.hand c.in_err-hand_to.field-0.0 =
     record { may = is.end; left = is.hand c.lock_or_draw.new.drawer.hand; answered = is.answered } in search (rules, ended)
 
 pub returns-in_err-guard-clause-gate : goal.returns-in_err-guard-clause-gate

@@ -1,4 +1,4 @@
-use Rattle.std.proofs.Common.{◌≡◌, ◌∙◌, ◌++◌, rules, sym, subst}
+use Rattle.std.proofs.Common.{◌≡◌, ◌∙◌, ◌++◌, inr, rules, sym, subst}
 use Rattle.std.specs.Cmp.Rules.{comparing}
 use Rattle.std.specs.Prelude.{IfSome, Some}
 use Rattle.layers.specs.inside.Merging.{AreTaken}
@@ -27,3 +27,6 @@ pub returns-clause-stretch : goal.returns-clause-stretch
 returns-clause-stretch c =
     let s = c.args.stretch.now in
     subst (λ o. IfSome o (λ (x : Merged). AreTaken c.args.books.now s.starts.items x.ends.items x.squares.items x.origins.items)) (sym c.take.ensures.after) tt
+
+pub returns-clause-taken : goal.returns-clause-taken
+returns-clause-taken c = inr (λ i. record c.args.stretch.now { merged = c.take.ensures.after i })

@@ -3,21 +3,27 @@ use Rattle.layers.specs.declared.limits.TheConstants.{MOST_POSITIONS}
 use Rattle.successors.specs.Reaching.{total}
 use Rattle.layers.specs.BookView.{last_list}
 use Rattle.layers.specs.inside.Merging.{AreMerged, AreTaken, left_of}
-use Rattle.layers.proofs.Stretches.{all_taken, left_all, none_taken}
+use Rattle.layers.proofs.Stretches.{all_kept, all_taken, left_all, none_taken}
 use Rattle.layers.proofs.stretch.put_together.Goals as goal
 
 pub count_all-count-requires : goal.count_all-count-requires
 count_all-count-requires c = subst (λ xs. total xs ≤ MOST_POSITIONS) (sym (c.as_slice.ensures.value ∙ c.in_ok-whole.ensures ∙ left_all c.args.books.now))
     c.requires.few
 
-pub returns : goal.returns
-returns c =
+pub returns-clause-merged : goal.returns-clause-merged
+returns-clause-merged c =
     let books = c.args.books.now in let m = c.append_each.new.whole in
     let zeros = none_taken books c.in_ok-vec.field-0.items c.new.result.items c.new-2.result.items (length books)
     (c.in_ok-vec.ensures.items_if_clones_equal (λ y e. e)) c.new.ensures.items c.new-2.ensures.items in
-    let all : AreTaken books [] m.ends.items m.squares.items m.origins.items = c.in_ok-append_each.ensures [] zeros c.if-not-branch.false in
+    let all : AreTaken books [] m.ends.items m.squares.items m.origins.items = c.in_ok-append_each.ensures.follow [] zeros c.if-not-branch.false in
     let none : total (left_of books m.ends.items) ≡ 0 = ap (λ ns. total (left_of books ns)) (sym c.as_slice-2.ensures.value)
     ∙ ap total (sym (c.as_slice-3.ensures.value ∙ c.in_ok-rests.ensures)) ∙ c.if-not-is_none_left.ensures refl in
     let count = c.count_all-count.ensures ∙ ap total (c.as_slice.ensures.value ∙ c.in_ok-whole.ensures ∙ left_all books) in
     subst (λ n. AreMerged (map last_list books) n m.squares.items m.origins.items) (sym count)
     (all_taken books m.ends.items m.squares.items m.origins.items all none)
+
+pub returns-in_err-whole-clause-stretches : goal.returns-in_err-whole-clause-stretches
+returns-in_err-whole-clause-stretches c = all_kept c.args.stretches.now
+
+pub returns-in_err-vec-clause-stretches : goal.returns-in_err-vec-clause-stretches
+returns-in_err-vec-clause-stretches c = all_kept c.args.stretches.now

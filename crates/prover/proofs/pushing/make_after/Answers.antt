@@ -6,7 +6,7 @@ use Rattle.area.specs.Area.{IsNorm}
 use Rattle.grid.proofs.lemmas.Squares.{contains-insert_here}
 use Rattle.grid.proofs.lemmas.Steps.{inside_grid}
 use Rattle.doom.specs.Lost.{AreLost, LosesBox}
-use Rattle.prover.specs.Pruning.{after_push}
+use Rattle.successors.specs.Expansion.{after_push}
 use Rattle.prover.proofs.lemmas.Pruning.{after_fits, after_scene}
 use Rattle.prover.proofs.pushing.make_after.Goals as goal
 

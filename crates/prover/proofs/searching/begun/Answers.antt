@@ -1,8 +1,15 @@
-use Rattle.std.proofs.Common.{subst}
-use Rattle.grid.specs.Board.{Scene}
-use Rattle.area.specs.Area.{IsNorm}
+use Rattle.std.proofs.Common.{◌∙◌}
+use Rattle.store.proofs.lemmas.Fitting.{level_fits}
+use Rattle.prover.proofs.Steps.{under_way_first}
 use Rattle.prover.proofs.searching.begun.Goals as goal
 
-pub entered-requires-clause-norm : goal.entered-requires-clause-norm
-entered-requires-clause-norm c =
-    subst (λ (s : Scene). IsNorm c.args.level.now s c.normal-normal.result) c.requires.first c.normal-normal.ensures.norm
+pub open_at-requires : goal.open_at-requires
+open_at-requires c = level_fits c.args.level.now _ _ c.args.normal.now c.of-frontier.ensures.size.0 c.of-frontier.ensures.size.1 c.requires.fits
+
+pub returns : goal.returns
+returns c = record {
+  under_way = under_way_first c.args.level.now c.args.cap c.of-frontier.result.entries c.open_at.new.self.entries c.args.normal.now c.requires.norm
+      c.requires.fits c.of-frontier.ensures.entries c.in_ok-open_at.ensures.enters;
+  boxes = c.in_ok-open_at.ensures.size.0 ∙ c.of-frontier.ensures.size.0;
+  squares = c.in_ok-open_at.ensures.size.1 ∙ c.of-frontier.ensures.size.1;
+}

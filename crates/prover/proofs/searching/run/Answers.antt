@@ -1,13 +1,37 @@
-use Rattle.std.proofs.Common.{◌≤◌, length, ap, subst, arith}
+use Rattle.std.proofs.Common.{rules, ◌≡◌, ◌<◌, length, sym, subst}
+use Rattle.grid.specs.Board.{Board, Scene, IsSolved}
 use Rattle.grid.specs.Lawful.{IsLevel}
-use Rattle.prover.specs.inside.Entries.{EntriesView}
-use Rattle.prover.proofs.Progressing.{none_is_left}
+use Rattle.store.specs.Visited.{VisitedView}
+use Rattle.prover.specs.inside.Working.{IsSearched}
+use Rattle.prover.proofs.Steps.{has_more, least_told, none_is_allowed, solved_told}
 use Rattle.prover.proofs.searching.run.Goals as goal
 
-pub returns-then-from-end-clause-through : goal.returns-then-from-end-clause-through
-returns-then-from-end-clause-through g c = λ through.
-    let board = c.args.aim.now.pruner.now in
-    let level : IsLevel board = subst IsLevel c.level.ensures c.tell.ensures in
-    let size = ap (λ (v : EntriesView). length v.seen) c.entries.ensures in
-    let over : length c.loop.store.seen ≤ c.loop.from = omega (arith, c.if-from-end.true, c.len-end.ensures, size) in
-    none_is_left board c.args.aim.now.most c.loop.store.seen c.loop.from level c.loop.invariant.under_way over
+pub returns-then-solved-clause-tells : goal.returns-then-solved-clause-tells
+returns-then-solved-clause-tells c =
+    let board = c.args.pruner.now.board in
+    let cap = c.args.pruner.now.cap in
+    let searched = subst (λ (v : VisitedView). IsSearched board cap v) (sym c.least_open.ensures.same) c.loop-place.invariant.searched in
+    let level : IsLevel board = subst (λ (b : Board). IsLevel b) c.level.ensures c.tell.ensures in
+    solved_told board cap c.least_open.new.self.entries c.in-Some.place c.in-Some.least level searched.under_way c.in-Some.ensures.some
+    (λ x at. subst (λ (s : Scene). IsSolved board s) (c.position.ensures x at)
+    (subst (λ (b : Board). IsSolved b c.position.result) c.level-in-Some.ensures (c.is_solved-solved.ensures.0 c.if-solved.true)))
+
+pub returns-then-len-limit-clause-tells : goal.returns-then-len-limit-clause-tells
+returns-then-len-limit-clause-tells c =
+    let board = c.args.pruner.now.board in
+    let cap = c.args.pruner.now.cap in
+    let all = c.least_open.new.self.entries in
+    let searched = subst (λ (v : VisitedView). IsSearched board cap v) (sym c.least_open.ensures.same) c.loop-place.invariant.searched in
+    let level : IsLevel board = subst (λ (b : Board). IsLevel b) c.level.ensures c.tell.ensures in
+    let many : c.args.limit < length all = search rules in (
+      least_told board cap all c.in-Some.place c.in-Some.least level searched.under_way c.in-Some.ensures.some,
+      has_more board cap all c.args.limit searched.under_way c.tell-then-len-limit.ensures many,
+    )
+
+pub returns-clause-tells : goal.returns-clause-tells
+returns-clause-tells c =
+    let board = c.args.pruner.now.board in
+    let cap = c.args.pruner.now.cap in
+    let searched = subst (λ (v : VisitedView). IsSearched board cap v) (sym c.least_open.ensures.same) c.loop-place.invariant.searched in
+    let level : IsLevel board = subst (λ (b : Board). IsLevel b) c.level.ensures c.tell.ensures in
+    none_is_allowed board cap c.least_open.new.self.entries level searched.under_way c.in_default.ensures.none

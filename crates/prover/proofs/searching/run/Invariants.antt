@@ -1,13 +1,12 @@
-use Rattle.std.proofs.Common.{◌≤◌, length}
-use Rattle.prover.specs.inside.Benches.{AreReady}
-use Rattle.prover.specs.inside.Entries.{Grows}
-use Rattle.prover.specs.inside.Progress.{IsUnderWay}
+use Rattle.std.proofs.Common.{◌≡◌, ◌+◌, length, cond, nat_lt}
+use Rattle.prover.specs.inside.Working.{IsSearched, turns_left}
 use Rattle.prover.proofs.searching.run.Given as goal
 
-abbrev pub invariant-loop : goal.invariant-loop
-invariant-loop g l = record {
-  under_way : IsUnderWay l.aim.pruner.now l.aim.most l.store.seen l.from;
-  within : l.from ≤ length l.store.seen;
-  grows : Grows l.fn.store l.store;
-  ready : AreReady l.aim.pruner.now l.benches l.sieves;
+abbrev pub invariant-loop-place : goal.invariant-loop-place
+invariant-loop-place l = record {
+  searched : IsSearched l.pruner.board l.pruner.cap l.frontier;
+  room : l.desk.scratch.size ≡ l.fn.desk.scratch.size;
 }
+
+abbrev pub decreases-loop-place : goal.decreases-loop-place
+decreases-loop-place l = cond (nat_lt l.limit (length l.frontier.entries)) 0 (1 + turns_left l.limit l.frontier.entries)

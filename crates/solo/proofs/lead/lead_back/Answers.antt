@@ -1,5 +1,5 @@
 use Rattle.std.proofs.Common.{refl, sym, subst, ◌∙◌}
-use Rattle.solo.specs.inside.LeastPlays.{IsLeadAt}
+use Rattle.solo.specs.inside.LeadsBack.{IsLeadAt}
 use Rattle.solo.specs.inside.Searched.{AreTrailed}
 use Rattle.solo.proofs.ReadingBack.{back_start, back_on, told_same}
 use Rattle.solo.proofs.lead.lead_back.Goals as goal

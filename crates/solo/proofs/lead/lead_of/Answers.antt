@@ -1,7 +1,7 @@
 use Rattle.std.proofs.Common.{◌-◌, List, length, map, reverse, sym, subst, arith}
 use Rattle.grid.specs.declared.square.Push.{Push}
 use Rattle.solo.specs.Leads.{last_places}
-use Rattle.solo.specs.inside.LeastPlays.{IsReadBack, IsLeadAt}
+use Rattle.solo.specs.inside.LeadsBack.{IsReadBack, IsLeadAt}
 use Rattle.solo.proofs.ReadingBack.{read_first, read_some, read_none, read_done}
 use Rattle.solo.proofs.lead.lead_of.Goals as goal
 

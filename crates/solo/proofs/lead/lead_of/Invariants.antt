@@ -2,7 +2,7 @@ use Rattle.std.proofs.Common.{◌-◌, ◌<◌, ◌≤◌, List, length, map, re
 use Rattle.successors.specs.Tasks.{Task}
 use Rattle.layers.specs.LayerView.{LayerView}
 use Rattle.solo.specs.Leads.{last_places}
-use Rattle.solo.specs.inside.LeastPlays.{IsReadBack}
+use Rattle.solo.specs.inside.LeadsBack.{IsReadBack}
 use Rattle.solo.specs.inside.Searched.{AreTrailed}
 use Rattle.solo.proofs.lead.lead_of.Given as goal
 

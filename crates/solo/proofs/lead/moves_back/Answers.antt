@@ -3,7 +3,7 @@ use Rattle.std.proofs.lemmas.Result.{IfOk-weaker}
 use Rattle.std.specs.Prelude.{slice_get}
 use Rattle.grid.specs.Board.{Scene}
 use Rattle.solo.specs.Leads.{WritesLead}
-use Rattle.solo.specs.inside.LeastPlays.{WritesLeastPlay}
+use Rattle.successors.specs.LeastPlays.{WritesLeastPlay}
 use Rattle.solo.proofs.ReadingBack.{lead_played, lead_moves}
 use Rattle.solo.proofs.lead.moves_back.Goals as goal
 

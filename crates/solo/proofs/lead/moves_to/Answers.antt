@@ -4,7 +4,7 @@ use Rattle.std.specs.Prelude.{slice_get}
 use Rattle.grid.specs.Board.{Scene}
 use Rattle.successors.specs.Tasks.{Task}
 use Rattle.solo.specs.Leads.{WritesLead, level_of, last_places}
-use Rattle.solo.specs.inside.LeastPlays.{WritesLeastPlay}
+use Rattle.successors.specs.LeastPlays.{WritesLeastPlay}
 use Rattle.solo.proofs.ReadingBack.{first_level, own_trail, lead_played, lead_moves}
 use Rattle.solo.proofs.lead.moves_to.Goals as goal
 

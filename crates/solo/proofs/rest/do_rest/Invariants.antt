@@ -1,11 +1,18 @@
-use Rattle.std.proofs.Common.{◌≡◌, ◌≤◌, length}
+use Rattle.std.proofs.Common.{◌≡◌, ℕ, ◌<◌, ◌≤◌, length, Some}
+use Rattle.std.specs.Prelude.{slice_get}
 use Rattle.successors.specs.declared.limits.TheConstants.{MAX_SHARES}
+use Rattle.layers.specs.BookView.{BookView}
+use Rattle.layers.specs.Books.{AllDone}
 use Rattle.solo.specs.inside.Together.{AreStill}
+use Rattle.solo.specs.inside.Turns.{IsDoneBy}
+use Rattle.solo.proofs.Each.{HaveChangedUpTo}
 use Rattle.solo.proofs.rest.do_rest.Given as goal
 
 abbrev pub invariant-loop-place : goal.invariant-loop-place
 invariant-loop-place l = record {
   still : AreStill l.layer l.fn.books l.books;
+  credited : HaveChangedUpTo (IsDoneBy l.worker) l.fn.books l.place l.books;
+  done : (i : ℕ) (v : BookView) → i < l.place → slice_get l.books i ≡ Some v → AllDone v;
   few : length l.books ≤ MAX_SHARES;
   size : l.scratch.size ≡ l.fn.scratch.size;
 }

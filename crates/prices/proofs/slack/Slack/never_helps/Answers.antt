@@ -1,4 +1,5 @@
-use Rattle.std.proofs.Common.{◌≡◌, ◌+◌, ◌≤◌, ℕ, true, suc, List, drop, length, take, sym, ap, subst, ◌∙◌, arith}
+use Rattle.std.proofs.Common.{◌≡◌, ◌+◌, ◌≤◌, ℕ, true, not, suc, Some, List, drop, length, take, sym, ap, subst, ◌∙◌, arith}
+use Rattle.std.specs.Option.{is_some}
 use Rattle.std.proofs.lemmas.Bool.{leb-true}
 use Rattle.grid.specs.Board.{next}
 use Rattle.grid.specs.Squares.{contains}
@@ -6,7 +7,8 @@ use Rattle.grid.proofs.lemmas.Steps.{inside_grid}
 use Rattle.prices.specs.Helping.{NeverHelps, SlackView}
 use Rattle.prices.specs.inside.Slacks.{tolls_of}
 use Rattle.prices.specs.inside.Sums.{need_by, need_seen}
-use Rattle.prices.proofs.Slacks.{dear_never_helps}
+use Rattle.prices.specs.Solving.{Allows}
+use Rattle.prices.proofs.Slacks.{dear_never_helps, never_under}
 use Rattle.prices.proofs.slack.Slack.never_helps.Goals as goal
 
 pub next-ahead-requires : goal.next-ahead-requires
@@ -38,6 +40,8 @@ returns c told =
     let more : c.saturating_add.result ≤ c.from.result = leb-true c.saturating_add.result c.from.result told in
     let dear : a.spare + need_seen t tolls b s.player ≤ c.need-after.result =
     omega (arith, more, seen, c.saturating_add.ensures, c.from.ensures, c.from-2.ensures, c.need-after.ensures.most) in
-    let never = dear_never_helps level t tolls (suc a.left) a.spare c.need-after.result s b d c.self.invariant.far c.self.invariant.goals size
-    c.self.invariant.scene there (c.self.invariant.spare size) low dear in
-    subst (λ (v : SlackView). NeverHelps v.board (suc v.left) v.scene b d) c.self.view_is never
+    let some : is_some a.left ≡ true = c.is_none.ensures ∙ ap not c.if-is_none.false in
+    let never = never_under level a.left s b d some (λ (left : ℕ) (is : a.left ≡ Some left).
+    dear_never_helps level t tolls (suc left) a.spare c.need-after.result s b d c.self.invariant.far c.self.invariant.goals size
+    c.self.invariant.scene there (c.self.invariant.spare left is size) low dear) in
+    subst (λ (v : SlackView). (m : ℕ) → Allows v.left m → NeverHelps v.board (suc m) v.scene b d) c.self.view_is never

@@ -1,0 +1,178 @@
+//! Books of several shares: each closes its own positions, and all of them are joined into the whole layers.
+ghost use Rattle.std.specs.Prelude.{◌≡◌, ℕ, Some, slice_get};
+ghost use Rattle.layers.specs.inside.Merging.{IsStretchOf};
+
+use super::traces::{
+    CORNER_LAYERS, HALL_LAYERS, ONE_LAYERS, THERE_AND_BACK_LAYERS, TWO_ENDS_LAYERS,
+};
+use super::{AMPLE, Place, check_places, level_of, work_through};
+use crate::boards::{CORNER, HALL, ONE, THERE_AND_BACK, TWO_ENDS};
+use layers::{Book, JoinFault, Layer, Parents, Stretch};
+use std::alloc::Global;
+use std::process::Abort;
+
+// A book of a share of a level, with one worker.
+fn share_of(
+    rt: &impl Abort,
+    alloc: Global,
+    text: &[u8],
+    limit: u32,
+    share: u8,
+    shares: u8,
+) -> Book {
+    assert!(rt; limit >= 1);
+    assert!(rt; share < shares);
+    assert!(rt; shares <= 16);
+    let level = level_of(rt, alloc, text);
+    Book::of(alloc, level, None, limit, 1, share, shares).expect(rt, "a book")
+}
+
+// The books of all the shares of a level, in order.
+fn shares_of(rt: &impl Abort, alloc: Global, text: &[u8], shares: u8) -> Vec<Book> {
+    let mut books = Vec::new(alloc);
+    for share in 0..shares {
+        books
+            .push(share_of(rt, alloc, text, AMPLE, share, shares))
+            .expect(rt, "memory");
+    }
+    books
+}
+
+// How many positions the books close together once each rank of the layer was handed back to them.
+fn close_all(
+    rt: &impl Abort,
+    alloc: Global,
+    books: &mut [Book],
+    layer: &Layer,
+    turned: bool,
+) -> u64 {
+    let mut count: u64 = 0;
+    for place in 0..books.len() {
+        let closed = work_through(rt, alloc, &mut books[place], layer, turned);
+        count = count.saturating_add(closed);
+    }
+    count
+}
+
+// The last closed layer of all the books.
+fn joined(rt: &impl Abort, alloc: Global, books: &[Book]) -> Layer {
+    Layer::join(alloc, books).expect(rt, "a layer")
+}
+
+// A way to come to the layers of a level: the number of shares that its positions are dealt to, and whether parcels come from
+// the last rank on.
+type Way = (u8, bool);
+
+// Checks the layers of a level.
+fn check_layers(rt: &impl Abort, alloc: Global, text: &[u8], layers: &[&[Place]], way: Way) {
+    let (shares, turned) = way;
+    let mut books = shares_of(rt, alloc, text, shares);
+    for (number, places) in layers.iter().enumerate() {
+        check_layer(
+            rt,
+            alloc,
+            books.as_mut_slice(),
+            number as u64,
+            places,
+            turned,
+        );
+    }
+}
+
+// Checks the last layer of all the books, and closes the next one.
+fn check_layer(
+    rt: &impl Abort,
+    alloc: Global,
+    books: &mut [Book],
+    number: u64,
+    places: &[Place],
+    turned: bool,
+) {
+    let layer = joined(rt, alloc, books);
+    assert_eq!(rt; layer.number(), number);
+    check_places(rt, &layer, places);
+    let count = close_all(rt, alloc, books, &layer, turned);
+    assert_eq!(rt; joined(rt, alloc, books).len(), count);
+}
+
+#[test]
+fn layers_are_those_worked_by_hand(rt: HostRuntime) {
+    let cases = [
+        (ONE, ONE_LAYERS),
+        (CORNER, CORNER_LAYERS),
+        (HALL, HALL_LAYERS),
+        (TWO_ENDS, TWO_ENDS_LAYERS),
+        (THERE_AND_BACK, THERE_AND_BACK_LAYERS),
+    ];
+    for (text, layers) in cases {
+        for shares in [1, 2, 3, 16] {
+            check_layers(&rt, rt.alloc(), text, layers, (shares, false));
+            check_layers(&rt, rt.alloc(), text, layers, (shares, true));
+        }
+    }
+}
+
+#[test]
+fn layers_are_joined_in_room_and_in_stretches(rt: HostRuntime) {
+    let mut books = shares_of(&rt, rt.alloc(), CORNER, 3);
+    let start = joined(&rt, rt.alloc(), books.as_slice());
+    close_all(&rt, rt.alloc(), books.as_mut_slice(), &start, false);
+    check_joins(&rt, rt.alloc(), books.as_slice(), start);
+}
+
+// Checks layer 1 of the corner, joined in the room that layer 0 left, and in stretches of a position or more.
+fn check_joins(rt: &impl Abort, alloc: Global, books: &[Book], start: Layer) {
+    let [_, places, _] = CORNER_LAYERS else {
+        panic!(rt; "three layers");
+    };
+    let (_, room) = Parents::of(start);
+    let layer = Layer::join_in(alloc, books, room).expect(rt, "a layer");
+    check_places(rt, &layer, places);
+    let layer = stretched(alloc, books).expect(rt, "a layer");
+    check_places(rt, &layer, places);
+}
+
+// The layer that the books closed last, joined in stretches of a position or more.
+fn stretched(alloc: Global, books: &[Book]) -> Result<Layer, JoinFault> {
+    let Ok(mut stretches) = Stretch::all(alloc, books, 3, 1, Vec::new(alloc)) else {
+        return Err(JoinFault::OutOfMemory);
+    };
+    merge_each(alloc, books, stretches.as_mut_slice());
+    Layer::join_stretches(alloc, books, stretches.as_mut_slice())
+}
+
+// Merges each of the stretches.
+fn merge_each(alloc: Global, books: &[Book], stretches: &mut [Stretch])
+    ensures { (i : ℕ) (s : Stretch) → slice_get stretches.new i ≡ Some s → IsStretchOf books.now s }
+{
+    for place in 0..stretches.len() {
+        stretches[place].merge(alloc, books);
+    }
+}
+
+#[test]
+fn only_all_shares_in_order_are_joined(rt: HostRuntime) {
+    let mut books = shares_of(&rt, rt.alloc(), TWO_ENDS, 2);
+    check_parts(&rt, rt.alloc(), books.as_slice());
+    check_turned(&rt, rt.alloc(), books.as_mut_slice());
+}
+
+// Checks that none of two books alone, and no empty list, is joined.
+fn check_parts(rt: &impl Abort, alloc: Global, books: &[Book]) {
+    assert!(rt; books.len() == 2);
+    check_not_whole(rt, alloc, &books[..1]);
+    check_not_whole(rt, alloc, &books[1..]);
+    check_not_whole(rt, alloc, &books[..0]);
+}
+
+// Checks that two books are not joined the other way round.
+fn check_turned(rt: &impl Abort, alloc: Global, books: &mut [Book]) {
+    assert!(rt; books.len() == 2);
+    books.swap(0, 1);
+    check_not_whole(rt, alloc, books);
+}
+
+// Checks that books are not joined since they are not all the shares in order.
+fn check_not_whole(rt: &impl Abort, alloc: Global, books: &[Book]) {
+    assert_eq!(rt; Layer::join(alloc, books).err(), Some(JoinFault::NotWhole));
+}

@@ -1,0 +1,172 @@
+-- How positions enter, over plain lists.
+use Rattle.std.proofs.Common.{◌≡◌, ◌≢◌, ℕ, zero, suc, ◌+◌, ◌-◌, ◌*◌, ◌≤◌, ◌<◌, ◌⊎◌, List, [], ◌∷◌, ◌++◌, length, Option, None, Some, inl, inr, refl, sym, ap}
+use Rattle.std.proofs.Common.{subst, ◌∙◌, arith, set}
+use Rattle.std.proofs.lemmas.Bool.{cases_eq}
+use Rattle.std.proofs.lemmas.List.{length-append, length-set}
+use Rattle.std.proofs.lemmas.Option.{none-some, same_Some, slice_get_within}
+use Rattle.std.specs.Prelude.{slice_get}
+use Rattle.store.specs.Visited.{Entry, HasEntered, IsNew}
+use Rattle.prover.specs.inside.Working.{Enters, GoesOn, openness, turns, turns_left}
+
+-- ---- lists
+
+pub in_front : {A : Type 0} (xs ys : List A) (i : ℕ) (x : A) → slice_get xs i ≡ Some x → slice_get (xs ++ ys) i ≡ Some x
+in_front [] ys i x e = absurd (let lt = slice_get_within [] i x e in omega (arith, lt))
+in_front (z ∷ xs) ys zero x e = e
+in_front (z ∷ xs) ys (suc i) x e = in_front xs ys i x e
+
+last_at : {A : Type 0} (xs : List A) (y : A) → slice_get (xs ++ y ∷ []) (length xs) ≡ Some y
+last_at [] y = refl
+last_at (x ∷ xs) y = last_at xs y
+
+-- what stands in a list with one more stood there, or is that one, at the end
+pub either_at : {A : Type 0} (xs : List A) (y : A) (i : ℕ) (x : A) → slice_get (xs ++ y ∷ []) i ≡ Some x →
+    (slice_get xs i ≡ Some x) ⊎ ((i ≡ length xs) × (x ≡ y))
+either_at [] y zero x e = inr (refl, sym (same_Some y x e))
+either_at [] y (suc i) x e = absurd (let lt = slice_get_within (y ∷ []) (suc i) x e in omega (arith, lt))
+either_at (z ∷ xs) y zero x e = inl e
+either_at (z ∷ xs) y (suc i) x e = elim (either_at xs y i x e) [
+  | inl h ↦ inl h
+  | inr (p, q) ↦ inr (ap suc p, q)
+]
+
+pub set_here : {A : Type 0} (xs : List A) (i : ℕ) (x y : A) → slice_get xs i ≡ Some x → slice_get (set xs i y) i ≡ Some y
+set_here [] i x y e = absurd (none-some x e)
+set_here (z ∷ xs) zero x y e = refl
+set_here (z ∷ xs) (suc i) x y e = set_here xs i x y e
+
+pub set_there : {A : Type 0} (xs : List A) (i j : ℕ) (y : A) → j ≢ i → slice_get (set xs i y) j ≡ slice_get xs j
+set_there [] i j y ne = refl
+set_there (z ∷ xs) zero zero y ne = absurd (ne refl)
+set_there (z ∷ xs) zero (suc j) y ne = refl
+set_there (z ∷ xs) (suc i) zero y ne = refl
+set_there (z ∷ xs) (suc i) (suc j) y ne = set_there xs i j y (λ e. ne (ap suc e))
+
+-- what stands in a list after a write is what was written, or stood there
+pub set_either : {A : Type 0} (xs : List A) (i j : ℕ) (x y z : A) → slice_get xs i ≡ Some x → slice_get (set xs i y) j ≡ Some z →
+    ((j ≡ i) × (z ≡ y)) ⊎ ((j ≢ i) × (slice_get xs j ≡ Some z))
+set_either xs i j x y z here e = elim (cases_eq j i) [
+  | inl same ↦ inl (same, sym (same_Some y z (sym (set_here xs i x y here) ∙ (ap (λ (k : ℕ). slice_get (set xs i y) k) (sym same) ∙ e))))
+  | inr ne ↦ inr (ne, sym (set_there xs i j y ne) ∙ e)
+]
+
+-- what stands at a place before the end
+pub in_range : {A : Type 0} (xs : List A) (i : ℕ) → i < length xs → (x : A) × (slice_get xs i ≡ Some x)
+in_range [] i lt = absurd (omega (arith, lt))
+in_range (x ∷ xs) zero lt = (x, refl)
+in_range (x ∷ xs) (suc i) lt = in_range xs i (omega (arith, lt))
+
+-- ---- turns
+
+turns_added : (xs : List Entry) (y : Entry) → turns (xs ++ y ∷ []) ≡ turns xs + (2 * y.pushes + openness y.least)
+turns_added [] y = omega arith
+turns_added (x ∷ xs) y = let e = turns_added xs y in omega (arith, e)
+
+pub turns_set : (xs : List Entry) (i : ℕ) (x y : Entry) → slice_get xs i ≡ Some x →
+    turns (set xs i y) + (2 * x.pushes + openness x.least) ≡ turns xs + (2 * y.pushes + openness y.least)
+turns_set [] i x y e = absurd (none-some x e)
+turns_set (z ∷ xs) zero x y e =
+    let p = ap (λ (w : Entry). w.pushes) (same_Some z x e) in
+    let o = ap (λ (w : Entry). openness w.least) (same_Some z x e) in
+    omega (arith, p, o)
+turns_set (z ∷ xs) (suc i) x y e = let f = turns_set xs i x y e in omega (arith, f)
+
+pub few_open : (o : Option ℕ) → openness o ≤ 1
+few_open None = omega arith
+few_open (Some n) = omega arith
+
+pub same_turns : (old new : List Entry) → new ≡ old → GoesOn old new
+same_turns old new e = subst (λ (xs : List Entry). GoesOn old xs) (sym e) (record { more = omega arith; turns = λ limit le. omega arith })
+
+added_turns : (old : List Entry) (y : Entry) → y.pushes ≤ length old → GoesOn old (old ++ y ∷ [])
+added_turns old y few =
+    let long = length-append old (y ∷ []) in record {
+      more = omega (arith, long);
+      turns = λ limit le.
+          (let sum = turns_added old y in
+          let one = few_open y.least in
+          let step : (limit - length old) * (2 * limit + 2) ≡
+          (limit - length (old ++ y ∷ [])) * (2 * limit + 2) + (2 * limit + 2) =
+          one_less limit (length old) (length (old ++ y ∷ [])) (omega (arith, long)) le in
+          omega (arith, sum, one, step, few, long, le));
+    }
+  where
+    one_less : (limit n m : ℕ) → m ≡ suc n → m ≤ limit → (limit - n) * (2 * limit + 2) ≡ (limit - m) * (2 * limit + 2) + (2 * limit + 2)
+    one_less limit n m e le = let f : limit - n ≡ suc (limit - m) = omega (arith, e, le) in ap (λ (k : ℕ). k * (2 * limit + 2)) f ∙ omega arith
+
+-- a write that lessens an entry lessens the turns
+pub fewer_turns : (old : List Entry) (i limit : ℕ) (x y : Entry) → slice_get old i ≡ Some x →
+    2 * y.pushes + openness y.least < 2 * x.pushes + openness x.least → turns_left limit (set old i y) < turns_left limit old
+fewer_turns old i limit x y at less =
+    let sum = turns_set old i x y at in
+    let long = length-set old i y in
+    let same : (limit - length (set old i y)) * (2 * limit + 2) ≡ (limit - length old) * (2 * limit + 2) = ap (λ (k : ℕ). (limit - k) * (2 * limit + 2)) long in
+    omega (arith, sum, same, less)
+
+-- ---- a position enters
+
+entered_new : (old : List Entry) (e : Entry) → IsNew old e.position → Enters old (old ++ e ∷ []) e
+entered_new old e fresh = record {
+  still = λ i x at. (x, in_front old (e ∷ []) i x at, refl, omega arith);
+  below = λ i x at le. in_front old (e ∷ []) i x at;
+  found = (length old, e, last_at old e, refl, omega arith);
+  each = λ i z at. elim (either_at old e i z at) [
+    | inl h ↦ inl h
+    | inr (p, q) ↦ inr q
+  ];
+  few = λ low few i z at. (let long = length-append old (e ∷ []) in elim (either_at old e i z at) [
+    | inl h ↦ (let lt = few i z h in omega (arith, lt, long))
+    | inr (p, q) ↦ (let same = ap (λ (w : Entry). w.pushes) q in omega (arith, low, long, same))
+  ]);
+  goes_on = λ low. added_turns old e low;
+}
+
+-- one with as few pushes has the position already
+entered_before : (old : List Entry) (e x : Entry) (i : ℕ) → slice_get old i ≡ Some x → x.position ≡ e.position → x.pushes ≤ e.pushes → Enters old old e
+entered_before old e x i at same le = record {
+  still = λ j y there. (y, there, refl, omega arith);
+  below = λ j y there few. there;
+  found = (i, x, at, same, le);
+  each = λ j y there. inl there;
+  few = λ low few. few;
+  goes_on = λ low. same_turns old old refl;
+}
+
+-- it was found with more pushes
+entered_again : (old : List Entry) (e x : Entry) (i : ℕ) → slice_get old i ≡ Some x → x.position ≡ e.position → e.pushes < x.pushes → Enters old (set old i e) e
+entered_again old e x i at same lt = record {
+  still = λ j z there. elim (cases_eq j i) [
+    | inl eq ↦ (let is = here j z there eq in (
+      e,
+      ap (λ (k : ℕ). slice_get (set old i e) k) eq ∙ set_here old i x e at,
+      sym same ∙ ap (λ (w : Entry). w.position) (sym is),
+      (let p = ap (λ (w : Entry). w.pushes) is in omega (arith, lt, p)),
+    ))
+    | inr ne ↦ (z, set_there old i j e ne ∙ there, refl, omega arith)
+  ];
+  below = λ j z there few. elim (cases_eq j i) [
+    | inl eq ↦ absurd (let p = ap (λ (w : Entry). w.pushes) (here j z there eq) in omega (arith, lt, few, p))
+    | inr ne ↦ set_there old i j e ne ∙ there
+  ];
+  found = (i, e, set_here old i x e at, refl, omega arith);
+  each = λ j z there. elim (set_either old i j x e z at there) [
+    | inl (p, q) ↦ inr q
+    | inr (p, q) ↦ inl q
+  ];
+  few = λ low few j z there. (let long = length-set old i e in elim (set_either old i j x e z at there) [
+    | inl (p, q) ↦ (let same = ap (λ (w : Entry). w.pushes) q in let less = few i x at in omega (arith, lt, less, same, long))
+    | inr (p, q) ↦ (let less = few j z q in omega (arith, less, long))
+  ]);
+  goes_on = λ low. (let long = length-set old i e in let one = few_open e.least in record {
+    more = omega (arith, long);
+    turns = λ limit le. (let less = fewer_turns old i limit x e at (omega (arith, lt, one)) in omega (arith, less));
+  });
+}
+  where
+    here : (j : ℕ) (z : Entry) → slice_get old j ≡ Some z → j ≡ i → z ≡ x
+    here j z there eq = same_Some z x (sym there ∙ (ap (λ (k : ℕ). slice_get old k) eq ∙ at))
+
+pub entered : (old new : List Entry) (e : Entry) (place : Option ℕ) → HasEntered old new e place → Enters old new e
+entered old new e (Some i) (inl (end, is, fresh)) = subst (λ (xs : List Entry). Enters old xs e) (sym is) (entered_new old e fresh)
+entered old new e (Some i) (inr (x, at, same, lt, is)) = subst (λ (xs : List Entry). Enters old xs e) (sym is) (entered_again old e x i at same lt)
+entered old new e None (is, (i, x, at, same, le)) = subst (λ (xs : List Entry). Enters old xs e) (sym is) (entered_before old e x i at same le)

@@ -1,0 +1,147 @@
+-- What the open positions of a search say, over plain lists.
+use Rattle.std.proofs.Common.{◌≡◌, ℕ, zero, suc, ◌+◌, ◌≤◌, ◌<◌, ◌⊎◌, List, [], ◌∷◌, length, Option, None, Some, inl, inr, refl, sym, subst, ◌∙◌, arith}
+use Rattle.std.proofs.lemmas.Bool.{cases_lt}
+use Rattle.std.proofs.lemmas.Option.{none-some}
+use Rattle.grid.specs.Board.{Board, Scene, IsSolved, start}
+use Rattle.grid.specs.Plays.{stay}
+use Rattle.grid.proofs.lemmas.Levels.{start_is_scene}
+use Rattle.area.specs.Area.{IsNorm}
+use Rattle.area.specs.Pushes.{CanPush}
+use Rattle.successors.specs.Expansion.{after_push}
+use Rattle.grid.proofs.lemmas.Plays.{walk_keeps_boxes}
+use Rattle.prices.specs.Solving.{Allows, SolvableWithin}
+use Rattle.prices.proofs.lemmas.Solving.{solved_before, norms_change_nothing}
+use Rattle.prover.proofs.OnGoals.{solved_or_not}
+use Rattle.prover.proofs.lemmas.Pruning.{keeps_so}
+use Rattle.store.specs.Visited.{Entry}
+use Rattle.prover.specs.Frontier.{IsFound, IsDoneFor, IsBefore, IsSettled, IsSound, AreSound, IsOnTheWay, IsBound, ComesFrom}
+use Rattle.prover.specs.Frontier.{NothingIsLost, LeastBounds, ClosedDecides}
+use Rattle.prover.specs.inside.Working.{StillStand, Expands}
+use Rattle.store.specs.declared.visited.Parent.{Parent}
+
+-- within no push, only solved states are solvable
+none_solved : (board : Board) (s : Scene) → SolvableWithin board 0 s → IsSolved board s
+none_solved board s (ds, [], t, play, solved, few) = solved_before board s t (walk_keeps_boxes play) solved
+none_solved board s (ds, p ∷ ps, t, play, solved, few) = absurd (omega (arith, few))
+
+-- a position is open with a least number up to m, or is done with for plays of m pushes
+open_or_done : (board : Board) (cap : Option ℕ) (all : List Entry) (m : ℕ) (x : Entry) → Allows cap m → IsSettled board cap all x →
+    ((least : ℕ) × (x.least ≡ Some least) × (least ≤ m)) ⊎ IsDoneFor board m all x
+open_or_done board cap all m x allowed settled = by_least x.least refl
+  where
+    by_least : (o : Option ℕ) → x.least ≡ o → ((least : ℕ) × (x.least ≡ Some least) × (least ≤ m)) ⊎ IsDoneFor board m all x
+    by_least None is = inr (settled m allowed (subst (λ (o : Option ℕ). IsBefore o m) (sym is) tt))
+    by_least (Some least) is = elim (cases_lt m least) [
+      | inl lt ↦ inr (settled m allowed (subst (λ (o : Option ℕ). IsBefore o m) (sym is) lt))
+      | inr le ↦ inl (least, is, le)
+    ]
+
+-- a position that was found, and that is solvable with the pushes that are left, is on the way or leads to one that is
+led_on : (board : Board) (cap : Option ℕ) (all : List Entry) (m : ℕ) → AreSound board cap all → Allows cap m
+    → (rest k : ℕ) (s : Scene) → IsFound all k s → k + rest ≤ m → SolvableWithin board rest s → IsOnTheWay board m all
+led_on board cap all m sound allowed zero k s (i, x, at, same, le) few solvable =
+    elim (open_or_done board cap all m x allowed (sound i x at).settled) [
+      | inl (least, is, low) ↦ way least 0 is low (omega (arith, few, le)) (subst (SolvableWithin board 0) (sym same) solvable)
+      | inr done ↦ absurd (let lt = done.unsolved (subst (IsSolved board) (sym same) (none_solved board s solvable)) in omega (arith, lt, few, le))
+    ]
+  where
+    way : (least rest : ℕ) → x.least ≡ Some least → least ≤ m → x.pushes + rest ≤ m → SolvableWithin board rest x.position → IsOnTheWay board m all
+    way least rest is low few solvable =
+        record { place = i; entry = x; least = least; rest = rest; at = at; is_open = is; low = low; few = few; solvable = solvable }
+led_on board cap all m sound allowed (suc rest) k s (i, x, at, same, le) few solvable =
+    elim (open_or_done board cap all m x allowed (sound i x at).settled) [
+      | inl (least, is, low) ↦ way least (suc rest) is low (omega (arith, few, le)) here
+      | inr done ↦ by_solved done (λ t found less more. led_on board cap all m sound allowed rest (suc x.pushes) t found less more)
+          (solved_or_not board x.position)
+    ]
+  where
+    here : SolvableWithin board (suc rest) x.position
+    here = subst (SolvableWithin board (suc rest)) (sym same) solvable
+
+    way : (least rest : ℕ) → x.least ≡ Some least → least ≤ m → x.pushes + rest ≤ m → SolvableWithin board rest x.position → IsOnTheWay board m all
+    way least rest is low few solvable =
+        record { place = i; entry = x; least = least; rest = rest; at = at; is_open = is; low = low; few = few; solvable = solvable }
+
+    by_solved : IsDoneFor board m all x →
+        ((t : Scene) → IsFound all (suc x.pushes) t → suc x.pushes + rest ≤ m → SolvableWithin board rest t → IsOnTheWay board m all) →
+        IsSolved board x.position ⊎ ¬ (IsSolved board x.position) → IsOnTheWay board m all
+    by_solved done onwards (inl solved) = absurd (let lt = done.unsolved solved in omega (arith, lt, few, le))
+    by_solved done onwards (inr unsolved) =
+        let (t, found, more) = done.keeps rest (omega (arith, few, le)) unsolved here in
+        onwards t found (omega (arith, few, le)) more
+
+pub nothing_is_lost : (board : Board) → NothingIsLost board
+nothing_is_lost board level cap all m under allowed solvable =
+    let (n, norm, found) = under.begun in
+    led_on board cap all m under.sound allowed m 0 n found (omega arith)
+    ((norms_change_nothing board (start board) n (start_is_scene board level) norm m).0 solvable)
+
+pub least_bounds : (board : Board) → LeastBounds board
+least_bounds board level cap all k under from ds ps (t, play, solved) allowed =
+    let way = nothing_is_lost board level cap all (length ps) under allowed (ds, ps, t, play, solved, omega arith) in
+    let ge = from way.place way.entry way.least way.at way.is_open in
+    omega (arith, ge, way.low)
+
+pub closed_decides : (board : Board) → ClosedDecides board
+closed_decides board level cap all under closed ds ps (t, play, solved) allowed =
+    let way = nothing_is_lost board level cap all (length ps) under allowed (ds, ps, t, play, solved, omega arith) in
+    none-some way.least (sym (closed way.place way.entry way.at) ∙ way.is_open)
+
+-- ---- how the positions change
+
+-- what was found stays found
+pub found_on : (old new : List Entry) (k : ℕ) (s : Scene) → StillStand old new → IsFound old k s → IsFound new k s
+found_on old new k s still (i, x, at, same, le) =
+    let (y, there, alike, less) = still i x at in
+    (i, y, there, alike ∙ same, omega (arith, less, le))
+
+-- what is settled stays so
+pub settled_on : (board : Board) (cap : Option ℕ) (old new : List Entry) (x : Entry) → StillStand old new → IsSettled board cap old x →
+    IsSettled board cap new x
+settled_on board cap old new x still settled most allowed before =
+    let done = settled most allowed before in
+    record {
+      unsolved = done.unsolved;
+      keeps = keeps_so board (IsFound old (suc x.pushes)) (IsFound new (suc x.pushes)) most x.pushes x.position
+          (λ t found. found_on old new (suc x.pushes) t still found) done.keeps;
+    }
+
+-- where it comes from stays
+pub from_on : (board : Board) (old new : List Entry) (x : Entry) (o : Option Parent) → StillStand old new → ComesFrom board old x o → ComesFrom board new x o
+from_on board old new x None still from = from
+from_on board old new x (Some step) still (y, at, fewer, can, norm) =
+    let (z, there, same, less) = still step.place y at in (
+      z,
+      there,
+      omega (arith, fewer, less),
+      subst (λ (s : Scene). CanPush board s step.push) (sym same) can,
+      subst (λ (s : Scene). IsNorm board (after_push board s step.push) x.position) (sym same) norm,
+    )
+
+pub sound_on : (board : Board) (cap : Option ℕ) (old new : List Entry) (x : Entry) → StillStand old new → IsSound board cap old x → IsSound board cap new x
+sound_on board cap old new x still sound = record {
+  fits = sound.fits;
+  reached = sound.reached;
+  from = from_on board old new x x.parent still sound.from;
+  total = sound.total;
+  settled = settled_on board cap old new x still sound.settled;
+}
+
+-- a position that is open with a true bound is settled
+pub settled_open : (board : Board) (cap : Option ℕ) (all : List Entry) (x : Entry) (least : ℕ) → x.least ≡ Some least →
+    IsBound board x.pushes x.position least → IsSettled board cap all x
+settled_open board cap all x least open_ bound most allowed before = record {
+  unsolved = λ solved. (let le = bound 0 ([], [], x.position, stay tt, solved, omega arith) in omega (arith, le, lt));
+  keeps = λ m few unsolved solvable. absurd (let le = bound (suc m) solvable in omega (arith, le, lt, few));
+}
+  where
+    lt : most < least
+    lt = subst (λ (o : Option ℕ). IsBefore o most) open_ before
+
+-- a position whose expansion kept what it has to is settled as closed
+pub settled_closed : (board : Board) (cap : Option ℕ) (all : List Entry) (x : Entry) → ¬ (IsSolved board x.position) →
+    Expands board cap all x.pushes x.position → IsSettled board cap all x
+settled_closed board cap all x unsolved expands most allowed before = record {
+  unsolved = λ solved. absurd (unsolved solved);
+  keeps = expands most allowed;
+}

@@ -1,0 +1,124 @@
+-- The pushes that lead to a position, read back from push to push, and the solution that they make.
+use Rattle.std.proofs.Common.{◌≡◌, ℕ, zero, suc, ◌+◌, ◌≤◌, ◌<◌, Bool, true, false, cond, List, [], ◌∷◌, ◌++◌, length, reverse, Option, None, Some, refl, sym}
+use Rattle.std.proofs.Common.{ap, subst, ◌∙◌, arith, append-nil, append_assoc}
+use Rattle.std.proofs.lemmas.List.{reverse-append}
+use Rattle.std.proofs.lemmas.List.Sums.{sum_by-cons}
+use Rattle.std.proofs.lemmas.Option.{none-some, same_Some}
+use Rattle.std.specs.List.{count_by}
+use Rattle.std.specs.Prelude.{slice_get}
+use Rattle.grid.specs.declared.dir.Dir.{Dir}
+use Rattle.grid.specs.declared.moves.Letter.{Letter}
+use Rattle.grid.specs.declared.square.Push.{Push}
+use Rattle.grid.specs.Squares.{Squares, contains}
+use Rattle.grid.specs.Board.{Board, Scene, IsSolved, is_goal, start}
+use Rattle.grid.specs.Plays.{Play, Any, stay, walk, push, letters_of}
+use Rattle.grid.proofs.lemmas.Plays.{walk_keeps_boxes}
+use Rattle.area.specs.Area.{IsNorm}
+use Rattle.area.specs.Pushes.{CanPush}
+use Rattle.successors.specs.Expansion.{after_push}
+use Rattle.prover.specs.Fewest.{NoneHasFewer}
+use Rattle.prices.specs.Solving.{Allows}
+use Rattle.successors.specs.LeastPlays.{WritesLeastPlay}
+use Rattle.store.specs.Visited.{Entry}
+use Rattle.store.specs.declared.visited.Parent.{Parent}
+use Rattle.prover.specs.declared.outcome.Outcome.TheVariants.{Least}
+use Rattle.prover.specs.Frontier.{ComesFrom}
+use Rattle.prover.specs.Outcomes.{IsOutcome}
+use Rattle.prover.specs.inside.Rounds.{IsLeastSolved}
+use Rattle.prover.specs.inside.Working.{AreLeading, AreReadBack, AreTraced, pushes_at}
+use Rattle.prover.proofs.Steps.{leading_more}
+
+-- ---- places
+
+pub pushes_there : (all : List Entry) (i : ℕ) (x : Entry) → slice_get all i ≡ Some x → pushes_at all i ≡ x.pushes
+pushes_there [] i x at = absurd (none-some x at)
+pushes_there (z ∷ all) zero x at = ap (λ (w : Entry). w.pushes) (same_Some z x at)
+pushes_there (z ∷ all) (suc i) x at = pushes_there all i x at
+
+-- ---- reading back
+
+pub back_first : (board : Board) (all : List Entry) (place : ℕ) (x y : Entry) → slice_get all place ≡ Some y → slice_get all place ≡ Some x →
+    AreReadBack board y x (reverse [])
+back_first board all place x y there at = record {
+  leading = λ ps leading. subst (λ (s : Scene). AreLeading board (ps ++ []) s) (ap (λ (w : Entry). w.position) same)
+      (subst (λ (qs : List Push). AreLeading board qs y.position) (sym (append-nil ps)) leading);
+  few = (let e = ap (λ (w : Entry). w.pushes) same in omega (arith, e));
+}
+  where
+    same : y ≡ x
+    same = same_Some y x (sym there ∙ at)
+
+-- the parent of the position that was read back to
+pub parent_there : (board : Board) (all : List Entry) (here : ℕ) (z : Entry) (parent : Parent) → AreTraced board all → slice_get all here ≡ Some z →
+    z.parent ≡ Some parent → ComesFrom board all z (Some parent)
+parent_there board all here z parent traced at is = subst (λ (o : Option Parent). ComesFrom board all z o) is (traced here z at).1
+
+pub back_more : (board : Board) (all : List Entry) (here : ℕ) (x y z : Entry) (parent : Parent) (late : List Push) → AreTraced board all →
+    slice_get all here ≡ Some z → z.parent ≡ Some parent → slice_get all parent.place ≡ Some y → AreReadBack board z x (reverse late) →
+    AreReadBack board y x (reverse (late ++ parent.push ∷ []))
+back_more board all here x y z parent late traced at is there back =
+    subst (λ (qs : List Push). AreReadBack board y x qs) (sym (reverse-append late (parent.push ∷ []))) (by (parent_there board all here z parent traced at is))
+  where
+    by : ComesFrom board all z (Some parent) → AreReadBack board y x (parent.push ∷ reverse late)
+    by (w, read, fewer, can, norm) = record {
+      leading = λ ps leading. subst (λ (qs : List Push). AreLeading board qs x.position) (append_assoc ps (parent.push ∷ []) (reverse late))
+          (back.leading (ps ++ parent.push ∷ []) (leading_more board y.position z.position parent.push ps (traced parent.place y there).0.scene
+          (subst (λ (v : Entry). CanPush board v.position parent.push) same can)
+          (subst (λ (v : Entry). IsNorm board (after_push board v.position parent.push) z.position) same norm) leading));
+      few = (let e = ap (λ (v : Entry). v.pushes) same in let few = back.few in omega (arith, e, fewer, few));
+    }
+      where
+        same : w ≡ y
+        same = same_Some w y (sym read ∙ there)
+
+-- the pushes that were read back to the start
+pub back_whole : (board : Board) (all : List Entry) (here : ℕ) (x y : Entry) (late : List Push) → AreTraced board all → slice_get all here ≡ Some y →
+    y.parent ≡ None → AreReadBack board y x late → AreLeading board late x.position × (length late ≤ x.pushes)
+back_whole board all here x y late traced at is back = (
+  back.leading [] ([], start board, stay tt, subst (λ (o : Option Parent). ComesFrom board all y o) is (traced here y at).1),
+  (let few = back.few in omega (arith, few)),
+)
+
+-- ---- the solution
+
+pub count_pushes : {board : Board} {ok : Scene → Type 0} {s t : Scene} {ds : List Dir} {ps : List Push} (play : Play board ok s ds ps t) →
+    count_by (λ (letter : Letter). letter.push) (letters_of play) ≡ length ps
+count_pushes (stay here) = refl
+count_pushes (walk {d = d} here step rest) =
+    let e = sum_by-cons (λ (letter : Letter). cond letter.push 1 0) (record { dir = d; push = false }) (letters_of rest) in
+    let f = count_pushes rest in
+    omega (arith, e, f)
+count_pushes (push {d = d} here step rest) =
+    let e = sum_by-cons (λ (letter : Letter). cond letter.push 1 0) (record { dir = d; push = true }) (letters_of rest) in
+    let f = count_pushes rest in
+    omega (arith, e, f)
+
+solved_alike : (board : Board) (s t : Scene) → s.boxes ≡ t.boxes → IsSolved board s → IsSolved board t
+solved_alike board s t same solved = subst (λ (xs : Squares). (q : ℕ) → contains xs q ≡ true → is_goal board q ≡ true) same solved
+
+-- the least play with these pushes, which lead to a position that is solved and was found with as few pushes as any solution has
+pub solution_by : (board : Board) (cap : Option ℕ) (limit : ℕ) (all : List Entry) (place : ℕ) (x : Entry) (ps : List Push) (t : Scene)
+    (moves : List Letter) (n : ℕ)
+    → n ≡ length ps → slice_get all place ≡ Some x → AreLeading board ps x.position → length ps ≤ x.pushes → WritesLeastPlay board ps t moves →
+    IsLeastSolved board cap all place → IsOutcome board cap limit (Least moves n)
+solution_by board cap limit all place x ps t moves n count at (ds, s, play, norm) few writes least = (
+  (
+    record { state = t; leads = record { dirs = writes.dirs; pushes = ps; play = writes.play; written = writes.written }; end = end },
+    count ∙ (sym (count_pushes writes.play) ∙ ap (λ (xs : List Letter). count_by (λ (letter : Letter). letter.push) xs) writes.written),
+    refl,
+  ),
+  subst (NoneHasFewer board) fewest least.fewest,
+  subst (Allows cap) fewest least.allowed,
+)
+  where
+    same : least.entry ≡ x
+    same = same_Some least.entry x (sym least.at ∙ at)
+
+    there : IsSolved board s
+    there = solved_alike board x.position s norm.boxes (subst (λ (v : Entry). IsSolved board v.position) same least.solved)
+
+    end : IsSolved board t
+    end = let (fs, ws, cut, first, rest) = writes.common ds s play in solved_alike board s t (walk_keeps_boxes rest) there
+
+    fewest : least.entry.pushes ≡ n
+    fewest = let le = least.fewest ds ps (s, play, there) in let e = ap (λ (v : Entry). v.pushes) same in omega (arith, le, e, few, count)

@@ -1,0 +1,47 @@
+use Rattle.std.proofs.Common.{◌≡◌, ℕ, List, Option, Some, None, refl, sym, subst}
+use Rattle.std.specs.BinaryHeap.{heap_items}
+use Rattle.store.specs.Visited.{Entry, HasEntered, VisitedView}
+use Rattle.prover.specs.declared.queue.Ticket.{Ticket}
+use Rattle.prover.specs.inside.Working.{Enters, IsQueued}
+use Rattle.prover.proofs.Entering.{entered}
+use Rattle.prover.proofs.Queues.{queued_more}
+use Rattle.prover.proofs.frontier.Frontier.open_at.Goals as goal
+
+pub invariant_of-self : goal.invariant_of-self
+invariant_of-self c = subst (λ (ts : List Ticket). IsQueued c.self.inside.visited.entries ts) (sym c.reserve.ensures.same) c.self.invariant
+
+pub invariant_of-self-in_err-entered : goal.invariant_of-self-in_err-entered
+invariant_of-self-in_err-entered c = subst (λ (xs : List Entry). IsQueued xs (heap_items c.reserve.new.self.heap)) (sym c.in_err-entered.ensures.err)
+    (subst (λ (ts : List Ticket). IsQueued c.self.inside.visited.entries ts) (sym c.reserve.ensures.same) c.self.invariant)
+
+pub invariant_of-self-in-Some : goal.invariant_of-self-in-Some
+invariant_of-self-in-Some c =
+    let old = c.self.inside.visited.entries in
+    let new = c.enter.new.self.entries in
+    let e : Entry = (record { position = c.args.position.now; pushes = c.args.pushes; least = Some c.args.least; parent = c.args.parent }) in
+    queued_more old new e c.in-Some.place c.args.least (heap_items c.reserve.new.self.heap) (heap_items c.insert.new.self.heap) refl
+    (subst (λ (o : Option ℕ). HasEntered old new e o) c.in-Some.is c.in_ok-entered.ensures.ok)
+    (subst (λ (ts : List Ticket). IsQueued old ts) (sym c.reserve.ensures.same) c.self.invariant) c.insert.ensures.waits c.insert.ensures.others
+
+pub invariant_of-self-in-None : goal.invariant_of-self-in-None
+invariant_of-self-in-None c =
+    let old = c.self.inside.visited.entries in
+    let new = c.enter.new.self.entries in
+    let e : Entry = (record { position = c.args.position.now; pushes = c.args.pushes; least = Some c.args.least; parent = c.args.parent }) in
+    let none : HasEntered old new e None = subst (λ (o : Option ℕ). HasEntered old new e o) c.in-None.is c.in_ok-entered.ensures.ok in
+    subst (λ (xs : List Entry). IsQueued xs (heap_items c.reserve.new.self.heap)) (sym none.0)
+    (subst (λ (ts : List Ticket). IsQueued old ts) (sym c.reserve.ensures.same) c.self.invariant)
+
+pub returns-in-Some-clause-enters : goal.returns-in-Some-clause-enters
+returns-in-Some-clause-enters c =
+    let new = c.enter.new.self.entries in
+    let e : Entry = (record { position = c.args.position.now; pushes = c.args.pushes; least = Some c.args.least; parent = c.args.parent }) in
+    subst (λ (v : VisitedView). Enters v.entries new e) c.self.view_is
+    (entered c.self.inside.visited.entries new e c.in_ok-entered.entered c.in_ok-entered.ensures.ok)
+
+pub returns-in-None-clause-enters : goal.returns-in-None-clause-enters
+returns-in-None-clause-enters c =
+    let new = c.enter.new.self.entries in
+    let e : Entry = (record { position = c.args.position.now; pushes = c.args.pushes; least = Some c.args.least; parent = c.args.parent }) in
+    subst (λ (v : VisitedView). Enters v.entries new e) c.self.view_is
+    (entered c.self.inside.visited.entries new e c.in_ok-entered.entered c.in_ok-entered.ensures.ok)

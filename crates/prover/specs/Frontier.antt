@@ -1,0 +1,117 @@
+-- The frame of a best-first search: what holds of the positions that it has found, and what follows from that.
+use Rattle.std.specs.Prelude.{◌≡◌, ℕ, suc, ◌+◌, ◌≤◌, ◌<◌, List, slice_get, length, Option, None, Some}
+use Rattle.grid.specs.declared.dir.Dir.{Dir}
+use Rattle.grid.specs.declared.square.Push.{Push}
+use Rattle.grid.specs.Board.{Board, Scene, IsSolved, start}
+use Rattle.grid.specs.States.{FitsLevel}
+use Rattle.grid.specs.Lawful.{IsLevel}
+use Rattle.grid.specs.Plays.{IsSolution}
+use Rattle.area.specs.Area.{IsNorm}
+use Rattle.area.specs.Pushes.{CanPush}
+use Rattle.successors.specs.Expansion.{after_push}
+use Rattle.prices.specs.Solving.{Allows, SolvableWithin}
+use Rattle.store.specs.declared.visited.Parent.{Parent}
+use Rattle.store.specs.Visited.{Entry}
+use Rattle.prover.specs.Fewest.{IsReachable}
+
+-- ---- what an expansion owes
+
+-- what an expansion of a position keeps to which k pushes led, for plays of so many pushes at most: where the position is not solved,
+-- and some play solves it with m + 1 pushes or fewer, that many being left, then some position that is kept is solvable with one less
+abbrev pub Keeps : Board → ℕ → (Scene → Type 0) → ℕ → Scene → Type 0
+Keeps board most Kept k s = (m : ℕ) → k + suc m ≤ most → ¬ (IsSolved board s) → SolvableWithin board (suc m) s → (t : Scene) × Kept t × SolvableWithin board m t
+
+-- the position was found with at most so many pushes
+abbrev pub IsFound : List Entry → ℕ → Scene → Type 0
+IsFound all k s = (i : ℕ) × (x : Entry) × (slice_get all i ≡ Some x) × (x.position ≡ s) × (x.pushes ≤ k)
+
+-- ---- what holds of each position that was found
+
+-- for plays of so many pushes in all, nothing is left to do: the position is not solved so soon, and what its expansion has to keep was
+-- found
+pub record IsDoneFor (board : Board) (most : ℕ) (all : List Entry) (x : Entry) : Type 0 where
+  pub unsolved : IsSolved board x.position → most < x.pushes
+  pub keeps : Keeps board most (IsFound all (suc x.pushes)) x.pushes x.position
+
+-- a play with so many pushes that leads to the position and goes on to a solved one has at least this many pushes in all
+abbrev pub IsBound : Board → ℕ → Scene → ℕ → Type 0
+IsBound board pushes s total = (rest : ℕ) → SolvableWithin board rest s → total ≤ pushes + rest
+
+-- an open position's least total is one that the cap allows, and a play through the position to a solved one has at least as many pushes
+pub record IsTotal (board : Board) (cap : Option ℕ) (pushes : ℕ) (s : Scene) (least : ℕ) : Type 0 where
+  pub near : pushes ≤ least
+  pub allowed : Allows cap least
+  pub bound : IsBound board pushes s least
+
+-- the number is less than an open position's least total; a closed one has none
+abbrev pub IsBefore : Option ℕ → ℕ → Type 0
+IsBefore None m = Unit {0}
+IsBefore (Some least) m = m < least
+
+-- an open position is done for all totals below its least, and a closed one for all that the cap allows
+abbrev pub IsSettled : Board → Option ℕ → List Entry → Entry → Type 0
+IsSettled board cap all x = (most : ℕ) → Allows cap most → IsBefore x.least most → IsDoneFor board most all x
+
+-- the parent was found with fewer pushes, and the push leads from it to the position; without a parent it is the start
+abbrev pub ComesFrom : Board → List Entry → Entry → Option Parent → Type 0
+ComesFrom board all x None = IsNorm board (start board) x.position
+ComesFrom board all x (Some step) = (y : Entry) × (slice_get all step.place ≡ Some y) × (y.pushes < x.pushes) ×
+    CanPush board y.position step.push × IsNorm board (after_push board y.position step.push) x.position
+
+-- what is true of each position that was found
+pub record IsSound (board : Board) (cap : Option ℕ) (all : List Entry) (x : Entry) : Type 0 where
+  pub fits : FitsLevel board x.position
+  pub reached : IsReachable board x.position
+  pub from : ComesFrom board all x x.parent
+  pub total : (least : ℕ) → x.least ≡ Some least → IsTotal board cap x.pushes x.position least
+  pub settled : IsSettled board cap all x
+
+abbrev pub AreSound : Board → Option ℕ → List Entry → Type 0
+AreSound board cap all = (i : ℕ) (x : Entry) → slice_get all i ≡ Some x → IsSound board cap all x
+
+-- each was found with fewer pushes than there are positions
+abbrev pub AreFew : List Entry → Type 0
+AreFew all = (i : ℕ) (x : Entry) → slice_get all i ≡ Some x → x.pushes < length all
+
+-- a search is under way: it began with the start
+pub record IsUnderWay (board : Board) (cap : Option ℕ) (all : List Entry) : Type 0 where
+  pub begun : (n : Scene) × IsNorm board (start board) n × IsFound all 0 n
+  pub few : AreFew all
+  pub sound : AreSound board cap all
+
+-- some open position leads to a solution of at most so many pushes in all
+pub record IsOnTheWay (board : Board) (m : ℕ) (all : List Entry) : Type 0 where
+  pub place : ℕ
+  pub entry : Entry
+  pub least : ℕ
+  pub rest : ℕ
+  pub at : slice_get all place ≡ Some entry
+  pub is_open : entry.least ≡ Some least
+  pub low : least ≤ m
+  pub few : entry.pushes + rest ≤ m
+  pub solvable : SolvableWithin board rest entry.position
+
+-- each open position has a least total of at least k
+abbrev pub AreFrom : ℕ → List Entry → Type 0
+AreFrom k all = (i : ℕ) (x : Entry) (least : ℕ) → slice_get all i ≡ Some x → x.least ≡ Some least → k ≤ least
+
+-- no position is open
+abbrev pub AreClosed : List Entry → Type 0
+AreClosed all = (i : ℕ) (x : Entry) → slice_get all i ≡ Some x → x.least ≡ None
+
+-- ---- the laws
+
+-- where the start is solvable within so many pushes, which the cap allows, some open position leads to a solution with as many
+abbrev pub NothingIsLost : Board → Type 0
+NothingIsLost board = IsLevel board → (cap : Option ℕ) (all : List Entry) (m : ℕ) → IsUnderWay board cap all → Allows cap m →
+    SolvableWithin board m (start board) → IsOnTheWay board m all
+
+-- so each solution that the cap allows has at least as many pushes as the least total of all open positions
+abbrev pub LeastBounds : Board → Type 0
+LeastBounds board = IsLevel board → (cap : Option ℕ) (all : List Entry) (k : ℕ) → IsUnderWay board cap all → AreFrom k all →
+    (ds : List Dir) (ps : List Push) → IsSolution board ds ps → Allows cap (length ps) → k ≤ length ps
+
+-- and where no position is open, there is no solution that the cap allows
+abbrev pub ClosedDecides : Board → Type 0
+ClosedDecides board = IsLevel board → (cap : Option ℕ) (all : List Entry) → IsUnderWay board cap all → AreClosed all →
+    (ds : List Dir) (ps : List Push) → IsSolution board ds ps → ¬ (Allows cap (length ps))

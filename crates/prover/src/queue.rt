@@ -1,0 +1,76 @@
+//! The queue of open positions.
+ghost use Rattle.std.specs.Prelude.{◌≡◌, ◌+◌, ◌<◌, ◌⊎◌, ℕ, [], OnOk, IfNone, IfSome, Some, length, slice_get};
+ghost use Rattle.std.proofs.Props.{props};
+ghost use Rattle.std.specs.BinaryHeap.{IsHeap, heap_capacity, heap_items, heap_len};
+ghost use Rattle.prover.specs.inside.Tickets.{ticket_cmp};
+ghost use Rattle.prover.specs.inside.Working.{IsFirst, Waits};
+
+use std::alloc::{AllocError, Global};
+use std::cmp::Reverse;
+use std::collections::BinaryHeap;
+
+/// The place of an open position in the queue. The greatest ticket has the least total, then the most pushes, then the
+/// latest place.
+#[derive(Clone, Copy, PartialEq, Eq, PartialOrd, Ord, Debug)]
+pub(crate) struct Ticket {
+    pub(crate) least: Reverse<u32>,
+    pub(crate) pushes: u32,
+    pub(crate) place: usize,
+}
+
+/// The tickets of the open positions, and some of positions that were closed since.
+#[derive(Drop)]
+pub(crate) struct Queue {
+    heap: BinaryHeap<Ticket>,
+    ghost ordered: { IsHeap ticket_cmp (heap_items heap) } by { Prim.hlevel props },
+}
+
+impl Queue {
+    /// An empty queue.
+    pub(crate) fn new(alloc: Global) -> Queue
+        ensures { heap_items result.heap ≡ [] }
+    {
+        Queue {
+            heap: BinaryHeap::new(alloc),
+        }
+    }
+
+    /// Makes room for one ticket.
+    pub(crate) fn reserve(&mut self) -> Result<(), AllocError>
+        ensures same { heap_items self.new.heap ≡ heap_items self.old.heap }
+        ensures room { OnOk result (heap_len self.new.heap < heap_capacity self.new.heap) }
+    {
+        self.heap.reserve(1)
+    }
+
+    /// Enters a ticket, for which there is room.
+    pub(crate) fn insert(&mut self, ticket: Ticket)
+        requires { heap_len self.old.heap < heap_capacity self.old.heap }
+        ensures waits { Waits (heap_items self.new.heap) ticket.least.0 ticket.place }
+        ensures others { (least place : ℕ) →
+            Waits (heap_items self.old.heap) least place → Waits (heap_items self.new.heap) least place }
+    {
+        match self.heap.push(ticket) {
+            Ok(()) => {}
+            Err(_) => unreachable!(),
+        }
+    }
+
+    /// The ticket with the least total.
+    pub(crate) fn first(&self) -> Option<Ticket>
+        ensures first { IfSome result (λ ticket. IsFirst (heap_items self.now.heap) ticket) }
+        ensures none { IfNone result (heap_items self.now.heap ≡ []) }
+    {
+        self.heap.peek().copied()
+    }
+
+    /// Takes the ticket with the least total out.
+    pub(crate) fn drop_first(&mut self)
+        ensures { (first : Ticket) → slice_get (heap_items self.old.heap) 0 ≡ Some first →
+            (length (heap_items self.new.heap) + 1 ≡ length (heap_items self.old.heap)) ×
+            ((least place : ℕ) → Waits (heap_items self.old.heap) least place →
+            Waits (heap_items self.new.heap) least place ⊎ ((least ≡ first.least.0) × (place ≡ first.place))) }
+    {
+        let _ = self.heap.pop();
+    }
+}

@@ -1,8 +1,0 @@
-use Rattle.std.proofs.Common.{◌≡◌, take}
-use Rattle.grid.specs.States.{IsScene}
-use Rattle.solo.specs.inside.LeastPlays.{WritesLeastPlay}
-use Rattle.solo.proofs.plays.play_pushes.Given as goal
-
-abbrev pub invariant-loop-push : goal.invariant-loop-push
-invariant-loop-push l =
-    WritesLeastPlay l.level (take l.push-index l.pushes) l.state l.moves × IsScene l.level l.state × (l.scratch.size ≡ l.fn.scratch.size)
