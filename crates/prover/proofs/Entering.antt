@@ -19,7 +19,7 @@ last_at : {A : Type 0} (xs : List A) (y : A) → slice_get (xs ++ y ∷ []) (len
 last_at [] y = refl
 last_at (x ∷ xs) y = last_at xs y
 
--- what stands in a list with one more stood there, or is that one, at the end
+-- an element of a list with one more was there before, or is the last
 pub either_at : {A : Type 0} (xs : List A) (y : A) (i : ℕ) (x : A) → slice_get (xs ++ y ∷ []) i ≡ Some x →
     (slice_get xs i ≡ Some x) ⊎ ((i ≡ length xs) × (x ≡ y))
 either_at [] y zero x e = inr (refl, sym (same_Some y x e))
@@ -42,7 +42,7 @@ set_there (z ∷ xs) zero (suc j) y ne = refl
 set_there (z ∷ xs) (suc i) zero y ne = refl
 set_there (z ∷ xs) (suc i) (suc j) y ne = set_there xs i j y (λ e. ne (ap suc e))
 
--- what stands in a list after a write is what was written, or stood there
+-- an element of a list after a write was there before, or is the written one
 pub set_either : {A : Type 0} (xs : List A) (i j : ℕ) (x y z : A) → slice_get xs i ≡ Some x → slice_get (set xs i y) j ≡ Some z →
     ((j ≡ i) × (z ≡ y)) ⊎ ((j ≢ i) × (slice_get xs j ≡ Some z))
 set_either xs i j x y z here e = elim (cases_eq j i) [
@@ -50,7 +50,7 @@ set_either xs i j x y z here e = elim (cases_eq j i) [
   | inr ne ↦ inr (ne, sym (set_there xs i j y ne) ∙ e)
 ]
 
--- what stands at a place before the end
+-- a place before the end has an element
 pub in_range : {A : Type 0} (xs : List A) (i : ℕ) → i < length xs → (x : A) × (slice_get xs i ≡ Some x)
 in_range [] i lt = absurd (omega (arith, lt))
 in_range (x ∷ xs) zero lt = (x, refl)

@@ -16,7 +16,7 @@ use Rattle.prover.proofs.lemmas.Pruning.{keeps_so}
 use Rattle.store.specs.Visited.{Entry}
 use Rattle.prover.specs.Frontier.{IsFound, IsDoneFor, IsBefore, IsSettled, IsSound, AreSound, IsOnTheWay, IsBound, ComesFrom}
 use Rattle.prover.specs.Frontier.{NothingIsLost, LeastBounds, ClosedDecides}
-use Rattle.prover.specs.inside.Working.{StillStand, Expands}
+use Rattle.prover.specs.inside.Working.{KeepPlaces, Expands}
 use Rattle.store.specs.declared.visited.Parent.{Parent}
 
 -- within no push, only solved states are solvable
@@ -90,13 +90,13 @@ closed_decides board level cap all under closed ds ps (t, play, solved) allowed 
 -- ---- how the positions change
 
 -- what was found stays found
-pub found_on : (old new : List Entry) (k : ℕ) (s : Scene) → StillStand old new → IsFound old k s → IsFound new k s
+pub found_on : (old new : List Entry) (k : ℕ) (s : Scene) → KeepPlaces old new → IsFound old k s → IsFound new k s
 found_on old new k s still (i, x, at, same, le) =
     let (y, there, alike, less) = still i x at in
     (i, y, there, alike ∙ same, omega (arith, less, le))
 
 -- what is settled stays so
-pub settled_on : (board : Board) (cap : Option ℕ) (old new : List Entry) (x : Entry) → StillStand old new → IsSettled board cap old x →
+pub settled_on : (board : Board) (cap : Option ℕ) (old new : List Entry) (x : Entry) → KeepPlaces old new → IsSettled board cap old x →
     IsSettled board cap new x
 settled_on board cap old new x still settled most allowed before =
     let done = settled most allowed before in
@@ -107,7 +107,7 @@ settled_on board cap old new x still settled most allowed before =
     }
 
 -- where it comes from stays
-pub from_on : (board : Board) (old new : List Entry) (x : Entry) (o : Option Parent) → StillStand old new → ComesFrom board old x o → ComesFrom board new x o
+pub from_on : (board : Board) (old new : List Entry) (x : Entry) (o : Option Parent) → KeepPlaces old new → ComesFrom board old x o → ComesFrom board new x o
 from_on board old new x None still from = from
 from_on board old new x (Some step) still (y, at, fewer, can, norm) =
     let (z, there, same, less) = still step.place y at in (
@@ -118,7 +118,7 @@ from_on board old new x (Some step) still (y, at, fewer, can, norm) =
       subst (λ (s : Scene). IsNorm board (after_push board s step.push) x.position) (sym same) norm,
     )
 
-pub sound_on : (board : Board) (cap : Option ℕ) (old new : List Entry) (x : Entry) → StillStand old new → IsSound board cap old x → IsSound board cap new x
+pub sound_on : (board : Board) (cap : Option ℕ) (old new : List Entry) (x : Entry) → KeepPlaces old new → IsSound board cap old x → IsSound board cap new x
 sound_on board cap old new x still sound = record {
   fits = sound.fits;
   reached = sound.reached;

@@ -30,7 +30,7 @@ use Rattle.prover.specs.Fewest.{NoneHasFewer, IsReachable, HasMore}
 use Rattle.successors.specs.Distances.{AreDistinct}
 use Rattle.store.specs.Visited.{Entry, VisitedView, closed}
 use Rattle.prover.specs.Frontier.{IsFound, IsSound, IsUnderWay, AreFrom, AreClosed, IsBound, IsTotal, ComesFrom}
-use Rattle.prover.specs.inside.Working.{IsClosedAt, StillStand, Expands, IsTaken, AreTaken, IsChosen, Enters, AreLeading, Stands, StayBelow, IsExpanding}
+use Rattle.prover.specs.inside.Working.{IsClosedAt, KeepPlaces, Expands, IsTaken, AreTaken, IsChosen, Enters, AreLeading, IsAtPlace, StayBelow, IsExpanding}
 use Rattle.prover.specs.inside.Working.{IsSearched, Widens, GoesOn, IsLeastOpen, openness, turns_left}
 use Rattle.prover.specs.inside.Rounds.{NoneIsAllowed, IsLeastSolved}
 use Rattle.prover.proofs.lemmas.Pruning.{after_scene, all_suffice, pushed_from, pushed_push}
@@ -48,7 +48,7 @@ on_ok_so (Err e) f a = tt
 
 -- ---- a push is done with
 
-pub taken_on : (board : Board) (cap : Option ℕ) (old new : List Entry) (k : ℕ) (s : Scene) (p : Push) → StillStand old new → IsTaken board cap old k s p →
+pub taken_on : (board : Board) (cap : Option ℕ) (old new : List Entry) (k : ℕ) (s : Scene) (p : Push) → KeepPlaces old new → IsTaken board cap old k s p →
     IsTaken board cap new k s p
 taken_on board cap old new k s p still taken m allowed solvable =
     let (t, found, rest) = taken m allowed solvable in
@@ -85,7 +85,7 @@ taken_useless board cap left all k s p scene can never within m allowed (ds, ps,
 
 -- one more push is done with, if it is to be tried
 pub taken_more : (board : Board) (cap : Option ℕ) (old new : List Entry) (Tried : Push → Type 0) (k : ℕ) (s : Scene) (pushes : List Push) (i : ℕ) (p : Push)
-    → StillStand old new → slice_get pushes i ≡ Some p → AreTaken board cap old Tried k s pushes i → (Tried p → IsTaken board cap new k s p) →
+    → KeepPlaces old new → slice_get pushes i ≡ Some p → AreTaken board cap old Tried k s pushes i → (Tried p → IsTaken board cap new k s p) →
     AreTaken board cap new Tried k s pushes (i + 1)
 taken_more board cap old new Tried k s pushes i p still here before taken j q lt there tried = elim (cases_lt j i) [
   | inl less ↦ taken_on board cap old new k s q still (before j q less there tried)
@@ -209,7 +209,7 @@ under_way_closed board cap old new place x under here unsolved expands has = sub
     after : List Entry
     after = set old place y
 
-    still : StillStand old after
+    still : KeepPlaces old after
     still i z there = elim (cases_eq i place) [
       | inl eq ↦ (let e : z ≡ x = same_Some z x (sym there ∙ (ap (λ (k : ℕ). slice_get old k) eq ∙ here)) in (
         y,
@@ -229,7 +229,7 @@ under_way_closed board cap old new place x under here unsolved expands has = sub
 
 -- what a push leads to has entered
 pub under_way_after : (board : Board) (cap : Option ℕ) (old new : List Entry) (place k least : ℕ) (s n : Scene) (p : Push) → IsUnderWay board cap old →
-    Stands old place s k → CanPush board s p → IsNorm board (after_push board s p) n → FitsLevel board n → IsTotal board cap (suc k) n least →
+    IsAtPlace old place s k → CanPush board s p → IsNorm board (after_push board s p) n → FitsLevel board n → IsTotal board cap (suc k) n least →
     Enters old new (record { position = n; pushes = suc k; least = Some least; parent = Some (record { place = place; push = p }) }) → IsUnderWay board cap new
 under_way_after board cap old new place k least s n p under (x, at, same, count) can norm fits total enters =
     under_way_entered board cap old new _ least under enters fits
@@ -243,13 +243,13 @@ under_way_after board cap old new place k least s n p under (x, at, same, count)
       subst (λ (t : Scene). IsNorm board (after_push board t p) n) (sym same) norm,
     ) refl total
 
--- the position stands where it stood
-pub stands_on : (k : ℕ) (old new : List Entry) (place : ℕ) (s : Scene) → StayBelow (suc k) old new → Stands old place s k → Stands new place s k
-stands_on k old new place s below (x, at, same, count) = (x, below place x at (omega (arith, count)), same, count)
+-- the position keeps its place
+pub place_kept : (k : ℕ) (old new : List Entry) (place : ℕ) (s : Scene) → StayBelow (suc k) old new → IsAtPlace old place s k → IsAtPlace new place s k
+place_kept k old new place s below (x, at, same, count) = (x, below place x at (omega (arith, count)), same, count)
 
-pub stands_fit : (board : Board) (cap : Option ℕ) (v : VisitedView) (from : Expanded) → IsExpanding board cap v from → FitsLevel board from.position
-stands_fit board cap v from expanding =
-    let (x, at, same, count) = expanding.stands in
+pub expanding_fits : (board : Board) (cap : Option ℕ) (v : VisitedView) (from : Expanded) → IsExpanding board cap v from → FitsLevel board from.position
+expanding_fits board cap v from expanding =
+    let (x, at, same, count) = expanding.at_place in
     subst (FitsLevel board) same (expanding.searched.under_way.sound from.place x at).fits
 
 -- ---- an expansion goes on
@@ -281,7 +281,7 @@ pub expanding_on : (board : Board) (cap : Option ℕ) (old new : VisitedView) (f
     Widens board cap from.pushes old new → IsExpanding board cap new from
 expanding_on board cap old new from was widens = record {
   searched = widens.searched;
-  stands = stands_on from.pushes old.entries new.entries from.place from.position widens.below was.stands;
+  at_place = place_kept from.pushes old.entries new.entries from.place from.position widens.below was.at_place;
   bound = was.bound;
   few = was.few;
 }

@@ -16,24 +16,24 @@ use Rattle.prover.specs.Fewest.{IsReachable}
 
 -- ---- what an expansion owes
 
--- what an expansion of a position keeps to which k pushes led, for plays of so many pushes at most: where the position is not solved,
--- and some play solves it with m + 1 pushes or fewer, that many being left, then some position that is kept is solvable with one less
+-- what an expansion keeps of a position that k pushes led to, for plays with at most `most` pushes: if the position is not solved, and a
+-- play solves it with at most m + 1 of the pushes that are left, then some kept position is solvable with at most m
 abbrev pub Keeps : Board → ℕ → (Scene → Type 0) → ℕ → Scene → Type 0
 Keeps board most Kept k s = (m : ℕ) → k + suc m ≤ most → ¬ (IsSolved board s) → SolvableWithin board (suc m) s → (t : Scene) × Kept t × SolvableWithin board m t
 
--- the position was found with at most so many pushes
+-- the position was found with at most k pushes
 abbrev pub IsFound : List Entry → ℕ → Scene → Type 0
 IsFound all k s = (i : ℕ) × (x : Entry) × (slice_get all i ≡ Some x) × (x.position ≡ s) × (x.pushes ≤ k)
 
 -- ---- what holds of each position that was found
 
--- for plays of so many pushes in all, nothing is left to do: the position is not solved so soon, and what its expansion has to keep was
--- found
+-- for plays with at most `most` pushes in all, nothing is left to do: the position is not a solved one with so few, and what its expansion
+-- has to keep was found
 pub record IsDoneFor (board : Board) (most : ℕ) (all : List Entry) (x : Entry) : Type 0 where
   pub unsolved : IsSolved board x.position → most < x.pushes
   pub keeps : Keeps board most (IsFound all (suc x.pushes)) x.pushes x.position
 
--- a play with so many pushes that leads to the position and goes on to a solved one has at least this many pushes in all
+-- a play that leads to the position with these pushes and goes on to a solved one has at least `total` pushes in all
 abbrev pub IsBound : Board → ℕ → Scene → ℕ → Type 0
 IsBound board pushes s total = (rest : ℕ) → SolvableWithin board rest s → total ≤ pushes + rest
 
@@ -79,7 +79,7 @@ pub record IsUnderWay (board : Board) (cap : Option ℕ) (all : List Entry) : Ty
   pub few : AreFew all
   pub sound : AreSound board cap all
 
--- some open position leads to a solution of at most so many pushes in all
+-- some open position leads to a solution with at most m pushes in all
 pub record IsOnTheWay (board : Board) (m : ℕ) (all : List Entry) : Type 0 where
   pub place : ℕ
   pub entry : Entry
@@ -101,7 +101,7 @@ AreClosed all = (i : ℕ) (x : Entry) → slice_get all i ≡ Some x → x.least
 
 -- ---- the laws
 
--- where the start is solvable within so many pushes, which the cap allows, some open position leads to a solution with as many
+-- where the start is solvable within m pushes, which the cap allows, some open position leads to a solution with at most m
 abbrev pub NothingIsLost : Board → Type 0
 NothingIsLost board = IsLevel board → (cap : Option ℕ) (all : List Entry) (m : ℕ) → IsUnderWay board cap all → Allows cap m →
     SolvableWithin board m (start board) → IsOnTheWay board m all

@@ -19,7 +19,7 @@ abbrev pub SolutionsAlike : Board → Type 0
 SolutionsAlike board = IsLevel board → (s t u : Scene) (ds es : List Dir) (ps qs : List Push) → FitsLevel board s → Play board Any s ds ps t →
     IsSolved board t → Play board Any s es qs u → IsSolved board u → is_odd (length ps) ≡ is_odd (length qs)
 
--- some solution has so many pushes
+-- some solution has this number of pushes
 abbrev pub SomeHas : Board → ℕ → Type 0
 SomeHas board pushes = (ds : List Dir) × (ps : List Push) × IsSolution board ds ps × (length ps ≡ pushes)
 

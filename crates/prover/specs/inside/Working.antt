@@ -58,12 +58,12 @@ pub record IsSearched (board : Board) (cap : Option ℕ) (v : VisitedView) : Typ
 abbrev pub SameSize : VisitedView → VisitedView → Type 0
 SameSize old new = (new.boxes ≡ old.boxes) × (new.squares ≡ old.squares)
 
--- each position stands where it stood, found with no more pushes
-abbrev pub StillStand : List Entry → List Entry → Type 0
-StillStand old new = (i : ℕ) (x : Entry) → slice_get old i ≡ Some x →
+-- each position keeps its place, and its pushes do not grow
+abbrev pub KeepPlaces : List Entry → List Entry → Type 0
+KeepPlaces old new = (i : ℕ) (x : Entry) → slice_get old i ≡ Some x →
     (y : Entry) × (slice_get new i ≡ Some y) × (y.position ≡ x.position) × (y.pushes ≤ x.pushes)
 
--- positions that were found with at most so many pushes are as they were
+-- the entries with at most k pushes are unchanged
 abbrev pub StayBelow : ℕ → List Entry → List Entry → Type 0
 StayBelow k old new = (i : ℕ) (x : Entry) → slice_get old i ≡ Some x → x.pushes ≤ k → slice_get new i ≡ Some x
 
@@ -88,7 +88,7 @@ pub record GoesOn (old new : List Entry) : Type 0 where
 
 -- the entry is noted, if its position was not found with as few pushes
 pub record Enters (old new : List Entry) (e : Entry) : Type 0 where
-  pub still : StillStand old new
+  pub still : KeepPlaces old new
   pub below : StayBelow e.pushes old new
   pub found : IsFound new e.pushes e.position
   pub each : (i : ℕ) (y : Entry) → slice_get new i ≡ Some y → (slice_get old i ≡ Some y) ⊎ (y ≡ e)
@@ -99,9 +99,9 @@ pub record Enters (old new : List Entry) (e : Entry) : Type 0 where
 abbrev pub IsLeastOpen : List Entry → ℕ → ℕ → Type 0
 IsLeastOpen all place least = (x : Entry) × (slice_get all place ≡ Some x) × (x.least ≡ Some least) × AreFrom least all
 
--- the position stands at the place, found with so many pushes
-abbrev pub Stands : List Entry → ℕ → Scene → ℕ → Type 0
-Stands all place s k = (x : Entry) × (slice_get all place ≡ Some x) × (x.position ≡ s) × (x.pushes ≡ k)
+-- the position has the place, found with k pushes
+abbrev pub IsAtPlace : List Entry → ℕ → Scene → ℕ → Type 0
+IsAtPlace all place s k = (x : Entry) × (slice_get all place ≡ Some x) × (x.position ≡ s) × (x.pushes ≡ k)
 
 -- the position at the place is open with this least total, and not solved
 abbrev pub IsUnsolvedOpen : Board → List Entry → ℕ → ℕ → Type 0
@@ -113,17 +113,17 @@ IsClosedAt old place new = (x : Entry) → slice_get old place ≡ Some x → ne
 
 -- ---- expansions
 
--- the position that is expanded stands at its place, and its total is a bound
+-- the search has the position that is expanded at its place, and its total is a bound
 pub record IsExpanding (board : Board) (cap : Option ℕ) (v : VisitedView) (from : Expanded) : Type 0 where
   pub searched : IsSearched board cap v
-  pub stands : Stands v.entries from.place from.position from.pushes
+  pub at_place : IsAtPlace v.entries from.place from.position from.pushes
   pub bound : IsBound board from.pushes from.position from.least
   pub few : suc from.pushes < 2 ^ 32
 
--- an expansion of a position with k pushes has gone on: what was found still stands, and what more was found has more pushes
+-- an expansion of a position with k pushes has gone on: each position keeps its place, and only entries with more pushes change
 pub record Widens (board : Board) (cap : Option ℕ) (k : ℕ) (old new : VisitedView) : Type 0 where
   pub searched : IsSearched board cap new
-  pub still : StillStand old.entries new.entries
+  pub still : KeepPlaces old.entries new.entries
   pub below : StayBelow (suc k) old.entries new.entries
   pub goes_on : GoesOn old.entries new.entries
 
@@ -161,7 +161,7 @@ pushes_at [] place = 0
 pushes_at (x ∷ all) zero = x.pushes
 pushes_at (x ∷ all) (suc place) = pushes_at all place
 
--- the pushes that were read back from one position to another lead on from there, and are so many at most as they were found with
+-- the pushes that were read back lead from one position to another, and are no more than what the second has above the first
 pub record AreReadBack (board : Board) (from to : Entry) (late : List Push) : Type 0 where
   pub leading : (ps : List Push) → AreLeading board ps from.position → AreLeading board (ps ++ late) to.position
   pub few : length late + from.pushes ≤ to.pushes

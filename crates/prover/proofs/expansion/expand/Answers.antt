@@ -17,7 +17,7 @@ take_all-requires-clause-expanding c =
     let few = c.requires.few in
     record {
       searched = c.requires.searched;
-      stands = (x, at, sym (c.position.ensures x at), sym pushes);
+      at_place = (x, at, sym (c.position.ensures x at), sym pushes);
       bound = subst (λ (k : ℕ). IsBound board k c.position.result c.args.least) (sym pushes)
           (subst (λ (s : Scene). IsBound board x.pushes s c.args.least) (sym (c.position.ensures x at)) total.bound);
       few = omega (arith, lt, pushes, few);

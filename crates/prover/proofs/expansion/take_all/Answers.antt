@@ -11,16 +11,16 @@ use Rattle.corrals.specs.Sets.{SetsView}
 use Rattle.prices.specs.Helping.{SlackView}
 use Rattle.prices.specs.Solving.{Allows}
 use Rattle.prover.specs.inside.Working.{AreTaken, IsChosen, IsFlooded}
-use Rattle.prover.proofs.Steps.{chosen_suffice, expanding_on, expands_by, read_push, stands_fit, taken_more, widens_then}
+use Rattle.prover.proofs.Steps.{chosen_suffice, expanding_on, expands_by, read_push, expanding_fits, taken_more, widens_then}
 use Rattle.prover.proofs.expansion.take_all.Goals as goal
 
 pub possible_pushes-requires-clause-fits : goal.possible_pushes-requires-clause-fits
 possible_pushes-requires-clause-fits c = subst (λ (b : Board). FitsLevel b c.args.from.now.position) (sym c.level.ensures)
-    (stands_fit c.args.pruner.now.board c.args.pruner.now.cap c.args.frontier.now c.args.from.now c.requires.expanding)
+    (expanding_fits c.args.pruner.now.board c.args.pruner.now.cap c.args.frontier.now c.args.from.now c.requires.expanding)
 
 pub of-slack-requires : goal.of-slack-requires
 of-slack-requires c = subst (λ (b : Board). IsScene b c.args.from.now.position) (sym c.distances-2.ensures)
-    (stands_fit c.args.pruner.now.board c.args.pruner.now.cap c.args.frontier.now c.args.from.now c.requires.expanding).scene
+    (expanding_fits c.args.pruner.now.board c.args.pruner.now.cap c.args.frontier.now c.args.from.now c.requires.expanding).scene
 
 pub try_push-requires-clause-possible : goal.try_push-requires-clause-possible
 try_push-requires-clause-possible c =
@@ -77,7 +77,7 @@ returns-clause-expands c =
     let only = c.find-only.result in
     let held = c.loop-index.desk.corral.held in
     let left = c.left-left.result in
-    let fits = stands_fit board cap c.args.frontier.now c.args.from.now c.requires.expanding in
+    let fits = expanding_fits board cap c.args.frontier.now c.args.from.now c.requires.expanding in
     let size : c.len-index-end.result ≡ length c.possible_pushes.new.pushes.items = search rules in
     let same : length ps ≡ length c.possible_pushes.new.pushes.items = ap (λ v. length v.items) was.kept in
     let over : length ps ≤ c.loop-index.index = omega (arith, size, same, c.loop-index-test.false) in

@@ -80,7 +80,7 @@ returns-clause-widens c =
     let new = c.open_at.new.self.entries in
     let least = c.max-least.result in
     let place = c.args.from.now.place in
-    let (x, at, same, count) = c.requires.expanding.stands in
+    let (x, at, same, count) = c.requires.expanding.at_place in
     let few = c.requires.expanding.searched.under_way.few place x at in
     let scene = c.requires.flooded.fits.scene in
     let made : IsNorm board (after_push board s p) n × FitsLevel board n =
@@ -97,7 +97,7 @@ returns-clause-widens c =
     } in
     on_ok_so c.open_at.result (λ enters. record {
       searched = record {
-        under_way = under_way_after board cap old new place k least s n p c.requires.expanding.searched.under_way c.requires.expanding.stands
+        under_way = under_way_after board cap old new place k least s n p c.requires.expanding.searched.under_way c.requires.expanding.at_place
             c.requires.possible made.0 made.1 total
             (subst (λ (j : ℕ). Enters old new (record { position = n; pushes = j; least = Some least; parent = Some (record { place = place; push = p }) }))
             one enters);
