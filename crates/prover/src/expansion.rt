@@ -6,7 +6,7 @@ use crate::desk::Desk;
 use crate::frontier::Frontier;
 use crate::pruner::Pruner;
 use crate::pushing::{Expanded, try_push};
-use prices::Slack;
+use prices::{Matching, Slack};
 use std::alloc::AllocError;
 
 /// Expands the open position at a place, with its least total, and closes it.
@@ -59,6 +59,8 @@ fn take_all(
         &mut desk.pushes,
     );
     pruner.level().tell();
+    // a fresh matching, so that nothing depends on what was expanded before
+    desk.matching = Matching::new();
     pruner.distances().meet(&from.position, &mut desk.matching);
     let left = pruner.left(from.pushes);
     let slack = Slack::of(pruner.distances(), &from.position, left, &desk.matching);
