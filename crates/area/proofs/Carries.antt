@@ -12,7 +12,7 @@ use Rattle.area.proofs.lemmas.Growing.{or_bit, and_bit, bit_or_left}
 use Rattle.area.proofs.lemmas.WordBits.{bit_at-mod, word_bit-not, word_bit_inside}
 
 -- where a bit of a word goes away in the sum with another word, a run of the word's bits leads there from a bit of the other
--- one, or from the carry into the first place
+-- one, or from the carry into the first index
 carry_bit : (free add carry : ℕ) (test : ℕ → Bool) → carry ≤ 1 → ((i : ℕ) → bit_at free (suc i) ≡ 1 → test i ≡ true → test (suc i) ≡ true) →
     ((i : ℕ) → bit_at add i ≡ 1 → test i ≡ true) → (carry ≡ 1 → bit_at free 0 ≡ 1 → test 0 ≡ true)
     → (j : ℕ) → bit_at free j ≡ 1 → bit_at (free + add + carry) j ≡ 0 → test j ≡ true

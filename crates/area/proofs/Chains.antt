@@ -1,5 +1,5 @@
 -- The boxes that hang together with one, as the area of a player where all other squares bar the way.
-use Rattle.std.proofs.Common.{◌≡◌, ℕ, ◌+◌, ◌*◌, ◌/◌, ◌%◌, ◌^◌, ◌<◌, ◌≤◌, true, false, not, eqb, ◌&&◌, ◌⊎◌, ◌↔◌, List, None, get_or, set, length, inl, inr, refl}
+use Rattle.std.proofs.Common.{◌≡◌, ℕ, ◌+◌, ◌*◌, ◌/◌, ◌%◌, ◌^◌, ◌<◌, ◌≤◌, true, false, not, eqb, ◌&&◌, ◌↔◌, List, get_or, set, length, inl, inr, refl}
 use Rattle.std.proofs.Common.{sym, ap, ◌∙◌, arith}
 use Rattle.std.specs.Int.{bit_not, w64}
 use Rattle.std.proofs.lemmas.Bool.{and_parts, not-true, cases_Bool, cases_eq, cases_lt, true≢false, eq-eqb}
@@ -14,10 +14,10 @@ use Rattle.grid.specs.Rising.{is_rising}
 use Rattle.area.specs.Area.{Area}
 use Rattle.area.specs.Groups.{HangsWith, itself, onto}
 use Rattle.area.specs.Words.{passing_from, word_bit}
-use Rattle.area.specs.inside.Flooding.{HasAim, IsGrowing, IsFlooded}
+use Rattle.area.specs.inside.Flooding.{IsFlooded}
 use Rattle.area.proofs.Detours.{area_step, along_walks}
 use Rattle.grid.proofs.lemmas.Steps.{inside_grid}
-use Rattle.area.proofs.lemmas.Flooding.{flood_inside, flood_whole, player_alone}
+use Rattle.area.proofs.lemmas.Flooding.{flood_found, player_alone}
 use Rattle.area.proofs.lemmas.Norms.{area_here}
 use Rattle.area.proofs.lemmas.WordBits.{has_bit-parts, word_bit-not}
 use Rattle.area.proofs.lemmas.WordSets.{passing_within, passing_past, passing_rise}
@@ -72,45 +72,42 @@ module _ (board : Board) (boxes : Squares) (clear : (q : ℕ) → contains boxes
         | inr no_box ↦ absurd (true≢false (sym (in_others (next board x d) free.0 ∙ ap not no_box) ∙ free.1))
       ])
 
--- in the midst of turning words over: those before a place have each bit turned over, and the others are as they were
+-- in the midst of turning words over: those before an index have each bit turned over, and the others are as they were
 abbrev pub AreTurned : List ℕ → ℕ → List ℕ → Type 0
-AreTurned words place now =
+AreTurned words index now =
     (length now ≡ length words)
-    × ((k j : ℕ) → k < place → j < WORD_BITS → word_bit (get_or now k 0) j ≡ not (word_bit (get_or words k 0) j))
-    × ((k : ℕ) → place ≤ k → get_or now k 0 ≡ get_or words k 0)
+    × ((k j : ℕ) → k < index → j < WORD_BITS → word_bit (get_or now k 0) j ≡ not (word_bit (get_or words k 0) j))
+    × ((k : ℕ) → index ≤ k → get_or now k 0 ≡ get_or words k 0)
 
-pub turned_on : (words now : List ℕ) (place word : ℕ) → AreTurned words place now → place < length now → word ≡ get_or now place 0 →
-    get_or words place 0 < 2 ^ 64 → AreTurned words (place + 1) (set now place (bit_not w64 word))
-turned_on words now place word (size, before, rest) inside read fits = (
-  length-set now place (bit_not w64 word) ∙ size,
-  λ k j lt below. elim (cases_eq k place) [
+pub turned_on : (words now : List ℕ) (index word : ℕ) → AreTurned words index now → index < length now → word ≡ get_or now index 0 →
+    get_or words index 0 < 2 ^ 64 → AreTurned words (index + 1) (set now index (bit_not w64 word))
+turned_on words now index word (size, before, rest) inside read fits = (
+  length-set now index (bit_not w64 word) ∙ size,
+  λ k j lt below. elim (cases_eq k index) [
     | inl e ↦
-        ap (λ (w : ℕ). word_bit w j) (ap (λ (x : ℕ). get_or (set now place (bit_not w64 word)) x 0) e ∙ get_or-set_same now place (bit_not w64 word) 0 inside)
-        ∙ (word_bit-not word j (let same = rest place (omega arith) in omega (arith, same, read, fits)) below ∙
-        ap (λ (w : ℕ). not (word_bit w j)) (read ∙ (rest place (omega arith) ∙ ap (λ (x : ℕ). get_or words x 0) (sym e))))
-    | inr ne ↦ ap (λ (w : ℕ). word_bit w j) (get_or-set_other now place k (bit_not w64 word) 0 ne) ∙ before k j (omega (arith, lt, ne)) below
+        ap (λ (w : ℕ). word_bit w j) (ap (λ (x : ℕ). get_or (set now index (bit_not w64 word)) x 0) e ∙ get_or-set_same now index (bit_not w64 word) 0 inside)
+        ∙ (word_bit-not word j (let same = rest index (omega arith) in omega (arith, same, read, fits)) below ∙
+        ap (λ (w : ℕ). not (word_bit w j)) (read ∙ (rest index (omega arith) ∙ ap (λ (x : ℕ). get_or words x 0) (sym e))))
+    | inr ne ↦ ap (λ (w : ℕ). word_bit w j) (get_or-set_other now index k (bit_not w64 word) 0 ne) ∙ before k j (omega (arith, lt, ne)) below
   ],
-  λ k le. get_or-set_other now place k (bit_not w64 word) 0 (λ e. omega (arith, le, e)) ∙ rest k (omega arith),
+  λ k le. get_or-set_other now index k (bit_not w64 word) 0 (λ e. omega (arith, le, e)) ∙ rest k (omega arith),
 )
 
-pub turned_bit : (words now : List ℕ) (place q : ℕ) → AreTurned words place now → length words ≤ place → q < WORD_BITS * length words →
+pub turned_bit : (words now : List ℕ) (index q : ℕ) → AreTurned words index now → length words ≤ index → q < WORD_BITS * length words →
     has_bit now q ≡ not (has_bit words q)
-turned_bit words now place q (size, before, rest) whole lt =
+turned_bit words now index q (size, before, rest) whole lt =
     has_bit-parts now q ∙ (before (q / WORD_BITS) (q % WORD_BITS) (omega arith) (omega arith) ∙ ap not (sym (has_bit-parts words q)))
 
 -- ---- the group
 
 pub group_found : (board : Board) (boxes : Squares) (square : ℕ) (barred old new : List ℕ) → ((q : ℕ) → contains boxes q ≡ true → is_wall board q ≡ false) →
     contains boxes square ≡ true → length new ≡ word_count (length board.cells) →
-    ((q : ℕ) → q < length board.cells → has_bit barred q ≡ not (contains boxes q)) → ((q : ℕ) → has_bit old q ≡ eqb square q) → IsGrowing board barred old new →
-    HasAim None new ⊎ IsFlooded board barred old new → (q : ℕ) → (has_bit new q ≡ true) ↔ HangsWith board boxes square q
+    ((q : ℕ) → q < length board.cells → has_bit barred q ≡ not (contains boxes q)) → ((q : ℕ) → has_bit old q ≡ eqb square q) →
+    IsFlooded board barred old new → (q : ℕ) → (has_bit new q ≡ true) ↔ HangsWith board boxes square q
 unfolding ring others
-group_found board boxes square barred old new clear there size stand alone growing (inl none) q = absurd none
-group_found board boxes square barred old new clear there size stand alone growing (inr found) q = (
-  λ h. walk_hangs board boxes clear square q there
-      (flood_inside board (ring board boxes clear square) barred old new (ring_scene board boxes clear square there) bars begun within growing q h),
-  λ w. flood_whole board (ring board boxes clear square) barred old new (ring_scene board boxes clear square there) bars begun within growing size found q
-      (hangs_walk board boxes clear w),
+group_found board boxes square barred old new clear there size stand alone flooded q = (
+  λ h. walk_hangs board boxes clear square q there ((found q).0 h),
+  λ w. (found q).1 (hangs_walk board boxes clear w),
 )
   where
     bars : (x : ℕ) → is_wall board x ≡ false → has_bit barred x ≡ contains (ring board boxes clear square).boxes x
@@ -121,3 +118,6 @@ group_found board boxes square barred old new clear there size stand alone growi
 
     within : (x : ℕ) → has_bit old x ≡ true → Area board (ring board boxes clear square) x
     within = player_alone board (ring board boxes clear square) old square refl alone
+
+    found : (x : ℕ) → (has_bit new x ≡ true) ↔ Area board (ring board boxes clear square) x
+    found = flood_found board (ring board boxes clear square) barred old new (ring_scene board boxes clear square there) bars begun within flooded size

@@ -18,7 +18,7 @@ use Rattle.grid.proofs.lemmas.Orders.{shortlex-append_not_gt}
 use Rattle.area.specs.LeastWalks.{IsLeastWalk, walk_letters, IsWalk}
 use Rattle.area.specs.inside.Descent.{IsDown, IsFirstDown, IsDescent, IsDescending, arrived, onward}
 use Rattle.area.specs.inside.Spread.{IsSpread, IsSearched}
-use Rattle.area.proofs.Spreading.{dir_same}
+use Rattle.area.proofs.lemmas.Directions.{dir_same}
 use Rattle.area.proofs.Reached.{scene_at, reached_free, reached_step, walk_home}
 
 -- the letters of one step more

@@ -101,10 +101,9 @@ module _ (board : Board) (s : Scene) (p : Push) (t : Scene) (scene : IsScene boa
           | inr ne ↦ inr (area_step board s y d w (free_before (next board y d) ne free))
         ]
 
-    -- nothing is lost but the square that the box went to, where the squares beside that are reached after the push
-    kept : (contains reached c ≡ true → (d : Dir) → contains reached (next board c d) ≡ true → Area board t (next board c d)) → (x : ℕ) → Area board s x →
-        Area board t x ⊎ (x ≡ c)
-    kept sides x w =
+    -- where the squares beside the one that the box went to stay joined, nothing is lost but that square
+    kept : StaysJoined board reached c b → (x : ℕ) → Area board s x → Area board t x ⊎ (x ≡ c)
+    kept joined x w =
         let home = (area_same board s behind x scene pushed.behind).0 w in
         (along_walks board s.boxes (λ (y : ℕ). Area board s y × (Area board t y ⊎ (y ≡ c))) step refl (pushed.behind, start) home.1).1
       where
@@ -124,7 +123,7 @@ module _ (board : Board) (s : Scene) (p : Push) (t : Scene) (scene : IsScene boa
             let in_set : contains reached c ≡ true = subst (λ (z : ℕ). contains reached z ≡ true) e ((area y).1 w) in
             let beside : contains reached (next board c d) ≡ true =
             subst (λ (z : ℕ). contains reached (next board z d) ≡ true) e ((area (next board y d)).1 there) in
-            subst (λ (z : ℕ). Area board t (next board z d)) (sym e) (sides in_set d beside)
+            subst (λ (z : ℕ). Area board t (next board z d)) (sym e) (skirted (next board c d) (joined in_set d beside))
 
         step : (y : ℕ) (d : Dir) → Area board s y × (Area board t y ⊎ (y ≡ c)) → IsFree board s.boxes (next board y d) → Area board s (next board y d) ×
             (Area board t (next board y d) ⊎ (next board y d ≡ c))
@@ -138,29 +137,17 @@ module _ (board : Board) (s : Scene) (p : Push) (t : Scene) (scene : IsScene boa
             )
 
     -- so nothing of the area is less than the least of what may be left of it
-    pub none_below : IsScene board t → GainsNothing board s.boxes reached c b → (q : ℕ) → IsLeastWith reached c b q → (r : ℕ) → Area board t r → q ≤ r
+    none_below : IsScene board t → GainsNothing board s.boxes reached c b → (q : ℕ) → IsLeastWith reached c b q → (r : ℕ) → Area board t r → q ≤ r
     none_below scene_after known q least r w = elim (gained known r w) [
       | inl f ↦ subst (λ (x : ℕ). q ≤ x) (sym f) least.most
       | inr v ↦ least.least r ((area r).1 v) (not_ahead r (walk_free board t _ _ scene_after w.1))
     ]
 
     -- what was reached is reached after the push
-    kept_reached : (contains reached c ≡ true → (d : Dir) → contains reached (next board c d) ≡ true → Area board t (next board c d)) → (x : ℕ) →
-        contains reached x ≡ true → x ≢ c → Area board t x
-    kept_reached sides x there ne = elim (kept sides x ((area x).0 there)) [
+    pub still_reached : StaysJoined board reached c b → (x : ℕ) → contains reached x ≡ true → x ≢ c → Area board t x
+    still_reached joined x there ne = elim (kept joined x ((area x).0 there)) [
       | inl w ↦ w
       | inr f ↦ absurd (ne f)
-    ]
-
-    pub still_reached : StaysJoined board reached c b → (x : ℕ) → contains reached x ≡ true → x ≢ c → Area board t x
-    still_reached joined = kept_reached (λ here d beside. skirted (next board c d) (joined here d beside))
-
-    -- so is the least of what may be left, once the squares beside the one ahead are
-    pub least_reached : ((d : Dir) → contains reached (next board c d) ≡ true → Area board t (next board c d)) → (q : ℕ) → IsLeastWith reached c b q →
-        Area board t q
-    least_reached sides q least = elim least.one [
-      | inl f ↦ subst (λ (x : ℕ). Area board t x) (sym f) area_box
-      | inr there ↦ kept_reached (λ here. sides) q there.0 there.1
     ]
 
     -- so the least square of the area after the push is the least of those

@@ -83,27 +83,27 @@ masked false b m true e f = f refl
 masked true b m false e f = e
 masked false b m false e f = refl
 
-module _ (board : Board) (masks : List StepMasks) (words : List ℕ) (place : ℕ) (e : StepMasks) (are : AreMasks board masks) (inside : place < length masks)
+module _ (board : Board) (masks : List StepMasks) (words : List ℕ) (index : ℕ) (e : StepMasks) (are : AreMasks board masks) (inside : index < length masks)
     (j : ℕ) (lt : j < WORD_BITS) where
   one_way : (d : Dir) (side : ℕ) →
-      (can_enter board d (WORD_BITS * place + j) ≡ true → word_bit side j ≡ has_bit words (next board (WORD_BITS * place + j) (opposite d))) →
-      word_bit (bit_and side (word_for d (get_or masks place e))) j ≡ comes_by board words d (WORD_BITS * place + j)
+      (can_enter board d (WORD_BITS * index + j) ≡ true → word_bit side j ≡ has_bit words (next board (WORD_BITS * index + j) (opposite d))) →
+      word_bit (bit_and side (word_for d (get_or masks index e))) j ≡ comes_by board words d (WORD_BITS * index + j)
   one_way d side same =
-      word_bit-and side (word_for d (get_or masks place e)) j
-      ∙ masked (word_bit side j) (has_bit words (next board (WORD_BITS * place + j) (opposite d))) (word_bit (word_for d (get_or masks place e)) j)
-      (can_enter board d (WORD_BITS * place + j)) (mask_bit board masks d place j e are inside lt) same
+      word_bit-and side (word_for d (get_or masks index e)) j
+      ∙ masked (word_bit side j) (has_bit words (next board (WORD_BITS * index + j) (opposite d))) (word_bit (word_for d (get_or masks index e)) j)
+      (can_enter board d (WORD_BITS * index + j)) (mask_bit board masks d index j e are inside lt) same
 
   -- so the word gathered from the four sides has the squares onto which a step leads from the set
   pub entered_bits : (d l r u by : ℕ) → board.cols ≡ by
-      → ((i : ℕ) → i + by ≡ WORD_BITS * place + j → word_bit d j ≡ has_bit words i)
-      → ((i : ℕ) → i ≡ WORD_BITS * place + j + 1 → word_bit l j ≡ has_bit words i)
-      → ((i : ℕ) → i + 1 ≡ WORD_BITS * place + j → word_bit r j ≡ has_bit words i)
-      → ((i : ℕ) → i ≡ WORD_BITS * place + j + by → word_bit u j ≡ has_bit words i)
-      → word_bit (bit_or (bit_or (bit_or (bit_and d (get_or masks place e).d) (bit_and l (get_or masks place e).l)) (bit_and r (get_or masks place e).r))
-      (bit_and u (get_or masks place e).u)) j ≡ is_entered board words (WORD_BITS * place + j)
+      → ((i : ℕ) → i + by ≡ WORD_BITS * index + j → word_bit d j ≡ has_bit words i)
+      → ((i : ℕ) → i ≡ WORD_BITS * index + j + 1 → word_bit l j ≡ has_bit words i)
+      → ((i : ℕ) → i + 1 ≡ WORD_BITS * index + j → word_bit r j ≡ has_bit words i)
+      → ((i : ℕ) → i ≡ WORD_BITS * index + j + by → word_bit u j ≡ has_bit words i)
+      → word_bit (bit_or (bit_or (bit_or (bit_and d (get_or masks index e).d) (bit_and l (get_or masks index e).l)) (bit_and r (get_or masks index e).r))
+      (bit_and u (get_or masks index e).u)) j ≡ is_entered board words (WORD_BITS * index + j)
   entered_bits d l r u by cols on_d on_l on_r on_u =
-      let m : StepMasks = get_or masks place e in
-      let q : ℕ = WORD_BITS * place + j in
+      let m : StepMasks = get_or masks index e in
+      let q : ℕ = WORD_BITS * index + j in
       word_bit-or (bit_or (bit_or (bit_and d m.d) (bit_and l m.l)) (bit_and r m.r)) (bit_and u m.u) j
       ∙ (ap (λ (x : Bool). x || word_bit (bit_and u m.u) j) (word_bit-or (bit_or (bit_and d m.d) (bit_and l m.l)) (bit_and r m.r) j ∙
       ap (λ (x : Bool). x || word_bit (bit_and r m.r) j) (word_bit-or (bit_and d m.d) (bit_and l m.l) j))

@@ -11,10 +11,8 @@ pub mod Spreading
 pub mod UnderWay
 pub mod Visiting
 pub mod Carries
-pub mod Arrays
 pub mod Widening
 pub mod OnBoards
-pub mod EarlyEnds
 pub mod Chains
 pub mod PushLists
 pub mod Unused

@@ -46,7 +46,7 @@ module _ (board : Board) (boxes free : List ℕ) (level : IsLevel board) (are : 
       by (inr (inr e)) = step U (let s = source_U board q (enters U q w.0) in omega (arith, s, e))
 
   -- what is added came by steps
-  pub widened_grows : (old new : List ℕ) → IsWidened board.cols free old new → IsGrowing board boxes old new
+  widened_grows : (old new : List ℕ) → IsWidened board.cols free old new → IsGrowing board boxes old new
   widened_grows old new f = record {
     kept = f.kept;
     sound = λ test keeps all. f.sound test (over test keeps) all;

@@ -28,33 +28,10 @@ use Rattle.area.specs.After.{IsAreaOf}
 use Rattle.area.specs.Pushes.{ArePushes}
 use Rattle.area.specs.inside.Pushable.{IsPushable, push_word}
 use Rattle.area.specs.inside.PushLists.{Allows, IsBefore, AreAllowedBefore, count_below}
+use Rattle.area.proofs.lemmas.Directions.{dir_same, dir_number-lt}
 use Rattle.area.proofs.lemmas.PushOrder.{all_none, all_same, all_push}
 
 -- ---- the pushes of one box
-
-dir_same : (d e : Dir) → dir_number d ≡ dir_number e → d ≡ e
-dir_same D D h = refl
-dir_same D L h = absurd (omega (arith, h))
-dir_same D R h = absurd (omega (arith, h))
-dir_same D U h = absurd (omega (arith, h))
-dir_same L D h = absurd (omega (arith, h))
-dir_same L L h = refl
-dir_same L R h = absurd (omega (arith, h))
-dir_same L U h = absurd (omega (arith, h))
-dir_same R D h = absurd (omega (arith, h))
-dir_same R L h = absurd (omega (arith, h))
-dir_same R R h = refl
-dir_same R U h = absurd (omega (arith, h))
-dir_same U D h = absurd (omega (arith, h))
-dir_same U L h = absurd (omega (arith, h))
-dir_same U R h = absurd (omega (arith, h))
-dir_same U U h = refl
-
-dir_number-lt : (d : Dir) → dir_number d < 4
-dir_number-lt D = omega arith
-dir_number-lt L = omega arith
-dir_number-lt R = omega arith
-dir_number-lt U = omega arith
 
 -- a push of a lesser square, or of the same one and in an earlier direction, comes first
 less_since_before : (p q : Push) → IsBefore q.square (dir_number q.dir) p → push_cmp p q ≡ Less
@@ -217,28 +194,28 @@ cleared_less w k lt h = elim (cases_lt (bit_and w (bit_not w64 (1 * 2 ^ k % 2 ^ 
 
 -- in the midst of a word: the pushes of its first squares stand in the list, no more than four for each box before, and
 -- the bits of the squares from there on are left
-pub record IsInWord (board : Board) (reach : Reach) (masks : PushMasks) (place left : ℕ) (ps : List Push) : Type 0 where
+pub record IsInWord (board : Board) (reach : Reach) (masks : PushMasks) (index left : ℕ) (ps : List Push) : Type 0 where
   pub seen : ℕ
   pub within : seen ≤ WORD_BITS
-  pub before : AreAllowedBefore board reach (WORD_BITS * place + seen) 0 ps
-  pub bound : length ps ≤ 4 * count_below reach.boxes (WORD_BITS * place + seen)
+  pub before : AreAllowedBefore board reach (WORD_BITS * index + seen) 0 ps
+  pub bound : length ps ≤ 4 * count_below reach.boxes (WORD_BITS * index + seen)
   pub rest : (j : ℕ) → j < WORD_BITS → (word_bit left j ≡ true) ↔ ((seen ≤ j) × (word_bit (union masks) j ≡ true))
 
-module _ (board : Board) (reach : Reach) (masks : PushMasks) (place : ℕ) (tells : (d : Dir) (j : ℕ) → j < WORD_BITS → (word_bit (push_word d masks) j ≡ true) ↔
-    IsPushable board reach.boxes reach.reached d (WORD_BITS * place + j)) where
+module _ (board : Board) (reach : Reach) (masks : PushMasks) (index : ℕ) (tells : (d : Dir) (j : ℕ) → j < WORD_BITS → (word_bit (push_word d masks) j ≡ true) ↔
+    IsPushable board reach.boxes reach.reached d (WORD_BITS * index + j)) where
   -- a bit for each push that is allowed in the word
-  has_push : (p : Push) → Allows board reach p → WORD_BITS * place ≤ p.square → p.square < WORD_BITS * (place + 1) →
-      word_bit (union masks) (p.square - WORD_BITS * place) ≡ true
+  has_push : (p : Push) → Allows board reach p → WORD_BITS * index ≤ p.square → p.square < WORD_BITS * (index + 1) →
+      word_bit (union masks) (p.square - WORD_BITS * index) ≡ true
   has_push p can ge lt =
-      let j : ℕ = p.square - WORD_BITS * place in
-      let e : p.square ≡ WORD_BITS * place + j = omega arith in
+      let j : ℕ = p.square - WORD_BITS * index in
+      let e : p.square ≡ WORD_BITS * index + j = omega arith in
       union_bit masks p.dir j ((tells p.dir j (omega arith)).1 (subst (λ (q : ℕ). IsPushable board reach.boxes reach.reached p.dir q) e can))
 
   -- at the first square
-  pub word_first : (left : ℕ) (ps : List Push) → left ≡ union masks → AreAllowedBefore board reach (WORD_BITS * place) 0 ps →
-      length ps ≤ 4 * count_below reach.boxes (WORD_BITS * place) → IsInWord board reach masks place left ps
+  pub word_first : (left : ℕ) (ps : List Push) → left ≡ union masks → AreAllowedBefore board reach (WORD_BITS * index) 0 ps →
+      length ps ≤ 4 * count_below reach.boxes (WORD_BITS * index) → IsInWord board reach masks index left ps
   word_first left ps same before bound =
-      let start : WORD_BITS * place ≡ WORD_BITS * place + 0 = omega arith in
+      let start : WORD_BITS * index ≡ WORD_BITS * index + 0 = omega arith in
       record {
         seen = 0;
         within = omega arith;
@@ -247,23 +224,23 @@ module _ (board : Board) (reach : Reach) (masks : PushMasks) (place : ℕ) (tell
         rest = λ j lt. (λ h. (omega arith, sym (ap (λ (w : ℕ). word_bit w j) same) ∙ h), λ h. ap (λ (w : ℕ). word_bit w j) same ∙ h.1);
       }
 
-  module _ (left : ℕ) (ps : List Push) (now : IsInWord board reach masks place left ps) where
+  module _ (left : ℕ) (ps : List Push) (now : IsInWord board reach masks index left ps) where
     module _ (t : ℕ) (low : (t < WORD_BITS) × (word_bit left t ≡ true) × ((j : ℕ) → word_bit left j ≡ true → t ≤ j)) where
       not_seen : now.seen ≤ t
       not_seen = ((now.rest t low.0).0 low.1).0
 
       -- a box stands on the square of the lowest bit left
-      pub word_box : contains reach.boxes (WORD_BITS * place + t) ≡ true
+      pub word_box : contains reach.boxes (WORD_BITS * index + t) ≡ true
       word_box =
           let d = of_union masks t ((now.rest t low.0).0 low.1).1 in
           ((tells d.0 t low.0).0 d.1).there
 
       -- and the squares up to there have no more pushes
-      pub word_here : AreAllowedBefore board reach (WORD_BITS * place + t) 0 ps
-      word_here = past_none board reach (WORD_BITS * place + now.seen) ps (WORD_BITS * place + t) (let le = not_seen in omega (arith, le))
+      pub word_here : AreAllowedBefore board reach (WORD_BITS * index + t) 0 ps
+      word_here = past_none board reach (WORD_BITS * index + now.seen) ps (WORD_BITS * index + t) (let le = not_seen in omega (arith, le))
           (λ p can ge lt.
           (let in_word = low.0 in
-          let j : ℕ = p.square - WORD_BITS * place in
+          let j : ℕ = p.square - WORD_BITS * index in
           let bit = (now.rest j (omega (arith, lt, in_word))).1 (omega (arith, ge), has_push p can (omega (arith, ge)) (omega (arith, lt, in_word))) in
           let le = low.2 j bit in
           omega (arith, le, lt, ge)))
@@ -272,22 +249,22 @@ module _ (board : Board) (reach : Reach) (masks : PushMasks) (place : ℕ) (tell
       pub word_room : (most : ℕ) → length reach.boxes ≤ most → length ps + 4 ≤ 4 * most
       word_room most few =
           let le = not_seen in
-          let more = below_more reach.boxes (WORD_BITS * place + now.seen) (WORD_BITS * place + t) (omega (arith, le)) in
-          let step = below_step reach.boxes (WORD_BITS * place + t) word_box in
-          let all = below_all reach.boxes (WORD_BITS * place + t + 1) in
+          let more = below_more reach.boxes (WORD_BITS * index + now.seen) (WORD_BITS * index + t) (omega (arith, le)) in
+          let step = below_step reach.boxes (WORD_BITS * index + t) word_box in
+          let all = below_all reach.boxes (WORD_BITS * index + t + 1) in
           let bound = now.bound in
           omega (arith, more, step, all, bound, few)
 
       -- with the pushes of that box
-      pub word_more : (rest : ℕ) (qs : List Push) → AreAllowedBefore board reach (WORD_BITS * place + t + 1) 0 qs → length qs ≤ length ps + 4 →
-          ((j : ℕ) → j < WORD_BITS → word_bit rest j ≡ (word_bit left j && not (eqb t j))) → IsInWord board reach masks place rest qs
+      pub word_more : (rest : ℕ) (qs : List Push) → AreAllowedBefore board reach (WORD_BITS * index + t + 1) 0 qs → length qs ≤ length ps + 4 →
+          ((j : ℕ) → j < WORD_BITS → word_bit rest j ≡ (word_bit left j && not (eqb t j))) → IsInWord board reach masks index rest qs
       word_more rest qs before longer bits =
           let le = not_seen in
-          let more = below_more reach.boxes (WORD_BITS * place + now.seen) (WORD_BITS * place + t) (omega (arith, le)) in
-          let step = below_step reach.boxes (WORD_BITS * place + t) word_box in
+          let more = below_more reach.boxes (WORD_BITS * index + now.seen) (WORD_BITS * index + t) (omega (arith, le)) in
+          let step = below_step reach.boxes (WORD_BITS * index + t) word_box in
           let bound = now.bound in
           let in_word = low.0 in
-          let on : WORD_BITS * place + t + 1 ≡ WORD_BITS * place + (t + 1) = omega arith in
+          let on : WORD_BITS * index + t + 1 ≡ WORD_BITS * index + (t + 1) = omega arith in
           record {
             seen = t + 1;
             within = omega (arith, in_word);
@@ -309,14 +286,14 @@ module _ (board : Board) (reach : Reach) (masks : PushMasks) (place : ℕ) (tell
           }
 
     -- past the last square
-    pub word_last : left ≡ 0 → AreAllowedBefore board reach (WORD_BITS * (place + 1)) 0 ps × (length ps ≤ 4 * count_below reach.boxes (WORD_BITS * (place + 1)))
+    pub word_last : left ≡ 0 → AreAllowedBefore board reach (WORD_BITS * (index + 1)) 0 ps × (length ps ≤ 4 * count_below reach.boxes (WORD_BITS * (index + 1)))
     word_last none =
         let within = now.within in
-        let more = below_more reach.boxes (WORD_BITS * place + now.seen) (WORD_BITS * (place + 1)) (omega (arith, within)) in
+        let more = below_more reach.boxes (WORD_BITS * index + now.seen) (WORD_BITS * (index + 1)) (omega (arith, within)) in
         let bound = now.bound in (
-          past_none board reach (WORD_BITS * place + now.seen) ps (WORD_BITS * (place + 1)) (omega (arith, within))
+          past_none board reach (WORD_BITS * index + now.seen) ps (WORD_BITS * (index + 1)) (omega (arith, within))
               (λ p can ge lt.
-              (let j : ℕ = p.square - WORD_BITS * place in
+              (let j : ℕ = p.square - WORD_BITS * index in
               let bit = (now.rest j (omega (arith, lt))).1 (omega (arith, ge), has_push p can (omega (arith, ge)) lt) in
               true≢false (sym bit ∙ (ap (λ (w : ℕ). word_bit w j) none ∙ word_bit-zero j))))
               now.before,

@@ -8,14 +8,14 @@ use Rattle.area.specs.inside.Written.{written_over}
 pub written : (new rest : List ℕ) (len : ℕ) → len ≡ length new → take len (new ++ rest) ≡ new
 written new rest len e = ap (λ (n : ℕ). take n (new ++ rest)) e ∙ take-append_seam new rest
 
--- so is the item read at a place
-pub read_written : (new rest : List ℕ) (len place at item : ℕ) → len ≡ length new → place < len → item ≡ get_or (take len (new ++ rest)) place item →
-    place ≡ at → item ≡ get_or new at 0
-read_written new rest len place at item e lt is same =
+-- so is the item read at an index
+pub read_written : (new rest : List ℕ) (len index at item : ℕ) → len ≡ length new → index < len → item ≡ get_or (take len (new ++ rest)) index item →
+    index ≡ at → item ≡ get_or new at 0
+read_written new rest len index at item e lt is same =
     let w = written new rest len e in
     let few = ap length w in
-    get_or_read (take len (new ++ rest)) place item (omega (arith, lt, few, e)) is 0
-    ∙ (ap (λ (xs : List ℕ). get_or xs place 0) w ∙ ap (λ (q : ℕ). get_or new q 0) same)
+    get_or_read (take len (new ++ rest)) index item (omega (arith, lt, few, e)) is 0
+    ∙ (ap (λ (xs : List ℕ). get_or xs index 0) w ∙ ap (λ (q : ℕ). get_or new q 0) same)
 
 -- where no fewer words were written than there were, the set holds these
 pub over : (old words : List ℕ) → length words ≡ length old → written_over old words ≡ words

@@ -1,35 +1,10 @@
 -- One look at a square beside the one at the head of the queue keeps what is true in the midst of a search.
-use Rattle.std.proofs.Common.{◌≡◌, ◌≢◌, ℕ, suc, ◌+◌, ◌<◌, ◌≤◌, false, ◌⊎◌, inl, inr, refl, sym, ap, subst, ◌∙◌, arith}
+use Rattle.std.proofs.Common.{◌≡◌, ◌≢◌, ℕ, suc, ◌+◌, ◌<◌, ◌≤◌, false, ◌⊎◌, inl, inr, sym, ap, subst, ◌∙◌, arith}
 use Rattle.std.proofs.lemmas.Bool.{cases_eq, cases_lt}
 use Rattle.grid.specs.declared.dir.Dir.{Dir}
-use Rattle.grid.specs.declared.dir.Dir.TheVariants.{D, L, R, U}
 use Rattle.grid.specs.Board.{Board, is_wall, next, dir_number}
+use Rattle.area.proofs.lemmas.Directions.{dir_same, dir_number-lt}
 use Rattle.area.specs.inside.Spread.{IsClosed, HasCome, IsSpread, IsSpreading}
-
--- a direction is known by its number
-pub dir_same : (d e : Dir) → dir_number d ≡ dir_number e → d ≡ e
-dir_same D D h = refl
-dir_same D L h = absurd (omega arith)
-dir_same D R h = absurd (omega arith)
-dir_same D U h = absurd (omega arith)
-dir_same L D h = absurd (omega arith)
-dir_same L L h = refl
-dir_same L R h = absurd (omega arith)
-dir_same L U h = absurd (omega arith)
-dir_same R D h = absurd (omega arith)
-dir_same R L h = absurd (omega arith)
-dir_same R R h = refl
-dir_same R U h = absurd (omega arith)
-dir_same U D h = absurd (omega arith)
-dir_same U L h = absurd (omega arith)
-dir_same U R h = absurd (omega arith)
-dir_same U U h = refl
-
-pub dir_number-lt : (d : Dir) → dir_number d < 4
-dir_number-lt D = omega arith
-dir_number-lt L = omega arith
-dir_number-lt R = omega arith
-dir_number-lt U = omega arith
 
 -- the directions below the next number are those below this one, and the one with this number
 more_dirs : (seen : ℕ) (d e : Dir) → dir_number d ≡ seen → dir_number e < suc seen → (dir_number e < seen) ⊎ (d ≡ e)
@@ -208,29 +183,6 @@ module _ (board : Board) (base from : ℕ) (mark place : ℕ → ℕ) (head seen
 
         closed : IsClosed board base mark' (place' head) d
         closed = subst (λ (x : ℕ). IsClosed board base mark' x d) (sym (stays head here)) closed_here
-
--- what stands past the queue's end is of no account
-pub past_end : (board : Board) (base from : ℕ) (mark place place' : ℕ → ℕ) (head seen tail : ℕ) → IsSpreading board base from mark place head seen tail →
-    head < tail → ((i : ℕ) → i < tail → place' i ≡ place i) → IsSpreading board base from mark place' head seen tail
-past_end board base from mark place place' head seen tail s here stays = record {
-  start = s.start;
-  free = s.free;
-  came = s.came;
-  listed = λ q lt. (let l = s.listed q lt in (l.0, l.1, stays l.0 l.1 ∙ l.2));
-  queued = λ i lt. subst (λ (x : ℕ). base < mark x) (sym (stays i lt)) (s.queued i lt);
-  bound = λ i lt. subst (λ (x : ℕ). mark x ≤ suc base + i) (sym (stays i lt)) (s.bound i lt);
-  sorted = λ i j le lt. (let e : mark (place' i) ≡ mark (place i) = ap mark (stays i (omega arith)) in
-      let f : mark (place' j) ≡ mark (place j) = ap mark (stays j lt) in
-      let h : mark (place i) ≤ mark (place j) = s.sorted i j le lt in
-      omega (arith, e, f, h));
-  close = λ i j low lt lt'. (let e : mark (place' i) ≡ mark (place i) = ap mark (stays i lt) in
-      let f : mark (place' j) ≡ mark (place j) = ap mark (stays j lt') in
-      let h : mark (place j) ≤ suc (mark (place i)) = s.close i j low lt lt' in
-      omega (arith, e, f, h));
-  done = λ i before lt d. subst (λ (x : ℕ). IsClosed board base mark x d) (sym (stays i lt)) (s.done i before lt d);
-  now = λ d lt. subst (λ (x : ℕ). IsClosed board base mark x d) (sym (stays head here)) (s.now d lt);
-  order = s.order;
-}
 
 -- the square at the head was looked round from: the next is at the head
 pub turned : (board : Board) (base from : ℕ) (mark place : ℕ → ℕ) (head tail : ℕ) → IsSpreading board base from mark place head 4 tail → head < tail →

@@ -51,153 +51,153 @@ module _ (m : StepMasks) where
   in_all_ways U j h = bit_or_right (bit_or (bit_or m.d m.l) m.r) m.u j h
 
 -- where a word has each square that a step could lead onto, its squares are settled
-pub full : (board : Board) (masks : List StepMasks) (boxes old : List ℕ) (place : ℕ) (e : StepMasks) → AreMasks board masks → place < length masks →
-    get_or boxes place 0 < 2 ^ 64 →
-    bit_or (get_or old place 0)
-    (bit_and (bit_or (bit_or (bit_or (get_or masks place e).d (get_or masks place e).l) (get_or masks place e).r) (get_or masks place e).u)
-    (bit_not w64 (get_or boxes place 0))) ≡ get_or old place 0 → IsSettling board boxes place old old false
-full board masks boxes old place e are inside box_fits same = record {
+pub full : (board : Board) (masks : List StepMasks) (boxes old : List ℕ) (index : ℕ) (e : StepMasks) → AreMasks board masks → index < length masks →
+    get_or boxes index 0 < 2 ^ 64 →
+    bit_or (get_or old index 0)
+    (bit_and (bit_or (bit_or (bit_or (get_or masks index e).d (get_or masks index e).l) (get_or masks index e).r) (get_or masks index e).u)
+    (bit_not w64 (get_or boxes index 0))) ≡ get_or old index 0 → IsSettling board boxes index old old false
+full board masks boxes old index e are inside box_fits same = record {
   growing = growing_none board boxes old;
   others = λ k ne. refl;
   less = λ h. absurd (false≢true h);
   same = λ h. refl;
   settled = λ h j inner clear entered.
-      (let m : StepMasks = get_or masks place e in
+      (let m : StepMasks = get_or masks index e in
       let any : ℕ = bit_or (bit_or (bit_or m.d m.l) m.r) m.u in
-      let open_bits : ℕ = bit_not w64 (get_or boxes place 0) in
-      let w = came_one_way board old (WORD_BITS * place + j) entered in
-      let can = (and_parts (can_enter board w.0 (WORD_BITS * place + j)) (has_bit old (next board (WORD_BITS * place + j) (opposite w.0))) w.1).0 in
-      let masked : word_bit (word_for w.0 m) j ≡ true = mask_bit board masks w.0 place j e are inside inner ∙ can in
-      let free : word_bit open_bits j ≡ true = word_bit-not (get_or boxes place 0) j box_fits inner ∙
-      not_from_false (word_bit (get_or boxes place 0) j) (sym (has_bit-at boxes place j inner) ∙ clear) in
-      has_bit-at old place j inner ∙
+      let open_bits : ℕ = bit_not w64 (get_or boxes index 0) in
+      let w = came_one_way board old (WORD_BITS * index + j) entered in
+      let can = (and_parts (can_enter board w.0 (WORD_BITS * index + j)) (has_bit old (next board (WORD_BITS * index + j) (opposite w.0))) w.1).0 in
+      let masked : word_bit (word_for w.0 m) j ≡ true = mask_bit board masks w.0 index j e are inside inner ∙ can in
+      let free : word_bit open_bits j ≡ true = word_bit-not (get_or boxes index 0) j box_fits inner ∙
+      not_from_false (word_bit (get_or boxes index 0) j) (sym (has_bit-at boxes index j inner) ∙ clear) in
+      has_bit-at old index j inner ∙
       (ap (λ (x : ℕ). word_bit x j) (sym same) ∙
-      bit_or_right (get_or old place 0) (bit_and any open_bits) j (bit_and_from any open_bits j (in_all_ways m w.0 j masked) free)));
+      bit_or_right (get_or old index 0) (bit_and any open_bits) j (bit_and_from any open_bits j (in_all_ways m w.0 j masked) free)));
 }
 
-module _ (board : Board) (masks : List StepMasks) (boxes old : List ℕ) (place came : ℕ) (e : StepMasks) (are : AreMasks board masks)
-    (inside : place < length masks) (room : length old ≡ length masks)
-    (box_fits : get_or boxes place 0 < 2 ^ 64) (old_fits : get_or old place 0 < 2 ^ 64) (bits : (j : ℕ) → j < WORD_BITS →
-    word_bit came j ≡ is_entered board old (WORD_BITS * place + j)) where
+module _ (board : Board) (masks : List StepMasks) (boxes old : List ℕ) (index came : ℕ) (e : StepMasks) (are : AreMasks board masks)
+    (inside : index < length masks) (room : length old ≡ length masks)
+    (box_fits : get_or boxes index 0 < 2 ^ 64) (old_fits : get_or old index 0 < 2 ^ 64) (bits : (j : ℕ) → j < WORD_BITS →
+    word_bit came j ≡ is_entered board old (WORD_BITS * index + j)) where
   abbrev pub open_bits : ℕ
-  open_bits = bit_not w64 (get_or boxes place 0)
+  open_bits = bit_not w64 (get_or boxes index 0)
 
   abbrev pub first_bits : ℕ
-  first_bits = bit_or (get_or old place 0) (bit_and came open_bits)
+  first_bits = bit_or (get_or old index 0) (bit_and came open_bits)
 
   open_fits : open_bits < 2 ^ 64
   open_fits = omega arith
 
   -- where a bit is open, no box stands
-  open_clear : (j : ℕ) → j < WORD_BITS → word_bit open_bits j ≡ true → has_bit boxes (WORD_BITS * place + j) ≡ false
-  open_clear j lt h = has_bit-at boxes place j lt ∙ not-true (word_bit (get_or boxes place 0) j) (sym (word_bit-not (get_or boxes place 0) j box_fits lt) ∙ h)
+  open_clear : (j : ℕ) → j < WORD_BITS → word_bit open_bits j ≡ true → has_bit boxes (WORD_BITS * index + j) ≡ false
+  open_clear j lt h = has_bit-at boxes index j lt ∙ not-true (word_bit (get_or boxes index 0) j) (sym (word_bit-not (get_or boxes index 0) j box_fits lt) ∙ h)
 
-  clear_open : (j : ℕ) → j < WORD_BITS → has_bit boxes (WORD_BITS * place + j) ≡ false → word_bit open_bits j ≡ true
-  clear_open j lt h = word_bit-not (get_or boxes place 0) j box_fits lt ∙
-      not_from_false (word_bit (get_or boxes place 0) j) (sym (has_bit-at boxes place j lt) ∙ h)
+  clear_open : (j : ℕ) → j < WORD_BITS → has_bit boxes (WORD_BITS * index + j) ≡ false → word_bit open_bits j ≡ true
+  clear_open j lt h = word_bit-not (get_or boxes index 0) j box_fits lt ∙
+      not_from_false (word_bit (get_or boxes index 0) j) (sym (has_bit-at boxes index j lt) ∙ h)
 
   -- where a visit adds nothing to a word, its squares are settled
-  pub still : first_bits ≡ get_or old place 0 → IsSettling board boxes place old old false
+  pub still : first_bits ≡ get_or old index 0 → IsSettling board boxes index old old false
   still same = record {
     growing = growing_none board boxes old;
     others = λ k ne. refl;
     less = λ h. absurd (false≢true h);
     same = λ h. refl;
     settled = λ h j inner clear entered.
-        has_bit-at old place j inner
+        has_bit-at old index j inner
         ∙ (ap (λ (w : ℕ). word_bit w j) (sym same)
-        ∙ bit_or_right (get_or old place 0) (bit_and came open_bits) j (bit_and_from came open_bits j (bits j inner ∙ entered) (clear_open j inner clear)));
+        ∙ bit_or_right (get_or old index 0) (bit_and came open_bits) j (bit_and_from came open_bits j (bits j inner ∙ entered) (clear_open j inner clear)));
   }
 
   module _ (test : ℕ → Bool) (keeps : IsKept board boxes test) where
     -- a direction's open mask bit passes the test on
-    passes : (d : Dir) (j : ℕ) → word_bit (bit_and (word_for d (get_or masks place e)) open_bits) j ≡ true → (j < WORD_BITS) ×
-        (can_enter board d (WORD_BITS * place + j) ≡ true) × (has_bit boxes (WORD_BITS * place + j) ≡ false)
+    passes : (d : Dir) (j : ℕ) → word_bit (bit_and (word_for d (get_or masks index e)) open_bits) j ≡ true → (j < WORD_BITS) ×
+        (can_enter board d (WORD_BITS * index + j) ≡ true) × (has_bit boxes (WORD_BITS * index + j) ≡ false)
     passes d j h =
-        let p = and_bit (word_for d (get_or masks place e)) open_bits j h in
+        let p = and_bit (word_for d (get_or masks index e)) open_bits j h in
         let lt = word_bit_inside open_bits j open_fits p.1 in
-        (lt, sym (mask_bit board masks d place j e are inside lt) ∙ p.0, open_clear j lt p.1)
+        (lt, sym (mask_bit board masks d index j e are inside lt) ∙ p.0, open_clear j lt p.1)
 
-    onto : (d : Dir) (i j : ℕ) → word_bit (bit_and (word_for d (get_or masks place e)) open_bits) j ≡ true →
-        (can_enter board d (WORD_BITS * place + j) ≡ true → next board (WORD_BITS * place + j) (opposite d) ≡ WORD_BITS * place + i) →
-        test (WORD_BITS * place + i) ≡ true → test (WORD_BITS * place + j) ≡ true
+    onto : (d : Dir) (i j : ℕ) → word_bit (bit_and (word_for d (get_or masks index e)) open_bits) j ≡ true →
+        (can_enter board d (WORD_BITS * index + j) ≡ true → next board (WORD_BITS * index + j) (opposite d) ≡ WORD_BITS * index + i) →
+        test (WORD_BITS * index + i) ≡ true → test (WORD_BITS * index + j) ≡ true
     onto d i j h source start =
         let p = passes d j h in
-        keeps d (WORD_BITS * place + j) p.2 p.1 (ap test (source p.1) ∙ start)
+        keeps d (WORD_BITS * index + j) p.2 p.1 (ap test (source p.1) ∙ start)
 
-    pub passes_on : PassesOn (λ j. test (WORD_BITS * place + j)) board.cols (bit_and (get_or masks place e).d open_bits)
-        (bit_and (get_or masks place e).l open_bits) (bit_and (get_or masks place e).r open_bits) (bit_and (get_or masks place e).u open_bits)
+    pub passes_on : PassesOn (λ j. test (WORD_BITS * index + j)) board.cols (bit_and (get_or masks index e).d open_bits)
+        (bit_and (get_or masks index e).l open_bits) (bit_and (get_or masks index e).r open_bits) (bit_and (get_or masks index e).u open_bits)
     passes_on = record {
-      on_right = λ i j step h start. onto R i j h (λ can. (let s = source_R board (WORD_BITS * place + j) can in omega arith)) start;
-      on_left = λ i j step h start. onto L i j h (λ can. (let s = source_L board (WORD_BITS * place + j) can in omega arith)) start;
-      on_down = λ i j step h start. onto D i j h (λ can. (let s = source_D board (WORD_BITS * place + j) can in omega arith)) start;
-      on_up = λ i j step h start. onto U i j h (λ can. (let s = source_U board (WORD_BITS * place + j) can in omega arith)) start;
+      on_right = λ i j step h start. onto R i j h (λ can. (let s = source_R board (WORD_BITS * index + j) can in omega arith)) start;
+      on_left = λ i j step h start. onto L i j h (λ can. (let s = source_L board (WORD_BITS * index + j) can in omega arith)) start;
+      on_down = λ i j step h start. onto D i j h (λ can. (let s = source_D board (WORD_BITS * index + j) can in omega arith)) start;
+      on_up = λ i j step h start. onto U i j h (λ can. (let s = source_U board (WORD_BITS * index + j) can in omega arith)) start;
     }
 
     -- the squares entered pass it
-    pub first_pass : AllPass test old → (j : ℕ) → word_bit first_bits j ≡ true → test (WORD_BITS * place + j) ≡ true
-    first_pass all j h = elim (or_bit (get_or old place 0) (bit_and came open_bits) j h) [
-      | inl here ↦ all (WORD_BITS * place + j) (has_bit-at old place j (word_bit_inside (get_or old place 0) j old_fits here) ∙ here)
+    pub first_pass : AllPass test old → (j : ℕ) → word_bit first_bits j ≡ true → test (WORD_BITS * index + j) ≡ true
+    first_pass all j h = elim (or_bit (get_or old index 0) (bit_and came open_bits) j h) [
+      | inl here ↦ all (WORD_BITS * index + j) (has_bit-at old index j (word_bit_inside (get_or old index 0) j old_fits here) ∙ here)
       | inr new ↦
           (let p = and_bit came open_bits j new in
           let lt = word_bit_inside open_bits j open_fits p.1 in
-          let w = came_one_way board old (WORD_BITS * place + j) (sym (bits j lt) ∙ p.0) in
-          let parts = and_parts (can_enter board w.0 (WORD_BITS * place + j)) (has_bit old (next board (WORD_BITS * place + j) (opposite w.0))) w.1 in
-          keeps w.0 (WORD_BITS * place + j) (open_clear j lt p.1) parts.0 (all (next board (WORD_BITS * place + j) (opposite w.0)) parts.1))
+          let w = came_one_way board old (WORD_BITS * index + j) (sym (bits j lt) ∙ p.0) in
+          let parts = and_parts (can_enter board w.0 (WORD_BITS * index + j)) (has_bit old (next board (WORD_BITS * index + j) (opposite w.0))) w.1 in
+          keeps w.0 (WORD_BITS * index + j) (open_clear j lt p.1) parts.0 (all (next board (WORD_BITS * index + j) (opposite w.0)) parts.1))
     ]
 
   module _ (filled by : ℕ) (fits : filled < 2 ^ 64) (cols : board.cols ≡ by)
-      (grown : IsGrown first_bits filled (λ test. PassesOn test by (bit_and (get_or masks place e).d open_bits) (bit_and (get_or masks place e).l open_bits)
-      (bit_and (get_or masks place e).r open_bits) (bit_and (get_or masks place e).u open_bits))) where
-    here_now : get_or (set old place filled) place 0 ≡ filled
-    here_now = get_or-set_same old place filled 0 (omega arith)
+      (grown : IsGrown first_bits filled (λ test. PassesOn test by (bit_and (get_or masks index e).d open_bits) (bit_and (get_or masks index e).l open_bits)
+      (bit_and (get_or masks index e).r open_bits) (bit_and (get_or masks index e).u open_bits))) where
+    here_now : get_or (set old index filled) index 0 ≡ filled
+    here_now = get_or-set_same old index filled 0 (omega arith)
 
     -- a square's bit is of the word that was written, or as before
-    bit_now : (q : ℕ) → (q / WORD_BITS ≡ place) × (has_bit (set old place filled) q ≡ word_bit filled (q % WORD_BITS)) ×
-        (has_bit old q ≡ word_bit (get_or old place 0) (q % WORD_BITS)) ⊎ (has_bit (set old place filled) q ≡ has_bit old q)
-    bit_now q = elim (cases_eq (q / WORD_BITS) place) [
+    bit_now : (q : ℕ) → (q / WORD_BITS ≡ index) × (has_bit (set old index filled) q ≡ word_bit filled (q % WORD_BITS)) ×
+        (has_bit old q ≡ word_bit (get_or old index 0) (q % WORD_BITS)) ⊎ (has_bit (set old index filled) q ≡ has_bit old q)
+    bit_now q = elim (cases_eq (q / WORD_BITS) index) [
       | inl at ↦ inl (
         at,
-        has_bit-parts (set old place filled) q ∙
-            (ap (λ (k : ℕ). word_bit (get_or (set old place filled) k 0) (q % WORD_BITS)) at ∙ ap (λ (w : ℕ). word_bit w (q % WORD_BITS)) here_now),
+        has_bit-parts (set old index filled) q ∙
+            (ap (λ (k : ℕ). word_bit (get_or (set old index filled) k 0) (q % WORD_BITS)) at ∙ ap (λ (w : ℕ). word_bit w (q % WORD_BITS)) here_now),
         has_bit-parts old q ∙ ap (λ (k : ℕ). word_bit (get_or old k 0) (q % WORD_BITS)) at,
       )
-      | inr ne ↦ inr (has_bit-parts (set old place filled) q ∙
-          (ap (λ (w : ℕ). word_bit w (q % WORD_BITS)) (get_or-set_other old place (q / WORD_BITS) filled 0 ne) ∙ sym (has_bit-parts old q)))
+      | inr ne ↦ inr (has_bit-parts (set old index filled) q ∙
+          (ap (λ (w : ℕ). word_bit w (q % WORD_BITS)) (get_or-set_other old index (q / WORD_BITS) filled 0 ne) ∙ sym (has_bit-parts old q)))
     ]
 
     passes_by : (test : ℕ → Bool) → IsKept board boxes test →
-        PassesOn (λ j. test (WORD_BITS * place + j)) by (bit_and (get_or masks place e).d open_bits) (bit_and (get_or masks place e).l open_bits)
-        (bit_and (get_or masks place e).r open_bits) (bit_and (get_or masks place e).u open_bits)
-    passes_by test keeps = subst (λ (n : ℕ). PassesOn (λ j. test (WORD_BITS * place + j)) n (bit_and (get_or masks place e).d open_bits)
-        (bit_and (get_or masks place e).l open_bits) (bit_and (get_or masks place e).r open_bits) (bit_and (get_or masks place e).u open_bits)) cols
+        PassesOn (λ j. test (WORD_BITS * index + j)) by (bit_and (get_or masks index e).d open_bits) (bit_and (get_or masks index e).l open_bits)
+        (bit_and (get_or masks index e).r open_bits) (bit_and (get_or masks index e).u open_bits)
+    passes_by test keeps = subst (λ (n : ℕ). PassesOn (λ j. test (WORD_BITS * index + j)) n (bit_and (get_or masks index e).d open_bits)
+        (bit_and (get_or masks index e).l open_bits) (bit_and (get_or masks index e).r open_bits) (bit_and (get_or masks index e).u open_bits)) cols
         (passes_on test keeps)
 
-    grows : IsGrowing board boxes old (set old place filled)
+    grows : IsGrowing board boxes old (set old index filled)
     grows = record {
       kept = λ q h. elim (bit_now q) [
-        | inl now ↦ now.1 ∙ grown.kept (q % WORD_BITS) (bit_or_left (get_or old place 0) (bit_and came open_bits) (q % WORD_BITS) (sym now.2 ∙ h))
+        | inl now ↦ now.1 ∙ grown.kept (q % WORD_BITS) (bit_or_left (get_or old index 0) (bit_and came open_bits) (q % WORD_BITS) (sym now.2 ∙ h))
         | inr same ↦ same ∙ h
       ];
       sound = λ test keeps all q h. elim (bit_now q) [
         | inl now ↦
-            (let at : WORD_BITS * place + q % WORD_BITS ≡ q = (let p = now.0 in omega arith) in
-            sym (ap test at) ∙ grown.sound (λ j. test (WORD_BITS * place + j)) (passes_by test keeps) (first_pass test keeps all) (q % WORD_BITS) (sym now.1 ∙
+            (let at : WORD_BITS * index + q % WORD_BITS ≡ q = (let p = now.0 in omega arith) in
+            sym (ap test at) ∙ grown.sound (λ j. test (WORD_BITS * index + j)) (passes_by test keeps) (first_pass test keeps all) (q % WORD_BITS) (sym now.1 ∙
             h))
         | inr same ↦ all q (sym same ∙ h)
       ];
     }
 
     -- where it adds something, there is less room left
-    pub gained : first_bits ≢ get_or old place 0 → IsSettling board boxes place old (set old place filled) true
+    pub gained : first_bits ≢ get_or old index 0 → IsSettling board boxes index old (set old index filled) true
     gained more = record {
       growing = grows;
-      others = λ k ne. get_or-set_other old place k filled 0 ne;
+      others = λ k ne. get_or-set_other old index k filled 0 ne;
       less = λ h.
-          (let total = sum_by-set (λ (w : ℕ). 2 ^ 64 - w) old place filled 0 (omega arith) in
-          let first = le_or_l (get_or old place 0) (bit_and came open_bits) in
+          (let total = sum_by-set (λ (w : ℕ). 2 ^ 64 - w) old index filled 0 (omega arith) in
+          let first = le_or_l (get_or old index 0) (bit_and came open_bits) in
           let last = grown.most in
-          let other : get_or old place 0 < first_bits = lesser (get_or old place 0) first_bits first more in
+          let other : get_or old index 0 < first_bits = lesser (get_or old index 0) first_bits first more in
           omega (arith, total));
       same = λ h. absurd (true≢false h);
       settled = λ h. absurd (true≢false h);
@@ -210,32 +210,32 @@ module _ (board : Board) (masks : List StepMasks) (boxes old : List ℕ) (place 
         ]
 
 -- a visit that added nothing
-pub flooding_on : (board : Board) (boxes old now new : List ℕ) (place : ℕ) (grew : Bool) → IsFlooding board boxes place old now →
-    IsSettling board boxes place now new grew → grew ≡ false → IsFlooding board boxes (place + 1) old new
-flooding_on board boxes old now new place grew f s even = record {
+pub flooding_on : (board : Board) (boxes old now new : List ℕ) (index : ℕ) (grew : Bool) → IsFlooding board boxes index old now →
+    IsSettling board boxes index now new grew → grew ≡ false → IsFlooding board boxes (index + 1) old new
+flooding_on board boxes old now new index grew f s even = record {
   growing = growing_then board boxes old now new f.growing s.growing;
-  settled = λ k j lt inner. elim (cases_lt k place) [
+  settled = λ k j lt inner. elim (cases_lt k index) [
     | inl before ↦ subst (λ (ws : List ℕ). IsSettled board boxes ws (WORD_BITS * k + j)) (sym (s.same even)) (f.settled k j before inner)
-    | inr ge ↦ subst (λ (n : ℕ). IsSettled board boxes new (WORD_BITS * n + j)) (let e : place ≡ k = omega arith in e) (s.settled even j inner)
+    | inr ge ↦ subst (λ (n : ℕ). IsSettled board boxes new (WORD_BITS * n + j)) (let e : index ≡ k = omega arith in e) (s.settled even j inner)
   ];
 }
 
 -- a visit that added squares changed no word that is so far before it, nor what is entered there
-pub flooding_back : (board : Board) (boxes old now new : List ℕ) (place back : ℕ) (grew : Bool) → board.cols / WORD_BITS + 1 ≤ back →
-    IsFlooding board boxes place old now → IsSettling board boxes place now new grew → IsFlooding board boxes (place - back) old new
-flooding_back board boxes old now new place back grew far f s = record {
+pub flooding_back : (board : Board) (boxes old now new : List ℕ) (index back : ℕ) (grew : Bool) → board.cols / WORD_BITS + 1 ≤ back →
+    IsFlooding board boxes index old now → IsSettling board boxes index now new grew → IsFlooding board boxes (index - back) old new
+flooding_back board boxes old now new index back grew far f s = record {
   growing = growing_then board boxes old now new f.growing s.growing;
   settled = λ k j lt inner clear entered.
       (let q : ℕ = WORD_BITS * k + j in
       s.growing.kept q (f.settled k j (omega arith) inner clear (entered_same board now new q (λ x le. sym (before x (omega arith))) ∙ entered)));
 }
   where
-    before : (x : ℕ) → x < WORD_BITS * place → has_bit new x ≡ has_bit now x
+    before : (x : ℕ) → x < WORD_BITS * index → has_bit new x ≡ has_bit now x
     before x lt = has_bit-parts new x ∙ (ap (λ (w : ℕ). word_bit w (x % WORD_BITS)) (s.others (x / WORD_BITS) (λ e. omega arith)) ∙ sym (has_bit-parts now x))
 
 -- after the last word no step leads out of the set
-pub flooded : (board : Board) (boxes old new : List ℕ) (place : ℕ) → length new ≤ place → IsFlooding board boxes place old new → IsFlooded board boxes old new
-flooded board boxes old new place all f = record {
+pub flooded : (board : Board) (boxes old new : List ℕ) (index : ℕ) → length new ≤ index → IsFlooding board boxes index old new → IsFlooded board boxes old new
+flooded board boxes old new index all f = record {
   growing = f.growing;
   settled = λ q lt. subst (λ (x : ℕ). IsSettled board boxes new x) (square_parts q).0
       (f.settled (q / WORD_BITS) (q % WORD_BITS) (omega arith) (square_parts q).1);

@@ -81,21 +81,21 @@ widened_then cols free a b c g h = record {
 }
 
 -- where a word is written over with itself, nothing changes
-pub set_itself : (words : List ℕ) (place word : ℕ) → word ≡ get_or words place 0 → set words place word ≡ words
-set_itself words place word same = ext_get_or 0 (set words place word) words (length-set words place word) (λ k lt. elim (cases_eq k place) [
-  | inl e ↦ ap (λ (x : ℕ). get_or (set words place word) x 0) e ∙
-      (get_or-set_same words place word 0 (let z = length-set words place word in omega (arith, z, e, lt)) ∙ (same ∙ ap (λ (x : ℕ). get_or words x 0) (sym e)))
-  | inr ne ↦ get_or-set_other words place k word 0 ne
+pub set_itself : (words : List ℕ) (index word : ℕ) → word ≡ get_or words index 0 → set words index word ≡ words
+set_itself words index word same = ext_get_or 0 (set words index word) words (length-set words index word) (λ k lt. elim (cases_eq k index) [
+  | inl e ↦ ap (λ (x : ℕ). get_or (set words index word) x 0) e ∙
+      (get_or-set_same words index word 0 (let z = length-set words index word in omega (arith, z, e, lt)) ∙ (same ∙ ap (λ (x : ℕ). get_or words x 0) (sym e)))
+  | inr ne ↦ get_or-set_other words index k word 0 ne
 ])
 
 -- a word of free numbers passes a test on within it as the set of free numbers does
-module _ (cols : ℕ) (free : List ℕ) (place : ℕ) (fits : get_or free place 0 < 2 ^ 64) (test : ℕ → Bool) (passes : PassesOver cols free test) where
-  onto : (i j : ℕ) → IsBeside cols (WORD_BITS * place + i) (WORD_BITS * place + j) → word_bit (get_or free place 0) j ≡ true →
-      test (WORD_BITS * place + i) ≡ true → test (WORD_BITS * place + j) ≡ true
-  onto i j near bit old = passes (WORD_BITS * place + i) (WORD_BITS * place + j) near
-      (has_bit-at free place j (word_bit_inside (get_or free place 0) j fits bit) ∙ bit) old
+module _ (cols : ℕ) (free : List ℕ) (index : ℕ) (fits : get_or free index 0 < 2 ^ 64) (test : ℕ → Bool) (passes : PassesOver cols free test) where
+  onto : (i j : ℕ) → IsBeside cols (WORD_BITS * index + i) (WORD_BITS * index + j) → word_bit (get_or free index 0) j ≡ true →
+      test (WORD_BITS * index + i) ≡ true → test (WORD_BITS * index + j) ≡ true
+  onto i j near bit old = passes (WORD_BITS * index + i) (WORD_BITS * index + j) near
+      (has_bit-at free index j (word_bit_inside (get_or free index 0) j fits bit) ∙ bit) old
 
-  pub all_ways : PassesOn (λ j. test (WORD_BITS * place + j)) cols (get_or free place 0) (get_or free place 0) (get_or free place 0) (get_or free place 0)
+  pub all_ways : PassesOn (λ j. test (WORD_BITS * index + j)) cols (get_or free index 0) (get_or free index 0) (get_or free index 0) (get_or free index 0)
   all_ways = record {
     on_down = λ i j e bit old. onto i j (inr (inl (omega (arith, e)))) bit old;
     on_left = λ i j e bit old. onto i j (inl (inr (omega (arith, e)))) bit old;
@@ -106,33 +106,33 @@ module _ (cols : ℕ) (free : List ℕ) (place : ℕ) (fits : get_or free place 
 -- ---- a visit
 
 -- where a word has each of its free numbers, it is full
-pub visit_full : (cols : ℕ) (free old : List ℕ) (place : ℕ) → bit_or (get_or old place 0) (get_or free place 0) ≡ get_or old place 0 →
-    IsVisit cols free place old old false
-visit_full cols free old place same = record {
+pub visit_full : (cols : ℕ) (free old : List ℕ) (index : ℕ) → bit_or (get_or old index 0) (get_or free index 0) ≡ get_or old index 0 →
+    IsVisit cols free index old old false
+visit_full cols free old index same = record {
   widened = widened_none cols free old;
   others = λ k ne. refl;
   less = λ h. absurd (false≢true h);
   same = λ h. refl;
   full = λ h p j lt near vacant there.
-      has_bit-at old place j lt ∙ (ap (λ (w : ℕ). word_bit w j) (sym same) ∙
-      bit_or_right (get_or old place 0) (get_or free place 0) j (sym (has_bit-at free place j lt) ∙ vacant));
+      has_bit-at old index j lt ∙ (ap (λ (w : ℕ). word_bit w j) (sym same) ∙
+      bit_or_right (get_or old index 0) (get_or free index 0) j (sym (has_bit-at free index j lt) ∙ vacant));
 }
 
-module _ (cols : ℕ) (free old : List ℕ) (place came : ℕ) (inside : place < length old) (old_fits : get_or old place 0 < 2 ^ 64)
-    (free_fits : get_or free place 0 < 2 ^ 64)
-    (bits : (j : ℕ) → j < WORD_BITS → (word_bit came j ≡ true) ↔ ((p : ℕ) × IsBeside cols p (WORD_BITS * place + j) × (has_bit old p ≡ true))) where
+module _ (cols : ℕ) (free old : List ℕ) (index came : ℕ) (inside : index < length old) (old_fits : get_or old index 0 < 2 ^ 64)
+    (free_fits : get_or free index 0 < 2 ^ 64)
+    (bits : (j : ℕ) → j < WORD_BITS → (word_bit came j ≡ true) ↔ ((p : ℕ) × IsBeside cols p (WORD_BITS * index + j) × (has_bit old p ≡ true))) where
   abbrev pub first_bits : ℕ
-  first_bits = bit_or (get_or old place 0) (bit_and came (get_or free place 0))
+  first_bits = bit_or (get_or old index 0) (bit_and came (get_or free index 0))
 
-  pub still_full : first_bits ≡ get_or old place 0 → IsFull cols free place old
+  pub still_full : first_bits ≡ get_or old index 0 → IsFull cols free index old
   still_full same p j lt near vacant there =
-      has_bit-at old place j lt
+      has_bit-at old index j lt
       ∙ (ap (λ (w : ℕ). word_bit w j) (sym same)
-      ∙ bit_or_right (get_or old place 0) (bit_and came (get_or free place 0)) j
-      (bit_and_from came (get_or free place 0) j ((bits j lt).1 (p, near, there)) (sym (has_bit-at free place j lt) ∙ vacant)))
+      ∙ bit_or_right (get_or old index 0) (bit_and came (get_or free index 0)) j
+      (bit_and_from came (get_or free index 0) j ((bits j lt).1 (p, near, there)) (sym (has_bit-at free index j lt) ∙ vacant)))
 
   -- where a visit adds nothing to a word, it is full
-  pub visit_still : first_bits ≡ get_or old place 0 → IsVisit cols free place old old false
+  pub visit_still : first_bits ≡ get_or old index 0 → IsVisit cols free index old old false
   visit_still same = record {
     widened = widened_none cols free old;
     others = λ k ne. refl;
@@ -142,81 +142,81 @@ module _ (cols : ℕ) (free old : List ℕ) (place came : ℕ) (inside : place <
   }
 
   -- the numbers beside the set pass a test that all of the set pass
-  first_pass : (test : ℕ → Bool) → PassesOver cols free test → AllPass test old → (j : ℕ) → word_bit first_bits j ≡ true → test (WORD_BITS * place + j) ≡ true
-  first_pass test passes all j h = elim (or_bit (get_or old place 0) (bit_and came (get_or free place 0)) j h) [
-    | inl here ↦ all (WORD_BITS * place + j) (has_bit-at old place j (word_bit_inside (get_or old place 0) j old_fits here) ∙ here)
+  first_pass : (test : ℕ → Bool) → PassesOver cols free test → AllPass test old → (j : ℕ) → word_bit first_bits j ≡ true → test (WORD_BITS * index + j) ≡ true
+  first_pass test passes all j h = elim (or_bit (get_or old index 0) (bit_and came (get_or free index 0)) j h) [
+    | inl here ↦ all (WORD_BITS * index + j) (has_bit-at old index j (word_bit_inside (get_or old index 0) j old_fits here) ∙ here)
     | inr new ↦
-        (let p = and_bit came (get_or free place 0) j new in
-        let lt = word_bit_inside (get_or free place 0) j free_fits p.1 in
+        (let p = and_bit came (get_or free index 0) j new in
+        let lt = word_bit_inside (get_or free index 0) j free_fits p.1 in
         let w = (bits j lt).0 p.0 in
-        passes w.0 (WORD_BITS * place + j) w.1 (has_bit-at free place j lt ∙ p.1) (all w.0 w.2))
+        passes w.0 (WORD_BITS * index + j) w.1 (has_bit-at free index j lt ∙ p.1) (all w.0 w.2))
   ]
 
   module _ (filled : ℕ) (Passes : (ℕ → Bool) → Type 0) (fits : filled < 2 ^ 64) (weaker : (test : ℕ → Bool) → PassesOver cols free test →
-      Passes (λ j. test (WORD_BITS * place + j))) (grown : IsGrown first_bits filled Passes) where
+      Passes (λ j. test (WORD_BITS * index + j))) (grown : IsGrown first_bits filled Passes) where
     -- a number's bit is of the word that was written, or as before
-    bit_now : (q : ℕ) → (q / WORD_BITS ≡ place) × (has_bit (set old place filled) q ≡ word_bit filled (q % WORD_BITS)) ×
-        (has_bit old q ≡ word_bit (get_or old place 0) (q % WORD_BITS)) ⊎ (has_bit (set old place filled) q ≡ has_bit old q)
-    bit_now q = elim (cases_eq (q / WORD_BITS) place) [
+    bit_now : (q : ℕ) → (q / WORD_BITS ≡ index) × (has_bit (set old index filled) q ≡ word_bit filled (q % WORD_BITS)) ×
+        (has_bit old q ≡ word_bit (get_or old index 0) (q % WORD_BITS)) ⊎ (has_bit (set old index filled) q ≡ has_bit old q)
+    bit_now q = elim (cases_eq (q / WORD_BITS) index) [
       | inl at ↦ inl (
         at,
-        has_bit-parts (set old place filled) q ∙
-            (ap (λ (k : ℕ). word_bit (get_or (set old place filled) k 0) (q % WORD_BITS)) at ∙
-            ap (λ (w : ℕ). word_bit w (q % WORD_BITS)) (get_or-set_same old place filled 0 inside)),
+        has_bit-parts (set old index filled) q ∙
+            (ap (λ (k : ℕ). word_bit (get_or (set old index filled) k 0) (q % WORD_BITS)) at ∙
+            ap (λ (w : ℕ). word_bit w (q % WORD_BITS)) (get_or-set_same old index filled 0 inside)),
         has_bit-parts old q ∙ ap (λ (k : ℕ). word_bit (get_or old k 0) (q % WORD_BITS)) at,
       )
-      | inr ne ↦ inr (has_bit-parts (set old place filled) q ∙
-          (ap (λ (w : ℕ). word_bit w (q % WORD_BITS)) (get_or-set_other old place (q / WORD_BITS) filled 0 ne) ∙ sym (has_bit-parts old q)))
+      | inr ne ↦ inr (has_bit-parts (set old index filled) q ∙
+          (ap (λ (w : ℕ). word_bit w (q % WORD_BITS)) (get_or-set_other old index (q / WORD_BITS) filled 0 ne) ∙ sym (has_bit-parts old q)))
     ]
 
-    widens : IsWidened cols free old (set old place filled)
+    widens : IsWidened cols free old (set old index filled)
     widens = record {
-      size = length-set old place filled;
+      size = length-set old index filled;
       kept = λ q h. elim (bit_now q) [
-        | inl now ↦ now.1 ∙ grown.kept (q % WORD_BITS) (bit_or_left (get_or old place 0) (bit_and came (get_or free place 0)) (q % WORD_BITS) (sym now.2 ∙ h))
+        | inl now ↦ now.1 ∙ grown.kept (q % WORD_BITS) (bit_or_left (get_or old index 0) (bit_and came (get_or free index 0)) (q % WORD_BITS) (sym now.2 ∙ h))
         | inr same ↦ same ∙ h
       ];
       sound = λ test passes all q h. elim (bit_now q) [
         | inl now ↦
-            (let at : WORD_BITS * place + q % WORD_BITS ≡ q = (let p = now.0 in omega arith) in
-            sym (ap test at) ∙ grown.sound (λ j. test (WORD_BITS * place + j)) (weaker test passes) (first_pass test passes all) (q % WORD_BITS)
+            (let at : WORD_BITS * index + q % WORD_BITS ≡ q = (let p = now.0 in omega arith) in
+            sym (ap test at) ∙ grown.sound (λ j. test (WORD_BITS * index + j)) (weaker test passes) (first_pass test passes all) (q % WORD_BITS)
             (sym now.1 ∙ h))
         | inr same ↦ all q (sym same ∙ h)
       ];
     }
 
     -- where the word changes, there is less room left
-    shrinks : filled ≢ get_or old place 0 → room_left (set old place filled) < room_left old
+    shrinks : filled ≢ get_or old index 0 → room_left (set old index filled) < room_left old
     shrinks more =
-        let total = sum_by-set (λ (w : ℕ). 2 ^ 64 - w) old place filled 0 inside in
-        let first = le_or_l (get_or old place 0) (bit_and came (get_or free place 0)) in
+        let total = sum_by-set (λ (w : ℕ). 2 ^ 64 - w) old index filled 0 inside in
+        let first = le_or_l (get_or old index 0) (bit_and came (get_or free index 0)) in
         let last = grown.most in
         omega (arith, total, first, last, more, fits)
 
     -- a visit that found something
-    pub visit_grown : first_bits ≢ get_or old place 0 → IsVisit cols free place old (set old place filled) true
+    pub visit_grown : first_bits ≢ get_or old index 0 → IsVisit cols free index old (set old index filled) true
     visit_grown more = record {
       widened = widens;
-      others = λ k ne. get_or-set_other old place k filled 0 ne;
-      less = λ h. shrinks (λ e. more (let first = le_or_l (get_or old place 0) (bit_and came (get_or free place 0)) in let last = grown.most in
+      others = λ k ne. get_or-set_other old index k filled 0 ne;
+      less = λ h. shrinks (λ e. more (let first = le_or_l (get_or old index 0) (bit_and came (get_or free index 0)) in let last = grown.most in
           omega (arith, first, last, e)));
       same = λ h. absurd (true≢false h);
       full = λ h. absurd (true≢false h);
     }
 
     -- a visit that writes its word in any case
-    pub visit_written : IsVisit cols free place old (set old place filled) (not (eqb filled (get_or old place 0)))
+    pub visit_written : IsVisit cols free index old (set old index filled) (not (eqb filled (get_or old index 0)))
     visit_written = record {
       widened = widens;
-      others = λ k ne. get_or-set_other old place k filled 0 ne;
-      less = λ h. shrinks (eqb-false filled (get_or old place 0) (not-true (eqb filled (get_or old place 0)) h));
-      same = λ h. set_itself old place filled (even h);
-      full = λ h. still_full (let first = le_or_l (get_or old place 0) (bit_and came (get_or free place 0)) in let last = grown.most in let e = even h in
+      others = λ k ne. get_or-set_other old index k filled 0 ne;
+      less = λ h. shrinks (eqb-false filled (get_or old index 0) (not-true (eqb filled (get_or old index 0)) h));
+      same = λ h. set_itself old index filled (even h);
+      full = λ h. still_full (let first = le_or_l (get_or old index 0) (bit_and came (get_or free index 0)) in let last = grown.most in let e = even h in
           omega (arith, first, last, e));
     }
       where
-        even : not (eqb filled (get_or old place 0)) ≡ false → filled ≡ get_or old place 0
-        even h = eqb-true filled (get_or old place 0) (turned (eqb filled (get_or old place 0)) h)
+        even : not (eqb filled (get_or old index 0)) ≡ false → filled ≡ get_or old index 0
+        even h = eqb-true filled (get_or old index 0) (turned (eqb filled (get_or old index 0)) h)
           where
             turned : (b : Bool) → not b ≡ false → b ≡ true
             turned true h = refl
@@ -236,9 +236,9 @@ either_none : (a b : Bool) → (a || b) ≡ false → (a ≡ false) × (b ≡ fa
 either_none true b h = absurd (true≢false h)
 either_none false b h = (refl, h)
 
-pub passing_next : (cols : ℕ) (free : List ℕ) (place : ℕ) (old now new : List ℕ) (grew more : Bool) → IsPassing cols free place old now grew →
-    IsVisit cols free place now new more → IsPassing cols free (place + 1) old new (grew || more)
-passing_next cols free place old now new grew more f v = record {
+pub passing_next : (cols : ℕ) (free : List ℕ) (index : ℕ) (old now new : List ℕ) (grew more : Bool) → IsPassing cols free index old now grew →
+    IsVisit cols free index now new more → IsPassing cols free (index + 1) old new (grew || more)
+passing_next cols free index old now new grew more f v = record {
   widened = widened_then cols free old now new f.widened v.widened;
   less = λ h. elim (or_cases grew more h) [
     | inl x ↦ (let a = f.less x in let b = after more refl in omega (arith, a, b))
@@ -247,10 +247,10 @@ passing_next cols free place old now new grew more f v = record {
   same = λ h. (let n = either_none grew more h in v.same n.1 ∙ f.same n.0);
   full = λ h k lt.
       (let n = either_none grew more h in
-      elim (cases_lt k place) [
+      elim (cases_lt k index) [
         | inl early ↦ f.full n.0 k early
-        | inr late ↦ subst (λ (x : ℕ). IsFull cols free x old) (let e : place ≡ k = omega (arith, late, lt) in
-            e) (subst (λ (ws : List ℕ). IsFull cols free place ws) (f.same n.0) (v.full n.1))
+        | inr late ↦ subst (λ (x : ℕ). IsFull cols free x old) (let e : index ≡ k = omega (arith, late, lt) in
+            e) (subst (λ (ws : List ℕ). IsFull cols free index ws) (f.same n.0) (v.full n.1))
       ]);
 }
   where
@@ -262,15 +262,15 @@ passing_next cols free place old now new grew more f v = record {
     before true e = (let l = f.less e in omega (arith, l))
     before false e = (let l = ap room_left (f.same e) in omega (arith, l))
 
-pub passing_last : (cols : ℕ) (free : List ℕ) (place : ℕ) (old new : List ℕ) (grew : Bool) → length free ≤ place → IsPassing cols free place old new grew →
+pub passing_last : (cols : ℕ) (free : List ℕ) (index : ℕ) (old new : List ℕ) (grew : Bool) → length free ≤ index → IsPassing cols free index old new grew →
     IsRound cols free old new grew
-passing_last cols free place old new grew all f = record {
+passing_last cols free index old new grew all f = record {
   widened = f.widened;
   less = f.less;
   whole = λ h. subst (λ (ws : List ℕ). PassesOver cols free (has_bit ws)) (sym (f.same h)) (λ p q near vacant there. whole (f.full h) p q near vacant there);
 }
   where
-    whole : ((k : ℕ) → k < place → IsFull cols free k old) → PassesOver cols free (has_bit old)
+    whole : ((k : ℕ) → k < index → IsFull cols free k old) → PassesOver cols free (has_bit old)
     whole full p q near vacant there =
         let at = square_parts q in
         let lt = has_bit_inside free q vacant in
@@ -279,38 +279,38 @@ passing_last cols free place old new grew all f = record {
 
 -- ---- visits that go back
 
-pub widening_on : (cols : ℕ) (free old now new : List ℕ) (place : ℕ) (grew : Bool) → IsWidening cols free place old now →
-    IsVisit cols free place now new grew → grew ≡ false → IsWidening cols free (place + 1) old new
-widening_on cols free old now new place grew f v even = record {
+pub widening_on : (cols : ℕ) (free old now new : List ℕ) (index : ℕ) (grew : Bool) → IsWidening cols free index old now →
+    IsVisit cols free index now new grew → grew ≡ false → IsWidening cols free (index + 1) old new
+widening_on cols free old now new index grew f v even = record {
   widened = widened_then cols free old now new f.widened v.widened;
-  full = λ k lt. subst (λ (ws : List ℕ). IsFull cols free k ws) (sym (v.same even)) (elim (cases_lt k place) [
+  full = λ k lt. subst (λ (ws : List ℕ). IsFull cols free k ws) (sym (v.same even)) (elim (cases_lt k index) [
     | inl early ↦ f.full k early
-    | inr late ↦ subst (λ (x : ℕ). IsFull cols free x now) (let e : place ≡ k = omega (arith, late, lt) in e) (v.full even)
+    | inr late ↦ subst (λ (x : ℕ). IsFull cols free x now) (let e : index ≡ k = omega (arith, late, lt) in e) (v.full even)
   ]);
 }
 
 -- a visit that added numbers changed no word that is so far before it, nor what is beside its own there
-pub widening_back : (cols : ℕ) (free old now new : List ℕ) (place back : ℕ) (grew : Bool) → cols / WORD_BITS + 1 ≤ back → IsWidening cols free place old now →
-    IsVisit cols free place now new grew → IsWidening cols free (place - back) old new
-widening_back cols free old now new place back grew far f v = record {
+pub widening_back : (cols : ℕ) (free old now new : List ℕ) (index back : ℕ) (grew : Bool) → cols / WORD_BITS + 1 ≤ back → IsWidening cols free index old now →
+    IsVisit cols free index now new grew → IsWidening cols free (index - back) old new
+widening_back cols free old now new index back grew far f v = record {
   widened = widened_then cols free old now new f.widened v.widened;
   full = λ k lt p j inner near vacant there. v.widened.kept (WORD_BITS * k + j)
       (f.full k (omega (arith, lt)) p j inner near vacant (sym (before p (low k p j lt inner near)) ∙ there));
 }
   where
-    low : (k p j : ℕ) → k < place - back → j < WORD_BITS → IsBeside cols p (WORD_BITS * k + j) → p < WORD_BITS * place
+    low : (k p j : ℕ) → k < index - back → j < WORD_BITS → IsBeside cols p (WORD_BITS * k + j) → p < WORD_BITS * index
     low k p j lt inner (inl (inl e)) = omega (arith, lt, inner, e)
     low k p j lt inner (inl (inr e)) = omega (arith, lt, inner, e, far)
     low k p j lt inner (inr (inl e)) = omega (arith, lt, inner, e)
     low k p j lt inner (inr (inr e)) = omega (arith, lt, inner, e, far)
 
-    before : (x : ℕ) → x < WORD_BITS * place → has_bit new x ≡ has_bit now x
+    before : (x : ℕ) → x < WORD_BITS * index → has_bit new x ≡ has_bit now x
     before x lt = has_bit-parts new x ∙
         (ap (λ (w : ℕ). word_bit w (x % WORD_BITS)) (v.others (x / WORD_BITS) (λ e. omega (arith, e, lt))) ∙ sym (has_bit-parts now x))
 
-pub widening_last : (cols : ℕ) (free old new : List ℕ) (place : ℕ) → length free ≤ place → IsWidening cols free place old new →
+pub widening_last : (cols : ℕ) (free old new : List ℕ) (index : ℕ) → length free ≤ index → IsWidening cols free index old new →
     PassesOver cols free (has_bit new)
-widening_last cols free old new place all f p q near vacant there =
+widening_last cols free old new index all f p q near vacant there =
     let at = square_parts q in
     let lt = has_bit_inside free q vacant in
     subst (λ (x : ℕ). IsBeside cols p x → has_bit free x ≡ true → has_bit new x ≡ true) at.0
@@ -318,31 +318,31 @@ widening_last cols free old new place all f p q near vacant there =
 
 -- ---- squares that others are not
 
--- in the midst of leaving squares out word by word: those before a place are left out, and the others are as they were
+-- in the midst of leaving squares out word by word: those before an index are left out, and the others are as they were
 abbrev pub AreCleared : List ℕ → List ℕ → ℕ → List ℕ → Type 0
-AreCleared squares words place now =
+AreCleared squares words index now =
     (length now ≡ length words)
-    × ((k j : ℕ) → k < place → j < WORD_BITS → word_bit (get_or now k 0) j ≡ (word_bit (get_or squares k 0) j && not (word_bit (get_or words k 0) j)))
-    × ((k : ℕ) → place ≤ k → get_or now k 0 ≡ get_or words k 0)
+    × ((k j : ℕ) → k < index → j < WORD_BITS → word_bit (get_or now k 0) j ≡ (word_bit (get_or squares k 0) j && not (word_bit (get_or words k 0) j)))
+    × ((k : ℕ) → index ≤ k → get_or now k 0 ≡ get_or words k 0)
 
-pub cleared_on : (squares words now : List ℕ) (place word : ℕ) → AreCleared squares words place now → place < length now → word ≡ get_or now place 0 →
-    word < 2 ^ 64 → AreCleared squares words (place + 1) (set now place (bit_and (get_or squares place 0) (bit_not w64 word)))
-cleared_on squares words now place word (size, before, rest) inside read fits = (
-  length-set now place new ∙ size,
-  λ k j lt below. elim (cases_eq k place) [
+pub cleared_on : (squares words now : List ℕ) (index word : ℕ) → AreCleared squares words index now → index < length now → word ≡ get_or now index 0 →
+    word < 2 ^ 64 → AreCleared squares words (index + 1) (set now index (bit_and (get_or squares index 0) (bit_not w64 word)))
+cleared_on squares words now index word (size, before, rest) inside read fits = (
+  length-set now index new ∙ size,
+  λ k j lt below. elim (cases_eq k index) [
     | inl e ↦
-        ap (λ (w : ℕ). word_bit w j) (ap (λ (x : ℕ). get_or (set now place new) x 0) e ∙ get_or-set_same now place new 0 inside)
-        ∙ (word_bit-and (get_or squares place 0) (bit_not w64 word) j
-        ∙ (ap (λ (b : Bool). word_bit (get_or squares place 0) j && b) (word_bit-not word j fits below ∙
-        ap (λ (w : ℕ). not (word_bit w j)) (read ∙ rest place (omega arith)))
+        ap (λ (w : ℕ). word_bit w j) (ap (λ (x : ℕ). get_or (set now index new) x 0) e ∙ get_or-set_same now index new 0 inside)
+        ∙ (word_bit-and (get_or squares index 0) (bit_not w64 word) j
+        ∙ (ap (λ (b : Bool). word_bit (get_or squares index 0) j && b) (word_bit-not word j fits below ∙
+        ap (λ (w : ℕ). not (word_bit w j)) (read ∙ rest index (omega arith)))
         ∙ ap (λ (x : ℕ). word_bit (get_or squares x 0) j && not (word_bit (get_or words x 0) j)) (sym e)))
-    | inr ne ↦ ap (λ (w : ℕ). word_bit w j) (get_or-set_other now place k new 0 ne) ∙ before k j (omega (arith, lt, ne)) below
+    | inr ne ↦ ap (λ (w : ℕ). word_bit w j) (get_or-set_other now index k new 0 ne) ∙ before k j (omega (arith, lt, ne)) below
   ],
-  λ k le. get_or-set_other now place k new 0 (λ e. omega (arith, le, e)) ∙ rest k (omega arith),
+  λ k le. get_or-set_other now index k new 0 (λ e. omega (arith, le, e)) ∙ rest k (omega arith),
 )
   where
     new : ℕ
-    new = bit_and (get_or squares place 0) (bit_not w64 word)
+    new = bit_and (get_or squares index 0) (bit_not w64 word)
 
 none_past : (words : List ℕ) (q : ℕ) → WORD_BITS * length words ≤ q → has_bit words q ≡ false
 none_past words q past = elim (cases_Bool (has_bit words q)) [
@@ -350,9 +350,9 @@ none_past words q past = elim (cases_Bool (has_bit words q)) [
   | inr h ↦ h
 ]
 
-pub cleared_bit : (squares words now : List ℕ) (place q : ℕ) → AreCleared squares words place now → length squares ≡ length words → length words ≤ place →
+pub cleared_bit : (squares words now : List ℕ) (index q : ℕ) → AreCleared squares words index now → length squares ≡ length words → length words ≤ index →
     has_bit now q ≡ (has_bit squares q && not (has_bit words q))
-cleared_bit squares words now place q (size, before, rest) room whole = elim (cases_lt q (WORD_BITS * length words)) [
+cleared_bit squares words now index q (size, before, rest) room whole = elim (cases_lt q (WORD_BITS * length words)) [
   | inl lt ↦ has_bit-parts now q ∙
       (before (q / WORD_BITS) (q % WORD_BITS) (omega (arith, lt, whole)) (omega arith) ∙ cc2 (has_bit-parts squares q) (has_bit-parts words q))
   | inr past ↦ none_past now q (omega (arith, past, size)) ∙

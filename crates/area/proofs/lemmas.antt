@@ -8,3 +8,4 @@ pub mod Moving
 pub mod Hanging
 pub mod Flooding
 pub mod PushOrder
+pub mod Directions

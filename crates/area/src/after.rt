@@ -1,25 +1,25 @@
-ghost use Rattle.std.specs.Prelude.{◌≡◌, ◌≢◌, ℕ, ◌*◌, ◌<◌, true, length};
+ghost use Rattle.std.specs.Prelude.{◌≡◌, ◌≢◌, ℕ, ◌*◌, ◌<◌, true, IsTrue, length};
 ghost use Rattle.grid.specs.States.{FitsLevel};
 ghost use Rattle.grid.specs.Masks.{has_bit};
 ghost use Rattle.grid.specs.Squares.{contains, insert, remove};
 ghost use Rattle.area.specs.Area.{Area, IsNorm, at};
 ghost use Rattle.area.specs.Words.{squares_of};
 ghost use Rattle.area.specs.After.{IsAreaOf, IsPushed};
-ghost use Rattle.area.specs.inside.Detours.{GuessesLeast, HasMoved};
+ghost use Rattle.area.specs.inside.Detours.{HasMoved};
 
 use crate::bits::least_of;
-use crate::floods::{flood_on, flood_round};
+use crate::floods::flood_round;
 use crate::scratch::Scratch;
-use crate::seeking::{can_seek, seek_least};
 use crate::set::SquareSet;
 use crate::sight::look_ahead;
 use grid::{Level, Position, Push, Square, WORD_BITS};
 
-/// Makes the position after a push normal, where the last flood was that of the position before it, round its boxes, and
-/// stays so.
+/// Makes the position after a push normal: moves its player to the least square that the player reaches without a
+/// push.
 ///
-/// What the player reaches mostly follows from that flood and the squares round the box. Only where it doesn't is there
-/// another flood.
+/// The scratch must hold the flood of the position before the push, and still holds it afterwards. In most cases
+/// that flood and the squares round the box decide the answer. Only if they do not does another flood run. Takes no
+/// memory.
 pub fn normalise_after(
     level: &Level,
     before: &Position,
@@ -41,115 +41,45 @@ pub fn normalise_after(
     let ahead = level.next(square, dir);
     let sight = look_ahead(level, square, dir, ahead, scratch);
     let joined = sight.is_joined;
-    let known = sight.is_known;
-    let player = if known {
-        let least = scratch.least_with(ahead, square);
-        if joined {
-            least
-        } else {
-            least_left(level, after, square, ahead, least, scratch)
-        }
-    } else if joined {
-        least_grown(level, after, square, ahead, scratch)
+    let player = if joined & sight.is_known {
+        scratch.least_with(ahead, square)
     } else {
-        least_aside(level, after, square, ahead, scratch)
+        least_again(level, after, square, ahead, joined, scratch)
     };
     after.set_player(player);
 }
 
-// The least square that the player reaches once a box was moved, by a flood that leaves what the last one reached.
-fn least_aside(
+// The least square that the player reaches after a box moved, by another flood, which keeps the last one. With
+// `joined`, the player still reaches all that the last flood reached, except the square ahead.
+fn least_again(
     level: &Level,
     position: &Position,
     square: Square,
     ahead: Square,
+    joined: bool,
     scratch: &mut Scratch,
 ) -> Square
     requires fits { FitsLevel level.now position.now }
     requires room { scratch.old.size ≡ length level.now.cells }
     requires moved { HasMoved level.now scratch.old.boxes position.now.boxes square ahead }
+    requires known { IsTrue joined → (q : ℕ) → contains scratch.old.reached q ≡ true → q ≢ ahead
+        → Area level.now position.now q }
     ensures norm { IsNorm level.now position.now (at position.now result) }
     ensures kept { scratch.new ≡ scratch.old }
 {
     move_box(&scratch.boxes, square, ahead, &mut scratch.spare_boxes);
+    scratch.spare.copy_without(&scratch.reached, ahead);
     flood_round(
         level,
         position,
-        &None,
+        joined,
         &mut scratch.spare_boxes,
         &mut scratch.spare,
     );
     least_of(scratch.spare.as_words())
 }
 
-// The same where it is known that the player reaches no square less than a given one, and reaches that one if it reaches
-// what the last flood reached beside the square ahead: the flood may end there.
-fn least_left(
-    level: &Level,
-    position: &Position,
-    square: Square,
-    ahead: Square,
-    least: Square,
-    scratch: &mut Scratch,
-) -> Square
-    requires fits { FitsLevel level.now position.now }
-    requires room { scratch.old.size ≡ length level.now.cells }
-    requires player { position.now.player ≡ square }
-    requires moved { HasMoved level.now scratch.old.boxes position.now.boxes square ahead }
-    requires reached { (q : ℕ) → contains scratch.old.reached q ≡ true → q < length level.now.cells }
-    requires guess { GuessesLeast level.now position.now (contains scratch.old.reached) ahead least }
-    ensures norm { IsNorm level.now position.now (at position.now result) }
-    ensures kept { scratch.new ≡ scratch.old }
-{
-    if can_seek(level, position) {
-        return seek_least(
-            level,
-            position,
-            &scratch.boxes,
-            &scratch.reached,
-            ahead,
-            least,
-        );
-    }
-    move_box(&scratch.boxes, square, ahead, &mut scratch.spare_boxes);
-    flood_round(
-        level,
-        position,
-        &Some(least),
-        &mut scratch.spare_boxes,
-        &mut scratch.spare,
-    );
-    least_of(scratch.spare.as_words())
-}
-
-// The same where what the last flood reached, but for the square ahead, is reached still: the flood begins with that.
-fn least_grown(
-    level: &Level,
-    position: &Position,
-    square: Square,
-    ahead: Square,
-    scratch: &mut Scratch,
-) -> Square
-    requires fits { FitsLevel level.now position.now }
-    requires room { scratch.old.size ≡ length level.now.cells }
-    requires moved { HasMoved level.now scratch.old.boxes position.now.boxes square ahead }
-    requires known { (q : ℕ) → contains scratch.old.reached q ≡ true → q ≢ ahead → Area level.now position.now q }
-    ensures norm { IsNorm level.now position.now (at position.now result) }
-    ensures kept { scratch.new ≡ scratch.old }
-{
-    move_box(&scratch.boxes, square, ahead, &mut scratch.spare_boxes);
-    flood_on(
-        level,
-        position,
-        &scratch.reached,
-        ahead,
-        &mut scratch.spare_boxes,
-        &mut scratch.spare,
-    );
-    least_of(scratch.spare.as_words())
-}
-
-// Makes a set the same as another but for a box that was moved from one square to another.
+// Copies a set of boxes, and moves one of them in the copy.
 #[inline(always)]
 fn move_box(boxes: &SquareSet, square: Square, ahead: Square, moved: &mut SquareSet)
     requires room { length moved.old ≡ length boxes.now }
@@ -158,7 +88,6 @@ fn move_box(boxes: &SquareSet, square: Square, ahead: Square, moved: &mut Square
     ensures moved { (q : ℕ) → has_bit moved.new q ≡ contains (insert (remove (squares_of boxes.now) square) ahead) q }
     ensures size { length moved.new ≡ length moved.old }
 {
-    moved.copy_from(boxes);
-    moved.take_out(square);
+    moved.copy_without(boxes, square);
     moved.put(ahead);
 }

@@ -1,4 +1,6 @@
 //! Sets of squares as bits of words: bit i of word k is the square `WORD_BITS * k + i`.
+//!
+//! For the crates above, which combine whole words of sets. A program uses [`SquareSet`](crate::SquareSet).
 ghost use Rattle.std.specs.Prelude.{◌≡◌, ℕ, ◌+◌, ◌-◌, ◌*◌, ◌<◌, ◌≤◌, ◌==◌, ◌||◌, ◌&&◌, not, true, false, length, slice_index};
 ghost use Rattle.std.specs.Int.{trailing_zeros, w64};
 ghost use Rattle.grid.specs.Masks.{has_bit};
@@ -8,16 +10,16 @@ ghost use Rattle.area.specs.Words.{squares_of, word_bit};
 
 use grid::{MAX_SQUARES, Square, WORD_BITS};
 
-/// Whether the set has the square.
+/// Whether the set contains the square. Squares past the last word are not in it.
 #[inline(always)]
 pub fn has(words: &[u64], square: Square) -> bool
     ensures { result ≡ has_bit words.now square }
 {
-    let place = square.0 as usize / WORD_BITS;
-    place < words.len() && ((words[place] >> (square.0 as usize % WORD_BITS)) & 1) == 1
+    let index = square.0 as usize / WORD_BITS;
+    index < words.len() && ((words[index] >> (square.0 as usize % WORD_BITS)) & 1) == 1
 }
 
-/// Puts a square into the set.
+/// Inserts a square, whose word must be there.
 #[inline(always)]
 pub fn put(square: Square, words: &mut [u64])
     requires { square < WORD_BITS * length words.old }
@@ -26,7 +28,7 @@ pub fn put(square: Square, words: &mut [u64])
     words[square.0 as usize / WORD_BITS] |= 1 << (square.0 as usize % WORD_BITS);
 }
 
-/// Takes a square out of the set.
+/// Removes a square, whose word must be there.
 #[inline(always)]
 pub fn take_out(square: Square, words: &mut [u64])
     requires { square < WORD_BITS * length words.old }
@@ -35,7 +37,7 @@ pub fn take_out(square: Square, words: &mut [u64])
     words[square.0 as usize / WORD_BITS] &= !(1 << (square.0 as usize % WORD_BITS));
 }
 
-// Makes the set one of just these squares.
+// Makes the set contain exactly these squares.
 pub(crate) fn put_all(squares: &[Square], words: &mut [u64])
     requires { (q : ℕ) → contains squares.now q ≡ true → q < WORD_BITS * length words.old }
     ensures { (q : ℕ) → has_bit words.new q ≡ contains squares.now q }
@@ -46,149 +48,137 @@ pub(crate) fn put_all(squares: &[Square], words: &mut [u64])
     }
 }
 
-// Makes a set that of the squares that it does not have.
+// Replaces a set by the squares of its words that it does not contain.
 pub(crate) fn turn_over(words: &mut [u64])
     ensures { (q : ℕ) → q < WORD_BITS * length words.old → has_bit words.new q ≡ not (has_bit words.old q) }
 {
-    for place in 0..words.len() {
-        words[place] = !words[place];
+    for index in 0..words.len() {
+        words[index] = !words[index];
     }
 }
 
-// The least square of the set.
+// The least square of a set that is not empty.
 pub(crate) fn least_of(words: &[u64]) -> Square
     requires some { (q : ℕ) × (has_bit words.now q ≡ true) }
     requires small { WORD_BITS * length words.now ≤ MAX_SQUARES + WORD_BITS }
     ensures reached { has_bit words.now result ≡ true }
     ensures least { (q : ℕ) → has_bit words.now q ≡ true → result ≤ q }
 {
-    for (place, word) in words.iter().enumerate() {
+    for (index, word) in words.iter().enumerate() {
         if *word != 0 {
-            return first_of(place, *word);
+            return first_of(index, *word);
         }
     }
     unreachable!()
 }
 
-// The least of the squares of the set but for `but`, and of the square `more`.
+// The least of the squares of the set except `but`, and of the square `more`.
 pub(crate) fn least_but(words: &[u64], but: Square, more: Square) -> Square
     requires small { WORD_BITS * length words.now ≤ MAX_SQUARES + WORD_BITS }
     ensures { IsLeastWith (squares_of words.now) but more result }
 {
-    for (place, word) in words.iter().enumerate() {
-        let rest = without(place, *word, but);
+    for (index, word) in words.iter().enumerate() {
+        let rest = without(index, *word, but);
         if rest != 0 {
-            let first = first_of(place, rest);
+            let first = first_of(index, rest);
             return if first < more { first } else { more };
         }
     }
     more
 }
 
-// The square of the lowest bit of the word at a place.
+// The square of the lowest bit of the word at an index.
 #[inline(always)]
-fn first_of(place: usize, word: u64) -> Square
+fn first_of(index: usize, word: u64) -> Square
     requires some { 0 < word }
-    requires small { WORD_BITS * place ≤ MAX_SQUARES }
-    ensures { result ≡ WORD_BITS * place + trailing_zeros w64 word }
+    requires small { WORD_BITS * index ≤ MAX_SQUARES }
+    ensures { result ≡ WORD_BITS * index + trailing_zeros w64 word }
 {
-    Square((place * WORD_BITS) as u16 + word.trailing_zeros() as u16)
+    Square((index * WORD_BITS) as u16 + word.trailing_zeros() as u16)
 }
 
-// The word at a place without the bit of a square.
+// The word at an index without the bit of a square.
 #[inline(always)]
-fn without(place: usize, word: u64, square: Square) -> u64
-    ensures { (j : ℕ) → j < WORD_BITS → word_bit result j ≡ (word_bit word j && not (WORD_BITS * place + j == square)) }
+fn without(index: usize, word: u64, square: Square) -> u64
+    ensures { (j : ℕ) → j < WORD_BITS → word_bit result j ≡ (word_bit word j && not (WORD_BITS * index + j == square)) }
 {
-    if place == square.0 as usize / WORD_BITS {
+    if index == square.0 as usize / WORD_BITS {
         word & !(1 << (square.0 as usize % WORD_BITS))
     } else {
         word
     }
 }
 
-// The square as a bit of the word at a place, none where it is not of that word.
+/// For each square of the word at an index, a bit: whether the set contains the square `by` numbers before it. The
+/// bit is 0 if there is no such number.
 #[inline(always)]
-pub(crate) fn bit_at(square: Square, place: usize) -> u64
-    ensures { (j : ℕ) → j < WORD_BITS → word_bit result j ≡ (WORD_BITS * place + j == square) }
-{
-    if place == square.0 as usize / WORD_BITS {
-        1 << (square.0 as usize % WORD_BITS)
-    } else {
-        0
-    }
-}
-
-/// For each square of a word, whether the set has the square so many numbers before it; none does where there is no such
-/// number.
-#[inline(always)]
-pub fn before(words: &[u64], place: usize, by: usize) -> u64
-    requires { place < length words.now }
-    ensures there { (i j : ℕ) → j < WORD_BITS → i + by ≡ WORD_BITS * place + j → word_bit result j ≡ has_bit words.now i }
-    ensures none { (j : ℕ) → j < WORD_BITS → WORD_BITS * place + j < by → word_bit result j ≡ false }
+pub fn before(words: &[u64], index: usize, by: usize) -> u64
+    requires { index < length words.now }
+    ensures there { (i j : ℕ) → j < WORD_BITS → i + by ≡ WORD_BITS * index + j → word_bit result j ≡ has_bit words.now i }
+    ensures none { (j : ℕ) → j < WORD_BITS → WORD_BITS * index + j < by → word_bit result j ≡ false }
 {
     let far = by / WORD_BITS;
     let near = by % WORD_BITS;
-    let here = word_before(words, place, far);
-    let low = word_before(words, place, far + 1);
+    let here = word_before(words, index, far);
+    let low = word_before(words, index, far + 1);
     slid_up(here, low, near)
 }
 
-/// For each square of a word, whether the set has the square so many numbers after it.
+/// For each square of the word at an index, a bit: whether the set contains the square `by` numbers after it.
 #[inline(always)]
-pub fn after(words: &[u64], place: usize, by: usize) -> u64
-    requires { place < length words.now }
-    ensures { (i j : ℕ) → j < WORD_BITS → i ≡ WORD_BITS * place + j + by → word_bit result j ≡ has_bit words.now i }
+pub fn after(words: &[u64], index: usize, by: usize) -> u64
+    requires { index < length words.now }
+    ensures { (i j : ℕ) → j < WORD_BITS → i ≡ WORD_BITS * index + j + by → word_bit result j ≡ has_bit words.now i }
 {
     let far = by / WORD_BITS;
     let near = by % WORD_BITS;
-    let here = word_at(words, place + far);
-    let high = word_at(words, place + far + 1);
+    let here = word_at(words, index + far);
+    let high = word_at(words, index + far + 1);
     slid_down(here, high, near)
 }
 
-// The same where so many numbers are fewer than a word's.
+// What `before` gives, for a `by` below the number of a word's bits.
 #[inline(always)]
-pub(crate) fn just_before(words: &[u64], place: usize, by: usize) -> u64
-    requires inside { place < length words.now }
+pub(crate) fn just_before(words: &[u64], index: usize, by: usize) -> u64
+    requires inside { index < length words.now }
     requires near { by < WORD_BITS }
-    ensures there { (i j : ℕ) → j < WORD_BITS → i + by ≡ WORD_BITS * place + j → word_bit result j ≡ has_bit words.now i }
-    ensures none { (j : ℕ) → j < WORD_BITS → WORD_BITS * place + j < by → word_bit result j ≡ false }
+    ensures there { (i j : ℕ) → j < WORD_BITS → i + by ≡ WORD_BITS * index + j → word_bit result j ≡ has_bit words.now i }
+    ensures none { (j : ℕ) → j < WORD_BITS → WORD_BITS * index + j < by → word_bit result j ≡ false }
 {
-    let low = word_before(words, place, 1);
-    slid_up(words[place], low, by)
+    let low = word_before(words, index, 1);
+    slid_up(words[index], low, by)
 }
 
-// For each square of a word, whether the set has the square so many numbers after it, fewer than a word's.
+// What `after` gives, for a `by` below the number of a word's bits.
 #[inline(always)]
-pub(crate) fn just_after(words: &[u64], place: usize, by: usize) -> u64
-    requires inside { place < length words.now }
+pub(crate) fn just_after(words: &[u64], index: usize, by: usize) -> u64
+    requires inside { index < length words.now }
     requires near { by < WORD_BITS }
-    ensures { (i j : ℕ) → j < WORD_BITS → i ≡ WORD_BITS * place + j + by → word_bit result j ≡ has_bit words.now i }
+    ensures { (i j : ℕ) → j < WORD_BITS → i ≡ WORD_BITS * index + j + by → word_bit result j ≡ has_bit words.now i }
 {
-    let high = word_at(words, place + 1);
-    slid_down(words[place], high, by)
+    let high = word_at(words, index + 1);
+    slid_down(words[index], high, by)
 }
 
-// The word so many places before another, 0 before the first.
+// The word `far` words before the one at an index, or 0 if there is none.
 #[inline(always)]
-fn word_before(words: &[u64], place: usize, far: usize) -> u64
-    requires { place < length words.now }
-    ensures there { far ≤ place → result ≡ slice_index words.now (place - far) }
-    ensures none { place < far → result ≡ 0 }
+fn word_before(words: &[u64], index: usize, far: usize) -> u64
+    requires { index < length words.now }
+    ensures there { far ≤ index → result ≡ slice_index words.now (index - far) }
+    ensures none { index < far → result ≡ 0 }
 {
-    if far <= place { words[place - far] } else { 0 }
+    if far <= index { words[index - far] } else { 0 }
 }
 
-// The word at a place, 0 past the end.
+// The word at an index, or 0 past the end.
 #[inline(always)]
-fn word_at(words: &[u64], place: usize) -> u64
-    ensures { result ≡ slice_index words.now place }
+fn word_at(words: &[u64], index: usize) -> u64
+    ensures { result ≡ slice_index words.now index }
 {
-    if place < words.len() { words[place] } else { 0 }
+    if index < words.len() { words[index] } else { 0 }
 }
 
-// The bits of two words in a row, so many places further up; what of them comes to stand in the upper one.
+// The upper word of two neighbours, `here` above `low`, after both were shifted up by `near` bits.
 #[inline(always)]
 pub(crate) fn slid_up(here: u64, low: u64, near: usize) -> u64
     requires { near < WORD_BITS }
@@ -198,7 +188,7 @@ pub(crate) fn slid_up(here: u64, low: u64, near: usize) -> u64
     (here << near) | ((low >> 1) >> (WORD_BITS - 1 - near))
 }
 
-// The bits of two words in a row, so many places further down; what of them comes to stand in the lower one.
+// The lower word of two neighbours, `here` below `high`, after both were shifted down by `near` bits.
 #[inline(always)]
 pub(crate) fn slid_down(here: u64, high: u64, near: usize) -> u64
     requires { near < WORD_BITS }

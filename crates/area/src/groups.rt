@@ -8,9 +8,9 @@ use crate::floods::grow;
 use crate::set::SquareSet;
 use grid::{Level, Square};
 
-/// Makes the set `members` that of the boxes that hang together with the box on the square: a chain of boxes leads to
-/// each of them, each beside the one before, and none beyond the end of a row. What `others` holds is lost.
-pub fn group(
+// Makes `members` the set of the boxes that are connected to the box on a square: a chain of boxes leads to each,
+// every box beside the one before it, and no chain wraps round the end of a row. Overwrites `others`.
+pub(crate) fn group(
     level: &Level,
     boxes: &[Square],
     square: Square,
@@ -29,5 +29,5 @@ pub fn group(
     others.turn_over();
     members.clear();
     members.put(square);
-    grow(level, &None, others, members);
+    grow(level, others, members);
 }

@@ -1,7 +1,24 @@
-//! Where the player walks without a push: flooding an area, normal positions, least walks.
+//! Where the player walks without a push: floods, normal positions, possible pushes and shortest walks.
 //!
-//! With the `level` of a room of three rows of three squares, the box in the middle, its goal at the top left and the
-//! player at the bottom right:
+//! # When to use it
+//!
+//! - [`flood`] finds the squares that the player reaches without a push.
+//! - [`normal`] makes two positions equal that differ only by such a walk. [`normalise_after`] does the same after
+//!   a push, for less.
+//! - [`possible_pushes`] lists the pushes that a position allows.
+//! - [`walk`] gives the moves between two pushes.
+//!
+//! # What it costs
+//!
+//! All calls work in a [`Scratch`]: about seven bytes a square, made once for levels of the same rows and columns.
+//! Beside that only [`walk`] takes memory, for its moves. A flood works on words of 64 squares and keeps rooms of
+//! up to two words in registers. After a push the flood of the position before it mostly decides, so a search makes
+//! one flood a position.
+//!
+//! # Example
+//!
+//! With the `level` of a room of three rows of three squares, the box in the middle, its goal at the top left and
+//! the player at the bottom right:
 //!
 //! ```text
 //! level.tell_start();
@@ -13,9 +30,11 @@
 #![tactic(auto)]
 
 mod after;
+#[doc(hidden)]
 pub mod bits;
 mod floods;
 mod groups;
+#[doc(hidden)]
 pub mod laws;
 mod possible;
 mod pushes;
@@ -23,14 +42,12 @@ mod ring;
 mod rooms;
 mod route;
 mod scratch;
-mod seeking;
 mod set;
 mod sight;
 mod spread;
 
 pub use after::normalise_after;
 pub use floods::{flood, normal};
-pub use groups::group;
 pub use possible::{MAX_PUSHES, possible_pushes};
 pub use route::walk;
 pub use scratch::Scratch;

@@ -15,12 +15,14 @@ use crate::scratch::Scratch;
 use arrayvec::ArrayVec;
 use grid::{Dir, Level, MAX_BOXES, Position, Push, Square, WORD_BITS};
 
-/// The greatest number of pushes that a position allows: one of each box in each direction.
+/// The greatest number of pushes that a position allows: one for each box and direction.
 pub const MAX_PUSHES: usize = 4 * MAX_BOXES;
 
-/// Makes a list that of the pushes that the player can make after walks that push nothing, in their order: of the boxes by
-/// rising squares, and of each box down, left, right, up. The list is there already, so that nothing large is made for
-/// each position. Takes no memory. The scratch is left with the flood of the position.
+/// Lists the pushes that the player can make after walking, each once, in their order: the boxes by rising squares,
+/// and for each box down, left, right, up.
+///
+/// Overwrites the caller's list, so that a search makes no large value for each position, and takes no memory.
+/// Leaves the flood of the position in the scratch.
 pub fn possible_pushes(
     level: &Level,
     position: &Position,
@@ -38,45 +40,45 @@ pub fn possible_pushes(
     tell_few(position);
     let words = level.step_masks().len();
     pushes.clear();
-    for place in 0..words {
-        push_word(level, scratch, place, pushes);
+    for index in 0..words {
+        push_word(level, scratch, index, pushes);
     }
 }
 
-// Tells that a position has no more boxes than there may be.
+// Lemma: a position has at most [`MAX_BOXES`] boxes.
 fn tell_few(position: &Position)
     ensures { length position.now.boxes ≤ MAX_BOXES }
 {
     let _ = position.boxes();
 }
 
-// Appends the pushes of the boxes on the squares of one word, of those that the last flood allows, in their order.
+// Appends the pushes that the last flood allows of the boxes in one word, in their order.
 fn push_word(
     level: &Level,
     scratch: &Scratch,
-    place: usize,
+    index: usize,
     pushes: &mut ArrayVec<Push, MAX_PUSHES>,
 )
     requires room { scratch.now.size ≡ length level.now.cells }
-    requires inside { place < word_count (length level.now.cells) }
+    requires inside { index < word_count (length level.now.cells) }
     requires boxes { (q : ℕ) → contains scratch.now.boxes q ≡ true → is_wall level.now q ≡ false }
     requires reached { (q : ℕ) → contains scratch.now.reached q ≡ true → q < length level.now.cells }
     requires few { length scratch.now.boxes ≤ MAX_BOXES }
-    requires before { AreAllowedBelow level.now scratch.now (WORD_BITS * place) pushes.old.items }
-    ensures { AreAllowedBelow level.now scratch.now (WORD_BITS * (place + 1)) pushes.new.items }
+    requires before { AreAllowedBelow level.now scratch.now (WORD_BITS * index) pushes.old.items }
+    ensures { AreAllowedBelow level.now scratch.now (WORD_BITS * (index + 1)) pushes.new.items }
 {
     level.tell();
-    let masks = pushable(level, scratch, place);
+    let masks = pushable(level, scratch, index);
     let mut left = masks.d | masks.l | masks.r | masks.u;
     while left != 0 {
         let bit = left.trailing_zeros() as usize;
-        let square = Square((WORD_BITS * place + bit) as u16);
+        let square = Square((WORD_BITS * index + bit) as u16);
         push_box(&masks, bit, square, pushes);
         left &= !(1 << bit);
     }
 }
 
-// Appends the pushes of the box on a square that the masks have at a bit, in their order.
+// Appends the pushes of the box on a square, whose bit in the masks is `bit`, in their order.
 #[inline(always)]
 fn push_box(masks: &PushMasks, bit: usize, square: Square, pushes: &mut ArrayVec<Push, MAX_PUSHES>)
     requires inside { bit < WORD_BITS }
@@ -91,7 +93,7 @@ fn push_box(masks: &PushMasks, bit: usize, square: Square, pushes: &mut ArrayVec
     push_if(masks.u, bit, square, Dir::U, pushes);
 }
 
-// Appends the push of the box on a square in a direction, if the word has the bit.
+// Appends the push of the box on a square in a direction if the word has the bit.
 #[inline(always)]
 fn push_if(word: u64, bit: usize, square: Square, dir: Dir, pushes: &mut ArrayVec<Push, MAX_PUSHES>)
     requires inside { bit < WORD_BITS }

@@ -11,8 +11,7 @@ use crate::bits::{after, before, slid_down, slid_up};
 use crate::scratch::Scratch;
 use grid::{Dir, Level, StepMasks, WORD_BITS};
 
-/// For [`WORD_BITS`] squares in a row, from a multiple of it on: for each direction a bit for each square whose box can
-/// be pushed in that direction. The lowest bit is the first square's.
+/// The boxes in one word that can be pushed: for each direction a word with the bits of their squares.
 #[derive(Clone, Copy, PartialEq, Eq, Debug)]
 pub(crate) struct PushMasks {
     pub(crate) d: u64,
@@ -29,130 +28,131 @@ const NONE: PushMasks = PushMasks {
     u: 0,
 };
 
-/// Which boxes of the last flood someone on the squares that it reached can push, of those on the squares of the word at
-/// a place.
-pub(crate) fn pushable(level: &Level, scratch: &Scratch, place: usize) -> PushMasks
+/// The boxes in the word at an index that a player on the squares that the last flood reached can push. The boxes
+/// are those of that flood.
+pub(crate) fn pushable(level: &Level, scratch: &Scratch, index: usize) -> PushMasks
     requires room { scratch.now.size ≡ length level.now.cells }
-    requires inside { place < word_count (length level.now.cells) }
+    requires inside { index < word_count (length level.now.cells) }
     requires boxes { (q : ℕ) → contains scratch.now.boxes q ≡ true → is_wall level.now q ≡ false }
     requires reached { (q : ℕ) → contains scratch.now.reached q ≡ true → q < length level.now.cells }
     ensures { (d : Dir) (j : ℕ) → j < WORD_BITS → (word_bit (push_word d result) j ≡ true) ↔
-        IsPushable level.now scratch.now.boxes scratch.now.reached d (WORD_BITS * place + j) }
+        IsPushable level.now scratch.now.boxes scratch.now.reached d (WORD_BITS * index + j) }
 {
     let masks = level.step_masks();
     let cols = level.cols();
     let reached = scratch.reached.as_words();
     let boxes = scratch.boxes.as_words();
-    if boxes[place] == 0 {
+    if boxes[index] == 0 {
         return NONE;
     }
     PushMasks {
-        d: pushed_on(masks, boxes, reached, place, Dir::D, cols),
-        l: pushed_back(masks, boxes, reached, place, Dir::L, 1),
-        r: pushed_on(masks, boxes, reached, place, Dir::R, 1),
-        u: pushed_back(masks, boxes, reached, place, Dir::U, cols),
+        d: pushed_on(masks, boxes, reached, index, Dir::D, cols),
+        l: pushed_back(masks, boxes, reached, index, Dir::L, 1),
+        r: pushed_on(masks, boxes, reached, index, Dir::R, 1),
+        u: pushed_back(masks, boxes, reached, index, Dir::U, cols),
     }
 }
 
-// The boxes of a word that can be pushed in a direction that leads so many numbers on.
+// The boxes in a word that can be pushed in a direction whose steps add `by` to a square's number.
 #[inline(always)]
 fn pushed_on(
     masks: &[StepMasks],
     boxes: &[u64],
     reached: &[u64],
-    place: usize,
+    index: usize,
     dir: Dir,
     by: usize,
 ) -> u64
-    requires inside { place < length masks.now }
+    requires inside { index < length masks.now }
     requires boxes { length boxes.now ≡ length masks.now }
     requires reached { length reached.now ≡ length masks.now }
     ensures { (board : Board) → AreMasks board masks.now → GoesOn board dir by → (j : ℕ) → j < WORD_BITS →
-        word_bit result j ≡ can_push board boxes.now reached.now dir (WORD_BITS * place + j) }
+        word_bit result j ≡ can_push board boxes.now reached.now dir (WORD_BITS * index + j) }
 {
-    let entered = before(reached, place, by) & mask_for(masks[place], dir);
-    (boxes[place] & entered) & open_after(masks, boxes, place, dir, by)
+    let entered = before(reached, index, by) & mask_for(masks[index], dir);
+    (boxes[index] & entered) & open_after(masks, boxes, index, dir, by)
 }
 
-// The boxes of a word that can be pushed in a direction that leads so many numbers back.
+// The boxes in a word that can be pushed in a direction whose steps subtract `by` from a square's number.
 #[inline(always)]
 fn pushed_back(
     masks: &[StepMasks],
     boxes: &[u64],
     reached: &[u64],
-    place: usize,
+    index: usize,
     dir: Dir,
     by: usize,
 ) -> u64
-    requires inside { place < length masks.now }
+    requires inside { index < length masks.now }
     requires boxes { length boxes.now ≡ length masks.now }
     requires reached { length reached.now ≡ length masks.now }
     ensures { (board : Board) → AreMasks board masks.now → GoesBack board dir by → (j : ℕ) → j < WORD_BITS →
-        word_bit result j ≡ can_push board boxes.now reached.now dir (WORD_BITS * place + j) }
+        word_bit result j ≡ can_push board boxes.now reached.now dir (WORD_BITS * index + j) }
 {
-    let entered = after(reached, place, by) & mask_for(masks[place], dir);
-    (boxes[place] & entered) & open_before(masks, boxes, place, dir, by)
+    let entered = after(reached, index, by) & mask_for(masks[index], dir);
+    (boxes[index] & entered) & open_before(masks, boxes, index, dir, by)
 }
 
-// For each square of a word, whether the square so many numbers after it is open to a step in the direction.
+// For each square of a word, whether a step in the direction can enter the square `by` numbers after it.
 #[inline(always)]
-fn open_after(masks: &[StepMasks], boxes: &[u64], place: usize, dir: Dir, by: usize) -> u64
-    requires inside { place < length masks.now }
+fn open_after(masks: &[StepMasks], boxes: &[u64], index: usize, dir: Dir, by: usize) -> u64
+    requires inside { index < length masks.now }
     requires boxes { length boxes.now ≡ length masks.now }
-    ensures { (board : Board) → AreMasks board masks.now → (i j : ℕ) → j < WORD_BITS → i ≡ WORD_BITS * place + j + by →
+    ensures { (board : Board) → AreMasks board masks.now → (i j : ℕ) → j < WORD_BITS → i ≡ WORD_BITS * index + j + by →
         word_bit result j ≡ is_open board boxes.now dir i }
 {
     let far = by / WORD_BITS;
-    let here = open_at(masks, boxes, place + far, dir);
-    let high = open_at(masks, boxes, place + far + 1, dir);
+    let here = open_at(masks, boxes, index + far, dir);
+    let high = open_at(masks, boxes, index + far + 1, dir);
     slid_down(here, high, by % WORD_BITS)
 }
 
-// For each square of a word, whether the square so many numbers before it is open to a step in the direction.
+// For each square of a word, whether a step in the direction can enter the square `by` numbers before it.
 #[inline(always)]
-fn open_before(masks: &[StepMasks], boxes: &[u64], place: usize, dir: Dir, by: usize) -> u64
-    requires inside { place < length masks.now }
+fn open_before(masks: &[StepMasks], boxes: &[u64], index: usize, dir: Dir, by: usize) -> u64
+    requires inside { index < length masks.now }
     requires boxes { length boxes.now ≡ length masks.now }
-    ensures there { (board : Board) → AreMasks board masks.now → (i j : ℕ) → j < WORD_BITS → i + by ≡ WORD_BITS * place + j →
+    ensures there { (board : Board) → AreMasks board masks.now → (i j : ℕ) → j < WORD_BITS → i + by ≡ WORD_BITS * index + j →
         word_bit result j ≡ is_open board boxes.now dir i }
-    ensures none { (j : ℕ) → j < WORD_BITS → WORD_BITS * place + j < by → word_bit result j ≡ false }
+    ensures none { (j : ℕ) → j < WORD_BITS → WORD_BITS * index + j < by → word_bit result j ≡ false }
 {
     let far = by / WORD_BITS;
-    let here = open_back(masks, boxes, place, dir, far);
-    let low = open_back(masks, boxes, place, dir, far + 1);
+    let here = open_back(masks, boxes, index, dir, far);
+    let low = open_back(masks, boxes, index, dir, far + 1);
     slid_up(here, low, by % WORD_BITS)
 }
 
-// The squares open to a step in the direction, of the word so many places before another; none before the first.
+// The squares that a step in the direction can enter, in the word `far` words before another; none before the first
+// word.
 #[inline(always)]
-fn open_back(masks: &[StepMasks], boxes: &[u64], place: usize, dir: Dir, far: usize) -> u64
-    requires inside { place < length masks.now }
+fn open_back(masks: &[StepMasks], boxes: &[u64], index: usize, dir: Dir, far: usize) -> u64
+    requires inside { index < length masks.now }
     requires boxes { length boxes.now ≡ length masks.now }
-    ensures there { (board : Board) → AreMasks board masks.now → (j : ℕ) → j < WORD_BITS → far ≤ place →
-        word_bit result j ≡ is_open board boxes.now dir (WORD_BITS * (place - far) + j) }
-    ensures none { place < far → result ≡ 0 }
+    ensures there { (board : Board) → AreMasks board masks.now → (j : ℕ) → j < WORD_BITS → far ≤ index →
+        word_bit result j ≡ is_open board boxes.now dir (WORD_BITS * (index - far) + j) }
+    ensures none { index < far → result ≡ 0 }
 {
-    if far <= place {
-        open_at(masks, boxes, place - far, dir)
+    if far <= index {
+        open_at(masks, boxes, index - far, dir)
     } else {
         0
     }
 }
 
-// The squares of a word that are open to a step in the direction: it can lead onto them, and no box stands there.
+// The squares of a word that a step in the direction can enter: no wall bars it, and no box stands there.
 #[inline(always)]
-fn open_at(masks: &[StepMasks], boxes: &[u64], place: usize, dir: Dir) -> u64
+fn open_at(masks: &[StepMasks], boxes: &[u64], index: usize, dir: Dir) -> u64
     requires boxes { length boxes.now ≡ length masks.now }
-    ensures { (board : Board) → AreMasks board masks.now → (j : ℕ) → j < WORD_BITS → word_bit result j ≡ is_open board boxes.now dir (WORD_BITS * place + j) }
+    ensures { (board : Board) → AreMasks board masks.now → (j : ℕ) → j < WORD_BITS → word_bit result j ≡ is_open board boxes.now dir (WORD_BITS * index + j) }
 {
-    if place < masks.len() {
-        mask_for(masks[place], dir) & !boxes[place]
+    if index < masks.len() {
+        mask_for(masks[index], dir) & !boxes[index]
     } else {
         0
     }
 }
 
-// The word for a direction.
+// The mask of a direction.
 #[inline(always)]
 fn mask_for(masks: StepMasks, dir: Dir) -> u64
     ensures { result ≡ word_for dir masks }

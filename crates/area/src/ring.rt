@@ -1,4 +1,5 @@
-//! The squares round one that a box is pushed onto, as bits of three rows: whether steps round it still join what it parts.
+//! The eight squares round one that a box is pushed onto, as bits of three rows: do steps on them still connect
+//! what the box separates?
 ghost use Rattle.std.specs.Prelude.{◌≡◌, ℕ, ◌<◌, length};
 ghost use Rattle.area.specs.Words.{word_bit};
 ghost use Rattle.area.specs.inside.Detours.{across};
@@ -7,8 +8,8 @@ ghost use Rattle.area.specs.inside.RingBits.{IsFlank, IsRing, IsTurned, joins};
 use crate::bits::after;
 use grid::{Dir, Square, WORD_BITS};
 
-/// Which of the squares round one are of a set: the lowest three bits of a word for each of three rows, from the square to
-/// the left to the one to the right.
+/// Which squares a set contains of one, the middle, and the eight round it: the lowest three bits of a word for
+/// each of three rows, left to right.
 #[derive(Clone, Copy, PartialEq, Eq, Debug)]
 pub(crate) struct Ring {
     pub(crate) above: u64,
@@ -16,8 +17,8 @@ pub(crate) struct Ring {
     pub(crate) below: u64,
 }
 
-/// What a set has on one side of a push: the square beside the one that the box comes from, the one beside the middle, onto
-/// which it is pushed, and the next one in its direction.
+/// Which squares a set contains on one side of a push onto the middle: the one beside the square that the box comes
+/// from, the one beside the middle, and the one after that in the push's direction.
 #[derive(Clone, Copy, PartialEq, Eq, Debug)]
 pub(crate) struct Flank {
     pub(crate) corner: bool,
@@ -25,8 +26,8 @@ pub(crate) struct Flank {
     pub(crate) front: bool,
 }
 
-/// A ring as it lies before a push onto the square in the middle: the flanks left and above first, and whether the set has
-/// the square beyond the middle, and the middle.
+/// A ring as a push onto the middle meets it: a flank on each side, left or above first, and whether the set
+/// contains the square beyond the middle, and the middle.
 #[derive(Clone, Copy, PartialEq, Eq, Debug)]
 pub(crate) struct Turned {
     pub(crate) one: Flank,
@@ -35,7 +36,7 @@ pub(crate) struct Turned {
     pub(crate) middle: bool,
 }
 
-// With so many columns the three rows are read as one word.
+// With at most this number of columns, one word holds all three rows.
 const NEAR_COLS: usize = 30;
 
 /// The ring of a square that is not at the grid's edge.
@@ -111,20 +112,20 @@ pub(crate) fn turn(ring: &Ring, dir: Dir) -> Turned
     }
 }
 
-// A flank that stands at one place of three rows.
+// A flank in one column of three rows.
 #[inline(always)]
-fn column(behind: u64, beside: u64, ahead: u64, place: usize) -> Flank
-    requires { place < WORD_BITS }
-    ensures { IsFlank (word_bit behind place) (word_bit beside place) (word_bit ahead place) result }
+fn column(behind: u64, beside: u64, ahead: u64, index: usize) -> Flank
+    requires { index < WORD_BITS }
+    ensures { IsFlank (word_bit behind index) (word_bit beside index) (word_bit ahead index) result }
 {
     Flank {
-        corner: has_bit(behind, place),
-        beside: has_bit(beside, place),
-        front: has_bit(ahead, place),
+        corner: has_bit(behind, index),
+        beside: has_bit(beside, index),
+        front: has_bit(ahead, index),
     }
 }
 
-// A flank that stands in one row.
+// A flank in one row.
 #[inline(always)]
 fn row(word: u64, behind: usize, ahead: usize) -> Flank
     requires behind { behind < WORD_BITS }
@@ -138,8 +139,8 @@ fn row(word: u64, behind: usize, ahead: usize) -> Flank
     }
 }
 
-/// Whether a push onto the square in the middle leaves the squares of the set that are next to it joined with the one that
-/// the box comes from: by way of the squares round it, or because the middle was not of the set.
+/// Whether a push onto the middle leaves the squares of the set beside it connected with the square that the box
+/// comes from: by steps on the squares round the middle, or because the set does not contain the middle.
 #[inline(always)]
 pub(crate) fn joins_round(view: &Turned) -> bool
     ensures { result ≡ joins view.now }
@@ -153,9 +154,9 @@ pub(crate) fn joins_round(view: &Turned) -> bool
     // three steps on one side lead past the middle
     let first = (one.corner & one.beside) & one.front;
     let second = (other.corner & other.beside) & other.front;
-    // five lead round it, by all squares next to it
+    // five lead round it, along all squares beside it
     let round = ((first & other.front) | (second & one.front)) & beyond;
-    // or each of these is come to by way of the one before it
+    // or each square beside the middle is entered from the one before it
     let sides = (one.corner | !one.beside) & (other.corner | !other.beside);
     let each = sides & ((!beyond | first) | second);
     (round | each) | !middle
@@ -163,9 +164,9 @@ pub(crate) fn joins_round(view: &Turned) -> bool
 
 // Whether a word has a bit.
 #[inline(always)]
-fn has_bit(word: u64, place: usize) -> bool
-    requires { place < WORD_BITS }
-    ensures { result ≡ word_bit word place }
+fn has_bit(word: u64, index: usize) -> bool
+    requires { index < WORD_BITS }
+    ensures { result ≡ word_bit word index }
 {
-    ((word >> place) & 1) == 1
+    ((word >> index) & 1) == 1
 }

@@ -13,10 +13,14 @@ use crate::spread::spread;
 use grid::{Dir, Letter, Level, MAX_SQUARES, Moves, Square, State};
 use std::alloc::AllocError;
 
-/// Appends the shortest walk without a push from the state to the square, of those the least text in the order `d`,
-/// `l`, `r`, `u`, and says `true`; says `false` exactly where there is no walk to it, and then appends nothing.
+/// Appends a shortest walk without a push from the state to the square: of several, the least text in the order
+/// `d`, `l`, `r`, `u`. Returns `true`, or `false` exactly if no walk leads to the square; then it appends nothing.
 ///
-/// Where memory for the letters is refused the list stays as it was.
+/// Takes time in proportion to the squares of the grid.
+///
+/// # Errors
+///
+/// [`AllocError`] if memory for the letters runs out. The list is then unchanged.
 pub fn walk(
     level: &Level,
     state: &State,
@@ -55,7 +59,7 @@ pub fn walk(
     Ok(true)
 }
 
-// Marks every square that walks from a square reach, round the boxes' marks; gives the boxes' mark.
+// Marks every square that walks from a square reach, round the boxes. Returns the boxes' mark.
 fn search_from(
     level: &Level,
     state: &State,
@@ -77,7 +81,7 @@ fn search_from(
     base
 }
 
-// Marks the squares on which the state has a box.
+// Gives the squares of the boxes their mark.
 fn block_boxes(state: &State, base: u32, marks: &mut [u32])
     requires inside { (q : ℕ) → contains state.now.boxes q ≡ true → q < length marks.old }
     requires small { length marks.old ≤ MAX_SQUARES }
@@ -91,7 +95,7 @@ fn block_boxes(state: &State, base: u32, marks: &mut [u32])
     }
 }
 
-// Appends the steps down the marks from one square to another, at each square the first direction that goes down.
+// Appends the steps down the marks from one square to another: at each square the first direction that leads down.
 fn descend(
     level: &Level,
     from: Square,

@@ -16,16 +16,19 @@ use grid::{Level, MAX_SQUARES, Square};
 use std::alloc::{AllocError, Global};
 use std::marker::Model;
 
-/// The greatest mark of a box; beyond it the marks are cleared and begin anew.
+/// The greatest mark of a box. Before a search would exceed it, all marks are cleared.
 pub(crate) const GREATEST_BASE: u32 = 1 << 31;
 
-/// The memory that floods and searches for walks work in, made once for all levels of the same rows and columns.
+/// The memory that floods and searches for walks work in: about seven bytes a square, made once for all levels of
+/// the same rows and columns.
 ///
-/// A flood makes a set of the squares that it reaches, and one of the boxes' squares. The spare sets are for what leaves
-/// the last flood as it is: another flood and its boxes, or the boxes that are looked at for whether they hold one another.
+/// A flood leaves two sets: the squares that it reaches, and the boxes. [`Scratch::reaches`] and
+/// [`Scratch::has_box`] read them until another call uses the scratch. The spare sets serve what keeps the last
+/// flood: another flood with its boxes, or tests of which boxes hold one another.
 ///
-/// For a search each square has a mark. In one search the boxes have the mark `base`, the squares that it reaches have
-/// greater marks, and all others lesser ones; the next search takes a greater `base`, so nothing needs to be cleared.
+/// A search for a walk gives each square a mark. In one search the boxes have the mark `base`, the squares that it
+/// reaches have greater marks, and all others have lesser ones. The next search takes a greater `base`, so no mark
+/// needs clearing.
 #[derive(Debug, Drop)]
 pub struct Scratch {
     pub(crate) marks: Vec<u32>,
@@ -50,7 +53,11 @@ impl Model for Scratch {
 }
 
 impl Scratch {
-    /// All the memory that later calls need, for levels of the same rows and columns as this one.
+    /// Takes all memory that later calls need, for levels of the same rows and columns as this one.
+    ///
+    /// # Errors
+    ///
+    /// [`AllocError`] if memory runs out.
     pub fn new(alloc: Global, level: &Level) -> Result<Scratch, AllocError>
         ensures { IfOk result (λ s. s.size ≡ length level.now.cells) }
     {
@@ -66,27 +73,29 @@ impl Scratch {
         })
     }
 
-    /// The allocator that its memory comes from.
+    /// The allocator of its memory.
     pub fn allocator(&self) -> Global {
         *self.queue.allocator()
     }
 
-    /// Whether the last flood reached the square. Nothing is said of it once the memory was lent to another call.
+    /// Whether the last flood reached the square. Without meaning after another call that does not promise to keep
+    /// the flood.
     pub fn reaches(&self, square: Square) -> bool
         ensures { result ≡ contains self.now.reached square }
     {
         self.reached.has(square)
     }
 
-    /// Whether the last flood went round a box on the square. Nothing is said of it once the memory was lent to another
-    /// call.
+    /// Whether the last flood went round a box on the square. Without meaning after another call that does not
+    /// promise to keep the flood.
     pub fn has_box(&self, square: Square) -> bool
         ensures { result ≡ contains self.now.boxes square }
     {
         self.boxes.has(square)
     }
 
-    /// The boxes round which the last flood went, as a set. Nothing is said of it once the memory was lent to another call.
+    /// The boxes round which the last flood went, as a set. Without meaning after another call that does not
+    /// promise to keep the flood.
     pub fn boxes(&self) -> &SquareSet
         ensures boxes { squares_of result.now ≡ self.now.boxes }
         ensures size { length result.now ≡ word_count self.now.size }
@@ -94,8 +103,8 @@ impl Scratch {
         &self.boxes
     }
 
-    /// Words of bits for squares aside from the last flood, of just these boxes. They may be written; another call that
-    /// works aside from the last flood does so too.
+    /// Exactly these boxes, as words of bits for the caller to write. They are spare memory: the last flood stays,
+    /// and the next call that floods again or asks for spare words overwrites them. For the crates above.
     pub fn boxes_aside(&mut self, boxes: &[Square]) -> &mut [u64]
         requires inside { (q : ℕ) → contains boxes.now q ≡ true → q < self.old.size }
         ensures* writes_back { sem 𝓛 (Lends the_row (Array word 0) self.entry result (λ w. self.old)) }
@@ -106,7 +115,8 @@ impl Scratch {
         self.spare.as_words_mut()
     }
 
-    /// The same of the boxes that hang together with the one on the square: see [`group`](crate::group).
+    /// The same for the boxes that are connected to the one on the square: a chain of boxes leads to each, every
+    /// box beside the one before it.
     pub fn group_aside(&mut self, level: &Level, boxes: &[Square], square: Square) -> &mut [u64]
         requires clear { (q : ℕ) → contains boxes.now q ≡ true → is_wall level.now q ≡ false }
         requires there { contains boxes.now square ≡ true }
@@ -128,7 +138,7 @@ impl Scratch {
         least_of(self.reached.as_words())
     }
 
-    // The least of the squares that the last flood reached but for `but`, and of the square `more`.
+    // The least of the squares that the last flood reached except `but`, and of the square `more`.
     pub(crate) fn least_with(&self, but: Square, more: Square) -> Square
         ensures { IsLeastWith self.now.reached but more result }
     {
@@ -136,7 +146,7 @@ impl Scratch {
     }
 }
 
-// A mark of 0 for each of so many squares.
+// A mark of 0 for each square.
 fn zeros(alloc: Global, squares: usize) -> Result<Vec<u32>, AllocError>
     ensures size { IfOk result (λ v. length v.items ≡ squares) }
     ensures low { IfOk result (λ v. (q : ℕ) → slice_index v.items q ≡ 0) }
@@ -144,7 +154,7 @@ fn zeros(alloc: Global, squares: usize) -> Result<Vec<u32>, AllocError>
     Ok(vec![in alloc; 0; squares]?)
 }
 
-// The mark of the boxes in the next search: greater than all marks, which are cleared where it would grow too great.
+// The mark of the boxes in the next search: greater than all marks. Clears the marks if it would grow too great.
 pub(crate) fn renewed(base: u32, marks: &mut [u32]) -> u32
     requires small { length marks.old ≤ MAX_SQUARES }
     requires base { base ≤ GREATEST_BASE }

@@ -10,10 +10,9 @@ use grid::{Square, WORD_BITS};
 use std::alloc::{AllocError, Global};
 use std::marker::Model;
 
-/// A set of squares of a grid, made once with room for so many squares.
+/// A set of squares of a grid, with a fixed capacity: one bit a square.
 ///
-/// Inside it has a bit for each square. Contracts see the words of bits as a list, of which `has_bit` tells whether the
-/// set has a square; no words leave this crate.
+/// Contracts see its words of bits as a list, and `has_bit` says whether the set contains a square.
 #[derive(Debug, Drop)]
 pub struct SquareSet {
     words: Vec<u64>,
@@ -28,7 +27,11 @@ impl Model for SquareSet {
 }
 
 impl SquareSet {
-    /// The set of no square, with room for so many. The only error is that memory was refused.
+    /// The empty set, with capacity for the squares below `squares`.
+    ///
+    /// # Errors
+    ///
+    /// [`AllocError`] if memory runs out.
     pub fn none(alloc: Global, squares: usize) -> Result<SquareSet, AllocError>
         ensures size { IfOk result (λ set. length set ≡ word_count squares) }
         ensures none { IfOk result (λ set. (q : ℕ) → has_bit set q ≡ false) }
@@ -38,7 +41,7 @@ impl SquareSet {
         })
     }
 
-    /// Whether the set has the square.
+    /// Whether the set contains the square.
     #[inline(always)]
     pub fn has(&self, square: Square) -> bool
         ensures { result ≡ has_bit self.now square }
@@ -46,7 +49,7 @@ impl SquareSet {
         has(self.as_words(), square)
     }
 
-    /// Puts a square into the set.
+    /// Inserts a square, which must be within the capacity.
     #[inline(always)]
     pub fn put(&mut self, square: Square)
         requires { square < WORD_BITS * length self.old }
@@ -56,7 +59,7 @@ impl SquareSet {
         put(square, self.as_words_mut());
     }
 
-    /// Makes the set one of just these squares.
+    /// Makes the set contain exactly these squares, which must be within the capacity.
     pub fn put_all(&mut self, squares: &[Square])
         requires { (q : ℕ) → contains squares.now q ≡ true → q < WORD_BITS * length self.old }
         ensures put { (q : ℕ) → has_bit self.new q ≡ contains squares.now q }
@@ -65,7 +68,7 @@ impl SquareSet {
         put_all(squares, self.as_words_mut());
     }
 
-    /// Takes all squares out of the set.
+    /// Removes all squares.
     #[inline(always)]
     pub fn clear(&mut self)
         ensures none { (q : ℕ) → has_bit self.new q ≡ false }
@@ -74,9 +77,9 @@ impl SquareSet {
         self.as_words_mut().fill(0);
     }
 
-    // Takes a square out of the set.
+    // Removes a square.
     #[inline(always)]
-    pub(crate) fn take_out(&mut self, square: Square)
+    fn take_out(&mut self, square: Square)
         requires { square < WORD_BITS * length self.old }
         ensures out { (q : ℕ) → has_bit self.new q ≡ (has_bit self.old q && not (square == q)) }
         ensures size { length self.new ≡ length self.old }
@@ -84,7 +87,7 @@ impl SquareSet {
         take_out(square, self.as_words_mut());
     }
 
-    // Makes the set that of the squares that it does not have.
+    // Replaces the set by the squares of its words that it does not contain.
     pub(crate) fn turn_over(&mut self)
         ensures turned { (q : ℕ) → q < WORD_BITS * length self.old → has_bit self.new q ≡ not (has_bit self.old q) }
         ensures size { length self.new ≡ length self.old }
@@ -92,13 +95,37 @@ impl SquareSet {
         turn_over(self.as_words_mut());
     }
 
-    // Makes the set the same as another that has the same room.
+    // Makes the set equal to another of the same capacity.
     #[inline(always)]
     pub(crate) fn copy_from(&mut self, other: &SquareSet)
         requires { length self.old ≡ length other.now }
         ensures { self.new ≡ other.now }
     {
         self.as_words_mut().copy_from_slice(other.as_words());
+    }
+
+    // Makes the set equal to another of the same capacity, without one square.
+    #[inline(always)]
+    pub(crate) fn copy_without(&mut self, other: &SquareSet, but: Square)
+        requires room { length self.old ≡ length other.now }
+        requires inside { but < WORD_BITS * length other.now }
+        ensures out { (q : ℕ) → has_bit self.new q ≡ (has_bit other.now q && not (but == q)) }
+        ensures size { length self.new ≡ length self.old }
+    {
+        self.copy_from(other);
+        self.take_out(but);
+    }
+
+    // Removes all squares, unless `keep`.
+    #[inline(always)]
+    pub(crate) fn keep_if(&mut self, keep: bool)
+        ensures kept { (q : ℕ) → has_bit self.new q ≡ true → IsTrue keep × (has_bit self.old q ≡ true) }
+        ensures size { length self.new ≡ length self.old }
+    {
+        if keep {
+            return;
+        }
+        self.clear();
     }
 
     /// The words of bits: bit i of word k is the square `WORD_BITS * k + i`.
@@ -109,7 +136,7 @@ impl SquareSet {
         self.words.as_slice()
     }
 
-    // The words of bits, to be written.
+    // The words of bits, for writing.
     #[inline(always)]
     pub(crate) fn as_words_mut(&mut self) -> &mut [u64]
         ensures* writes_back { sem 𝓛 (Lends the_row (Array word 0) self.entry result (written_over self.old)) }

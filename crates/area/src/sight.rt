@@ -1,4 +1,4 @@
-//! What the last flood tells of a push, by the squares round the one ahead.
+//! What the last flood says about the player's walks after a push, from the squares round the one ahead.
 ghost use Rattle.std.specs.Prelude.{◌≡◌, ℕ, ◌<◌, true, IsTrue, length};
 ghost use Rattle.grid.specs.Board.{next, opposite};
 ghost use Rattle.grid.specs.Squares.{contains};
@@ -9,12 +9,12 @@ use crate::ring::{Ring, across, joins_round, ring_of, turn};
 use crate::scratch::Scratch;
 use grid::{Dir, Level, Square};
 
-/// What is known of where the player walks after a push; what is not said to be so is open.
+/// What is known about the player's walks after a push. `false` means that it is not known.
 #[derive(Clone, Copy, PartialEq, Eq, Debug)]
 pub(crate) struct Sight {
-    /// What the last flood reached beside the square ahead stays joined, by steps round that square.
+    /// All that the last flood reached beside the square ahead stays connected, by steps round that square.
     pub(crate) is_joined: bool,
-    /// Nothing free is beside the box's square but what the last flood reached, and the square ahead.
+    /// Nothing free is beside the box's square except what the last flood reached, and the square ahead.
     pub(crate) is_known: bool,
 }
 
@@ -24,8 +24,8 @@ const UNSEEN: Sight = Sight {
     is_known: false,
 };
 
-/// What the last flood tells of a push in the player's room. Of other pushes nothing is known, since squares at the grid's edge
-/// have no eight squares round them.
+/// What the last flood says about a push in the player's room. About other pushes nothing is known, since squares
+/// at the grid's edge do not have eight squares round them.
 pub(crate) fn look_ahead(
     level: &Level,
     square: Square,
@@ -49,7 +49,7 @@ pub(crate) fn look_ahead(
     look(level, square, push_dir, &ring, scratch)
 }
 
-// The same by the ring round the square ahead.
+// The same from the ring round the square ahead.
 #[inline(always)]
 fn look(level: &Level, square: Square, push_dir: Dir, ring: &Ring, scratch: &Scratch) -> Sight
     requires inside { square < length level.now.cells }
@@ -71,7 +71,8 @@ fn look(level: &Level, square: Square, push_dir: Dir, ring: &Ring, scratch: &Scr
     }
 }
 
-// Whether the square beside a square in a direction is one that the last flood reached, as is asked first, or not free.
+// Whether the square beside a square in a direction is not free or was reached by the last flood. `is_reached`
+// implies the latter.
 #[inline(always)]
 fn is_known(level: &Level, square: Square, dir: Dir, is_reached: bool, scratch: &Scratch) -> bool
     requires inside { square < length level.now.cells }

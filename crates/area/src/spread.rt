@@ -1,10 +1,10 @@
-ghost use Rattle.std.specs.Prelude.{◌≡◌, ℕ, ◌+◌, ◌^◌, ◌<◌, ◌≤◌, false, length, slice_index, slice_set, nat_lt, if◌then◌else◌};
+ghost use Rattle.std.specs.Prelude.{◌≡◌, ◌<◌, false, length, slice_index};
 ghost use Rattle.grid.specs.Board.{is_wall};
-ghost use Rattle.area.specs.inside.Spread.{IsBegun, IsSpread, KeepsBlocked, AreWithin};
+ghost use Rattle.area.specs.inside.Spread.{IsBegun, IsLook, IsSpread, KeepsBlocked, AreWithin};
 
-use grid::{Level, Square};
+use grid::{Dir, Level, Square};
 
-// Marks every square that walks from a square reach with the steps that lead there, round the boxes' marks.
+// Marks every square that a walk from a square reaches with the number of its steps, round the boxes' marks.
 pub(crate) fn spread(
     level: &Level,
     from: Square,
@@ -24,20 +24,18 @@ pub(crate) fn spread(
     while head < tail {
         let square = queue[head];
         let mark = marks[square.0 as usize] + 1;
-        let ways = level.ways(square);
-        tail = visit(ways.d, mark, base, marks, queue, tail);
-        tail = visit(ways.l, mark, base, marks, queue, tail);
-        tail = visit(ways.r, mark, base, marks, queue, tail);
-        tail = visit(ways.u, mark, base, marks, queue, tail);
+        for dir in Dir::ALL {
+            let next = level.next(square, dir);
+            tail = look(level, next, mark, base, marks, queue, tail);
+        }
         head += 1;
     }
 }
 
-// Marks a square and puts it at the queue's end, where it was not come upon yet; gives where the queue then ends. A way
-// that a wall bars leads to the square that it comes from, which has a mark. It writes in any case, since no processor
-// foresees which squares are new: what was not new keeps its mark, and the queue ends before it.
-#[inline(always)]
-fn visit(
+// Looks at a square: if the search has not reached it and neither wall nor box bars it, gives it the mark and
+// appends it to the queue. Returns where the queue ends.
+fn look(
+    level: &Level,
     square: Square,
     mark: u32,
     base: u32,
@@ -45,17 +43,17 @@ fn visit(
     queue: &mut [Square],
     tail: usize,
 ) -> usize
-    requires inside { square < length marks.old }
-    requires space { slice_index marks.old square < base → tail < length queue.old }
-    ensures tail { result ≡ (if nat_lt (slice_index marks.old square) base then tail + 1 else tail) }
-    ensures marks { marks.new ≡ slice_set marks.old square (if nat_lt (slice_index marks.old square) base then mark else slice_index marks.old square) }
-    ensures queue { queue.new ≡ (if nat_lt tail (length queue.old) then slice_set queue.old tail square else queue.old) }
+    requires room { length marks.old ≡ length level.now.cells }
+    requires space { is_wall level.now square ≡ false → slice_index marks.old square < base → tail < length queue.old }
+    ensures { IsLook level.now base square mark tail marks.old queue.old result marks.new queue.new }
 {
-    if tail < queue.len() {
-        queue[tail] = square;
+    if level.is_wall(square) {
+        return tail;
     }
-    let old = marks[square.0 as usize];
-    let is_new = old < base;
-    marks[square.0 as usize] = if is_new { mark } else { old };
-    if is_new { tail + 1 } else { tail }
+    if marks[square.0 as usize] >= base {
+        return tail;
+    }
+    marks[square.0 as usize] = mark;
+    queue[tail] = square;
+    tail + 1
 }

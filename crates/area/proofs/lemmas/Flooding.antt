@@ -1,5 +1,5 @@
 -- What a flood by words finds: the area.
-use Rattle.std.proofs.Common.{◌≡◌, ℕ, ◌+◌, ◌*◌, ◌<◌, ◌≤◌, Bool, true, false, eqb, ◌||◌, ◌⊎◌, inl, inr, ◌↔◌, List, None, length, refl, sym, ap, subst, ◌∙◌}
+use Rattle.std.proofs.Common.{◌≡◌, ℕ, ◌+◌, ◌*◌, ◌<◌, ◌≤◌, Bool, true, false, eqb, ◌||◌, ◌↔◌, List, length, refl, sym, ap, subst, ◌∙◌}
 use Rattle.std.proofs.Common.{arith}
 use Rattle.std.proofs.lemmas.Bool.{eqb-true, and_from, or_left, or_right}
 use Rattle.grid.specs.declared.dir.Dir.{Dir}
@@ -14,7 +14,7 @@ use Rattle.grid.specs.Rising.{is_rising}
 use Rattle.grid.proofs.lemmas.Squares.{same_set}
 use Rattle.grid.proofs.lemmas.Steps.{inside_grid, next_back_inside}
 use Rattle.area.specs.Area.{Area, IsNorm, at}
-use Rattle.area.specs.inside.Flooding.{comes_by, is_entered, HasAim, IsKept, IsGrowing, IsFlooded}
+use Rattle.area.specs.inside.Flooding.{comes_by, is_entered, IsKept, IsFlooded}
 use Rattle.area.specs.Words.{squares_of}
 use Rattle.area.proofs.Detours.{area_step, along_walks}
 use Rattle.area.proofs.Gathers.{enter_parts, enter_from, enter_back}
@@ -45,10 +45,10 @@ entered_by board words U q h = or_right (comes_by board words D q || comes_by bo
 
 module _ (board : Board) (s : Scene) (boxes old new : List ℕ) (scene : IsScene board s) (stand : (q : ℕ) → is_wall board q ≡ false →
     has_bit boxes q ≡ contains s.boxes q) (begun : has_bit old s.player ≡ true) (within : (q : ℕ) → has_bit old q ≡ true →
-    Area board s q) (growing : IsGrowing board boxes old new) where
+    Area board s q) (found : IsFlooded board boxes old new) where
   -- what is reached is of the area
-  pub flood_inside : (q : ℕ) → has_bit new q ≡ true → Area board s q
-  flood_inside q h = (test.1 q).0 (growing.sound test.0 keeps from_start q h)
+  flood_inside : (q : ℕ) → has_bit new q ≡ true → Area board s q
+  flood_inside q h = (test.1 q).0 (found.growing.sound test.0 keeps from_start q h)
     where
       test : (p : ℕ → Bool) × ((x : ℕ) → (p x ≡ true) ↔ Area board s x)
       test = area_test board s scene
@@ -64,13 +64,13 @@ module _ (board : Board) (s : Scene) (boxes old new : List ℕ) (scene : IsScene
       from_start x here = (test.1 x).1 (within x here)
 
   -- what is of the area is reached
-  pub flood_whole : length new ≡ word_count (length board.cells) → IsFlooded board boxes old new → (q : ℕ) → Area board s q → has_bit new q ≡ true
-  flood_whole size found q w =
+  flood_whole : length new ≡ word_count (length board.cells) → (q : ℕ) → Area board s q → has_bit new q ≡ true
+  flood_whole size q w =
       (along_walks board s.boxes (λ (x : ℕ). (has_bit new x ≡ true) ×
       (x < length board.cells)) step refl (first, inside_grid board s.player scene.player.0) w.1).0
     where
       first : has_bit new s.player ≡ true
-      first = growing.kept s.player begun
+      first = found.growing.kept s.player begun
 
       step : (x : ℕ) (d : Dir) → (has_bit new x ≡ true) × (x < length board.cells) → IsFree board s.boxes (next board x d) →
           (has_bit new (next board x d) ≡ true) × (next board x d < length board.cells)
@@ -83,16 +83,14 @@ module _ (board : Board) (s : Scene) (boxes old new : List ℕ) (scene : IsScene
           here.0) in
           (found.settled n (words_enough (length board.cells) (length new) n size inside) (stand n free.0 ∙ free.1) (entered_by board new d n comes), inside)
 
+  -- so a flood finds the area
+  pub flood_found : length new ≡ word_count (length board.cells) → (q : ℕ) → (has_bit new q ≡ true) ↔ Area board s q
+  flood_found size q = (flood_inside q, flood_whole size q)
+
 -- a set of the player's square alone is within the area
 pub player_alone : (board : Board) (s : Scene) (words : List ℕ) (player : ℕ) → player ≡ s.player → ((q : ℕ) → has_bit words q ≡ eqb player q) → (q : ℕ) →
     has_bit words q ≡ true → Area board s q
 player_alone board s words player e alone q h = subst (Area board s) (sym e ∙ eqb-true player q (sym (alone q) ∙ h)) (area_here board s)
-
--- without an aim, what is reached is the area
-pub whole_area : (board : Board) (s : Scene) (words : List ℕ) → ((q : ℕ) → has_bit words q ≡ true → Area board s q) → HasAim None words ⊎
-    ((q : ℕ) → Area board s q → has_bit words q ≡ true) → (q : ℕ) → (has_bit words q ≡ true) ↔ Area board s q
-whole_area board s words within (inl none) q = absurd none
-whole_area board s words within (inr whole) q = (within q, whole q)
 
 -- words that are the same hold the same area
 pub area_seen : (board : Board) (s : Scene) (words seen : List ℕ) → ((q : ℕ) → (has_bit words q ≡ true) ↔ Area board s q) → seen ≡ words → (q : ℕ) →
@@ -116,11 +114,3 @@ listed_boxes boxes words seen rising stand same =
 pub norm_of_least : (board : Board) (s : Scene) (words : List ℕ) (r : ℕ) → ((q : ℕ) → (has_bit words q ≡ true) ↔ Area board s q) → has_bit words r ≡ true →
     ((q : ℕ) → has_bit words q ≡ true → r ≤ q) → IsNorm board s (at s r)
 norm_of_least board s words r area here least = norm_found board s (at s r) r refl ((area r).0 here) (λ q w. least q ((area q).1 w))
-
--- the same of words that have a part of the area, with a square where there is one that nothing of it is less than
-pub norm_of_part : (board : Board) (s : Scene) (words : List ℕ) (aim r : ℕ) → ((q : ℕ) → has_bit words q ≡ true → Area board s q) → (has_bit words aim ≡ true) ⊎
-    ((q : ℕ) → Area board s q → has_bit words q ≡ true) → ((q : ℕ) → Area board s q → aim ≤ q) → has_bit words r ≡ true →
-    ((q : ℕ) → has_bit words q ≡ true → r ≤ q) → IsNorm board s (at s r)
-norm_of_part board s words aim r within (inl there) below here least =
-    norm_found board s (at s r) r refl (within r here) (λ q w. let f = least aim there in let g = below q w in omega (arith, f, g))
-norm_of_part board s words aim r within (inr whole) below here least = norm_found board s (at s r) r refl (within r here) (λ q w. least q (whole q w))

@@ -39,22 +39,22 @@ back_up board by cols q h = let s = source_U board q h in omega arith
 
 -- ---- the open squares of a word
 
-module _ (board : Board) (masks : List StepMasks) (boxes : List ℕ) (d : Dir) (place : ℕ) (are : AreMasks board masks) (j : ℕ) (lt : j < WORD_BITS) where
-  pub open_bits : (e : StepMasks) (word held : ℕ) → place < length masks → word ≡ word_for d (get_or masks place e) → held ≡ get_or boxes place 0 →
-      held < 2 ^ 64 → word_bit (bit_and word (bit_not w64 held)) j ≡ is_open board boxes d (WORD_BITS * place + j)
+module _ (board : Board) (masks : List StepMasks) (boxes : List ℕ) (d : Dir) (index : ℕ) (are : AreMasks board masks) (j : ℕ) (lt : j < WORD_BITS) where
+  pub open_bits : (e : StepMasks) (word held : ℕ) → index < length masks → word ≡ word_for d (get_or masks index e) → held ≡ get_or boxes index 0 →
+      held < 2 ^ 64 → word_bit (bit_and word (bit_not w64 held)) j ≡ is_open board boxes d (WORD_BITS * index + j)
   open_bits e word held inside named at fits =
       word_bit-and word (bit_not w64 held) j
-      ∙ (ap (λ (b : Bool). b && word_bit (bit_not w64 held) j) (ap (λ (w : ℕ). word_bit w j) named ∙ mask_bit board masks d place j e are inside lt)
-      ∙ ap (λ (b : Bool). can_enter board d (WORD_BITS * place + j) && b) (word_bit-not held j fits lt ∙
-      ap not (ap (λ (w : ℕ). word_bit w j) at ∙ sym (has_bit-at boxes place j lt))))
+      ∙ (ap (λ (b : Bool). b && word_bit (bit_not w64 held) j) (ap (λ (w : ℕ). word_bit w j) named ∙ mask_bit board masks d index j e are inside lt)
+      ∙ ap (λ (b : Bool). can_enter board d (WORD_BITS * index + j) && b) (word_bit-not held j fits lt ∙
+      ap not (ap (λ (w : ℕ). word_bit w j) at ∙ sym (has_bit-at boxes index j lt))))
 
   -- past the masks nothing is open
-  pub open_none : length masks ≤ place → word_bit 0 j ≡ is_open board boxes d (WORD_BITS * place + j)
-  open_none past = word_bit-zero j ∙ sym (ap (λ (b : Bool). b && not (has_bit boxes (WORD_BITS * place + j))) shut)
+  pub open_none : length masks ≤ index → word_bit 0 j ≡ is_open board boxes d (WORD_BITS * index + j)
+  open_none past = word_bit-zero j ∙ sym (ap (λ (b : Bool). b && not (has_bit boxes (WORD_BITS * index + j))) shut)
     where
-      shut : can_enter board d (WORD_BITS * place + j) ≡ false
-      shut = elim (cases_Bool (can_enter board d (WORD_BITS * place + j))) [
-        | inl h ↦ absurd (let below = has_bit_inside (words_for d masks) (WORD_BITS * place + j) (are.bits d (WORD_BITS * place + j) ∙ h) in
+      shut : can_enter board d (WORD_BITS * index + j) ≡ false
+      shut = elim (cases_Bool (can_enter board d (WORD_BITS * index + j))) [
+        | inl h ↦ absurd (let below = has_bit_inside (words_for d masks) (WORD_BITS * index + j) (are.bits d (WORD_BITS * index + j) ∙ h) in
             let size = length-map masks (word_for d) in omega (arith, below, size, past))
         | inr h ↦ h
       ]
@@ -109,23 +109,23 @@ module _ (board : Board) (boxes : List ℕ) (d : Dir) (q : ℕ) (clear : is_wall
 -- ---- a word's boxes that can be pushed
 
 -- what the bits of a word's boxes, of those entered and of those with an open square ahead say together
-pub push_bits : (board : Board) (masks : List StepMasks) (boxes reached : List ℕ) (place : ℕ) (d : Dir) (e : StepMasks) (j side word ahead : ℕ) →
-    AreMasks board masks → place < length masks → j < WORD_BITS
-    → word ≡ word_for d (get_or masks place e)
-    → (can_enter board d (WORD_BITS * place + j) ≡ true → word_bit side j ≡ has_bit reached (next board (WORD_BITS * place + j) (opposite d)))
-    → (is_wall board (WORD_BITS * place + j) ≡ false → word_bit ahead j ≡ is_open board boxes d (next board (WORD_BITS * place + j) d))
-    → word_bit (bit_and (bit_and (get_or boxes place 0) (bit_and side word)) ahead) j ≡ can_push board boxes reached d (WORD_BITS * place + j)
-push_bits board masks boxes reached place d e j side word ahead are inside lt named come opens =
-    word_bit-and (bit_and (get_or boxes place 0) (bit_and side word)) ahead j
-    ∙ (ap (λ (b : Bool). b && word_bit ahead j) (word_bit-and (get_or boxes place 0) (bit_and side word) j ∙
-    ap (λ (b : Bool). word_bit (get_or boxes place 0) j && b) (word_bit-and side word j))
-    ∙ joined (word_bit (get_or boxes place 0) j) (has_bit boxes q) (word_bit side j) (has_bit reached (next board q (opposite d))) (word_bit word j)
+pub push_bits : (board : Board) (masks : List StepMasks) (boxes reached : List ℕ) (index : ℕ) (d : Dir) (e : StepMasks) (j side word ahead : ℕ) →
+    AreMasks board masks → index < length masks → j < WORD_BITS
+    → word ≡ word_for d (get_or masks index e)
+    → (can_enter board d (WORD_BITS * index + j) ≡ true → word_bit side j ≡ has_bit reached (next board (WORD_BITS * index + j) (opposite d)))
+    → (is_wall board (WORD_BITS * index + j) ≡ false → word_bit ahead j ≡ is_open board boxes d (next board (WORD_BITS * index + j) d))
+    → word_bit (bit_and (bit_and (get_or boxes index 0) (bit_and side word)) ahead) j ≡ can_push board boxes reached d (WORD_BITS * index + j)
+push_bits board masks boxes reached index d e j side word ahead are inside lt named come opens =
+    word_bit-and (bit_and (get_or boxes index 0) (bit_and side word)) ahead j
+    ∙ (ap (λ (b : Bool). b && word_bit ahead j) (word_bit-and (get_or boxes index 0) (bit_and side word) j ∙
+    ap (λ (b : Bool). word_bit (get_or boxes index 0) j && b) (word_bit-and side word j))
+    ∙ joined (word_bit (get_or boxes index 0) j) (has_bit boxes q) (word_bit side j) (has_bit reached (next board q (opposite d))) (word_bit word j)
     (can_enter board d q) (word_bit ahead j) (is_open board boxes d (next board q d))
-    (sym (has_bit-at boxes place j lt)) (ap (λ (w : ℕ). word_bit w j) named ∙
-    mask_bit board masks d place j e are inside lt) come (λ can. opens (enter_parts board d q can).0))
+    (sym (has_bit-at boxes index j lt)) (ap (λ (w : ℕ). word_bit w j) named ∙
+    mask_bit board masks d index j e are inside lt) come (λ can. opens (enter_parts board d q can).0))
   where
     q : ℕ
-    q = WORD_BITS * place + j
+    q = WORD_BITS * index + j
 
     joined : (a b s t m c x y : Bool) → a ≡ b → m ≡ c → (c ≡ true → s ≡ t) → (c ≡ true → x ≡ y) → ((a && (s && m)) && x) ≡ ((b && (c && t)) && y)
     joined a b s t m true x y e f g h = let p = g refl in let r = h refl in ap (λ (z : Bool). (a && (s && z)) && x) f ∙
@@ -190,11 +190,11 @@ pushable_bit board boxes reached held seen d q bit as_held as_seen clear inside 
     (λ h. p.0 (sym e ∙ h), λ h. e ∙ p.1 h)
 
 -- no box of a word without boxes can be pushed
-pub none_pushable : (board : Board) (boxes reached : Squares) (held : List ℕ) (place j : ℕ) (d : Dir) → ((x : ℕ) → contains boxes x ≡ has_bit held x) →
-    get_or held place 0 ≡ 0 → j < WORD_BITS → (word_bit 0 j ≡ true) ↔ IsPushable board boxes reached d (WORD_BITS * place + j)
-none_pushable board boxes reached held place j d as_held none lt = (
+pub none_pushable : (board : Board) (boxes reached : Squares) (held : List ℕ) (index j : ℕ) (d : Dir) → ((x : ℕ) → contains boxes x ≡ has_bit held x) →
+    get_or held index 0 ≡ 0 → j < WORD_BITS → (word_bit 0 j ≡ true) ↔ IsPushable board boxes reached d (WORD_BITS * index + j)
+none_pushable board boxes reached held index j d as_held none lt = (
   λ h. absurd (true≢false (sym h ∙ word_bit-zero j)),
-  λ h. sym (ap (λ (w : ℕ). word_bit w j) none) ∙ (sym (has_bit-at held place j lt) ∙ (sym (as_held (WORD_BITS * place + j)) ∙ h.there)),
+  λ h. sym (ap (λ (w : ℕ). word_bit w j) none) ∙ (sym (has_bit-at held index j lt) ∙ (sym (as_held (WORD_BITS * index + j)) ∙ h.there)),
 )
 
 -- what is so in each direction

@@ -103,7 +103,7 @@ has_bit-at words k j lt =
     mod-mul-add k WORD_BITS j lt in
     ap (λ (x : ℕ). eqb (bit_at (get_or words x 0) ((WORD_BITS * k + j) % WORD_BITS)) 1) d ∙ ap (λ (x : ℕ). eqb (bit_at (get_or words k 0) x) 1) m
 
--- each square has a place and a bit
+-- each square has an index and a bit
 pub square_parts : (q : ℕ) → (WORD_BITS * (q / WORD_BITS) + q % WORD_BITS ≡ q) × (q % WORD_BITS < WORD_BITS)
 square_parts q = (omega arith, omega arith)
 
@@ -178,29 +178,29 @@ down_high here high near i j small fits lt e =
     ∙ word_bit-shl high 1 i (i + 1) refl (omega arith)))
 
 -- where each of two words in a row has the bits of the squares that pass a test, so has the word that is slid from them
-module _ (test : ℕ → Bool) (place far near by out here aside : ℕ) (parts : by ≡ WORD_BITS * far + near) (small : near < WORD_BITS) where
+module _ (test : ℕ → Bool) (index far near by out here aside : ℕ) (parts : by ≡ WORD_BITS * far + near) (small : near < WORD_BITS) where
   -- of the squares `by` numbers before
-  pub seen_before : ((m : ℕ) → m < WORD_BITS → far ≤ place → word_bit here m ≡ test (WORD_BITS * (place - far) + m))
-      → ((m : ℕ) → m < WORD_BITS → far + 1 ≤ place → word_bit aside m ≡ test (WORD_BITS * (place - (far + 1)) + m))
+  pub seen_before : ((m : ℕ) → m < WORD_BITS → far ≤ index → word_bit here m ≡ test (WORD_BITS * (index - far) + m))
+      → ((m : ℕ) → m < WORD_BITS → far + 1 ≤ index → word_bit aside m ≡ test (WORD_BITS * (index - (far + 1)) + m))
       → ((i j : ℕ) → j < WORD_BITS → i + near ≡ j → word_bit out j ≡ word_bit here i)
       → ((i j : ℕ) → i < WORD_BITS → i + near ≡ j + WORD_BITS → word_bit out j ≡ word_bit aside i)
-      → (i j : ℕ) → j < WORD_BITS → i + by ≡ WORD_BITS * place + j → word_bit out j ≡ test i
+      → (i j : ℕ) → j < WORD_BITS → i + by ≡ WORD_BITS * index + j → word_bit out j ≡ test i
   seen_before at_here at_aside from_here from_aside i j lt e = elim (cases_lt j near) [
     | inl less ↦
         (let m : ℕ = j + WORD_BITS - near in
-        let at : WORD_BITS * (place - (far + 1)) + m ≡ i = omega arith in
+        let at : WORD_BITS * (index - (far + 1)) + m ≡ i = omega arith in
         from_aside m j (omega arith) (omega arith) ∙ (at_aside m (omega arith) (omega arith) ∙ ap test at))
     | inr ge ↦
         (let m : ℕ = j - near in
-        let at : WORD_BITS * (place - far) + m ≡ i = omega arith in
+        let at : WORD_BITS * (index - far) + m ≡ i = omega arith in
         from_here m j lt (omega arith) ∙ (at_here m (omega arith) (omega arith) ∙ ap test at))
   ]
 
   -- and of none where the numbers do not go so far down
-  pub none_before : (place < far → here ≡ 0) → (place < far + 1 → aside ≡ 0)
+  pub none_before : (index < far → here ≡ 0) → (index < far + 1 → aside ≡ 0)
       → ((i j : ℕ) → j < WORD_BITS → i + near ≡ j → word_bit out j ≡ word_bit here i)
       → ((i j : ℕ) → i < WORD_BITS → i + near ≡ j + WORD_BITS → word_bit out j ≡ word_bit aside i)
-      → (j : ℕ) → j < WORD_BITS → WORD_BITS * place + j < by → word_bit out j ≡ false
+      → (j : ℕ) → j < WORD_BITS → WORD_BITS * index + j < by → word_bit out j ≡ false
   none_before no_here no_aside from_here from_aside j lt low = elim (cases_lt j near) [
     | inl less ↦
         (let m : ℕ = j + WORD_BITS - near in
@@ -211,17 +211,17 @@ module _ (test : ℕ → Bool) (place far near by out here aside : ℕ) (parts :
   ]
 
   -- of the squares `by` numbers after
-  pub seen_after : ((m : ℕ) → m < WORD_BITS → word_bit here m ≡ test (WORD_BITS * (place + far) + m))
-      → ((m : ℕ) → m < WORD_BITS → word_bit aside m ≡ test (WORD_BITS * (place + far + 1) + m))
+  pub seen_after : ((m : ℕ) → m < WORD_BITS → word_bit here m ≡ test (WORD_BITS * (index + far) + m))
+      → ((m : ℕ) → m < WORD_BITS → word_bit aside m ≡ test (WORD_BITS * (index + far + 1) + m))
       → ((i j : ℕ) → i < WORD_BITS → i ≡ j + near → word_bit out j ≡ word_bit here i)
       → ((i j : ℕ) → j < WORD_BITS → i + WORD_BITS ≡ j + near → word_bit out j ≡ word_bit aside i)
-      → (i j : ℕ) → j < WORD_BITS → i ≡ WORD_BITS * place + j + by → word_bit out j ≡ test i
+      → (i j : ℕ) → j < WORD_BITS → i ≡ WORD_BITS * index + j + by → word_bit out j ≡ test i
   seen_after at_here at_aside from_here from_aside i j lt e = elim (cases_lt (j + near) WORD_BITS) [
     | inl less ↦
-        (let at : WORD_BITS * (place + far) + (j + near) ≡ i = omega arith in
+        (let at : WORD_BITS * (index + far) + (j + near) ≡ i = omega arith in
         from_here (j + near) j less refl ∙ (at_here (j + near) less ∙ ap test at))
     | inr ge ↦
         (let m : ℕ = j + near - WORD_BITS in
-        let at : WORD_BITS * (place + far + 1) + m ≡ i = omega arith in
+        let at : WORD_BITS * (index + far + 1) + m ≡ i = omega arith in
         from_aside m j lt (omega arith) ∙ (at_aside m (omega arith) ∙ ap test at))
   ]

@@ -125,11 +125,11 @@ none_set words n q e =
     ]
 
 -- a word without the bit of a square
-pub bit_without : (place word read square j : ℕ) → read ≡ square → place ≡ read / WORD_BITS → j < WORD_BITS →
-    word_bit (bit_and word (bit_not w64 (1 * 2 ^ (read % WORD_BITS) % 2 ^ 64))) j ≡ (word_bit word j && not (eqb (WORD_BITS * place + j) square))
-bit_without place word read square j at same lt =
+pub bit_without : (index word read square j : ℕ) → read ≡ square → index ≡ read / WORD_BITS → j < WORD_BITS →
+    word_bit (bit_and word (bit_not w64 (1 * 2 ^ (read % WORD_BITS) % 2 ^ 64))) j ≡ (word_bit word j && not (eqb (WORD_BITS * index + j) square))
+bit_without index word read square j at same lt =
     cleared_bit word (read % WORD_BITS) j (square_parts read).1 lt
-    ∙ ap (λ (b : Bool). word_bit word j && not b) (same_test (read % WORD_BITS) j (WORD_BITS * place + j) square (λ f. omega arith) (λ f. omega arith))
+    ∙ ap (λ (b : Bool). word_bit word j && not b) (same_test (read % WORD_BITS) j (WORD_BITS * index + j) square (λ f. omega arith) (λ f. omega arith))
 
 -- ---- the least square
 
@@ -147,13 +147,13 @@ lowest_bit word some fits =
       ],
     )
 
--- what is less than a place's squares is of a word before it
-pub least_word : (words : List ℕ) (place r : ℕ) → ((k : ℕ) → k < place → get_or words k 0 ≡ 0) → 0 < get_or words place 0 → get_or words place 0 < 2 ^ 64 →
-    r ≡ WORD_BITS * place + trailing_zeros w64 (get_or words place 0) → (has_bit words r ≡ true) × ((q : ℕ) → has_bit words q ≡ true → r ≤ q)
-least_word words place r none some fits e =
-    let t = lowest_bit (get_or words place 0) some fits in (
-      ap (has_bit words) e ∙ (has_bit-at words place (trailing_zeros w64 (get_or words place 0)) t.0 ∙ t.1),
-      λ q h. elim (cases_order (q / WORD_BITS) place) [
+-- what is less than an index's squares is of a word before it
+pub least_word : (words : List ℕ) (index r : ℕ) → ((k : ℕ) → k < index → get_or words k 0 ≡ 0) → 0 < get_or words index 0 → get_or words index 0 < 2 ^ 64 →
+    r ≡ WORD_BITS * index + trailing_zeros w64 (get_or words index 0) → (has_bit words r ≡ true) × ((q : ℕ) → has_bit words q ≡ true → r ≤ q)
+least_word words index r none some fits e =
+    let t = lowest_bit (get_or words index 0) some fits in (
+      ap (has_bit words) e ∙ (has_bit-at words index (trailing_zeros w64 (get_or words index 0)) t.0 ∙ t.1),
+      λ q h. elim (cases_order (q / WORD_BITS) index) [
         | inl same ↦ (let p = t.2 (q % WORD_BITS) (sym (has_bit-parts words q ∙ ap (λ (k : ℕ). word_bit (get_or words k 0) (q % WORD_BITS)) same) ∙ h) in
             omega (arith, p))
         | inr (inl less) ↦ absurd
@@ -245,30 +245,30 @@ pub listed : (words seen : List ℕ) (squares : Squares) (q : ℕ) → squares_o
 listed words seen squares q list same =
     ap (λ (xs : Squares). contains xs q) (sym list) ∙ (contains-squares_of words q ∙ ap (λ (ws : List ℕ). has_bit ws q) (sym same))
 
--- the squares of the words before a place are none but `but`
-pub below_word : (words : List ℕ) (but place word rest : ℕ) → ((q : ℕ) → q < WORD_BITS * place → has_bit words q ≡ true → q ≡ but) →
-    word ≡ get_or words place 0 → ((j : ℕ) → j < WORD_BITS → word_bit rest j ≡ (word_bit word j && not (eqb (WORD_BITS * place + j) but))) → rest ≡ 0 →
-    (q : ℕ) → q < WORD_BITS * (place + 1) → has_bit words q ≡ true → q ≡ but
-below_word words but place word rest below at bits none q lt h = elim (cases_lt q (WORD_BITS * place)) [
+-- the squares of the words before an index are none but `but`
+pub below_word : (words : List ℕ) (but index word rest : ℕ) → ((q : ℕ) → q < WORD_BITS * index → has_bit words q ≡ true → q ≡ but) →
+    word ≡ get_or words index 0 → ((j : ℕ) → j < WORD_BITS → word_bit rest j ≡ (word_bit word j && not (eqb (WORD_BITS * index + j) but))) → rest ≡ 0 →
+    (q : ℕ) → q < WORD_BITS * (index + 1) → has_bit words q ≡ true → q ≡ but
+below_word words but index word rest below at bits none q lt h = elim (cases_lt q (WORD_BITS * index)) [
   | inl less ↦ below q less h
   | inr ge ↦
-      (let same : q / WORD_BITS ≡ place = omega arith in
-      let whole : WORD_BITS * place + q % WORD_BITS ≡ q = omega arith in
+      (let same : q / WORD_BITS ≡ index = omega arith in
+      let whole : WORD_BITS * index + q % WORD_BITS ≡ q = omega arith in
       let here : word_bit word (q % WORD_BITS) ≡ true = ap (λ (w : ℕ). word_bit w (q % WORD_BITS)) at ∙
       (sym (has_bit-parts words q ∙ ap (λ (k : ℕ). word_bit (get_or words k 0) (q % WORD_BITS)) same) ∙ h) in
-      elim (cases_eq (WORD_BITS * place + q % WORD_BITS) but) [
+      elim (cases_eq (WORD_BITS * index + q % WORD_BITS) but) [
         | inl e ↦ sym whole ∙ e
         | inr ne ↦ absurd (true≢false (sym (bits (q % WORD_BITS) (square_parts q).1 ∙
-            (ap (λ (b : Bool). b && not (eqb (WORD_BITS * place + q % WORD_BITS) but)) here ∙ ap not (ne_eqb (WORD_BITS * place + q % WORD_BITS) but ne))) ∙
+            (ap (λ (b : Bool). b && not (eqb (WORD_BITS * index + q % WORD_BITS) but)) here ∙ ap not (ne_eqb (WORD_BITS * index + q % WORD_BITS) but ne))) ∙
             (ap (λ (w : ℕ). word_bit w (q % WORD_BITS)) none ∙ word_bit-zero (q % WORD_BITS))))
       ])
 ]
 
 -- the least of a word's squares but for `but`, or one that is less, is the least of all
-pub least_rest : (words : List ℕ) (but more place word rest r : ℕ) → ((q : ℕ) → q < WORD_BITS * place → has_bit words q ≡ true → q ≡ but) →
-    word ≡ get_or words place 0 → ((j : ℕ) → j < WORD_BITS → word_bit rest j ≡ (word_bit word j && not (eqb (WORD_BITS * place + j) but))) → 0 < rest →
-    rest < 2 ^ 64 → r ≡ min (WORD_BITS * place + trailing_zeros w64 rest) more → IsLeastWith (squares_of words) but more r
-least_rest words but more place word rest r below at bits some fits e = record {
+pub least_rest : (words : List ℕ) (but more index word rest r : ℕ) → ((q : ℕ) → q < WORD_BITS * index → has_bit words q ≡ true → q ≡ but) →
+    word ≡ get_or words index 0 → ((j : ℕ) → j < WORD_BITS → word_bit rest j ≡ (word_bit word j && not (eqb (WORD_BITS * index + j) but))) → 0 < rest →
+    rest < 2 ^ 64 → r ≡ min (WORD_BITS * index + trailing_zeros w64 rest) more → IsLeastWith (squares_of words) but more r
+least_rest words but more index word rest r below at bits some fits e = record {
   one = elim (cases_lt more first) [
     | inl lt ↦ inl (omega arith)
     | inr ge ↦ inr (contains-squares_of words r ∙ (ap (has_bit words) (is_first ge) ∙ there), λ f. apart (sym (is_first ge) ∙ f))
@@ -278,7 +278,7 @@ least_rest words but more place word rest r below at bits some fits e = record {
 }
   where
     first : ℕ
-    first = WORD_BITS * place + trailing_zeros w64 rest
+    first = WORD_BITS * index + trailing_zeros w64 rest
 
     low : (trailing_zeros w64 rest < WORD_BITS) × (word_bit rest (trailing_zeros w64 rest) ≡ true) ×
         ((j : ℕ) → word_bit rest j ≡ true → trailing_zeros w64 rest ≤ j)
@@ -288,7 +288,7 @@ least_rest words but more place word rest r below at bits some fits e = record {
     parts = and_parts (word_bit word (trailing_zeros w64 rest)) (not (eqb first but)) (sym (bits (trailing_zeros w64 rest) low.0) ∙ low.1)
 
     there : has_bit words first ≡ true
-    there = has_bit-at words place (trailing_zeros w64 rest) low.0 ∙ (ap (λ (w : ℕ). word_bit w (trailing_zeros w64 rest)) (sym at) ∙ parts.0)
+    there = has_bit-at words index (trailing_zeros w64 rest) low.0 ∙ (ap (λ (w : ℕ). word_bit w (trailing_zeros w64 rest)) (sym at) ∙ parts.0)
 
     apart : first ≢ but
     apart f = true≢false (sym (eq-eqb first but f) ∙ not-true (eqb first but) parts.1)
@@ -297,14 +297,14 @@ least_rest words but more place word rest r below at bits some fits e = record {
     is_first le = omega (arith, e, le)
 
     no_less : (q : ℕ) → has_bit words q ≡ true → q ≢ but → first ≤ q
-    no_less q h ne = elim (cases_order (q / WORD_BITS) place) [
+    no_less q h ne = elim (cases_order (q / WORD_BITS) index) [
       | inl same ↦
-          (let whole : WORD_BITS * place + q % WORD_BITS ≡ q = omega arith in
+          (let whole : WORD_BITS * index + q % WORD_BITS ≡ q = omega arith in
           let here : word_bit word (q % WORD_BITS) ≡ true = ap (λ (w : ℕ). word_bit w (q % WORD_BITS)) at ∙
           (sym (has_bit-parts words q ∙ ap (λ (k : ℕ). word_bit (get_or words k 0) (q % WORD_BITS)) same) ∙ h) in
           let p = low.2 (q % WORD_BITS) (bits (q % WORD_BITS) (square_parts q).1 ∙
-          (ap (λ (b : Bool). b && not (eqb (WORD_BITS * place + q % WORD_BITS) but)) here ∙
-          ap not (ne_eqb (WORD_BITS * place + q % WORD_BITS) but (λ f. ne (sym whole ∙ f))))) in
+          (ap (λ (b : Bool). b && not (eqb (WORD_BITS * index + q % WORD_BITS) but)) here ∙
+          ap not (ne_eqb (WORD_BITS * index + q % WORD_BITS) but (λ f. ne (sym whole ∙ f))))) in
           omega (arith, p))
       | inr (inl less) ↦ absurd (ne (below q (omega arith) h))
       | inr (inr more_than) ↦ (let p = low.0 in omega (arith, p))

@@ -1,10 +1,9 @@
 -- Ways round a square, and what a push opens and cuts off.
-use Rattle.std.specs.Prelude.{◌≡◌, ◌≢◌, ℕ, ◌<◌, ◌≤◌, Bool, true, ◌⊎◌, length}
+use Rattle.std.specs.Prelude.{◌≡◌, ◌≢◌, ℕ, ◌<◌, ◌≤◌, true, ◌⊎◌, length}
 use Rattle.grid.specs.declared.dir.Dir.{Dir}
 use Rattle.grid.specs.declared.dir.Dir.TheVariants.{D, L, R, U}
 use Rattle.grid.specs.Squares.{Squares, contains, insert, remove}
-use Rattle.grid.specs.Board.{Board, Scene, is_wall, next, opposite}
-use Rattle.area.specs.Area.{Area}
+use Rattle.grid.specs.Board.{Board, is_wall, next, opposite}
 
 -- one of the two directions at right angles to a direction
 abbrev pub across : Dir → Dir
@@ -39,15 +38,6 @@ IsJoined board set but from d = contains set (next board but d) ≡ true → Ski
 -- where `but` is of the set, so is each square beside it
 abbrev pub StaysJoined : Board → Squares → ℕ → ℕ → Type 0
 StaysJoined board set but from = contains set but ≡ true → (d : Dir) → IsJoined board set but from d
-
--- a square is of the area if all squares beside `but` are that a set has
-abbrev pub FollowsSides : Board → Scene → (ℕ → Bool) → ℕ → ℕ → Type 0
-FollowsSides board s has but q = ((d : Dir) → has (next board but d) ≡ true → Area board s (next board but d)) → Area board s q
-
--- nothing that is reached is less than a square, which is reached itself if all squares beside `but` are that a set has
-pub record GuessesLeast (board : Board) (s : Scene) (has : ℕ → Bool) (but q : ℕ) : Type 0 where
-  pub below : (r : ℕ) → Area board s r → q ≤ r
-  pub met : FollowsSides board s has but q
 
 -- a box went from one square of the grid to another
 pub record HasMoved (board : Board) (before after : Squares) (square ahead : ℕ) : Type 0 where

@@ -1,5 +1,5 @@
 -- How a flood goes by words of bits: what a visit to one of them may add.
-use Rattle.std.specs.Prelude.{◌≡◌, ◌≢◌, ℕ, ◌+◌, ◌-◌, ◌*◌, ◌^◌, ◌<◌, ◌≤◌, Bool, true, false, ◌&&◌, ◌||◌, List, length, slice_index, sum_by, Option, None, Some}
+use Rattle.std.specs.Prelude.{◌≡◌, ◌≢◌, ℕ, ◌+◌, ◌-◌, ◌*◌, ◌^◌, ◌<◌, ◌≤◌, Bool, true, false, ◌&&◌, ◌||◌, List, length, slice_index, sum_by}
 use Rattle.grid.specs.declared.dir.Dir.{Dir}
 use Rattle.grid.specs.declared.dir.Dir.TheVariants.{D, L, R, U}
 use Rattle.grid.specs.declared.masks.TheConstants.{WORD_BITS}
@@ -35,40 +35,35 @@ IsKept board boxes test =
 abbrev pub room_left : List ℕ → ℕ
 room_left words = sum_by (λ w. 2 ^ WORD_BITS - w) words
 
--- a square is given as an aim, and the words have it
-abbrev pub HasAim : Option ℕ → List ℕ → Type 0
-HasAim None words = ⊥
-HasAim (Some q) words = has_bit words q ≡ true
-
 -- what is added to a set came by steps round the boxes, and no square is lost
 pub record IsGrowing (board : Board) (boxes old new : List ℕ) : Type 0 where
   pub kept : (q : ℕ) → has_bit old q ≡ true → has_bit new q ≡ true
   pub sound : (test : ℕ → Bool) → IsKept board boxes test → AllPass test old → AllPass test new
 
--- what a visit to the word at a place does to a set: it changes no other word, and where it says that the set did not
+-- what a visit to the word at an index does to a set: it changes no other word, and where it says that the set did not
 -- grow, all squares of the word are settled
-pub record IsSettling (board : Board) (boxes : List ℕ) (place : ℕ) (old new : List ℕ) (grew : Bool) : Type 0 where
+pub record IsSettling (board : Board) (boxes : List ℕ) (index : ℕ) (old new : List ℕ) (grew : Bool) : Type 0 where
   pub growing : IsGrowing board boxes old new
-  pub others : (k : ℕ) → k ≢ place → slice_index new k ≡ slice_index old k
+  pub others : (k : ℕ) → k ≢ index → slice_index new k ≡ slice_index old k
   pub less : grew ≡ true → room_left new < room_left old
   pub same : grew ≡ false → new ≡ old
-  pub settled : grew ≡ false → (j : ℕ) → j < WORD_BITS → IsSettled board boxes new (WORD_BITS * place + j)
+  pub settled : grew ≡ false → (j : ℕ) → j < WORD_BITS → IsSettled board boxes new (WORD_BITS * index + j)
 
--- in the midst of a flood: all squares of the words before a place are settled
-pub record IsFlooding (board : Board) (boxes : List ℕ) (place : ℕ) (old now : List ℕ) : Type 0 where
+-- in the midst of a flood: all squares of the words before an index are settled
+pub record IsFlooding (board : Board) (boxes : List ℕ) (index : ℕ) (old now : List ℕ) : Type 0 where
   pub growing : IsGrowing board boxes old now
-  pub settled : (k j : ℕ) → k < place → j < WORD_BITS → IsSettled board boxes now (WORD_BITS * k + j)
+  pub settled : (k j : ℕ) → k < index → j < WORD_BITS → IsSettled board boxes now (WORD_BITS * k + j)
 
 -- what a flood makes of a set: no step leads out of it any more
 pub record IsFlooded (board : Board) (boxes old new : List ℕ) : Type 0 where
   pub growing : IsGrowing board boxes old new
   pub settled : (q : ℕ) → q < WORD_BITS * length new → IsSettled board boxes new q
 
--- where the mask has a 1, the test passes on from the place `by` places lower
+-- where the mask has a 1, the test passes on from the bit `by` below
 abbrev pub PassesUp : (ℕ → Bool) → ℕ → ℕ → Type 0
 PassesUp test by mask = (i j : ℕ) → i + by ≡ j → word_bit mask j ≡ true → test i ≡ true → test j ≡ true
 
--- where the mask has a 1, the test passes on from the place `by` places higher
+-- where the mask has a 1, the test passes on from the bit `by` above
 abbrev pub PassesDown : (ℕ → Bool) → ℕ → ℕ → Type 0
 PassesDown test by mask = (i j : ℕ) → j + by ≡ i → word_bit mask j ≡ true → test i ≡ true → test j ≡ true
 

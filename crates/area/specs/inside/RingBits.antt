@@ -18,7 +18,7 @@ row_to ring L = ring.beside
 row_to ring R = ring.beside
 row_to ring U = ring.above
 
--- the place of that square in its row
+-- the index of that square in its row
 abbrev pub column_to : Dir → ℕ
 column_to D = 1
 column_to L = 0

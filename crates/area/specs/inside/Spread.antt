@@ -1,5 +1,5 @@
 -- How a search spreads over the squares: each square that it comes upon is marked with the steps that lead there.
-use Rattle.std.specs.Prelude.{◌≡◌, ◌≢◌, ℕ, suc, ◌+◌, ◌^◌, ◌<◌, ◌≤◌, true, false, ◌⊎◌, ◌↔◌, List, length, slice_index, nat_lt, sum_by, cond}
+use Rattle.std.specs.Prelude.{◌≡◌, ◌≢◌, ℕ, suc, ◌+◌, ◌^◌, ◌<◌, ◌≤◌, true, false, ◌⊎◌, ◌↔◌, List, length, slice_index, slice_set, nat_lt, sum_by, cond}
 use Rattle.grid.specs.declared.dir.Dir.{Dir}
 use Rattle.grid.specs.Board.{Board, is_wall, next, dir_number}
 use Rattle.grid.specs.Squares.{Squares, contains}
@@ -77,6 +77,13 @@ pub record IsSpreading (board : Board) (base from : ℕ) (mark place : ℕ → �
   pub done : (i : ℕ) → i < head → i < tail → (d : Dir) → IsClosed board base mark (place i) d
   pub now : (d : Dir) → dir_number d < seen → IsClosed board base mark (place head) d
   pub order : head ≤ tail
+
+-- a look at the square n, in marks and queue as they stand: a wall, a box or a square that has been reached passes, and any
+-- other takes the mark and the place at the queue's end
+pub data IsLook (board : Board) (base n mark tail : ℕ) (marks queue : List ℕ) : ℕ → List ℕ → List ℕ → Type 0 where
+  passes : (is_wall board n ≡ false → base ≤ slice_index marks n) → IsLook board base n mark tail marks queue tail marks queue
+  takes : is_wall board n ≡ false → slice_index marks n < base →
+      IsLook board base n mark tail marks queue (tail + 1) (slice_set marks n mark) (slice_set queue tail n)
 
 -- how many squares the search did not come upon yet
 abbrev pub untouched : ℕ → List ℕ → ℕ

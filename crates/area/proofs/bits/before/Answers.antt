@@ -7,13 +7,13 @@ use Rattle.area.proofs.bits.before.Goals as goal
 
 pub returns-clause-there : goal.returns-clause-there
 returns-clause-there c = λ i j lt e.
-    seen_before (has_bit c.args.words.now) c.args.place (c.args.by / WORD_BITS) (c.args.by % WORD_BITS) c.args.by _ _ _ (omega arith) (omega arith)
+    seen_before (has_bit c.args.words.now) c.args.index (c.args.by / WORD_BITS) (c.args.by % WORD_BITS) c.args.by _ _ _ (omega arith) (omega arith)
     (λ m l le. ap (λ (w : ℕ). word_bit w m) (c.word_before-here.ensures.there le) ∙
-    sym (has_bit-at c.args.words.now (c.args.place - c.args.by / WORD_BITS) m l))
+    sym (has_bit-at c.args.words.now (c.args.index - c.args.by / WORD_BITS) m l))
     (λ m l le. ap (λ (w : ℕ). word_bit w m) (c.word_before-low.ensures.there le) ∙
-    sym (has_bit-at c.args.words.now (c.args.place - (c.args.by / WORD_BITS + 1)) m l)) c.slid_up.ensures.here c.slid_up.ensures.low i j lt e
+    sym (has_bit-at c.args.words.now (c.args.index - (c.args.by / WORD_BITS + 1)) m l)) c.slid_up.ensures.here c.slid_up.ensures.low i j lt e
 
 pub returns-clause-none : goal.returns-clause-none
 returns-clause-none c = λ j lt low.
-    none_before (λ q. false) c.args.place (c.args.by / WORD_BITS) (c.args.by % WORD_BITS) c.args.by _ _ _ (omega arith) (omega arith)
+    none_before (λ q. false) c.args.index (c.args.by / WORD_BITS) (c.args.by % WORD_BITS) c.args.by _ _ _ (omega arith) (omega arith)
     c.word_before-here.ensures.none c.word_before-low.ensures.none c.slid_up.ensures.here c.slid_up.ensures.low j lt low

@@ -3,5 +3,5 @@ use Rattle.grid.specs.declared.masks.TheConstants.{WORD_BITS}
 use Rattle.grid.specs.Masks.{has_bit}
 use Rattle.area.proofs.bits.least_but.Given as goal
 
-abbrev pub invariant-loop-place : goal.invariant-loop-place
-invariant-loop-place l = (q : ℕ) → q < WORD_BITS * l.place → has_bit l.words q ≡ true → q ≡ l.but
+abbrev pub invariant-loop-index : goal.invariant-loop-index
+invariant-loop-index l = (q : ℕ) → q < WORD_BITS * l.index → has_bit l.words q ≡ true → q ≡ l.but

@@ -1,5 +1,5 @@
 use Rattle.area.proofs.Chains.{AreTurned}
 use Rattle.area.proofs.bits.turn_over.Given as goal
 
-abbrev pub invariant-loop-place : goal.invariant-loop-place
-invariant-loop-place l = AreTurned l.fn.words l.place l.words
+abbrev pub invariant-loop-index : goal.invariant-loop-index
+invariant-loop-index l = AreTurned l.fn.words l.index l.words

@@ -1,26 +1,30 @@
-use Rattle.std.proofs.Common.{◌≡◌, ℕ, ◌||◌, Bool, eqb, length, ap, ◌∙◌}
-use Rattle.std.proofs.lemmas.Bool.{eq-eqb}
+use Rattle.std.proofs.Common.{◌≡◌, ℕ, true, eqb, length, inl, inr, sym, ap, subst, ◌∙◌}
+use Rattle.std.proofs.lemmas.Bool.{or_cases, or_right, eqb-true, eq-eqb}
 use Rattle.grid.specs.Board.{is_wall}
 use Rattle.grid.specs.Masks.{has_bit}
 use Rattle.grid.proofs.lemmas.Steps.{inside_grid}
-use Rattle.area.proofs.lemmas.Flooding.{words_enough, player_alone}
+use Rattle.area.specs.Area.{Area}
+use Rattle.area.proofs.lemmas.Flooding.{words_enough}
+use Rattle.area.proofs.lemmas.Norms.{area_here}
 use Rattle.area.proofs.floods.flood_round.Goals as goal
 
 pub put-requires : goal.put-requires
 put-requires c =
-    words_enough (length c.args.level.now.cells) (length c.clear.new.self) c.player.result (c.clear.ensures.size ∙
+    words_enough (length c.args.level.now.cells) (length c.keep_if.new.self) c.player.result (c.keep_if.ensures.size ∙
     c.requires.room) (inside_grid c.args.level.now c.player.result (ap (is_wall c.args.level.now) c.player.ensures ∙ c.requires.fits.scene.player.0))
 
-pub flood_from-requires : goal.flood_from-requires
-flood_from-requires c = record {
-  fits = c.requires.fits;
-  room = c.put.ensures.size ∙ (c.clear.ensures.size ∙ c.requires.room);
-  boxes = c.requires.boxes;
-  reached = record {
-    begun = alone _ ∙ eq-eqb c.player.result c.args.position.now.player c.player.ensures;
-    within = player_alone c.args.level.now c.args.position.now c.put.new.self c.player.result c.player.ensures alone;
-  };
-}
+pub flood_from-requires-clause-reached : goal.flood_from-requires-clause-reached
+flood_from-requires-clause-reached c = record { begun = begun; within = within }
   where
-    alone : (x : ℕ) → has_bit c.put.new.self x ≡ eqb c.player.result x
-    alone x = c.put.ensures.put x ∙ ap (λ (b : Bool). b || eqb c.player.result x) (c.clear.ensures.none x)
+    begun : has_bit c.put.new.self c.args.position.now.player ≡ true
+    begun = c.put.ensures.put c.args.position.now.player ∙
+        or_right (has_bit c.keep_if.new.self c.args.position.now.player) (eqb c.player.result c.args.position.now.player)
+        (eq-eqb c.player.result c.args.position.now.player c.player.ensures)
+
+    within : (q : ℕ) → has_bit c.put.new.self q ≡ true → Area c.args.level.now c.args.position.now q
+    within q h = elim (or_cases (has_bit c.keep_if.new.self q) (eqb c.player.result q) (sym (c.put.ensures.put q) ∙ h)) [
+      | inl old ↦ (let k = c.keep_if.ensures.kept q old in c.requires.known k.0 q k.1)
+      | inr own ↦
+          subst (Area c.args.level.now c.args.position.now) (sym c.player.ensures ∙ eqb-true c.player.result q own)
+          (area_here c.args.level.now c.args.position.now)
+    ]

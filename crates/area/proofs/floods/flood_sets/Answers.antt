@@ -1,8 +1,9 @@
 use Rattle.std.proofs.Common.{◌≡◌, ℕ, true, List, length, ap, subst, ◌∙◌}
+use Rattle.std.proofs.lemmas.Bool.{false≢true}
 use Rattle.grid.specs.Masks.{has_bit}
 use Rattle.grid.specs.Squares.{Squares, contains}
 use Rattle.grid.proofs.lemmas.Steps.{inside_grid}
-use Rattle.area.proofs.lemmas.Flooding.{words_enough, whole_area}
+use Rattle.area.proofs.lemmas.Flooding.{words_enough}
 use Rattle.area.proofs.floods.flood_sets.Goals as goal
 
 pub put_all-requires : goal.put_all-requires
@@ -17,9 +18,8 @@ flood_round-requires-clause-boxes c = record {
       (c.put_all.ensures.put q ∙ ap (λ (b : Squares). contains b q) c.boxes.ensures.squares);
 }
 
-pub returns-clause-reached : goal.returns-clause-reached
-returns-clause-reached c = whole_area c.args.level.now c.args.position.now c.flood_round.new.reached c.flood_round.ensures.reached.within
-    c.flood_round.ensures.whole
-
 pub returns-clause-boxes : goal.returns-clause-boxes
 returns-clause-boxes c = λ q. c.put_all.ensures.put q ∙ ap (λ (b : Squares). contains b q) c.boxes.ensures.squares
+
+pub flood_round-requires-clause-known : goal.flood_round-requires-clause-known
+flood_round-requires-clause-known c = λ yes. absurd (false≢true yes)

@@ -17,7 +17,7 @@ put-requires c = words_enough (length c.args.level.now.cells) (length c.clear.ne
 pub returns-clause-group : goal.returns-clause-group
 returns-clause-group c = λ q. group_found c.args.level.now c.args.boxes.now c.args.square c.turn_over.new.self c.put.new.self c.grow.new.reached
     c.requires.clear c.requires.there (c.grow.ensures.room ∙
-    (c.put.ensures.size ∙ (c.clear.ensures.size ∙ c.requires.room))) stand alone c.grow.ensures.growing c.grow.ensures.ended q
+    (c.put.ensures.size ∙ (c.clear.ensures.size ∙ c.requires.room))) stand alone c.grow.ensures.flooded q
   where
     alone : (x : ℕ) → has_bit c.put.new.self x ≡ eqb c.args.square x
     alone x = c.put.ensures.put x ∙ ap (λ (b : Bool). b || eqb c.args.square x) (c.clear.ensures.none x)

@@ -11,6 +11,6 @@ push_word-requires-clause-reached c =
 pub returns-clause-pushes : goal.returns-clause-pushes
 returns-clause-pushes c =
     all_allowed c.args.level.now c.args.position.now c.flood.new.scratch
-    (WORD_BITS * c.loop-place.place) c.loop-place.pushes.items c.requires.fits.scene c.flood.ensures.boxes c.flood.ensures.reached
-    (words_cover (length c.args.level.now.cells) c.loop-place.place (let size = c.step_masks-words.ensures.size in
-    omega (arith, size, c.loop-place-test.false))) c.loop-place.invariant.0
+    (WORD_BITS * c.loop-index.index) c.loop-index.pushes.items c.requires.fits.scene c.flood.ensures.boxes c.flood.ensures.reached
+    (words_cover (length c.args.level.now.cells) c.loop-index.index (let size = c.step_masks-words.ensures.size in
+    omega (arith, size, c.loop-index-test.false))) c.loop-index.invariant.0

@@ -3,5 +3,5 @@ use Rattle.grid.specs.declared.masks.TheConstants.{WORD_BITS}
 use Rattle.area.specs.inside.PushLists.{AreAllowedBelow}
 use Rattle.area.proofs.possible.possible_pushes.Given as goal
 
-abbrev pub invariant-loop-place : goal.invariant-loop-place
-invariant-loop-place l = AreAllowedBelow l.level l.scratch (WORD_BITS * l.place) l.pushes.items
+abbrev pub invariant-loop-index : goal.invariant-loop-index
+invariant-loop-index l = AreAllowedBelow l.level l.scratch (WORD_BITS * l.index) l.pushes.items

@@ -33,7 +33,7 @@ overflow_cast-square c =
 pub push_box-requires-clause-room : goal.push_box-requires-clause-room
 push_box-requires-clause-room c =
     let low = lowest_bit c.loop-left.left (omega (arith, c.loop-left-test.true)) (omega (arith, c.loop-left.auto.left-fits)) in
-    word_room c.args.level.now c.args.scratch.now c.pushable-masks.result c.args.place c.pushable-masks.ensures c.loop-left.left c.loop-left.pushes.items
+    word_room c.args.level.now c.args.scratch.now c.pushable-masks.result c.args.index c.pushable-masks.ensures c.loop-left.left c.loop-left.pushes.items
     c.loop-left.invariant (trailing_zeros w64 c.loop-left.left) low MAX_BOXES c.requires.few
 
 pub loop-left-smaller : goal.loop-left-smaller
@@ -45,14 +45,14 @@ pub loop-left-preserved : goal.loop-left-preserved
 loop-left-preserved c =
     let low = lowest_bit c.loop-left.left (omega (arith, c.loop-left-test.true)) (omega (arith, c.loop-left.auto.left-fits)) in
     let t : ℕ = trailing_zeros w64 c.loop-left.left in
-    let before = word_here c.args.level.now c.args.scratch.now c.pushable-masks.result c.args.place c.pushable-masks.ensures c.loop-left.left
+    let before = word_here c.args.level.now c.args.scratch.now c.pushable-masks.result c.args.index c.pushable-masks.ensures c.loop-left.left
     c.loop-left.pushes.items c.loop-left.invariant t low in
-    word_more c.args.level.now c.args.scratch.now c.pushable-masks.result c.args.place c.pushable-masks.ensures c.loop-left.left c.loop-left.pushes.items
+    word_more c.args.level.now c.args.scratch.now c.pushable-masks.result c.args.index c.pushable-masks.ensures c.loop-left.left c.loop-left.pushes.items
     c.loop-left.invariant t low _ c.push_box.new.pushes.items
     (c.push_box.ensures.pushes c.args.level.now c.args.scratch.now (λ d. c.pushable-masks.ensures d t low.0) before) c.push_box.ensures.bound
     (λ j lt. cleared_bit c.loop-left.left t j low.0 lt)
 
 pub returns : goal.returns
 returns c =
-    word_last c.args.level.now c.args.scratch.now c.pushable-masks.result c.args.place c.pushable-masks.ensures c.loop-left.left c.loop-left.pushes.items
+    word_last c.args.level.now c.args.scratch.now c.pushable-masks.result c.args.index c.pushable-masks.ensures c.loop-left.left c.loop-left.pushes.items
     c.loop-left.invariant (omega (arith, c.loop-left-test.false))

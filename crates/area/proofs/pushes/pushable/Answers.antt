@@ -16,7 +16,7 @@ use Rattle.area.proofs.pushes.pushable.Goals as goal
 pub returns : goal.returns
 returns c = λ d j lt.
     each_way (λ (e : Dir). (word_bit (push_word e masks) j ≡ true) ↔
-    IsPushable c.args.level.now c.args.scratch.now.boxes c.args.scratch.now.reached e (WORD_BITS * c.args.place + j))
+    IsPushable c.args.level.now c.args.scratch.now.boxes c.args.scratch.now.reached e (WORD_BITS * c.args.index + j))
     (tell D j c.pushed_on.result
     (c.pushed_on.ensures c.args.level.now c.step_masks-masks.ensures (on_down c.args.level.now c.cols-cols.result (sym c.cols-cols.ensures)) j lt))
     (tell L j c.pushed_back.result (c.pushed_back.ensures c.args.level.now c.step_masks-masks.ensures (back_left c.args.level.now) j lt))
@@ -36,15 +36,15 @@ returns c = λ d j lt.
         (ap (λ (r : Reach). r.reached) c.scratch.view_is) c.as_words-reached.ensures
 
     tell : (e : Dir) (i word : ℕ) →
-        word_bit word i ≡ can_push c.args.level.now c.as_words-boxes.result.now c.as_words-reached.result.now e (WORD_BITS * c.args.place + i) →
-        (word_bit word i ≡ true) ↔ IsPushable c.args.level.now c.args.scratch.now.boxes c.args.scratch.now.reached e (WORD_BITS * c.args.place + i)
+        word_bit word i ≡ can_push c.args.level.now c.as_words-boxes.result.now c.as_words-reached.result.now e (WORD_BITS * c.args.index + i) →
+        (word_bit word i ≡ true) ↔ IsPushable c.args.level.now c.args.scratch.now.boxes c.args.scratch.now.reached e (WORD_BITS * c.args.index + i)
     tell e i word bit = pushable_bit c.args.level.now c.args.scratch.now.boxes c.args.scratch.now.reached c.as_words-boxes.result.now
-        c.as_words-reached.result.now e (WORD_BITS * c.args.place + i) (word_bit word i) stand seen c.requires.boxes c.requires.reached bit
+        c.as_words-reached.result.now e (WORD_BITS * c.args.index + i) (word_bit word i) stand seen c.requires.boxes c.requires.reached bit
 
-pub returns-then-boxes-place-eq0 : goal.returns-then-boxes-place-eq0
-returns-then-boxes-place-eq0 c = λ d j lt.
+pub returns-then-boxes-index-eq0 : goal.returns-then-boxes-index-eq0
+returns-then-boxes-index-eq0 c = λ d j lt.
     each_way (λ (e : Dir). (word_bit (push_word e none) j ≡ true) ↔
-    IsPushable c.args.level.now c.args.scratch.now.boxes c.args.scratch.now.reached e (WORD_BITS * c.args.place + j)) (nothing D j lt) (nothing L j lt)
+    IsPushable c.args.level.now c.args.scratch.now.boxes c.args.scratch.now.reached e (WORD_BITS * c.args.index + j)) (nothing D j lt) (nothing L j lt)
     (nothing R j lt) (nothing U j lt) d
   where
     none : PushMasks
@@ -55,6 +55,6 @@ returns-then-boxes-place-eq0 c = λ d j lt.
         (ap (λ (r : Reach). r.boxes) c.scratch.view_is) c.as_words-boxes.ensures
 
     nothing : (e : Dir) (i : ℕ) → i < WORD_BITS → (word_bit 0 i ≡ true) ↔
-        IsPushable c.args.level.now c.args.scratch.now.boxes c.args.scratch.now.reached e (WORD_BITS * c.args.place + i)
-    nothing e i lt = none_pushable c.args.level.now c.args.scratch.now.boxes c.args.scratch.now.reached c.as_words-boxes.result.now c.args.place i e stand
-        c.if-boxes-place-eq0.true lt
+        IsPushable c.args.level.now c.args.scratch.now.boxes c.args.scratch.now.reached e (WORD_BITS * c.args.index + i)
+    nothing e i lt = none_pushable c.args.level.now c.args.scratch.now.boxes c.args.scratch.now.reached c.as_words-boxes.result.now c.args.index i e stand
+        c.if-boxes-index-eq0.true lt

@@ -1,5 +1,5 @@
 use Rattle.area.proofs.Widening.{AreCleared}
 use Rattle.area.proofs.rooms.leave_clear.Given as goal
 
-abbrev pub invariant-loop-place : goal.invariant-loop-place
-invariant-loop-place l = AreCleared l.squares l.fn.words l.place l.words
+abbrev pub invariant-loop-index : goal.invariant-loop-index
+invariant-loop-index l = AreCleared l.squares l.fn.words l.index l.words

@@ -5,6 +5,6 @@ use Rattle.area.proofs.rooms.visit_few.Goals as goal
 
 pub returns : goal.returns
 returns c =
-    visit_written c.args.cols c.args.free.now c.args.words.now c.args.place c.just_beside.result (omega arith) (omega arith)
+    visit_written c.args.cols c.args.free.now c.args.words.now c.args.index c.just_beside.result (omega arith) (omega arith)
     (omega arith) c.just_beside.ensures c.fill_once-new.result (λ test. PassesOn test c.args.cols _ _ _ _) (omega arith)
-    (λ test passes. all_ways c.args.cols c.args.free.now c.args.place (omega arith) test passes) c.fill_once-new.ensures
+    (λ test passes. all_ways c.args.cols c.args.free.now c.args.index (omega arith) test passes) c.fill_once-new.ensures

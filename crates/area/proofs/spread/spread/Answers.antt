@@ -1,10 +1,10 @@
-use Rattle.std.proofs.Common.{ℕ, ◌+◌, set, refl, sym, ap, subst, arith}
+use Rattle.std.proofs.Common.{◌≡◌, ℕ, suc, ◌+◌, ◌<◌, [], ◌∷◌, length, get_or, set, sym, subst, arith}
 use Rattle.std.proofs.lemmas.List.{get_or_read}
-use Rattle.grid.specs.declared.around.Around.{Around}
 use Rattle.grid.specs.declared.dir.Dir.TheVariants.{D, L, R, U}
 use Rattle.grid.proofs.lemmas.Steps.{inside_grid}
 use Rattle.area.specs.inside.Spread.{IsUnderWay}
-use Rattle.area.proofs.UnderWay.{started, begun, looked_way, way_has_mark, way_has_room, passed, tail_bound}
+use Rattle.area.proofs.UnderWay.{IsLooked, started, begun, looked, has_room, queued_inside, passed, tail_bound}
+use Rattle.area.proofs.lemmas.Directions.{dir_at}
 use Rattle.area.proofs.spread.spread.Goals as goal
 
 pub bounds-marks-from-inside : goal.bounds-marks-from-inside
@@ -19,106 +19,32 @@ loop-head-init c =
     (set c.args.queue.now 0 c.args.from) 0 0 1) (sym c.from.view_is)
     (started c.args.level.now _ _ _ _ c.requires.begun.room c.requires.begun.places c.requires.begun.fresh c.requires.begun.clear c.requires.begun.vacant)
 
-pub visit-tail-requires-clause-inside : goal.visit-tail-requires-clause-inside
-visit-tail-requires-clause-inside c =
+pub loop-dir-init : goal.loop-dir-init
+loop-dir-init c =
     let at = get_or_read c.loop-head.queue c.loop-head.head c.index-queue-head.result (let b = tail_bound _ _ _ _ _ _ _ _ _ c.loop-head.invariant in
     let p = c.loop-head.invariant.places in let h = c.loop-head-test.true in omega (arith, b)) c.index-queue-head.is 0 in
-    let k0 = begun _ _ _ _ _ _ _ _ _ _ c.loop-head.invariant c.loop-head-test.true (sym at) c.square.view_is in
-    way_has_mark _ _ _ _ _ _ _ _ _ _ _ D _ k0 (ap (λ (a : Around). a.d) c.ways-ways.ensures)
+    begun _ _ _ _ _ _ _ _ _ _ c.loop-head.invariant c.loop-head-test.true (sym at) c.square.view_is
 
-pub visit-tail-requires-clause-space : goal.visit-tail-requires-clause-space
-visit-tail-requires-clause-space c =
-    let at = get_or_read c.loop-head.queue c.loop-head.head c.index-queue-head.result (let b = tail_bound _ _ _ _ _ _ _ _ _ c.loop-head.invariant in
-    let p = c.loop-head.invariant.places in let h = c.loop-head-test.true in omega (arith, b)) c.index-queue-head.is 0 in
-    let k0 = begun _ _ _ _ _ _ _ _ _ _ c.loop-head.invariant c.loop-head-test.true (sym at) c.square.view_is in
-    way_has_room _ _ _ _ _ _ _ _ _ _ _ D _ k0 (ap (λ (a : Around). a.d) c.ways-ways.ensures)
+pub next-next-requires : goal.next-next-requires
+next-next-requires c = subst (λ (x : ℕ). x < length c.args.level.now.cells) c.loop-dir.invariant.at
+    (queued_inside _ _ _ _ _ _ _ _ _ c.loop-dir.invariant.under c.loop-head.head c.loop-dir.invariant.here)
 
-pub visit-tail-requires-in-loop-head-clause-inside : goal.visit-tail-requires-in-loop-head-clause-inside
-visit-tail-requires-in-loop-head-clause-inside c =
-    let at = get_or_read c.loop-head.queue c.loop-head.head c.index-queue-head.result (let b = tail_bound _ _ _ _ _ _ _ _ _ c.loop-head.invariant in
-    let p = c.loop-head.invariant.places in let h = c.loop-head-test.true in omega (arith, b)) c.index-queue-head.is 0 in
-    let k0 = begun _ _ _ _ _ _ _ _ _ _ c.loop-head.invariant c.loop-head-test.true (sym at) c.square.view_is in
-    let k1 = looked_way _ _ _ _ _ _ _ _ _ _ _ D _ _ _ _ k0 refl
-    (ap (λ (a : Around). a.d) c.ways-ways.ensures) c.visit-tail.ensures.tail c.visit-tail.ensures.marks c.visit-tail.ensures.queue in
-    way_has_mark _ _ _ _ _ _ _ _ _ _ _ L _ k1 (ap (λ (a : Around). a.l) c.ways-ways.ensures)
+pub look-tail-requires-clause-space : goal.look-tail-requires-clause-space
+look-tail-requires-clause-space c = λ clear low. has_room _ _ _ _ _ _ _ _ _ c.loop-dir.invariant.under c.next-next.result clear low
 
-pub visit-tail-requires-in-loop-head-clause-space : goal.visit-tail-requires-in-loop-head-clause-space
-visit-tail-requires-in-loop-head-clause-space c =
-    let at = get_or_read c.loop-head.queue c.loop-head.head c.index-queue-head.result (let b = tail_bound _ _ _ _ _ _ _ _ _ c.loop-head.invariant in
-    let p = c.loop-head.invariant.places in let h = c.loop-head-test.true in omega (arith, b)) c.index-queue-head.is 0 in
-    let k0 = begun _ _ _ _ _ _ _ _ _ _ c.loop-head.invariant c.loop-head-test.true (sym at) c.square.view_is in
-    let k1 = looked_way _ _ _ _ _ _ _ _ _ _ _ D _ _ _ _ k0 refl
-    (ap (λ (a : Around). a.d) c.ways-ways.ensures) c.visit-tail.ensures.tail c.visit-tail.ensures.marks c.visit-tail.ensures.queue in
-    way_has_room _ _ _ _ _ _ _ _ _ _ _ L _ k1 (ap (λ (a : Around). a.l) c.ways-ways.ensures)
-
-pub visit-tail-requires-in-loop-head-2-clause-inside : goal.visit-tail-requires-in-loop-head-2-clause-inside
-visit-tail-requires-in-loop-head-2-clause-inside c =
-    let at = get_or_read c.loop-head.queue c.loop-head.head c.index-queue-head.result (let b = tail_bound _ _ _ _ _ _ _ _ _ c.loop-head.invariant in
-    let p = c.loop-head.invariant.places in let h = c.loop-head-test.true in omega (arith, b)) c.index-queue-head.is 0 in
-    let k0 = begun _ _ _ _ _ _ _ _ _ _ c.loop-head.invariant c.loop-head-test.true (sym at) c.square.view_is in
-    let k1 = looked_way _ _ _ _ _ _ _ _ _ _ _ D _ _ _ _ k0 refl
-    (ap (λ (a : Around). a.d) c.ways-ways.ensures) c.visit-tail.ensures.tail c.visit-tail.ensures.marks c.visit-tail.ensures.queue in
-    let k2 = looked_way _ _ _ _ _ _ _ _ _ _ _ L _ _ _ _ k1 refl
-    (ap (λ (a : Around). a.l) c.ways-ways.ensures) c.visit-tail-in-loop-head.ensures.tail c.visit-tail-in-loop-head.ensures.marks
-    c.visit-tail-in-loop-head.ensures.queue in
-    way_has_mark _ _ _ _ _ _ _ _ _ _ _ R _ k2 (ap (λ (a : Around). a.r) c.ways-ways.ensures)
-
-pub visit-tail-requires-in-loop-head-2-clause-space : goal.visit-tail-requires-in-loop-head-2-clause-space
-visit-tail-requires-in-loop-head-2-clause-space c =
-    let at = get_or_read c.loop-head.queue c.loop-head.head c.index-queue-head.result (let b = tail_bound _ _ _ _ _ _ _ _ _ c.loop-head.invariant in
-    let p = c.loop-head.invariant.places in let h = c.loop-head-test.true in omega (arith, b)) c.index-queue-head.is 0 in
-    let k0 = begun _ _ _ _ _ _ _ _ _ _ c.loop-head.invariant c.loop-head-test.true (sym at) c.square.view_is in
-    let k1 = looked_way _ _ _ _ _ _ _ _ _ _ _ D _ _ _ _ k0 refl
-    (ap (λ (a : Around). a.d) c.ways-ways.ensures) c.visit-tail.ensures.tail c.visit-tail.ensures.marks c.visit-tail.ensures.queue in
-    let k2 = looked_way _ _ _ _ _ _ _ _ _ _ _ L _ _ _ _ k1 refl
-    (ap (λ (a : Around). a.l) c.ways-ways.ensures) c.visit-tail-in-loop-head.ensures.tail c.visit-tail-in-loop-head.ensures.marks
-    c.visit-tail-in-loop-head.ensures.queue in
-    way_has_room _ _ _ _ _ _ _ _ _ _ _ R _ k2 (ap (λ (a : Around). a.r) c.ways-ways.ensures)
-
-pub visit-tail-requires-in-loop-head-3-clause-inside : goal.visit-tail-requires-in-loop-head-3-clause-inside
-visit-tail-requires-in-loop-head-3-clause-inside c =
-    let at = get_or_read c.loop-head.queue c.loop-head.head c.index-queue-head.result (let b = tail_bound _ _ _ _ _ _ _ _ _ c.loop-head.invariant in
-    let p = c.loop-head.invariant.places in let h = c.loop-head-test.true in omega (arith, b)) c.index-queue-head.is 0 in
-    let k0 = begun _ _ _ _ _ _ _ _ _ _ c.loop-head.invariant c.loop-head-test.true (sym at) c.square.view_is in
-    let k1 = looked_way _ _ _ _ _ _ _ _ _ _ _ D _ _ _ _ k0 refl
-    (ap (λ (a : Around). a.d) c.ways-ways.ensures) c.visit-tail.ensures.tail c.visit-tail.ensures.marks c.visit-tail.ensures.queue in
-    let k2 = looked_way _ _ _ _ _ _ _ _ _ _ _ L _ _ _ _ k1 refl
-    (ap (λ (a : Around). a.l) c.ways-ways.ensures) c.visit-tail-in-loop-head.ensures.tail c.visit-tail-in-loop-head.ensures.marks
-    c.visit-tail-in-loop-head.ensures.queue in
-    let k3 = looked_way _ _ _ _ _ _ _ _ _ _ _ R _ _ _ _ k2 refl
-    (ap (λ (a : Around). a.r) c.ways-ways.ensures) c.visit-tail-in-loop-head-2.ensures.tail c.visit-tail-in-loop-head-2.ensures.marks
-    c.visit-tail-in-loop-head-2.ensures.queue in
-    way_has_mark _ _ _ _ _ _ _ _ _ _ _ U _ k3 (ap (λ (a : Around). a.u) c.ways-ways.ensures)
-
-pub visit-tail-requires-in-loop-head-3-clause-space : goal.visit-tail-requires-in-loop-head-3-clause-space
-visit-tail-requires-in-loop-head-3-clause-space c =
-    let at = get_or_read c.loop-head.queue c.loop-head.head c.index-queue-head.result (let b = tail_bound _ _ _ _ _ _ _ _ _ c.loop-head.invariant in
-    let p = c.loop-head.invariant.places in let h = c.loop-head-test.true in omega (arith, b)) c.index-queue-head.is 0 in
-    let k0 = begun _ _ _ _ _ _ _ _ _ _ c.loop-head.invariant c.loop-head-test.true (sym at) c.square.view_is in
-    let k1 = looked_way _ _ _ _ _ _ _ _ _ _ _ D _ _ _ _ k0 refl
-    (ap (λ (a : Around). a.d) c.ways-ways.ensures) c.visit-tail.ensures.tail c.visit-tail.ensures.marks c.visit-tail.ensures.queue in
-    let k2 = looked_way _ _ _ _ _ _ _ _ _ _ _ L _ _ _ _ k1 refl
-    (ap (λ (a : Around). a.l) c.ways-ways.ensures) c.visit-tail-in-loop-head.ensures.tail c.visit-tail-in-loop-head.ensures.marks
-    c.visit-tail-in-loop-head.ensures.queue in
-    let k3 = looked_way _ _ _ _ _ _ _ _ _ _ _ R _ _ _ _ k2 refl
-    (ap (λ (a : Around). a.r) c.ways-ways.ensures) c.visit-tail-in-loop-head-2.ensures.tail c.visit-tail-in-loop-head-2.ensures.marks
-    c.visit-tail-in-loop-head-2.ensures.queue in
-    way_has_room _ _ _ _ _ _ _ _ _ _ _ U _ k3 (ap (λ (a : Around). a.u) c.ways-ways.ensures)
+pub loop-dir-preserved : goal.loop-dir-preserved
+loop-dir-preserved c =
+    let i : ℕ = c.loop-dir.dir-index in
+    let mark : ℕ = get_or c.loop-head.marks c.square.inside.0 0 + 1 in
+    subst (λ (n : ℕ). IsLooked c.args.level.now c.args.base c.args.from c.args.marks.now c.look-tail.new.marks c.look-tail.new.queue c.loop-head.head n
+    c.look-tail.result c.index-queue-head.result mark) (let e : suc i ≡ i + 1 = omega arith in e)
+    (looked c.args.level.now c.args.base c.args.from c.args.marks.now c.loop-dir.marks c.loop-dir.queue c.loop-head.head i c.loop-dir.tail
+    c.index-queue-head.result mark (get_or (D ∷ L ∷ R ∷ U ∷ []) i D) c.next-next.result c.loop-dir.invariant (dir_at i c.loop-dir-test.true)
+    (sym c.next-next.ensures) c.look-tail.ensures)
 
 pub loop-head-preserved : goal.loop-head-preserved
 loop-head-preserved c =
-    let at = get_or_read c.loop-head.queue c.loop-head.head c.index-queue-head.result (let b = tail_bound _ _ _ _ _ _ _ _ _ c.loop-head.invariant in
-    let p = c.loop-head.invariant.places in let h = c.loop-head-test.true in omega (arith, b)) c.index-queue-head.is 0 in
-    let k0 = begun _ _ _ _ _ _ _ _ _ _ c.loop-head.invariant c.loop-head-test.true (sym at) c.square.view_is in
-    let k1 = looked_way _ _ _ _ _ _ _ _ _ _ _ D _ _ _ _ k0 refl
-    (ap (λ (a : Around). a.d) c.ways-ways.ensures) c.visit-tail.ensures.tail c.visit-tail.ensures.marks c.visit-tail.ensures.queue in
-    let k2 = looked_way _ _ _ _ _ _ _ _ _ _ _ L _ _ _ _ k1 refl
-    (ap (λ (a : Around). a.l) c.ways-ways.ensures) c.visit-tail-in-loop-head.ensures.tail c.visit-tail-in-loop-head.ensures.marks
-    c.visit-tail-in-loop-head.ensures.queue in
-    let k3 = looked_way _ _ _ _ _ _ _ _ _ _ _ R _ _ _ _ k2 refl
-    (ap (λ (a : Around). a.r) c.ways-ways.ensures) c.visit-tail-in-loop-head-2.ensures.tail c.visit-tail-in-loop-head-2.ensures.marks
-    c.visit-tail-in-loop-head-2.ensures.queue in
-    let k4 = looked_way _ _ _ _ _ _ _ _ _ _ _ U _ _ _ _ k3 refl
-    (ap (λ (a : Around). a.u) c.ways-ways.ensures) c.visit-tail-in-loop-head-3.ensures.tail c.visit-tail-in-loop-head-3.ensures.marks
-    c.visit-tail-in-loop-head-3.ensures.queue in
-    passed _ _ _ _ _ _ _ _ _ _ k4
+    let mark : ℕ = get_or c.loop-head.marks c.square.inside.0 0 + 1 in
+    passed _ _ _ _ _ _ _ _ _ _ (subst (λ (n : ℕ). IsLooked c.args.level.now c.args.base c.args.from c.args.marks.now c.loop-dir.marks c.loop-dir.queue
+    c.loop-head.head n c.loop-dir.tail c.index-queue-head.result mark)
+    (let e : c.loop-dir.dir-index ≡ 4 = omega (arith, c.loop-dir-test.false, c.loop-dir.auto.dir-index-end) in e) c.loop-dir.invariant)
