@@ -18,7 +18,7 @@ use std::thread::Threads;
 
 // The least number of positions of a layer after which the books close side by side. After fewer a close takes less time
 // than the start of a thread.
-pub(crate) const SIDE_BY_SIDE: u64 = 4096;
+const SIDE_BY_SIDE: u64 = 4096;
 
 // So many books close side by side at most: each takes memory to sort what it closes, and threads keep some of theirs.
 const MOST: u8 = 4;
@@ -36,19 +36,18 @@ pub(crate) fn finish_all<R: Threads + Sync, G: Gate>(
     requires few { length books.old ≤ MAX_SHARES }
     requires working { AreWorkingOn layer.now books.old }
     requires worker { (i : ℕ) (v : BookView) → slice_get books.old i ≡ Some v → terms.now.config.workers < v.workers }
-    requires pruner_of_level { terms.now.pruner.now ≡ layer.now.level }
     requires room { scratch.old.size ≡ length layer.now.level.board.cells }
     ensures worked { IfOk result (λ worked. AreFinished terms.now.config.limit books.old layer.now worked books.new) }
     ensures size { scratch.new.size ≡ scratch.old.size }
 {
     // the caller's own number is the last one
     let own = terms.config.workers;
-    let within = do_rest(books, layer, terms.pruner, scratch, own, terms.config.limit)?;
+    let within = do_rest(books, layer, scratch, own, terms.config.limit)?;
     if within.is_none() {
         return Ok(Worked::Over);
     }
     close_side_by_side(rt, books, layer, own);
-    let worked = finish_rest(books, layer, terms.pruner, scratch, own)?;
+    let worked = finish_rest(books, layer, scratch, own)?;
     Ok(worked)
 }
 

@@ -12,7 +12,7 @@ use crate::workers::work_all;
 use area::Scratch;
 use claims::{Drawer, Ledger, PLACES};
 use grid::Level;
-use layers::{Book, Layer};
+use layers::{Book, Layer, Problem};
 use std::alloc::{AllocError, Global};
 use std::marker::Model;
 use std::sync::atomic::AtomicU64;
@@ -30,46 +30,45 @@ pub(crate) struct Desk<'a> {
     apart: [u64; 16],
 }
 
-/// The desks of workers over one level.
+/// The desks of workers over one problem.
 #[derive(Drop)]
 pub(crate) struct Desks<'a> {
-    level: &'a Level,
+    problem: &'a Problem,
     desks: Vec<Desk<'a>>,
 }
 
-/// What is lent to the workers of a layer: the layer, its books, which hold so many positions together, the largest of them so many, and may
-/// hold so many, and the ledger of its ranks.
+/// What the workers of a layer borrow: the layer, its books, the ledger of its ranks, and the number of positions that the
+/// books hold together and may hold at most.
 #[derive(Drop)]
 pub(crate) struct Loan<'s> {
     pub(crate) layer: &'s Layer,
     pub(crate) books: &'s [Mutex<Book>],
     pub(crate) ledger: &'s Ledger,
     pub(crate) positions: u64,
-    pub(crate) largest: u64,
     pub(crate) limit: u32,
 }
 
 impl<'a> Model for Desks<'a> {
     ghost use Rattle.std.specs.Prelude.{◌≤◌, length};
-    ghost use Rattle.grid.specs.Board.{Board};
+    ghost use Rattle.successors.specs.Tasks.{Task};
     ghost use Rattle.claims.specs.declared.ledger.TheConstants.{PLACES};
     ghost use Rattle.crew.specs.inside.Desks.{AreRoomy};
 
-    ghost Value = { Board };
+    ghost Value = { Task };
 
-    ghost view = { λ a. a.level.now };
+    ghost view = { λ a. a.problem.now };
 
-    ghost invariant = { λ a. (length a.desks.items ≤ PLACES) × AreRoomy (length a.level.now.cells) a.desks.items };
+    ghost invariant = { λ a. (length a.desks.items ≤ PLACES) × AreRoomy (length a.problem.now.board.cells) a.desks.items };
 }
 
 impl<'a> Desks<'a> {
     /// Desks for so many workers over so many books, or for as many as memory can be had for.
-    pub(crate) fn of(alloc: Global, level: &'a Level, workers: u8, books: u8) -> Desks<'a>
+    pub(crate) fn of(alloc: Global, problem: &'a Problem, workers: u8, books: u8) -> Desks<'a>
         requires { workers ≤ PLACES }
-        ensures { result ≡ level.now }
+        ensures { result ≡ problem.now }
     {
-        let desks = desks_of(alloc, level, workers, books);
-        Desks { level, desks }
+        let desks = desks_of(alloc, problem.level(), workers, books);
+        Desks { problem, desks }
     }
 
     /// Lends the layer with its books and its ledger to the workers at these desks, and waits until all of them have ended, each
@@ -81,8 +80,7 @@ impl<'a> Desks<'a> {
         loan: &Loan<'_>,
         drawer: Drawer,
     )
-        requires level { self.old ≡ loan.now.layer.now.level.board }
-        requires pruner_of_level { terms.now.pruner.now ≡ loan.now.layer.now.level }
+        requires problem { self.old ≡ loan.now.layer.now.level }
         requires ranks { loan.now.ledger.now.len ≤ length loan.now.layer.now.places }
         requires drawer { drawer ≡ newcomer loan.now.ledger.now }
         ensures { self.new ≡ self.old }
@@ -94,24 +92,16 @@ impl<'a> Desks<'a> {
             limit: loan.limit,
         };
         let shift = Shift {
-            level: self.level,
+            problem: self.problem,
             layer: loan.layer,
-            pruner: terms.pruner,
             books: loan.books,
             ledger: loan.ledger,
             gate: &within,
             workers: terms.config.workers.saturating_add(1),
             held: &held,
-            room: room_of_each(loan),
-            largest: loan.largest,
         };
         work_first(rt, self.desks.as_mut_slice(), &shift, drawer);
     }
-}
-
-// For how many positions more each book may make room: its part of what the limit leaves.
-fn room_of_each(loan: &Loan<'_>) -> u64 {
-    u64::from(loan.limit).saturating_sub(loan.positions) / (loan.books.len() as u64).max(1)
 }
 
 // Desks for so many workers over so many books, or for as many as memory can be had for.

@@ -26,35 +26,23 @@ pub(crate) fn lend<R: Threads + Wait + Sync, G: Gate + Sync>(
     desks: &mut Desks<'_>,
     positions: u64,
 ) -> Result<Vec<Book>, AllocError>
-    requires pruner_of_level { terms.now.pruner.now ≡ layer.now.level }
     requires few { length layer.now.places ≤ terms.now.config.limit }
-    requires desks { desks.old ≡ layer.now.level.board }
+    requires desks { desks.old ≡ layer.now.level }
     ensures desks { desks.new ≡ desks.old }
 {
     let alloc = terms.alloc;
     let limit = terms.config.limit;
     let (ledger, drawer) = ledger_of(alloc, layer, limit)?;
-    let largest = largest_of(books.as_slice());
     let locks = lock_each(alloc, books)?;
     let loan = Loan {
         layer,
         books: locks.as_slice(),
         ledger: &ledger,
         positions,
-        largest,
         limit,
     };
     desks.work(rt, terms, &loan, drawer);
     unlock_each(alloc, locks)
-}
-
-// How many positions the largest of these books holds.
-fn largest_of(books: &[Book]) -> u64 {
-    let mut most = 0;
-    for book in books {
-        most = book.positions_at_least().max(most);
-    }
-    most
 }
 
 // A ledger of the layer's ranks, of which there are no more than a limit, and a drawer without a place. The only error is that memory

@@ -1,10 +1,9 @@
 //! Books' locks, and what a worker does until the one that it wants is free.
 ghost use Rattle.std.specs.Prelude.{◌≡◌};
 
-use crate::closing::SIDE_BY_SIDE;
 use crate::gate::Gate;
 use crate::held::tell_growth;
-use crate::shift::{Post, Shift};
+use crate::shift::Post;
 use layers::Book;
 use std::sync::atomic::AtomicU64;
 use std::sync::{Mutex, MutexGuard, Wait};
@@ -72,23 +71,6 @@ fn enter_into(book: &mut Book, held: &AtomicU64) -> bool
     let entered = book.enter_waiting(LEAST);
     tell_growth(held, before, book.positions_at_least());
     entered
-}
-
-/// Makes room ahead in those of several books that are this worker's, one of so many, where the layer is large: all workers do so
-/// side by side before they draw a rank, and later each book would make it while others wait for it. A book that is held makes it
-/// later, and one book alone when it is full.
-pub(crate) fn have_room_ahead<G: Gate>(shift: &Shift<'_, '_, G>, worker: usize, workers: usize) {
-    if shift.books.len() < 2 || shift.layer.len() < SIDE_BY_SIDE {
-        return;
-    }
-    for (place, book) in shift.books.iter().enumerate() {
-        if place % workers.max(1) != worker {
-            continue;
-        }
-        if let Some(mut guard) = book.try_lock() {
-            guard.have_room_ahead(shift.room, shift.largest);
-        }
-    }
 }
 
 // Lets a little time pass.

@@ -353,7 +353,7 @@ fn append<'a, G: Gate>(
     ensures capacity { vec_capacity parcels.new ≡ vec_capacity parcels.old }
     ensures size { scratch.new.size ≡ scratch.old.size }
 {
-    let mut parcel = expand_over(shift.level, shift.layer, shift.pruner, rank, scratch);
+    let mut parcel = expand_over(shift.problem, shift.layer, rank, scratch);
     parcel.deal(shares);
     parcels.push_reserved(parcel);
 }
@@ -374,9 +374,8 @@ fn refill<'a, G: Gate>(
     ensures size { scratch.new.size ≡ scratch.old.size }
 {
     expand_over_into(
-        shift.level,
+        shift.problem,
         shift.layer,
-        shift.pruner,
         rank,
         scratch,
         &mut parcels[place],

@@ -15,7 +15,7 @@ use crate::terms::{Crew, History, Terms};
 use crate::turns::{Turned, turn};
 use area::Scratch;
 use grid::{Level, MAX_BOXES};
-use layers::{Book, Dealing, Pruner};
+use layers::{Book, Dealing, Problem};
 use solo::turn::new_books;
 use solo::{Answer, SolveFault, solve_alone};
 use std::alloc::{AllocError, Global};
@@ -70,40 +70,39 @@ fn search<R: Threads + Wait + Sync, G: Gate + Sync>(
     requires boxes { box_count (arc_value level.now) ≤ MAX_BOXES }
     ensures { IfOk result (λ found. IfSome found (λ answer. IsAnswer (capped (arc_value level.now) config.cap) config.limit answer)) }
 {
-    let pruner = Pruner::of(alloc, level, config.cap)?;
-    let terms = Terms {
-        alloc,
-        pruner: &pruner,
-        config,
-        gate,
-    };
-    search_by(rt, &terms, level)
+    let problem = Problem::of(alloc, level, config.cap)?;
+    let problem = Arc::new(alloc, problem)?;
+    search_by(rt, alloc, &problem, config, gate)
 }
 
-// The same by a pruner that is there.
+// The same of a problem.
 fn search_by<R: Threads + Wait + Sync, G: Gate + Sync>(
     rt: &R,
-    terms: &Terms<'_, G>,
-    level: &Arc<Level>,
+    alloc: Global,
+    problem: &Arc<Problem>,
+    config: Config,
+    gate: &G,
 ) -> Result<Option<Answer>, AllocError>
-    requires limits { IsWithinLimits terms.now.config }
-    requires boxes { box_count (arc_value level.now) ≤ MAX_BOXES }
-    requires pruner_of_level { terms.now.pruner.now.board ≡ arc_value level.now }
-    ensures { IfOk result (λ found. IfSome found (λ answer. IsAnswer terms.now.pruner.now terms.now.config.limit answer)) }
+    requires limits { IsWithinLimits config }
+    requires boxes { box_count (arc_value problem.now).board ≤ MAX_BOXES }
+    ensures { IfOk result (λ found. IfSome found (λ answer. IsAnswer (arc_value problem.now) config.limit answer)) }
 {
-    let alloc = terms.alloc;
-    let config = terms.config;
-    let mut scratch = Scratch::new(alloc, level)?;
+    let mut scratch = Scratch::new(alloc, problem.level())?;
     // the books are made for one worker more, whose number is the caller's own
     let dealing = Dealing {
         workers: config.workers + 1,
         shares: config.locks,
     };
-    let limit = config.limit;
-    let books = new_books(alloc, level, terms.pruner, limit, dealing, &mut scratch)?;
-    let desks = Desks::of(alloc, level, config.workers, config.locks);
+    let books = new_books(alloc, problem, config.limit, dealing, &mut scratch)?;
+    let desks = Desks::of(alloc, problem, config.workers, config.locks);
     let mut crew = Crew { scratch, desks };
-    all_turns(rt, terms, books, &mut crew)
+    let terms = Terms {
+        alloc,
+        problem: &**problem,
+        config,
+        gate,
+    };
+    all_turns(rt, &terms, books, &mut crew)
 }
 
 // Looks at layer after layer until there is an answer; `None` where other books came back than were lent. The only
@@ -115,9 +114,9 @@ fn all_turns<R: Threads + Wait + Sync, G: Gate + Sync>(
     crew: &mut Crew<'_>,
 ) -> Result<Option<Answer>, AllocError>
     requires limits { IsWithinLimits terms.now.config }
-    requires first { ArePausedBy terms.now.config terms.now.pruner.now first.items [] 0 }
-    requires crew { IsCrewOf terms.now.pruner.now.board crew.old }
-    ensures { IfOk result (λ found. IfSome found (λ answer. IsAnswer terms.now.pruner.now terms.now.config.limit answer)) }
+    requires first { ArePausedBy terms.now.config terms.now.problem.now first.items [] 0 }
+    requires crew { IsCrewOf terms.now.problem.now crew.old }
+    ensures { IfOk result (λ found. IfSome found (λ answer. IsAnswer terms.now.problem.now terms.now.config.limit answer)) }
 {
     let mut history = History {
         trail: Vec::new(terms.alloc),

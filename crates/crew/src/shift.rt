@@ -1,30 +1,24 @@
 //! What the workers of a layer share.
 use crate::gate::Gate;
 use claims::Ledger;
-use grid::Level;
-use layers::{Book, Layer, Pruner};
+use layers::{Book, Layer, Problem};
 use std::marker::Model;
 use std::sync::atomic::AtomicU64;
 use std::sync::{Mutex, Wait};
 
-/// What the workers of a layer share: the layer and its level, what leaves positions out, the books, each behind a lock of its
+/// What the workers of a layer share: the layer and its problem, the books, each behind a lock of its
 /// own, the ledger of the layer's ranks, the gate, for how many workers the books are made, and how many positions they hold.
 /// Contracts see the layer, the ledger, how many books there are, their number of workers, and the gate.
 #[derive(Drop)]
 pub(crate) struct Shift<'s, 'a, G: Gate> {
-    pub(crate) level: &'a Level,
+    pub(crate) problem: &'a Problem,
     pub(crate) layer: &'s Layer,
-    pub(crate) pruner: &'s Pruner,
     pub(crate) books: &'s [Mutex<Book>],
     pub(crate) ledger: &'s Ledger,
     pub(crate) gate: &'s G,
     pub(crate) workers: u8,
     // how many positions the books hold together, as the workers tell
     pub(crate) held: &'s AtomicU64,
-    // for how many positions more each book may make room ahead
-    pub(crate) room: u64,
-    // how many positions the largest of the books holds as the layer begins
-    pub(crate) largest: u64,
 }
 
 impl<'s, 'a, G: Gate> Model for Shift<'s, 'a, G> {
@@ -35,7 +29,7 @@ impl<'s, 'a, G: Gate> Model for Shift<'s, 'a, G> {
 
     ghost view = { λ a. record { layer = a.layer.now; ledger = a.ledger.now; books = length a.books.now; workers = a.workers; gate = a.gate.now } };
 
-    ghost invariant = { λ a. AreOfOneLayer a.layer.now a.level.now a.pruner.now a.ledger.now };
+    ghost invariant = { λ a. AreOfOneLayer a.layer.now a.problem.now a.ledger.now };
 }
 
 /// Where a worker works: on which shift, and under which number. It may wait there.

@@ -4,14 +4,14 @@ use crate::desks::Desks;
 use crate::gate::Gate;
 use area::Scratch;
 use grid::Square;
-use layers::{Parents, Pruner};
+use layers::{Parents, Problem};
 use std::alloc::Global;
 
-/// What a search goes by: the allocator, what leaves positions out, the configuration and the gate.
+/// What a search goes by: the allocator, what is searched, the configuration and the gate.
 #[derive(Drop)]
 pub(crate) struct Terms<'s, G: Gate> {
     pub(crate) alloc: Global,
-    pub(crate) pruner: &'s Pruner,
+    pub(crate) problem: &'s Problem,
     pub(crate) config: Config,
     pub(crate) gate: &'s G,
 }

@@ -42,11 +42,11 @@ pub(crate) fn turn<R: Threads + Wait + Sync, G: Gate + Sync>(
     crew: &mut Crew<'_>,
 ) -> Result<Turned, AllocError>
     requires limits { IsWithinLimits terms.now.config }
-    requires turn { ArePausedBy terms.now.config terms.now.pruner.now books.items history.old.trail.items history.old.positions }
-    requires crew { IsCrewOf terms.now.pruner.now.board crew.old }
-    ensures turned { IfOk result (λ turned. TurnAnswer terms.now.config terms.now.pruner.now history.new.trail.items history.old.positions
+    requires turn { ArePausedBy terms.now.config terms.now.problem.now books.items history.old.trail.items history.old.positions }
+    requires crew { IsCrewOf terms.now.problem.now crew.old }
+    ensures turned { IfOk result (λ turned. TurnAnswer terms.now.config terms.now.problem.now history.new.trail.items history.old.positions
         history.new.positions turned) }
-    ensures crew { IsCrewOf terms.now.pruner.now.board crew.new }
+    ensures crew { (crew.new.scratch.size ≡ crew.old.scratch.size) × (crew.new.desks ≡ crew.old.desks) }
 {
     let config = terms.config;
     let mut room = Vec::new(terms.alloc);
@@ -77,12 +77,12 @@ fn go_on<R: Threads + Wait + Sync, G: Gate + Sync>(
     crew: &mut Crew<'_>,
 ) -> Result<Turned, AllocError>
     requires limits { IsWithinLimits terms.now.config }
-    requires looked { (before : ℕ) × HasLooked terms.now.config terms.now.pruner.now books.items layer history.old.trail.items before history.old.positions }
-    requires crew { IsCrewOf terms.now.pruner.now.board crew.old }
+    requires looked { (before : ℕ) × HasLooked terms.now.config terms.now.problem.now books.items layer history.old.trail.items before history.old.positions }
+    requires crew { IsCrewOf terms.now.problem.now crew.old }
     ensures turned { (before : ℕ) →
-        HasLooked terms.now.config terms.now.pruner.now books.items layer history.old.trail.items before history.old.positions →
-        IfOk result (λ turned. TurnAnswer terms.now.config terms.now.pruner.now history.new.trail.items before history.new.positions turned) }
-    ensures crew { IsCrewOf terms.now.pruner.now.board crew.new }
+        HasLooked terms.now.config terms.now.problem.now books.items layer history.old.trail.items before history.old.positions →
+        IfOk result (λ turned. TurnAnswer terms.now.config terms.now.problem.now history.new.trail.items before history.new.positions turned) }
+    ensures crew { (crew.new.scratch.size ≡ crew.old.scratch.size) × (crew.new.desks ≡ crew.old.desks) }
 {
     let back = work_through(rt, terms, books, &layer, history.positions, crew)?;
     let Some((worked, after)) = back else {
@@ -110,10 +110,9 @@ fn work_through<R: Threads + Wait + Sync, G: Gate + Sync>(
     requires limits { IsWithinLimits terms.now.config }
     requires may { (i : ℕ) (v : BookView) → slice_get books.items i ≡ Some v → MayBegin v layer.now }
     requires few { length layer.now.places ≤ terms.now.config.limit }
-    requires pruner_of_level { terms.now.pruner.now ≡ layer.now.level }
-    requires crew { IsCrewOf terms.now.pruner.now.board crew.old }
+    requires crew { IsCrewOf layer.now.level crew.old }
     ensures worked { IfOk result (λ back. IfSome back (λ b. AreWorkedBy terms.now.config layer.now b.0 b.1.items)) }
-    ensures crew { IsCrewOf terms.now.pruner.now.board crew.new }
+    ensures crew { (crew.new.scratch.size ≡ crew.old.scratch.size) × (crew.new.desks ≡ crew.old.desks) }
 {
     begin_each(books.as_mut_slice(), layer)?;
     let back = lend(rt, terms, books, layer, &mut crew.desks, positions)?;
@@ -130,7 +129,6 @@ fn finish_lent<R: Threads + Sync, G: Gate>(
     scratch: &mut Scratch,
 ) -> Result<Option<(Worked, Vec<Book>)>, AllocError>
     requires limits { IsWithinLimits terms.now.config }
-    requires pruner_of_level { terms.now.pruner.now ≡ layer.now.level }
     requires room { scratch.old.size ≡ length layer.now.level.board.cells }
     ensures others { ¬ (ComeBack terms.now.config layer.now back.items) → result ≡ Ok None }
     ensures own { ComeBack terms.now.config layer.now back.items → IfOk result IsSome }

@@ -15,7 +15,7 @@ use crate::lots::{Lot, Lots};
 use crate::shift::{Post, Shift};
 use area::Scratch;
 use claims::{Drawer, Ledger, PLACES};
-use layers::{Book, Layer, Pruner, expand_over, expand_over_into};
+use layers::{Book, Layer, expand_over, expand_over_into};
 use std::mem::swap;
 use std::sync::atomic::AtomicU64;
 use std::sync::{Mutex, Wait};
@@ -40,7 +40,6 @@ use std::sync::{Mutex, Wait};
 pub fn work<R: Wait, G: Gate>(
     rt: &R,
     layer: &Layer,
-    pruner: &Pruner,
     books: &[Mutex<Book>],
     ledger: &Ledger,
     drawer: &mut Drawer,
@@ -49,7 +48,6 @@ pub fn work<R: Wait, G: Gate>(
     scratch: &mut Scratch,
     gate: &G,
 ) -> End
-    requires pruner_of_level { pruner.now ≡ layer.now.level }
     requires room { scratch.old.size ≡ length layer.now.level.board.cells }
     requires ranks { ledger.now.len ≤ length layer.now.places }
     requires drawer { (drawer.old.ledger ≡ ledger.now) × IsNone drawer.old.hand.place }
@@ -63,16 +61,13 @@ pub fn work<R: Wait, G: Gate>(
 {
     let held = AtomicU64::new(0);
     let shift = Shift {
-        level: layer.level(),
+        problem: layer.problem(),
         layer,
-        pruner,
         books,
         ledger,
         gate,
         workers,
         held: &held,
-        room: 0,
-        largest: 0,
     };
     work_on(rt, &shift, drawer, worker, scratch)
 }
@@ -160,19 +155,19 @@ fn by_ones<R: Wait, G: Gate>(
 {
     let shift = post.shift;
     let layer = shift.layer;
-    let pruner = shift.pruner;
+    let problem = shift.problem;
     let mut nth = 0;
     let rank = match draw(post, drawer, &mut nth) {
         Ok(rank) => rank,
         Err(end) => return end,
     };
-    let mut parcel = expand_over(layer.level(), layer, pruner, rank, scratch);
+    let mut parcel = expand_over(problem, layer, rank, scratch);
     for _ in post.rt.forever() {
         if let Err(end) = hand_back(post, &parcel, &mut nth) {
             return end;
         }
         match draw(post, drawer, &mut nth) {
-            Ok(rank) => expand_over_into(layer.level(), layer, pruner, rank, scratch, &mut parcel),
+            Ok(rank) => expand_over_into(problem, layer, rank, scratch, &mut parcel),
             Err(end) => return end,
         }
     }

@@ -5,7 +5,6 @@ ghost use Rattle.crew.specs.inside.Desks.{AreRoomy, HaveDrawers};
 
 use crate::desks::Desk;
 use crate::gate::Gate;
-use crate::locking::have_room_ahead;
 use crate::shift::{Post, Shift};
 use crate::worker::work_at;
 use claims::PLACES;
@@ -25,7 +24,6 @@ pub(crate) fn work_all<'a, R: Threads + Wait + Sync, G: Gate + Sync>(
     requires room { AreRoomy (length shift.now.layer.level.board.cells) desks.old }
     ensures room { AreRoomy (length shift.now.layer.level.board.cells) desks.new }
 {
-    let many = desks.len();
     for_each_spread(
         rt,
         desks,
@@ -34,7 +32,7 @@ pub(crate) fn work_all<'a, R: Threads + Wait + Sync, G: Gate + Sync>(
             requires drawer { desk.now.drawer ≡ Some (newcomer shift.now.ledger) }
             requires room { desk.now.scratch.size ≡ length shift.now.layer.level.board.cells }
             ensures { desk.exit.now.scratch.size ≡ desk.entry.now.scratch.size }
-        { help(rt, desk, shift, place as u8, many) },
+        { help(rt, desk, shift, place as u8) },
     );
 }
 
@@ -44,7 +42,6 @@ fn help<'a, R: Wait, G: Gate>(
     desk: &mut Desk<'a>,
     shift: &Shift<'_, 'a, G>,
     worker: u8,
-    workers: usize,
 )
     requires place { worker < PLACES }
     requires drawer { desk.old.drawer ≡ Some (newcomer shift.now.ledger) }
@@ -53,7 +50,6 @@ fn help<'a, R: Wait, G: Gate>(
 {
     if let Some(mut own) = desk.drawer.take() {
         let post = Post { rt, shift, worker };
-        have_room_ahead(shift, worker as usize, workers);
         work_at(&post, &mut own, &mut desk.scratch, &mut desk.lots);
     }
 }

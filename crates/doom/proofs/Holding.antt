@@ -9,10 +9,9 @@ use Rattle.grid.specs.Masks.{has_bit, word_count}
 use Rattle.grid.proofs.lemmas.Steps.{inside_grid}
 use Rattle.grid.specs.Squares.{Squares, contains}
 use Rattle.doom.specs.declared.holds.Holds.{Holds}
-use Rattle.doom.specs.inside.Locking.{AreLocked, HaveRoom, IsHeldBy}
+use Rattle.doom.specs.inside.Locking.{AreLocked, HaveRoom, IsHeldBy, StandInside}
 use Rattle.doom.specs.Deadlocks.{IsFrozen, IsHeld}
 use Rattle.doom.specs.inside.Holding.{IsFast, AreFast, AreHolds, IsApart}
-use Rattle.doom.specs.inside.Peeling.{StandInside}
 use Rattle.doom.proofs.Peeling.{blocked_by_axes}
 use Rattle.doom.proofs.Beside.{held_fast, held_cases, floor_ahead, floor_behind, right_of, left_of}
 

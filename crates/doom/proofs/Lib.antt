@@ -7,6 +7,4 @@ pub mod Holding
 pub mod Beside
 pub mod Parting
 pub mod Passes
-pub mod LockedAfter
-pub mod Fronts
 pub mod Spared

@@ -1,27 +1,22 @@
 -- Frozen boxes, and those of them that hang together with one box.
-use Rattle.std.proofs.Common.{◌≡◌, ◌<◌, ◌↔◌, ◌⊎◌, ◌&&◌, ℕ, Bool, true, false, not, IsTrue, length, ◌≢◌, sym, ap, subst, ◌∙◌, inl, inr, arith}
-use Rattle.std.proofs.lemmas.Bool.{and_from, and_parts, cases_Bool, cases_eq, cases_lt, not-true, true≢false}
+use Rattle.std.proofs.Common.{◌≡◌, ◌↔◌, ◌⊎◌, ◌&&◌, ℕ, Bool, true, false, not, IsTrue, length, ◌≢◌, sym, ap, subst, ◌∙◌, inl, inr, arith}
+use Rattle.std.proofs.lemmas.Bool.{and_from, and_parts, cases_Bool, cases_lt, not-true, true≢false}
 use Rattle.grid.specs.declared.dir.Dir.{Dir}
 use Rattle.grid.specs.Board.{Board, is_goal, is_wall, next, opposite}
 use Rattle.grid.specs.Squares.{Squares, contains, insert, remove}
-use Rattle.grid.proofs.lemmas.Squares.{contains-insert_cases, contains-insert_kept, contains-remove_other, contains-remove_parts}
+use Rattle.grid.proofs.lemmas.Squares.{contains-insert_cases, contains-remove_parts}
 use Rattle.grid.proofs.lemmas.Steps.{inside_grid, next_back}
 use Rattle.area.specs.Groups.{HangsWith, itself, onto}
 use Rattle.area.specs.Words.{passing_from}
+use Rattle.area.proofs.lemmas.Hanging.{hanging_box}
 use Rattle.area.proofs.lemmas.WordSets.{passing_within, passing_past}
 use Rattle.doom.specs.Deadlocks.{Doomed, IsDead, IsFrozen, IsHeld}
 use Rattle.doom.specs.Pushed.{AreOthersFrozen, DoomedFrom, IsGroupFrozen}
-use Rattle.area.proofs.lemmas.Hanging.{hangs_test}
-use Rattle.doom.specs.inside.Peeling.{IsWithin, StandInside}
+use Rattle.doom.specs.inside.Locking.{AreWithin}
 
 -- boxes that are frozen among some are so among more
-pub frozen_among : (board : Board) (few more frozen : Squares) → IsWithin frozen more → IsFrozen board few frozen → IsFrozen board more frozen
+pub frozen_among : (board : Board) (few more frozen : Squares) → AreWithin frozen more → IsFrozen board few frozen → IsFrozen board more frozen
 frozen_among board few more frozen within is = record { some = within; off_goal = is.off_goal; blocked = is.blocked }
-
--- what hangs together with a box is a box
-pub hangs_there : {board : Board} {boxes : Squares} {p q : ℕ} → HangsWith board boxes p q → contains boxes q ≡ true
-hangs_there (itself h) = h
-hangs_there (onto d w h) = h
 
 -- ---- frozen boxes, cut in two
 
@@ -108,7 +103,7 @@ module _ (board : Board) (boxes : Squares) (square : ℕ) (group : Squares) (tol
     λ h.
         (let (frozen, is) = tells.0 h in
         let hang : (m : ℕ) → contains frozen m ≡ true → HangsWith board boxes square m = λ m there. (are m).0 (is.some m there) in
-        (frozen, frozen_among board group boxes frozen (λ m there. hangs_there (hang m there)) is, hang)),
+        (frozen, frozen_among board group boxes frozen (λ m there. hanging_box (hang m there)) is, hang)),
     λ (frozen, is, hang). tells.1 (frozen, frozen_among board boxes group frozen (λ m there. (are m).1 (hang m there)) is),
   )
 
@@ -152,45 +147,6 @@ doomed_as_from board before after from to told moved there safe tells others = (
   ],
 )
   where
-    stay : (rest : Squares) → IsFrozen board after rest → ((m : ℕ) → contains rest m ≡ true → ¬ (HangsWith board after to m)) → IsWithin rest before
+    stay : (rest : Squares) → IsFrozen board after rest → ((m : ℕ) → contains rest m ≡ true → ¬ (HangsWith board after to m)) → AreWithin rest before
     stay rest is apart q m = stood_before before from to q (λ same. apart q m (subst (HangsWith board after to) same (itself there)))
         (sym (ap (λ (b : Squares). contains b q) moved) ∙ is.some q m)
-
--- where the boxes before a push were not doomed, frozen boxes after it are frozen among those that hang together with the
--- pushed one
-module _ (board : Board) (before after : Squares) (from to : ℕ) (moved : after ≡ insert (remove before from) to) (there : contains after to ≡ true)
-    (safe : ¬ (Doomed board before))
-    (clear : (q : ℕ) → contains after q ≡ true → is_wall board q ≡ false) where
-  pub group_if_frozen : (members : Squares) → IsFrozen board after members → IsGroupFrozen board after to
-  group_if_frozen members frozen =
-      let (test, tells) = hangs_test board after clear to there in
-      elim (parted board after members clear frozen test to tells) [
-        | inl group ↦ group
-        | inr (rest, is, apart) ↦ absurd (safe (inr (rest, frozen_among board after before rest (stay rest is apart) is)))
-      ]
-    where
-      stay : (rest : Squares) → IsFrozen board after rest → ((m : ℕ) → contains rest m ≡ true → ¬ (HangsWith board after to m)) → IsWithin rest before
-      stay rest is apart q m = stood_before before from to q (λ same. apart q m (subst (HangsWith board after to) same (itself there)))
-          (sym (ap (λ (b : Squares). contains b q) moved) ∙ is.some q m)
-
-  module _ (told : Bool) (live : ¬ (IsDead board to)) (tells : IsTrue told ↔ ((members : Squares) × IsFrozen board after members)) where
-    pub from_frozen : IsTrue told ↔ DoomedFrom board after to
-    from_frozen = (
-      λ h. (let (members, frozen) = tells.0 h in inr (group_if_frozen members frozen)),
-      λ doomed. elim doomed [
-        | inl dead ↦ absurd (live dead)
-        | inr (members, frozen, hang) ↦ tells.1 (members, frozen)
-      ],
-    )
-
-    pub doomed_frozen : IsTrue told ↔ Doomed board after
-    doomed_frozen = doomed_as_from board before after from to told moved there safe from_frozen (λ members frozen. inl (tells.1 (members, frozen)))
-
--- the boxes before a push stand inside, where those after it and the one that was pushed do
-pub stood_inside : (board : Board) (before after : Squares) (from to : ℕ) → after ≡ insert (remove before from) to → from < length board.cells →
-    StandInside board after → StandInside board before
-stood_inside board before after from to moved inside stand q h = elim (cases_eq from q) [
-  | inl same ↦ subst (λ (x : ℕ). x < length board.cells) same inside
-  | inr other ↦ stand q (ap (λ (b : Squares). contains b q) moved ∙ contains-insert_kept (remove before from) to q (contains-remove_other before from q other ∙
-      h))
-]

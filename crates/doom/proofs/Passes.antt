@@ -4,7 +4,7 @@ use Rattle.std.proofs.Common.{length, get_or, set, refl, sym, ap, subst, ◌∙�
 use Rattle.std.specs.Int.{bit_not, trailing_zeros, w64}
 use Rattle.std.specs.Int.RustNames.{bit_and, bit_or}
 use Rattle.std.proofs.lemmas.Bool.{false≢true, true≢false, cases_eq, cases_lt, or_cases, or_left, or_right, eqb-true, eqb-false, not-true, not_from_false}
-use Rattle.std.proofs.lemmas.Bool.{and_parts, and_from}
+use Rattle.std.proofs.lemmas.Bool.{and_parts, and_from, or_parts}
 use Rattle.std.proofs.lemmas.List.{get_or-set_same, get_or-set_other, set-get_or}
 use Rattle.std.proofs.lemmas.List.Folds.{list_any_at}
 use Rattle.std.specs.List.{list_any}
@@ -191,9 +191,9 @@ pass_one_more holds cols place seen more old now new went gone both last e look 
   within = λ q h. pass.within q (look_within holds cols place now new gone look q h);
   keeps = λ others blocked within. look_keeps holds cols place now new gone look others blocked (pass.keeps others blocked within);
   less = less went gone pass.less pass.same look.less look.same;
-  same = λ none. (let (a, b) = neither went gone none in look.same b ∙ pass.same a);
+  same = λ none. (let (a, b) = or_parts went gone none in look.same b ∙ pass.same a);
   held = λ none q there h.
-      (let (a, b) = neither went gone none in
+      (let (a, b) = or_parts went gone none in
       let start : now ≡ old = pass.same a in
       let end : new ≡ now = look.same b in
       elim (last (q / WORD_BITS) there) [
@@ -203,10 +203,6 @@ pass_one_more holds cols place seen more old now new went gone both last e look 
       ]);
 })
   where
-    neither : (a b : Bool) → (a || b) ≡ false → (a ≡ false) × (b ≡ false)
-    neither true b h = absurd (true≢false h)
-    neither false b h = (refl, h)
-
     less : (a b : Bool) → (a ≡ true → weight now < weight old) → (a ≡ false → now ≡ old) → (b ≡ true → weight new < weight now) → (b ≡ false → new ≡ now) →
         (a || b) ≡ true → weight new < weight old
     less true true f g h i _ = (let x = f refl in let y = h refl in omega (arith, x, y))

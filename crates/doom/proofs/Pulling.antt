@@ -139,6 +139,9 @@ spread_none board = record {
     none (suc size) zero n at = false≢true (ap is_some at)
     none (suc size) (suc q) n at = none size q n at
 
+below_last : (m n : ℕ) → m < n + 1 → m ≢ n → m < n
+below_last m n lt ne = omega arith
+
 -- one more square was asked for
 pub spread_more : (board : Board) (i : ℕ) (far : List (Option ℕ)) (marked : List ℕ) → (is_goal board i ≡ true → IsKnownWithin far i 0) →
     IsSpread board (λ q. q < i) (λ _ _. Unit {0}) 0 far [] marked → IsSpread board (λ q. q < i + 1) (λ _ _. Unit {0}) 0 far [] marked
@@ -147,7 +150,7 @@ spread_more board i far marked here spread = record {
   sound = spread.sound;
   goals = λ q asked goal. elim (eqb_tells q i) [
     | inl same ↦ subst (λ y. far_at far y ≡ Some 0) (sym same.1) (nought (here (subst (λ y. is_goal board y ≡ true) same.1 goal)))
-    | inr other ↦ spread.goals q (below q i asked other.1) goal
+    | inr other ↦ spread.goals q (below_last q i asked other.1) goal
   ];
   most = spread.most;
   before = spread.before;
@@ -155,9 +158,6 @@ spread_more board i far marked here spread = record {
   closed = spread.closed;
 }
   where
-    below : (q i : ℕ) → q < i + 1 → q ≢ i → q < i
-    below q i lt ne = omega arith
-
     nought : IsKnownWithin far i 0 → far_at far i ≡ Some 0
     nought (n, at, le) = let none : n ≡ 0 = omega (arith, le) in at ∙ ap Some none
 
@@ -203,22 +203,13 @@ spread_turn board k far marked spread = record {
 
 -- directions of one number are one
 same_dir : (d e : Dir) → dir_number d ≡ dir_number e → d ≡ e
-same_dir D D h = refl
-same_dir D L h = absurd (omega arith)
-same_dir D R h = absurd (omega arith)
-same_dir D U h = absurd (omega arith)
-same_dir L D h = absurd (omega arith)
-same_dir L L h = refl
-same_dir L R h = absurd (omega arith)
-same_dir L U h = absurd (omega arith)
-same_dir R D h = absurd (omega arith)
-same_dir R L h = absurd (omega arith)
-same_dir R R h = refl
-same_dir R U h = absurd (omega arith)
-same_dir U D h = absurd (omega arith)
-same_dir U L h = absurd (omega arith)
-same_dir U R h = absurd (omega arith)
-same_dir U U h = refl
+same_dir d e h = sym (numbered d) ∙ (ap (λ (i : ℕ). get_or (D ∷ L ∷ R ∷ U ∷ []) i D) h ∙ numbered e)
+  where
+    numbered : (x : Dir) → get_or (D ∷ L ∷ R ∷ U ∷ []) (dir_number x) D ≡ x
+    numbered D = refl
+    numbered L = refl
+    numbered R = refl
+    numbered U = refl
 
 -- a square that is due is taken up
 pub spread_pop : (board : Board) (k s : ℕ) (far : List (Option ℕ)) (due due' marked : List ℕ) → due ≡ due' ++ s ∷ [] → IsFilling board k far due marked →
@@ -265,7 +256,7 @@ spread_due board k s i d far due marked number done before = record {
               let known = done (subst (λ p. CanPull board s p) turned (subst (λ p. CanPull board p e) same.1 pull)) in
               subst (λ p. IsKnownWithin far p (suc n)) (sym (ap (λ p. next board p e) same.1 ∙ ap (next board s) turned))
               (subst (IsKnownWithin far (next board s d)) (steps n (subst (λ y. far_at far y ≡ Some n) same.1 at)) known)
-          | inr early ↦ pulled e (λ _. earlier (dir_number e) i (due same.1) early.1) pull
+          | inr early ↦ pulled e (λ _. below_last (dir_number e) i (due same.1) early.1) pull
         ]
         | inr other ↦ pulled e (λ same. absurd (other.1 same)) pull
       ]))
@@ -273,9 +264,6 @@ spread_due board k s i d far due marked number done before = record {
   };
 }
   where
-    earlier : (m n : ℕ) → m < n + 1 → m ≢ n → m < n
-    earlier m n lt ne = omega arith
-
     steps : (n : ℕ) → far_at far s ≡ Some n → k ≡ suc n
     steps n at = let (j, known, e) = before.here in sym e ∙ ap suc (some_injective far s j n known at)
 

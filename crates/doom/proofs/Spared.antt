@@ -1,8 +1,8 @@
 -- What words of bits tell of the squares where a pushed box may be held.
-use Rattle.std.proofs.Common.{◌≡◌, ◌≢◌, ◌<◌, ◌≤◌, ◌+◌, ◌*◌, ◌⊎◌, ℕ, Bool, true, false, ◌&&◌, ◌||◌, List, [], ◌∷◌, ◌++◌, length, get_or}
+use Rattle.std.proofs.Common.{◌≡◌, ◌≢◌, ◌<◌, ◌≤◌, ◌+◌, ◌*◌, ◌⊎◌, ℕ, true, false, List, [], ◌∷◌, ◌++◌, length, get_or}
 use Rattle.std.proofs.Common.{◌/◌, ◌%◌, ◌^◌, eqb, refl, sym, ap, subst, ◌∙◌, inl, inr, arith}
 use Rattle.std.specs.Int.RustNames.{bit_and, bit_or}
-use Rattle.std.proofs.lemmas.Bool.{false≢true}
+use Rattle.std.proofs.lemmas.Bool.{and_cases, false≢true, or_parts}
 use Rattle.std.proofs.lemmas.Option.{slice_get_within, slice_get-get_or}
 use Rattle.grid.specs.declared.dir.Dir.{Dir}
 use Rattle.grid.specs.declared.dir.Dir.TheVariants.{D, L, R, U}
@@ -58,20 +58,12 @@ axis_free board words fast from q by d are apart some live none front back =
     others : (next board q d ≢ q) × (next board q (opposite d) ≢ q)
     others = other_beside board q d by some apart loose
 
-split_and : (a b : Bool) → (a && b) ≡ false → (a ≡ false) ⊎ (b ≡ false)
-split_and true b e = inr e
-split_and false b e = inl refl
-
-split_or : (a b : Bool) → (a || b) ≡ false → (a ≡ false) × (b ≡ false)
-split_or true b e = absurd (false≢true (sym e))
-split_or false b e = (refl, e)
-
 -- where neither of two words has a bit, or where one of two has none
 neither : (a b j : ℕ) → word_bit (bit_or a b) j ≡ false → (word_bit a j ≡ false) × (word_bit b j ≡ false)
-neither a b j e = split_or (word_bit a j) (word_bit b j) (sym (word_bit-or a b j) ∙ e)
+neither a b j e = or_parts (word_bit a j) (word_bit b j) (sym (word_bit-or a b j) ∙ e)
 
 not_both : (a b j : ℕ) → word_bit (bit_and a b) j ≡ false → (word_bit a j ≡ false) ⊎ (word_bit b j ≡ false)
-not_both a b j e = split_and (word_bit a j) (word_bit b j) (sym (word_bit-and a b j) ∙ e)
+not_both a b j e = and_cases (word_bit a j) (word_bit b j) (sym (word_bit-and a b j) ∙ e)
 
 module _ (board : Board) (across along words : List ℕ) (place j left right up down : ℕ) (fast_r : AreFast board R across) (fast_d : AreFast board D along)
     (columns : 1 ≤ board.cols) (lt : j < WORD_BITS)

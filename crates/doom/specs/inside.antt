@@ -1,6 +1,5 @@
 -- What keeps the books of the code: what its loops keep, what fields hold, why it ends. No report rests on it.
 pub mod Holding
-pub mod Peeling
 pub mod Pulling
 pub mod Locking
 pub mod Dangers

@@ -1,21 +1,21 @@
-ghost use Rattle.std.specs.Prelude.{◌≡◌, ℕ, ◌<◌, ◌↔◌, ◌⊎◌, IsTrue, IfSome, false, true, length};
+ghost use Rattle.std.specs.Prelude.{◌≡◌, ℕ, ◌<◌, ◌↔◌, ◌⊎◌, IsTrue, false, true, length};
 ghost use Rattle.grid.specs.Board.{is_wall, next};
 ghost use Rattle.grid.specs.States.{FitsLevel};
-ghost use Rattle.grid.specs.Squares.{Squares, contains, insert, remove};
+ghost use Rattle.grid.specs.Squares.{Squares, contains};
 ghost use Rattle.doom.specs.Lost.{AreLost};
 ghost use Rattle.doom.specs.Deadlocks.{Doomed, IsDead, IsFrozen};
 ghost use Rattle.doom.specs.Pushed.{AreOthersFrozen, ComeUndoomed, DoomedFrom, IsGroupFrozen};
 
 use crate::dead::Dead;
+use crate::freeze::any_frozen;
 use crate::locked::any_locked_with;
-use crate::loose::is_loose;
-use crate::small::locked_after_push;
 use area::Scratch;
 use grid::{Level, Position, Push, Square};
 
-/// Whether the box that the push brought to its new square dooms the position: it stands on a dead square, or some of
-/// the boxes that hang together with it, at least one of them off goal, are frozen. No other box is looked at. Where
-/// the position before the push was not doomed, this is what [`doomed`](crate::doomed) says. Takes no memory.
+/// Whether a push dooms the position that it leads to: the pushed box is on a dead square, or some boxes connected to
+/// it, at least one of them off goal, are frozen. If the position before the push was not doomed, the result is that
+/// of [`doomed`](crate::doomed), and this call is faster: it looks for one dead box only, and floods the connected
+/// boxes only if some boxes of the position are frozen. It allocates no memory.
 pub fn doomed_after(
     level: &Level,
     dead: &Dead,
@@ -43,64 +43,7 @@ pub fn doomed_after(
     )
 }
 
-/// What [`doomed_after`] says of the push of one of the boxes round which the last flood went, where these are not doomed:
-/// for a search that keeps its boxes as a set. In small rooms it works by words, and ends as soon as nothing holds the
-/// pushed box, since all that is frozen then has that one; elsewhere it asks that function, unless the pushed box is loose.
-/// Takes no memory.
-pub fn push_dooms(
-    level: &Level,
-    dead: &Dead,
-    position: &Position,
-    push: Push,
-    scratch: &mut Scratch,
-) -> bool
-    requires fits { FitsLevel level.now position.now }
-    requires dead_of_level { dead.now ≡ level.now }
-    requires room { scratch.old.size ≡ length level.now.cells }
-    requires inside { push.square < length level.now.cells }
-    requires pushed { position.now.boxes ≡ insert (remove scratch.old.boxes push.square) (next level.now push.square push.dir) }
-    requires undoomed { ¬ (Doomed level.now scratch.old.boxes) }
-    ensures from { IsTrue result ↔ DoomedFrom level.now position.now.boxes (next level.now push.square push.dir) }
-    ensures same { IsTrue result ↔ Doomed level.now position.now.boxes }
-    ensures kept { scratch.new ≡ scratch.old }
-{
-    let Push { square, dir } = push;
-    let ahead = level.next(square, dir);
-    if dead.is_dead(ahead) {
-        return true;
-    }
-    match locked_after_push(level, dead.holds(), square, ahead, scratch) {
-        Some(locked) => locked,
-        None => {
-            !is_loose(level, dead, scratch, Push { square, dir })
-                && doomed_after(level, dead, position, Push { square, dir }, scratch)
-        }
-    }
-}
-
-/// What [`push_dooms`] says of a push onto a square that is not dead, told before the position after it is made; `None`
-/// where the room is too large for that. Takes no memory.
-pub fn push_dooms_early(level: &Level, dead: &Dead, push: Push, scratch: &Scratch) -> Option<bool>
-    requires inside { push.square < length level.now.cells }
-    requires dead_of_level { dead.now ≡ level.now }
-    requires room { scratch.now.size ≡ length level.now.cells }
-    requires clear { (q : ℕ) →
-        contains (insert (remove scratch.now.boxes push.square) (next level.now push.square push.dir)) q ≡ true → is_wall level.now q ≡ false }
-    requires live { ¬ (IsDead level.now (next level.now push.square push.dir)) }
-    requires undoomed { ¬ (Doomed level.now scratch.now.boxes) }
-    ensures { IfSome result (λ told. IsTrue told ↔
-        Doomed level.now (insert (remove scratch.now.boxes push.square) (next level.now push.square push.dir))) }
-{
-    let Push { square, dir } = push;
-    let ahead = level.next(square, dir);
-    match locked_after_push(level, dead.holds(), square, ahead, scratch) {
-        Some(locked) => Some(locked),
-        None => None,
-    }
-}
-
-/// Whether the square is dead, or some of the boxes that hang together with the one on it, at least one of them off
-/// goal, are frozen.
+/// Whether the square is dead, or some boxes connected to the one on it, at least one of them off goal, are frozen.
 fn is_doomed_from(
     level: &Level,
     dead: &Dead,
@@ -119,7 +62,8 @@ fn is_doomed_from(
     dead.is_dead(square) || is_group_frozen(level, dead, boxes, square, scratch)
 }
 
-/// Whether some of the boxes that hang together with the one on the square, at least one of them off goal, are frozen.
+/// Whether some boxes connected to the one on the square, at least one of them off goal, are frozen. They are connected
+/// through all boxes, also through those that nothing holds.
 fn is_group_frozen(
     level: &Level,
     dead: &Dead,
@@ -135,5 +79,6 @@ fn is_group_frozen(
     ensures others { (members : Squares) → IsFrozen level.now boxes.now members → IsTrue result ⊎ AreOthersFrozen level.now boxes.now square }
     ensures kept { scratch.new ≡ scratch.old }
 {
-    any_locked_with(level, dead.holds(), boxes, square, scratch)
+    any_frozen(level, dead, boxes, scratch)
+        && any_locked_with(level, dead.holds(), boxes, square, scratch)
 }

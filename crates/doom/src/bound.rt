@@ -11,8 +11,8 @@ use grid::{Level, MAX_BOXES, Position, Square};
 use std::alloc::{AllocError, Global};
 use std::marker::Model;
 
-/// How many pushes the boxes of a level's positions need at least: for each square the least number of pushes that
-/// bring a lone box from there to a goal. Contracts see the level that it was made of.
+/// A lower bound on the pushes that positions of a level need: for each square the fewest pushes that take a lone box
+/// from there to a goal. It is made once for a level. Contracts show the level that it was made of.
 #[derive(Debug, Drop)]
 pub struct Bound {
     level: Level,
@@ -32,7 +32,7 @@ impl Model for Bound {
 }
 
 impl Bound {
-    /// The bound of a level. The only error is that memory was refused.
+    /// The bound of a level, in time linear in its squares. The only error is running out of memory.
     pub fn of(alloc: Global, level: &Level) -> Result<Bound, AllocError>
         ensures { IfOk result (λ bound. bound ≡ level.now) }
     {
@@ -43,11 +43,11 @@ impl Bound {
         })
     }
 
-    /// The sum over the boxes of the least numbers of pushes that each needs to some goal, as if it were alone; `None`
-    /// exactly where a box stands on a dead square. No play that ends solved has fewer pushes, and where there is no sum
-    /// there is no such play; one push lessens the sum by one at most
-    /// ([`a_push_lessens_the_bound_by_one`](crate::laws::a_push_lessens_the_bound_by_one)). Looks once at each box, and
-    /// takes no memory.
+    /// The sum over the boxes of the fewest pushes that each needs to some goal, as if it were alone; `None` exactly
+    /// if a box is on a dead square. No play that ends solved has fewer pushes, and if there is no sum there is no
+    /// such play. A push lessens the sum by one at most
+    /// ([`a_push_lessens_the_bound_by_one`](crate::laws::a_push_lessens_the_bound_by_one)). Visits each box once, and
+    /// allocates no memory.
     pub fn lower(&self, position: &Position) -> Option<u32>
         requires { FitsLevel self.now position.now }
         ensures lower { MatchOption result (HaveDead self.now position.now.boxes) (λ low. IsLower self.now position.now.boxes low) }
@@ -58,7 +58,7 @@ impl Bound {
         self.sum(position.boxes())
     }
 
-    // The sum of the boxes' distances; `None` exactly where one stands on a dead square.
+    // The sum of the boxes' distances; `None` exactly if one is on a dead square.
     fn sum(&self, boxes: &[Square]) -> Option<u32>
         requires { length boxes.now ≤ MAX_BOXES }
         ensures { MatchOption result (HaveDead self.now boxes.now) (λ low. IsLower self.now boxes.now low) }
@@ -70,7 +70,7 @@ impl Bound {
         Some(sum)
     }
 
-    // The least number of pushes that bring a lone box on the square to a goal; `None` exactly where it is dead.
+    // The fewest pushes that take a lone box from the square to a goal; `None` exactly if the square is dead.
     fn distance(&self, square: Square) -> Option<u16>
         ensures { MatchOption result (IsDead self.now square) (λ n. IsFar self.now square n) }
     {

@@ -1,8 +1,7 @@
-ghost use Rattle.std.specs.Prelude.{◌≡◌, ◌<◌, ◌↔◌, IsTrue, IfOk, length};
-ghost use Rattle.grid.specs.declared.dir.Dir.TheVariants.{D, R};
+ghost use Rattle.std.specs.Prelude.{◌≡◌, ◌↔◌, IsTrue, IfOk};
 ghost use Rattle.doom.specs.Deadlocks.{IsDead};
 ghost use Rattle.doom.specs.Lost.{LosesBox};
-ghost use Rattle.doom.specs.inside.Holding.{IsFast, AreHolds};
+ghost use Rattle.doom.specs.inside.Holding.{AreHolds};
 
 use crate::holds::{Holds, holds_of};
 use crate::pulls::live_flags;
@@ -10,10 +9,11 @@ use grid::{Level, Square};
 use std::alloc::{AllocError, Global};
 use std::marker::Model;
 
-/// The dead squares of a level: those from which a lone box can be pushed to no goal, wherever the player is set down
-/// before each push. Walls and everything outside the grid are dead. Contracts see the level that it was made of.
+/// The dead squares of a level: those from which a lone box can be pushed to no goal, wherever the player is before
+/// each push. Walls and all squares outside the grid are dead. Contracts show the level that it was made of.
 ///
-/// The squares where a box is held on an axis whatever other boxes there are, and the goals, are kept as sets.
+/// It is made once for a level, and serves all checks of positions. It also keeps, as sets, the squares where walls
+/// or dead squares hold a box on an axis, and the goals.
 #[derive(Debug, Drop)]
 pub struct Dead {
     level: Level,
@@ -34,7 +34,7 @@ impl Model for Dead {
 }
 
 impl Dead {
-    /// The dead squares of a level. The only error is that memory was refused.
+    /// The dead squares of a level, in time linear in its squares. The only error is running out of memory.
     pub fn of(alloc: Global, level: &Level) -> Result<Dead, AllocError>
         ensures { IfOk result (λ dead. dead ≡ level.now) }
     {
@@ -46,7 +46,7 @@ impl Dead {
         })
     }
 
-    /// Whether the square is dead. From no state with a box on such a square does a play end solved.
+    /// Whether the square is dead. No play from a state with a box on a dead square ends solved.
     pub fn is_dead(&self, square: Square) -> bool
         ensures dead { IsTrue result ↔ IsDead self.now square }
         ensures lost { IsTrue result → LosesBox self.now square }
@@ -54,23 +54,7 @@ impl Dead {
         !self.live.get(square.0 as usize).copied().unwrap_or(false)
     }
 
-    /// Whether walls or dead squares alone hold a box on the square on the axis across.
-    pub(crate) fn holds_across(&self, square: Square) -> bool
-        requires { square < length self.now.cells }
-        ensures { IsTrue result ↔ IsFast self.now square R }
-    {
-        self.holds.across.has(square)
-    }
-
-    /// Whether walls or dead squares alone hold a box on the square on the axis along.
-    pub(crate) fn holds_along(&self, square: Square) -> bool
-        requires { square < length self.now.cells }
-        ensures { IsTrue result ↔ IsFast self.now square D }
-    {
-        self.holds.along.has(square)
-    }
-
-    /// Where walls or dead squares alone hold a box on each axis, and the goals.
+    /// The squares where walls or dead squares hold a box on each axis, and the goals.
     pub(crate) fn holds(&self) -> &Holds
         ensures { AreHolds self.now result.now }
     {

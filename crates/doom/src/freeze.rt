@@ -9,9 +9,10 @@ use crate::locked::any_locked;
 use area::Scratch;
 use grid::{Level, Position, Square};
 
-/// Whether the boxes of the position are doomed: a box stands on a dead square, or some of the boxes, at least one of
-/// them off goal, are frozen, each blocked on both axes by a wall or another of them, or by two dead squares. From no
-/// state with doomed boxes does a play end solved. Takes no memory.
+/// Whether the boxes of the position are doomed: a box is on a dead square, or some boxes, at least one of them off
+/// goal, are frozen, each blocked on both axes by a wall, another of them or two dead squares. No play from a state
+/// with doomed boxes ends solved. The time grows with the number of boxes, times the words of the grid or the boxes
+/// again. It allocates no memory.
 pub fn doomed(level: &Level, dead: &Dead, position: &Position, scratch: &mut Scratch) -> bool
     requires fits { FitsLevel level.now position.now }
     requires dead_of_level { dead.now ≡ level.now }
@@ -24,14 +25,15 @@ pub fn doomed(level: &Level, dead: &Dead, position: &Position, scratch: &mut Scr
     any_dead(dead, boxes) || any_frozen(level, dead, boxes, scratch)
 }
 
-/// Whether one of the boxes stands on a dead square.
+/// Whether one of the boxes is on a dead square.
 fn any_dead(dead: &Dead, boxes: &[Square]) -> bool
     ensures { IsTrue result ↔ ((q : ℕ) × (contains boxes.now q ≡ true) × IsDead dead.now q) }
 {
     boxes.iter().any(|square| dead.is_dead(*square))
 }
 
-/// Whether some of the boxes, at least one of them off goal, are frozen. They may be some of a position's. Takes no memory.
+/// Whether some of the boxes, at least one of them off goal, are frozen. The caller may pass a part of a position's
+/// boxes: if these are frozen, so is the position. It allocates no memory.
 pub fn any_frozen(level: &Level, dead: &Dead, boxes: &[Square], scratch: &mut Scratch) -> bool
     requires inside { (q : ℕ) → contains boxes.now q ≡ true → q < length level.now.cells }
     requires dead_of_level { dead.now ≡ level.now }

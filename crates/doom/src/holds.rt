@@ -6,18 +6,19 @@ use area::SquareSet;
 use grid::{Dir, Level, Square};
 use std::alloc::{AllocError, Global};
 
-/// Where boxes of a level are held whatever other boxes there are, and where they may be.
+/// The squares of a level where walls or dead squares hold a box, and the goals.
 #[derive(Debug, Drop)]
-pub struct Holds {
-    /// The squares on which a box is held on the axis across.
-    pub across: SquareSet,
-    /// The squares on which a box is held on the axis along.
-    pub along: SquareSet,
-    /// The squares on which a box may be held.
-    pub goals: SquareSet,
+pub(crate) struct Holds {
+    /// The squares where a box is held across: it can be pushed neither left nor right.
+    pub(crate) across: SquareSet,
+    /// The squares where a box is held along: it can be pushed neither up nor down.
+    pub(crate) along: SquareSet,
+    /// The goals, where a box may be held.
+    pub(crate) goals: SquareSet,
 }
 
-/// Where walls or dead squares alone hold a box on each axis, and the goals. The only error is that memory was refused.
+/// The squares where walls or dead squares hold a box on each axis, and the goals. The only error is running out of
+/// memory.
 pub(crate) fn holds_of(alloc: Global, level: &Level, live: &[bool]) -> Result<Holds, AllocError>
     requires { AreLiveFlags level.now live.now }
     ensures { IfOk result (λ holds. AreHolds level.now holds) }
@@ -29,7 +30,7 @@ pub(crate) fn holds_of(alloc: Global, level: &Level, live: &[bool]) -> Result<Ho
     })
 }
 
-/// The set of the squares on which walls or dead squares alone hold a box on the axis of the direction.
+/// The squares where walls or dead squares hold a box on the axis of the direction.
 fn fast_squares(
     alloc: Global,
     level: &Level,
@@ -51,7 +52,7 @@ fn fast_squares(
     Ok(set)
 }
 
-/// The set of the squares that have a goal.
+/// The squares that have a goal.
 fn goal_squares(alloc: Global, level: &Level) -> Result<SquareSet, AllocError>
     ensures { IfOk result (λ set. AreGoals level.now set) }
 {

@@ -1,4 +1,4 @@
-//! Laws of deadlocks that callers may rely on. Each is the contract of a function that does nothing.
+//! Laws of deadlocks that callers may rely on. Each is the contract of an empty function.
 ghost use Rattle.grid.specs.Squares.{Squares};
 ghost use Rattle.doom.specs.Sums.{HaveOneSum, PushLessensByOne, SolvedNeedNone};
 ghost use Rattle.doom.specs.Deadlocks.{Doomed};
@@ -7,25 +7,25 @@ ghost use Rattle.doom.specs.Loose.{LooseDoomsNothing};
 
 use grid::Level;
 
-/// The law that from no state with doomed boxes does a play end solved.
+/// No play from a state with doomed boxes ends solved.
 pub fn doomed_are_lost(level: &Level)
     ensures { (boxes : Squares) → Doomed level.now boxes → AreLost level.now boxes }
 {}
 
-/// The law that each state along a play that ends solved has undoomed boxes.
+/// Each state along a play that ends solved has undoomed boxes.
 pub fn solution_is_safe(level: &Level)
     ensures { SolvesSafely level.now }
 {}
 
-/// The laws of the least numbers of pushes that lone boxes need: one push lessens their sum by one at most, solved boxes
-/// need none, and boxes have one sum only.
+/// A push lessens the sum of the fewest pushes that lone boxes need by one at most; solved boxes need none; and boxes
+/// have one sum only.
 pub fn a_push_lessens_the_bound_by_one(level: &Level)
     ensures push { PushLessensByOne level.now }
     ensures solved { SolvedNeedNone level.now }
     ensures one { HaveOneSum level.now }
 {}
 
-/// The law that a push from an undoomed position dooms nothing where the pushed box is loose on its new square.
+/// A push from an undoomed position dooms nothing if the pushed box is loose on its new square.
 pub fn a_loose_box_dooms_nothing(level: &Level)
     ensures { LooseDoomsNothing level.now }
 {}

@@ -7,13 +7,19 @@ ghost use Rattle.area.specs.Words.{squares_of, word_bit};
 ghost use Rattle.doom.specs.inside.Locking.{AreWithin, HaveRoom, IsGroup, IsHeldBy, IsLargest, IsLook, IsPass, TellsLocked};
 
 use crate::holds::Holds;
+use crate::small::has_locked_few;
 use area::Scratch;
 use area::bits::{after, before, has};
 use grid::{Level, Square, WORD_BITS};
 
-/// Whether some of the boxes are locked: each of them is held on both axes, by what holds it anyway or by another of them
-/// beside it, and at least one stands where none may be held. Takes no memory.
-pub fn any_locked(level: &Level, holds: &Holds, boxes: &[Square], scratch: &mut Scratch) -> bool
+/// Whether some boxes are locked: each is held on both axes, by walls, dead squares or another of them beside it, and
+/// at least one is off goal.
+pub(crate) fn any_locked(
+    level: &Level,
+    holds: &Holds,
+    boxes: &[Square],
+    scratch: &mut Scratch,
+) -> bool
     requires inside { (q : ℕ) → contains boxes.now q ≡ true → q < length level.now.cells }
     requires holds { HaveRoom holds.now (word_count (length level.now.cells)) }
     requires room { scratch.old.size ≡ length level.now.cells }
@@ -23,8 +29,8 @@ pub fn any_locked(level: &Level, holds: &Holds, boxes: &[Square], scratch: &mut 
     has_locked(holds, level.cols(), boxes, scratch.boxes_aside(boxes))
 }
 
-/// The same of the boxes that hang together with the one on the square. Takes no memory.
-pub fn any_locked_with(
+/// The same for the boxes connected to the one on the square.
+pub(crate) fn any_locked_with(
     level: &Level,
     holds: &Holds,
     boxes: &[Square],
@@ -42,9 +48,27 @@ pub fn any_locked_with(
     has_locked(holds, level.cols(), boxes, members)
 }
 
-// Whether some squares of the set, all of which are boxes, are locked, where the columns are so many. The set keeps the
-// largest set of its squares each of which is held.
+// Whether some squares of the set, all of which are boxes, are locked. The call may write the set.
 fn has_locked(holds: &Holds, cols: usize, boxes: &[Square], members: &mut [u64]) -> bool
+    requires holds { HaveRoom holds.now (length members.old) }
+    requires among { AreWithin (squares_of members.old) boxes.now }
+    requires inside { (q : ℕ) → contains boxes.now q ≡ true → q < WORD_BITS * length members.old }
+    ensures { TellsLocked holds.now cols (squares_of members.old) result }
+{
+    if cols >= WORD_BITS {
+        return has_locked_many(holds, cols, boxes, members);
+    }
+    match members.len() {
+        1 => has_locked_few::<1>(holds, cols, members),
+        2 => has_locked_few::<2>(holds, cols, members),
+        3 => has_locked_few::<3>(holds, cols, members),
+        4 => has_locked_few::<4>(holds, cols, members),
+        _ => has_locked_many(holds, cols, boxes, members),
+    }
+}
+
+// The same for any number of words. The set keeps its largest subset each of whose squares is held.
+fn has_locked_many(holds: &Holds, cols: usize, boxes: &[Square], members: &mut [u64]) -> bool
     requires holds { HaveRoom holds.now (length members.old) }
     requires among { AreWithin (squares_of members.old) boxes.now }
     requires inside { (q : ℕ) → contains boxes.now q ≡ true → q < WORD_BITS * length members.old }
@@ -54,7 +78,7 @@ fn has_locked(holds: &Holds, cols: usize, boxes: &[Square], members: &mut [u64])
     has_other(boxes, members, holds.goals.as_words())
 }
 
-// Leaves of the set its largest subset each of whose squares is held.
+// Reduces the set to its largest subset each of whose squares is held.
 fn keep_held(holds: &Holds, cols: usize, boxes: &[Square], members: &mut [u64])
     requires holds { HaveRoom holds.now (length members.old) }
     requires among { AreWithin (squares_of members.old) boxes.now }
@@ -64,13 +88,13 @@ fn keep_held(holds: &Holds, cols: usize, boxes: &[Square], members: &mut [u64])
     while peel(holds, cols, boxes, members) {}
 }
 
-// Whether there are far more words than boxes, so that a look at the words of the boxes alone is shorter.
+// Whether there are far more words than boxes, so that it is faster to visit the words of the boxes only.
 #[inline(always)]
 fn are_few(boxes: &[Square], words: &[u64]) -> bool {
     boxes.len() < words.len() / 2
 }
 
-// Looks at each word that has a box, and takes out the squares that are not held; says whether one went.
+// Removes the squares that nothing holds, and returns whether it removed any. It visits each word that has a box.
 fn peel(holds: &Holds, cols: usize, boxes: &[Square], members: &mut [u64]) -> bool
     requires holds { HaveRoom holds.now (length members.old) }
     requires among { AreWithin (squares_of members.old) boxes.now }
@@ -84,7 +108,7 @@ fn peel(holds: &Holds, cols: usize, boxes: &[Square], members: &mut [u64]) -> bo
     }
 }
 
-// Looks at the word of each box, and takes out the squares that are not held; says whether one went.
+// The same, by the word of each box.
 fn peel_boxes(holds: &Holds, cols: usize, boxes: &[Square], members: &mut [u64]) -> bool
     requires holds { HaveRoom holds.now (length members.old) }
     requires among { AreWithin (squares_of members.old) boxes.now }
@@ -98,48 +122,49 @@ fn peel_boxes(holds: &Holds, cols: usize, boxes: &[Square], members: &mut [u64])
     went
 }
 
-// Looks at each word once, and takes out the squares that are not held; says whether one went.
+// The same, by each word once.
 pub(crate) fn peel_words(holds: &Holds, cols: usize, members: &mut [u64]) -> bool
     requires holds { HaveRoom holds.now (length members.old) }
     ensures { IsPass holds.now cols members.old members.new result }
 {
     let mut went = false;
-    for place in 0..members.len() {
-        went |= peel_word(holds, cols, members, place);
+    for index in 0..members.len() {
+        went |= peel_word(holds, cols, members, index);
     }
     went
 }
 
-// Takes out of one word the squares that are not held; says whether one went. In large rooms most words have none.
+// Removes from one word the squares that nothing holds, and returns whether it removed any. Most words of large rooms
+// are empty.
 #[inline(always)]
-pub(crate) fn peel_word(holds: &Holds, cols: usize, members: &mut [u64], place: usize) -> bool
-    requires place { place < length members.old }
+pub(crate) fn peel_word(holds: &Holds, cols: usize, members: &mut [u64], index: usize) -> bool
+    requires index { index < length members.old }
     requires holds { HaveRoom holds.now (length members.old) }
-    ensures { IsLook holds.now cols place members.old members.new result }
+    ensures { IsLook holds.now cols index members.old members.new result }
 {
-    let old = members[place];
+    let old = members[index];
     if old == 0 {
         return false;
     }
-    let across = held(holds.across.as_words(), members, place, 1);
-    let along = held(holds.along.as_words(), members, place, cols);
+    let across = held(holds.across.as_words(), members, index, 1);
+    let along = held(holds.along.as_words(), members, index, cols);
     let kept = (old & across) & along;
-    members[place] = kept;
+    members[index] = kept;
     kept != old
 }
 
-// For each square of a word, whether a box there is held on an axis: anyway, or by a member so many numbers before or
-// after it.
+// For each square of a word, whether a box there is held on an axis: by walls or dead squares, or by a member `by`
+// squares before or after it.
 #[inline(always)]
-pub(crate) fn held(fast: &[u64], members: &[u64], place: usize, by: usize) -> u64
-    requires place { place < length members.now }
+pub(crate) fn held(fast: &[u64], members: &[u64], index: usize, by: usize) -> u64
+    requires index { index < length members.now }
     requires room { length members.now ≤ length fast.now }
-    ensures { (j : ℕ) → j < WORD_BITS → (word_bit result j ≡ true) ↔ IsHeldBy fast.now by (squares_of members.now) (WORD_BITS * place + j) }
+    ensures { (j : ℕ) → j < WORD_BITS → (word_bit result j ≡ true) ↔ IsHeldBy fast.now by (squares_of members.now) (WORD_BITS * index + j) }
 {
-    (fast[place] | before(members, place, by)) | after(members, place, by)
+    (fast[index] | before(members, index, by)) | after(members, index, by)
 }
 
-// Whether a square of the one set, all of whose squares are boxes, is none of the other.
+// Whether a square of `members`, all of which are boxes, is not in `others`.
 fn has_other(boxes: &[Square], members: &[u64], others: &[u64]) -> bool
     requires room { length members.now ≤ length others.now }
     requires among { AreWithin (squares_of members.now) boxes.now }
@@ -152,7 +177,7 @@ fn has_other(boxes: &[Square], members: &[u64], others: &[u64]) -> bool
     }
 }
 
-// The same by a look at each box.
+// The same, by each box.
 fn is_other_box(boxes: &[Square], members: &[u64], others: &[u64]) -> bool
     ensures { result ≡ list_any (λ q. has_bit members.now q && not (has_bit others.now q)) boxes.now }
 {
@@ -161,13 +186,13 @@ fn is_other_box(boxes: &[Square], members: &[u64], others: &[u64]) -> bool
         .any(|square| has(members, *square) && !has(others, *square))
 }
 
-// The same by a look at each word.
+// The same, by each word.
 pub(crate) fn is_other_word(members: &[u64], others: &[u64]) -> bool
     requires { length members.now ≤ length others.now }
     ensures { IsTrue result ↔ ((q : ℕ) × (has_bit members.now q ≡ true) × (has_bit others.now q ≡ false)) }
 {
-    for place in 0..members.len() {
-        if (members[place] & !others[place]) != 0 {
+    for index in 0..members.len() {
+        if (members[index] & !others[index]) != 0 {
             return true;
         }
     }

@@ -1,4 +1,4 @@
-//! From which squares a lone box can be pushed to a goal, and how far it is: found from the goals, backwards, by pulls.
+//! The squares from which a lone box can be pushed to a goal, and their distances, found from the goals by pulls.
 ghost use Rattle.std.specs.Prelude.{◌≡◌, ◌+◌, ◌<◌, ◌≤◌, Some, OnOk, IfOk, [], vec_len, length};
 ghost use Rattle.doom.specs.inside.Pulling.{AreDistances, AreLiveFlags, IsDue, IsFilling, IsTurn, Marks, Pulls, far_at, unknown};
 
@@ -6,7 +6,7 @@ use grid::{Dir, Level, Square};
 use std::alloc::{AllocError, Global};
 use std::mem;
 
-/// For each square of the level, whether it is live: a lone box on it can be pushed to some goal.
+/// For each square of the level, whether it is live: a lone box can be pushed from it to some goal.
 pub(crate) fn live_flags(alloc: Global, level: &Level) -> Result<Vec<bool>, AllocError>
     ensures { IfOk result (λ flags. AreLiveFlags level.now flags.items) }
 {
@@ -18,8 +18,7 @@ pub(crate) fn live_flags(alloc: Global, level: &Level) -> Result<Vec<bool>, Allo
     Ok(flags)
 }
 
-/// For each square of the level the least number of pushes that bring a lone box on it to a goal; none where there are
-/// no such pushes.
+/// For each square of the level the fewest pushes that take a lone box from it to a goal; none if no pushes do.
 pub(crate) fn distances(alloc: Global, level: &Level) -> Result<Vec<Option<u16>>, AllocError>
     ensures { IfOk result (λ far. AreDistances level.now far.items) }
 {
@@ -34,8 +33,8 @@ pub(crate) fn distances(alloc: Global, level: &Level) -> Result<Vec<Option<u16>>
     Ok(found.far)
 }
 
-/// The distances that were found so far, the squares that were found last but for one push, from which no box was
-/// pulled yet, and those found last.
+/// The distances found so far; the squares of the round before that boxes are still to be pulled from; and the squares
+/// found in this round.
 #[derive(Drop)]
 struct Found {
     far: Vec<Option<u16>>,
@@ -44,7 +43,7 @@ struct Found {
 }
 
 impl Found {
-    /// The goals, which need no push.
+    /// Starts with the goals, which need no push.
     fn goals(alloc: Global, level: &Level) -> Result<Found, AllocError>
         ensures filling { IfOk result (λ found. IsFilling level.now 0 found.far.items [] found.marked.items) }
         ensures due { IfOk result (λ found. found.due.items ≡ []) }
@@ -65,7 +64,7 @@ impl Found {
         Ok(found)
     }
 
-    /// Pulls a box from each square that is due, whose distance is one less than `steps`.
+    /// Pulls a box from each square that is due; their distance is `steps - 1`.
     fn turn(&mut self, level: &Level, steps: u16) -> Result<(), AllocError>
         requires before { IsFilling level.now steps self.old.far.items self.old.due.items self.old.marked.items }
         ensures { OnOk result (IsTurn level.now steps self.old.far.items self.old.marked.items self.new.far.items self.new.due.items self.new.marked.items) }
@@ -76,7 +75,7 @@ impl Found {
         Ok(())
     }
 
-    /// Pulls a box one square on from a square in each direction.
+    /// Pulls a box by one square from the square, in each direction.
     fn pull_around(&mut self, level: &Level, square: Square, steps: u16) -> Result<(), AllocError>
         requires before { IsDue level.now steps square 0 self.old.far.items self.old.due.items self.old.marked.items }
         ensures after { OnOk result (IsFilling level.now steps self.new.far.items self.new.due.items self.new.marked.items) }
@@ -89,7 +88,7 @@ impl Found {
         Ok(())
     }
 
-    /// Pulls a box one square on, where it and the player have room: where no distance is known there, it is `steps`.
+    /// Pulls a box by one square, if it and the player have room. A square without a distance gets `steps`.
     fn pull(
         &mut self,
         level: &Level,

@@ -3,6 +3,7 @@ use Rattle.std.proofs.Common.{◌≡◌, ℕ, zero, suc, ◌+◌, ◌*◌, ◌<�
 use Rattle.std.proofs.Common.{arith}
 use Rattle.std.proofs.lemmas.List.{length-append, drop-drop}
 use Rattle.std.specs.Prelude.{slice_get}
+use Rattle.std.specs.Arc.{arc_value}
 use Rattle.grid.specs.Board.{Scene}
 use Rattle.grid.specs.Lawful.{box_count}
 use Rattle.grid.specs.declared.limits.TheConstants.{MAX_BOXES}
@@ -86,10 +87,10 @@ abbrev pub row_scene : ℕ → ℕ → List ℕ → Scene
 row_scene boxes rank xs = record { boxes = take boxes (drop (rank * (boxes + 1)) xs); player = get_or (drop (rank * (boxes + 1)) xs) boxes 0 }
 
 -- the row of a rank of a layer
-pub layer_row : (a : Inside) (v : LayerView) → IsSoundLayer a → layer_view a ≡ v → (boxes rank : ℕ) → boxes ≡ box_count a.task.board → rank < length v.places →
+pub layer_row : (a : Inside) (v : LayerView) → IsSoundLayer a → layer_view a ≡ v → (boxes rank : ℕ) → boxes ≡ box_count v.level.board → rank < length v.places →
     (xs : List ℕ) → xs ≡ a.squares.items →
     (slice_get v.places rank ≡ Some (row_scene boxes rank xs)) × (rank * (boxes + 1) + (boxes + 1) ≤ length xs) × (boxes ≤ MAX_BOXES)
-layer_row a v sound view boxes rank e within xs same = (
+layer_row a v sound view boxes rank read within xs same = (
   ap (λ (u : LayerView). slice_get u.places rank) (sym view) ∙ ap (λ n. slice_get (scenes_of n a.count a.squares.items) rank) (sym e)
       ∙ scene_at boxes a.count a.squares.items rank lt ∙ (λ i. Some (record {
         boxes = take boxes (drop (rank * sym (add-one boxes) i) (sym same i));
@@ -99,8 +100,11 @@ layer_row a v sound view boxes rank e within xs same = (
   omega (arith, e, sound.few),
 )
   where
+    e : boxes ≡ box_count (arc_value a.problem).board
+    e = read ∙ ap (λ (u : LayerView). box_count u.level.board) (sym view)
+
     lt : rank < a.count
-    lt = omega (arith, within, ap (λ (u : LayerView). length u.places) view, length-scenes_of (box_count a.task.board) a.count a.squares.items)
+    lt = omega (arith, within, ap (λ (u : LayerView). length u.places) view, length-scenes_of (box_count (arc_value a.problem).board) a.count a.squares.items)
 
     long : length xs ≡ a.count * suc boxes
     long = ap length same ∙ sound.squares ∙ ap (λ n. a.count * suc n) (sym e)

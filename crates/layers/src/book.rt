@@ -7,8 +7,9 @@ use crate::layer::Layer;
 use crate::marks::Marks;
 use grid::{Level, Position};
 use std::marker::Model;
+use std::sync::Arc;
 use store::Found;
-use successors::Task;
+use successors::Problem;
 
 // So many words are two lines of memory, which processors fetch together. What two workers write that far apart does not take
 // the one's lines away from the other's processor.
@@ -32,7 +33,7 @@ pub struct Closed {
 /// marks over the ranks of the last one while its successors are entered, and the positions that stand open.
 #[derive(Debug, Drop)]
 pub struct Book {
-    pub(crate) task: Task,
+    pub(crate) problem: Arc<Problem>,
     pub(crate) limit: u32,
     pub(crate) workers: u8,
     pub(crate) share: u8,
@@ -77,21 +78,21 @@ impl Book {
     pub fn level(&self) -> &Level
         ensures { result.now ≡ self.now.level.board }
     {
-        self.task.level()
+        self.problem.level()
     }
 
     /// The greatest number of pushes of a solution; `None` where no cap is set.
     pub fn cap(&self) -> Option<u32>
         ensures { result ≡ self.now.level.cap }
     {
-        self.task.cap()
+        self.problem.cap()
     }
 
     /// Whether the book is of a layer's level, with the same cap.
     pub fn is_of_layer(&self, layer: &Layer) -> bool
         ensures { IsTrue result ↔ (self.now.level ≡ layer.now.level) }
     {
-        self.task.is(layer.task())
+        self.problem.is(layer.problem())
     }
 
     /// The greatest number of closed and open positions.

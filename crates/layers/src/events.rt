@@ -111,7 +111,7 @@ impl Book {
         ensures some { IfSome result (λ refusal. HandBackRefused self.now parcel.now refusal) }
         ensures unchanged { IfSome result (λ refusal. after_refusal self.now refusal ≡ self.now) }
     {
-        if !parcel.is_of(&self.task) {
+        if !parcel.is_of(&self.problem) {
             return Some(Refusal::OtherLevel);
         }
         if parcel.layer() != self.layer() {

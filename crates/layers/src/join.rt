@@ -14,6 +14,7 @@ use crate::merging::merge;
 use crate::stretch::{Stretch, put_together};
 use grid::{MAX_BOXES, Square};
 use std::alloc::{AllocError, Global};
+use std::sync::Arc;
 use store::Origin;
 
 impl Layer {
@@ -139,10 +140,10 @@ fn layer_of(
 {
     tell_all(books);
     let (count, squares, origins) = rows;
-    let task = first.task.try_clone()?;
+    let problem = Arc::try_clone(&first.problem)?;
     let number = first.layer();
     Ok(Layer {
-        task,
+        problem,
         number,
         count,
         squares,
@@ -183,14 +184,14 @@ impl Book {
         ensures boxes { result ≡ box_count self.now.level.board }
         ensures few { result ≤ MAX_BOXES }
     {
-        self.task.boxes()
+        self.problem.boxes()
     }
 
     // Whether the book is the share with a number beside another book.
     fn is_share_beside(&self, first: &Book, place: usize) -> bool
         ensures { IsTrue result ↔ IsShareBeside first.now place self.now }
     {
-        if self.share as usize != place || !self.task.is(&first.task) {
+        if self.share as usize != place || !self.problem.is(&first.problem) {
             return false;
         }
         if self.limit != first.limit || self.shares != first.shares {

@@ -1,5 +1,6 @@
 ghost use Rattle.std.specs.Prelude.{◌≡◌, ◌+◌, ◌*◌, ◌<◌, ◌≤◌, ◌==◌, true, take, drop, length, slice_get, slice_index_or, Some};
 ghost use Rattle.grid.specs.Board.{Scene};
+ghost use Rattle.grid.specs.Lawful.{box_count};
 ghost use Rattle.grid.specs.Rising.{is_rising};
 ghost use Rattle.grid.specs.States.{FitsLevel};
 ghost use Rattle.doom.specs.Deadlocks.{Undoomed};
@@ -7,15 +8,16 @@ ghost use Rattle.layers.specs.LayerView.{IsWhole};
 
 use grid::{Level, MAX_BOXES, Position, Push, Square};
 use std::marker::Model;
+use std::sync::Arc;
 use store::Origin;
-use successors::Task;
+use successors::Problem;
 
 /// A whole layer of its level: the normal positions whose least push lists through undoomed positions have the
 /// layer's number of pushes, in the order of those lists. Where a cap of pushes is set it has only those positions from
 /// which the level may be solved within it, by what lone boxes need. A position's rank is its place in the list, from 0.
 #[derive(Debug, Drop)]
 pub struct Layer {
-    pub(crate) task: Task,
+    pub(crate) problem: Arc<Problem>,
     pub(crate) number: u64,
     // how many positions there are, and the squares of one after the other: its boxes, and then its player
     pub(crate) count: usize,
@@ -47,21 +49,21 @@ impl Layer {
     pub fn level(&self) -> &Level
         ensures { result.now ≡ self.now.level.board }
     {
-        self.task.level()
+        self.problem.level()
     }
 
     /// The greatest number of pushes of a solution; `None` where no cap is set.
     pub fn cap(&self) -> Option<u32>
         ensures { result ≡ self.now.level.cap }
     {
-        self.task.cap()
+        self.problem.cap()
     }
 
-    // The level with its cap.
-    pub(crate) fn task(&self) -> &Task
+    /// What the search solves: the level with its cap, and what follows from both.
+    pub fn problem(&self) -> &Problem
         ensures { result.now ≡ self.now.level }
     {
-        &self.task
+        &*self.problem
     }
 
     /// The layer's number, which is the number of pushes that lead to its positions.
@@ -100,7 +102,7 @@ impl Layer {
         requires { rank < length self.now.places }
         ensures { (m : Scene) → slice_get self.now.places rank ≡ Some m → result.now ≡ m.boxes }
     {
-        read_boxes(self.squares.as_slice(), rank as usize, self.task.boxes())
+        read_boxes(self.squares.as_slice(), rank as usize, self.boxes())
     }
 
     /// The rank of a position's parent in the layer before, and the push that leads from there; `None` exactly in
@@ -112,6 +114,13 @@ impl Layer {
         Some(origin.parts())
     }
 
+    // The number of boxes of a position.
+    fn boxes(&self) -> usize
+        ensures { result ≡ box_count self.now.level.board }
+    {
+        self.problem.boxes()
+    }
+
     // The position with a rank of the layer, made of its squares.
     pub(crate) fn place(&self, rank: u64) -> Position
         requires { rank < length self.now.places }
@@ -119,7 +128,7 @@ impl Layer {
         ensures fits { FitsLevel self.now.level.board result }
         ensures undoomed { Undoomed self.now.level.board result }
     {
-        read_position(self.squares.as_slice(), rank as usize, self.task.boxes())
+        read_position(self.squares.as_slice(), rank as usize, self.boxes())
     }
 }
 

@@ -35,4 +35,4 @@ pub use limits::{MAX_WORKERS, MOST_POSITIONS};
 pub use making::Dealing;
 pub use parents::Parents;
 pub use stretch::Stretch;
-pub use successors::{MAX_SHARES, MAX_SUCCESSORS, Parcel, Pruner, Successor};
+pub use successors::{MAX_SHARES, MAX_SUCCESSORS, Parcel, Problem, Successor};

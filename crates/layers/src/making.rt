@@ -20,7 +20,7 @@ use grid::{Level, MAX_BOXES, Position};
 use std::alloc::{AllocError, Global};
 use std::sync::Arc;
 use store::Found;
-use successors::{MAX_SHARES, Pruner, Task, is_admitted, share_of};
+use successors::{MAX_SHARES, Problem, share_of};
 
 /// To how many workers, and in how many shares, the positions of a level are dealt.
 #[derive(Clone, Copy, PartialEq, Eq, Debug)]
@@ -54,72 +54,90 @@ impl Book {
         let Some(start) = Position::start(&level) else {
             return Err(BookFault::TooManyBoxes);
         };
-        let task = Task::of(level, cap);
-        let first = first_alone(alloc, &task, &start)?;
         let dealing = Dealing { workers, shares };
-        match Book::with_first(alloc, task, &first, limit, dealing, share) {
+        match Book::of_share(alloc, &level, cap, &start, limit, dealing, share) {
             Ok(book) => Ok(book),
             Err(_) => Err(BookFault::OutOfMemory),
         }
     }
 
-    /// The books of all shares of the level's positions, share 0 first, each as [`Book::of`] makes it. What all of them
-    /// want is found once, by the pruner, whose cap is theirs, and the scratch that are lent. The only errors are that the level has
-    /// more boxes than [`MAX_BOXES`](grid::MAX_BOXES), and that memory was refused.
+    /// The books of all shares of the positions of a problem, share 0 first, each as [`Book::of`] makes it. They share the
+    /// problem. The only errors are that the level has more boxes than [`MAX_BOXES`](grid::MAX_BOXES), and that memory was
+    /// refused.
     pub fn of_all_shares(
         alloc: Global,
-        level: &Arc<Level>,
-        pruner: &Pruner,
+        problem: &Arc<Problem>,
         limit: u32,
         dealing: Dealing,
         scratch: &mut Scratch,
     ) -> Result<Vec<Book>, BookFault>
-        requires pruner_of_level { pruner.now.board ≡ arc_value level.now }
         requires limit { 1 ≤ limit }
         requires workers { (1 ≤ dealing.workers) × (dealing.workers ≤ MAX_WORKERS + 1) }
         requires shares { (1 ≤ dealing.shares) × (dealing.shares ≤ MAX_SHARES) }
-        requires room { scratch.old.size ≡ length (arc_value level.now).cells }
-        ensures ok { IfOk result (λ books. AreNewShares pruner.now limit dealing.workers dealing.shares books.items) }
-        ensures variant { MatchResult result (λ books. box_count (arc_value level.now) ≤ MAX_BOXES) (λ fault. BookRefused (arc_value level.now) fault) }
+        requires room { scratch.old.size ≡ length (arc_value problem.now).board.cells }
+        ensures ok { IfOk result (λ books. AreNewShares (arc_value problem.now) limit dealing.workers dealing.shares books.items) }
+        ensures variant { MatchResult result (λ books. box_count (arc_value problem.now).board ≤ MAX_BOXES)
+            (λ fault. BookRefused (arc_value problem.now).board fault) }
         ensures size { scratch.new.size ≡ scratch.old.size }
     {
+        let level = problem.level();
         level.tell();
         level.tell_start();
         let Some(start) = Position::start(level) else {
             return Err(BookFault::TooManyBoxes);
         };
-        let task = match Arc::try_clone(level) {
-            Ok(level) => Task::of(level, pruner.cap()),
-            Err(_) => return Err(BookFault::OutOfMemory),
-        };
-        let first = first_position(&task, pruner, &start, scratch);
-        match all_with_first(alloc, &task, &first, limit, dealing) {
+        let first = first_position(problem, &start, scratch);
+        match all_with_first(alloc, problem, &first, limit, dealing) {
             Ok(books) => Ok(books),
             Err(_) => Err(BookFault::OutOfMemory),
         }
     }
 
-    // A book whose layer 0 is the first position of the level, if there is one and it is of the share.
+    // A book of a share of the level's positions, whose start is given, with a problem of its own. The only error is that
+    // memory was refused.
+    fn of_share(
+        alloc: Global,
+        level: &Arc<Level>,
+        cap: Option<u32>,
+        position: &Position,
+        limit: u32,
+        dealing: Dealing,
+        share: u8,
+    ) -> Result<Book, AllocError>
+        requires bounds { AreBounds limit dealing.workers share dealing.shares }
+        requires few { box_count (arc_value level.now) ≤ MAX_BOXES }
+        requires start { position.now ≡ start (arc_value level.now) }
+        requires fits { FitsLevel (arc_value level.now) position.now }
+        ensures { IfOk result (λ book. IsNew (capped (arc_value level.now) cap) limit dealing.workers share dealing.shares book) }
+    {
+        let problem = Problem::of(alloc, level, cap)?;
+        let problem = Arc::new(alloc, problem)?;
+        let mut scratch = Scratch::new(alloc, level)?;
+        let first = first_position(&problem, position, &mut scratch);
+        Book::with_first(alloc, problem, &first, limit, dealing, share)
+    }
+
+    // A book whose layer 0 is the first position of the problem, if there is one and it is of the share.
     fn with_first(
         alloc: Global,
-        task: Task,
+        problem: Arc<Problem>,
         first: &Option<Position>,
         limit: u32,
         dealing: Dealing,
         share: u8,
     ) -> Result<Book, AllocError>
         requires bounds { AreBounds limit dealing.workers share dealing.shares }
-        requires few { box_count task.board ≤ MAX_BOXES }
-        requires first { IsFirst task first.now }
-        ensures { IfOk result (λ book. IsNew task limit dealing.workers share dealing.shares book) }
+        requires few { box_count (arc_value problem).board ≤ MAX_BOXES }
+        requires first { IsFirst (arc_value problem) first.now }
+        ensures { IfOk result (λ book. IsNew (arc_value problem) limit dealing.workers share dealing.shares book) }
     {
-        task.tell();
+        problem.tell();
         let tallies = first_tallies(alloc, dealing.workers)?;
         let mut starts = Vec::new(alloc);
         starts.resize(1, 0)?;
-        let found = found_of_share(alloc, &task, first, share, dealing.shares)?;
+        let found = found_of_share(alloc, &problem, first, share, dealing.shares)?;
         Ok(Book {
-            task,
+            problem,
             limit,
             workers: dealing.workers,
             share,
@@ -137,10 +155,10 @@ impl Book {
     }
 }
 
-// The books of all shares, share 0 first, where the first position of the level is found already.
+// The books of all shares, share 0 first, where the first position of the problem is found already.
 fn all_with_first(
     alloc: Global,
-    task: &Task,
+    problem: &Arc<Problem>,
     first: &Option<Position>,
     limit: u32,
     dealing: Dealing,
@@ -148,54 +166,32 @@ fn all_with_first(
     requires limit { 1 ≤ limit }
     requires workers { (1 ≤ dealing.workers) × (dealing.workers ≤ MAX_WORKERS + 1) }
     requires shares { (1 ≤ dealing.shares) × (dealing.shares ≤ MAX_SHARES) }
-    requires few { box_count task.now.board ≤ MAX_BOXES }
-    requires first { IsFirst task.now first.now }
-    ensures { IfOk result (λ books. AreNewShares task.now limit dealing.workers dealing.shares books.items) }
+    requires few { box_count (arc_value problem.now).board ≤ MAX_BOXES }
+    requires first { IsFirst (arc_value problem.now) first.now }
+    ensures { IfOk result (λ books. AreNewShares (arc_value problem.now) limit dealing.workers dealing.shares books.items) }
 {
     let mut books = Vec::with_capacity(alloc, dealing.shares as usize)?;
     for share in 0..dealing.shares {
-        let task = task.try_clone()?;
-        let book = Book::with_first(alloc, task, first, limit, dealing, share)?;
+        let problem = Arc::try_clone(problem)?;
+        let book = Book::with_first(alloc, problem, first, limit, dealing, share)?;
         books.push(book)?;
     }
     Ok(books)
 }
 
-// The first position of a level, by a pruner and in a scratch of its own. The only error is that memory was refused.
-fn first_alone(
-    alloc: Global,
-    task: &Task,
-    position: &Position,
-) -> Result<Option<Position>, AllocError>
-    requires start { position.now ≡ start task.now.board }
-    requires fits { FitsLevel task.now.board position.now }
-    ensures { IfOk result (λ first. IsFirst task.now first) }
-{
-    let pruner = Pruner::of(alloc, task.level(), task.cap())?;
-    let mut scratch = Scratch::new(alloc, task.level())?;
-    let first = first_position(task, &pruner, position, &mut scratch);
-    Ok(first)
-}
-
-// The first position of a level: the start's normal position, or none where the start is doomed or not admitted.
-fn first_position(
-    task: &Task,
-    pruner: &Pruner,
-    position: &Position,
-    scratch: &mut Scratch,
-) -> Option<Position>
-    requires start { position.now ≡ start task.now.board }
-    requires fits { FitsLevel task.now.board position.now }
-    requires pruner_of_task { pruner.now ≡ task.now }
-    requires room { scratch.old.size ≡ length task.now.board.cells }
-    ensures first { IsFirst task.now result }
+// The first position of a problem: the start's normal position, or none where the start is doomed or not admitted.
+fn first_position(problem: &Problem, position: &Position, scratch: &mut Scratch) -> Option<Position>
+    requires start { position.now ≡ start problem.now.board }
+    requires fits { FitsLevel problem.now.board position.now }
+    requires room { scratch.old.size ≡ length problem.now.board.cells }
+    ensures first { IsFirst problem.now result }
     ensures size { scratch.new.size ≡ scratch.old.size }
 {
-    let level = task.level();
-    if doomed(level, pruner.dead(), position, scratch) {
+    let level = problem.level();
+    if doomed(level, problem.dead(), position, scratch) {
         return None;
     }
-    if !is_admitted(task, pruner.bound(), position) {
+    if !problem.is_admitted(position) {
         return None;
     }
     let normal = normal(level, position, scratch);
@@ -215,32 +211,37 @@ fn first_tallies(alloc: Global, workers: u8) -> Result<Vec<u64>, AllocError>
 // What a book of the share has found at first: the first position, if there is one and it is of the share.
 fn found_of_share(
     alloc: Global,
-    task: &Task,
+    problem: &Problem,
     first: &Option<Position>,
     share: u8,
     shares: u8,
 ) -> Result<Found, AllocError>
-    requires few { box_count task.now.board ≤ MAX_BOXES }
-    requires first { IsFirst task.now first.now }
+    requires few { box_count problem.now.board ≤ MAX_BOXES }
+    requires first { IsFirst problem.now first.now }
     requires shares { 0 < shares }
-    ensures layer { IfOk result (λ found. IsShareOfLayer task.now shares share 0 found.seen × (length found.seen ≤ 1)) }
+    ensures layer { IfOk result (λ found. IsShareOfLayer problem.now shares share 0 found.seen × (length found.seen ≤ 1)) }
     ensures waiting { IfOk result (λ found. found.waiting ≡ []) }
-    ensures size { IfOk result (λ found. (found.boxes ≡ box_count task.now.board) × (found.squares ≡ length task.now.board.cells)) }
+    ensures size { IfOk result (λ found. (found.boxes ≡ box_count problem.now.board) × (found.squares ≡ length problem.now.board.cells)) }
 {
-    let own = first_of_share(task, first, share, shares);
-    let squares = task.level().squares();
-    let found = Found::of(alloc, task.boxes(), squares, &own)?;
+    let own = first_of_share(problem, first, share, shares);
+    let squares = problem.level().squares();
+    let found = Found::of(alloc, problem.boxes(), squares, &own)?;
     Ok(found)
 }
 
 // The share's position of layer 0: the first position, if there is one and it is of the share.
-fn first_of_share(task: &Task, first: &Option<Position>, share: u8, shares: u8) -> Option<Position>
-    requires first { IsFirst task.now first.now }
+fn first_of_share(
+    problem: &Problem,
+    first: &Option<Position>,
+    share: u8,
+    shares: u8,
+) -> Option<Position>
+    requires first { IsFirst problem.now first.now }
     requires shares { 0 < shares }
-    ensures layer { IsShareOfLayer task.now shares share 0 (first_entries result) }
-    ensures fits { IfSome result (FitsLevel task.now.board) }
+    ensures layer { IsShareOfLayer problem.now shares share 0 (first_entries result) }
+    ensures fits { IfSome result (FitsLevel problem.now.board) }
 {
-    task.tell();
+    problem.tell();
     let Some(position) = first else {
         return None;
     };

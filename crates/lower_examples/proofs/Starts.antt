@@ -5,7 +5,7 @@ use Rattle.grid.specs.Board.{Board, Scene, start}
 use Rattle.grid.specs.Lawful.{box_count}
 use Rattle.grid.specs.States.{FitsLevel}
 use Rattle.store.specs.FoundView.{FitsGrid}
-use Rattle.layers.proofs.lemmas.BookFields.{level_fits}
+use Rattle.store.proofs.lemmas.Fitting.{level_fits}
 
 pub start_on_grid : (board : Board) (boxes squares : ℕ) (first : Option Scene) → boxes ≡ box_count board → squares ≡ length board.cells →
     FitsLevel board (start board) → IfSome first (λ p. p ≡ start board) → IfSome first (FitsGrid boxes squares)

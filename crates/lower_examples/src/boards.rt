@@ -36,6 +36,23 @@ pub(crate) fn level_of(rt: &impl Abort, alloc: Global, board: Text) -> Level {
     Level::from_cells(alloc, cols, cells).expect(rt, "a level")
 }
 
+/// The level of a board below rows of walls, so that its squares have greater numbers.
+pub(crate) fn level_below(rt: &impl Abort, alloc: Global, board: Text, rows: usize) -> Level {
+    let (cols, bytes) = board;
+    let mut cells = Vec::new(alloc);
+    for _ in 0..rows {
+        for _ in 0..cols {
+            cells.push(Cell::Wall).expect(rt, "memory");
+        }
+    }
+    for byte in bytes {
+        cells.push(cell_of(*byte)).expect(rt, "memory");
+    }
+    assert!(rt; cols >= 1);
+    assert!(rt; cells.len() % cols == 0);
+    Level::from_cells(alloc, cols, cells).expect(rt, "a level")
+}
+
 /// One box next to its goal.
 pub(crate) const ONE: &[u8] = b"#####\n#@$.#\n#####\n";
 

@@ -2,12 +2,12 @@
 ghost use Rattle.std.specs.Prelude.{◌≡◌, length};
 ghost use Rattle.grid.specs.States.{FitsLevel};
 
-use crate::boards::{Text, level_of};
+use crate::boards::{Text, level_below, level_of};
 use area::Scratch;
 use doom::laws::{
     a_loose_box_dooms_nothing, a_push_lessens_the_bound_by_one, doomed_are_lost, solution_is_safe,
 };
-use doom::{Bound, Dangers, Dead, doomed, doomed_after, is_loose, push_dooms};
+use doom::{Bound, Dangers, Dead, doomed, doomed_after};
 use grid::{Dir, Level, Position, Push, Square};
 use std::alloc::Global;
 use std::process::Abort;
@@ -199,38 +199,62 @@ fn the_group_of_a_pushed_box_freezes_or_any_box_is_doomed(rt: HostRuntime) {
     }
 }
 
-// What is said of a push from the start of a level, which is not doomed, by the boxes of a flood as a set.
+// Whether a push from the start of a level dooms the position after it.
 fn dooms(rt: &impl Abort, alloc: Global, level: &Level, square: Square, dir: Dir) -> bool {
     let dead = Dead::of(alloc, level).expect(rt, "memory");
-    let mut scratch = Scratch::new(alloc, level).expect(rt, "memory");
     let start = Position::start(level).expect(rt, "few boxes");
-    assert!(rt; start.fits(level));
-    asked_by_set(rt, level, &dead, &start, Push { square, dir }, &mut scratch)
+    told_after(rt, alloc, level, &dead, &start, Push { square, dir })
 }
 
-fn asked_by_set(
+// The position after a push.
+fn pushed(rt: &impl Abort, before: &Position, square: Square, ahead: Square) -> Position {
+    assert!(rt; before.contains(square));
+    assert!(rt; !before.contains(ahead));
+    let mut after = before.copy();
+    after.push(square, ahead);
+    after
+}
+
+// What `doomed_after` says of a push from a position.
+fn told_after(
     rt: &impl Abort,
+    alloc: Global,
     level: &Level,
     dead: &Dead,
-    start: &Position,
+    before: &Position,
     push: Push,
-    scratch: &mut Scratch,
 ) -> bool
-    requires fits { FitsLevel level.now start.now }
     requires dead_of_level { dead.now ≡ level.now }
-    requires room { scratch.old.size ≡ length level.now.cells }
 {
     let Push { square, dir } = push;
     assert!(rt; usize::from(square.0) < level.squares());
     let ahead = level.next(square, dir);
-    assert!(rt; start.contains(square));
-    assert!(rt; !start.contains(ahead));
-    let mut after = start.copy();
-    after.push(square, ahead);
+    let after = pushed(rt, before, square, ahead);
     assert!(rt; after.fits(level));
-    assert!(rt; !doomed(level, dead, start, scratch));
-    area::flood(level, start, scratch);
-    push_dooms(level, dead, &after, Push { square, dir }, scratch)
+    assert!(rt; after.contains(ahead));
+    let mut scratch = Scratch::new(alloc, level).expect(rt, "memory");
+    doomed_after(level, dead, &after, Push { square, dir }, &mut scratch)
+}
+
+// Whether `Dangers` spares a push from a position.
+fn is_spared(
+    rt: &impl Abort,
+    alloc: Global,
+    level: &Level,
+    dead: &Dead,
+    before: &Position,
+    push: Push,
+) -> bool
+    requires dead_of_level { dead.now ≡ level.now }
+{
+    let Push { square, dir } = push;
+    assert!(rt; before.fits(level));
+    assert!(rt; usize::from(square.0) < level.squares());
+    let mut scratch = Scratch::new(alloc, level).expect(rt, "memory");
+    area::flood(level, before, &mut scratch);
+    let mut dangers = Dangers::unknown();
+    dangers.find(level, dead, &scratch);
+    dangers.spare(level.next(square, dir), dir)
 }
 
 #[test]
@@ -241,7 +265,7 @@ fn a_push_freezes_three_boxes_or_none(rt: HostRuntime) {
 }
 
 #[test]
-fn pushed_boxes_are_loose_and_spared_or_neither(rt: HostRuntime) {
+fn pushed_boxes_are_spared_or_not(rt: HostRuntime) {
     let rows = [
         (TWO_ENDS, 9, Dir::L, false),
         (COLUMN_AT_WALL, 11, Dir::R, true),
@@ -253,32 +277,210 @@ fn pushed_boxes_are_loose_and_spared_or_neither(rt: HostRuntime) {
     ];
     for (row, (board, square, dir, want)) in rows.into_iter().enumerate() {
         let level = level_of(&rt, rt.alloc(), board);
-        let found = looked_at(&rt, rt.alloc(), &level, Square(square), dir);
-        assert_eq!(&rt; found, (want, want), "row {row}");
+        let dead = Dead::of(rt.alloc(), &level).expect(&rt, "memory");
+        let start = Position::start(&level).expect(&rt, "few boxes");
+        let push = Push {
+            square: Square(square),
+            dir,
+        };
+        let spared = is_spared(&rt, rt.alloc(), &level, &dead, &start, push);
+        assert_eq!(&rt; spared, want, "row {row}");
     }
 }
 
-// Whether a push from the start of a level leaves its box loose, and whether that is known of all pushes there at once.
-fn looked_at(
+// The square beside one, or the square itself outside the grid.
+fn beside(level: &Level, square: Square, dir: Dir) -> Square {
+    if usize::from(square.0) < level.squares() {
+        level.next(square, dir)
+    } else {
+        square
+    }
+}
+
+// Whether a wall, a member or two dead squares hold a box on the axis of the direction.
+fn is_held(level: &Level, dead: &Dead, members: &[Square], square: Square, dir: Dir) -> bool {
+    let ahead = beside(level, square, dir);
+    let behind = beside(level, square, dir.opposite());
+    level.is_wall(ahead)
+        || level.is_wall(behind)
+        || members.contains(&ahead)
+        || members.contains(&behind)
+        || (dead.is_dead(ahead) && dead.is_dead(behind))
+}
+
+fn is_held_twice(level: &Level, dead: &Dead, members: &[Square], square: Square) -> bool {
+    is_held(level, dead, members, square, Dir::R) && is_held(level, dead, members, square, Dir::D)
+}
+
+// The members that are held on both axes.
+fn held_among(
     rt: &impl Abort,
     alloc: Global,
     level: &Level,
+    dead: &Dead,
+    members: &[Square],
+) -> Vec<Square> {
+    let mut held = Vec::new(alloc);
+    for square in members {
+        if is_held_twice(level, dead, members, *square) {
+            held.push(*square).expect(rt, "memory");
+        }
+    }
+    held
+}
+
+// The boxes that are in a group or beside one of its boxes.
+fn joined(
+    rt: &impl Abort,
+    alloc: Global,
+    level: &Level,
+    boxes: &[Square],
+    group: &[Square],
+) -> Vec<Square> {
+    let mut joined = Vec::new(alloc);
+    for square in boxes {
+        let mut is_joined = group.contains(square);
+        for dir in Dir::ALL {
+            is_joined |= group.contains(&beside(level, *square, dir));
+        }
+        if is_joined {
+            joined.push(*square).expect(rt, "memory");
+        }
+    }
+    joined
+}
+
+// By the definition: whether some boxes connected to the one on the square, at least one of them off goal, are frozen.
+fn is_group_frozen(
+    rt: &impl Abort,
+    alloc: Global,
+    level: &Level,
+    dead: &Dead,
+    boxes: &[Square],
     square: Square,
-    dir: Dir,
-) -> (bool, bool) {
-    let dead = Dead::of(alloc, level).expect(rt, "memory");
-    let mut scratch = Scratch::new(alloc, level).expect(rt, "memory");
-    let position = Position::start(level).expect(rt, "few boxes");
-    assert!(rt; position.fits(level));
-    assert!(rt; usize::from(square.0) < level.squares());
-    area::flood(level, &position, &mut scratch);
-    let mut dangers = Dangers::unknown();
-    dangers.find(level, &dead, &scratch);
-    let spared = dangers.spare(level.next(square, dir), dir);
-    (
-        is_loose(level, &dead, &scratch, Push { square, dir }),
-        spared,
-    )
+) -> bool {
+    let mut members = joined(rt, alloc, level, boxes, &[square]);
+    for _ in boxes {
+        members = joined(rt, alloc, level, boxes, members.as_slice());
+    }
+    for _ in boxes {
+        members = held_among(rt, alloc, level, dead, members.as_slice());
+    }
+    !members
+        .as_slice()
+        .iter()
+        .all(|member| level.is_goal(*member))
+}
+
+// The position before a push, with the player behind the box; none if the push is not possible.
+fn before_push(level: &Level, boxes: &[Square], push: Push) -> Option<Position> {
+    let Push { square, dir } = push;
+    let ahead = beside(level, square, dir);
+    if level.is_wall(ahead) || boxes.contains(&ahead) {
+        return None;
+    }
+    let before = Position::of(boxes, beside(level, square, dir.opposite()))?;
+    if before.fits(level) {
+        Some(before)
+    } else {
+        None
+    }
+}
+
+// Compares what is said of a push with the definitions, if the push is possible.
+fn compare_push(
+    rt: &impl Abort,
+    alloc: Global,
+    level: &Level,
+    dead: &Dead,
+    boxes: &[Square],
+    push: Push,
+)
+    requires dead_of_level { dead.now ≡ level.now }
+{
+    let Push { square, dir } = push;
+    let Some(before) = before_push(level, boxes, Push { square, dir }) else {
+        return;
+    };
+    let ahead = beside(level, square, dir);
+    let after = pushed(rt, &before, square, ahead);
+    let is_dead = dead.is_dead(ahead);
+    let slow = is_dead || is_group_frozen(rt, alloc, level, dead, after.boxes(), ahead);
+    let fast = told_after(rt, alloc, level, dead, &before, Push { square, dir });
+    let from = square.0;
+    assert_eq!(rt; fast, slow, "a push from {from}");
+    if !is_dead {
+        let is_loose = !is_held_twice(level, dead, after.boxes(), ahead);
+        let spared = is_spared(rt, alloc, level, dead, &before, Push { square, dir });
+        assert_eq!(rt; spared, ahead.0 < 256 && is_loose, "a push from {from}");
+    }
+}
+
+fn compare_boxes(rt: &impl Abort, alloc: Global, level: &Level, dead: &Dead, boxes: &[Square])
+    requires dead_of_level { dead.now ≡ level.now }
+{
+    for square in boxes {
+        for dir in Dir::ALL {
+            let square = *square;
+            compare_push(rt, alloc, level, dead, boxes, Push { square, dir });
+        }
+    }
+}
+
+// Compares all pushes of a level with at most three boxes, from any squares of these.
+fn compare_level(rt: &impl Abort, alloc: Global, level: &Level, dead: &Dead, floor: &[Square])
+    requires dead_of_level { dead.now ≡ level.now }
+{
+    for first in floor {
+        if level.boxes() == 1 {
+            compare_boxes(rt, alloc, level, dead, &[*first]);
+            continue;
+        }
+        for second in floor {
+            if level.boxes() == 2 {
+                compare_boxes(rt, alloc, level, dead, &[*first, *second]);
+                continue;
+            }
+            for third in floor {
+                compare_boxes(rt, alloc, level, dead, &[*first, *second, *third]);
+            }
+        }
+    }
+}
+
+// The squares of a level that are no walls.
+fn floor_of(rt: &impl Abort, alloc: Global, level: &Level) -> Vec<Square> {
+    let mut floor = Vec::new(alloc);
+    let last = u16::try_from(level.squares()).unwrap_or(u16::MAX);
+    for index in 0..last {
+        if !level.is_wall(Square(index)) {
+            floor.push(Square(index)).expect(rt, "memory");
+        }
+    }
+    floor
+}
+
+// Each board has one to seven words, by the rows above it.
+#[test]
+fn each_push_is_told_as_the_definitions_say(rt: HostRuntime) {
+    let boards = [
+        THREE_BEFORE,
+        TWO_ENDS,
+        COLUMN_AT_WALL,
+        BESIDE_A_FREE_BOX,
+        ABOVE_A_FREE_BOX,
+        THERE_AND_BACK,
+        BETWEEN_DEAD,
+        DEAD_ROWS,
+    ];
+    for board in boards {
+        for rows in [0, 8, 17, 26, 35, 44] {
+            let level = level_below(&rt, rt.alloc(), board, rows);
+            let dead = Dead::of(rt.alloc(), &level).expect(&rt, "memory");
+            let floor = floor_of(&rt, rt.alloc(), &level);
+            compare_level(&rt, rt.alloc(), &level, &dead, floor.as_slice());
+        }
+    }
 }
 
 #[test]

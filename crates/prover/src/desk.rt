@@ -1,37 +1,30 @@
 //! What a search keeps from one position to the next.
-ghost use Rattle.std.specs.Prelude.{◌≡◌, IfOk, length};
+ghost use Rattle.std.specs.Prelude.{◌≡◌, IfOk};
 
-use area::{MAX_PUSHES, Scratch};
-use arrayvec::ArrayVec;
 use corrals::Corral;
-use grid::{Level, Position, Push};
 use prices::Matching;
 use std::alloc::{AllocError, Global};
+use successors::{Expander, Problem};
 
-/// Room for floods, for the pushes of a position and its matching, for what one of the pushes leads to and its
-/// matching, and for a corral.
+/// Memory to expand positions: for their pushes, for the matchings of a position and of one after it, and for a corral.
 #[derive(Debug, Drop)]
-pub(crate) struct Desk {
-    pub(crate) scratch: Scratch,
-    pub(crate) pushes: ArrayVec<Push, MAX_PUSHES>,
+pub(crate) struct Desk<'a> {
+    pub(crate) expander: Expander<'a>,
     pub(crate) matching: Matching,
-    pub(crate) after: Position,
     pub(crate) next_matching: Matching,
     pub(crate) corral: Corral,
 }
 
-impl Desk {
-    /// A desk for a level. The only error is that memory was refused.
-    pub(crate) fn new(alloc: Global, level: &Level) -> Result<Desk, AllocError>
-        ensures { IfOk result (λ desk. desk.scratch.size ≡ length level.now.cells) }
+impl<'a> Desk<'a> {
+    /// A desk for a problem. The only error is running out of memory.
+    pub(crate) fn new(alloc: Global, problem: &'a Problem) -> Result<Desk<'a>, AllocError>
+        ensures { IfOk result (λ desk. desk.expander.task ≡ problem.now) }
     {
         Ok(Desk {
-            scratch: Scratch::new(alloc, level)?,
-            pushes: ArrayVec::new(),
+            expander: Expander::new(alloc, problem)?,
             matching: Matching::new(),
-            after: Position::default(),
             next_matching: Matching::new(),
-            corral: Corral::new(alloc, level)?,
+            corral: Corral::new(alloc, problem.level())?,
         })
     }
 }

@@ -15,16 +15,16 @@ pub(crate) fn expand(
     frontier: &mut Frontier,
     place: usize,
     least: u32,
-    desk: &mut Desk,
+    desk: &mut Desk<'_>,
 ) -> Result<(), AllocError>
     requires searched { IsSearched pruner.now.board pruner.now.cap frontier.old }
     requires waits { IsUnsolvedOpen pruner.now.board frontier.old.entries place least }
     requires few { length frontier.old.entries < 2 ^ 32 }
-    requires room { desk.old.scratch.size ≡ length pruner.now.board.cells }
+    requires task { desk.old.expander.task ≡ pruner.now }
     ensures searched { OnOk result (IsSearched pruner.now.board pruner.now.cap frontier.new) }
     ensures fewer_turns { OnOk result ((limit : ℕ) → length frontier.new.entries ≤ limit →
         turns_left limit frontier.new.entries < turns_left limit frontier.old.entries) }
-    ensures room { desk.new.scratch.size ≡ desk.old.scratch.size }
+    ensures task { desk.new.expander.task ≡ desk.old.expander.task }
 {
     let from = Expanded {
         position: frontier.position(place),
@@ -43,21 +43,16 @@ fn take_all(
     pruner: &Pruner<'_>,
     frontier: &mut Frontier,
     from: &Expanded,
-    desk: &mut Desk,
+    desk: &mut Desk<'_>,
 ) -> Result<(), AllocError>
     requires expanding { IsExpanding pruner.now.board pruner.now.cap frontier.old from.now }
-    requires room { desk.old.scratch.size ≡ length pruner.now.board.cells }
+    requires task { desk.old.expander.task ≡ pruner.now }
     ensures widens { OnOk result (Widens pruner.now.board pruner.now.cap from.now.pushes frontier.old frontier.new) }
     ensures expands { OnOk result
         (Expands pruner.now.board pruner.now.cap frontier.new.entries from.now.pushes from.now.position) }
-    ensures room { desk.new.scratch.size ≡ desk.old.scratch.size }
+    ensures task { desk.new.expander.task ≡ desk.old.expander.task }
 {
-    area::possible_pushes(
-        pruner.level(),
-        &from.position,
-        &mut desk.scratch,
-        &mut desk.pushes,
-    );
+    desk.expander.find_pushes(&from.position);
     pruner.level().tell();
     // a fresh matching, so that nothing depends on what was expanded before
     desk.matching = Matching::new();
@@ -66,14 +61,14 @@ fn take_all(
     let slack = Slack::of(pruner.distances(), &from.position, left, &desk.matching);
     let only = corrals::find(
         pruner.level(),
-        pruner.dead(),
+        pruner.problem().dead(),
         &from.position,
-        &desk.scratch,
+        desk.expander.scratch(),
         &slack,
         &mut desk.corral,
     );
-    for index in 0..desk.pushes.len() {
-        let push = desk.pushes.as_slice()[index];
+    for index in 0..desk.expander.pushes().len() {
+        let push = desk.expander.pushes()[index];
         try_push(pruner, frontier, from, push, &slack, only, desk)?;
     }
     Ok(())

@@ -5,49 +5,41 @@ ghost use Rattle.doom.specs.Lost.{IsLost};
 ghost use Rattle.prices.specs.Solving.{Allows};
 ghost use Rattle.prover.specs.Frontier.{IsBound};
 
-use doom::Dead;
 use grid::{Level, MAX_BOXES, Position};
 use pairs::Pairs;
 use prices::{Distances, Matching, NEVER};
 use std::alloc::{AllocError, Global};
 use std::marker::Model;
+use successors::Problem;
 
-/// What the search prunes by: a level's dead squares, what its boxes and pairs of them need, and the cap on pushes.
-/// Contracts see the level and the cap.
+/// What the search prunes by: a problem, and what its boxes and pairs of them need. Contracts see the level with its
+/// cap.
 #[derive(Debug, Drop)]
 pub(crate) struct Pruner<'a> {
-    level: &'a Level,
-    cap: Option<u32>,
-    dead: Dead,
+    problem: &'a Problem,
     pairs: Pairs,
 }
 
 impl<'a> Model for Pruner<'a> {
     ghost use Rattle.std.specs.Prelude.{◌≡◌};
-    ghost use Rattle.prover.specs.inside.Working.{PrunerView};
+    ghost use Rattle.successors.specs.Tasks.{Task};
 
-    ghost Value = { PrunerView };
+    ghost Value = { Task };
 
-    ghost view = { λ a. record { board = a.level.now; cap = a.cap } };
+    ghost view = { λ a. a.problem.now };
 
-    ghost invariant = { λ a. (a.dead ≡ a.level.now) × (a.pairs ≡ a.level.now) };
+    ghost invariant = { λ a. a.pairs ≡ a.problem.now.board };
 }
 
 impl<'a> Pruner<'a> {
-    /// The pruner of a level and a cap, without what pairs need. The only error is that memory was refused.
-    pub(crate) fn of(
-        alloc: Global,
-        level: &'a Level,
-        cap: Option<u32>,
-    ) -> Result<Pruner<'a>, AllocError>
-        requires { box_count level.now ≤ MAX_BOXES }
-        ensures { IfOk result (λ pruner. pruner ≡ record { board = level.now; cap = cap }) }
+    /// The pruner of a problem, without what pairs need. The only error is running out of memory.
+    pub(crate) fn of(alloc: Global, problem: &'a Problem) -> Result<Pruner<'a>, AllocError>
+        requires { box_count problem.now.board ≤ MAX_BOXES }
+        ensures { IfOk result (λ pruner. pruner ≡ problem.now) }
     {
         Ok(Pruner {
-            level,
-            cap,
-            dead: Dead::of(alloc, level)?,
-            pairs: Pairs::of_prices(alloc, level)?,
+            problem,
+            pairs: Pairs::of_prices(alloc, problem.level())?,
         })
     }
 
@@ -55,21 +47,21 @@ impl<'a> Pruner<'a> {
     pub(crate) fn find_pairs(&mut self, alloc: Global) -> Result<(), AllocError>
         ensures { self.new ≡ self.old }
     {
-        self.pairs.make_table(alloc, self.level)
+        self.pairs.make_table(alloc, self.problem.level())
+    }
+
+    /// The problem.
+    pub(crate) fn problem(&self) -> &'a Problem
+        ensures { result.now ≡ self.now }
+    {
+        self.problem
     }
 
     /// The level.
-    pub(crate) fn level(&self) -> &Level
+    pub(crate) fn level(&self) -> &'a Level
         ensures { result.now ≡ self.now.board }
     {
-        self.level
-    }
-
-    /// The dead squares.
-    pub(crate) fn dead(&self) -> &Dead
-        ensures { result.now ≡ self.now.board }
-    {
-        &self.dead
+        self.problem.level()
     }
 
     /// The distances to each goal.
@@ -105,7 +97,7 @@ impl<'a> Pruner<'a> {
     pub(crate) fn allows(&self, pushes: u32) -> bool
         ensures { IsTrue result ↔ Allows self.now.cap pushes }
     {
-        match self.cap {
+        match self.problem.cap() {
             None => true,
             Some(most) => pushes <= most,
         }
@@ -115,7 +107,7 @@ impl<'a> Pruner<'a> {
     pub(crate) fn left(&self, pushes: u32) -> Option<u32>
         ensures { (m : ℕ) → Allows self.now.cap (pushes + suc m) → Allows result m }
     {
-        match self.cap {
+        match self.problem.cap() {
             None => None,
             Some(most) => Some(most.saturating_sub(pushes).saturating_sub(1)),
         }

@@ -19,16 +19,15 @@ pub(crate) fn solution_at(
     level: &Level,
     frontier: &Frontier,
     place: usize,
-    scratch: &mut Scratch,
 ) -> Result<Outcome, AllocError>
     requires traced { AreTraced level.now frontier.now.entries }
     requires place { place < length frontier.now.entries }
-    requires room { scratch.old.size ≡ length level.now.cells }
     ensures { IfOk result (λ outcome. (cap : Option ℕ) (limit : ℕ) →
         IsLeastSolved level.now cap frontier.now.entries place → IsOutcome level.now cap limit outcome) }
 {
     let pushes = pushes_to(alloc, frontier, place)?;
-    let moves = play_pushes(alloc, level, pushes.as_slice(), scratch)?;
+    let mut scratch = Scratch::new(alloc, level)?;
+    let moves = play_pushes(alloc, level, pushes.as_slice(), &mut scratch)?;
     Ok(Outcome::Least {
         moves,
         pushes: pushes.len(),

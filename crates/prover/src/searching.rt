@@ -5,6 +5,7 @@ ghost use Rattle.grid.specs.Lawful.{box_count};
 ghost use Rattle.grid.specs.States.{FitsLevel};
 ghost use Rattle.area.specs.Area.{IsNorm};
 ghost use Rattle.store.specs.Visited.{Entry};
+ghost use Rattle.successors.specs.Capping.{capped};
 ghost use Rattle.prover.specs.Outcomes.{IsOutcome};
 ghost use Rattle.prover.specs.inside.Rounds.{Tells, none_by};
 ghost use Rattle.prover.specs.inside.Working.{IsSearched};
@@ -19,6 +20,8 @@ use crate::solved::is_solved;
 use area::Scratch;
 use grid::{Level, MAX_BOXES, Position};
 use std::alloc::{AllocError, Global};
+use std::sync::Arc;
+use successors::Problem;
 
 /// Up to this many positions the search does without what pairs of boxes need. To find that takes as long as they do,
 /// and many searches end before.
@@ -72,12 +75,20 @@ fn search_from(
     requires few { box_count level.now ≤ MAX_BOXES }
     ensures { IfOk result (λ outcome. IsOutcome level.now cap limit outcome) }
 {
-    let mut desk = Desk::new(alloc, level)?;
     level.tell_start();
-    let normal = area::normal(level, first, &mut desk.scratch);
+    let normal = normal_of(alloc, level, first)?;
     let mut frontier = begun(alloc, level, &normal, cap)?;
-    let end = run_on(alloc, level, cap, limit, &mut frontier, &mut desk)?;
-    outcome_of(alloc, level, &frontier, cap, limit, end, &mut desk.scratch)
+    let end = run_on(alloc, level, cap, limit, &mut frontier)?;
+    outcome_of(alloc, level, &frontier, cap, limit, end)
+}
+
+// The normal position.
+fn normal_of(alloc: Global, level: &Level, position: &Position) -> Result<Position, AllocError>
+    requires { FitsLevel level.now position.now }
+    ensures { IfOk result (λ normal. IsNorm level.now position.now normal × FitsLevel level.now normal) }
+{
+    let mut scratch = Scratch::new(alloc, level)?;
+    Ok(area::normal(level, position, &mut scratch))
 }
 
 // A frontier with the start alone.
@@ -104,17 +115,38 @@ fn run_on(
     cap: Option<u32>,
     limit: u32,
     frontier: &mut Frontier,
-    desk: &mut Desk,
 ) -> Result<End, AllocError>
     requires searched { IsSearched level.now cap frontier.old }
     requires few { box_count level.now ≤ MAX_BOXES }
-    requires room { desk.old.scratch.size ≡ length level.now.cells }
     ensures searched { OnOk result (IsSearched level.now cap frontier.new) }
     ensures tells { IfOk result (λ end. Tells level.now cap limit frontier.new.entries end) }
-    ensures room { OnOk result (desk.new.scratch.size ≡ desk.old.scratch.size) }
 {
-    let mut pruner = Pruner::of(alloc, level, cap)?;
-    run_twice(alloc, &mut pruner, limit, frontier, desk)
+    let problem = problem_of(alloc, level, cap)?;
+    run_over(alloc, &problem, limit, frontier)
+}
+
+// The problem of a level and a cap.
+fn problem_of(alloc: Global, level: &Level, cap: Option<u32>) -> Result<Problem, AllocError>
+    ensures { IfOk result (λ problem. problem ≡ capped level.now cap) }
+{
+    let shared = Arc::new(alloc, level.copy()?)?;
+    Problem::of(alloc, &shared, cap)
+}
+
+// Expands open positions of a problem until that decides, or the limit is passed.
+fn run_over(
+    alloc: Global,
+    problem: &Problem,
+    limit: u32,
+    frontier: &mut Frontier,
+) -> Result<End, AllocError>
+    requires searched { IsSearched problem.now.board problem.now.cap frontier.old }
+    requires few { box_count problem.now.board ≤ MAX_BOXES }
+    ensures searched { OnOk result (IsSearched problem.now.board problem.now.cap frontier.new) }
+    ensures tells { IfOk result (λ end. Tells problem.now.board problem.now.cap limit frontier.new.entries end) }
+{
+    let mut pruner = Pruner::of(alloc, problem)?;
+    run_twice(alloc, &mut pruner, limit, frontier)
 }
 
 // Expands open positions, the first few of them without what pairs of boxes need.
@@ -123,22 +155,19 @@ fn run_twice(
     pruner: &mut Pruner<'_>,
     limit: u32,
     frontier: &mut Frontier,
-    desk: &mut Desk,
 ) -> Result<End, AllocError>
     requires searched { IsSearched pruner.old.board pruner.old.cap frontier.old }
-    requires room { desk.old.scratch.size ≡ length pruner.old.board.cells }
     ensures searched { OnOk result (IsSearched pruner.old.board pruner.old.cap frontier.new) }
     ensures tells { IfOk result (λ end. Tells pruner.old.board pruner.old.cap limit frontier.new.entries end) }
-    ensures room { OnOk result (desk.new.scratch.size ≡ desk.old.scratch.size) }
 {
     if limit > FEW {
-        let end = run(pruner, FEW, frontier, desk)?;
+        let end = run(alloc, pruner, FEW, frontier)?;
         if !is_limit(end) {
             return Ok(end);
         }
         pruner.find_pairs(alloc)?;
     }
-    run(pruner, limit, frontier, desk)
+    run(alloc, pruner, limit, frontier)
 }
 
 // Whether the limit was passed.
@@ -154,17 +183,16 @@ fn is_limit(end: End) -> bool
 
 // Expands one open position after the other.
 fn run(
+    alloc: Global,
     pruner: &Pruner<'_>,
     limit: u32,
     frontier: &mut Frontier,
-    desk: &mut Desk,
 ) -> Result<End, AllocError>
     requires searched { IsSearched pruner.now.board pruner.now.cap frontier.old }
-    requires room { desk.old.scratch.size ≡ length pruner.now.board.cells }
     ensures searched { OnOk result (IsSearched pruner.now.board pruner.now.cap frontier.new) }
     ensures tells { IfOk result (λ end. Tells pruner.now.board pruner.now.cap limit frontier.new.entries end) }
-    ensures room { OnOk result (desk.new.scratch.size ≡ desk.old.scratch.size) }
 {
+    let mut desk = Desk::new(alloc, pruner.problem())?;
     pruner.level().tell();
     while let Some((place, least)) = frontier.least_open() {
         let solved = is_solved(pruner.level(), &frontier.position(place));
@@ -175,7 +203,7 @@ fn run(
             frontier.tell();
             return Ok(End::Limit(least));
         }
-        expand(pruner, frontier, place, least, desk)?;
+        expand(pruner, frontier, place, least, &mut desk)?;
     }
     Ok(End::Closed)
 }
@@ -188,17 +216,15 @@ fn outcome_of(
     cap: Option<u32>,
     limit: u32,
     end: End,
-    scratch: &mut Scratch,
 ) -> Result<Outcome, AllocError>
     requires searched { IsSearched level.now cap frontier.now }
     requires tells { Tells level.now cap limit frontier.now.entries end }
-    requires room { scratch.old.size ≡ length level.now.cells }
     ensures { IfOk result (λ outcome. IsOutcome level.now cap limit outcome) }
 {
     match end {
         End::Closed => Ok(none_of(cap)),
         End::Limit(at_least) => Ok(Outcome::Limit { at_least }),
-        End::Solved(place) => solution_at(alloc, level, frontier, place, scratch),
+        End::Solved(place) => solution_at(alloc, level, frontier, place),
     }
 }
 

@@ -9,7 +9,7 @@ ghost use Rattle.solo.specs.inside.Turns.{AreDoneBy, IsDoneBy};
 
 use crate::turn::do_ranks;
 use area::Scratch;
-use layers::{Book, Layer, Pruner};
+use layers::{Book, Layer};
 use std::alloc::AllocError;
 
 /// Does as one of the workers whatever ranks are left of the last closed layer in each of the books, one after the other, and
@@ -19,7 +19,6 @@ use std::alloc::AllocError;
 pub fn do_rest(
     books: &mut [Book],
     layer: &Layer,
-    pruner: &Pruner,
     scratch: &mut Scratch,
     worker: u8,
     limit: u32,
@@ -27,7 +26,6 @@ pub fn do_rest(
     requires few { length books.old ≤ MAX_SHARES }
     requires begun { (i : ℕ) (v : BookView) → slice_get books.old i ≡ Some v → HasBegun v layer.now }
     requires worker { (i : ℕ) (v : BookView) → slice_get books.old i ≡ Some v → worker < v.workers }
-    requires pruner_of_level { pruner.now ≡ layer.now.level }
     requires room { scratch.old.size ≡ length layer.now.level.board.cells }
     ensures still { AreStill layer.now books.old books.new }
     ensures credited { AreDoneBy worker books.old books.new }
@@ -39,7 +37,7 @@ pub fn do_rest(
         let Some(left) = left_of(books, limit) else {
             return Ok(None);
         };
-        if !do_rest_of(&mut books[place], layer, pruner, scratch, worker, left)? {
+        if !do_rest_of(&mut books[place], layer, scratch, worker, left)? {
             return Ok(None);
         }
     }
@@ -51,7 +49,6 @@ pub fn do_rest(
 fn do_rest_of(
     book: &mut Book,
     layer: &Layer,
-    pruner: &Pruner,
     scratch: &mut Scratch,
     worker: u8,
     left: u64,
@@ -59,7 +56,6 @@ fn do_rest_of(
     requires few { left ≤ 4294967295 }
     requires begun { HasBegun book.old layer.now }
     requires worker { worker < book.old.workers }
-    requires pruner_of_level { pruner.now ≡ layer.now.level }
     requires room { scratch.old.size ≡ length layer.now.level.board.cells }
     ensures still { IsStill layer.now book.old book.new }
     ensures credited { IsDoneBy worker book.old book.new }
@@ -71,7 +67,7 @@ fn do_rest_of(
     layer.tell();
     let most = book.positions() + left;
     book.reopen();
-    let within = do_ranks(book, layer, pruner, scratch, worker, most)?;
+    let within = do_ranks(book, layer, scratch, worker, most)?;
     book.tell();
     Ok(within)
 }

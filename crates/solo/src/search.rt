@@ -11,7 +11,7 @@ use crate::answer::{Answer, SolveFault};
 use crate::turn::{Worked, begin_each, finish_each, last_layer, look, new_books};
 use area::Scratch;
 use grid::{Level, MAX_BOXES};
-use layers::{Book, Dealing, Parents, Pruner};
+use layers::{Book, Dealing, Parents, Problem};
 use std::alloc::{AllocError, Global};
 use std::sync::Arc;
 
@@ -51,38 +51,36 @@ fn search(
     requires boxes { box_count (arc_value level.now) ≤ MAX_BOXES }
     ensures { IfOk result (λ answer. IsAnswer (capped (arc_value level.now) cap) limit answer) }
 {
-    let pruner = Pruner::of(alloc, level, cap)?;
-    let terms = Terms {
-        alloc,
-        pruner: &pruner,
-        limit,
-    };
-    search_by(&terms, level)
+    let problem = Problem::of(alloc, level, cap)?;
+    let problem = Arc::new(alloc, problem)?;
+    search_by(alloc, &problem, limit)
 }
 
-// The same by a pruner that is there.
-fn search_by(terms: &Terms<'_>, level: &Arc<Level>) -> Result<Answer, AllocError>
-    requires limit { 1 ≤ terms.now.limit }
-    requires boxes { box_count (arc_value level.now) ≤ MAX_BOXES }
-    requires pruner_of_level { terms.now.pruner.now.board ≡ arc_value level.now }
-    ensures { IfOk result (λ answer. IsAnswer terms.now.pruner.now terms.now.limit answer) }
+// The same of a problem.
+fn search_by(alloc: Global, problem: &Arc<Problem>, limit: u32) -> Result<Answer, AllocError>
+    requires limit { 1 ≤ limit }
+    requires boxes { box_count (arc_value problem.now).board ≤ MAX_BOXES }
+    ensures { IfOk result (λ answer. IsAnswer (arc_value problem.now) limit answer) }
 {
-    let alloc = terms.alloc;
-    let mut scratch = Scratch::new(alloc, level)?;
+    let mut scratch = Scratch::new(alloc, problem.level())?;
     let alone = Dealing {
         workers: 1,
         shares: 1,
     };
-    let limit = terms.limit;
-    let mut books = new_books(alloc, level, terms.pruner, limit, alone, &mut scratch)?;
-    all_turns(terms, books.as_mut_slice(), &mut scratch)
+    let mut books = new_books(alloc, problem, limit, alone, &mut scratch)?;
+    let terms = Terms {
+        alloc,
+        problem: &**problem,
+        limit,
+    };
+    all_turns(&terms, books.as_mut_slice(), &mut scratch)
 }
 
-// What a search goes by: the allocator, what leaves positions out, and the limit of positions.
+// What a search goes by: the allocator, what is searched, and the limit of positions.
 #[derive(Drop)]
 struct Terms<'s> {
     alloc: Global,
-    pruner: &'s Pruner,
+    problem: &'s Problem,
     limit: u32,
 }
 
@@ -92,9 +90,9 @@ fn all_turns(
     books: &mut [Book],
     scratch: &mut Scratch,
 ) -> Result<Answer, AllocError>
-    requires first { AreBetweenTurns terms.now.pruner.now terms.now.limit 1 1 books.old [] 0 }
-    requires room { scratch.old.size ≡ length terms.now.pruner.now.board.cells }
-    ensures { IfOk result (λ answer. IsAnswer terms.now.pruner.now terms.now.limit answer) }
+    requires first { AreBetweenTurns terms.now.problem.now terms.now.limit 1 1 books.old [] 0 }
+    requires room { scratch.old.size ≡ length terms.now.problem.now.board.cells }
+    ensures { IfOk result (λ answer. IsAnswer terms.now.problem.now terms.now.limit answer) }
 {
     let mut trail = Vec::new(terms.alloc);
     let mut positions = 0;
@@ -115,11 +113,11 @@ fn turn(
     positions: &mut u64,
     scratch: &mut Scratch,
 ) -> Result<Option<Answer>, AllocError>
-    requires turn { AreBetweenTurns terms.now.pruner.now terms.now.limit 1 1 books.old trail.old.items positions.old }
-    requires room { scratch.old.size ≡ length terms.now.pruner.now.board.cells }
-    ensures answer { IfOk result (λ found. IfSome found (λ answer. IsAnswer terms.now.pruner.now terms.now.limit answer)) }
+    requires turn { AreBetweenTurns terms.now.problem.now terms.now.limit 1 1 books.old trail.old.items positions.old }
+    requires room { scratch.old.size ≡ length terms.now.problem.now.board.cells }
+    ensures answer { IfOk result (λ found. IfSome found (λ answer. IsAnswer terms.now.problem.now terms.now.limit answer)) }
     ensures onward { IfOk result (λ found. IfNone found
-        (GoesOn terms.now.pruner.now terms.now.limit books.new trail.new.items positions.old positions.new)) }
+        (GoesOn terms.now.problem.now terms.now.limit books.new trail.new.items positions.old positions.new)) }
     ensures size { scratch.new.size ≡ scratch.old.size }
 {
     let layer = last_layer(terms.alloc, books, Vec::new(terms.alloc))?;
@@ -135,7 +133,7 @@ fn turn(
         return Ok(Some(answer));
     }
     begin_each(books, &layer)?;
-    let worked = finish_each(books, &layer, terms.pruner, scratch, 0)?;
+    let worked = finish_each(books, &layer, scratch, 0)?;
     let (parents, _) = Parents::of(layer);
     trail.push(parents)?;
     match worked {

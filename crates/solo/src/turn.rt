@@ -23,9 +23,9 @@ use crate::answer::Answer;
 use crate::goals::first_solved;
 use crate::lead::moves_back;
 use area::Scratch;
-use grid::{Level, Square};
+use grid::Square;
 use layers::{
-    BeginFault, Book, BookFault, CloseFault, Dealing, JoinFault, Layer, Parcel, Parents, Pruner,
+    BeginFault, Book, BookFault, CloseFault, Dealing, JoinFault, Layer, Parcel, Parents, Problem,
     Refusal, expand_over, expand_over_into,
 };
 use std::alloc::{AllocError, Global};
@@ -40,26 +40,24 @@ pub enum Worked {
     Over,
 }
 
-/// The new books of all shares of a level's positions, share 0 first, for so many workers. The level has no more boxes
+/// The new books of all shares of a problem's positions, share 0 first, for so many workers. The level has no more boxes
 /// than [`MAX_BOXES`](grid::MAX_BOXES).
 pub fn new_books(
     alloc: Global,
-    level: &Arc<Level>,
-    pruner: &Pruner,
+    problem: &Arc<Problem>,
     limit: u32,
     dealing: Dealing,
     scratch: &mut Scratch,
 ) -> Result<Vec<Book>, AllocError>
-    requires boxes { box_count (arc_value level.now) ≤ MAX_BOXES }
-    requires pruner_of_level { pruner.now.board ≡ arc_value level.now }
+    requires boxes { box_count (arc_value problem.now).board ≤ MAX_BOXES }
     requires limit { 1 ≤ limit }
     requires workers { (1 ≤ dealing.workers) × (dealing.workers ≤ MAX_WORKERS + 1) }
     requires shares { (1 ≤ dealing.shares) × (dealing.shares ≤ MAX_SHARES) }
-    requires room { scratch.old.size ≡ length (arc_value level.now).cells }
-    ensures books { IfOk result (λ books. AreNewShares pruner.now limit dealing.workers dealing.shares books.items) }
+    requires room { scratch.old.size ≡ length (arc_value problem.now).board.cells }
+    ensures books { IfOk result (λ books. AreNewShares (arc_value problem.now) limit dealing.workers dealing.shares books.items) }
     ensures size { scratch.new.size ≡ scratch.old.size }
 {
-    match Book::of_all_shares(alloc, level, pruner, limit, dealing, scratch) {
+    match Book::of_all_shares(alloc, problem, limit, dealing, scratch) {
         Ok(books) => Ok(books),
         Err(BookFault::TooManyBoxes) => unreachable!(),
         Err(BookFault::OutOfMemory) => Err(AllocError),
@@ -186,20 +184,18 @@ pub fn begin(book: &mut Book, layer: &Layer) -> Result<(), AllocError>
 pub fn finish_each(
     books: &mut [Book],
     layer: &Layer,
-    pruner: &Pruner,
     scratch: &mut Scratch,
     worker: u8,
 ) -> Result<Worked, AllocError>
     requires begun { (i : ℕ) (v : BookView) → slice_get books.old i ≡ Some v → HasBegun v layer.now }
     requires worker { (i : ℕ) (v : BookView) → slice_get books.old i ≡ Some v → worker < v.workers }
-    requires pruner_of_level { pruner.now ≡ layer.now.level }
     requires room { scratch.old.size ≡ length layer.now.level.board.cells }
     ensures worked { IfOk result (λ worked. WorkAnswers books.old worked books.new) }
     ensures err { OnErr result (MayBeWorked books.old layer.now books.new) }
     ensures credited { AreDoneBy worker books.old books.new }
     ensures size { scratch.new.size ≡ scratch.old.size }
 {
-    finish_rest(books, layer, pruner, scratch, worker)
+    finish_rest(books, layer, scratch, worker)
 }
 
 /// Does what [`finish`] does in each of the books that has not closed the next layer already, one after the other; until
@@ -207,13 +203,11 @@ pub fn finish_each(
 pub fn finish_rest(
     books: &mut [Book],
     layer: &Layer,
-    pruner: &Pruner,
     scratch: &mut Scratch,
     worker: u8,
 ) -> Result<Worked, AllocError>
     requires begun { (i : ℕ) (v : BookView) → slice_get books.old i ≡ Some v → v.begun ≡ true → HasBegun v layer.now }
     requires worker { (i : ℕ) (v : BookView) → slice_get books.old i ≡ Some v → worker < v.workers }
-    requires pruner_of_level { pruner.now ≡ layer.now.level }
     requires room { scratch.old.size ≡ length layer.now.level.board.cells }
     ensures worked { IfOk result (λ worked. RestAnswers books.old worked books.new) }
     ensures err { OnErr result (MayBeWorked books.old layer.now books.new) }
@@ -221,7 +215,7 @@ pub fn finish_rest(
     ensures size { scratch.new.size ≡ scratch.old.size }
 {
     for place in 0..books.len() {
-        let worked = finish_begun(&mut books[place], layer, pruner, scratch, worker)?;
+        let worked = finish_begun(&mut books[place], layer, scratch, worker)?;
         books[place].tell();
         match worked {
             Worked::Through => (),
@@ -235,13 +229,11 @@ pub fn finish_rest(
 fn finish_begun(
     book: &mut Book,
     layer: &Layer,
-    pruner: &Pruner,
     scratch: &mut Scratch,
     worker: u8,
 ) -> Result<Worked, AllocError>
     requires begun { book.old.begun ≡ true → HasBegun book.old layer.now }
     requires worker { worker < book.old.workers }
-    requires pruner_of_level { pruner.now ≡ layer.now.level }
     requires room { scratch.old.size ≡ length layer.now.level.board.cells }
     ensures worked { IfOk result (λ worked. RestAnswer book.old worked book.new) }
     ensures err { OnErr result (IsStillAt book.old layer.now book.new) }
@@ -251,7 +243,7 @@ fn finish_begun(
     if !book.has_begun() {
         return Ok(Worked::Through);
     }
-    finish(book, layer, pruner, scratch, worker)
+    finish(book, layer, scratch, worker)
 }
 
 /// Does as one of the workers whatever is left of the last closed layer, whoever claimed it, and closes the next one;
@@ -260,13 +252,11 @@ fn finish_begun(
 pub fn finish(
     book: &mut Book,
     layer: &Layer,
-    pruner: &Pruner,
     scratch: &mut Scratch,
     worker: u8,
 ) -> Result<Worked, AllocError>
     requires begun { HasBegun book.old layer.now }
     requires worker { worker < book.old.workers }
-    requires pruner_of_level { pruner.now ≡ layer.now.level }
     requires room { scratch.old.size ≡ length layer.now.level.board.cells }
     ensures worked { IfOk result (λ worked. WorkAnswer book.old worked book.new) }
     ensures err { OnErr result (IsStillAt book.old layer.now book.new) }
@@ -277,7 +267,7 @@ pub fn finish(
     layer.tell();
     book.reopen();
     let most = u64::from(book.limit());
-    if !do_ranks(book, layer, pruner, scratch, worker, most)? {
+    if !do_ranks(book, layer, scratch, worker, most)? {
         book.tell();
         return Ok(Worked::Over);
     }
@@ -290,14 +280,12 @@ pub fn finish(
 pub(crate) fn do_ranks(
     book: &mut Book,
     layer: &Layer,
-    pruner: &Pruner,
     scratch: &mut Scratch,
     worker: u8,
     most: u64,
 ) -> Result<bool, AllocError>
     requires reopened { IsReopenedAt layer.now book.old }
     requires worker { worker < book.old.workers }
-    requires pruner_of_level { pruner.now ≡ layer.now.level }
     requires room { scratch.old.size ≡ length layer.now.level.board.cells }
     ensures still { IsStillAt book.old layer.now book.new }
     ensures done { IfOk result (λ within. MatchBool within (AllDone book.new) (IsFull most book.new)) }
@@ -307,7 +295,7 @@ pub(crate) fn do_ranks(
     let Some(first) = book.claim() else {
         return Ok(true);
     };
-    let mut parcel = expand_over(layer.level(), layer, pruner, first.rank, scratch);
+    let mut parcel = expand_over(layer.problem(), layer, first.rank, scratch);
     loop {
         if !enter(book, worker, &parcel)? {
             return Ok(false);
@@ -319,7 +307,7 @@ pub(crate) fn do_ranks(
             return Ok(true);
         };
         let rank = claim.rank;
-        expand_over_into(layer.level(), layer, pruner, rank, scratch, &mut parcel);
+        expand_over_into(layer.problem(), layer, rank, scratch, &mut parcel);
     }
 }
 

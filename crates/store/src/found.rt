@@ -177,13 +177,6 @@ impl Found {
         in_each!(Tables, &self.tables, table => table.count_entered())
     }
 
-    /// Makes room for that many more positions, if there is memory for it.
-    pub fn have_room(&mut self, more: usize)
-        ensures { self.new ≡ self.old }
-    {
-        in_each!(Tables, &mut self.tables, table => table.have_room(more))
-    }
-
     /// Closes the open positions in the order of their origins. The only error is running out of memory. Then nothing
     /// changes.
     pub fn close(&mut self) -> Result<(), AllocError>

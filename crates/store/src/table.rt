@@ -249,11 +249,4 @@ impl<const N: usize, const M: usize> Table<N, M> {
         self.last = Origin::lowest();
         Ok(())
     }
-
-    /// Makes room for that many more positions, if there is memory for it.
-    pub(crate) fn have_room(&mut self, more: usize)
-        ensures { self.new ≡ self.old }
-    {
-        let _ = self.table.reserve(more);
-    }
 }

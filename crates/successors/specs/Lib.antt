@@ -4,6 +4,7 @@ pub mod Capping
 pub mod Reaching
 pub mod Distances
 pub mod Expansion
+pub mod Expanding
 pub mod Shares
 pub mod ParcelView
 pub mod LeastPlays

@@ -6,15 +6,14 @@ ghost use Rattle.successors.specs.inside.Sites.{AreFilled};
 
 use crate::dealing::Deal;
 use crate::parcel::{Parcel, Sheet};
-use crate::pruner::Pruner;
+use crate::problem::Problem;
 use crate::pruning::keep_admitted;
 use crate::pushing::{Site, successors_by};
-use crate::sums::box_sum;
 use area::Scratch;
 use doom::{Bound, Dead};
 use grid::{Level, Position};
 
-/// A position to expand, and where it stands: its rank in a layer of its level, under a cap or none.
+/// A position to expand: the position with this rank in this layer of a level, under a cap or without one.
 #[derive(Debug, Drop)]
 pub struct Source {
     pub cap: Option<u32>,
@@ -54,32 +53,26 @@ impl<'a> Parcel<'a> {
         parcel
     }
 
-    /// Fills the parcel with what [`Parcel::of`] gives for a source and a pruner. Takes no memory.
-    pub fn fill(
-        &mut self,
-        level: &'a Level,
-        source: &Source,
-        pruner: &Pruner,
-        scratch: &mut Scratch,
-    )
-        requires source { IsSource level.now source.now }
-        requires pruner_of_level { pruner.now ≡ capped level.now source.now.cap }
-        requires room { scratch.old.size ≡ length level.now.cells }
-        ensures of { (self.new.level ≡ capped level.now source.now.cap) × (self.new.layer ≡ source.now.layer) × (self.new.rank ≡ source.now.rank) }
-        ensures successors { AreSuccessors (capped level.now source.now.cap) source.now.layer source.now.position self.new.successors }
+    /// Fills the parcel with what [`Parcel::of`] gives for a source of a problem. Takes no memory.
+    pub fn fill(&mut self, problem: &'a Problem, source: &Source, scratch: &mut Scratch)
+        requires source { IsSource problem.now.board source.now }
+        requires cap { source.now.cap ≡ problem.now.cap }
+        requires room { scratch.old.size ≡ length problem.now.board.cells }
+        ensures of { (self.new.level ≡ problem.now) × (self.new.layer ≡ source.now.layer) × (self.new.rank ≡ source.now.rank) }
+        ensures successors { AreSuccessors problem.now source.now.layer source.now.position self.new.successors }
         ensures size { scratch.new.size ≡ scratch.old.size }
     {
-        self.level = level;
+        self.level = problem.level();
         self.cap = source.cap;
         self.layer = source.layer;
         self.rank = source.rank;
         // the new successors are not dealt yet
         self.deal.shares = 0;
         self.count = successors_of(
-            level,
+            problem.level(),
             source,
-            pruner.dead(),
-            pruner.bound().as_ref(),
+            problem.dead(),
+            problem.bound().as_ref(),
             scratch,
             &mut self.sheet,
         );
@@ -109,12 +102,10 @@ fn successors_of(
     let position = &source.position;
     area::possible_pushes(level, position, scratch, &mut sheet.pushes);
     sheet.dangers.find(level, dead, scratch);
-    let total = box_sum(position);
     let site = Site {
         level,
         dead,
         position,
-        total,
         dangers: &sheet.dangers,
     };
     let count = successors_by(&site, sheet.pushes.as_slice(), scratch, &mut sheet.slots);

@@ -5,7 +5,7 @@ ghost use Rattle.successors.specs.inside.Sums.{AreSums};
 
 use crate::dealing::{Deal, MOST_DEALT};
 use crate::limits::MAX_SUCCESSORS;
-use crate::task::Task;
+use crate::problem::Problem;
 use arrayvec::ArrayVec;
 use doom::Dangers;
 use grid::{Level, Position, Push};
@@ -62,7 +62,8 @@ impl Sheet {
     }
 }
 
-/// The undoomed successors of a layer's position that the next layer admits, in the order of their pushes.
+/// The undoomed successors of a layer's position that the next layer admits, in the order of their pushes. It holds
+/// them in slots of its own, so that a thread can fill the same parcel again and again.
 #[derive(Debug, Drop)]
 pub struct Parcel<'a> {
     pub(crate) level: &'a Level,
@@ -96,7 +97,8 @@ impl<'a> Model for Parcel<'a> {
 }
 
 impl<'a> Parcel<'a> {
-    /// States what is true of every parcel. It does nothing and is there for proofs.
+    /// A lemma: the parcel is that of its rank. It does nothing.
+    #[doc(hidden)]
     pub fn tell(&self)
         ensures { IsParcel self.now }
     {
@@ -117,12 +119,11 @@ impl<'a> Parcel<'a> {
         self.cap
     }
 
-    /// Whether the parcel is of this level with this cap. Public for books, which accept only parcels of their own
-    /// task.
-    pub fn is_of(&self, task: &Task) -> bool
-        ensures { IsTrue result ↔ (task.now ≡ self.now.level) }
+    /// Whether the parcel is of this problem. Public for books, which accept only parcels of their own problem.
+    pub fn is_of(&self, problem: &Problem) -> bool
+        ensures { IsTrue result ↔ (problem.now ≡ self.now.level) }
     {
-        task.is_that(self.level, self.cap)
+        problem.is_that(self.level, self.cap)
     }
 
     /// The number of the layer.

@@ -1,46 +1,16 @@
 //! Leaves out positions from which no solution can keep the cap, by the pushes that lone boxes need.
-ghost use Rattle.std.specs.Prelude.{◌≡◌, ◌<◌, ◌≤◌, ◌↔◌, Some, IsTrue, IfOk, length, take};
+ghost use Rattle.std.specs.Prelude.{◌≡◌, ◌<◌, ◌≤◌, ◌↔◌, Some, IsTrue, length, take};
 ghost use Rattle.std.specs.List.{swap};
 ghost use Rattle.grid.specs.Board.{Scene};
 ghost use Rattle.grid.specs.States.{FitsLevel};
-ghost use Rattle.successors.specs.Capping.{Admits, HasBound, capped, uncapped};
+ghost use Rattle.successors.specs.Capping.{capped, uncapped};
 ghost use Rattle.successors.specs.ParcelView.{AreSuccessors, FitLevel};
 ghost use Rattle.successors.specs.inside.Pruned.{ArePicked, IsWithin};
 ghost use Rattle.successors.specs.inside.Sums.{AreSums};
 
 use crate::parcel::Successor;
-use crate::task::Task;
 use doom::Bound;
-use grid::{Level, Position};
-use std::alloc::{AllocError, Global};
-
-/// The bound of a level, if a cap is set. The only error is running out of memory. Public for callers of
-/// [`is_admitted`] that have no [`Pruner`](crate::Pruner).
-pub fn bound_for(
-    alloc: Global,
-    level: &Level,
-    cap: Option<u32>,
-) -> Result<Option<Bound>, AllocError>
-    ensures { IfOk result (λ bound. HasBound (capped level.now cap) bound) }
-{
-    if cap.is_none() {
-        return Ok(None);
-    }
-    let bound = Bound::of(alloc, level)?;
-    Ok(Some(bound))
-}
-
-/// Whether a position is admitted before the first push. Public for crates that make layer 0.
-pub fn is_admitted(task: &Task, bound: &Option<Bound>, position: &Position) -> bool
-    requires bound_of_level { HasBound task.now bound.now }
-    requires fits { FitsLevel task.now.board position.now }
-    ensures { IsTrue result ↔ Admits task.now 0 position.now }
-{
-    match (task.cap(), bound) {
-        (Some(most), Some(bound)) => is_within(bound, most, position),
-        _ => true,
-    }
-}
+use grid::Position;
 
 /// Whether the boxes of a position need at most `most` pushes by the bound.
 pub(crate) fn is_within(bound: &Bound, most: u32, position: &Position) -> bool

@@ -1,8 +1,10 @@
 //! Makes the successors of a position in the slots of a parcel.
-ghost use Rattle.std.specs.Prelude.{◌≡◌, ℕ, ◌+◌, ◌*◌, ◌<◌, ◌≤◌, ◌↔◌, ◌++◌, ◌∷◌, [], IsTrue, IfSome, false, length, sum, take};
+ghost use Rattle.std.specs.Prelude.{◌≡◌, ℕ, ◌+◌, ◌*◌, ◌<◌, ◌≤◌, ◌↔◌, ◌++◌, ◌∷◌, [], IsTrue, IsFalse, false, length, sum, take};
 ghost use Rattle.grid.specs.Board.{Scene, next};
 ghost use Rattle.grid.specs.States.{FitsLevel};
+ghost use Rattle.area.specs.Area.{IsNorm};
 ghost use Rattle.doom.specs.Deadlocks.{Doomed, IsDead, Undoomed};
+ghost use Rattle.doom.specs.Lost.{IsLost};
 ghost use Rattle.successors.specs.ParcelView.{AreSuccessors, FitLevel, IsAppended};
 ghost use Rattle.successors.specs.Expansion.{IsSuccessor, after_push};
 ghost use Rattle.successors.specs.Capping.{uncapped};
@@ -18,14 +20,13 @@ use arrayvec::ArrayVec;
 use doom::{Dangers, Dead};
 use grid::{Level, MAX_BOXES, Position, Push, Square};
 
-/// A position to expand: its level with the dead squares, the sum of the squares of its boxes, and the squares where
-/// pushes may freeze a box.
+/// A position to expand, and what its pushes are judged by: the level, its dead squares, and the squares where pushes
+/// may freeze a box.
 #[derive(Drop)]
 pub(crate) struct Site<'a> {
     pub(crate) level: &'a Level,
     pub(crate) dead: &'a Dead,
     pub(crate) position: &'a Position,
-    pub(crate) total: u32,
     pub(crate) dangers: &'a Dangers,
 }
 
@@ -38,6 +39,7 @@ pub(crate) fn successors_by(
     slots: &mut Slots,
 ) -> usize
     requires ready { IsReady site.now scratch.old }
+    requires undoomed { Undoomed site.now.level.now site.now.position.now }
     requires pushes { ArePushes site.now.level.now site.now.position.now pushes.now }
     requires bound { length pushes.now ≤ MAX_SUCCESSORS }
     ensures filled { AreFilled result slots.new }
@@ -46,11 +48,12 @@ pub(crate) fn successors_by(
     ensures kept { scratch.new ≡ scratch.old }
 {
     let boxes = site.position.boxes();
+    let total = box_sum(site.position);
     let mut place = 0;
     let mut count = 0;
     for push in pushes {
         place = box_from(boxes, place, push.square);
-        count = append_successor(site, place, *push, scratch, slots, count);
+        count = append_successor(site, total, place, *push, scratch, slots, count);
     }
     count
 }
@@ -66,10 +69,12 @@ fn box_from(boxes: &[Square], place: usize, square: Square) -> usize {
 }
 
 // Writes the position after a push behind the first `count` slots, and returns the number of slots then in use, which
-// stays the same exactly if that position is doomed. The last flood was that of the position before the push. `place`
-// is where the pushed box may be found. The position is made in its slot, so that nothing is copied.
+// stays the same exactly if that position is doomed. The last flood was that of the position before the push. `total`
+// is the sum of its box squares, and `place` is where the pushed box may be found. The position is made in its slot, so
+// that nothing is copied.
 fn append_successor(
     site: &Site<'_>,
+    total: u32,
     place: usize,
     push: Push,
     scratch: &mut Scratch,
@@ -77,7 +82,10 @@ fn append_successor(
     count: usize,
 ) -> usize
     requires ready { IsReady site.now scratch.old }
+    requires undoomed { Undoomed site.now.level.now site.now.position.now }
     requires possible { CanPush site.now.level.now site.now.position.now push }
+    requires total { total ≡ sum site.now.position.now.boxes }
+    requires small { total ≤ 65535 * MAX_BOXES }
     requires place { count < MAX_SUCCESSORS }
     requires filled { AreFilled count slots.old }
     ensures filled { AreFilled result slots.new }
@@ -87,24 +95,20 @@ fn append_successor(
     ensures kept { scratch.new ≡ scratch.old }
 {
     let Push { square, dir } = push;
-    let ahead = site.level.next(square, dir);
-    if site.dead.is_dead(ahead) {
-        return count;
-    }
     have_slot(&mut slots.successors, count);
     let made = make_successor(
         site,
         place,
         Push { square, dir },
-        ahead,
         scratch,
         &mut slots.successors.as_mut_slice()[count],
     );
     if !made {
         return count;
     }
+    let ahead = site.level.next(square, dir);
     let sum = sum_after(
-        site.total,
+        total,
         square,
         ahead,
         &slots.successors.as_slice()[count].position,
@@ -148,21 +152,18 @@ fn put_sum(sums: &mut ArrayVec<u32, MAX_SUCCESSORS>, count: usize, sum: u32)
     }
 }
 
-// Writes a push to a square ahead that is not dead, and the position after it, into a slot. Returns `false` exactly
-// if that position is doomed. The last flood was that of the position before the push. If that position's boxes
-// decide it, the position after it is not made.
+// Writes a push, and the successor that it leads to, into a slot. Returns `false` exactly if it leads to none. The last
+// flood was that of the position before the push.
 fn make_successor(
     site: &Site<'_>,
     place: usize,
     push: Push,
-    ahead: Square,
     scratch: &mut Scratch,
     slot: &mut Successor,
 ) -> bool
     requires ready { IsReady site.now scratch.old }
+    requires undoomed { Undoomed site.now.level.now site.now.position.now }
     requires possible { CanPush site.now.level.now site.now.position.now push }
-    requires ahead { ahead ≡ next site.now.level.now push.square push.dir }
-    requires live { ¬ (IsDead site.now.level.now (next site.now.level.now push.square push.dir)) }
     ensures push { slot.new.push ≡ push }
     ensures some { IsTrue result → IsSuccessor site.now.level.now site.now.position.now push slot.new.position
         × FitsLevel site.now.level.now slot.new.position }
@@ -171,87 +172,66 @@ fn make_successor(
 {
     let Push { square, dir } = push;
     slot.push = Push { square, dir };
-    match foretold(site, Push { square, dir }, ahead, scratch) {
-        Some(dooms) => {
-            if dooms {
-                return false;
-            }
-            let moved = &mut slot.position;
-            make_safe(site, place, Push { square, dir }, ahead, scratch, moved);
-            true
-        }
-        None => {
-            let moved = &mut slot.position;
-            make_if_safe(site, place, Push { square, dir }, ahead, scratch, moved)
-        }
-    }
+    let moved = &mut slot.position;
+    make_after(site, place, Push { square, dir }, scratch, moved)
 }
 
-// Whether a push to a square that is not dead dooms the position, if that can be seen before the position after it is
-// made.
-fn foretold(site: &Site<'_>, push: Push, ahead: Square, scratch: &Scratch) -> Option<bool>
-    requires ready { IsReady site.now scratch.now }
-    requires possible { CanPush site.now.level.now site.now.position.now push }
-    requires ahead { ahead ≡ next site.now.level.now push.square push.dir }
-    requires live { ¬ (IsDead site.now.level.now (next site.now.level.now push.square push.dir)) }
-    ensures { IfSome result (λ dooms. IsTrue dooms ↔
-        Doomed site.now.level.now (after_push site.now.level.now site.now.position.now push).boxes) }
-{
-    let Push { square, dir } = push;
-    if site.dangers.spare(ahead, dir) {
-        return Some(false);
-    }
-    doom::push_dooms_early(site.level, site.dead, Push { square, dir }, scratch)
-}
-
-// Makes a position the successor by a push that dooms nothing. The last flood was that of the position before the
-// push.
-fn make_safe(
+/// Makes a position the normal one after a push and returns `true`, or returns `false` if the pushed box dooms it. The
+/// last flood was that of the position before the push. `place` is where the pushed box may be found.
+pub(crate) fn make_after(
     site: &Site<'_>,
     place: usize,
     push: Push,
-    ahead: Square,
-    scratch: &mut Scratch,
-    moved: &mut Position,
-)
-    requires ready { IsReady site.now scratch.old }
-    requires possible { CanPush site.now.level.now site.now.position.now push }
-    requires ahead { ahead ≡ next site.now.level.now push.square push.dir }
-    requires safe { Undoomed site.now.level.now (after_push site.now.level.now site.now.position.now push) }
-    ensures successor { IsSuccessor site.now.level.now site.now.position.now push moved.new }
-    ensures fits { FitsLevel site.now.level.now moved.new }
-    ensures kept { scratch.new ≡ scratch.old }
-{
-    moved.copy_from(site.position);
-    moved.push_at(place, push.square, ahead);
-    area::normalise_after(site.level, site.position, push, moved, scratch);
-}
-
-// Makes a position the one after a push to a square that is not dead, and normal, unless it is doomed: then it
-// returns `false`. The last flood was that of the position before the push.
-fn make_if_safe(
-    site: &Site<'_>,
-    place: usize,
-    push: Push,
-    ahead: Square,
     scratch: &mut Scratch,
     moved: &mut Position,
 ) -> bool
     requires ready { IsReady site.now scratch.old }
     requires possible { CanPush site.now.level.now site.now.position.now push }
-    requires ahead { ahead ≡ next site.now.level.now push.square push.dir }
-    ensures some { IsTrue result → IsSuccessor site.now.level.now site.now.position.now push moved.new × FitsLevel site.now.level.now moved.new }
-    ensures none { result ≡ false → (m : Scene) → ¬ (IsSuccessor site.now.level.now site.now.position.now push m) }
+    ensures made { IsTrue result → IsNorm site.now.level.now (after_push site.now.level.now site.now.position.now push) moved.new
+        × FitsLevel site.now.level.now moved.new }
+    ensures undoomed { Undoomed site.now.level.now site.now.position.now →
+        IsTrue result ↔ Undoomed site.now.level.now (after_push site.now.level.now site.now.position.now push) }
+    ensures lost { IsFalse result → IsLost site.now.level.now (after_push site.now.level.now site.now.position.now push) }
     ensures kept { scratch.new ≡ scratch.old }
 {
     let Push { square, dir } = push;
     let level = site.level;
     let position = site.position;
+    let ahead = level.next(square, dir);
+    if site.dead.is_dead(ahead) {
+        return false;
+    }
     moved.copy_from(position);
     moved.push_at(place, square, ahead);
-    if doom::push_dooms(level, site.dead, moved, Push { square, dir }, scratch) {
+    let doomed = is_doomed(site, Push { square, dir }, ahead, moved, scratch);
+    if doomed {
         return false;
     }
     area::normalise_after(level, position, Push { square, dir }, moved, scratch);
     true
+}
+
+// Whether the pushed box dooms the position after a push to a square that is not dead.
+fn is_doomed(
+    site: &Site<'_>,
+    push: Push,
+    ahead: Square,
+    moved: &Position,
+    scratch: &mut Scratch,
+) -> bool
+    requires ready { IsReady site.now scratch.old }
+    requires possible { CanPush site.now.level.now site.now.position.now push }
+    requires ahead { ahead ≡ next site.now.level.now push.square push.dir }
+    requires live { ¬ (IsDead site.now.level.now (next site.now.level.now push.square push.dir)) }
+    requires moved { moved.now ≡ after_push site.now.level.now site.now.position.now push }
+    ensures same { Undoomed site.now.level.now site.now.position.now →
+        IsTrue result ↔ Doomed site.now.level.now (after_push site.now.level.now site.now.position.now push).boxes }
+    ensures lost { IsTrue result → IsLost site.now.level.now (after_push site.now.level.now site.now.position.now push) }
+    ensures kept { scratch.new ≡ scratch.old }
+{
+    let Push { square, dir } = push;
+    if site.dangers.spare(ahead, dir) {
+        return false;
+    }
+    doom::doomed_after(site.level, site.dead, moved, Push { square, dir }, scratch)
 }

@@ -25,9 +25,9 @@ pub(crate) fn sum_of(position: &Position) -> u32
     box_sum(position) + u32::from(position.player().0)
 }
 
-/// The share of a position whose squares have this sum: the sum modulo the number of shares, which is at least 1. A
-/// division takes longer than everything else done for a successor here, so powers of two avoid it. Public for crates
-/// that store what a parcel holds.
+/// The share of a position whose squares have this sum: the sum modulo the number of shares, which is at least 1.
+/// Powers of two avoid a division, which takes longer than all else that is done with a sum. Public for crates that
+/// store what a parcel holds.
 pub fn share_by(sum: u32, shares: u8) -> u8
     requires { 0 < shares }
     ensures { result ≡ sum % shares }

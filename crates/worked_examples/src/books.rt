@@ -1,9 +1,8 @@
 //! Books and layers that workers are tried on.
-ghost use Rattle.std.specs.Prelude.{◌≡◌, ◌<◌, length};
 
 use area::Scratch;
 use grid::Level;
-use layers::{Book, Layer, Parcel, Pruner, expand_over};
+use layers::{Book, Layer, expand_over};
 use std::alloc::Global;
 use std::process::Abort;
 use std::slice;
@@ -60,21 +59,6 @@ pub(crate) fn turn(rt: &impl Abort, alloc: Global, book: &mut Book) {
 fn hand_back(rt: &impl Abort, alloc: Global, book: &mut Book, layer: &Layer, rank: u64) {
     assert!(rt; book.workers() >= 1 && rank < layer.len());
     let mut scratch = Scratch::new(alloc, layer.level()).expect(rt, "memory");
-    let parcel = expanded(rt, alloc, layer, rank, &mut scratch);
+    let parcel = expand_over(layer.problem(), layer, rank, &mut scratch);
     book.hand_back(0, &parcel).expect(rt, "an accepted parcel");
-}
-
-// The parcel of a rank of a layer, by this scratch.
-fn expanded<'a>(
-    rt: &impl Abort,
-    alloc: Global,
-    layer: &'a Layer,
-    rank: u64,
-    scratch: &mut Scratch,
-) -> Parcel<'a>
-    requires within { rank < length layer.now.places }
-    requires room { scratch.old.size ≡ length layer.now.level.board.cells }
-{
-    let pruner = Pruner::of(alloc, layer.level(), layer.cap()).expect(rt, "memory");
-    expand_over(layer.level(), layer, &pruner, rank, scratch)
 }

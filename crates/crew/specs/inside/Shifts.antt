@@ -1,6 +1,5 @@
 -- What the workers of a layer share.
 use Rattle.std.specs.Prelude.{◌≡◌, ℕ, ◌≤◌, Bool, length}
-use Rattle.grid.specs.Board.{Board}
 use Rattle.layers.specs.LayerView.{LayerView}
 use Rattle.successors.specs.Tasks.{Task}
 use Rattle.claims.specs.Hands.{LedgerView}
@@ -18,6 +17,6 @@ pub record ShiftView (G : Type 0) : Type 0 where
 abbrev pub answers_to : {G : Type 0} → (G → ℕ → ℕ → ℕ → Bool → Bool) → ShiftView G → ℕ → ℕ → Bool → Bool
 answers_to may_answer shift worker = may_answer shift.gate shift.layer.number worker
 
--- the level is the layer's, positions are left out by what leaves them out there, and each rank of the ledger is one of the layer
-abbrev pub AreOfOneLayer : LayerView → Board → Task → LedgerView → Type 0
-AreOfOneLayer layer level pruner ledger = (level ≡ layer.level.board) × (pruner ≡ layer.level) × (ledger.len ≤ length layer.places)
+-- the problem is the layer's, and each rank of the ledger is one of the layer
+abbrev pub AreOfOneLayer : LayerView → Task → LedgerView → Type 0
+AreOfOneLayer layer problem ledger = (problem ≡ layer.level) × (ledger.len ≤ length layer.places)

@@ -94,29 +94,24 @@ ways board (suc n) q =
     none down left right above R = right
     none down left right above U = above
 
+-- where no way has fewer pushes than k, each has k or more
+least : (board : Board) (q k : ℕ) → ((j : ℕ) → j < k → ¬ (HasWay board q j)) → (way : Live board q) → k ≤ pushes_of way
+least board q k none way = elim (cases_lt (pushes_of way) k) [
+  | inl less ↦ absurd (none (pushes_of way) less (way, refl))
+  | inr le ↦ le
+]
+
 -- the first of the numbers from k on that is that of a way
 least_from : (board : Board) (q more k : ℕ) → ((j : ℕ) → j < k → ¬ (HasWay board q j)) → HasWay board q (k + more) → (m : ℕ) × IsFar board q m × (m ≤ k + more)
 least_from board q zero k none there = by_way (ways board k q)
   where
-    least : HasWay board q k → (way : Live board q) → k ≤ pushes_of way
-    least here way = elim (cases_lt (pushes_of way) k) [
-      | inl less ↦ absurd (none (pushes_of way) less (way, refl))
-      | inr le ↦ le
-    ]
-
     by_way : HasWay board q k ⊎ ¬ (HasWay board q k) → (m : ℕ) × IsFar board q m × (m ≤ k + 0)
-    by_way (inl here) = (k, (here, least here), omega arith)
+    by_way (inl here) = (k, (here, least board q k none), omega arith)
     by_way (inr out) = absurd (out (subst (HasWay board q) (let e : k + 0 ≡ k = omega arith in e) there))
 least_from board q (suc more) k none there =
     by_way (λ later. least_from board q more (suc k) later (subst (HasWay board q) (let e : k + suc more ≡ suc k + more = omega arith in e) there))
     (ways board k q)
   where
-    least : HasWay board q k → (way : Live board q) → k ≤ pushes_of way
-    least here way = elim (cases_lt (pushes_of way) k) [
-      | inl less ↦ absurd (none (pushes_of way) less (way, refl))
-      | inr le ↦ le
-    ]
-
     later : ¬ (HasWay board q k) → (j : ℕ) → j < suc k → ¬ (HasWay board q j)
     later out j lt = elim (cases_lt j k) [
       | inl less ↦ none j less
@@ -125,7 +120,7 @@ least_from board q (suc more) k none there =
 
     by_way : (((j : ℕ) → j < suc k → ¬ (HasWay board q j)) → (m : ℕ) × IsFar board q m × (m ≤ suc k + more)) → HasWay board q k ⊎ ¬ (HasWay board q k) →
         (m : ℕ) × IsFar board q m × (m ≤ k + suc more)
-    by_way onwards (inl here) = (k, (here, least here), omega arith)
+    by_way onwards (inl here) = (k, (here, least board q k none), omega arith)
     by_way onwards (inr out) = let (m, far, le) = onwards (later out) in (m, far, omega (arith, le))
 
 -- a square with a way has a least number, no more than that of the way
@@ -184,13 +179,10 @@ push_lessens board s t d m scene pushes lower =
     let (n, near, le) = nearest board q (suc a) way in
     (n + b, lower_put_back board 0 s.boxes q n b scene.rising pushes.0 near rest, omega (arith, le, sum))
 
-in_tail : (x : ℕ) (xs : Squares) (q : ℕ) → contains xs q ≡ true → contains (x ∷ xs) q ≡ true
-in_tail x xs q there = or_right (eqb x q) (contains xs q) there
-
 goals_need_none : (board : Board) (xs : Squares) → ((q : ℕ) → contains xs q ≡ true → is_goal board q ≡ true) → IsLower board xs 0
 goals_need_none board [] goals = refl
 goals_need_none board (x ∷ xs) goals =
-    (0, 0, ((home (goals x (contains_head x xs)), refl), λ way. omega arith), goals_need_none board xs (λ q there. goals q (in_tail x xs q there)), refl)
+    (0, 0, ((home (goals x (contains_head x xs)), refl), λ way. omega arith), goals_need_none board xs (λ q there. goals q (or_right (eqb x q) (contains xs q) there)), refl)
 
 pub solved_need_none : (board : Board) → SolvedNeedNone board
 solved_need_none board s solved = goals_need_none board s.boxes solved

@@ -1,6 +1,6 @@
 -- A push that brings a box to where it is loose dooms nothing.
-use Rattle.std.proofs.Common.{◌≡◌, ◌↔◌, ◌<◌, ℕ, Bool, true, false, not, IsTrue, length, refl, sym, subst, inl, inr, arith}
-use Rattle.std.proofs.lemmas.Bool.{false≢true, cases_lt}
+use Rattle.std.proofs.Common.{◌≡◌, ◌<◌, ℕ, length, sym, subst, inl, inr, arith}
+use Rattle.std.proofs.lemmas.Bool.{cases_lt}
 use Rattle.grid.specs.Squares.{Squares, insert, remove}
 use Rattle.grid.specs.Board.{Board}
 use Rattle.grid.proofs.lemmas.Squares.{contains-insert_cases, contains-remove_parts}
@@ -41,9 +41,3 @@ live_inside board q live = elim (cases_lt q (length board.cells)) [
   | inl inside ↦ inside
   | inr beyond ↦ absurd (live (λ from. let lt = inside_grid board q (live_floor board q from) in omega (arith, lt, beyond)))
 ]
-
--- a square that is not dead is loose exactly where it is told that nothing blocks it
-pub loose_by : (board : Board) (boxes : Squares) (q : ℕ) (told : Bool) → ¬ (IsDead board q) → IsTrue told ↔ IsBlocked board boxes q → IsTrue (not told) ↔
-    IsLoose board boxes q
-loose_by board boxes q true live is = (λ no. absurd (false≢true no), λ loose. absurd (loose.free (is.0 refl)))
-loose_by board boxes q false live is = (λ yes. record { live = live; free = λ blocked. false≢true (is.1 blocked) }, λ loose. refl)

@@ -30,6 +30,10 @@ AreHeld holds cols members = (q : ℕ) → contains members q ≡ true → IsHel
 abbrev pub AreWithin : Squares → Squares → Type 0
 AreWithin few more = (q : ℕ) → contains few q ≡ true → contains more q ≡ true
 
+-- the squares are of the grid
+abbrev pub StandInside : Board → Squares → Type 0
+StandInside board members = (q : ℕ) → contains members q ≡ true → q < length board.cells
+
 -- some of the boxes, each of which is held on both axes, at least one of them where no box may be held
 pub record AreLocked (holds : Holds) (cols : ℕ) (boxes part : Squares) : Type 0 where
   pub some : AreWithin part boxes

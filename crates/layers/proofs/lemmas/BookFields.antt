@@ -1,5 +1,5 @@
 -- The events of a book on its fields: what is taken, the limit, a hand back and a close.
-use Rattle.std.proofs.Common.{◌≡◌, ℕ, suc, ◌+◌, ◌<◌, ◌≤◌, Bool, true, false, ◌&&◌, ◌||◌, ◌==◌, not, List, [], ◌∷◌, ◌++◌, length, map, fold, get_or, set, ltb}
+use Rattle.std.proofs.Common.{◌≡◌, ℕ, suc, ◌+◌, ◌<◌, ◌≤◌, Bool, true, false, ◌&&◌, ◌==◌, not, List, [], ◌∷◌, ◌++◌, length, map, fold, get_or, set, ltb}
 use Rattle.std.proofs.Common.{Option, Some, None, inl, inr, refl, sym, ap, subst, ◌∙◌, arith}
 use Rattle.std.proofs.lemmas.Bool.{cases_lt, le-ltb}
 use Rattle.std.proofs.lemmas.Bool.Decides.{nat_tests}
@@ -7,10 +7,7 @@ use Rattle.std.proofs.lemmas.List.{length-append, get_or-set_same, length-map}
 use Rattle.std.specs.Prelude.{is_some, slice_get, IfSome, if◌then◌else◌}
 use Rattle.std.specs.Map.{lookup}
 use Rattle.grid.specs.declared.square.Push.{Push}
-use Rattle.grid.specs.Board.{Board, Scene, is_wall}
-use Rattle.grid.specs.Squares.{contains}
-use Rattle.grid.proofs.lemmas.Steps.{inside_grid}
-use Rattle.grid.proofs.lemmas.Squares.{contains_head}
+use Rattle.grid.specs.Board.{Board, Scene}
 use Rattle.grid.specs.Lawful.{box_count}
 use Rattle.grid.specs.States.{FitsLevel}
 use Rattle.successors.specs.declared.parcel.Successor.{Successor}
@@ -20,7 +17,8 @@ use Rattle.successors.specs.Reaching.{total}
 use Rattle.successors.specs.Shares.{share_of}
 use Rattle.successors.specs.inside.Dealt.{share_places}
 use Rattle.successors.specs.inside.Sums.{scene_sum}
-use Rattle.store.specs.FoundView.{AllFit, AreBelow, FitsGrid, FoundView}
+use Rattle.store.specs.FoundView.{AllFit, FitsGrid, FoundView}
+use Rattle.store.proofs.lemmas.Fitting.{level_fits}
 use Rattle.successors.specs.ParcelView.{ParcelView, IsParcel}
 use Rattle.layers.specs.BookView.{BookView, IsLawfulBook}
 use Rattle.layers.specs.Books.{is_wanted, all_entered, with_parcel, IsAtWork, PassesLimit, MayEnter, IsTaken, AllDone, with_closed, IsSortedOpen, IsClosedBy}
@@ -158,26 +156,6 @@ nothing_passes a book cuts now view rank ss same =
     limit_same a cuts now view rank ss ss refl false
     (sym (le-ltb a.limit (length a.found.seen + length (fold (entered (is_wanted_in a.found.seen a.shares a.share) rank) a.found.waiting ss))
     (omega (arith, book.within, total-cuts a.starts.items a.found.seen cuts, ap length same))))
-
-contains_tail : (x : ℕ) (xs : List ℕ) (q : ℕ) → contains xs q ≡ true → contains (x ∷ xs) q ≡ true
-contains_tail x xs q here = or_true (x == q) (contains xs q) here
-  where
-    or_true : (a b : Bool) → b ≡ true → (a || b) ≡ true
-    or_true true b e = refl
-    or_true false b e = e
-
--- what holds no wall is on the grid
-below_all : (board : Board) (xs : List ℕ) → ((q : ℕ) → contains xs q ≡ true → is_wall board q ≡ false) → AreBelow (length board.cells) xs
-below_all board [] clear = tt
-below_all board (x ∷ xs) clear = (inside_grid board x (clear x (contains_head x xs)), below_all board xs (λ q here. clear q (contains_tail x xs q here)))
-
-pub level_fits : (board : Board) (boxes squares : ℕ) (m : Scene) → boxes ≡ box_count board → squares ≡ length board.cells → FitsLevel board m →
-    FitsGrid boxes squares m
-level_fits board boxes squares m boxes_are squares_are fits = record {
-  few = omega (arith, fits.boxes, boxes_are);
-  below = subst (λ n. AreBelow n (m.player ∷ m.boxes)) (sym squares_are)
-      (inside_grid board m.player fits.scene.player.0, below_all board m.boxes fits.scene.boxes);
-}
 
 pub first_fits : (board : Board) (boxes squares : ℕ) (first : Option Scene) → boxes ≡ box_count board → squares ≡ length board.cells →
     IfSome first (FitsLevel board) → IfSome first (FitsGrid boxes squares)

@@ -1,5 +1,6 @@
 -- What contracts see of a book's fields, and what is true of them.
 use Rattle.std.specs.Prelude.{◌≡◌, ℕ, suc, ◌<◌, ◌≤◌, List, [], ◌∷◌, take, drop, length, slice_get, Option, Some, None, ◌⊎◌}
+use Rattle.std.specs.Arc.{arc_value}
 use Rattle.grid.specs.Board.{Scene, start}
 use Rattle.grid.specs.Lawful.{box_count}
 use Rattle.grid.specs.States.{FitsLevel}
@@ -20,7 +21,7 @@ cut_at (i ∷ j ∷ js) xs = drop i (take j xs) ∷ cut_at (j ∷ js) xs
 
 abbrev pub book_view : Inside → BookView
 book_view a = record {
-  level = a.task;
+  level = arc_value a.problem;
   limit = a.limit;
   workers = a.workers;
   share = a.share;
@@ -53,7 +54,7 @@ IsPiece starts len k p q = (slice_get starts k ≡ Some p) × ((slice_get starts
 -- piece of what was seen, and all ranks before the next one to look at are taken
 pub record IsSoundBook (a : Inside) : Type 0 where
   pub lawful : IsLawfulBook (book_view a)
-  pub few : box_count a.task.board ≤ MAX_BOXES
-  pub boxes : (a.found.boxes ≡ box_count a.task.board) × (a.found.squares ≡ length a.task.board.cells)
+  pub few : box_count (arc_value a.problem).board ≤ MAX_BOXES
+  pub boxes : (a.found.boxes ≡ box_count (arc_value a.problem).board) × (a.found.squares ≡ length (arc_value a.problem).board.cells)
   pub cuts : AreCuts a.starts.items (length a.found.seen)
   pub taken : (r : ℕ) → r < a.next → IsTaken (book_view a) r

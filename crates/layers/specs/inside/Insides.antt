@@ -1,5 +1,6 @@
 -- What contracts see of the fields of a layer.
 use Rattle.std.specs.Prelude.{◌≡◌, ℕ, zero, suc, ◌*◌, ◌≤◌, List, [], ◌∷◌, take, drop, length, slice_index_or}
+use Rattle.std.specs.Arc.{arc_value}
 use Rattle.grid.specs.Board.{Scene}
 use Rattle.grid.specs.Lawful.{box_count}
 use Rattle.grid.specs.declared.limits.TheConstants.{MAX_BOXES}
@@ -13,14 +14,14 @@ scenes_of boxes (suc count) xs = record { boxes = take boxes xs; player = slice_
 
 abbrev pub layer_view : LayerInside → LayerView
 layer_view a = record {
-  level = a.task;
+  level = arc_value a.problem;
   number = a.number;
-  places = scenes_of (box_count a.task.board) a.count a.squares.items;
+  places = scenes_of (box_count (arc_value a.problem).board) a.count a.squares.items;
   origins = a.origins.items;
 }
 
 -- the fields show a whole layer, of as many boxes as there may be; and there are as many squares as its positions have
 pub record IsSoundLayer (a : LayerInside) : Type 0 where
   pub whole : IsWhole (layer_view a)
-  pub few : box_count a.task.board ≤ MAX_BOXES
-  pub squares : length a.squares.items ≡ a.count * suc (box_count a.task.board)
+  pub few : box_count (arc_value a.problem).board ≤ MAX_BOXES
+  pub squares : length a.squares.items ≡ a.count * suc (box_count (arc_value a.problem).board)

@@ -2,12 +2,10 @@
 use Rattle.std.proofs.Common.{◌≡◌, ℕ, suc, ◌+◌, ◌≤◌, refl, sym, ap, subst, ◌∙◌, inl, inr, true, arith}
 use Rattle.grid.specs.declared.dir.Dir.{Dir}
 use Rattle.grid.specs.declared.square.Push.{Push}
-use Rattle.grid.specs.declared.state.Step.TheVariants.{Pushed}
 use Rattle.grid.specs.Squares.{Squares, contains, insert, remove}
 use Rattle.grid.specs.Board.{Board, Scene, IsFree, Pushes, next, opposite}
-use Rattle.grid.specs.States.{IsScene, FitsLevel}
+use Rattle.grid.specs.States.{IsScene}
 use Rattle.grid.specs.Plays.{push_at}
-use Rattle.grid.proofs.lemmas.Levels.{fits_after_step}
 use Rattle.grid.proofs.lemmas.Steps.{next_back, opposite_twice, scene_after_push, same_scene}
 use Rattle.grid.proofs.lemmas.Plays.{walk_keeps_boxes}
 use Rattle.area.specs.Area.{at}
@@ -40,12 +38,6 @@ module _ (board : Board) (s : Scene) (p : Push) (scene : IsScene board s) (can :
 
   pub after_scene : IsScene board (after_push board s p)
   after_scene = scene_after_push board (at s behind) p.dir (after_push board s p) (area_scene board s behind scene can.behind) pushed_from
-
-  pub after_fits : FitsLevel board s → FitsLevel board (after_push board s p)
-  after_fits fits = fits_after_step board (at s behind) p.dir Pushed (after_push board s p) (record {
-    scene = area_scene board s behind scene can.behind;
-    boxes = fits.boxes;
-  }) pushed_from
 
 -- a push after a walk leads to the state after the push
 pub moved : (board : Board) (s b t : Scene) (d : Dir) → b.boxes ≡ s.boxes → Pushes board b d t → t ≡ after_push board s (push_at board b d)

@@ -19,18 +19,6 @@ use Rattle.prover.specs.declared.queue.Ticket.{Ticket}
 use Rattle.store.specs.Visited.{Entry, VisitedView, closed}
 use Rattle.prover.specs.Frontier.{IsFound, Keeps, AreFew, AreFrom, ComesFrom, IsBound, IsUnderWay}
 
--- a level, and a cap on the pushes of its solutions
-pub record PrunerView : Type 0 where
-  pub board : Board
-  pub cap : Option ℕ
-
--- a position may be played on the level, for which the scratch is, and the scratch's last flood was that of the position
-pub record IsFlooded (board : Board) (reach : Reach) (s : Scene) : Type 0 where
-  pub fits : FitsLevel board s
-  pub room : reach.size ≡ length board.cells
-  pub flooded : IsAreaOf board s reach.reached
-  pub boxes : reach.boxes ≡ s.boxes
-
 -- ---- the queue
 
 -- a ticket of the place waits, with this least total

@@ -1,27 +1,22 @@
 -- A position that is expanded, and the slots that its successors are written to.
-use Rattle.std.specs.Prelude.{◌≡◌, ℕ, ◌*◌, ◌≤◌, length, sum, take}
-use Rattle.grid.specs.declared.limits.TheConstants.{MAX_BOXES}
+use Rattle.std.specs.Prelude.{◌≡◌, ℕ, ◌≤◌, length, take}
 use Rattle.grid.specs.States.{FitsLevel}
 use Rattle.area.specs.After.{IsAreaOf}
 use Rattle.area.specs.Reach.{Reach}
-use Rattle.doom.specs.Deadlocks.{Undoomed}
 use Rattle.doom.specs.inside.Dangers.{AreDangers}
 use Rattle.successors.specs.declared.parcel.Slots.{Slots}
 use Rattle.successors.specs.declared.pushing.Site.{Site}
 use Rattle.successors.specs.inside.Sums.{AreSums}
 
--- the position is one of its level and not doomed, the dead squares are the level's, the sum is that of the boxes' squares, and
--- the last flood was that of the position; the dangers are those of its boxes
+-- the position may be played on the level, the dead squares are the level's, the last flood was that of the position, and the
+-- dangers are those of its boxes
 pub record IsReady (site : Site) (reach : Reach) : Type 0 where
   pub fits : FitsLevel site.level.now site.position.now
-  pub undoomed : Undoomed site.level.now site.position.now
   pub dead_of_level : site.dead.now ≡ site.level.now
   pub room : reach.size ≡ length site.level.now.cells
   pub flooded : IsAreaOf site.level.now site.position.now reach.reached
   pub boxes : reach.boxes ≡ site.position.now.boxes
-  pub total : site.total ≡ sum site.position.now.boxes
   pub dangers : AreDangers site.level.now reach.boxes site.dangers.now.words.items
-  pub small : site.total ≤ 65535 * MAX_BOXES
 
 -- the first so many slots hold successors, each with its sum beside it
 pub record AreFilled (count : ℕ) (slots : Slots) : Type 0 where

@@ -7,7 +7,7 @@ use crate::books::{AMPLE, book_of, joined, level_of, turn};
 use area::Scratch;
 use claims::{Drawer, Ledger, PLACES};
 use crew::{End, Free, Gate, work};
-use layers::{Book, Claim, Layer, Pruner, Refusal, expand_over};
+use layers::{Book, Claim, Layer, Refusal, expand_over};
 use std::alloc::Global;
 use std::process::Abort;
 use std::slice;
@@ -76,13 +76,11 @@ pub(super) fn worked_over<R: Wait + Abort, G: Gate>(
 {
     assert!(rt; layer.len() >= u64::from(count));
     assert!(rt; worker < PLACES);
-    let pruner = Pruner::of(alloc, layer.level(), layer.cap()).expect(rt, "memory");
     let mut scratch = Scratch::new(alloc, layer.level()).expect(rt, "memory");
     let mut own = drawer;
     work(
         rt,
         layer,
-        &pruner,
         books,
         ledger,
         &mut own,
@@ -102,9 +100,8 @@ pub(super) fn again(
 ) -> Result<(), Refusal> {
     assert!(rt; layer.len() >= 1);
     assert!(rt; book.workers() >= 1);
-    let pruner = Pruner::of(alloc, layer.level(), layer.cap()).expect(rt, "memory");
     let mut scratch = Scratch::new(alloc, layer.level()).expect(rt, "memory");
-    let parcel = expand_over(layer.level(), layer, &pruner, 0, &mut scratch);
+    let parcel = expand_over(layer.problem(), layer, 0, &mut scratch);
     book.hand_back(0, &parcel)
 }
 

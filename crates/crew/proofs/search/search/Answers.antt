@@ -1,14 +1,19 @@
-use Rattle.std.proofs.Common.{IfOk, ap, subst, ◌∙◌}
+use Rattle.std.proofs.Common.{◌≡◌, ◌≤◌, IfOk, sym, subst, rules}
 use Rattle.std.specs.Prelude.{IfSome}
-use Rattle.grid.specs.Board.{Board}
+use Rattle.std.specs.Arc.{arc_value}
+use Rattle.grid.specs.Lawful.{box_count}
+use Rattle.grid.specs.declared.limits.TheConstants.{MAX_BOXES}
 use Rattle.successors.specs.Tasks.{Task}
 use Rattle.successors.specs.Capping.{capped}
 use Rattle.solo.specs.Answers.{IsAnswer}
 use Rattle.crew.proofs.search.search.Goals as goal
 
-pub search_by-requires-clause-pruner_of_level : goal.search_by-requires-clause-pruner_of_level
-search_by-requires-clause-pruner_of_level g c κs within = ap (λ (t : Task). t.board) c.in_ok-pruner.ensures ∙ c.deref.ensures
+pub search_by-requires-clause-boxes : goal.search_by-requires-clause-boxes
+search_by-requires-clause-boxes g c κs within =
+    let same : arc_value c.in_ok-problem-2.problem ≡ capped (arc_value c.args.level.now) c.args.config.cap = search rules in
+    subst (λ (task : Task). box_count task.board ≤ MAX_BOXES) (sym same) c.requires.boxes
 
 pub returns : goal.returns
-returns g c = subst (λ task. IfOk c.search_by.result (λ found. IfSome found (λ answer. IsAnswer task c.args.config.limit answer))) (c.in_ok-pruner.ensures
-    ∙ ap (λ (board : Board). capped board c.args.config.cap) c.deref.ensures) c.search_by.ensures
+returns g c =
+    let same : arc_value c.in_ok-problem-2.problem ≡ capped (arc_value c.args.level.now) c.args.config.cap = search rules in
+    subst (λ task. IfOk c.search_by.result (λ found. IfSome found (λ answer. IsAnswer task c.args.config.limit answer))) same c.search_by.ensures

@@ -1,5 +1,6 @@
 use Rattle.std.proofs.Common.{sym, subst, arith}
 use Rattle.std.specs.Prelude.{IfSome}
+use Rattle.crew.specs.inside.Crews.{IsCrewOf}
 use Rattle.crew.specs.inside.Turning.{AreWorkedBy}
 use Rattle.crew.proofs.Turning.{begins, ends_over, goes_on, next_layer}
 use Rattle.crew.proofs.turns.go_on.Goals as goal
@@ -7,17 +8,17 @@ use Rattle.crew.proofs.turns.go_on.Goals as goal
 pub work_through-requires-clause-may : goal.work_through-requires-clause-may
 work_through-requires-clause-may g c κs within =
     let before = c.requires.looked.0 in let looked = c.requires.looked.1 in
-    begins c.args.terms.now.config c.args.terms.now.pruner.now c.args.books.items c.args.history.now.trail.items before c.requires.limits looked.turn
+    begins c.args.terms.now.config c.args.terms.now.problem.now c.args.books.items c.args.history.now.trail.items before c.requires.limits looked.turn
     c.args.layer looked.join
 
 pub work_through-requires-clause-few : goal.work_through-requires-clause-few
 work_through-requires-clause-few g c κs within = c.requires.looked.1.counted.ranks.1
 
-pub work_through-requires-clause-pruner_of_level : goal.work_through-requires-clause-pruner_of_level
-work_through-requires-clause-pruner_of_level g c κs within =
+pub work_through-requires-clause-crew : goal.work_through-requires-clause-crew
+work_through-requires-clause-crew g c κs within =
     let before = c.requires.looked.0 in let looked = c.requires.looked.1 in
-    sym (next_layer c.args.terms.now.config c.args.terms.now.pruner.now c.args.books.items c.args.history.now.trail.items before c.requires.limits looked.turn
-    c.args.layer looked.join).0
+    subst (λ task. IsCrewOf task c.args.crew.now) (sym (next_layer c.args.terms.now.config c.args.terms.now.problem.now c.args.books.items
+    c.args.history.now.trail.items before c.requires.limits looked.turn c.args.layer looked.join).0) c.requires.crew
 
 pub returns-in-Over-clause-turned : goal.returns-in-Over-clause-turned
 returns-in-Over-clause-turned g c = λ before looked.
@@ -25,7 +26,7 @@ returns-in-Over-clause-turned g c = λ before looked.
     let worked = c.in-Some.worked in let after = c.in-Some.after in
     let work : AreWorkedBy config layer worked after.items = subst (λ back. IfSome back (λ b. AreWorkedBy config layer b.0 b.1.items)) c.in-Some.is
     c.in_ok-back.ensures.worked in
-    ends_over config c.args.terms.now.pruner.now c.args.books.items c.args.history.now.trail.items before c.requires.limits looked.turn layer
+    ends_over config c.args.terms.now.problem.now c.args.books.items c.args.history.now.trail.items before c.requires.limits looked.turn layer
     c.args.history.now.positions after.items looked.join looked.counted.looked (subst (λ w. AreWorkedBy config layer w after.items) c.in-Over.is work)
 
 pub returns-in-Through-clause-turned : goal.returns-in-Through-clause-turned
@@ -34,7 +35,7 @@ returns-in-Through-clause-turned g c = λ before looked.
     let worked = c.in-Some.worked in let after = c.in-Some.after in
     let work : AreWorkedBy config layer worked after.items = subst (λ back. IfSome back (λ b. AreWorkedBy config layer b.0 b.1.items)) c.in-Some.is
     c.in_ok-back.ensures.worked in (
-      goes_on config c.args.terms.now.pruner.now c.args.books.items c.args.history.now.trail.items before c.requires.limits looked.turn layer
+      goes_on config c.args.terms.now.problem.now c.args.books.items c.args.history.now.trail.items before c.requires.limits looked.turn layer
           c.args.history.now.positions after.items c.push.new.self.items c.of-parents.result.0 looked.join looked.counted.looked
           (subst (λ w. AreWorkedBy config layer w after.items) c.in-Through.is work) c.in_ok-push.ensures.items c.of-parents.ensures,
       omega (arith, looked.counted.ranks.0, looked.counted.count),

@@ -12,7 +12,7 @@ pub join_layer-requires : goal.join_layer-requires
 join_layer-requires g c = (
   search rules,
   subst AreAllShares (sym c.as_slice.ensures.value)
-      (joinable c.args.terms.now.config c.args.terms.now.pruner.now c.args.books.items c.args.history.now.trail.items c.args.history.now.positions
+      (joinable c.args.terms.now.config c.args.terms.now.problem.now c.args.books.items c.args.history.now.trail.items c.args.history.now.positions
       c.requires.limits c.requires.turn),
 )
 
@@ -21,14 +21,14 @@ look-requires-clause-looked g c =
     let layer = c.in_ok-layer.layer in
     let join : IsJoinOf c.args.books.items layer = subst (λ bs. IsJoinOf bs layer) c.as_slice.ensures.value c.in_ok-layer.ensures in
     subst (λ ls. IsLookedAt layer.level c.args.terms.now.config.limit ls c.args.history.now.positions) (sym c.as_slice-2.ensures.value)
-    (looked_before c.args.terms.now.config c.args.terms.now.pruner.now c.args.books.items c.args.history.now.trail.items c.args.history.now.positions
+    (looked_before c.args.terms.now.config c.args.terms.now.problem.now c.args.books.items c.args.history.now.trail.items c.args.history.now.positions
     c.requires.limits c.requires.turn layer join)
 
 pub look-requires-clause-next : goal.look-requires-clause-next
 look-requires-clause-next g c =
     let layer = c.in_ok-layer.layer in
     let join : IsJoinOf c.args.books.items layer = subst (λ bs. IsJoinOf bs layer) c.as_slice.ensures.value c.in_ok-layer.ensures in
-    (next_layer c.args.terms.now.config c.args.terms.now.pruner.now c.args.books.items c.args.history.now.trail.items c.args.history.now.positions
+    (next_layer c.args.terms.now.config c.args.terms.now.problem.now c.args.books.items c.args.history.now.trail.items c.args.history.now.positions
     c.requires.limits c.requires.turn layer join).1 ∙ ap length (sym c.as_slice-2.ensures.value)
 
 pub look-requires-clause-room : goal.look-requires-clause-room
@@ -36,14 +36,14 @@ look-requires-clause-room g c =
     let layer = c.in_ok-layer.layer in
     let join : IsJoinOf c.args.books.items layer = subst (λ bs. IsJoinOf bs layer) c.as_slice.ensures.value c.in_ok-layer.ensures in
     c.requires.crew.0 ∙ ap (λ (t : Task). length t.board.cells)
-    (sym (next_layer c.args.terms.now.config c.args.terms.now.pruner.now c.args.books.items c.args.history.now.trail.items c.args.history.now.positions
+    (sym (next_layer c.args.terms.now.config c.args.terms.now.problem.now c.args.books.items c.args.history.now.trail.items c.args.history.now.positions
     c.requires.limits c.requires.turn layer join).0)
 
 pub returns-in-Some-clause-turned : goal.returns-in-Some-clause-turned
 returns-in-Some-clause-turned g c =
     let layer = c.in_ok-layer.layer in let limit = c.args.terms.now.config.limit in
     let join : IsJoinOf c.args.books.items layer = subst (λ bs. IsJoinOf bs layer) c.as_slice.ensures.value c.in_ok-layer.ensures in
-    let next = next_layer c.args.terms.now.config c.args.terms.now.pruner.now c.args.books.items c.args.history.now.trail.items c.args.history.now.positions
+    let next = next_layer c.args.terms.now.config c.args.terms.now.problem.now c.args.books.items c.args.history.now.trail.items c.args.history.now.positions
     c.requires.limits c.requires.turn layer join in
     subst (λ b. IsAnswer b limit c.in-Some.answer) next.0 (subst (λ found. IfSome found (λ answer. IsAnswer layer.level limit answer)) c.in-Some.is
     c.in_ok-found.ensures.answer)
@@ -54,7 +54,7 @@ go_on-requires-clause-looked g c κs within =
     let join : IsJoinOf c.args.books.items layer = subst (λ bs. IsJoinOf bs layer) c.as_slice.ensures.value c.in_ok-layer.ensures in
     let counted = subst (λ found. IfNone found (IsCounted config.limit c.as_slice-2.result.now layer c.args.history.now.positions c.look.new.positions))
     c.in_default.is c.in_ok-found.ensures.onward in
-    let looked : HasLooked config c.args.terms.now.pruner.now c.args.books.items layer trail c.args.history.now.positions c.look.new.positions = record {
+    let looked : HasLooked config c.args.terms.now.problem.now c.args.books.items layer trail c.args.history.now.positions c.look.new.positions = record {
       turn = c.requires.turn;
       join = join;
       counted = subst (λ ls. IsCounted config.limit ls layer c.args.history.now.positions c.look.new.positions) c.as_slice-2.ensures.value counted;
@@ -69,7 +69,7 @@ returns-clause-turned g c =
     let join : IsJoinOf c.args.books.items layer = subst (λ bs. IsJoinOf bs layer) c.as_slice.ensures.value c.in_ok-layer.ensures in
     let counted = subst (λ found. IfNone found (IsCounted config.limit c.as_slice-2.result.now layer c.args.history.now.positions c.look.new.positions))
     c.in_default.is c.in_ok-found.ensures.onward in
-    let looked : HasLooked config c.args.terms.now.pruner.now c.args.books.items layer trail c.args.history.now.positions c.look.new.positions = record {
+    let looked : HasLooked config c.args.terms.now.problem.now c.args.books.items layer trail c.args.history.now.positions c.look.new.positions = record {
       turn = c.requires.turn;
       join = join;
       counted = subst (λ ls. IsCounted config.limit ls layer c.args.history.now.positions c.look.new.positions) c.as_slice-2.ensures.value counted;

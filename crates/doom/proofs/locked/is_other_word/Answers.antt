@@ -3,18 +3,18 @@ use Rattle.std.proofs.lemmas.Bool.{false≢true}
 use Rattle.doom.proofs.Passes.{other_there, other_nowhere}
 use Rattle.doom.proofs.locked.is_other_word.Goals as goal
 
-pub returns-then-members-place-ne0 : goal.returns-then-members-place-ne0
-returns-then-members-place-ne0 c =
-    let members_fit = c.type_inv.members c.loop-place.place in
-    let others_fit = c.type_inv.others c.loop-place.place in (
-      λ _. other_there c.args.members.now c.args.others.now c.loop-place.place (omega (arith, members_fit))
-          (omega (arith, others_fit)) c.if-members-place-ne0.true,
+pub returns-then-members-index-ne0 : goal.returns-then-members-index-ne0
+returns-then-members-index-ne0 c =
+    let members_fit = c.type_inv.members c.loop-index.index in
+    let others_fit = c.type_inv.others c.loop-index.index in (
+      λ _. other_there c.args.members.now c.args.others.now c.loop-index.index (omega (arith, members_fit))
+          (omega (arith, others_fit)) c.if-members-index-ne0.true,
       λ _. refl,
     )
 
 pub returns : goal.returns
 returns c = (
   λ yes. absurd (false≢true yes),
-  λ (q, here, off). absurd (other_nowhere c.args.members.now c.args.others.now c.loop-place.place q c.loop-place-test.false
-      (λ k. (let fit = c.type_inv.others k in omega (arith, fit))) c.loop-place.invariant here off),
+  λ (q, here, off). absurd (other_nowhere c.args.members.now c.args.others.now c.loop-index.index q c.loop-index-test.false
+      (λ k. (let fit = c.type_inv.others k in omega (arith, fit))) c.loop-index.invariant here off),
 )

@@ -7,8 +7,8 @@ use Rattle.doom.proofs.locked.peel_boxes.Goals as goal
 pub loop-square-init : goal.loop-square-init
 loop-square-init c = pass_none c.args.holds.now c.args.cols (IsPlaceOf c.args.boxes.now 0) c.args.members.now (λ k (i, lt, e). omega (arith, lt))
 
-pub peel_word-went-requires-clause-place : goal.peel_word-went-requires-clause-place
-peel_word-went-requires-clause-place c =
+pub peel_word-went-requires-clause-index : goal.peel_word-went-requires-clause-index
+peel_word-went-requires-clause-index c =
     let at = get_or_read c.args.boxes.now c.loop-square.square-index c.square-item.result c.loop-square-test.true c.square-item.is 0 in
     let m = contains-get_or c.args.boxes.now c.loop-square.square-index 0 c.loop-square-test.true in
     omega (arith, at, c.requires.inside _ m)

@@ -1,9 +1,8 @@
-use Rattle.successors.specs.Capping.{capped}
 use Rattle.layers.proofs.Expanded.{of_place}
 use Rattle.layers.proofs.expanding.expand_over_into.Goals as goal
 
 pub returns-clause-successors : goal.returns-clause-successors
 returns-clause-successors c =
     let s = c.source_of-source.result in let v = c.args.layer.now in
-    of_place v.places c.args.rank s.position c.source_of-source.ensures.place (capped c.args.level.now s.cap) v.level c.source_of-source.ensures.level s.layer
+    of_place v.places c.args.rank s.position c.source_of-source.ensures.place c.args.problem.now v.level c.requires.problem s.layer
     v.number c.source_of-source.ensures.of.0 c.fill.new.self.successors c.fill.ensures.successors

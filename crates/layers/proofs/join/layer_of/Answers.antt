@@ -1,6 +1,7 @@
 use Rattle.std.proofs.Common.{◌≡◌, ◌≤◌, ◌*◌, suc, List, length, sym, ap, subst, ◌∙◌}
 use Rattle.std.proofs.lemmas.List.{length-map}
 use Rattle.std.proofs.lemmas.Option.{same_Some}
+use Rattle.std.specs.Arc.{arc_value}
 use Rattle.grid.specs.Board.{Scene}
 use Rattle.successors.specs.Tasks.{Task}
 use Rattle.grid.specs.Lawful.{box_count}
@@ -20,17 +21,17 @@ invariant_of-result c =
     let ms : List Scene = places_of es in
     let same : c.args.first.now ≡ all.first = same_Some c.args.first.now all.first (sym c.requires.first ∙ all.head) in
     let a = c.first.inside in
-    let b = box_count a.task.board in
-    let task : c.in_ok-task.task ≡ a.task = c.in_ok-task.ensures in
-    let level : a.task ≡ all.first.level = ap (λ (v : BookView). v.level) (c.first.view_is ∙ same) in
+    let b = box_count (arc_value a.problem).board in
+    let task : arc_value c.in_ok-problem.problem ≡ arc_value a.problem = c.in_ok-problem.ensures in
+    let level : arc_value a.problem ≡ all.first.level = ap (λ (v : BookView). v.level) (c.first.view_is ∙ same) in
     let have : HaveBoxes b ms = subst (λ (l : Task). HaveBoxes (box_count l.board) ms) (sym level)
     (joined_boxes books all c.tell_all.ensures es merged.merged) in
     let count : c.args.rows.0 ≡ length ms = merged.counted ∙ sym (length-map es (λ (e : Closed). e.0)) in
-    let read : scenes_of (box_count c.in_ok-task.task.board) c.args.rows.0 c.args.rows.1.items ≡ ms =
+    let read : scenes_of (box_count (arc_value c.in_ok-problem.problem).board) c.args.rows.0 c.args.rows.1.items ≡ ms =
     (λ i. scenes_of (box_count (task i).board) (count i) (merged.squares_are i)) ∙ scenes-squares b ms have in
     record {
       whole = joined_whole books all c.tell_all.ensures es merged.merged (layer_view (record {
-        task = c.in_ok-task.task;
+        problem = c.in_ok-problem.problem;
         number = c.layer-number.result;
         count = c.args.rows.0;
         squares = c.args.rows.1;

@@ -2,7 +2,7 @@ use Rattle.std.proofs.Common.{ℕ, suc, subst}
 use Rattle.grid.specs.Board.{Board, Scene}
 use Rattle.prices.specs.Helping.{NeverHelps}
 use Rattle.prices.specs.Solving.{Allows}
-use Rattle.prover.proofs.Steps.{taken_useless}
+use Rattle.prover.proofs.Steps.{expanding_fits, taken_useless}
 use Rattle.prover.proofs.pushing.try_push.Goals as goal
 
 pub returns-then-useless-clause-taken : goal.returns-then-useless-clause-taken
@@ -15,5 +15,6 @@ returns-then-useless-clause-taken c = λ chosen.
     subst (λ (b : Board). NeverHelps b (suc m) s p.square p.dir) c.requires.slack.0
     (subst (λ (x : Scene). NeverHelps c.args.slack.now.board (suc m) x p.square p.dir) c.requires.slack.1
     (c.never_helps-useless.ensures c.if-useless.true m allowed)) in
-    taken_useless board c.args.pruner.now.cap left c.args.frontier.now.entries c.args.from.now.pushes s p c.requires.flooded.fits.scene
+    let fits = expanding_fits board c.args.pruner.now.cap c.args.frontier.now c.args.from.now c.requires.expanding in
+    taken_useless board c.args.pruner.now.cap left c.args.frontier.now.entries c.args.from.now.pushes s p fits.scene
     c.requires.possible never c.requires.left

@@ -1,4 +1,5 @@
-use Rattle.std.proofs.Common.{rules, ◌≡◌, ◌<◌, length, sym, subst}
+use Rattle.std.proofs.Common.{rules, ◌≡◌, ◌<◌, ◌∙◌, length, sym, subst}
+use Rattle.std.proofs.lemmas.Bool.{false≢true}
 use Rattle.grid.specs.Board.{Board, Scene, IsSolved}
 use Rattle.grid.specs.Lawful.{IsLevel}
 use Rattle.store.specs.Visited.{VisitedView}
@@ -35,3 +36,15 @@ returns-clause-tells c =
     let searched = subst (λ (v : VisitedView). IsSearched board cap v) (sym c.least_open.ensures.same) c.loop-place.invariant.searched in
     let level : IsLevel board = subst (λ (b : Board). IsLevel b) c.level.ensures c.tell.ensures in
     none_is_allowed board cap c.least_open.new.self.entries level searched.under_way c.in_default.ensures.none
+
+pub expand-requires-clause-waits : goal.expand-requires-clause-waits
+expand-requires-clause-waits c =
+    let board = c.args.pruner.now.board in
+    let (x, at, open_, from) = c.in-Some.ensures.some in (
+      x,
+      at,
+      open_,
+      λ solved. false≢true (sym c.if-solved.false ∙ c.is_solved-solved.ensures.1
+          (subst (λ (b : Board). IsSolved b c.position.result) (sym c.level-in-Some.ensures)
+          (subst (λ (s : Scene). IsSolved board s) (sym (c.position.ensures x at)) solved))),
+    )

@@ -5,7 +5,7 @@ use Rattle.prover.proofs.searching.run.Given as goal
 abbrev pub invariant-loop-place : goal.invariant-loop-place
 invariant-loop-place l = record {
   searched : IsSearched l.pruner.board l.pruner.cap l.frontier;
-  room : l.desk.scratch.size ≡ l.fn.desk.scratch.size;
+  task : l.desk.expander.task ≡ l.pruner;
 }
 
 abbrev pub decreases-loop-place : goal.decreases-loop-place

@@ -1,9 +1,9 @@
 use Rattle.std.proofs.Common.{IfOk, subst}
+use Rattle.successors.specs.Tasks.{Task}
 use Rattle.prover.specs.inside.Rounds.{Tells}
-use Rattle.prover.specs.inside.Working.{PrunerView}
 use Rattle.prover.proofs.searching.run_on.Goals as goal
 
 pub returns-clause-tells : goal.returns-clause-tells
 returns-clause-tells c =
-    subst (λ (v : PrunerView). IfOk c.run_twice.result (λ end. Tells v.board v.cap c.args.limit c.run_twice.new.frontier.entries end))
-    c.in_ok-pruner.ensures c.run_twice.ensures.tells
+    subst (λ (v : Task). IfOk c.run_over.result (λ end. Tells v.board v.cap c.args.limit c.run_over.new.frontier.entries end))
+    c.in_ok-problem.ensures c.run_over.ensures.tells

@@ -4,7 +4,7 @@ use Rattle.solo.proofs.search.all_turns.Given as goal
 
 abbrev pub invariant-loop-trail : goal.invariant-loop-trail
 invariant-loop-trail l = record {
-  turn : AreBetweenTurns l.terms.pruner.now l.terms.limit 1 1 l.books l.trail.items l.positions;
+  turn : AreBetweenTurns l.terms.problem.now l.terms.limit 1 1 l.books l.trail.items l.positions;
   size : l.scratch.size ≡ l.fn.scratch.size;
 }
 

@@ -1,33 +1,14 @@
-use Rattle.std.proofs.Common.{◌≡◌, ◌+◌, ℕ, sum, inl, inr, refl, sym, ap, subst, ◌∙◌, arith}
-use Rattle.std.proofs.lemmas.Bool.{false≢true}
-use Rattle.grid.specs.Squares.{remove}
+use Rattle.std.proofs.Common.{◌≡◌, ◌+◌, sum, inl, inr, ap, subst, ◌∙◌, arith}
 use Rattle.grid.specs.Board.{next}
-use Rattle.grid.proofs.lemmas.Squares.{contains-insert_here}
 use Rattle.grid.proofs.lemmas.Steps.{inside_grid}
 use Rattle.successors.specs.declared.parcel.Successor.{Successor}
-use Rattle.doom.specs.Deadlocks.{IsDead}
 use Rattle.successors.proofs.Appending.{slot_more, slot_same, slot_read}
 use Rattle.successors.proofs.Shifting.{pushed_sums}
-use Rattle.successors.proofs.lemmas.Successors.{come_by}
 use Rattle.successors.proofs.pushing.append_successor.Goals as goal
 
 pub next-ahead-requires : goal.next-ahead-requires
 next-ahead-requires c =
     inside_grid c.args.site.now.level.now c.args.push.square (c.requires.ready.fits.scene.boxes c.args.push.square c.requires.possible.there)
-
-pub returns-then-is_dead-clause-appended : goal.returns-then-is_dead-clause-appended
-returns-then-is_dead-clause-appended c =
-    let board = c.args.site.now.level.now in
-    let n = c.args.site.now.position.now in
-    let ahead : ℕ = next board c.args.push.square c.args.push.dir in
-    let dead : IsDead board ahead =
-    subst (λ (q : ℕ). IsDead board q) c.next-ahead.ensures
-    (subst (λ b. IsDead b c.next-ahead.result) c.requires.ready.dead_of_level (c.is_dead.ensures.dead.0 c.if-is_dead.true)) in
-    inr (
-      refl,
-      λ m come. (come_by board n c.requires.ready.fits.scene c.args.push m come).safe
-          (inl (ahead, contains-insert_here (remove n.boxes c.args.push.square) ahead, dead)),
-    )
 
 pub returns-then-not-made-clause-appended : goal.returns-then-not-made-clause-appended
 returns-then-not-made-clause-appended c = inr (
@@ -60,11 +41,5 @@ sum_after-sum-requires-clause-moved c =
     let boxes : sum read.position.boxes ≡ sum c.make_successor-made.new.slot.position.boxes = ap (λ (s : Successor). sum s.position.boxes) there in
     let ahead : c.next-ahead.result ≡ next board c.args.push.square c.args.push.dir = c.next-ahead.ensures in
     let sums = pushed_sums board n c.requires.ready.fits.scene c.args.push c.make_successor-made.new.slot.position come.0 in
-    subst (λ (s : Successor). c.args.site.now.total + c.next-ahead.result ≡ sum s.position.boxes + c.args.push.square) c.index-as_slice-count.is
-    (omega (arith, c.requires.ready.total, ahead, boxes, sums))
-
-pub make_successor-made-requires-clause-live : goal.make_successor-made-requires-clause-live
-make_successor-made-requires-clause-live c = λ dead.
-    let board = c.args.site.now.level.now in
-    false≢true (sym c.if-is_dead.false ∙ c.is_dead.ensures.dead.1 (subst (λ b. IsDead b c.next-ahead.result) (sym c.requires.ready.dead_of_level)
-    (subst (λ (q : ℕ). IsDead board q) (sym c.next-ahead.ensures) dead)))
+    subst (λ (s : Successor). c.args.total + c.next-ahead.result ≡ sum s.position.boxes + c.args.push.square) c.index-as_slice-count.is
+    (omega (arith, c.requires.total, ahead, boxes, sums))

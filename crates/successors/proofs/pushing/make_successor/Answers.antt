@@ -1,12 +1,20 @@
 use Rattle.std.proofs.Common.{sym, ◌∙◌}
 use Rattle.std.proofs.lemmas.Bool.{false≢true}
-use Rattle.successors.proofs.lemmas.Successors.{come_by}
+use Rattle.successors.proofs.lemmas.Successors.{come_by, successor_is}
 use Rattle.successors.proofs.pushing.make_successor.Goals as goal
 
-pub returns-then-dooms-clause-none : goal.returns-then-dooms-clause-none
-returns-then-dooms-clause-none c = λ no m come.
-    (come_by c.args.site.now.level.now c.args.site.now.position.now c.requires.ready.fits.scene c.args.push m come).safe
-    (c.in-Some.ensures.0 c.if-dooms.true)
+pub returns-clause-some : goal.returns-clause-some
+returns-clause-some c = λ done.
+    let board = c.args.site.now.level.now in
+    let n = c.args.site.now.position.now in
+    let made = c.make_after.ensures.made done in (
+      successor_is board n c.requires.ready.fits.scene c.args.push c.requires.undoomed c.requires.possible
+          ((c.make_after.ensures.undoomed c.requires.undoomed).0 done) c.make_after.new.moved made.0,
+      made.1,
+    )
 
-pub make_safe-requires-clause-safe : goal.make_safe-requires-clause-safe
-make_safe-requires-clause-safe c = λ bad. false≢true (sym c.if-dooms.false ∙ c.in-Some.ensures.1 bad)
+pub returns-clause-none : goal.returns-clause-none
+returns-clause-none c = λ no m come.
+    let board = c.args.site.now.level.now in
+    let n = c.args.site.now.position.now in
+    false≢true (sym no ∙ (c.make_after.ensures.undoomed c.requires.undoomed).1 (come_by board n c.requires.ready.fits.scene c.args.push m come).safe)

@@ -7,7 +7,7 @@ use Rattle.layers.specs.inside.BookInside.{book_view, AreCuts, IsSoundBook}
 use Rattle.layers.specs.Books.{IsAtWork, IsTaken}
 use Rattle.store.specs.Entering.{is_wanted_in, entered}
 use Rattle.layers.proofs.Cuts.{total-cuts}
-use Rattle.layers.proofs.lemmas.Books.{few_ranks}
+use Rattle.layers.proofs.lemmas.Books.{begun-since, few_ranks, tally_bound}
 use Rattle.layers.proofs.lemmas.BookFields.{handed_all, limit_same, none_entered, nothing_passes, may_enter, over_limit, over_lawful, taken_done, fits_few}
 use Rattle.layers.proofs.Answered.{ok_is, err_is}
 use Rattle.layers.proofs.book.Book.hand_back.Goals as goal
@@ -87,6 +87,13 @@ pub invariant_of-self-then-is_err : goal.invariant_of-self-then-is_err
 invariant_of-self-then-is_err c =
     let kept : c.enter_all.new.self ≡ c.self.inside.found = err_is c.enter_all.result c.if-is_err.ensures.value c.enter_all.ensures.err
     ∙ c.passes.ensures.same in subst (λ (f : FoundView). IsSoundBook (record c.self.inside { found = f })) (sym kept) c.self.invariant
+
+pub mark-requires-clause-few : goal.mark-requires-clause-few
+mark-requires-clause-few c =
+    let a = c.self.inside in let rank = c.args.parcel.now.rank in
+    let found : IsAtWork c.args.self.now c.args.parcel.now × (slice_get c.args.self.now.done rank ≡ Some false) = c.in_default.ensures.none in
+    let lt : rank < length a.done = subst (λ v. rank < length v.done) (sym c.self.view_is) found.0.2 in
+    tally_bound (book_view a) c.self.invariant.lawful (begun-since (book_view a) c.self.invariant.lawful rank lt) c.args.worker
 
 pub invariant_of-self : goal.invariant_of-self
 invariant_of-self c =

@@ -1,4 +1,5 @@
 use Rattle.std.proofs.Common.{◌≡◌, length, sym, subst}
+use Rattle.std.specs.Arc.{arc_value}
 use Rattle.grid.specs.Lawful.{box_count}
 use Rattle.layers.proofs.Flat.{length-scenes_of}
 use Rattle.layers.proofs.layer.Layer.len.Goals as goal
@@ -6,4 +7,4 @@ use Rattle.layers.proofs.layer.Layer.len.Goals as goal
 pub returns : goal.returns
 returns c =
     let a = c.self.inside in
-    subst (λ v. a.count ≡ length v.places) c.self.view_is (sym (length-scenes_of (box_count a.task.board) a.count a.squares.items))
+    subst (λ v. a.count ≡ length v.places) c.self.view_is (sym (length-scenes_of (box_count (arc_value a.problem).board) a.count a.squares.items))

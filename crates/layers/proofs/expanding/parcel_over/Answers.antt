@@ -1,9 +1,0 @@
-use Rattle.successors.specs.Capping.{capped}
-use Rattle.layers.proofs.Expanded.{of_place}
-use Rattle.layers.proofs.expanding.parcel_over.Goals as goal
-
-pub returns-clause-successors : goal.returns-clause-successors
-returns-clause-successors c =
-    let s = c.source_of-source.result in let v = c.args.layer.now in
-    of_place v.places c.args.rank s.position c.source_of-source.ensures.place (capped c.args.level.now s.cap) v.level c.source_of-source.ensures.level s.layer
-    v.number c.source_of-source.ensures.of.0 c.of.result.successors c.of.ensures.successors

@@ -1,0 +1,9 @@
+use Rattle.std.proofs.Common.{IfOk, subst}
+use Rattle.successors.specs.Tasks.{Task}
+use Rattle.prover.specs.inside.Rounds.{Tells}
+use Rattle.prover.proofs.searching.run_over.Goals as goal
+
+pub returns-clause-tells : goal.returns-clause-tells
+returns-clause-tells c =
+    subst (λ (v : Task). IfOk c.run_twice.result (λ end. Tells v.board v.cap c.args.limit c.run_twice.new.frontier.entries end))
+    c.in_ok-pruner.ensures c.run_twice.ensures.tells
