@@ -10,9 +10,9 @@ use claims::Ledger;
 use corrals::Corral;
 use doom::Dead;
 use grid::{Dir, Level, Position, Square, State, Step};
+use groups::Groups;
 use layers::{Book, Layer};
 use lurd::Verdict;
-use pairs::Pairs;
 use prices::{Distances, Matching, Slack};
 use prover::Outcome;
 use solo::{Answer, solve_alone};
@@ -171,15 +171,16 @@ fn page_of_corrals(rt: HostRuntime) {
 }
 
 #[test]
-fn page_of_pairs(rt: HostRuntime) {
+fn page_of_groups(rt: HostRuntime) {
     let alloc = rt.alloc();
     let level = level_of(&rt, alloc, BLOCKED);
     level.tell_start();
     let start = Position::start(&level).expect(&rt, "few boxes");
-    let pairs = Pairs::of(alloc, &level).expect(&rt, "memory");
+    let mut groups = Groups::of_prices(alloc, &level).expect(&rt, "memory");
+    groups.make_tables(alloc, &level, 2).expect(&rt, "memory");
     let mut matching = Matching::new();
     // each box is two pushes from a goal, and one of them has to be pushed out of the row and back
-    assert_eq!(&rt; pairs.lower(&start, &mut matching), 6);
+    assert_eq!(&rt; groups.lower(&start, &mut matching), 6);
 }
 
 #[test]

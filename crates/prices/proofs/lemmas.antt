@@ -5,3 +5,4 @@ pub mod Prices
 pub mod Solved
 pub mod Helping
 pub mod Tables
+pub mod Looks

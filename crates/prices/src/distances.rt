@@ -4,6 +4,7 @@ ghost use Rattle.grid.specs.States.{IsScene};
 ghost use Rattle.doom.specs.Lost.{IsLost};
 ghost use Rattle.prices.specs.Solving.{NoneWithin};
 ghost use Rattle.prices.specs.Prices.{AreFar, ComesOfTolls, goals_of};
+ghost use Rattle.prices.specs.inside.Checks.{StayAway};
 ghost use Rattle.prices.specs.inside.Tables.{far_in, row_in};
 
 use crate::check::make_sure;
@@ -93,9 +94,11 @@ impl Distances {
         mark_count(marks) < keep
     }
 
-    /// Tells that the distances are lower bounds, for each goal of the level.
+    /// Tells that the distances are lower bounds, for each goal of the level, and that a box which can't be brought to a goal
+    /// can't be brought there after a push either.
     pub fn tell(&self)
         ensures far { AreFar self.now.level (far_in self.now.table) }
+        ensures away { StayAway self.now.level (far_in self.now.table) }
         ensures goals { self.now.table.goals.items ≡ goals_of self.now.level }
     {
         let _ = &self.table;

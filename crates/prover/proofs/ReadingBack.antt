@@ -1,5 +1,5 @@
 -- The pushes that lead to a position, read back from push to push, and the solution that they make.
-use Rattle.std.proofs.Common.{◌≡◌, ℕ, zero, suc, ◌+◌, ◌≤◌, ◌<◌, Bool, true, false, cond, List, [], ◌∷◌, ◌++◌, length, reverse, Option, None, Some, refl, sym}
+use Rattle.std.proofs.Common.{◌≡◌, ℕ, zero, suc, ◌≤◌, true, false, cond, List, [], ◌∷◌, ◌++◌, length, reverse, Option, None, Some, refl, sym}
 use Rattle.std.proofs.Common.{ap, subst, ◌∙◌, arith, append-nil, append_assoc}
 use Rattle.std.proofs.lemmas.List.{reverse-append}
 use Rattle.std.proofs.lemmas.List.Sums.{sum_by-cons}
@@ -11,7 +11,7 @@ use Rattle.grid.specs.declared.moves.Letter.{Letter}
 use Rattle.grid.specs.declared.square.Push.{Push}
 use Rattle.grid.specs.Squares.{Squares, contains}
 use Rattle.grid.specs.Board.{Board, Scene, IsSolved, is_goal, start}
-use Rattle.grid.specs.Plays.{Play, Any, stay, walk, push, letters_of}
+use Rattle.grid.specs.Plays.{Play, stay, walk, push, letters_of}
 use Rattle.grid.proofs.lemmas.Plays.{walk_keeps_boxes}
 use Rattle.area.specs.Area.{IsNorm}
 use Rattle.area.specs.Pushes.{CanPush}

@@ -1,5 +1,5 @@
 -- Steps of a search, over plain lists of what was found.
-use Rattle.std.proofs.Common.{◌≡◌, ◌≢◌, ℕ, zero, suc, ◌+◌, ◌≤◌, ◌<◌, ◌⊎◌, List, [], ◌∷◌, ◌++◌, length, map, Option, None, Some, inl, inr, refl, sym, ap, subst}
+use Rattle.std.proofs.Common.{◌≡◌, ℕ, zero, suc, ◌+◌, ◌≤◌, ◌<◌, List, [], ◌∷◌, ◌++◌, length, map, Option, None, Some, inl, inr, refl, sym, ap, subst}
 use Rattle.std.proofs.Common.{◌∙◌, arith}
 use Rattle.std.proofs.Common.{Result, Ok, Err, OnOk, set, max, ◌*◌, Bool, true, false, IsTrue, cond, nat_lt, get_or}
 use Rattle.std.proofs.lemmas.Bool.{cases_lt, cases_eq, false≢true, ltb-true, ltb-false}
@@ -7,10 +7,10 @@ use Rattle.std.proofs.lemmas.List.{length-set}
 use Rattle.std.proofs.lemmas.Option.{none-some, same_Some, slice_get_within, slice_get_read}
 use Rattle.std.specs.Prelude.{slice_get}
 use Rattle.grid.specs.declared.square.Push.{Push}
-use Rattle.grid.specs.Board.{Board, Scene, IsSolved, start, next, opposite}
+use Rattle.grid.specs.Board.{Board, Scene, IsSolved, start}
 use Rattle.grid.specs.States.{IsScene, FitsLevel}
 use Rattle.grid.specs.Lawful.{IsLevel}
-use Rattle.grid.specs.Plays.{Play, Any, push_at, push, stay}
+use Rattle.grid.specs.Plays.{Play, Any, push, stay}
 use Rattle.grid.proofs.lemmas.Plays.{play-append}
 use Rattle.area.specs.Area.{IsNorm, at}
 use Rattle.area.specs.Pushes.{ArePushes, CanPush}

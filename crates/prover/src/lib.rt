@@ -2,7 +2,8 @@
 //!
 //! The total of a position is the pushes that led to it and a lower bound on those that it still needs. The search
 //! expands the open position of the least total first, so the first solved position that comes up has the fewest
-//! pushes. What an expansion leaves out leads to no solution that the cap allows.
+//! pushes. An expansion may leave pushes out. But if a position has a solution that the cap allows, some push that its
+//! expansion keeps leads on to a solution with as few pushes.
 //!
 //! With the `level` of a room of three rows of three squares, the box in the middle, its goal at the top left and the
 //! player at the bottom right:

@@ -6,18 +6,18 @@ ghost use Rattle.prices.specs.Solving.{Allows};
 ghost use Rattle.prover.specs.Frontier.{IsBound};
 
 use grid::{Level, MAX_BOXES, Position};
-use pairs::Pairs;
+use groups::Groups;
 use prices::{Distances, Matching, NEVER};
 use std::alloc::{AllocError, Global};
 use std::marker::Model;
 use successors::Problem;
 
-/// What the search prunes by: a problem, and what its boxes and pairs of them need. Contracts see the level with its
+/// What the search prunes by: a problem, and what its boxes and groups of them need. Contracts see the level with its
 /// cap.
 #[derive(Debug, Drop)]
 pub(crate) struct Pruner<'a> {
     problem: &'a Problem,
-    pairs: Pairs,
+    groups: Groups,
 }
 
 impl<'a> Model for Pruner<'a> {
@@ -28,26 +28,26 @@ impl<'a> Model for Pruner<'a> {
 
     ghost view = { λ a. a.problem.now };
 
-    ghost invariant = { λ a. a.pairs ≡ a.problem.now.board };
+    ghost invariant = { λ a. a.groups ≡ a.problem.now.board };
 }
 
 impl<'a> Pruner<'a> {
-    /// The pruner of a problem, without what pairs need. The only error is running out of memory.
+    /// The pruner of a problem, without what groups need. The only error is running out of memory.
     pub(crate) fn of(alloc: Global, problem: &'a Problem) -> Result<Pruner<'a>, AllocError>
         requires { box_count problem.now.board ≤ MAX_BOXES }
         ensures { IfOk result (λ pruner. pruner ≡ problem.now) }
     {
         Ok(Pruner {
             problem,
-            pairs: Pairs::of_prices(alloc, problem.level())?,
+            groups: Groups::of_prices(alloc, problem.level())?,
         })
     }
 
-    /// Finds what pairs need, which takes as long as hundreds of positions. The only error is that memory was refused.
-    pub(crate) fn find_pairs(&mut self, alloc: Global) -> Result<(), AllocError>
+    /// Finds what groups of up to `most` boxes need. The only error is running out of memory.
+    pub(crate) fn make_tables(&mut self, alloc: Global, most: usize) -> Result<(), AllocError>
         ensures { self.new ≡ self.old }
     {
-        self.pairs.make_table(alloc, self.problem.level())
+        self.groups.make_tables(alloc, self.problem.level(), most)
     }
 
     /// The problem.
@@ -68,7 +68,7 @@ impl<'a> Pruner<'a> {
     pub(crate) fn distances(&self) -> &Distances
         ensures { result.now.level ≡ self.now.board }
     {
-        self.pairs.distances()
+        self.groups.distances()
     }
 
     /// A lower bound on the pushes of a play that leads to the position with `pushes` of them and goes on to a solved
@@ -83,10 +83,14 @@ impl<'a> Pruner<'a> {
         ensures bound { IfSome result (λ total. (pushes ≤ total) × IsBound self.now.board pushes position.now total) }
         ensures lost { IfNone result (IsLost self.now.board position.now) }
     {
-        let low = self.pairs.lower(position, matching);
+        let low = self.groups.lower(position, matching);
         if low >= u64::from(NEVER) {
-            let lost = self.pairs.distances().is_lost(position, matching);
+            let lost = self.groups.distances().is_lost(position, matching);
             if lost {
+                return None;
+            }
+            let dead = self.groups.is_dead(position);
+            if dead {
                 return None;
             }
         }

@@ -23,9 +23,15 @@ use std::alloc::{AllocError, Global};
 use std::sync::Arc;
 use successors::Problem;
 
-/// Up to this many positions the search does without what pairs of boxes need. To find that takes as long as they do,
-/// and many searches end before.
+/// From this many positions on the search asks groups of three boxes. To find what they need takes as long as so many
+/// positions do, and many searches end before.
 const FEW: u32 = 500;
+
+/// From this many positions on it asks groups of four boxes, which take longer to find.
+const SOME: u32 = 5_000;
+
+/// From this many positions on it asks groups of five boxes.
+const MANY: u32 = 50_000;
 
 /// How the rounds of a search end.
 #[derive(Clone, Copy, Debug)]
@@ -41,11 +47,12 @@ pub(crate) enum End {
 /// Searches for a solution with the fewest pushes. With a cap it looks only for solutions with at most that many
 /// pushes.
 ///
-/// [`Outcome::NoneWithin`] comes only with a cap, [`Outcome::Unsolvable`] only without one, and [`Outcome::Limit`] only
-/// once the search found more positions than the limit. A greater limit never gives a lesser `at_least`.
+/// Only a search with a cap gives [`Outcome::NoneWithin`], and only one without a cap gives [`Outcome::Unsolvable`].
+/// [`Outcome::Limit`] means that the search found more positions than the limit. It is tested, not proved, that a
+/// greater limit gives no lesser `at_least`.
 ///
-/// Fails with [`SearchFault::TooManyBoxes`] where the level has more than [`MAX_BOXES`](grid::MAX_BOXES) boxes, and
-/// with [`SearchFault::OutOfMemory`] where memory was refused.
+/// Fails with [`SearchFault::TooManyBoxes`] if the level has more than [`MAX_BOXES`](grid::MAX_BOXES) boxes, and with
+/// [`SearchFault::OutOfMemory`] if it runs out of memory.
 pub fn search(
     alloc: Global,
     level: &Level,
@@ -146,11 +153,11 @@ fn run_over(
     ensures tells { IfOk result (λ end. Tells problem.now.board problem.now.cap limit frontier.new.entries end) }
 {
     let mut pruner = Pruner::of(alloc, problem)?;
-    run_twice(alloc, &mut pruner, limit, frontier)
+    run_all(alloc, &mut pruner, limit, frontier)
 }
 
-// Expands open positions, the first few of them without what pairs of boxes need.
-fn run_twice(
+// Expands open positions, asking larger groups of boxes the more positions it has found.
+fn run_all(
     alloc: Global,
     pruner: &mut Pruner<'_>,
     limit: u32,
@@ -160,14 +167,40 @@ fn run_twice(
     ensures searched { OnOk result (IsSearched pruner.old.board pruner.old.cap frontier.new) }
     ensures tells { IfOk result (λ end. Tells pruner.old.board pruner.old.cap limit frontier.new.entries end) }
 {
-    if limit > FEW {
-        let end = run(alloc, pruner, FEW, frontier)?;
-        if !is_limit(end) {
-            return Ok(end);
-        }
-        pruner.find_pairs(alloc)?;
+    let few = run_first(alloc, pruner, FEW.min(limit), limit, 3, frontier)?;
+    if !is_limit(few) {
+        return Ok(few);
+    }
+    let some = run_first(alloc, pruner, SOME.min(limit), limit, 4, frontier)?;
+    if !is_limit(some) {
+        return Ok(some);
+    }
+    let many = run_first(alloc, pruner, MANY.min(limit), limit, 5, frontier)?;
+    if !is_limit(many) {
+        return Ok(many);
     }
     run(alloc, pruner, limit, frontier)
+}
+
+// Expands open positions up to a first limit, and finds what groups of up to `most` boxes need if the limit is greater.
+fn run_first(
+    alloc: Global,
+    pruner: &mut Pruner<'_>,
+    first: u32,
+    limit: u32,
+    most: usize,
+    frontier: &mut Frontier,
+) -> Result<End, AllocError>
+    requires searched { IsSearched pruner.old.board pruner.old.cap frontier.old }
+    ensures searched { OnOk result (IsSearched pruner.old.board pruner.old.cap frontier.new) }
+    ensures tells { IfOk result (λ end. Tells pruner.old.board pruner.old.cap first frontier.new.entries end) }
+    ensures same { pruner.new ≡ pruner.old }
+{
+    let end = run(alloc, pruner, first, frontier)?;
+    if is_limit(end) && first < limit {
+        pruner.make_tables(alloc, most)?;
+    }
+    Ok(end)
 }
 
 // Whether the limit was passed.

@@ -58,7 +58,7 @@ sum_le f g (x ∷ xs) le =
     omega (arith, here, rest)
 
 -- and so have fewer squares
-sum_within : (f : ℕ → ℕ) (k : ℕ) (xs ys : Squares) → rises_from k xs ≡ true → is_rising ys ≡ true
+pub sum_within : (f : ℕ → ℕ) (k : ℕ) (xs ys : Squares) → rises_from k xs ≡ true → is_rising ys ≡ true
     → ((q : ℕ) → contains xs q ≡ true → contains ys q ≡ true) → sum_over f xs ≤ sum_over f ys
 sum_within f k [] ys rises rising within = omega arith
 sum_within f k (x ∷ xs) ys rises rising within =
@@ -136,7 +136,7 @@ needs_refuse board toll need m s is scene more ds ps t play solved =
 
 -- ---- the least over the goals
 
-least_le : (cost : ℕ → ℕ) (cap : ℕ) (gs : List ℕ) (g : ℕ) → contains gs g ≡ true → least_of cost cap gs ≤ cost g
+pub least_le : (cost : ℕ → ℕ) (cap : ℕ) (gs : List ℕ) (g : ℕ) → contains gs g ≡ true → least_of cost cap gs ≤ cost g
 least_le cost cap [] g there = absurd (false≢true there)
 least_le cost cap (x ∷ gs) g there = by_eq (eqb x g) (eqb-true x g) (least_le cost cap gs g) there
   where

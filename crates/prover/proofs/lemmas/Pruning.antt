@@ -1,5 +1,5 @@
 -- What an expansion may leave out.
-use Rattle.std.proofs.Common.{◌≡◌, ℕ, suc, ◌+◌, ◌≤◌, refl, sym, ap, subst, ◌∙◌, inl, inr, true, arith}
+use Rattle.std.proofs.Common.{◌≡◌, ℕ, suc, refl, sym, ap, subst, ◌∙◌, true, arith}
 use Rattle.grid.specs.declared.dir.Dir.{Dir}
 use Rattle.grid.specs.declared.square.Push.{Push}
 use Rattle.grid.specs.Squares.{Squares, contains, insert, remove}

@@ -1,5 +1,5 @@
 -- How the rounds of a search end.
-use Rattle.std.specs.Prelude.{◌≡◌, ℕ, ◌≤◌, length, List, slice_get, Option, Some, None}
+use Rattle.std.specs.Prelude.{◌≡◌, ℕ, List, slice_get, Option, Some, None}
 use Rattle.grid.specs.Board.{Board, IsSolved, start}
 use Rattle.doom.specs.Lost.{IsLost}
 use Rattle.prices.specs.Solving.{Allows, NoneWithin as NonePlays}

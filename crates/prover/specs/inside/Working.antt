@@ -10,8 +10,6 @@ use Rattle.grid.specs.States.{FitsLevel}
 use Rattle.grid.specs.Lawful.{box_count}
 use Rattle.grid.specs.Plays.{Play, Any}
 use Rattle.area.specs.Area.{IsNorm}
-use Rattle.area.specs.After.{IsAreaOf}
-use Rattle.area.specs.Reach.{Reach}
 use Rattle.successors.specs.Expansion.{after_push}
 use Rattle.prices.specs.Solving.{Allows, SolvableWithin}
 use Rattle.prover.specs.declared.pushing.Expanded.{Expanded}

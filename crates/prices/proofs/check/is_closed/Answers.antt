@@ -2,7 +2,7 @@ use Rattle.std.proofs.Common.{arith}
 use Rattle.grid.specs.declared.dir.Dir.{Dir}
 use Rattle.grid.proofs.lemmas.Steps.{inside_grid}
 use Rattle.prices.specs.inside.Checks.{StaysIn}
-use Rattle.prices.proofs.Checking.{below_next}
+use Rattle.prices.proofs.lemmas.Looks.{below_next}
 use Rattle.prices.proofs.check.is_closed.Goals as goal
 
 pub loop-index-preserved : goal.loop-index-preserved

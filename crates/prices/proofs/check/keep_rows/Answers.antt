@@ -1,6 +1,7 @@
 use Rattle.std.proofs.Common.{arith}
 use Rattle.prices.specs.inside.Checks.{AreClosed}
-use Rattle.prices.proofs.Checking.{below_next, rows_kept}
+use Rattle.prices.proofs.Checking.{rows_kept}
+use Rattle.prices.proofs.lemmas.Looks.{below_next}
 use Rattle.prices.proofs.check.keep_rows.Goals as goal
 
 pub loop-index-preserved : goal.loop-index-preserved

@@ -1,7 +1,7 @@
 use Rattle.std.proofs.Common.{arith}
 use Rattle.grid.specs.declared.dir.Dir.{Dir}
 use Rattle.prices.specs.inside.Checks.{LessensByOne}
-use Rattle.prices.proofs.Checking.{below_next}
+use Rattle.prices.proofs.lemmas.Looks.{below_next}
 use Rattle.prices.proofs.check.lessen_by_one.Goals as goal
 
 pub loop-index-preserved : goal.loop-index-preserved

@@ -1,6 +1,6 @@
 use Rattle.grid.specs.declared.dir.Dir.{Dir}
 use Rattle.prices.specs.inside.Checks.{LessensByOne}
-use Rattle.prices.proofs.Checking.{told_by_four}
+use Rattle.prices.proofs.lemmas.Looks.{told_by_four}
 use Rattle.prices.proofs.check.lessen_from.Goals as goal
 
 pub returns : goal.returns

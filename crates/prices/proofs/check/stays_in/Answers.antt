@@ -3,7 +3,7 @@ use Rattle.grid.specs.declared.dir.Dir.{Dir}
 use Rattle.grid.specs.Board.{next}
 use Rattle.prices.specs.Prices.{CanStand}
 use Rattle.prices.specs.inside.Tables.{has_number, spot_of}
-use Rattle.prices.proofs.Checking.{told_by_four}
+use Rattle.prices.proofs.lemmas.Looks.{told_by_four}
 use Rattle.prices.proofs.check.stays_in.Goals as goal
 
 pub returns : goal.returns

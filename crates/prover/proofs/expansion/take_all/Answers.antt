@@ -1,5 +1,4 @@
-use Rattle.std.proofs.Common.{◌≡◌, ◌+◌, ◌≤◌, ℕ, suc, Bool, IsTrue, List, length, sym, ap, subst, ◌∙◌, arith}
-use Rattle.grid.specs.declared.square.Push.{Push}
+use Rattle.std.proofs.Common.{◌≡◌, ◌+◌, ◌≤◌, ℕ, suc, Bool, IsTrue, length, sym, ap, subst, ◌∙◌, arith}
 use Rattle.grid.specs.Board.{Board}
 use Rattle.grid.specs.Lawful.{IsLevel}
 use Rattle.grid.specs.Masks.{has_bit}

@@ -1,4 +1,4 @@
-use Rattle.std.proofs.Common.{◌≡◌, ◌+◌, ◌∙◌, ℕ, suc, Some, max, refl, sym, subst, arith}
+use Rattle.std.proofs.Common.{◌≡◌, ◌+◌, ◌∙◌, ℕ, suc, Some, sym, subst, arith}
 use Rattle.std.proofs.lemmas.Bool.{true≢false}
 use Rattle.grid.specs.States.{FitsLevel}
 use Rattle.area.specs.Area.{IsNorm}

@@ -1,4 +1,3 @@
-use Rattle.std.proofs.lemmas.Option.{slice_get_within}
 use Rattle.prover.proofs.searching.outcome_of.Goals as goal
 
 pub solution_at-requires-clause-traced : goal.solution_at-requires-clause-traced

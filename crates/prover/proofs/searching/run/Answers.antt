@@ -1,4 +1,4 @@
-use Rattle.std.proofs.Common.{rules, ◌≡◌, ◌<◌, ◌∙◌, length, sym, subst}
+use Rattle.std.proofs.Common.{rules, ◌<◌, ◌∙◌, length, sym, subst}
 use Rattle.std.proofs.lemmas.Bool.{false≢true}
 use Rattle.grid.specs.Board.{Board, Scene, IsSolved}
 use Rattle.grid.specs.Lawful.{IsLevel}

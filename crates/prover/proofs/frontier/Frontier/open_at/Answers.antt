@@ -1,4 +1,4 @@
-use Rattle.std.proofs.Common.{◌≡◌, ℕ, List, Option, Some, None, refl, sym, subst}
+use Rattle.std.proofs.Common.{ℕ, List, Option, Some, None, refl, sym, subst}
 use Rattle.std.specs.BinaryHeap.{heap_items}
 use Rattle.store.specs.Visited.{Entry, HasEntered, VisitedView}
 use Rattle.prover.specs.declared.queue.Ticket.{Ticket}

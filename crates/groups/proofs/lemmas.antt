@@ -1,0 +1,3 @@
+-- The lemmas that the proofs of upper crates cite.
+pub mod Excess
+pub mod Tables

@@ -1,0 +1,410 @@
+//! The excess of all groups of so many boxes, found by pulls from the groups on goals. Nothing is promised of it: it is checked.
+ghost use Rattle.std.specs.Prelude.{◌<◌};
+
+use crate::ground::{Ground, NONE, ground_at, ground_of, short};
+use crate::listing::{empty_table, list_dead_squares, list_groups};
+use crate::table::{Table, byte_at};
+use grid::{Dir, Level, Square};
+use prices::Distances;
+use std::alloc::{AllocError, Global};
+
+/// How many boxes a group has at most.
+pub(crate) const LARGEST: usize = 5;
+
+/// How many bytes the excess of groups of one size takes at most while it is found. To find so many takes a second or two.
+const MOST: usize = 20_000_000;
+
+/// The excess that is not known yet, and that of groups that can't all be brought to goals.
+const UNKNOWN: u8 = u8::MAX;
+
+/// No entry of the queue.
+const END: u32 = u32::MAX;
+
+/// Boxes by their places, which rise. As many count as groups have now.
+pub(crate) type Group = [u16; LARGEST];
+
+/// The first group.
+pub(crate) const FIRST: Group = [0, 1, 2, 3, 4];
+
+/// A group and the player's square, and the next entry of the same excess.
+#[derive(Clone, Copy, Debug)]
+struct Entry {
+    group: Group,
+    player: u16,
+    next: u32,
+}
+
+/// The excess of groups that was found so far, by their numbers and the player's squares, that of groups of one box fewer, and
+/// what is to be looked at: lists by excess.
+#[derive(Debug, Drop)]
+pub(crate) struct Filling {
+    pub(crate) ground: Vec<Ground>,
+    pub(crate) size: usize,
+    pub(crate) excess: Vec<u8>,
+    pub(crate) fewer: Vec<u8>,
+    spots: Vec<u16>,
+    ways: Vec<u32>,
+    heads: [u32; 256],
+    entries: Vec<Entry>,
+    stack: Vec<u16>,
+}
+
+/// The table of a level for groups of up to so many boxes, not yet checked; none where that of two boxes would be too large.
+pub(crate) fn table_of(
+    alloc: Global,
+    level: &Level,
+    distances: &Distances,
+    most: usize,
+) -> Result<Option<Table>, AllocError> {
+    let mut filling = begun(alloc, level, distances)?;
+    if most < 2 || !filling.is_small(2) {
+        return Ok(None);
+    }
+    let mut table = empty_table(alloc, level, filling.ground.as_slice())?;
+    list_dead_squares(&mut table, filling.ground.as_slice())?;
+    for size in 1..most.min(LARGEST) + 1 {
+        if filling.is_small(size) {
+            filling.fill(alloc, level, size)?;
+            list_groups(alloc, &mut table, &filling)?;
+        }
+    }
+    table.make_index(alloc)?;
+    Ok(Some(table))
+}
+
+// Nothing is found yet.
+fn begun(alloc: Global, level: &Level, distances: &Distances) -> Result<Filling, AllocError> {
+    let ground = ground_of(alloc, level, distances)?;
+    let spots = spots_of(alloc, ground.as_slice())?;
+    let ways = ways_of(alloc, spots.len())?;
+    Ok(Filling {
+        ground,
+        size: 0,
+        excess: Vec::new(alloc),
+        fewer: Vec::new(alloc),
+        spots,
+        ways,
+        heads: [END; 256],
+        entries: Vec::new(alloc),
+        stack: Vec::new(alloc),
+    })
+}
+
+// Where the squares with places stand, by their places.
+fn spots_of(alloc: Global, ground: &[Ground]) -> Result<Vec<u16>, AllocError> {
+    let mut count = 0_usize;
+    for it in ground {
+        if it.place != NONE {
+            count = count.saturating_add(1);
+        }
+    }
+    let mut spots = vec![in alloc; NONE; count]?;
+    for (at, it) in ground.iter().enumerate() {
+        if let Some(spot) = spots.as_mut_slice().get_mut(it.place as usize) {
+            *spot = short(at);
+        }
+    }
+    Ok(spots)
+}
+
+// For each place and each number of boxes up to the largest, how many groups of so many boxes have lesser places only.
+fn ways_of(alloc: Global, places: usize) -> Result<Vec<u32>, AllocError> {
+    let mut ways = vec![in alloc; 0; LARGEST]?;
+    let mut row = [0_u32; LARGEST];
+    for _ in 0..places {
+        let mut before = 1;
+        for index in 0..LARGEST {
+            let now = row[index];
+            row[index] = now.saturating_add(before);
+            before = now;
+        }
+        for count in row {
+            ways.push(count)?;
+        }
+    }
+    Ok(ways)
+}
+
+/// Goes on to the next group of so many boxes.
+pub(crate) fn advance(group: &mut Group, size: usize) {
+    let count = size.min(LARGEST);
+    for index in 0..count {
+        let next = group[index].saturating_add(1);
+        if index + 1 < count && next == group[index + 1] {
+            group[index] = short(index);
+        } else {
+            group[index] = next;
+            return;
+        }
+    }
+}
+
+// The group with a box at another place.
+fn moved(group: &Group, size: usize, index: usize, place: u16) -> Group {
+    let mut moved = *group;
+    if let Some(box_place) = moved.get_mut(index) {
+        *box_place = place;
+    }
+    let count = size.min(LARGEST);
+    for at in 1..count {
+        sort_two(&mut moved, at);
+    }
+    for back in 1..count {
+        sort_two(&mut moved, count - back);
+    }
+    moved
+}
+
+// Sorts a box and the one before it.
+#[inline(always)]
+fn sort_two(group: &mut Group, at: usize)
+    requires { at < LARGEST }
+{
+    if at == 0 {
+        return;
+    }
+    let (low, high) = (group[at - 1], group[at]);
+    group[at - 1] = low.min(high);
+    group[at] = low.max(high);
+}
+
+/// Sets the byte at a place, if there is one.
+pub(crate) fn set_byte(bytes: &mut [u8], at: usize, value: u8) {
+    if let Some(byte) = bytes.get_mut(at) {
+        *byte = value;
+    }
+}
+
+impl Filling {
+    // Whether the excess of groups of so many boxes takes little enough room.
+    fn is_small(&self, size: usize) -> bool {
+        self.count(size).saturating_mul(self.ground.len()) <= MOST
+    }
+
+    // How many groups of so many boxes there are.
+    fn count(&self, size: usize) -> usize {
+        self.ways_below(short(self.spots.len()), size)
+    }
+
+    /// How many groups there are.
+    pub(crate) fn groups(&self) -> usize {
+        self.count(self.size)
+    }
+
+    // How many groups of so many boxes have only lesser places than this.
+    #[inline(always)]
+    fn ways_below(&self, place: u16, size: usize) -> usize {
+        let at = (place as usize * LARGEST).saturating_add(size);
+        match self.ways.get(at.saturating_sub(1)) {
+            Some(ways) => *ways as usize,
+            None => 0,
+        }
+    }
+
+    /// Where the excess of a group of so many boxes begins.
+    #[inline(always)]
+    pub(crate) fn start(&self, group: &Group, size: usize) -> usize {
+        let mut number = 0_usize;
+        for index in 0..size.min(LARGEST) {
+            number = number.saturating_add(self.ways_below(group[index], index + 1));
+        }
+        number.saturating_mul(self.ground.len())
+    }
+
+    /// Where the box at a place stands.
+    #[inline(always)]
+    pub(crate) fn spot(&self, place: u16) -> u16 {
+        match self.spots.get(place as usize) {
+            Some(spot) => *spot,
+            None => NONE,
+        }
+    }
+
+    // Finds the excess of all groups of so many boxes.
+    fn fill(&mut self, alloc: Global, level: &Level, size: usize) -> Result<(), AllocError> {
+        let len = self.count(size).saturating_mul(self.ground.len());
+        let excess = vec![in alloc; UNKNOWN; len]?;
+        self.fewer = std::mem::replace(&mut self.excess, excess);
+        self.size = size;
+        self.begin(level)?;
+        self.spread_all()
+    }
+
+    // Groups on goals have no excess, wherever the player is.
+    fn begin(&mut self, level: &Level) -> Result<(), AllocError> {
+        self.heads = [END; 256];
+        self.entries.clear();
+        let mut group = FIRST;
+        for number in 0..self.groups() {
+            self.begin_with(level, &group, number)?;
+            advance(&mut group, self.size);
+        }
+        Ok(())
+    }
+
+    // Nor has any group where a box stands, so that no walk goes there.
+    fn begin_with(
+        &mut self,
+        level: &Level,
+        group: &Group,
+        number: usize,
+    ) -> Result<(), AllocError> {
+        let start = number.saturating_mul(self.ground.len());
+        let mut is_home = true;
+        for index in 0..self.size.min(LARGEST) {
+            let at = self.spot(group[index]);
+            set_byte(
+                self.excess.as_mut_slice(),
+                start.saturating_add(at as usize),
+                0,
+            );
+            is_home &= level.is_goal(Square(ground_at(self.ground.as_slice(), at).square));
+        }
+        if is_home {
+            for player in 0..self.ground.len() {
+                self.note(group, start, short(player), 0)?;
+            }
+        }
+        Ok(())
+    }
+
+    // Notes an excess to be looked at, unless it is known.
+    fn note(
+        &mut self,
+        group: &Group,
+        start: usize,
+        player: u16,
+        excess: usize,
+    ) -> Result<(), AllocError> {
+        if byte_at(
+            self.excess.as_slice(),
+            start.saturating_add(player as usize),
+        ) != UNKNOWN
+        {
+            return Ok(());
+        }
+        let excess = excess.min(254);
+        let next = self.heads[excess];
+        let Ok(place) = u32::try_from(self.entries.len()) else {
+            return Ok(());
+        };
+        self.entries.push(Entry {
+            group: *group,
+            player,
+            next,
+        })?;
+        self.heads[excess] = place;
+        Ok(())
+    }
+
+    // Looks at all, by rising excess.
+    fn spread_all(&mut self) -> Result<(), AllocError> {
+        for excess in 0..255 {
+            self.spread(excess)?;
+        }
+        Ok(())
+    }
+
+    // Looks at all that has this excess.
+    fn spread(&mut self, excess: u8) -> Result<(), AllocError> {
+        for _ in 0..u32::MAX {
+            let head = self.heads[excess as usize] as usize;
+            if head >= self.entries.len() {
+                return Ok(());
+            }
+            let Entry {
+                group,
+                player,
+                next,
+            } = self.entries[head];
+            self.heads[excess as usize] = next;
+            self.look_at(&group, player, excess)?;
+        }
+        Ok(())
+    }
+
+    // Marks what has this excess, and notes what is a pull away.
+    fn look_at(&mut self, group: &Group, player: u16, excess: u8) -> Result<(), AllocError> {
+        let start = self.start(group, self.size);
+        let at = start.saturating_add(player as usize);
+        if byte_at(self.excess.as_slice(), at) != UNKNOWN {
+            return Ok(());
+        }
+        self.flood(start, player, excess)?;
+        for index in 0..self.size.min(LARGEST) {
+            for dir in Dir::ALL {
+                self.pull(group, start, index, dir, excess)?;
+            }
+        }
+        Ok(())
+    }
+
+    // Marks the player's area with the excess.
+    fn flood(&mut self, start: usize, player: u16, excess: u8) -> Result<(), AllocError> {
+        self.stack.clear();
+        self.mark(start, player, excess)?;
+        for _ in 0..self.ground.len() {
+            let Some(from) = self.stack.pop() else {
+                return Ok(());
+            };
+            for to in ground_at(self.ground.as_slice(), from).beside {
+                if to != NONE {
+                    self.mark(start, to, excess)?;
+                }
+            }
+        }
+        Ok(())
+    }
+
+    // Marks a square that is not marked.
+    #[inline(always)]
+    fn mark(&mut self, start: usize, player: u16, excess: u8) -> Result<(), AllocError> {
+        let at = start.saturating_add(player as usize);
+        if byte_at(self.excess.as_slice(), at) == UNKNOWN {
+            set_byte(self.excess.as_mut_slice(), at, excess);
+            self.stack.push(player)?;
+        }
+        Ok(())
+    }
+
+    // Pulls a box on, if the player has room there and behind, and can be there.
+    fn pull(
+        &mut self,
+        group: &Group,
+        start: usize,
+        index: usize,
+        dir: Dir,
+        excess: u8,
+    ) -> Result<(), AllocError>
+        requires { index < LARGEST }
+    {
+        let here = ground_at(self.ground.as_slice(), self.spot(group[index]));
+        let from = here.beside[dir as usize];
+        if byte_at(self.excess.as_slice(), start.saturating_add(from as usize)) != excess {
+            return Ok(());
+        }
+        let there = ground_at(self.ground.as_slice(), from);
+        let player = there.beside[dir as usize];
+        if there.place == NONE
+            || player == NONE
+            || self.is_taken(group, from)
+            || self.is_taken(group, player)
+        {
+            return Ok(());
+        }
+        let waste = here.waste[dir as usize];
+        let pulled = moved(group, self.size, index, there.place);
+        let to = self.start(&pulled, self.size);
+        self.note(&pulled, to, player, excess as usize + waste as usize)
+    }
+
+    // Whether a box of the group stands there.
+    #[inline(always)]
+    fn is_taken(&self, group: &Group, at: u16) -> bool {
+        let mut found = false;
+        for index in 0..self.size.min(LARGEST) {
+            found |= self.spot(group[index]) == at;
+        }
+        found
+    }
+}

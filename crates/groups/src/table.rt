@@ -1,0 +1,199 @@
+//! Listed groups and their excess.
+ghost use Rattle.std.specs.Prelude.{◌≡◌, ◌≤◌, ◌+◌, ◌*◌, IsTrue, drop, length, slice_index_or, take};
+ghost use Rattle.grid.specs.Board.{dir_number};
+ghost use Rattle.grid.specs.Squares.{contains};
+ghost use Rattle.groups.specs.Tables.{is_within, most_of};
+ghost use Rattle.groups.specs.inside.Tables.{boxes_in, entry_of, excess_in, listed_in, row_excess, waste_in};
+
+use crate::packing::Index;
+use grid::{Dir, Square};
+
+/// The excess of boxes that can never all be brought to goals.
+pub(crate) const DEAD: u8 = u8::MAX;
+
+/// Rows of lesser numbers say one excess, wherever the player is.
+pub(crate) const ROWS: u32 = 256;
+
+/// A listed group: its squares, which rise, stand from `first` on, so many as `count`, and its excess in the row of a number.
+#[derive(Clone, Copy, Debug)]
+pub(crate) struct Entry {
+    pub(crate) first: u32,
+    pub(crate) count: u32,
+    pub(crate) row: u32,
+}
+
+/// Listed groups. A row whose number is less than [`ROWS`] says this number; any other says what stands from its number on,
+/// for each place of the player. Groups may have the same row.
+///
+/// A push of a box on a square in a direction wastes a number of pushes at least, whichever goal the box is for.
+#[derive(Debug, Drop)]
+pub(crate) struct Table {
+    /// The place of each square in a row.
+    pub(crate) places: Vec<u16>,
+    /// Four for each square, in the order of directions.
+    pub(crate) wastes: Vec<u8>,
+    pub(crate) entries: Vec<Entry>,
+    pub(crate) squares: Vec<Square>,
+    pub(crate) rows: Vec<u8>,
+    /// Where groups are found by their squares. Nothing is promised of it.
+    pub(crate) index: Index,
+}
+
+impl Table {
+    /// How many groups are listed.
+    #[inline(always)]
+    pub(crate) fn count(&self) -> usize
+        ensures { result ≡ length self.now.entries.items }
+    {
+        self.entries.len()
+    }
+
+    /// The boxes of a group.
+    #[inline(always)]
+    pub(crate) fn boxes(&self, group: usize) -> &[Square]
+        ensures { result.now ≡ boxes_in self.now group }
+    {
+        let entry = entry_of(self.entries.as_slice(), group);
+        part(
+            self.squares.as_slice(),
+            entry.first as usize,
+            entry.count as usize,
+        )
+    }
+
+    /// The row of a group.
+    #[inline(always)]
+    pub(crate) fn row(&self, group: usize) -> u32
+        ensures { result ≡ (entry_of self.now.entries.items group).row }
+    {
+        entry_of(self.entries.as_slice(), group).row
+    }
+
+    /// What a row says, the player being on the square.
+    #[inline(always)]
+    pub(crate) fn row_excess(&self, row: u32, player: Square) -> u8
+        ensures { result ≡ row_excess self.now row player }
+    {
+        if row < ROWS {
+            return row as u8;
+        }
+        let place = short_at(self.places.as_slice(), player.0 as usize);
+        byte_at(self.rows.as_slice(), row as usize + place as usize)
+    }
+
+    /// The excess of a group.
+    #[inline(always)]
+    pub(crate) fn excess(&self, group: usize, player: Square) -> u8
+        ensures { result ≡ excess_in self.now group player }
+    {
+        self.row_excess(self.row(group), player)
+    }
+
+    /// How many pushes a push of a box on the square wastes.
+    #[inline(always)]
+    pub(crate) fn waste(&self, square: Square, dir: Dir) -> u8
+        ensures { result ≡ waste_in self.now square dir }
+    {
+        byte_at(
+            self.wastes.as_slice(),
+            4 * square.0 as usize + place_of(dir),
+        )
+    }
+
+    /// Whether some listed group within these boxes has so much excess. It may have where this says `false`.
+    pub(crate) fn holds(&self, boxes: &[Square], player: Square, wanted: u8) -> bool
+        ensures { IsTrue result → wanted ≤ most_of (listed_in self.now) (length self.now.entries.items) boxes.now player }
+    {
+        wanted == 0
+            || wanted <= self.at_least(boxes, player, self.find_within(boxes, player, wanted))
+    }
+
+    /// The excess of a group, if it is listed and within the boxes.
+    pub(crate) fn at_least(&self, boxes: &[Square], player: Square, group: usize) -> u8
+        ensures { result ≤ most_of (listed_in self.now) (length self.now.entries.items) boxes.now player }
+    {
+        if group < self.entries.len() && is_within(self.boxes(group), boxes) {
+            return self.excess(group, player);
+        }
+        0
+    }
+}
+
+/// Whether each square is one of the others.
+pub(crate) fn is_within(squares: &[Square], others: &[Square]) -> bool
+    ensures { result ≡ is_within squares.now others.now }
+{
+    for square in squares {
+        if !is_among(others, *square) {
+            return false;
+        }
+    }
+    true
+}
+
+/// Whether the square is one of these.
+#[inline(always)]
+pub(crate) fn is_among(squares: &[Square], square: Square) -> bool
+    ensures { result ≡ contains squares.now square }
+{
+    let mut found = false;
+    for other in squares {
+        found |= *other == square;
+    }
+    found
+}
+
+// The places of a group; those of no group where there is none.
+#[inline(always)]
+fn entry_of(entries: &[Entry], group: usize) -> Entry
+    ensures { result ≡ entry_of entries.now group }
+{
+    match entries.get(group) {
+        Some(entry) => *entry,
+        None => Entry {
+            first: 0,
+            count: 0,
+            row: 0,
+        },
+    }
+}
+
+// The direction's place among the four.
+#[inline(always)]
+fn place_of(dir: Dir) -> usize
+    ensures value { result ≡ dir_number dir }
+    ensures few { result ≤ 3 }
+{
+    dir as usize
+}
+
+/// The byte at a place; 0 where there is none.
+#[inline(always)]
+pub(crate) fn byte_at(bytes: &[u8], at: usize) -> u8
+    ensures { result ≡ slice_index_or bytes.now at 0 }
+{
+    match bytes.get(at) {
+        Some(byte) => *byte,
+        None => 0,
+    }
+}
+
+// The number at a place; 0 where there is none.
+#[inline(always)]
+fn short_at(numbers: &[u16], at: usize) -> u16
+    ensures { result ≡ slice_index_or numbers.now at 0 }
+{
+    match numbers.get(at) {
+        Some(number) => *number,
+        None => 0,
+    }
+}
+
+// So many elements from a place on; fewer where there are not so many.
+#[inline(always)]
+fn part<T>(xs: &[T], from: usize, count: usize) -> &[T]
+    ensures value { result.now ≡ take count (drop from xs.now) }
+{
+    let rest = &xs[from.min(xs.len())..];
+    &rest[..count.min(rest.len())]
+}

@@ -1,2 +1,0 @@
-pub mod Excess
-pub mod inside
