@@ -2,9 +2,9 @@
 # make install builds it and copies it to PREFIX/bin
 # make quick   builds target/quick/sokopar from the program's text alone, in a minute or two, with nothing proved
 # make demo    runs the proved program on the collections of levels/, or the unproved one where no proved one is built
-# make test    checks what documents cite, proves everything, tries the must-fail edits and runs the tests (`rt ci`), and then tests the program
-#              that this built as a process
-# make check   tries in minutes what a change touches, for whoever makes it
+# make test    checks what documents cite, proves everything, tries the must-fail edits and runs the tests (`rt ci`),
+#              and then tests the built program as a process
+# make check   tries in minutes what a change touches, for its author
 # make bench   measures it
 
 RT ?= rt
@@ -55,5 +55,6 @@ toolchain:
 # What the tests need: all of it that is missing in one line
 needs:
 	@missing=; for it in $(RT) python3; do command -v $$it > /dev/null || missing="$$missing, $$it"; done; \
-	command -v cc > /dev/null || command -v gcc > /dev/null || command -v clang > /dev/null || missing="$$missing, a C compiler (cc, gcc or clang)"; \
+	command -v cc > /dev/null || command -v gcc > /dev/null || command -v clang > /dev/null || \
+		missing="$$missing, a C compiler (cc, gcc or clang)"; \
 	[ -z "$$missing" ] || { echo "Not on PATH, and the tests need it: $${missing#, }"; exit 1; }

@@ -40,13 +40,15 @@ class Chart:
     def axes(self):
         yield f'<text x="{LEFT}" y="22" class="title">{self.title}</text>'
         for value in self.ys:
-            yield f'<line x1="{LEFT}" x2="{WIDTH - RIGHT}" y1="{self.y(value):.1f}" y2="{self.y(value):.1f}" class="grid"/>'
+            y = f"{self.y(value):.1f}"
+            yield f'<line x1="{LEFT}" x2="{WIDTH - RIGHT}" y1="{y}" y2="{y}" class="grid"/>'
             yield f'<text x="{LEFT - 8}" y="{self.y(value) + 4:.1f}" text-anchor="end">{said(value)}</text>'
         for value in self.xs:
             yield f'<text x="{self.x(value):.1f}" y="{HEIGHT - BOTTOM + 18}" text-anchor="middle">{said(value)}</text>'
         middle = (LEFT + WIDTH - RIGHT) / 2
         yield f'<text x="{middle:.1f}" y="{HEIGHT - 12}" text-anchor="middle">{self.across}</text>'
-        yield f'<text transform="translate(16 {(TOP + HEIGHT - BOTTOM) / 2:.1f}) rotate(-90)" text-anchor="middle">{self.up}</text>'
+        turned = f"translate(16 {(TOP + HEIGHT - BOTTOM) / 2:.1f}) rotate(-90)"
+        yield f'<text transform="{turned}" text-anchor="middle">{self.up}</text>'
 
     def drawn(self):
         for points, colour in zip(self.lines.values(), COLOURS):
@@ -56,7 +58,8 @@ class Chart:
                 yield f'<circle cx="{self.x(x):.1f}" cy="{self.y(y):.1f}" r="3" fill="{colour}"/>'
         row = TOP
         for name, colour in zip(self.lines, COLOURS):
-            yield f'<line x1="{WIDTH - RIGHT + 14}" x2="{WIDTH - RIGHT + 32}" y1="{row}" y2="{row}" stroke="{colour}" stroke-width="2"/>'
+            ends = f'x1="{WIDTH - RIGHT + 14}" x2="{WIDTH - RIGHT + 32}" y1="{row}" y2="{row}"'
+            yield f'<line {ends} stroke="{colour}" stroke-width="2"/>'
             yield f'<text x="{WIDTH - RIGHT + 38}" y="{row + 4}">{name}</text>'
             row += 18
 

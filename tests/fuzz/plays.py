@@ -1,7 +1,7 @@
-"""A slow search for the least solution by the rules of the game alone: it looks at plays in the order of solutions, and knows nothing of
-deadlocks, areas, layers or normal positions.
+"""A slow search for the least solution by the rules of the game alone. It looks at plays in the order of solutions,
+and knows nothing of deadlocks, areas, layers or normal positions.
 
-It shares nothing with the program, and but the reading of boards nothing with search.py."""
+It shares no code with the program, and only the reading of boards with search.py."""
 import heapq
 
 from formats import DIRS, moved
@@ -10,7 +10,8 @@ ORDER = "dlru"
 
 
 def steps(board, boxes, player):
-    """The steps that the rules allow: each letter with the boxes and the player after it, and the square of the box that it pushes, if any."""
+    """The steps that the rules allow: each letter with the boxes and the player after it, and the square of the
+    box that it pushes, if any."""
     for letter in ORDER:
         ahead = moved(player, DIRS[letter])
         if board.is_wall(ahead):
@@ -28,9 +29,10 @@ TOO_MANY = "too many states"
 
 
 def least(board, most, cap=None):
-    """The pushes and the text of the least solution, of those that a cap of pushes allows, if one is given; None where no play solves the level
-    so, or TOO_MANY. A play is compared as solutions are: by its number of pushes, then its push list, then its number of moves, then its letters
-    in lower case. Each state is left by the least play that leads there, for a lesser beginning makes a lesser play."""
+    """The pushes and the text of the least solution, of those that a cap of pushes allows, if one is given; None
+    where no play solves the level so, or TOO_MANY. A play is compared as solutions are: by its number of pushes,
+    then its push list, then its number of moves, then its letters in lower case. Each state is left by the least
+    play that leads there, for a lesser beginning makes a lesser play."""
     waiting, left, number = [((0, (), 0, ""), 0, frozenset(board.boxes), board.player, "")], set(), 0
     while waiting:
         (pushes, push_list, moves, letters), _, boxes, player, text = heapq.heappop(waiting)
@@ -46,5 +48,6 @@ def least(board, most, cap=None):
                 number += 1
                 more = (pushes, push_list) if pushed is None else (pushes + 1, push_list + ((pushed, letter),))
                 play = (*more, moves + 1, letters + letter)
-                heapq.heappush(waiting, (play, number, after, ahead, text + (letter if pushed is None else letter.upper())))
+                heapq.heappush(waiting,
+                               (play, number, after, ahead, text + (letter if pushed is None else letter.upper())))
     return None

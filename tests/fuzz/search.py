@@ -1,8 +1,9 @@
-"""An independent search for the least solution, by the definitions of docs/FORMATS.md and docs/GAME.md: positions are sets of boxes with
-the least square that the player reaches, layers hold the undoomed ones by their fewest pushes, in the order of their least push lists. Under
-a cap of pushes the same layers are found first, and only then is each cut down to the positions that the cap admits.
+"""An independent search for the least solution, by the definitions of docs/FORMATS.md and docs/GAME.md. Positions
+are sets of boxes with the least square that the player reaches. Layers hold the undoomed positions by their fewest
+pushes, in the order of their least push lists. Under a cap of pushes, the search first finds the same layers and
+then removes the positions that the cap does not admit.
 
-It shares nothing with the program. It is slow and plain, and made for small levels."""
+It shares no code with the program. It is slow and plain, and made for small levels."""
 import functools
 import itertools
 
@@ -82,8 +83,8 @@ def text_of(board, pushes):
 
 
 def layers(board, most):
-    """The layers, each a list of positions with the push list that leads there; None instead of one that would bring the positions
-    above `most`."""
+    """The layers, each a list of positions with the push list that leads there; None instead of one that would
+    bring the positions above `most`."""
     boxes, live = frozenset(board.boxes), board.live()
     start = boxes, min(reached(board, boxes, board.player))
     layer = [] if is_doomed(board, live, boxes) else [(start, ())]
@@ -103,7 +104,8 @@ def layers(board, most):
 
 
 def pushes_alone(board, square):
-    """The fewest pushes by which a lone box comes from a square to some goal, the player being set down anew before each; None where none do."""
+    """The fewest pushes by which a lone box comes from a square to some goal, the player being set down anew
+    before each; None where none do."""
     far, waiting = {square: 0}, [square]
     for place in waiting:
         if place in board.goals:
@@ -117,16 +119,16 @@ def pushes_alone(board, square):
 
 
 def admitted(board, cap, whole):
-    """Of whole layers those that the cap reaches, each with the positions alone whose boxes, each as if it were alone, need no more pushes than
-    the cap leaves. No box of a layer stands where it has none."""
+    """Of whole layers those that the cap reaches, each with the positions alone whose boxes, each as if it were
+    alone, need no more pushes than the cap leaves. No box of a layer stands where it has none."""
     need = functools.cache(functools.partial(pushes_alone, board))
     for pushes, layer in enumerate(itertools.islice(whole, cap + 1)):
         yield layer and [entry for entry in layer if pushes + sum(map(need, entry[0][0])) <= cap]
 
 
 def solve(board, limit, most, cap=None):
-    """The status and the report of `solve`, under a cap of pushes if one is given; None where whole layers of more than `most` positions are
-    needed."""
+    """The status and the report of `solve`, under a cap of pushes if one is given; None where whole layers of more
+    than `most` positions are needed."""
     count = 0
     for layer in layers(board, min(limit, most)) if cap is None else admitted(board, cap, layers(board, most)):
         if layer is None:

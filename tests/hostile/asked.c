@@ -1,5 +1,5 @@
-/* Loaded before the C library (LD_PRELOAD), it counts how many bytes a program has asked for and not yet given back. The file
-   ASKED_MOST, 8 bytes, holds the most that there were at one time: it is mapped, so that it is right however the process ends. */
+/* Loaded before the C library (LD_PRELOAD), it counts the bytes that a program holds. The file ASKED_MOST, 8 bytes, holds
+   the most at one time. It is mapped, so that it is right however the process ends. */
 #include <errno.h>
 #include <fcntl.h>
 #include <malloc.h>
@@ -26,7 +26,7 @@ __attribute__((constructor)) static void begin(void) {
     most = place;
 }
 
-/* What a block has, and what it had, are counted as the C library rounds them. While a block moves both of its places count. */
+/* The sizes of blocks are counted as the C library rounds them. While a block moves, both its places count. */
 static void *taken(void *block) {
     if (block == NULL) return NULL;
     unsigned long size = malloc_usable_size(block);

@@ -1,9 +1,9 @@
-/* Loaded before the C library (LD_PRELOAD), it makes the ends of a program strange. Reads of any file but standard input give at
-   most READ_MOST bytes, and the one whose number, from 1, READ_FAILS gives fails; before the read of number CUT_AT the file CUT_FILE is
-   cut to CUT_TO bytes. Writes to standard output take at most WRITE_MOST bytes, and the one whose number WRITE_FAILS gives
-   fails. With INTERRUPTED each read and each write, of whatever file, is first interrupted as many times as it says, and these are not
-   counted. The file ENDS_COUNT, 3 numbers of 8 bytes, holds how many reads, writes and bytes read there were: it is mapped, so
-   that it is right however the process ends. */
+/* Loaded before the C library (LD_PRELOAD), it makes reads and writes of a program fail or stop short. Reads of any file
+   except standard input give at most READ_MOST bytes, and read number READ_FAILS, counted from 1, fails. Before read
+   number CUT_AT the file CUT_FILE is cut to CUT_TO bytes. Writes to standard output take at most WRITE_MOST bytes, and
+   write number WRITE_FAILS fails. With INTERRUPTED each read and each write of any file is first interrupted that many
+   times; interruptions do not count. The file ENDS_COUNT, 3 numbers of 8 bytes, holds the number of reads, writes and
+   bytes read. It is mapped, so that it is right however the process ends. */
 #define _GNU_SOURCE
 #include <dlfcn.h>
 #include <errno.h>
@@ -17,7 +17,8 @@ typedef ssize_t (*Write)(int, const void *, size_t);
 
 static Read next_read;
 static Write next_write;
-static unsigned long *seen, read_most, read_fails, cut_at, cut_to, write_most, write_fails, interrupted, reads_left, writes_left;
+static unsigned long *seen, read_most, read_fails, cut_at, cut_to, write_most, write_fails;
+static unsigned long interrupted, reads_left, writes_left;
 
 static unsigned long number(const char *name, unsigned long other) {
     const char *text = getenv(name);

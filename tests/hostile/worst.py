@@ -1,4 +1,5 @@
-"""Files that make the program take much memory for each byte, and how much it may take (docs/FORMATS.md has the table)."""
+"""Files that make the program take much memory for each byte, and how much it may take (docs/FORMATS.md has the
+table)."""
 
 # bytes that a run of any command but `solve` takes at most: so many, and so many for each byte of its files
 FIXED = 8 << 20
@@ -9,7 +10,8 @@ MOST = 1 << 24
 ONE = b"#####\n#@$.#\n#####\n"
 
 # an open room of 22 rows and columns with 11 boxes, which has far more positions than the default limit
-WIDE_ROWS = [" " * 20] * 7 + ["    $$$$$$$$$$$     "] + [" " * 20] * 5 + ["    ...........     "] + [" " * 20] * 5 + [" " * 19 + "@"]
+WIDE_ROWS = [" " * 20] * 7 + ["    $$$$$$$$$$$     "] + [" " * 20] * 5 + ["    ...........     "
+                                                                         ] + [" " * 20] * 5 + [" " * 19 + "@"]
 WIDE_ROOM = "\n".join(["#" * 22, *(f"#{row}#" for row in WIDE_ROWS), "#" * 22, ""]).encode()
 
 # a level of 255 rows and 255 columns in as few bytes as there are: most rows have one wall, and floor is filled in
@@ -33,7 +35,8 @@ def filled(part, size=SIZE):
 
 
 def collections():
-    """The worst files, by their names. The one with the longest report for each of its bytes is also tried at the greatest length."""
+    """The worst files, by their names. The one with the longest report for each of its bytes is also tried at the
+    greatest length."""
     yield from ((name, filled(part)) for name, part in PARTS.items())
     yield "as many boards of one wall as a file has room for", filled(PARTS["boards of one wall"], MOST)
 
@@ -45,7 +48,8 @@ def solutions():
 
 
 def cases():
-    """The name of what is read, the words behind the program's name, where FILE and MOVES are files, and their bytes."""
+    """The name of what is read, the words behind the program's name, where FILE and MOVES are files, and their
+    bytes."""
     for name, file in collections():
         yield name, ["check", "FILE"], file, b""
         for command in ("show", "dead"):

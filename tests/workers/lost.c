@@ -1,8 +1,7 @@
-/* Loaded before the C library (LD_PRELOAD), it takes workers away from a program. The threads that it starts, but for the
-   first LOST_AFTER ones, are refused; and so is each request for memory that is made in a thread but the first one, from
-   the request on whose number LOST_MEMORY gives, counted over all these threads from 1; with LOST_ALONE that one alone. The
-   file LOST_COUNT, 8 bytes, holds how many threads it was to start: it is mapped, so that it is right however the process
-   ends. */
+/* Loaded before the C library (LD_PRELOAD), it takes workers away from a program. The program can start only LOST_AFTER
+   threads. In all threads except the first, requests for memory fail from number LOST_MEMORY on, counted from 1 over
+   these threads together; with LOST_ALONE only that one fails. The file LOST_COUNT, 8 bytes, holds how many threads the
+   program tried to start. It is mapped, so that it is right however the process ends. */
 #define _GNU_SOURCE
 #include <dlfcn.h>
 #include <errno.h>

@@ -1,4 +1,5 @@
-"""Small levels that workers are tried on: the ones of rooms.xsb, made by hand, and others by chance, the same in each run."""
+"""Small levels that workers are tried on: those of rooms.xsb, made by hand, and others by chance, the same in each
+run."""
 import os
 import random
 
@@ -13,7 +14,8 @@ PLENTY = 1_000_000
 CAPS = 7
 
 # the width and the height of a room, the number of its boxes, and that of its inner walls
-SHAPES = [(3, 3, 1, 0), (4, 3, 1, 2), (5, 4, 1, 4), (4, 4, 2, 1), (5, 3, 2, 1), (5, 4, 2, 3), (6, 4, 2, 5), (5, 3, 3, 0), (4, 4, 3, 1)]
+SHAPES = [(3, 3, 1, 0), (4, 3, 1, 2), (5, 4, 1, 4), (4, 4, 2, 1), (5, 3, 2, 1), (5, 4, 2, 3), (6, 4, 2, 5),
+          (5, 3, 3, 0), (4, 4, 3, 1)]
 
 
 def by_hand():
@@ -34,7 +36,8 @@ def room(rng, shape):
         cells[square] = b"$"[0]
     cells[rng.choice([square for square in inside if cells[square] == b" "[0]])] = b"@"[0]
     under = {b" "[0]: b"."[0], b"$"[0]: b"*"[0], b"@"[0]: b"+"[0]}
-    for square in rng.sample([square for square in inside if cells[square] in under], sum(cell == b"$"[0] for cell in cells.values())):
+    for square in rng.sample([square for square in inside if cells[square] in under],
+                             sum(cell == b"$"[0] for cell in cells.values())):
         cells[square] = under[cells[square]]
     rows = [bytes(cells.get((row, column), b"#"[0]) for column in range(width + 2)) for row in range(height + 2)]
     return b"\n".join(rows) + b"\n"
@@ -47,12 +50,14 @@ def by_chance():
 
 
 def answer(board, cap):
-    """The status, the report and the number of positions of `solve` of a level, under a cap of pushes if one is given: the least solution or none
-    is found by the rules of the game alone, and the report by the definitions has to agree with it."""
+    """The status, the report and the number of positions of `solve` of a level, under a cap of pushes if one is
+    given: the least solution or none is found by the rules of the game alone, and the report by the definitions
+    has to agree with it."""
     least, (status, text) = plays.least(board, PLENTY, cap), search.solve(board, PLENTY, PLENTY, cap)
     if least is None:
         front = b"unsolvable, " if cap is None else b"none within %d pushes, " % cap
-        assert status == 1 and text.startswith(front), f"{text} by the definitions, no solution under the cap {cap} by the rules"
+        assert status == 1 and text.startswith(
+            front), f"{text} by the definitions, no solution under the cap {cap} by the rules"
         return status, text, int(text.removeprefix(front).removesuffix(b" positions\n"))
     pushes, moves = least
     front, _, last = text.partition(b" positions\n")
@@ -62,8 +67,8 @@ def answer(board, cap):
 
 
 def answers(data):
-    """The answers to a level: first without a cap of pushes, and then under each one from 0 to two more than the fewest pushes; where it is
-    unsolvable, under some small ones and the greatest."""
+    """The answers to a level: first without a cap of pushes, and then under each one from 0 to two more than the
+    fewest pushes; where it is unsolvable, under some small ones and the greatest."""
     board = formats.boards_of(data)[0]
     least = plays.least(board, PLENTY)
     caps = [*range(CAPS), formats.MOST_NUMBER] if least is None else range(least[0] + 3)

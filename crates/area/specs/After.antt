@@ -9,8 +9,8 @@ use Rattle.area.specs.Area.{Area}
 abbrev pub IsAreaOf : Board → Scene → Squares → Type 0
 IsAreaOf board s reached = (q : ℕ) → (contains reached q ≡ true) ↔ Area board s q
 
--- t is s after a walk and the push: the player walks to the square behind the box, and the box goes one square on, where
--- there is neither wall nor box
+-- t is s after a walk and the push: the player walks to the square behind the box, and the box goes one square on,
+-- where there is neither wall nor box
 pub record IsPushed (board : Board) (s : Scene) (p : Push) (t : Scene) : Type 0 where
   pub there : contains s.boxes p.square ≡ true
   pub behind : Area board s (next board p.square (opposite p.dir))

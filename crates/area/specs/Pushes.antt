@@ -15,7 +15,8 @@ pub record CanPush (board : Board) (n : Scene) (p : Push) : Type 0 where
 -- xs is all that has the property, each once, in the order of the pushes
 pub record AreAll {A : Type 0} (push_of : A → Push) (Has : A → Type 0) (xs : List A) : Type 0 where
   pub each : (i : ℕ) (x : A) → slice_get xs i ≡ Some x → Has x
-  pub rise : (i j : ℕ) (x y : A) → i < j → slice_get xs i ≡ Some x → slice_get xs j ≡ Some y → push_cmp (push_of x) (push_of y) ≡ Less
+  pub rise : (i j : ℕ) (x y : A) → i < j → slice_get xs i ≡ Some x → slice_get xs j ≡ Some y →
+      push_cmp (push_of x) (push_of y) ≡ Less
   pub whole : (x : A) → Has x → (i : ℕ) × (slice_get xs i ≡ Some x)
 
 -- ps is the pushes that the position allows, each once, in their order

@@ -1,7 +1,8 @@
 //! Sets of squares as bits of words: bit i of word k is the square `WORD_BITS * k + i`.
 //!
 //! For the crates above, which combine whole words of sets. A program uses [`SquareSet`](crate::SquareSet).
-ghost use Rattle.std.specs.Prelude.{◌≡◌, ℕ, ◌+◌, ◌-◌, ◌*◌, ◌<◌, ◌≤◌, ◌==◌, ◌||◌, ◌&&◌, not, true, false, length, slice_index};
+ghost use Rattle.std.specs.Prelude.{◌≡◌, ℕ, ◌+◌, ◌-◌, ◌*◌, ◌<◌, ◌≤◌, ◌==◌, ◌||◌, ◌&&◌, not, true, false, length};
+ghost use Rattle.std.specs.Prelude.{slice_index};
 ghost use Rattle.std.specs.Int.{trailing_zeros, w64};
 ghost use Rattle.grid.specs.Masks.{has_bit};
 ghost use Rattle.grid.specs.Squares.{contains};
@@ -114,7 +115,8 @@ fn without(index: usize, word: u64, square: Square) -> u64
 #[inline(always)]
 pub fn before(words: &[u64], index: usize, by: usize) -> u64
     requires { index < length words.now }
-    ensures there { (i j : ℕ) → j < WORD_BITS → i + by ≡ WORD_BITS * index + j → word_bit result j ≡ has_bit words.now i }
+    ensures there { (i j : ℕ) → j < WORD_BITS → i + by ≡ WORD_BITS * index + j →
+        word_bit result j ≡ has_bit words.now i }
     ensures none { (j : ℕ) → j < WORD_BITS → WORD_BITS * index + j < by → word_bit result j ≡ false }
 {
     let far = by / WORD_BITS;
@@ -142,7 +144,8 @@ pub fn after(words: &[u64], index: usize, by: usize) -> u64
 pub(crate) fn just_before(words: &[u64], index: usize, by: usize) -> u64
     requires inside { index < length words.now }
     requires near { by < WORD_BITS }
-    ensures there { (i j : ℕ) → j < WORD_BITS → i + by ≡ WORD_BITS * index + j → word_bit result j ≡ has_bit words.now i }
+    ensures there { (i j : ℕ) → j < WORD_BITS → i + by ≡ WORD_BITS * index + j →
+        word_bit result j ≡ has_bit words.now i }
     ensures none { (j : ℕ) → j < WORD_BITS → WORD_BITS * index + j < by → word_bit result j ≡ false }
 {
     let low = word_before(words, index, 1);

@@ -60,7 +60,8 @@ pub(crate) fn flood_sets(
     requires others { length others.old ≡ word_count (length level.now.cells) }
     ensures reached { (q : ℕ) → (has_bit reached.new q ≡ true) ↔ Area level.now position.now q }
     ensures boxes { (q : ℕ) → has_bit boxes.new q ≡ contains position.now.boxes q }
-    ensures room { (length reached.new ≡ length reached.old) × (length boxes.new ≡ length boxes.old) × (length others.new ≡ length others.old) }
+    ensures room { (length reached.new ≡ length reached.old) × (length boxes.new ≡ length boxes.old) ×
+        (length others.new ≡ length others.old) }
 {
     boxes.put_all(position.boxes());
     others.copy_from(boxes);
@@ -147,7 +148,8 @@ fn settle(
     requires inside { index < length masks.now }
     requires boxes { length boxes.now ≡ length masks.now }
     requires room { length reached.old ≡ length masks.now }
-    ensures { (board : Board) → AreMasks board masks.now → board.cols ≡ cols → IsSettling board boxes.now index reached.old reached.new result }
+    ensures { (board : Board) → AreMasks board masks.now → board.cols ≡ cols →
+        IsSettling board boxes.now index reached.old reached.new result }
 {
     let StepMasks { d, l, r, u } = masks[index];
     let old = reached[index];

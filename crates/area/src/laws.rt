@@ -15,7 +15,8 @@ pub fn walks_go_both_ways()
 
 /// A test of the boxes alone that a state passes is passed all along each walk from it.
 pub fn what_boxes_decide_lasts()
-    ensures { (board : Board) (s t : Scene) (ds : List Dir) (test : Squares → Bool) → test s.boxes ≡ true → Play board Any s ds [] t
+    ensures { (board : Board) (s t : Scene) (ds : List Dir) (test : Squares → Bool) → test s.boxes ≡ true →
+        Play board Any s ds [] t
         → Play board (λ x. test x.boxes ≡ true) s ds [] t }
 {}
 
@@ -27,7 +28,9 @@ pub fn each_state_has_one_normal_form()
 
 /// The states of an area share a normal form, and states that share a normal form share an area.
 pub fn an_area_has_one_normal_form()
-    ensures same { (board : Board) (s t n : Scene) (ds : List Dir) → IsScene board s → Play board Any s ds [] t → IsNorm board s n ↔ IsNorm board t n }
-    ensures shared { (board : Board) (s t n : Scene) → IsScene board s → IsScene board t → IsNorm board s n → IsNorm board t n → (ds : List Dir) ×
+    ensures same { (board : Board) (s t n : Scene) (ds : List Dir) → IsScene board s → Play board Any s ds [] t →
+        IsNorm board s n ↔ IsNorm board t n }
+    ensures shared { (board : Board) (s t n : Scene) → IsScene board s → IsScene board t → IsNorm board s n →
+        IsNorm board t n → (ds : List Dir) ×
         Play board Any s ds [] t }
 {}

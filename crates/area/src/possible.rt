@@ -83,7 +83,8 @@ fn push_word(
 fn push_box(masks: &PushMasks, bit: usize, square: Square, pushes: &mut ArrayVec<Push, MAX_PUSHES>)
     requires inside { bit < WORD_BITS }
     requires room { length pushes.old.items + 4 ≤ MAX_PUSHES }
-    ensures pushes { (board : Board) (reach : Reach) → TellsPushes board reach masks.now bit square → AreAllowedBefore board reach square 0 pushes.old.items →
+    ensures pushes { (board : Board) (reach : Reach) → TellsPushes board reach masks.now bit square →
+        AreAllowedBefore board reach square 0 pushes.old.items →
         AreAllowedBefore board reach (square + 1) 0 pushes.new.items }
     ensures bound { length pushes.new.items ≤ length pushes.old.items + 4 }
 {
@@ -98,8 +99,10 @@ fn push_box(masks: &PushMasks, bit: usize, square: Square, pushes: &mut ArrayVec
 fn push_if(word: u64, bit: usize, square: Square, dir: Dir, pushes: &mut ArrayVec<Push, MAX_PUSHES>)
     requires inside { bit < WORD_BITS }
     requires room { length pushes.old.items < MAX_PUSHES }
-    ensures pushes { (board : Board) (reach : Reach) → ((word_bit word bit ≡ true) ↔ Allows board reach (record { square = square; dir = dir })) →
-        AreAllowedBefore board reach square (dir_number dir) pushes.old.items → AreAllowedBefore board reach square (dir_number dir + 1) pushes.new.items }
+    ensures pushes { (board : Board) (reach : Reach) →
+        ((word_bit word bit ≡ true) ↔ Allows board reach (record { square = square; dir = dir })) →
+        AreAllowedBefore board reach square (dir_number dir) pushes.old.items →
+        AreAllowedBefore board reach square (dir_number dir + 1) pushes.new.items }
     ensures bound { length pushes.new.items ≤ length pushes.old.items + 1 }
 {
     if ((word >> bit) & 1) == 1 {

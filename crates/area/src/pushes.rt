@@ -112,7 +112,8 @@ fn open_after(masks: &[StepMasks], boxes: &[u64], index: usize, dir: Dir, by: us
 fn open_before(masks: &[StepMasks], boxes: &[u64], index: usize, dir: Dir, by: usize) -> u64
     requires inside { index < length masks.now }
     requires boxes { length boxes.now ≡ length masks.now }
-    ensures there { (board : Board) → AreMasks board masks.now → (i j : ℕ) → j < WORD_BITS → i + by ≡ WORD_BITS * index + j →
+    ensures there { (board : Board) → AreMasks board masks.now → (i j : ℕ) → j < WORD_BITS →
+        i + by ≡ WORD_BITS * index + j →
         word_bit result j ≡ is_open board boxes.now dir i }
     ensures none { (j : ℕ) → j < WORD_BITS → WORD_BITS * index + j < by → word_bit result j ≡ false }
 {
@@ -143,7 +144,8 @@ fn open_back(masks: &[StepMasks], boxes: &[u64], index: usize, dir: Dir, far: us
 #[inline(always)]
 fn open_at(masks: &[StepMasks], boxes: &[u64], index: usize, dir: Dir) -> u64
     requires boxes { length boxes.now ≡ length masks.now }
-    ensures { (board : Board) → AreMasks board masks.now → (j : ℕ) → j < WORD_BITS → word_bit result j ≡ is_open board boxes.now dir (WORD_BITS * index + j) }
+    ensures { (board : Board) → AreMasks board masks.now → (j : ℕ) → j < WORD_BITS →
+        word_bit result j ≡ is_open board boxes.now dir (WORD_BITS * index + j) }
 {
     if index < masks.len() {
         mask_for(masks[index], dir) & !boxes[index]

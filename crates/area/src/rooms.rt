@@ -162,7 +162,8 @@ fn visit_few(cols: usize, free: &[u64], words: &mut [u64], index: usize) -> bool
 fn just_beside(cols: usize, words: &[u64], index: usize) -> u64
     requires near { cols < WORD_BITS }
     requires inside { index < length words.now }
-    ensures { (j : ℕ) → j < WORD_BITS → (word_bit result j ≡ true) ↔ ((p : ℕ) × IsBeside cols p (WORD_BITS * index + j) × (has_bit words.now p ≡ true)) }
+    ensures { (j : ℕ) → j < WORD_BITS → (word_bit result j ≡ true) ↔
+        ((p : ℕ) × IsBeside cols p (WORD_BITS * index + j) × (has_bit words.now p ≡ true)) }
 {
     (just_before(words, index, 1) | just_after(words, index, 1))
         | (just_before(words, index, cols) | just_after(words, index, cols))
@@ -172,7 +173,8 @@ fn just_beside(cols: usize, words: &[u64], index: usize) -> u64
 #[inline(always)]
 fn beside(cols: usize, words: &[u64], index: usize) -> u64
     requires inside { index < length words.now }
-    ensures { (j : ℕ) → j < WORD_BITS → (word_bit result j ≡ true) ↔ ((p : ℕ) × IsBeside cols p (WORD_BITS * index + j) × (has_bit words.now p ≡ true)) }
+    ensures { (j : ℕ) → j < WORD_BITS → (word_bit result j ≡ true) ↔
+        ((p : ℕ) × IsBeside cols p (WORD_BITS * index + j) × (has_bit words.now p ≡ true)) }
 {
     (just_before(words, index, 1) | just_after(words, index, 1))
         | (before(words, index, cols) | after(words, index, cols))

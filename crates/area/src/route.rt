@@ -1,4 +1,5 @@
-ghost use Rattle.std.specs.Prelude.{◌≡◌, ℕ, suc, ◌+◌, ◌<◌, ◌≤◌, ◌↔◌, ◌++◌, List, true, false, IsTrue, IfOk, OnOk, OnErr, length, slice_index};
+ghost use Rattle.std.specs.Prelude.{◌≡◌, ℕ, suc, ◌+◌, ◌<◌, ◌≤◌, ◌↔◌, ◌++◌, List, true, false, IsTrue, IfOk, OnOk};
+ghost use Rattle.std.specs.Prelude.{OnErr, length, slice_index};
 ghost use Rattle.grid.specs.declared.dir.Dir.{Dir};
 ghost use Rattle.grid.specs.declared.moves.Letter.{Letter};
 ghost use Rattle.grid.specs.Board.{IsFree, next};

@@ -57,8 +57,10 @@ fn look(level: &Level, square: Square, push_dir: Dir, ring: &Ring, scratch: &Scr
     requires behind { contains scratch.now.reached (next level.now square (opposite push_dir)) ≡ true }
     requires reached { (q : ℕ) → contains scratch.now.reached q ≡ true → q < length level.now.cells }
     requires within { next level.now square push_dir < length level.now.cells }
-    ensures joined { IsTrue result.is_joined → StaysJoined level.now scratch.now.reached (next level.now square push_dir) square }
-    ensures known { IsTrue result.is_known → GainsNothing level.now scratch.now.boxes scratch.now.reached (next level.now square push_dir) square }
+    ensures joined { IsTrue result.is_joined →
+        StaysJoined level.now scratch.now.reached (next level.now square push_dir) square }
+    ensures known { IsTrue result.is_known →
+        GainsNothing level.now scratch.now.boxes scratch.now.reached (next level.now square push_dir) square }
 {
     level.tell();
     let view = turn(ring, push_dir);

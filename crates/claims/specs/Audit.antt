@@ -1,5 +1,6 @@
 -- What holds of all hands of a ledger together at each moment, and what an audit of some of them tells.
-use Rattle.std.specs.Prelude.{◌≡◌, ℕ, ◌+◌, ◌<◌, ◌≤◌, min, true, false, nat_lt, List, [], ◌++◌, All, AllPairs, map, sum_by, IsNone}
+use Rattle.std.specs.Prelude.{◌≡◌, ℕ, ◌+◌, ◌<◌, ◌≤◌, min, true, false, nat_lt, List, [], ◌++◌, All, AllPairs, map}
+use Rattle.std.specs.Prelude.{sum_by, IsNone}
 use Rattle.claims.specs.declared.ledger.TheConstants.{PLACES}
 use Rattle.claims.specs.declared.views.Hand.{Hand}
 use Rattle.claims.specs.Hands.{DrawerView, one_if, times, is_place}

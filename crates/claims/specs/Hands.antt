@@ -1,5 +1,6 @@
 -- What drawers have of a ledger, and how the calls change it.
-use Rattle.std.specs.Prelude.{◌≡◌, ℕ, ◌+◌, ◌<◌, ◌≤◌, ◌⊎◌, Bool, true, false, ◌==◌, if◌then◌else◌, List, [], ◌∷◌, ◌++◌, All, sum_by, Option, Some, None, IsSome}
+use Rattle.std.specs.Prelude.{◌≡◌, ℕ, ◌+◌, ◌<◌, ◌≤◌, ◌⊎◌, Bool, true, false, ◌==◌, if◌then◌else◌, List, [], ◌∷◌, ◌++◌}
+use Rattle.std.specs.Prelude.{All, sum_by, Option, Some, None, IsSome}
 use Rattle.std.specs.Prelude.{IsNone}
 use Rattle.atomic_table.specs.Seated.{TableId}
 use Rattle.claims.specs.declared.ledger.TheConstants.{PLACES}
@@ -10,7 +11,8 @@ pub record LedgerView : Type 0 where
   pub table : TableId
   pub len : ℕ
 
--- the ledger that a drawer came from, and its place, its numbers, whether it is spent out, and the places that it has seen taken
+-- the ledger that a drawer came from, and its place, its numbers, whether it is spent out, and the places that it has
+-- seen taken
 pub record DrawerView : Type 0 where
   pub ledger : LedgerView
   pub hand : Hand
@@ -66,11 +68,12 @@ MayEnrol p h = IsNone h.place × (p < PLACES)
 abbrev pub MayNotEnrol : ℕ → Hand → Type 0
 MayNotEnrol p h = IsSome h.place ⊎ (PLACES ≤ p)
 
--- An enrolment gives the hand that place. Where it does not, the hand may not enrol there, and nothing changes, or it has
--- then seen the place taken
+-- An enrolment gives the hand that place. Where it does not, the hand may not enrol there, and nothing changes, or it
+-- has then seen the place taken
 abbrev pub Enrolled : ℕ → Hand → Bool → Hand → Type 0
 Enrolled p before true after = MayEnrol p before × (after ≡ with_place p before)
-Enrolled p before false after = (MayNotEnrol p before × (after ≡ before)) ⊎ (MayEnrol p before × (after ≡ with_taken p before))
+Enrolled p before false after =
+    (MayNotEnrol p before × (after ≡ before)) ⊎ (MayEnrol p before × (after ≡ with_taken p before))
 
 -- the hand has a place and is not spent out
 abbrev pub MayDraw : Hand → Type 0
@@ -80,12 +83,14 @@ MayDraw h = IsSome h.place × (h.spent ≡ false)
 abbrev pub MayNotDraw : Hand → Type 0
 MayNotDraw h = IsNone h.place ⊎ (h.spent ≡ true)
 
--- A draw puts its number, which is below the length and above all earlier ones, at the end. Where it gives none, the hand
--- may not draw, and nothing changes, or it is from then on spent out
+-- A draw puts its number, which is below the length and above all earlier ones, at the end. Where it gives none, the
+-- hand may not draw, and nothing changes, or it is from then on spent out
 abbrev pub Drew : ℕ → Hand → Option ℕ → Hand → Type 0
-Drew len before (Some x) after = MayDraw before × (x < len) × All (λ y. y < x) before.numbers × (after ≡ with_number x before)
+Drew len before (Some x) after =
+    MayDraw before × (x < len) × All (λ y. y < x) before.numbers × (after ≡ with_number x before)
 Drew len before None after = (MayNotDraw before × (after ≡ before)) ⊎ (MayDraw before × (after ≡ spent_out before))
 
 -- two hands have no number and no place in common: each stands in the two together at most once
 abbrev pub AreApart : Hand → Hand → Type 0
-AreApart h k = ((x : ℕ) → times x h.numbers + times x k.numbers ≤ 1) × ((p : ℕ) → is_place p h.place + is_place p k.place ≤ 1)
+AreApart h k =
+    ((x : ℕ) → times x h.numbers + times x k.numbers ≤ 1) × ((p : ℕ) → is_place p h.place + is_place p k.place ≤ 1)

@@ -1,5 +1,6 @@
 -- The rule of a ledger's table, which each step keeps: each number is drawn once and none is left out.
-use Rattle.std.specs.Prelude.{◌≡◌, ℕ, suc, ◌+◌, ◌^◌, ◌<◌, ◌≤◌, min, true, false, nat_lt, List, [], ◌∷◌, All, AllPairs, drop, length, slice_index, sum, sum_by}
+use Rattle.std.specs.Prelude.{◌≡◌, ℕ, suc, ◌+◌, ◌^◌, ◌<◌, ◌≤◌, min, true, false, nat_lt, List, [], ◌∷◌, All, AllPairs}
+use Rattle.std.specs.Prelude.{drop, length, slice_index, sum, sum_by}
 use Rattle.std.specs.Prelude.{is_some, IsNone}
 use mathlib.Core.Option.{some}
 use lib.ListN.{get_elem?}
@@ -55,7 +56,8 @@ pub record IsDrawnOnce (size : ℕ) (words : List ℕ) (views : List View) : Typ
   -- the next number is above the length by at most the number of hands that are spent out
   pub excess : slice_index words 0 ≤ size + over_hands spent_count views
   -- views with hands agree on the length, and each hand fits the words
-  pub views_fit : (i : ℕ) (v : View) → get_elem? views i ≡ some v → All (λ h. (v.len ≡ size) × FitsLedger size words h) v.hands
+  pub views_fit : (i : ℕ) (v : View) → get_elem? views i ≡ some v →
+      All (λ h. (v.len ≡ size) × FitsLedger size words h) v.hands
 
 abbrev pub holds : ℕ → State (Unit {0}) View → Type 0
 holds size s = IsDrawnOnce size s.words s.views

@@ -6,8 +6,8 @@ use std::fmt;
 use std::fmt::{Debug, Formatter};
 use std::marker::Model;
 
-/// One who draws from a ledger. To a contract it is the ledger that it came from, its place, the numbers that it
-/// drew, whether it is spent out, and the places that it has seen taken.
+/// Draws from a ledger. Contracts see its ledger, its place, the numbers that it drew, whether it found the ledger
+/// empty ("spent out"), and the places that it found taken.
 #[derive(Drop)]
 pub struct Drawer {
     pub(crate) seat: Seat<(), View>,

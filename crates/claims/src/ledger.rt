@@ -13,16 +13,16 @@ use std::fmt;
 use std::fmt::{Debug, Formatter};
 use std::marker::Model;
 
-/// The number of places of a ledger, which is the greatest number of workers.
+/// The number of places of a ledger: the greatest number of workers.
 pub const PLACES: u8 = 64;
 
-// the words of a ledger: the number that is drawn next, and one for each place
+// the words of a ledger: the next number to draw, and one word for each place
 const WORDS: usize = 1 + PLACES as usize;
 
-// where the number that is drawn next stands; the places stand behind it
+// the index of the next number; the places come after it
 const NEXT: usize = 0;
 
-/// A ledger of the numbers below its length, each of which is drawn once.
+/// A ledger of the numbers below its length. Each is drawn once, by any number of threads, without locks.
 #[derive(Drop)]
 pub struct Ledger {
     table: Table<(), View, u32, Drawn, Global>,
@@ -42,8 +42,8 @@ impl Model for Ledger {
 }
 
 impl Ledger {
-    /// A ledger of the numbers below `len`, none of which is drawn, and a drawer without a place. The only error is
-    /// that memory was refused.
+    /// A ledger of the numbers below `len`, none of them drawn, and a drawer without a place. Fails only if out of
+    /// memory.
     pub fn new(alloc: Global, len: u32) -> Result<(Ledger, Drawer), AllocError>
         ensures { IfOk result (λ made. (made.0.len ≡ len) × (made.1 ≡ newcomer made.0)) }
     {
@@ -56,7 +56,7 @@ impl Ledger {
         Ok((Ledger { table, len }, drawer))
     }
 
-    /// The drawer as it was, and one more without a place.
+    /// The same drawer, and one more without a place.
     pub fn split(&self, drawer: Drawer) -> (Drawer, Drawer)
         requires { (drawer.ledger ≡ self.now) × IsNone drawer.hand.place }
         ensures { (result.0 ≡ drawer) × (result.1 ≡ newcomer self.now) }
@@ -71,8 +71,8 @@ impl Ledger {
         (kept, other)
     }
 
-    /// Gives the drawer a place, and answers `true`. It answers `false`, and gives none, where the drawer has a place
-    /// or the place is not below [`PLACES`], and then takes no step, and where the place is taken.
+    /// Gives the drawer a place, and returns `true`. It returns `false` and gives none if the drawer has a place, if
+    /// the place is not below [`PLACES`], or if the place is taken. Does not block.
     pub fn enrol(&self, drawer: &mut Drawer, place: u8) -> bool
         requires { drawer.old.ledger ≡ self.now }
         ensures ledger { drawer.new.ledger ≡ self.now }
@@ -89,8 +89,8 @@ impl Ledger {
         is_free
     }
 
-    /// Draws the next number. It answers `None` where the drawer has no place or is spent out, and then takes no step,
-    /// and where no number is left, from where on the drawer is spent out.
+    /// Draws the next number by one atomic addition. It returns `None` if the drawer has no place or is spent out, or
+    /// if no number is left; the drawer is then spent out. Does not block.
     pub fn draw(&self, drawer: &mut Drawer) -> Option<u32>
         requires { drawer.old.ledger ≡ self.now }
         ensures ledger { drawer.new.ledger ≡ self.now }
@@ -108,7 +108,7 @@ impl Ledger {
         }
     }
 
-    /// Gives both drawers back as they were, in that order. They have no number and no place in common.
+    /// Returns both drawers unchanged and in order, and proves that they have no number and no place in common.
     pub fn meet(&self, drawer: Drawer, other: Drawer) -> (Drawer, Drawer)
         requires { (drawer.ledger ≡ self.now) × (other.ledger ≡ self.now) }
         ensures same { (result.0 ≡ drawer) × (result.1 ≡ other) }
@@ -137,9 +137,9 @@ impl Ledger {
         (drawer, other)
     }
 
-    /// Puts drawers together for good, at any moment, and gives the number that is drawn next. With the other hands of
-    /// the ledger theirs keep its rule; where they have all places, each number below both the next one and the length
-    /// is in one of their lists, once.
+    /// Takes drawers for good, at any moment, and returns the next number to draw. Their lists and those of the other
+    /// drawers keep the rule of the ledger. If they have all places, each number below the next one and below the
+    /// length is in exactly one of their lists.
     pub fn audit(&self, drawers: Vec<Drawer>) -> u64
         requires { All (λ (d : DrawerView). d.ledger ≡ self.now) drawers.items }
         ensures { AreAudited self.now.len result (hands_of drawers.items) }
@@ -157,7 +157,7 @@ impl Debug for Ledger {
     }
 }
 
-// What is drawn next, by the one step of a draw.
+// The next number, by the one step of a draw.
 fn draw_next(shared: &Shared<(), View, u32, Drawn>, seat: &mut Seat<(), View>) -> u64
     requires seat { (seat.old.table_id ≡ shared.now.table_id) × (0 < shared.now.table_id.words) }
     requires step { MayAddOne shared.now.key shared.now.table_id.slots seat.old.id seat.old.me }
@@ -170,7 +170,8 @@ fn draw_next(shared: &Shared<(), View, u32, Drawn>, seat: &mut Seat<(), View>) -
 // One seat with the hands of all drawers, in order.
 fn gathered(shared: &Shared<(), View, u32, Drawn>, drawers: Vec<Drawer>) -> Seat<(), View>
     requires words { shared.now.table_id.words ≡ suc PLACES }
-    requires drawers { All (λ (d : DrawerView). (d.ledger.table ≡ shared.now.table_id) × (d.ledger.len ≡ shared.now.key)) drawers.items }
+    requires drawers { All (λ (d : DrawerView). (d.ledger.table ≡ shared.now.table_id) ×
+        (d.ledger.len ≡ shared.now.key)) drawers.items }
     ensures table { result.table_id ≡ shared.now.table_id }
     ensures hands { result.me ≡ (view_of shared.now.key (hands_of drawers.items), []) }
 {

@@ -1,4 +1,5 @@
-//! A ledger whose numbers are drawn once each, by threads that wait for nobody.
+//! A ledger whose numbers threads draw, each number once, without locks and without waiting. Use it to deal work to
+//! threads: a draw costs one atomic addition.
 //!
 //! ```text
 //! let (ledger, mut drawer) = Ledger::new(alloc, 2).expect(&rt, "memory");

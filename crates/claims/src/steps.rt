@@ -1,9 +1,9 @@
-//! The rule of a ledger's table, and what each kind of step tells the seat that steps.
+//! The rule of a ledger's table, and what each kind of step proves to the seat that makes it.
 
 use crate::views::View;
 use atomic_table::{Join, Play, Split, TableRule};
 
-/// The rule that each number is drawn once and none is left out.
+/// The rule: each number is drawn once and none is left out.
 pub(crate) struct Drawn;
 
 impl TableRule<(), View, u32> for Drawn {

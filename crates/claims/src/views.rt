@@ -1,16 +1,16 @@
-//! What the seats at a ledger's table know. No value of these types is made.
+//! What the seats at a ledger's table know. These types are for contracts: no value of them exists.
 
 use std::collections::LinkedList;
 
-/// What a drawer has of its ledger.
+/// What a drawer knows of its ledger.
 pub(crate) struct Hand {
-    /// The place that it got.
+    /// Its place.
     pub(crate) place: Option<u8>,
     /// The numbers that it drew, in the order in which it drew them.
     pub(crate) numbers: LinkedList<u32>,
-    /// Whether it was told that no number is left.
+    /// Whether it found that no number is left.
     pub(crate) spent: bool,
-    /// The places that it has seen taken.
+    /// The places that it found taken.
     pub(crate) taken: LinkedList<u8>,
 }
 

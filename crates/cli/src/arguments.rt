@@ -3,13 +3,13 @@ use clap::Arg;
 use layers::{MAX_SHARES, MAX_WORKERS};
 use std::alloc::Global;
 
-/// The limit of positions where none is given.
+/// The default limit of positions.
 const DEFAULT_LIMIT: &str = "1000000";
 
-/// The number of workers where none is given.
+/// The default number of workers.
 const DEFAULT_WORKERS: &str = "1";
 
-/// The number of locks where none is given.
+/// The default number of locks.
 const DEFAULT_LOCKS: &str = "1";
 
 /// The greatest number of workers.

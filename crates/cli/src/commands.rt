@@ -1,4 +1,4 @@
-//! A function for each subcommand, which opens its files, all before the first is read, and runs its engine.
+//! A function for each subcommand. It opens all its files before it reads the first, and runs its engine.
 ghost use Rattle.std.specs.Prelude.{◌≡◌, ◌≤◌, IfOk, min};
 ghost use Rattle.std.specs.Int.NonZero.{non_zero_u32_get};
 ghost use Rattle.crew.specs.Configured.{IsWithinLimits};
@@ -31,7 +31,7 @@ fn open<'a, R: Files>(rt: &R, path: &'a str) -> Result<Reader<Steady<R::File>>, 
     }
 }
 
-/// Checks a collection. Gives the exit status.
+/// Checks a collection. Returns the exit status.
 pub(crate) fn check<'a, R: Files + Print>(
     rt: &R,
     alloc: Global,
@@ -42,7 +42,7 @@ pub(crate) fn check<'a, R: Files + Print>(
     Ok(run_check(alloc, &mut source, &mut sink)?)
 }
 
-/// Shows a level. Gives the exit status.
+/// Shows a level. Returns the exit status.
 pub(crate) fn show<'a, R: Files + Print>(
     rt: &R,
     alloc: Global,
@@ -54,7 +54,7 @@ pub(crate) fn show<'a, R: Files + Print>(
     Ok(run_show(alloc, &mut source, number.get(), &mut sink)?)
 }
 
-/// Shows the dead squares of a level. Gives the exit status.
+/// Shows the dead squares of a level. Returns the exit status.
 pub(crate) fn dead<'a, R: Files + Print>(
     rt: &R,
     alloc: Global,
@@ -66,7 +66,7 @@ pub(crate) fn dead<'a, R: Files + Print>(
     Ok(run_dead(alloc, &mut source, number.get(), &mut sink)?)
 }
 
-/// Replays a solution on a level. Gives the exit status.
+/// Replays a solution on a level. Returns the exit status.
 pub(crate) fn replay<'a, R: Files + Print>(
     rt: &R,
     alloc: Global,
@@ -80,8 +80,8 @@ pub(crate) fn replay<'a, R: Files + Print>(
     Ok(run_replay(alloc, &mut source, number.get(), &mut letters, &mut sink)?)
 }
 
-/// The configuration with these workers and locks, each at most its greatest number, this limit of positions and this cap of
-/// pushes, if any.
+/// The configuration with these workers and locks, each capped at its greatest number, this limit of positions, and
+/// this cap of pushes, if any.
 pub(crate) fn config_of(
     workers: NonZeroU32,
     locks: NonZeroU32,
@@ -103,7 +103,7 @@ pub(crate) fn config_of(
 }
 
 #[tactic(auto, using(crate::proofs::Statuses::status_of_run))]
-/// Solves a level. Gives the exit status.
+/// Solves a level. Returns the exit status.
 pub(crate) fn solve<'a, R: Files + Print + Threads + Wait + Sync>(
     rt: &R,
     alloc: Global,
@@ -132,7 +132,7 @@ pub(crate) fn search_of(number: NonZeroU32, limit: NonZeroU32) -> SearchRequest
 }
 
 #[tactic(auto, using(crate::proofs::Statuses::status_of_best))]
-/// Finds a solution with the fewest pushes of a level. Gives the exit status.
+/// Finds a solution with the fewest pushes of a level. Returns the exit status.
 pub(crate) fn best<'a, R: Files + Print>(
     rt: &R,
     alloc: Global,
@@ -148,7 +148,7 @@ pub(crate) fn best<'a, R: Files + Print>(
 }
 
 #[tactic(auto, using(crate::proofs::Statuses::status_of_prove))]
-/// Proves that a solution has the fewest pushes on a level. Gives the exit status.
+/// Proves that a solution has the fewest pushes on a level. Returns the exit status.
 pub(crate) fn prove<'a, R: Files + Print>(
     rt: &R,
     alloc: Global,

@@ -3,10 +3,10 @@ use lurd::MAX_MOVES;
 use std::alloc::{AllocError, Global};
 use xsb::MAX_FILE;
 
-/// What `--version` prints after the program's name.
+/// The text that `--version` prints after the program's name.
 pub const VERSION: &str = "0.1.0";
 
-/// The ends of the helps of the program and of its subcommands.
+/// The last parts of the help texts of the program and its subcommands.
 #[derive(Drop)]
 pub struct Notes {
     pub program: String,
@@ -18,7 +18,7 @@ pub struct Notes {
 }
 
 impl Notes {
-    /// The notes, with the limits in them.
+    /// The texts, with the limits filled in.
     pub fn new(alloc: Global) -> Result<Notes, AllocError> {
         let program = program_notes(alloc)?;
         let check = check_notes(alloc)?;
@@ -74,7 +74,7 @@ fn program_notes(alloc: Global) -> Result<String, AllocError> {
     )
 }
 
-/// The faults of levels that are no size, in the help of `check`.
+/// The faults of levels except those of size, in the help of `check`.
 const FAULTS: &str = "
   3 NoPlayer    No player, as in ####|#$.#|####. Add a @ (or a + on a goal). Or
                 the level was split in two: see below.
@@ -87,7 +87,7 @@ const FAULTS: &str = "
   7 Open        The player could walk out of the level if no box were in the
                 way, as in ####|#@$.|####. Close the wall around the room.";
 
-/// How levels get lost, in the help of `check`.
+/// Reasons why levels are not found, in the help of `check`.
 const MISSING: &str = "\
 If a level is missing, split or joined to another:
   A line is text if it has no wall, or has a tab, a letter, a comment after the
@@ -99,7 +99,7 @@ If the report is '0 levels, 0 good' (status 0), no line of FILE is a row. Usual
 causes: FILE is UTF-16, or packed (gzip, zip), its lines end with CR alone, or
 they are quoted, as in mail (> ####). Convert FILE first.";
 
-/// The end of the help of `check`: what its lines say, the faults, how levels get lost, and an example.
+/// The end of the help of `check`: its lines, the faults, why levels are not found, and an example.
 fn check_notes(alloc: Global) -> Result<String, AllocError> {
     format!(in alloc;
         "Each line has the number of a level, the line of FILE on which it begins, 'ok'\n\
@@ -140,7 +140,7 @@ Verdicts on a solution (moves count from 1; the examples are for the level
                               pushes none and is a capital letter: r has the
                               wrong case at 1. Write capital letters for pushes.";
 
-/// The faults of solution texts that have no limit in them, in the help of `replay`.
+/// The faults of solution texts that name no limit, in the help of `replay`.
 const TEXT_FAULTS: &str = "
   bad byte at A   Byte A of SOLUTION is no letter of l, u, r, d, L, U, R, D, no
                   digit, blank or end of a line: Rx has one at 2. Leave out
@@ -167,7 +167,7 @@ fn replay_notes(alloc: Global) -> Result<String, AllocError> {
     )
 }
 
-/// What is found, pushes and moves, in the help of `solve`.
+/// The solution that `solve` finds, and pushes and moves, in the help of `solve`.
 const ANSWERS: &str = "\
 The first line says what was found:
   solved P pushes, S moves, Q positions  The second line is the solution.
@@ -175,7 +175,7 @@ The first line says what was found:
   none within M pushes, Q positions      No solution has M pushes or fewer.
   limit L reached                        Undecided: give a greater --limit.";
 
-/// What a solution with the fewest pushes is, what a search takes, and examples, in the help of `solve`.
+/// Which solution has the fewest pushes, time and memory of a search, and examples, in the help of `solve`.
 const SEARCH: &str = "\
 No solution has fewer pushes than the one that solve writes. Others may have
 fewer moves: the solution with the fewest pushes need not be the one with the
@@ -226,7 +226,7 @@ them in a fixed order and counts positions, and usually needs more positions.
 
 The search counts the positions that it stores, and stops when they exceed the
 limit. In rooms of ordinary size a position takes as much memory as in 'sokopar
-solve' and 1 to 5 microseconds, so the default limit takes about 5 seconds.
+solve' and 2 to 15 microseconds, so the default limit takes up to 15 seconds.
 
 Examples:
   sokopar best levels.xsb 1

@@ -28,7 +28,7 @@ use trouble::Trouble;
 /// The exit status of a fault of the command line.
 const USAGE: u8 = 2;
 
-/// Opens the files of a request, all before the first is read, and runs its engine. Gives the exit status.
+/// Opens all files of a request before it reads the first, and runs its engine. Returns the exit status.
 fn perform<'a, R: Files + Print + Threads + Wait + Sync>(
     rt: &R,
     alloc: Global,
@@ -70,8 +70,8 @@ fn perform<'a, R: Files + Print + Threads + Wait + Sync>(
     }
 }
 
-/// Prints why a command line gives no request: help or the version on standard output, a fault on standard error.
-/// Gives the exit status.
+/// Prints why a command line is no request: help or the version on standard output, a fault on standard error. Returns
+/// the exit status.
 fn explain<R: Print + Eprint>(rt: &R, error: clap::Error) -> u8 {
     if error.kind() == ErrorKind::OutOfMemory {
         return complain(rt, Trouble::Run(RunFault::OutOfMemory));
@@ -84,14 +84,14 @@ fn explain<R: Print + Eprint>(rt: &R, error: clap::Error) -> u8 {
     }
 }
 
-/// Prints the one line that says why there is no report. Gives the exit status.
+/// Prints one line that says why there is no report. Returns the exit status.
 fn complain<R: Eprint>(rt: &R, trouble: Trouble<'_>) -> u8 {
-    // Where this line cannot be printed, the status alone tells.
+    // if this line cannot be printed, only the status tells
     let _ = eprintln!(rt; "{trouble}");
     trouble.status()
 }
 
-/// Does what the words of the command line ask for, with the notes that end its helps. Gives the exit status.
+/// Performs the words of the command line, given the last parts of its help texts. Returns the exit status.
 fn answer<R: Files + Print + Eprint + Threads + Wait + Sync>(
     rt: &R,
     alloc: Global,
@@ -107,7 +107,7 @@ fn answer<R: Files + Print + Eprint + Threads + Wait + Sync>(
     }
 }
 
-/// Runs the command line of these words. Gives the exit status.
+/// Runs the command line of these words. Returns the exit status.
 fn run<R: Files + Print + Eprint + Threads + Wait + Sync>(
     rt: &R,
     alloc: Global,
@@ -128,7 +128,7 @@ fn words<R: Env + AllocGlobal>(rt: &R) -> io::Result<Vec<String>> {
     Ok(words)
 }
 
-/// Reads the words of the command line, and does what they ask for. Gives the exit status.
+/// Reads the words of the command line, and performs them. Returns the exit status.
 fn start<R: Env + Files + Print + Eprint + Threads + Wait + Sync + AllocGlobal>(rt: &R) -> u8 {
     match words(rt) {
         Ok(words) => run(rt, rt.alloc(), words.as_slice()),

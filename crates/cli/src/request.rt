@@ -14,7 +14,7 @@ use clap::{ArgMatches, Command, Error};
 use std::alloc::{AllocError, Global};
 use std::num::NonZeroU32;
 
-/// What the command line asks for.
+/// The request of a command line.
 #[derive(Clone, Copy, Debug)]
 pub enum Request<'a> {
     /// Check the levels of a collection.
@@ -50,7 +50,7 @@ pub enum Request<'a> {
         solution: &'a str,
         limit: NonZeroU32,
     },
-    /// Solve level N of a collection by some workers over some locks, under a limit of positions, and within a cap of
+    /// Solve level N of a collection with some workers and locks, under a limit of positions, and within a cap of
     /// pushes if one is set.
     Solve {
         file: &'a str,
@@ -145,7 +145,7 @@ fn bare_command<'a>(alloc: Global, notes: &'a str) -> Result<Command<'a>, AllocE
     )
 }
 
-/// A command line with the subcommands that look at a level.
+/// A command line with the subcommands that show a level.
 fn with_looks<'a>(alloc: Global, line: Command<'a>) -> Result<Command<'a>, AllocError> {
     line.subcommand(show_command(alloc)?)?
         .subcommand(dead_command(alloc)?)
@@ -171,7 +171,7 @@ fn with_searches<'a>(
         .subcommand(prove_command(alloc, notes.prove.as_str())?)
 }
 
-/// The command line that the program understands; the notes end its helps.
+/// The command line of the program, given the last parts of its help texts.
 fn command<'a>(alloc: Global, notes: &'a Notes) -> Result<Command<'a>, AllocError> {
     let bare = bare_command(alloc, notes.program.as_str())?;
     let checks = bare.subcommand(check_command(alloc, notes.check.as_str())?)?;
@@ -180,18 +180,18 @@ fn command<'a>(alloc: Global, notes: &'a Notes) -> Result<Command<'a>, AllocErro
     with_searches(alloc, plays, notes)
 }
 
-/// A value that its argument does not take.
+/// A value that an argument does not accept.
 #[derive(Clone, Copy, Debug)]
 struct BadValue<'a> {
-    /// The argument, as usage shows it.
+    /// The argument, as the usage line shows it.
     argument: &'static str,
     value: &'a str,
-    /// The least and the greatest number that it takes.
+    /// The least and the greatest number that it accepts.
     least: u32,
     most: u32,
 }
 
-/// Whether a word begins with a plus, which `parse` takes.
+/// Whether a word begins with a plus, which `parse` accepts.
 fn has_plus(word: &str) -> bool
     ensures { result ≡ (slice_index word.now 0 == 43) }
 {
@@ -202,7 +202,7 @@ fn has_plus(word: &str) -> bool
 }
 
 #[tactic(auto, using(crate::proofs::Signs::no_sign))]
-/// A number of the command line: decimal digits alone, from 1 to a greatest number.
+/// A number of the command line: only decimal digits, from 1 to a greatest number.
 fn number_from(word: &str, most: u32) -> Option<NonZeroU32>
     ensures { IfSome result (λ n. IsNumber word.now (non_zero_u32_get n) × (non_zero_u32_get n ≤ most)) }
 {
@@ -218,7 +218,7 @@ fn number_from(word: &str, most: u32) -> Option<NonZeroU32>
 }
 
 #[tactic(auto, using(crate::proofs::Signs::no_sign))]
-/// A cap of the command line: decimal digits alone, from 0 to the greatest `u32`.
+/// A cap of the command line: only decimal digits, from 0 to the greatest `u32`.
 fn cap_from(word: &str) -> Option<u32>
     ensures { IfSome result (λ n. IsNumber word.now n) }
 {
@@ -228,7 +228,7 @@ fn cap_from(word: &str) -> Option<u32>
     word.parse::<u32>().ok()
 }
 
-/// The value is no number from 1 to the greatest one that its argument takes.
+/// The fault of a value that is no number from 1 to the greatest one that its argument accepts.
 fn out_of_range<'a>(argument: &'static str, value: &'a str, most: u32) -> BadValue<'a> {
     BadValue {
         argument,
@@ -238,7 +238,7 @@ fn out_of_range<'a>(argument: &'static str, value: &'a str, most: u32) -> BadVal
     }
 }
 
-/// The number, at most so great, that an argument has that usage shows so.
+/// The number of the argument with this name, at most `most`; `argument` is its name in the usage line.
 fn number_of<'a>(
     matches: &ArgMatches<'a>,
     name: &str,
@@ -274,7 +274,7 @@ fn cap_of<'a>(matches: &ArgMatches<'a>) -> Result<Option<u32>, BadValue<'a>>
     }
 }
 
-/// What the matches of `solve` ask for.
+/// The request of the matches of `solve`.
 fn solve_request<'a>(
     file: &'a str,
     number: NonZeroU32,
@@ -296,7 +296,7 @@ fn solve_request<'a>(
     })
 }
 
-/// What the matches of `best` ask for.
+/// The request of the matches of `best`.
 fn best_request<'a>(
     file: &'a str,
     number: NonZeroU32,
@@ -312,7 +312,7 @@ fn best_request<'a>(
     })
 }
 
-/// What the matches of `prove` ask for.
+/// The request of the matches of `prove`.
 fn prove_request<'a>(
     file: &'a str,
     number: NonZeroU32,
@@ -330,7 +330,7 @@ fn prove_request<'a>(
     })
 }
 
-/// What the matches of a subcommand on level N ask for.
+/// The request of the matches of a subcommand on level N.
 fn level_request<'a>(
     name: &str,
     file: &'a str,
@@ -360,7 +360,7 @@ fn level_request<'a>(
     })
 }
 
-/// What the matches of a subcommand ask for.
+/// The request of the matches of a subcommand.
 fn request_of<'a>(name: &str, matches: &ArgMatches<'a>) -> Result<Request<'a>, BadValue<'a>> {
     let file = matches.get_str("FILE").unwrap_or("");
     if name == "check" {
@@ -370,7 +370,7 @@ fn request_of<'a>(name: &str, matches: &ArgMatches<'a>) -> Result<Request<'a>, B
     level_request(name, file, number, matches)
 }
 
-/// A subcommand that takes numbers, for its usage.
+/// A subcommand with numbers, for its usage line.
 fn own_command<'a>(alloc: Global, name: &str) -> Result<Command<'a>, AllocError> {
     if name == "show" {
         return show_command(alloc);
@@ -390,13 +390,13 @@ fn own_command<'a>(alloc: Global, name: &str) -> Result<Command<'a>, AllocError>
     solve_command(alloc, "")
 }
 
-/// A subcommand that takes numbers, whose usage begins with the program's name.
+/// A subcommand with numbers, whose usage line begins with the program's name.
 fn usage_of<'a>(alloc: Global, name: &str) -> Result<Command<'a>, AllocError> {
     let words = format!(in alloc; "sokopar {name}")?;
     own_command(alloc, name)?.bin_name(words.as_str())
 }
 
-/// What is said of a value that its argument does not take.
+/// The text about a value that its argument does not accept.
 fn words_of(alloc: Global, bad: BadValue<'_>) -> Result<String, AllocError> {
     let BadValue {
         argument,
@@ -409,7 +409,7 @@ fn words_of(alloc: Global, bad: BadValue<'_>) -> Result<String, AllocError> {
     )
 }
 
-/// The error that names the argument whose number is out of its range or not written in digits alone, with the usage of the
+/// The error that names an argument whose number is out of range or not only digits, with the usage line of the
 /// subcommand of this name.
 fn refusal(alloc: Global, name: &str, bad: BadValue<'_>) -> Result<Error, AllocError> {
     let words = words_of(alloc, bad)?;
@@ -421,7 +421,7 @@ fn missing_subcommand(alloc: Global, notes: &Notes) -> Result<Error, AllocError>
     command(alloc, notes)?.error(ErrorKind::MissingSubcommand, "a subcommand is required")
 }
 
-/// What the matches of the command line ask for.
+/// The request of the matches of the command line.
 fn asked<'a>(alloc: Global, matches: &ArgMatches<'a>, notes: &Notes) -> Result<Request<'a>, Error> {
     match matches.subcommand() {
         Some((name, inner)) => match request_of(name, inner) {
@@ -432,8 +432,8 @@ fn asked<'a>(alloc: Global, matches: &ArgMatches<'a>, notes: &Notes) -> Result<R
     }
 }
 
-/// Reads the words of a command line; the notes end its helps. An error has the text for the user, and says whether help or
-/// the version was asked for.
+/// Reads the words of a command line, given the last parts of its help texts. An error has the text for the user, and
+/// says whether help or the version was requested.
 pub fn parse<'a>(
     alloc: Global,
     words: &'a [String],

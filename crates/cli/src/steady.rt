@@ -3,15 +3,15 @@ ghost use Rattle.std.specs.Prelude.{◌≡◌};
 use std::io;
 use std::io::{ErrorKind, Read, Write};
 
-/// A file or a stream whose reads and writes are made once more where a signal interrupted them. The bytes that it has left
-/// or holds, where they are known, are those of the end inside.
+/// A file or a stream that repeats a read or a write that a signal interrupted. The bytes that it has left or holds, if
+/// they are known, are those of the stream inside.
 #[derive(Drop)]
 pub(crate) struct Steady<E> {
     end: E,
 }
 
 impl<E: Drop> Steady<E> {
-    /// The same end, made steady.
+    /// The stream that repeats calls of this one.
     pub(crate) fn new(end: E) -> Steady<E>
         ensures { result.end ≡ end }
     {

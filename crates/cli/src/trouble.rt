@@ -11,7 +11,7 @@ pub enum Trouble<'a> {
 }
 
 impl Trouble<'_> {
-    /// The exit status: 5 for want of memory, else 3.
+    /// The exit status: 5 if out of memory, otherwise 3.
     pub fn status(&self) -> u8 {
         match self {
             Trouble::Run(RunFault::OutOfMemory) => 5,

@@ -10,7 +10,8 @@ use Rattle.doom.specs.Deadlocks.{Doomed}
 use Rattle.prices.specs.Helping.{NeverHelps}
 use Rattle.corrals.specs.Trying.{Suffice}
 
--- on each held square stands a box; in the room is neither a box nor the player; beside it are only walls, held boxes and the room itself
+-- on each held square stands a box; in the room is neither a box nor the player; beside it are only walls, held boxes
+-- and the room itself
 pub record IsCorral (board : Board) (held room : ℕ → Bool) (s : Scene) : Type 0 where
   pub stands : (q : ℕ) → held q ≡ true → contains s.boxes q ≡ true
   pub clear : (q : ℕ) → room q ≡ true → contains s.boxes q ≡ false
@@ -20,12 +21,15 @@ pub record IsCorral (board : Board) (held room : ℕ → Bool) (s : Scene) : Typ
 
 -- a held box is off goal, or the room has a goal: so some held box has to be pushed
 abbrev pub HasToChange : Board → (ℕ → Bool) → (ℕ → Bool) → Type 0
-HasToChange board held room = ((q : ℕ) × (held q ≡ true) × (is_goal board q ≡ false)) ⊎ ((q : ℕ) × (room q ≡ true) × (is_goal board q ≡ true))
+HasToChange board held room =
+    ((q : ℕ) × (held q ≡ true) × (is_goal board q ≡ false)) ⊎ ((q : ℕ) × (room q ≡ true) × (is_goal board q ≡ true))
 
--- what is behind a held box, or ahead of it, bars its push while no held box was pushed: a wall, a held box, or for the player the room
+-- what is behind a held box, or ahead of it, bars its push while no held box was pushed: a wall, a held box, or for
+-- the player the room
 abbrev pub IsBarred : Board → (ℕ → Bool) → (ℕ → Bool) → ℕ → Dir → Type 0
 IsBarred board held room b d = let behind = next board b (opposite d) in let ahead = next board b d in
-    ((is_wall board behind ≡ true) ⊎ ((held behind ≡ true) ⊎ (room behind ≡ true))) ⊎ ((is_wall board ahead ≡ true) ⊎ (held ahead ≡ true))
+    ((is_wall board behind ≡ true) ⊎ ((held behind ≡ true) ⊎ (room behind ≡ true))) ⊎
+    ((is_wall board ahead ≡ true) ⊎ (held ahead ≡ true))
 
 -- the push leads into the room, and the player can make it now
 abbrev pub LeadsIn : Board → (ℕ → Bool) → Scene → ℕ → Dir → Type 0
@@ -36,7 +40,8 @@ abbrev pub FreezesHeld : Board → (ℕ → Bool) → ℕ → Dir → Type 0
 FreezesHeld board held b d = (boxes : Squares) ×
     ((q : ℕ) → contains boxes q ≡ true → (next board b d ≡ q) ⊎ ((held q ≡ true) × (b ≢ q))) × Doomed board boxes
 
--- what is asked of a held box and a direction: a push that could be the first of a held box, and could help, can be made now
+-- what is asked of a held box and a direction: a push that could be the first of a held box, and could help, can be
+-- made now
 abbrev pub IsReady : Board → ℕ → (ℕ → Bool) → (ℕ → Bool) → Scene → ℕ → Dir → Type 0
 IsReady board m held room s b d =
     IsBarred board held room b d ⊎ (NeverHelps board m s b d ⊎ (FreezesHeld board held b d ⊎ LeadsIn board room s b d))

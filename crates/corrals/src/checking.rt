@@ -1,4 +1,4 @@
-//! Whether what was chosen is a corral.
+//! The proved check that a choice of boxes and squares is a corral.
 ghost use Rattle.std.specs.Prelude.{◌≡◌, ℕ, suc, ◌<◌, ◌&&◌, ◌||◌, not, true, IsTrue, length};
 ghost use Rattle.std.specs.List.{list_all, list_any};
 ghost use Rattle.grid.specs.Board.{is_goal};
@@ -15,8 +15,8 @@ use crate::ground::Ground;
 use area::Scratch;
 use grid::{Dir, Square};
 
-/// Whether these boxes and these squares are a corral in which something has to change, and whose pushes are ready. The sets
-/// are made those of the boxes and the squares.
+/// Whether these boxes and squares are a corral in which something has to change, and whose pushes are ready. It fills
+/// the sets with the boxes and the squares.
 pub(crate) fn is_closure(
     ground: &Ground<'_>,
     boxes: &[Square],
@@ -43,14 +43,14 @@ pub(crate) fn is_closure(
     found
 }
 
-// Whether each square is one of the level.
+// Whether each square is a square of the level.
 fn are_inside(ground: &Ground<'_>, squares: &[Square]) -> bool
     ensures { result ≡ are_inside ground.now.board squares.now }
 {
     squares.iter().all(|square| ground.has(*square))
 }
 
-// The same, where the sets are those of the boxes and the squares.
+// The same, once the sets hold the boxes and the squares.
 fn is_found(
     ground: &Ground<'_>,
     boxes: &[Square],
@@ -102,9 +102,11 @@ fn has_goal(ground: &Ground<'_>, squares: &[Square]) -> bool
     squares.iter().any(|square| ground.is_goal(*square))
 }
 
-// Whether none of the squares has a box, and beside them there is only what shuts a room.
+// Whether none of the squares has a box, and their neighbours shut a room.
 fn are_shut(ground: &Ground<'_>, squares: &[Square], sets: &Sets) -> bool
-    ensures { result ≡ list_all (λ q. shut_round ground.now.board ground.now.scene.boxes (has_bit sets.now.held) (has_bit sets.now.room) q) squares.now }
+    ensures { result ≡ list_all
+        (λ q. shut_round ground.now.board ground.now.scene.boxes (has_bit sets.now.held) (has_bit sets.now.room) q)
+        squares.now }
 {
     squares
         .iter()
@@ -112,7 +114,8 @@ fn are_shut(ground: &Ground<'_>, squares: &[Square], sets: &Sets) -> bool
 }
 
 fn is_shut_round(ground: &Ground<'_>, square: Square, sets: &Sets) -> bool
-    ensures { result ≡ shut_round ground.now.board ground.now.scene.boxes (has_bit sets.now.held) (has_bit sets.now.room) square }
+    ensures { result ≡ shut_round ground.now.board ground.now.scene.boxes (has_bit sets.now.held)
+        (has_bit sets.now.room) square }
 {
     ground.has(square)
         && (!ground.has_box(square)
@@ -130,7 +133,7 @@ fn is_shut_beside(ground: &Ground<'_>, square: Square, dir: Dir, sets: &Sets) ->
     ground.is_wall(beside) || (sets.room.has(beside) || sets.held.has(beside))
 }
 
-// Whether on each of the squares stands a box, and all its pushes that could be the first of a held box are ready.
+// Whether each of the squares has a box, and all its pushes that could be the first of a held box are ready.
 fn are_ready(ground: &Ground<'_>, boxes: &[Square], sets: &Sets, spare: &mut Scratch) -> bool
     requires held { (q : ℕ) → has_bit sets.now.held q ≡ contains boxes.now q }
     requires spare { spare.old.size ≡ length ground.now.board.cells }
@@ -146,7 +149,7 @@ fn are_ready(ground: &Ground<'_>, boxes: &[Square], sets: &Sets, spare: &mut Scr
     true
 }
 
-// The same of one square.
+// The same for one square.
 fn is_ready_round(
     ground: &Ground<'_>,
     boxes: &[Square],
@@ -170,7 +173,7 @@ fn is_ready_round(
     down & left & right & up
 }
 
-// Whether the push of a held box in a direction is ready, if it could be the first.
+// Whether the push of a held box in a direction is ready or cannot be the first.
 fn is_ready_along(
     ground: &Ground<'_>,
     boxes: &[Square],
@@ -202,7 +205,7 @@ fn is_ready_along(
     frozen
 }
 
-// Whether what is behind a held box, or ahead of it, bars its push.
+// Whether the square behind a held box, or the square ahead, blocks its push.
 fn is_barred(ground: &Ground<'_>, square: Square, dir: Dir, sets: &Sets) -> bool
     requires { square < length ground.now.board.cells }
     ensures { IsTrue result → IsBarred ground.now.board (has_bit sets.now.held) (has_bit sets.now.room) square dir }
@@ -214,7 +217,7 @@ fn is_barred(ground: &Ground<'_>, square: Square, dir: Dir, sets: &Sets) -> bool
     shut || stopped
 }
 
-// Whether the push leads into the room, and can be made now.
+// Whether the push leads into the room, and is possible now.
 fn leads_in(ground: &Ground<'_>, square: Square, dir: Dir, sets: &Sets) -> bool
     requires { square < length ground.now.board.cells }
     ensures { IsTrue result → LeadsIn ground.now.board (has_bit sets.now.room) ground.now.scene square dir }

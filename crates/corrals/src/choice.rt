@@ -1,12 +1,12 @@
-//! Which boxes and which squares may be a corral: a guess, of which nothing is proved.
+//! A guess at the boxes and squares of a corral. It has no contract; `checking` proves what it finds.
 
 use crate::ground::Ground;
 use crate::sketch::{Beside, Sketch, bit};
 use grid::{Dir, Square};
 use std::alloc::{AllocError, Global};
 
-/// The boxes and the squares that were chosen. Of a position it keeps which boxes are in no corral, each by its bit, the boxes
-/// and the rooms that grow, and those of the corral with the fewest pushes so far.
+/// The chosen boxes and squares. For a position it keeps the boxes that are in no corral, by their bits, the boxes and
+/// rooms of the corral that grows, and those of the corral with the fewest pushes so far.
 #[derive(Debug, Drop)]
 pub(crate) struct Choice {
     pub(crate) boxes: Vec<Square>,
@@ -21,7 +21,7 @@ pub(crate) struct Choice {
 }
 
 impl Choice {
-    /// The memory for a level of so many squares. The only error is that memory was refused.
+    /// The memory for a level with `squares` squares. Fails only if out of memory.
     pub(crate) fn new(alloc: Global, squares: usize) -> Result<Choice, AllocError> {
         Ok(Choice {
             boxes: Vec::with_capacity(alloc, squares)?,
@@ -36,7 +36,7 @@ impl Choice {
         })
     }
 
-    /// Chooses of the corrals that seem to be there the one with the fewest pushes that are possible; `false` where none is.
+    /// Chooses the corral with the fewest possible pushes among those it finds; `false` if it finds none.
     pub(crate) fn choose(&mut self, ground: &Ground<'_>) -> bool {
         self.sketch.draw(ground);
         self.find_loose(ground);
@@ -51,7 +51,7 @@ impl Choice {
         true
     }
 
-    // Finds the boxes that are loose, which no corral holds.
+    // Finds the loose boxes, which no corral holds.
     fn find_loose(&mut self, ground: &Ground<'_>) {
         self.bad = 0;
         for place in 0..self.sketch.count() {
@@ -61,12 +61,12 @@ impl Choice {
         }
     }
 
-    // Whether a box has a push from a square that the player comes to, onto another such square.
+    // Whether a box has a push from a square that the player reaches onto another such square.
     fn is_loose(&mut self, ground: &Ground<'_>, place: usize) -> bool {
         self.is_loose_along(ground, place, Dir::D) || self.is_loose_along(ground, place, Dir::R)
     }
 
-    // The same of the pushes in a direction and against it.
+    // The same for the pushes in a direction and its opposite.
     fn is_loose_along(&mut self, ground: &Ground<'_>, place: usize, dir: Dir) -> bool {
         let behind = self.sketch.beside(place, dir.opposite());
         let ahead = self.sketch.beside(place, dir);
@@ -102,7 +102,7 @@ impl Choice {
         }
     }
 
-    // Takes what bars the boxes and what shuts the rooms, until nothing is left to take; `false` where a push leads out.
+    // Adds what blocks the boxes and what shuts the rooms until nothing is left to add; `false` if a push leads out.
     fn grow(&mut self, ground: &Ground<'_>) -> bool {
         let mut done = 0;
         for _ in 0..64u32 {
@@ -119,7 +119,7 @@ impl Choice {
         self.held & !done == 0 && self.held & self.bad == 0
     }
 
-    // Takes what bars the pushes of a box; `false` where nothing does.
+    // Adds what blocks the pushes of a box; `false` if nothing does.
     fn bar_round(&mut self, ground: &Ground<'_>, place: usize) -> bool {
         self.bar(ground, place, Dir::D)
             && self.bar(ground, place, Dir::L)
@@ -127,7 +127,7 @@ impl Choice {
             && self.bar(ground, place, Dir::U)
     }
 
-    // Takes what bars a push of a held box that is not ready; `false` where nothing does.
+    // Adds what blocks a push of a held box that is not ready; `false` if nothing does.
     fn bar(&mut self, ground: &Ground<'_>, place: usize, dir: Dir) -> bool {
         let behind = self.sketch.beside(place, dir.opposite());
         let ahead = self.sketch.beside(place, dir);
@@ -146,7 +146,7 @@ impl Choice {
         }
     }
 
-    // Whether the player can't stand there while no held box was pushed.
+    // Whether the player cannot be there before a held box is pushed.
     fn is_shut(&self, behind: Beside) -> bool {
         match behind {
             Beside::Room(room) => bit(room) & self.rooms != 0,
@@ -154,7 +154,7 @@ impl Choice {
         }
     }
 
-    // Whether no box can be pushed there while no held box was pushed.
+    // Whether no box can be pushed there before a held box is pushed.
     fn is_stopped(&self, ahead: Beside) -> bool {
         match ahead {
             Beside::Wall => true,
@@ -163,7 +163,7 @@ impl Choice {
         }
     }
 
-    // Whether a push leads into the room and can be made now.
+    // Whether a push leads into the room and is possible now.
     fn leads_in(&self, behind: Beside, ahead: Beside) -> bool {
         match ahead {
             Beside::Room(room) => bit(room) & self.rooms != 0 && is_reached(behind),
@@ -171,7 +171,7 @@ impl Choice {
         }
     }
 
-    // Whether it is a box that may be held.
+    // Whether it is a box that a corral may hold.
     fn is_good_box(&self, it: Beside) -> bool {
         match it {
             Beside::Box(place) => bit(place) & self.bad == 0,
@@ -179,7 +179,7 @@ impl Choice {
         }
     }
 
-    // Whether it is such a box, or a room with only such boxes round it.
+    // Whether it is such a box, or a room with only such boxes around it.
     fn is_good(&self, it: Beside) -> bool {
         match it {
             Beside::Room(room) => self.sketch.around(room) & self.bad == 0,
@@ -187,7 +187,7 @@ impl Choice {
         }
     }
 
-    // Holds a box, or takes a room with all boxes round it; `false` where it is neither.
+    // Adds a box, or a room with all boxes around it; `false` if it is neither.
     fn take(&mut self, it: Beside) -> bool {
         match it {
             Beside::Box(place) => {
@@ -204,7 +204,7 @@ impl Choice {
         }
     }
 
-    // Notes what was grown, if something has to change there and it has fewer pushes than all before.
+    // Keeps the grown corral if something has to change there and it has fewer pushes than all before.
     fn note(&mut self, ground: &Ground<'_>) {
         if self.held & self.sketch.off_goal() == 0 && self.rooms & self.sketch.goals() == 0 {
             return;
@@ -217,7 +217,7 @@ impl Choice {
         }
     }
 
-    // How many pushes of held boxes are possible.
+    // The number of possible pushes of held boxes.
     fn count_pushes(&mut self, ground: &Ground<'_>) -> u32 {
         let mut count: u32 = 0;
         for place in 0..self.sketch.count() {
@@ -228,7 +228,7 @@ impl Choice {
         count
     }
 
-    // How many pushes of a held box are possible.
+    // The number of possible pushes of a held box.
     fn count_round(&mut self, ground: &Ground<'_>, place: usize) -> u32 {
         let mut count: u32 = 0;
         for dir in Dir::ALL {
@@ -263,7 +263,7 @@ impl Choice {
     }
 }
 
-// Whether the player comes there.
+// Whether the player reaches it.
 fn is_reached(it: Beside) -> bool {
     match it {
         Beside::Reached => true,

@@ -1,4 +1,4 @@
-//! The boxes and the room that were found, with the memory in which they are looked for.
+//! The boxes and the room of a corral, with the memory of the search for it.
 ghost use Rattle.std.specs.Prelude.{◌≡◌};
 ghost use Rattle.grid.specs.Masks.{has_bit};
 
@@ -8,14 +8,15 @@ use grid::{Level, Square};
 use std::alloc::{AllocError, Global};
 use std::marker::Model;
 
-/// The corral that was found last, and the memory in which corrals are looked for, made once for all levels of the same rows
-/// and columns. In a level of another size none is found. Contracts see the squares of its boxes and those of its room, as words of bits.
+/// The last corral that `find` found, and the memory of the search, made once for all levels with the same rows and
+/// columns; on a level of another size it finds none. Contracts see the squares of its boxes and of its room, as words
+/// of bits.
 #[derive(Debug, Drop)]
 pub struct Corral {
     pub(crate) size: usize,
     pub(crate) choice: Choice,
     pub(crate) sets: Sets,
-    // where boxes are looked at for whether they freeze
+    // for the test whether boxes freeze
     pub(crate) spare: Scratch,
 }
 
@@ -39,7 +40,8 @@ impl Model for Corral {
 }
 
 impl Corral {
-    /// All the memory that later calls need. The only error is that memory was refused.
+    /// All memory that later calls need: some words for each 64 squares, and lists of the boxes. Fails only if out of
+    /// memory.
     pub fn new(alloc: Global, level: &Level) -> Result<Corral, AllocError> {
         level.tell();
         let squares = level.squares();
@@ -54,7 +56,7 @@ impl Corral {
         })
     }
 
-    /// Whether the box on the square is one of the corral's.
+    /// Whether the corral holds the box on the square.
     pub fn holds(&self, square: Square) -> bool
         ensures { result ≡ has_bit self.now.held square }
     {

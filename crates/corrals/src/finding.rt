@@ -1,4 +1,4 @@
-//! Corrals that are looked for in a position.
+//! The search for a corral in a position.
 ghost use Rattle.std.specs.Prelude.{◌≡◌, ℕ, suc, IsTrue};
 ghost use Rattle.grid.specs.Masks.{has_bit};
 ghost use Rattle.grid.specs.States.{FitsLevel};
@@ -14,9 +14,10 @@ use doom::Dead;
 use grid::{Level, Position};
 use prices::Slack;
 
-/// Looks for a corral of a position in which something has to change, where the last flood was that of the position, and so is the slack. Where it
-/// says `true`, the corral's boxes and room are one, and the pushes of its boxes suffice. `false` says nothing. Takes no
-/// memory.
+/// Looks for a corral of a position in which something has to change. The last flood of `scratch` must be that of the
+/// position, and `slack` that of the position. If the result is `true`, `corral` holds one, and the pushes of its boxes
+/// suffice: if some play solves the position with the pushes that are left, one begins with such a push. `false` says
+/// nothing. Takes no memory.
 pub fn find(
     level: &Level,
     dead: &Dead,

@@ -1,4 +1,4 @@
-//! Whether a held box that is pushed on freezes with other held boxes as they stand.
+//! Whether a held box, once pushed, freezes with other held boxes where they are.
 ghost use Rattle.std.specs.Prelude.{◌≡◌, ◌≢◌, ◌<◌, ◌⊎◌, IsTrue, length};
 ghost use Rattle.grid.specs.Squares.{contains};
 ghost use Rattle.corrals.specs.Corrals.{FreezesHeld};
@@ -8,7 +8,7 @@ use crate::ground::Ground;
 use area::Scratch;
 use grid::{Dir, MAX_BOXES, Square};
 
-/// Whether the box on the square, pushed in the direction, freezes with others of these boxes as they stand.
+/// Whether the box on the square, pushed in the direction, freezes with others of these boxes where they are.
 pub(crate) fn freezes(
     ground: &Ground<'_>,
     boxes: &[Square],
@@ -30,7 +30,7 @@ pub(crate) fn freezes(
     ground.any_frozen(&moved, spare)
 }
 
-// Puts each box at its place in a list, and the square ahead in the place of the pushed one.
+// Lists the boxes, with the square ahead instead of the pushed one.
 fn put_others(
     ground: &Ground<'_>,
     boxes: &[Square],
@@ -39,7 +39,8 @@ fn put_others(
     moved: &mut [Square],
 )
     requires { ahead < length ground.now.board.cells }
-    ensures { AreMoved ground.now.board boxes.now square ahead moved.old → AreMoved ground.now.board boxes.now square ahead moved.new }
+    ensures { AreMoved ground.now.board boxes.now square ahead moved.old →
+        AreMoved ground.now.board boxes.now square ahead moved.new }
 {
     for place in 0..boxes.len().min(moved.len()) {
         let other = boxes[place];
@@ -48,7 +49,7 @@ fn put_others(
     }
 }
 
-// Where a box stands after the push: the pushed one ahead, and each other one where it stood.
+// The square of a box after the push: one square ahead for the pushed box, unchanged for the others.
 fn place_of(ground: &Ground<'_>, square: Square, ahead: Square, other: Square) -> Square
     requires { ahead < length ground.now.board.cells }
     ensures inside { result < length ground.now.board.cells }

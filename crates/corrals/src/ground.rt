@@ -1,4 +1,4 @@
-//! Where a corral is looked for.
+//! The position in which a corral is searched.
 ghost use Rattle.std.specs.Prelude.{◌≡◌, ℕ, suc, ◌<◌, IsTrue, length, nat_lt, true};
 ghost use Rattle.grid.specs.declared.dir.Dir.{Dir as Direction};
 ghost use Rattle.grid.specs.Board.{is_wall, is_goal, next};
@@ -16,8 +16,8 @@ use grid::{Dir, Level, Position, Square};
 use prices::Slack;
 use std::marker::Model;
 
-/// A position of a level, of which the last flood in the scratch was. Contracts see the level, the position, and how many
-/// pushes are left after the next; `None` is any number.
+/// A position of a level, with its flood in the scratch. Contracts see the level, the position, and how many pushes are
+/// left after the next one; `None` is any number.
 #[derive(Debug, Drop)]
 pub(crate) struct Ground<'a> {
     level: &'a Level,
@@ -38,7 +38,7 @@ impl<'a> Model for Ground<'a> {
 }
 
 impl<'a> Ground<'a> {
-    /// That of a position.
+    /// The ground of a position.
     pub(crate) fn of(
         level: &'a Level,
         dead: &'a Dead,
@@ -98,17 +98,19 @@ impl<'a> Ground<'a> {
         self.level.is_goal(square)
     }
 
-    /// Whether a box on the square can't be brought to a goal, so that no push onto it ever helps.
+    /// Whether no play brings a box from the square to a goal, so that no push onto it ever helps.
     pub(crate) fn is_dead(&self, square: Square) -> bool
-        ensures { IsTrue result → (m b : ℕ) (d : Direction) → next self.now.board b d ≡ square → NeverHelps self.now.board m self.now.scene b d }
+        ensures { IsTrue result → (m b : ℕ) (d : Direction) → next self.now.board b d ≡ square →
+            NeverHelps self.now.board m self.now.scene b d }
     {
         self.dead.is_dead(square)
     }
 
-    /// Whether a push of the box on the square never helps, where one stands there: it leads onto a dead square, or costs more
-    /// than is left.
+    /// Whether a push of the box on the square never helps, if there is one: it leads onto a dead square, or costs
+    /// more than is left.
     pub(crate) fn never_helps(&self, square: Square, dir: Dir) -> bool
-        ensures { IsTrue result → (m : ℕ) → Allows self.now.left m → NeverHelps self.now.board (suc m) self.now.scene square dir }
+        ensures { IsTrue result → (m : ℕ) → Allows self.now.left m →
+            NeverHelps self.now.board (suc m) self.now.scene square dir }
     {
         if !self.has(square) || !self.has_box(square) {
             return false;
@@ -120,7 +122,7 @@ impl<'a> Ground<'a> {
         self.slack.never_helps(square, dir)
     }
 
-    /// Whether some of these squares, at least one of them off goal, are frozen where boxes stand on them.
+    /// Whether boxes on some of these squares, at least one of them off goal, are frozen.
     pub(crate) fn any_frozen(&self, squares: &[Square], spare: &mut Scratch) -> bool
         requires inside { (q : ℕ) → contains squares.now q ≡ true → q < length self.now.board.cells }
         requires room { spare.old.size ≡ length self.now.board.cells }
@@ -130,7 +132,7 @@ impl<'a> Ground<'a> {
         doom::any_frozen(self.level, self.dead, squares, spare)
     }
 
-    /// Whether a box stands on the square.
+    /// Whether a box is on the square.
     pub(crate) fn has_box(&self, square: Square) -> bool
         ensures { result ≡ contains self.now.scene.boxes square }
     {

@@ -1,13 +1,14 @@
-//! Corrals: rooms that boxes shut, where it suffices to push one of these boxes next.
+//! Corrals: rooms that boxes shut, such that it suffices to push one of these boxes next. A search for solutions with
+//! the fewest pushes uses them to leave out all other pushes.
 //!
-//! The boxes and the squares of a room are chosen by a guess, of which nothing is proved. What is chosen is checked, and what
-//! is found is a corral by definition. Where a corral has no push that is possible, no play ends solved.
+//! A guess chooses the boxes and squares, and a proved check accepts them only if they are a corral by definition. If a
+//! corral has no possible push, no play solves the position.
 //!
-//! After a flood of the position, `find` looks for a corral. Where it says `true`, a push of a box on a square that `Corral::holds`
-//! suffices.
+//! [`find`] looks for a corral after a flood of the position. If it returns `true`, the pushes of boxes that
+//! [`Corral::holds`] suffice. A call takes no memory, and about as long as a few floods.
 //!
-//! With references to the `level` of a row in which a wall parts the player from a box beside its goal, and to what else is
-//! named, this is `true`:
+//! With references to the `level` of a row in which a wall separates the player from a box beside its goal, and to the
+//! other names, this is `true`:
 //!
 //! ```text
 //! area::flood(level, start, scratch);

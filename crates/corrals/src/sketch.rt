@@ -1,5 +1,5 @@
-//! A position as numbers: its boxes, the rooms that the player does not come to, and what is beside each box. Nothing of it
-//! is proved.
+//! A position as numbers: its boxes, the rooms that the player does not reach, and what is beside each box. It has no
+//! contract.
 
 ghost use Rattle.std.specs.Prelude.{◌<◌};
 
@@ -7,22 +7,22 @@ use crate::ground::Ground;
 use grid::{Dir, MAX_BOXES, Square};
 use std::alloc::{AllocError, Global};
 
-/// So many rooms have numbers at most.
+/// The greatest number of rooms.
 const MAX_ROOMS: usize = 64;
 
-/// Each box has four squares beside it.
+/// The number of squares beside a box.
 const AROUND: usize = 256;
 
-/// What is on a square: a box has its place among the boxes, a square of a room `ROOM` and the room's number.
+/// What is on a square: a box by its index, a square of a room by `ROOM` and the room's number.
 const ROOM: u8 = 64;
 
-/// The player comes there.
+/// The player reaches it.
 const REACHED: u8 = 253;
 
 /// A wall.
 const WALL: u8 = 254;
 
-/// A square of which nothing is known.
+/// A square that was not looked at.
 const NOTHING: u8 = 255;
 
 /// What is on the square beside a box.
@@ -30,7 +30,7 @@ const NOTHING: u8 = 255;
 pub(crate) enum Beside {
     Wall,
     Reached,
-    /// A box, by its place among the boxes.
+    /// A box, by its index.
     Box(usize),
     /// A room, by its number.
     Room(usize),
@@ -60,7 +60,7 @@ pub(crate) fn bit(number: usize) -> u64 {
     1u64 << (number % 64)
 }
 
-// Where it stands what is beside a box.
+// The index of what is beside a box.
 fn place_beside(place: usize, dir: Dir) -> usize
     ensures { result < 256 }
 {
@@ -68,7 +68,7 @@ fn place_beside(place: usize, dir: Dir) -> usize
 }
 
 impl Sketch {
-    /// The memory for a level of so many squares. The only error is that memory was refused.
+    /// The memory for a level with `squares` squares. Fails only if out of memory.
     pub(crate) fn new(alloc: Global, squares: usize) -> Result<Sketch, AllocError> {
         Ok(Sketch {
             codes: vec![in alloc; NOTHING; squares]?,
@@ -87,7 +87,7 @@ impl Sketch {
         })
     }
 
-    /// Makes it that of a position.
+    /// Sketches a position.
     pub(crate) fn draw(&mut self, ground: &Ground<'_>) {
         self.forget_boxes();
         self.forget_rooms();
@@ -96,12 +96,12 @@ impl Sketch {
         self.look_round(ground);
     }
 
-    /// How many boxes there are.
+    /// The number of boxes.
     pub(crate) fn count(&self) -> usize {
         self.count.min(MAX_BOXES)
     }
 
-    /// How many rooms there are.
+    /// The number of rooms.
     pub(crate) fn rooms(&self) -> usize {
         self.rooms.min(MAX_ROOMS)
     }
@@ -116,7 +116,7 @@ impl Sketch {
         self.off_goal
     }
 
-    /// The boxes round a room.
+    /// The boxes around a room.
     pub(crate) fn around(&self, room: usize) -> u64 {
         self.around[room % MAX_ROOMS]
     }
@@ -126,7 +126,7 @@ impl Sketch {
         self.boxes[place % MAX_BOXES]
     }
 
-    /// The bit of the box on a square; none where there is no box.
+    /// The bit of the box on a square; zero if there is none.
     pub(crate) fn box_bit(&self, square: Square) -> u64 {
         let code = self.code(square);
         if code < ROOM { bit(code as usize) } else { 0 }
@@ -159,7 +159,7 @@ impl Sketch {
         }
     }
 
-    /// Whether a push of a box never helps. Each is asked for once.
+    /// Whether a push of a box never helps. Each answer is computed once.
     pub(crate) fn never_helps(&mut self, ground: &Ground<'_>, place: usize, dir: Dir) -> bool {
         let place = place % MAX_BOXES;
         let mask = 1u8 << (dir as u8 % 4);
@@ -173,7 +173,7 @@ impl Sketch {
         self.useless[place] & mask != 0
     }
 
-    // Forgets the boxes of the last position, and what was asked of them.
+    // Clears the boxes of the last position and the answers about them.
     fn forget_boxes(&mut self) {
         for place in 0..self.count() {
             let square = self.square(place);
@@ -184,7 +184,7 @@ impl Sketch {
         self.useless = [0; MAX_BOXES];
     }
 
-    // Forgets the rooms of the last position.
+    // Clears the rooms of the last position.
     fn forget_rooms(&mut self) {
         for place in 0..self.squares.len() {
             if place < self.squares.len() {
@@ -197,7 +197,7 @@ impl Sketch {
         self.goals = 0;
     }
 
-    // Puts the boxes of a position in their places.
+    // Enters the boxes of a position.
     fn put_boxes(&mut self, ground: &Ground<'_>) {
         let boxes = ground.position().boxes();
         self.count = boxes.len();
@@ -210,14 +210,14 @@ impl Sketch {
         }
     }
 
-    // Notes what is on a square.
+    // Sets what is on a square.
     fn put(&mut self, square: Square, code: u8) {
         if let Some(it) = self.codes.get_mut(square.0 as usize) {
             *it = code;
         }
     }
 
-    // What was noted of a square.
+    // What is on a square.
     fn code(&self, square: Square) -> u8 {
         match self.codes.get(square.0 as usize) {
             Some(code) => *code,
@@ -242,7 +242,7 @@ impl Sketch {
         }
     }
 
-    // Grows the room of a square, if it is in a room that was not grown.
+    // Grows the room of a square, unless it has grown.
     fn grow(&mut self, ground: &Ground<'_>, start: Square) {
         if self.rooms >= MAX_ROOMS || self.code(start) != NOTHING {
             return;
@@ -260,7 +260,7 @@ impl Sketch {
         self.ends[room] = self.squares.len();
     }
 
-    // Takes a square into a room.
+    // Adds a square to a room.
     fn take(&mut self, ground: &Ground<'_>, square: Square, room: usize) {
         self.put(square, ROOM + (room % MAX_ROOMS) as u8);
         let _ = self.squares.push(square);
@@ -269,7 +269,7 @@ impl Sketch {
         }
     }
 
-    // Takes all that is beside the squares of a room.
+    // Adds all that is beside the squares of a room.
     fn spread(&mut self, ground: &Ground<'_>, first: usize, room: usize) {
         let mut place = first;
         for _ in 0..self.codes.len() {
@@ -282,7 +282,7 @@ impl Sketch {
         }
     }
 
-    // Takes what is beside a square of a room.
+    // Adds what is beside a square of a room.
     fn spread_from(&mut self, ground: &Ground<'_>, square: Square, room: usize) {
         for dir in Dir::ALL {
             if ground.has(square) {
@@ -291,7 +291,7 @@ impl Sketch {
         }
     }
 
-    // Takes a square beside a room into it, or notes the box there.
+    // Adds a square beside a room to it, or the box there to its boxes.
     fn take_beside(&mut self, ground: &Ground<'_>, square: Square, room: usize) {
         let code = self.code(square);
         if code < ROOM {
@@ -301,14 +301,14 @@ impl Sketch {
         }
     }
 
-    // Notes what is beside each box.
+    // Enters what is beside each box.
     fn look_round(&mut self, ground: &Ground<'_>) {
         for place in 0..self.count() {
             self.look_beside(ground, place);
         }
     }
 
-    // Notes what is beside a box.
+    // Enters what is beside a box.
     fn look_beside(&mut self, ground: &Ground<'_>, place: usize) {
         let square = self.square(place);
         for dir in Dir::ALL {

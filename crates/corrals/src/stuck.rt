@@ -1,10 +1,10 @@
-//! Boxes that would hold one another once one of them was pushed on: a guess, of which nothing is proved.
+//! Boxes that would hold one another after a push of one of them. A guess: it has no contract.
 
 use crate::ground::Ground;
 use crate::sketch::{Sketch, bit};
 use grid::{Dir, Square};
 
-/// What holds a box on a square on each axis: anyway, or each of these boxes, by its bit.
+/// What holds a box on a square, for each axis: walls or dead squares, or each of these boxes, by its bit.
 #[derive(Clone, Copy)]
 struct Holders {
     across: u64,
@@ -14,7 +14,7 @@ struct Holders {
 }
 
 impl Holders {
-    // Whether it is held on both axes where only these boxes stand.
+    // Whether it is held on both axes if there are only these boxes.
     fn hold(&self, members: u64) -> bool {
         (self.is_fast_across || self.across & members != 0)
             && (self.is_fast_along || self.along & members != 0)
@@ -22,7 +22,7 @@ impl Holders {
 }
 
 impl Sketch {
-    /// Whether a box, pushed in the direction, freezes with others of these boxes as they stand.
+    /// Whether a box, pushed in the direction, freezes with others of these boxes where they are.
     pub(crate) fn freezes(&self, ground: &Ground<'_>, boxes: u64, place: usize, dir: Dir) -> bool {
         let square = self.square(place);
         if !ground.has(square) {
@@ -66,7 +66,7 @@ impl Sketch {
         }
     }
 
-    // Those of the members that are held by others of them, or by the box that these hold.
+    // The members that others of them hold, or the box that these hold.
     fn kept(&self, ground: &Ground<'_>, members: u64, pushed: &Holders) -> u64 {
         let mut kept = 0;
         for place in 0..self.count() {
@@ -77,7 +77,7 @@ impl Sketch {
         kept
     }
 
-    // Whether a member is held by others of them, or by the box that these hold.
+    // Whether others of the members hold a member, or the box that these hold does.
     fn is_kept(&self, ground: &Ground<'_>, members: u64, pushed: &Holders, place: usize) -> bool {
         let holders = self.holders(ground, self.square(place));
         (holders.is_fast_across || holders.across & members != 0 || pushed.across & bit(place) != 0)
@@ -87,7 +87,7 @@ impl Sketch {
     }
 }
 
-// Whether walls or dead squares alone hold a box between these squares.
+// Whether walls or dead squares hold a box between these squares without other boxes.
 fn is_fast(ground: &Ground<'_>, one: Square, other: Square) -> bool {
     ground.is_wall(one) || ground.is_wall(other) || (ground.is_dead(one) && ground.is_dead(other))
 }

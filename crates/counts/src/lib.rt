@@ -1,5 +1,5 @@
-//! Counts: one to four decimal digits that write a number from 1 to 9999, and say how often what stands right after
-//! them is meant.
+//! Counts in both notations: one to four decimal digits that write a number from 1 to 9999, the number of times that
+//! what follows is repeated. Use it to read the digits before a cell or a letter. It takes no memory.
 //!
 //! ```text
 //! assert_eq!(&rt; counts::digit_count(b"12#"), 2);
@@ -27,8 +27,8 @@ pub fn digit_count(bytes: &[u8]) -> usize
         .count()
 }
 
-/// How often what stands right after these digits is meant: once where there are none. `None` exactly where they are
-/// no count, since they are more than [`MAX_DIGITS`] or write 0.
+/// How many times what follows these digits is repeated; no digits mean once. `None` if they are no count: more than
+/// [`MAX_DIGITS`] digits, or the value 0.
 #[tactic(auto, using(crate::proofs::lemmas::Digits::too_long, crate::proofs::lemmas::Digits::writes_nothing))]
 pub fn times(digits: &[u8]) -> Option<usize>
     requires { AreDigits digits.now }

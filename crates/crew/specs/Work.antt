@@ -9,7 +9,8 @@ use Rattle.claims.specs.Hands.{LedgerView, DrawerView, Drew}
 use Rattle.crew.specs.declared.end.End.{End}
 use Rattle.crew.specs.declared.end.End.TheVariants.{Drained, Refused, Stopped, Foreign, NoPlace}
 
--- the book is of the layer's level, it has closed that layer last, and it is made for this number of workers, the worker among them
+-- the book is of the layer's level, it has closed that layer last, and it is made for this number of workers, the
+-- worker among them
 pub record IsOwn (layer : LayerView) (workers worker : ℕ) (book : BookView) : Type 0 where
   pub level : layer.level ≡ book.level
   pub last : layer.number ≡ last_layer book
@@ -44,17 +45,19 @@ DrawEnds worker after (Refused refusal) = ⊥
 -- how a hand back ends a worker: the book is not its own, or refuses the parcel
 abbrev pub HandEnds : LayerView → ℕ → ℕ → BookView → ParcelView → End → Type 0
 HandEnds layer workers worker book parcel Foreign = ¬ (IsOwn layer workers worker book)
-HandEnds layer workers worker book parcel (Refused refusal) = IsOwn layer workers worker book × HandBackRefused book parcel refusal
+HandEnds layer workers worker book parcel (Refused refusal) =
+    IsOwn layer workers worker book × HandBackRefused book parcel refusal
 HandEnds layer workers worker book parcel Drained = ⊥
 HandEnds layer workers worker book parcel Stopped = ⊥
 HandEnds layer workers worker book parcel NoPlace = ⊥
 
--- how a hand back ends a worker that then asks the gate: the book answered so, or the gate did not let it go on, where the book
--- was its own and nothing stood in the parcel's way
+-- how a hand back ends a worker that then asks the gate: the book answered so, or the gate did not let it go on,
+-- where the book was its own and nothing stood in the parcel's way
 abbrev pub HandOverEnds : LayerView → ℕ → ℕ → BookView → ParcelView → End → Type 0
 HandOverEnds layer workers worker book parcel Stopped = IsOwn layer workers worker book × MayEnter book parcel
 HandOverEnds layer workers worker book parcel Foreign = HandEnds layer workers worker book parcel Foreign
-HandOverEnds layer workers worker book parcel (Refused refusal) = HandEnds layer workers worker book parcel (Refused refusal)
+HandOverEnds layer workers worker book parcel (Refused refusal) =
+    HandEnds layer workers worker book parcel (Refused refusal)
 HandOverEnds layer workers worker book parcel Drained = ⊥
 HandOverEnds layer workers worker book parcel NoPlace = ⊥
 
@@ -83,10 +86,11 @@ EndsWith worker hand (Refused refusal) = Unit {0}
 EndsWith worker hand Stopped = Unit {0}
 EndsWith worker hand Foreign = Unit {0}
 
--- a worker ends as refused only where a lawful book of its own did not accept a parcel of the layer, and as foreign only
--- where the book was not its own
+-- a worker ends as refused only where a lawful book of its own did not accept a parcel of the layer, and as foreign
+-- only where the book was not its own
 abbrev pub WasAnswered : LayerView → ℕ → ℕ → End → Type 0
-WasAnswered layer workers worker (Refused refusal) = (book : BookView) × (parcel : ParcelView) × IsLawfulBook book × IsOfLayer layer parcel
+WasAnswered layer workers worker (Refused refusal) =
+    (book : BookView) × (parcel : ParcelView) × IsLawfulBook book × IsOfLayer layer parcel
     × HandEnds layer workers worker book parcel (Refused refusal)
 WasAnswered layer workers worker Foreign = (book : BookView) × IsLawfulBook book × ¬ (IsOwn layer workers worker book)
 WasAnswered layer workers worker Drained = Unit {0}
@@ -103,17 +107,18 @@ told n = min n (2 ^ 64 - 1)
 abbrev pub LetsGoOn : (ℕ → Bool → Bool) → ℕ → Type 0
 LetsGoOn may_answer events = (n : ℕ) → 1 ≤ n → n ≤ events → may_answer (told n) true ≡ true
 
--- what the gate may have answered to a worker that had so many events: that it goes on, each time; but where it ended as
--- stopped, that it does not, to the last one
+-- what the gate may have answered to a worker that had so many events: that it goes on, each time; but where it ended
+-- as stopped, that it does not, to the last one
 abbrev pub MayAnswerEach : (ℕ → Bool → Bool) → ℕ → End → Type 0
-MayAnswerEach may_answer events Stopped = (before : ℕ) × (events ≡ suc before) × LetsGoOn may_answer before × (may_answer (told events) false ≡ true)
+MayAnswerEach may_answer events Stopped =
+    (before : ℕ) × (events ≡ suc before) × LetsGoOn may_answer before × (may_answer (told events) false ≡ true)
 MayAnswerEach may_answer events Drained = LetsGoOn may_answer events
 MayAnswerEach may_answer events (Refused refusal) = LetsGoOn may_answer events
 MayAnswerEach may_answer events Foreign = LetsGoOn may_answer events
 MayAnswerEach may_answer events NoPlace = LetsGoOn may_answer events
 
--- how many parcels of a worker that drew so many ranks were accepted: each of them by each book, where it is drained, and else
--- no more than these
+-- how many parcels of a worker that drew so many ranks were accepted: each of them by each book, where it is drained,
+-- and else no more than these
 abbrev pub WereAccepted : ℕ → ℕ → ℕ → End → Type 0
 WereAccepted books drawn accepted Drained = accepted ≡ drawn * books
 WereAccepted books drawn accepted (Refused refusal) = accepted ≤ drawn * books
@@ -121,7 +126,8 @@ WereAccepted books drawn accepted Stopped = accepted ≤ drawn * books
 WereAccepted books drawn accepted Foreign = accepted ≤ drawn * books
 WereAccepted books drawn accepted NoPlace = accepted ≤ drawn * books
 
--- a worker's events are the ranks that its hand has drawn since, and the parcels that were accepted; of each the gate was told
+-- a worker's events are the ranks that its hand has drawn since, and the parcels that were accepted; of each the gate
+-- was told
 pub record AsksTheGate (may_answer : ℕ → Bool → Bool) (books : ℕ) (before after : Hand) (end : End) : Type 0 where
   pub drawn : ℕ
   pub accepted : ℕ

@@ -16,16 +16,16 @@ use spreading::for_each_spread;
 use std::alloc::AllocError;
 use std::thread::Threads;
 
-// The least number of positions of a layer after which the books close side by side. After fewer a close takes less time
-// than the start of a thread.
+// The least number of positions of a layer after which the books close side by side. After fewer a close takes less
+// time than the start of a thread.
 const SIDE_BY_SIDE: u64 = 4096;
 
-// So many books close side by side at most: each takes memory to sort what it closes, and threads keep some of theirs.
+// The greatest number of books that close side by side: each takes memory to sort what it closes.
 const MOST: u8 = 4;
 
-// Does, by the caller's own number, whatever is left of the layer in each of the books, and closes the next one there; until one
-// of them is over, or comes to be, or all of them hold more positions together than the limit. No book closes before that is
-// known. They may close side by side.
+// Does, by the caller's own number, whatever is left of the layer in each of the books, and closes the next one
+// there; until one of them is over, or comes to be, or all of them hold more positions together than the limit. No
+// book closes before that is known. They may close side by side.
 pub(crate) fn finish_all<R: Threads + Sync, G: Gate>(
     rt: &R,
     terms: &Terms<'_, G>,
@@ -51,8 +51,8 @@ pub(crate) fn finish_all<R: Threads + Sync, G: Gate>(
     Ok(worked)
 }
 
-// Where the layer is large, closes the next one in each of the books whose ranks are all done, as many of them side by side as
-// there are workers. A book that is refused memory stays as it was.
+// Where the layer is large, closes the next one in each of the books whose ranks are all done, as many of them side
+// by side as there are workers. A book that is refused memory stays as it was.
 fn close_side_by_side<R: Threads + Sync>(rt: &R, books: &mut [Book], layer: &Layer, workers: u8)
     ensures { MayBeClosedEach books.old books.new }
 {
@@ -75,7 +75,8 @@ fn close_in_turns<R: Threads + Sync>(rt: &R, books: &mut [Book], many: usize)
     close_in_turns(rt, rest, many);
 }
 
-// Closes the next layer in each of the books whose ranks are all done, each in a thread of its own where one can be started.
+// Closes the next layer in each of the books whose ranks are all done, each in a thread of its own where one can be
+// started.
 fn close_each<R: Threads + Sync>(rt: &R, books: &mut [Book])
     ensures { MayBeClosedEach books.old books.new }
 {

@@ -3,8 +3,8 @@ ghost use Rattle.crew.specs.Configured.{IsWithinLimits};
 
 use layers::{MAX_SHARES, MAX_WORKERS};
 
-/// How a level is solved: by how many workers, over how many locks, under which limit of positions, and within which cap
-/// of pushes, if one is set.
+/// How to solve a level: the numbers of workers and of locks, the limit of positions, and the cap of pushes, if one is
+/// set.
 #[derive(Clone, Copy, PartialEq, Eq, Debug)]
 pub struct Config {
     pub workers: u8,

@@ -19,8 +19,8 @@ use std::sync::atomic::AtomicU64;
 use std::sync::{Mutex, Wait};
 use std::thread::Threads;
 
-/// What a worker works with: a scratch and lots of ranks, which it keeps from layer to layer, and a drawer of the ledger of the
-/// layer at work.
+/// What a worker works with: a scratch and lots of ranks, which it keeps from layer to layer, and a drawer of the
+/// ledger of the layer at work.
 #[derive(Drop)]
 pub(crate) struct Desk<'a> {
     pub(crate) scratch: Scratch,
@@ -37,8 +37,8 @@ pub(crate) struct Desks<'a> {
     desks: Vec<Desk<'a>>,
 }
 
-/// What the workers of a layer borrow: the layer, its books, the ledger of its ranks, and the number of positions that the
-/// books hold together and may hold at most.
+/// What the workers of a layer borrow: the layer, its books, the ledger of its ranks, and the number of positions
+/// that the books hold together and may hold at most.
 #[derive(Drop)]
 pub(crate) struct Loan<'s> {
     pub(crate) layer: &'s Layer,
@@ -58,7 +58,8 @@ impl<'a> Model for Desks<'a> {
 
     ghost view = { λ a. a.problem.now };
 
-    ghost invariant = { λ a. (length a.desks.items ≤ PLACES) × AreRoomy (length a.problem.now.board.cells) a.desks.items };
+    ghost invariant = { λ a. (length a.desks.items ≤ PLACES) ×
+        AreRoomy (length a.problem.now.board.cells) a.desks.items };
 }
 
 impl<'a> Desks<'a> {
@@ -71,8 +72,8 @@ impl<'a> Desks<'a> {
         Desks { problem, desks }
     }
 
-    /// Lends the layer with its books and its ledger to the workers at these desks, and waits until all of them have ended, each
-    /// at the latest soon after the books hold more than the limit.
+    /// Lends the layer with its books and its ledger to the workers at these desks, and waits until all of them have
+    /// ended, each at the latest soon after the books hold more than the limit.
     pub(crate) fn work<R: Threads + Wait + Sync, G: Gate + Sync>(
         &mut self,
         rt: &R,
@@ -118,7 +119,8 @@ fn desks_of<'a>(alloc: Global, level: &Level, workers: u8, books: u8) -> Vec<Des
     desks
 }
 
-// Appends a desk for one of so many workers over so many books. The only error is that memory was refused, which leaves the desks as they were.
+// Appends a desk for one of so many workers over so many books. The only error is that memory was refused, which
+// leaves the desks as they were.
 fn append_desk<'a>(
     alloc: Global,
     level: &Level,
@@ -127,7 +129,8 @@ fn append_desk<'a>(
     desks: &mut Vec<Desk<'a>>,
 ) -> Result<(), AllocError>
     ensures many { length desks.new.items ≤ length desks.old.items + 1 }
-    ensures room { AreRoomy (length level.now.cells) desks.old.items → AreRoomy (length level.now.cells) desks.new.items }
+    ensures room { AreRoomy (length level.now.cells) desks.old.items →
+        AreRoomy (length level.now.cells) desks.new.items }
 {
     let scratch = Scratch::new(alloc, level)?;
     let lots = Lots::of_one_of(alloc, books as usize, workers)?;
@@ -140,8 +143,8 @@ fn append_desk<'a>(
     Ok(())
 }
 
-// Gives a drawer to as many of the workers at these desks as the layer has ranks, lets these work, and waits until all of them
-// have ended. One more would find no rank, and its thread would be started for nothing.
+// Gives a drawer to as many of the workers at these desks as the layer has ranks, lets these work, and waits until
+// all of them have ended. One more would find no rank, and its thread would be started for nothing.
 fn work_first<'a, R: Threads + Wait + Sync, G: Gate + Sync>(
     rt: &R,
     desks: &mut [Desk<'a>],

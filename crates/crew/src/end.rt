@@ -5,12 +5,11 @@ use layers::Refusal;
 pub enum End {
     /// No rank of the layer was left to draw.
     Drained,
-    /// A book did not accept a parcel.
+    /// A book refused a parcel.
     Refused(Refusal),
-    /// The gate did not let it go on.
+    /// The gate stopped it.
     Stopped,
-    /// A book behind its lock is of another level, at another layer, or made for another number of workers, or for none of this
-    /// worker's number.
+    /// The book behind a lock is of another level, at another layer, or made for other workers.
     Foreign,
     /// Another drawer has its place in the ledger.
     NoPlace,

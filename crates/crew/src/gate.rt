@@ -1,23 +1,22 @@
 ghost use Rattle.std.specs.Prelude.{◌≡◌, ℕ, Bool, false, true};
 
-/// What a worker asks after each of its events, while it holds no lock. An event is a draw that gives a rank, or a
-/// parcel that one book accepted.
+/// A callback after each event of a worker, while the worker holds no lock. An event is a draw that gives a rank, or a
+/// parcel that one book accepted. Use it to stop or delay workers, for example in tests.
 pub trait Gate {
     /// Whether the gate may ever stop a worker.
     ghost may_stop: { Bool };
 
-    /// Whether the gate may give an answer where it is told of a layer, a worker and an event. It may give each, where an
-    /// implementation does not say it.
+    /// Whether the gate may give an answer for a layer, a worker and an event. By default it may give each.
     ghost may_answer: { Self → ℕ → ℕ → ℕ → Bool → Bool } = { λ _ _ _ _ _. true };
 
-    /// Whether the worker goes on. Told are the number of its layer, its own number from 0, and how many events it has
-    /// had in that layer, from 1; at the greatest number that stays.
+    /// Whether the worker goes on, given the number of its layer, its own number from 0, and the number of its events
+    /// in that layer, from 1, which stops at `u64::MAX`.
     fn pass(&self, layer: u64, worker: u8, nth: u64) -> bool
         ensures stops { result ≡ false → may_stop ≡ true }
         ensures answer { may_answer self.now layer worker nth result ≡ true };
 }
 
-/// A gate that lets each worker go on.
+/// The gate that never stops a worker.
 #[derive(Clone, Copy, Default, Debug)]
 pub struct Free;
 

@@ -1,4 +1,4 @@
-//! Parcels that are handed back to books, each under its book's lock.
+//! Handing parcels back to books, each under the lock of its book.
 ghost use Rattle.std.specs.Prelude.{◌≡◌, ◌*◌, true, IfErr, OnOk, length};
 ghost use Rattle.std.specs.Sync.Mutex.{mutex_guard_value};
 ghost use Rattle.layers.specs.Books.{MayEnter, with_parcel};
@@ -31,9 +31,13 @@ pub(crate) fn hand_back<R: Wait, G: Gate>(
     requires { IsOfLayer post.now.shift.now.layer parcel.now }
     ensures end { IfErr result (λ end. MayEnd G.may_stop end) }
     ensures hand { (hand : Hand) → IfErr result (λ end. EndsWith post.now.worker hand end) }
-    ensures answered { IfErr result (λ end. WasAnswered post.now.shift.now.layer post.now.shift.now.workers post.now.worker end) }
-    ensures goes_on { OnOk result (GoesOn (answers_to G.may_answer post.now.shift.now post.now.worker) nth.old post.now.shift.now.books nth.new) }
-    ensures gate { IfErr result (λ end. IsCutOff (answers_to G.may_answer post.now.shift.now post.now.worker) post.now.shift.now.books nth.old nth.new end) }
+    ensures answered { IfErr result
+        (λ end. WasAnswered post.now.shift.now.layer post.now.shift.now.workers post.now.worker end) }
+    ensures goes_on { OnOk result
+        (GoesOn (answers_to G.may_answer post.now.shift.now post.now.worker) nth.old post.now.shift.now.books nth.new) }
+    ensures gate { IfErr result
+        (λ end. IsCutOff (answers_to G.may_answer post.now.shift.now post.now.worker) post.now.shift.now.books nth.old
+        nth.new end) }
 {
     let shift = post.shift;
     for book in shift.books {
@@ -42,8 +46,8 @@ pub(crate) fn hand_back<R: Wait, G: Gate>(
     Ok(())
 }
 
-// Hands the parcels of a lot back to each of the books in order, and draws on the next lot where a book is held by another
-// worker.
+// Hands the parcels of a lot back to each of the books in order, and draws on the next lot where a book is held by
+// another worker.
 pub(crate) fn hand_lot<'a, R: Wait, G: Gate>(
     post: &Post<'_, '_, '_, 'a, R, G>,
     drawer: &mut Drawer,
@@ -55,7 +59,9 @@ pub(crate) fn hand_lot<'a, R: Wait, G: Gate>(
     requires ready { IsReady post.now.shift.now post.now.worker scratch.old drawer.old }
     requires lot { AreOfLayer post.now.shift.now.layer lot.now }
     ensures grown { OnOk result (IsGrown post.now.shift.now.layer drawer.old.hand next.old next.new drawer.new.hand) }
-    ensures ends { IfErr result (λ end. HasEnded G.may_stop post.now.shift.now.layer post.now.shift.now.workers post.now.worker drawer.new.hand end) }
+    ensures ends { IfErr result
+        (λ end. HasEnded G.may_stop post.now.shift.now.layer post.now.shift.now.workers post.now.worker
+        drawer.new.hand end) }
     ensures works { OnOk result (Works (answers_to G.may_answer post.now.shift.now post.now.worker)
         (post.now.shift.now.books * length lot.now) drawer.old.hand nth.old drawer.new.hand nth.new) }
     ensures gate { IfErr result (λ end. WorksUntil (answers_to G.may_answer post.now.shift.now post.now.worker)
@@ -89,7 +95,9 @@ fn hand_lot_to<'a, R: Wait, G: Gate>(
     requires ready { IsReady post.now.shift.now post.now.worker scratch.old drawer.old }
     requires lot { AreOfLayer post.now.shift.now.layer errand.now.lot.now }
     ensures grown { OnOk result (IsGrown post.now.shift.now.layer drawer.old.hand next.old next.new drawer.new.hand) }
-    ensures ends { IfErr result (λ end. HasEnded G.may_stop post.now.shift.now.layer post.now.shift.now.workers post.now.worker drawer.new.hand end) }
+    ensures ends { IfErr result
+        (λ end. HasEnded G.may_stop post.now.shift.now.layer post.now.shift.now.workers post.now.worker
+        drawer.new.hand end) }
     ensures works { OnOk result (Works (answers_to G.may_answer post.now.shift.now post.now.worker)
         (length errand.now.lot.now) drawer.old.hand nth.old drawer.new.hand nth.new) }
     ensures gate { IfErr result (λ end. WorksUntil (answers_to G.may_answer post.now.shift.now post.now.worker)
@@ -103,8 +111,8 @@ fn hand_lot_to<'a, R: Wait, G: Gate>(
     Ok(())
 }
 
-// Takes a book's lock. While another worker holds it, this one lets enter what waits for its own book, draws on the next lot, as
-// far as that goes, and then waits.
+// Takes a book's lock. While another worker holds it, this one enters the pending successors of its own book, draws on
+// the next lot, and then waits.
 fn lock_or_draw<'a, 'b, R: Wait, G: Gate>(
     post: &Post<'_, '_, '_, 'a, R, G>,
     book: &'b Mutex<Book>,
@@ -115,8 +123,12 @@ fn lock_or_draw<'a, 'b, R: Wait, G: Gate>(
 ) -> Result<MutexGuard<'b, Book>, End>
     requires ready { IsReady post.now.shift.now post.now.worker scratch.old drawer.old }
     ensures grown { OnOk result (IsGrown post.now.shift.now.layer drawer.old.hand next.old next.new drawer.new.hand) }
-    ensures ends { IfErr result (λ end. HasEnded G.may_stop post.now.shift.now.layer post.now.shift.now.workers post.now.worker drawer.new.hand end) }
-    ensures works { OnOk result (Works (answers_to G.may_answer post.now.shift.now post.now.worker) 0 drawer.old.hand nth.old drawer.new.hand nth.new) }
+    ensures ends { IfErr result
+        (λ end. HasEnded G.may_stop post.now.shift.now.layer post.now.shift.now.workers post.now.worker
+        drawer.new.hand end) }
+    ensures works { OnOk result
+        (Works (answers_to G.may_answer post.now.shift.now post.now.worker) 0 drawer.old.hand nth.old drawer.new.hand
+        nth.new) }
     ensures gate { IfErr result (λ end. WorksUntil (answers_to G.may_answer post.now.shift.now post.now.worker)
         0 drawer.old.hand nth.old drawer.new.hand nth.new end) }
     ensures ready { IsReady post.now.shift.now post.now.worker scratch.new drawer.new }
@@ -142,13 +154,18 @@ fn hand_to<R: Wait, G: Gate>(
     requires { IsOfLayer post.now.shift.now.layer parcel.now }
     ensures end { IfErr result (λ end. MayEnd G.may_stop end) }
     ensures hand { (hand : Hand) → IfErr result (λ end. EndsWith post.now.worker hand end) }
-    ensures answered { IfErr result (λ end. WasAnswered post.now.shift.now.layer post.now.shift.now.workers post.now.worker end) }
-    ensures ok { OnOk result (IsOwn post.now.shift.now.layer post.now.shift.now.workers post.now.worker (mutex_guard_value guard.entry)
+    ensures answered { IfErr result
+        (λ end. WasAnswered post.now.shift.now.layer post.now.shift.now.workers post.now.worker end) }
+    ensures ok { OnOk result
+        (IsOwn post.now.shift.now.layer post.now.shift.now.workers post.now.worker (mutex_guard_value guard.entry)
         × MayEnter (mutex_guard_value guard.entry) parcel.now) }
-    ensures refused { IfErr result (λ end. HandOverEnds post.now.shift.now.layer post.now.shift.now.workers post.now.worker
+    ensures refused { IfErr result
+        (λ end. HandOverEnds post.now.shift.now.layer post.now.shift.now.workers post.now.worker
         (mutex_guard_value guard.entry) parcel.now end) }
-    ensures goes_on { OnOk result (IsTold (answers_to G.may_answer post.now.shift.now post.now.worker) nth.old true nth.new) }
-    ensures gate { IfErr result (λ end. EndsAtOnce (answers_to G.may_answer post.now.shift.now post.now.worker) nth.old nth.new end) }
+    ensures goes_on { OnOk result
+        (IsTold (answers_to G.may_answer post.now.shift.now post.now.worker) nth.old true nth.new) }
+    ensures gate { IfErr result
+        (λ end. EndsAtOnce (answers_to G.may_answer post.now.shift.now post.now.worker) nth.old nth.new end) }
 {
     let shift = post.shift;
     let mut guard = guard;

@@ -1,14 +1,15 @@
-//! What the workers of a layer tell each other of how many positions the books hold together. No promise rests on it: it only
-//! sends them to the caller, who counts.
+//! The shared number of positions of all books. No promise rests on it: it only ends the workers, and the caller then
+//! counts.
 ghost use Rattle.std.specs.Prelude.{true};
 
 use crate::gate::Gate;
 use std::sync::atomic::{AtomicU64, Ordering};
 
-// One event in so many is followed by a look at what the books hold: as many as come with a lot of a worker, mostly.
+// The number is read after one event in this many, which is about the number of events of a lot.
 const EVENTS: u64 = 16;
 
-/// A gate that stops a worker where another one does, and once the books of a layer hold more positions together than so many.
+/// A gate that stops a worker where another gate does, and once the books of a layer hold more positions together than
+/// the limit.
 #[derive(Drop)]
 pub(crate) struct Within<'s, G: Gate> {
     pub(crate) gate: &'s G,

@@ -1,4 +1,4 @@
-//! A layer that is joined of its books in stretches, side by side.
+//! Joining a layer from its books in stretches, side by side.
 ghost use Rattle.std.specs.Prelude.{◌<◌, ◌≤◌, IfOk, length};
 ghost use Rattle.layers.specs.Books.{AreAllShares, IsJoinOf};
 ghost use Rattle.layers.specs.inside.Merging.{IsStretchOf};
@@ -14,19 +14,19 @@ use std::thread::Threads;
 // The least number of positions of a stretch. Fewer are merged in less time than a thread takes to start.
 const LEAST: usize = 4096;
 
-// So many stretches are merged side by side at most: more threads take more memory, since each that asks for some keeps some.
+// The greatest number of stretches that are merged side by side: more threads take more memory.
 const MOST: u8 = 8;
 
-// A layer is merged in so many turns at most, of so many positions at least, so that the stretches of a turn, which stand
-// beside those that were joined before, are few beside the whole layer.
+// A layer is merged in so many turns at most, of so many positions at least, so that the stretches of a turn, which
+// stand beside those that were joined before, are few beside the whole layer.
 const TURNS: usize = 16;
 
 const LEAST_OF_A_TURN: usize = 65536;
 
-// The last layer that the books have closed, which are all the shares in order. Where it is large it is merged in as many
-// stretches as there are workers, each in a thread of its own where one can be started, and a very large one in several
-// turns. Its squares take the memory that those of the layer before took, as far as that goes. The only error is that memory was
-// refused.
+// The last layer that the books have closed, which are all the shares in order. Where it is large it is merged in as
+// many stretches as there are workers, each in a thread of its own where one can be started, and a very large one in
+// several turns. Its squares take the memory that those of the layer before took, as far as that goes. The only error
+// is that memory was refused.
 pub(crate) fn join_layer<R: Threads + Sync>(
     rt: &R,
     alloc: Global,

@@ -1,4 +1,4 @@
-//! Books that are lent to workers, each behind a lock of its own, and taken back.
+//! Lending books to workers, each behind a lock of its own, and taking them back.
 ghost use Rattle.std.specs.Prelude.{◌≡◌, ◌↔◌, ◌≤◌, IsTrue, IfOk, length};
 ghost use Rattle.std.specs.Bool.{MatchBool};
 ghost use Rattle.claims.specs.Hands.{newcomer};
@@ -15,9 +15,9 @@ use std::alloc::{AllocError, Global};
 use std::sync::{Mutex, Wait};
 use std::thread::Threads;
 
-// Lends the books, which hold so many positions together, to the workers at their desks for a layer, and gives what is behind
-// the locks once all of them have ended, each at the latest soon after the books hold more than the limit. The only error is
-// that memory was refused.
+// Lends the books, which hold so many positions together, to the workers at their desks for a layer, and gives what
+// is behind the locks once all of them have ended, each at the latest soon after the books hold more than the limit.
+// The only error is that memory was refused.
 pub(crate) fn lend<R: Threads + Wait + Sync, G: Gate + Sync>(
     rt: &R,
     terms: &Terms<'_, G>,
@@ -45,8 +45,8 @@ pub(crate) fn lend<R: Threads + Wait + Sync, G: Gate + Sync>(
     unlock_each(alloc, locks)
 }
 
-// A ledger of the layer's ranks, of which there are no more than a limit, and a drawer without a place. The only error is that memory
-// was refused.
+// A ledger of the layer's ranks, of which there are no more than a limit, and a drawer without a place. The only
+// error is that memory was refused.
 fn ledger_of(alloc: Global, layer: &Layer, _limit: u32) -> Result<(Ledger, Drawer), AllocError>
     requires { length layer.now.places ≤ _limit }
     ensures { IfOk result (λ made. (made.0.len ≡ length layer.now.places) × (made.1 ≡ newcomer made.0)) }

@@ -1,6 +1,9 @@
-//! Workers that draw the ranks of a layer from a ledger and share the books of its level, each behind a lock of its own,
-//! and the solution of a level with the fewest pushes, found by any number of them over any number of books: the answer
-//! is that of one.
+//! The least solution of a level, found by several workers ([`solve`]). The workers draw the ranks of a layer from a
+//! ledger without locks, and share the books of the level, each behind a lock of its own. The answer does not depend on
+//! the numbers of workers and locks (proved).
+//!
+//! Use it from about 100,000 positions on: a worker's thread costs more than a small layer. Four workers take about a
+//! third of the time of one.
 //!
 //! With the `level` of a room of three rows of three squares, the box in the middle, its goal at the top left and the
 //! player at the bottom right:

@@ -1,4 +1,4 @@
-//! Books' locks, and what a worker does until the one that it wants is free.
+//! The locks of books, and the work of a worker while a lock is taken.
 ghost use Rattle.std.specs.Prelude.{◌≡◌};
 
 use crate::gate::Gate;
@@ -9,15 +9,15 @@ use std::sync::atomic::AtomicU64;
 use std::sync::{Mutex, MutexGuard, Wait};
 use std::thread::yield_now;
 
-// How often a lock is tried before the thread sleeps until it is free: what the locks of a search are held for takes less time
-// than falling asleep and being woken.
+// The number of tries before the thread sleeps: locks are held for less time than a thread takes to sleep and wake.
 const TRIES: u32 = 60;
 
 // How often the thread lets others run between two tries. The one that holds the lock is slowed by each try, and mostly
 // takes the lock again at once for the next parcel of its lot, so a pause is some parcels long.
 const PAUSES: u32 = 8;
 
-// So many successors wait at least where a worker lets them enter its own book meanwhile: fewer are not looked up side by side.
+// So many successors wait at least where a worker lets them enter its own book meanwhile: fewer are not looked up
+// side by side.
 const LEAST: usize = 16;
 
 // Takes a book's lock as `lock` does, after it has tried for a while.
@@ -34,8 +34,8 @@ pub(crate) fn lock_book<'b, R: Wait, G: Gate>(
     book.lock(post.rt)
 }
 
-// Takes a book's lock, if it is free. While another worker holds it, this one does what it would do at its own book later, and
-// tries once more.
+// Takes a book's lock, if it is free. While another worker holds it, this one does what it would do at its own book
+// later, and tries once more.
 pub(crate) fn try_book<'b, R: Wait, G: Gate>(
     post: &Post<'_, '_, '_, '_, R, G>,
     book: &'b Mutex<Book>,
@@ -49,8 +49,8 @@ pub(crate) fn try_book<'b, R: Wait, G: Gate>(
     book.try_lock()
 }
 
-// What waits to enter the worker's own book does so, if there is enough of it and no other worker holds the book; says whether it
-// did.
+// What waits to enter the worker's own book does so, if there is enough of it and no other worker holds the book;
+// says whether it did.
 fn enter_own<R: Wait, G: Gate>(post: &Post<'_, '_, '_, '_, R, G>) -> bool {
     let shift = post.shift;
     let Some(book) = shift.books.get(post.worker as usize) else {
@@ -62,8 +62,8 @@ fn enter_own<R: Wait, G: Gate>(post: &Post<'_, '_, '_, '_, R, G>) -> bool {
     enter_into(&mut *guard, shift.held)
 }
 
-// What waits to enter a book whose lock is held does so, if there is enough of it, and the other workers are told how much the
-// book grew; says whether it did. The book shows the same as before.
+// What waits to enter a book whose lock is held does so, if there is enough of it, and the other workers are told how
+// much the book grew; says whether it did. The book shows the same as before.
 fn enter_into(book: &mut Book, held: &AtomicU64) -> bool
     ensures { book.new ≡ book.old }
 {
@@ -73,7 +73,7 @@ fn enter_into(book: &mut Book, held: &AtomicU64) -> bool
     entered
 }
 
-// Lets a little time pass.
+// Pauses for a little time.
 fn pause() {
     for _ in 0..PAUSES {
         yield_now();

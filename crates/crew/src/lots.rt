@@ -1,5 +1,6 @@
 //! The lots of ranks that a worker draws at a time, and their parcels.
-ghost use Rattle.std.specs.Prelude.{◌≡◌, ℕ, ◌+◌, ◌<◌, ◌≤◌, [], ◌∷◌, ◌++◌, true, false, IfErr, IfOk, OnOk, length, slice_set, vec_capacity};
+ghost use Rattle.std.specs.Prelude.{◌≡◌, ℕ, ◌+◌, ◌<◌, ◌≤◌, [], ◌∷◌, ◌++◌, true, false, IfErr, IfOk, OnOk, length};
+ghost use Rattle.std.specs.Prelude.{slice_set, vec_capacity};
 ghost use Rattle.crew.specs.Work.{EndsWith, IsAtPlace};
 ghost use Rattle.crew.specs.declared.end.End.TheVariants.{Drained};
 ghost use Rattle.crew.specs.inside.Ends.{HasEnded, IsReady};
@@ -25,36 +26,36 @@ const MOST: u64 = 32;
 // The greatest number that a lot gets while its worker would wait for a book.
 pub(crate) const MOST_AHEAD: usize = 64;
 
-// The greatest number of ranks of a lot whose worker is alone: no line of memory comes to it from another one's processor, so greater
-// lots bring nothing, and each parcel of them takes time to make and room in the cache.
+// The greatest number of ranks of a lot whose worker is alone: no line of memory comes to it from another one's
+// processor, so greater lots bring nothing, and each parcel of them takes time to make and room in the cache.
 const MOST_ALONE: usize = 4;
 
-// So many times as many ranks as a lot is to have it gets at most, while its worker would wait for a book.
+// While its worker would wait for a book, a lot grows to at most this multiple of its size.
 pub(crate) const AHEAD: usize = 2;
 
-// A lot is to have one of so many parts of the ranks that are left, as far as it may have as many.
+// A lot gets one of this many parts of the ranks that are left, up to its greatest size.
 const PARTS: u64 = 64;
 
-// Lots have room for as many ranks as a layer of one of so many parts of the positions wants. A parcel takes as long to make as
-// some fifty positions to expand, so more of them pay only in a large layer.
+// Lots have capacity for one of this many parts of the positions of a layer. A parcel takes as long to make as some
+// fifty positions to expand, so more of them pay only in a large layer.
 const PAYS: u64 = 16;
 
-// So many ranks the lots of more than two workers have at most together, of those that are handed back and of those that are drawn
+// The greatest number of ranks of the lots of more than two workers together, for those handed back and those drawn
 // next. A parcel takes some 40 KB, whatever the level.
 const MOST_OF_ALL: usize = 64;
 
-/// The lots of a worker: the one that it hands back, and the one that it draws next.
+/// The two lots of a worker: the one that it hands back, and the one that it draws next.
 #[derive(Drop)]
 pub(crate) struct Lots<'a> {
     pub(crate) ready: Lot<'a>,
     pub(crate) next: Lot<'a>,
-    // either has room for so many ranks at most
+    // the greatest capacity of each, in ranks
     most: usize,
 }
 
 impl<'a> Lots<'a> {
-    /// Lots of a rank each for so many books, and none is drawn. They grow as those of one of two workers. The only error is that
-    /// memory was refused.
+    /// Lots of a rank each for so many books, and none is drawn. They grow as those of one of two workers. The only
+    /// error is that memory was refused.
     pub(crate) fn of(alloc: Global, books: usize) -> Result<Lots<'a>, AllocError> {
         Lots::of_one_of(alloc, books, 2)
     }
@@ -75,8 +76,8 @@ impl<'a> Lots<'a> {
         })
     }
 
-    /// Makes room for the greatest lots that pay in a layer of so many positions. Where memory is refused the lots stay as small as they
-    /// are.
+    /// Reserves capacity for the greatest lots that pay in a layer with `positions` positions. If out of memory the
+    /// lots stay as small as they are.
     pub(crate) fn have_room(&mut self, positions: u64) {
         let most = lot_size(positions / PAYS)
             .saturating_mul(AHEAD)
@@ -89,12 +90,12 @@ impl<'a> Lots<'a> {
 /// The parcels of the ranks of a lot, in the order in which the ranks were drawn. There is room for one at least.
 #[derive(Drop)]
 pub(crate) struct Lot<'a> {
-    // the first so many are the lot; the others are there to be filled again
+    // the first `count` are the lot; the others are there to be filled again
     parcels: Vec<Parcel<'a>>,
     filled: usize,
-    // how many ranks it is to have, once it has one
+    // its size in ranks, once it has one
     size: usize,
-    // to how many shares the successors are dealt
+    // the number of shares to which successors are dealt
     shares: u8,
 }
 
@@ -106,7 +107,8 @@ impl<'a> Model for Lot<'a> {
 
     ghost view = { λ a. take a.filled a.parcels.items };
 
-    ghost invariant = { λ a. (a.filled ≤ length a.parcels.items) × (0 < vec_capacity a.parcels) × (a.size ≤ vec_capacity a.parcels) };
+    ghost invariant = { λ a. (a.filled ≤ length a.parcels.items) × (0 < vec_capacity a.parcels) ×
+        (a.size ≤ vec_capacity a.parcels) };
 }
 
 impl<'a> Lot<'a> {
@@ -154,11 +156,11 @@ impl<'a> Lot<'a> {
         self.filled = 0;
     }
 
-    /// Draws one more rank, or all that the lot lacks where `times` is 1, and puts their parcels behind the others; `false` where
-    /// the lot has so many times as many as it is to have, or as there is room for, or no rank is left.
+    /// Draws one more rank, or all that the lot lacks where `times` is 1, and puts their parcels behind the others;
+    /// `false` where the lot has so many times as many as it is to have, or as there is room for, or no rank is left.
     ///
-    /// The ranks are drawn one directly after the other, and only then expanded, so that the word that all workers draw them from
-    /// comes to this processor once for all of them and not once for each.
+    /// The ranks are drawn one directly after the other, and only then expanded, so that the word that all workers
+    /// draw them from comes to this processor once for all of them and not once for each.
     pub(crate) fn draw_more<R: Wait, G: Gate>(
         &mut self,
         post: &Post<'_, '_, '_, 'a, R, G>,
@@ -168,11 +170,17 @@ impl<'a> Lot<'a> {
         times: usize,
     ) -> Result<bool, End>
         requires ready { IsReady post.now.shift.now post.now.worker scratch.old drawer.old }
-        ensures grown { IfOk result (λ more. IsGrown post.now.shift.now.layer drawer.old.hand self.old self.new drawer.new.hand) }
+        ensures grown { IfOk result
+            (λ more. IsGrown post.now.shift.now.layer drawer.old.hand self.old self.new drawer.new.hand) }
         ensures more { IfOk result (λ more. more ≡ true → length self.old < length self.new) }
-        ensures no_more { IfOk result (λ more. more ≡ false → (self.new ≡ self.old) × (self.new ≡ [] → EndsWith post.now.worker drawer.new.hand Drained)) }
-        ensures ends { IfErr result (λ end. HasEnded G.may_stop post.now.shift.now.layer post.now.shift.now.workers post.now.worker drawer.new.hand end) }
-        ensures works { OnOk result (Works (answers_to G.may_answer post.now.shift.now post.now.worker) 0 drawer.old.hand nth.old drawer.new.hand nth.new) }
+        ensures no_more { IfOk result (λ more. more ≡ false → (self.new ≡ self.old) ×
+            (self.new ≡ [] → EndsWith post.now.worker drawer.new.hand Drained)) }
+        ensures ends { IfErr result
+            (λ end. HasEnded G.may_stop post.now.shift.now.layer post.now.shift.now.workers post.now.worker
+            drawer.new.hand end) }
+        ensures works { OnOk result
+            (Works (answers_to G.may_answer post.now.shift.now post.now.worker) 0 drawer.old.hand nth.old
+            drawer.new.hand nth.new) }
         ensures gate { IfErr result (λ end. WorksUntil (answers_to G.may_answer post.now.shift.now post.now.worker)
             0 drawer.old.hand nth.old drawer.new.hand nth.new end) }
         ensures ready { IsReady post.now.shift.now post.now.worker scratch.new drawer.new }
@@ -206,8 +214,8 @@ impl<'a> Lot<'a> {
     }
 }
 
-// How many ranks the lot of one of so many workers has at most: one at least. One of two workers has room for a lot and as many ranks
-// again, which it draws while the other one lets enter what waits for its book.
+// How many ranks the lot of one of so many workers has at most: one at least. One of two workers has room for a lot
+// and as many ranks again, which it draws while the other one lets enter what waits for its book.
 fn most_of_one(workers: u8) -> usize {
     match workers {
         0 | 1 => MOST_ALONE,
@@ -225,7 +233,7 @@ fn shares_of(books: usize) -> u8 {
     }
 }
 
-// How many ranks a lot is to have where so many of the layer are left: fewer toward its end, so that no worker waits long for
+// The size of a lot, given the ranks of the layer that are left: fewer toward its end, so that no worker waits long for
 // another's lot.
 fn lot_size(left: u64) -> usize
     ensures { 0 < result }
@@ -233,8 +241,8 @@ fn lot_size(left: u64) -> usize
     (left / PARTS).clamp(1, MOST) as usize
 }
 
-// How many ranks a lot is to have that has so many: where it gets its first one, what those tell that are left, as far as there
-// is room; and then what it was to have.
+// How many ranks a lot is to have that has so many: where it gets its first one, what those tell that are left, as
+// far as there is room; and then what it was to have.
 fn size_at(place: usize, size: usize, left: u64, room: usize) -> usize
     requires { size ≤ room }
     ensures { result ≤ room }
@@ -246,9 +254,9 @@ fn size_at(place: usize, size: usize, left: u64, room: usize) -> usize
     }
 }
 
-// How many ranks more a lot gets at once that has so many, is to have so many, and may get so many times as many: all that it lacks
-// where it may get no more than those. Else none, since its worker is then about to wait for a book, and asks for it again after
-// each rank.
+// The number of ranks to draw at once for a lot, given its ranks, its size and the multiple to which it may grow: all
+// that it lacks if the multiple is 1. Otherwise none, since its worker is then about to wait for a book, and asks again
+// after each rank.
 fn more_at_once(filled: usize, size: usize, times: usize) -> usize
     ensures few { result ≤ MOST }
     ensures fits { (room : ℕ) → filled ≤ room → size ≤ room → filled + result ≤ room }
@@ -260,8 +268,8 @@ fn more_at_once(filled: usize, size: usize, times: usize) -> usize
     }
 }
 
-// Draws ranks one directly after the other, and puts them into the places of a slice, in order, until it is full or no rank is left.
-// It answers how many these are.
+// Draws ranks one directly after the other, and puts them into the places of a slice, in order, until it is full or
+// no rank is left. It answers how many these are.
 fn draw_ranks<R: Wait, G: Gate>(
     post: &Post<'_, '_, '_, '_, R, G>,
     drawer: &mut Drawer,
@@ -269,10 +277,15 @@ fn draw_ranks<R: Wait, G: Gate>(
     ranks: &mut [u64],
 ) -> Result<usize, End>
     requires place { IsAtPlace post.now.shift.now.ledger post.now.worker drawer.old }
-    ensures drawn { IfOk result (λ count. AreDrawn post.now.shift.now.layer drawer.old.hand count ranks.new drawer.new.hand) }
+    ensures drawn { IfOk result
+        (λ count. AreDrawn post.now.shift.now.layer drawer.old.hand count ranks.new drawer.new.hand) }
     ensures all { IfOk result (λ count. count < length ranks.new → EndsWith post.now.worker drawer.new.hand Drained) }
-    ensures ends { IfErr result (λ end. HasEnded G.may_stop post.now.shift.now.layer post.now.shift.now.workers post.now.worker drawer.new.hand end) }
-    ensures works { OnOk result (Works (answers_to G.may_answer post.now.shift.now post.now.worker) 0 drawer.old.hand nth.old drawer.new.hand nth.new) }
+    ensures ends { IfErr result
+        (λ end. HasEnded G.may_stop post.now.shift.now.layer post.now.shift.now.workers post.now.worker
+        drawer.new.hand end) }
+    ensures works { OnOk result
+        (Works (answers_to G.may_answer post.now.shift.now post.now.worker) 0 drawer.old.hand nth.old drawer.new.hand
+        nth.new) }
     ensures gate { IfErr result (λ end. WorksUntil (answers_to G.may_answer post.now.shift.now post.now.worker)
         0 drawer.old.hand nth.old drawer.new.hand nth.new end) }
     ensures place { IsAtPlace post.now.shift.now.ledger post.now.worker drawer.new }
@@ -287,8 +300,8 @@ fn draw_ranks<R: Wait, G: Gate>(
     Ok(ranks.len())
 }
 
-// Makes the parcels of ranks, in order, those in the places of a list from one on, or behind its last one, where there is room,
-// and deals their successors to so many shares.
+// Makes the parcels of ranks, in order, those in the places of a list from one on, or behind its last one, where
+// there is room, and deals their successors to so many shares.
 fn put_each<'a, G: Gate>(
     shift: &Shift<'_, 'a, G>,
     ranks: &[u64],
@@ -335,9 +348,9 @@ fn put<'a, G: Gate>(
     }
 }
 
-// Makes the parcel of a rank and puts it behind the last one of a list, where there is room, once its successors are dealt to
-// so many shares. It is made here by value, which takes a large frame on the stack, so this is never a part of what is done
-// for each rank.
+// Makes the parcel of a rank and puts it behind the last one of a list, where there is room, once its successors are
+// dealt to so many shares. It is made here by value, which takes a large frame on the stack, so this is never a part
+// of what is done for each rank.
 #[inline(never)]
 fn append<'a, G: Gate>(
     shift: &Shift<'_, 'a, G>,
@@ -349,7 +362,8 @@ fn append<'a, G: Gate>(
     requires within { rank < length shift.now.layer.places }
     requires room { scratch.old.size ≡ length shift.now.layer.level.board.cells }
     requires capacity { length parcels.old.items < vec_capacity parcels.old }
-    ensures appended { (parcel : ParcelView) × IsOfRank shift.now.layer rank parcel × (parcels.new.items ≡ parcels.old.items ++ parcel ∷ []) }
+    ensures appended { (parcel : ParcelView) × IsOfRank shift.now.layer rank parcel ×
+        (parcels.new.items ≡ parcels.old.items ++ parcel ∷ []) }
     ensures capacity { vec_capacity parcels.new ≡ vec_capacity parcels.old }
     ensures size { scratch.new.size ≡ scratch.old.size }
 {
@@ -370,7 +384,8 @@ fn refill<'a, G: Gate>(
     requires within { rank < length shift.now.layer.places }
     requires room { scratch.old.size ≡ length shift.now.layer.level.board.cells }
     requires place { place < length parcels.old }
-    ensures refilled { (parcel : ParcelView) × IsOfRank shift.now.layer rank parcel × (parcels.new ≡ slice_set parcels.old place parcel) }
+    ensures refilled { (parcel : ParcelView) × IsOfRank shift.now.layer rank parcel ×
+        (parcels.new ≡ slice_set parcels.old place parcel) }
     ensures size { scratch.new.size ≡ scratch.old.size }
 {
     expand_over_into(

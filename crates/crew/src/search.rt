@@ -22,17 +22,16 @@ use std::alloc::{AllocError, Global};
 use std::sync::{Arc, Wait};
 use std::thread::Threads;
 
-/// The solution of the level with the fewest pushes, or that it has none, within the configuration's cap of pushes if it
-/// has one, or that more than its limit of positions are needed to say so, found by as many workers as the configuration
-/// says over as many books, each of a share of the positions and behind a lock of its own. The answer is that of
-/// [`solve_alone`], whatever the numbers of workers and locks, the gate, and the order in which the workers draw ranks and
-/// come to the locks.
+/// Searches for the solution of the level with the fewest pushes, within the cap of pushes if the configuration has
+/// one, by its number of workers over as many books as it has locks. The answer is that of [`solve_alone`]: it does
+/// not depend on the numbers of workers and locks, on the gate, or on the order in which workers draw ranks and take
+/// locks.
 ///
-/// [`SolveFault::BadConfig`] exactly where a number of the configuration is outside its limits, before everything
-/// else; [`SolveFault::TooManyBoxes`] where the level has more boxes than [`MAX_BOXES`](grid::MAX_BOXES); and
-/// [`SolveFault::OutOfMemory`] where memory was refused to the caller's own work. A worker for which no thread can be
-/// started works in the caller's; one that is refused memory or is stopped ends, and what it left is done by the caller.
-/// Waits for the locks and for the workers.
+/// Fails with [`SolveFault::BadConfig`], before everything else, if a number of the configuration is outside its
+/// limits; with [`SolveFault::TooManyBoxes`] if the level has more than [`MAX_BOXES`](grid::MAX_BOXES) boxes; and
+/// with [`SolveFault::OutOfMemory`] if the caller's own work runs out of memory. A worker whose thread cannot start
+/// works in the caller's thread. A worker that runs out of memory or is stopped ends, and the caller does what it
+/// left. Blocks on the locks and until all workers have ended.
 pub fn solve<R: Threads + Wait + Sync, G: Gate + Sync>(
     rt: &R,
     alloc: Global,
@@ -68,7 +67,8 @@ fn search<R: Threads + Wait + Sync, G: Gate + Sync>(
 ) -> Result<Option<Answer>, AllocError>
     requires limits { IsWithinLimits config }
     requires boxes { box_count (arc_value level.now) ≤ MAX_BOXES }
-    ensures { IfOk result (λ found. IfSome found (λ answer. IsAnswer (capped (arc_value level.now) config.cap) config.limit answer)) }
+    ensures { IfOk result
+        (λ found. IfSome found (λ answer. IsAnswer (capped (arc_value level.now) config.cap) config.limit answer)) }
 {
     let problem = Problem::of(alloc, level, config.cap)?;
     let problem = Arc::new(alloc, problem)?;
@@ -116,7 +116,8 @@ fn all_turns<R: Threads + Wait + Sync, G: Gate + Sync>(
     requires limits { IsWithinLimits terms.now.config }
     requires first { ArePausedBy terms.now.config terms.now.problem.now first.items [] 0 }
     requires crew { IsCrewOf terms.now.problem.now crew.old }
-    ensures { IfOk result (λ found. IfSome found (λ answer. IsAnswer terms.now.problem.now terms.now.config.limit answer)) }
+    ensures { IfOk result
+        (λ found. IfSome found (λ answer. IsAnswer terms.now.problem.now terms.now.config.limit answer)) }
 {
     let mut history = History {
         trail: Vec::new(terms.alloc),

@@ -1,4 +1,4 @@
-//! What the workers of a layer share.
+//! The data that the workers of a layer share.
 use crate::gate::Gate;
 use claims::Ledger;
 use layers::{Book, Layer, Problem};
@@ -6,9 +6,9 @@ use std::marker::Model;
 use std::sync::atomic::AtomicU64;
 use std::sync::{Mutex, Wait};
 
-/// What the workers of a layer share: the layer and its problem, the books, each behind a lock of its
-/// own, the ledger of the layer's ranks, the gate, for how many workers the books are made, and how many positions they hold.
-/// Contracts see the layer, the ledger, how many books there are, their number of workers, and the gate.
+/// The data that the workers of a layer share: the layer and its problem, the books, each behind a lock of its own, the
+/// ledger of the layer's ranks, the gate, the number of workers for which the books are made, and the number of their
+/// positions. Contracts see the layer, the ledger, the numbers of books and of their workers, and the gate.
 #[derive(Drop)]
 pub(crate) struct Shift<'s, 'a, G: Gate> {
     pub(crate) problem: &'a Problem,
@@ -27,7 +27,14 @@ impl<'s, 'a, G: Gate> Model for Shift<'s, 'a, G> {
 
     ghost Value = { ShiftView G };
 
-    ghost view = { λ a. record { layer = a.layer.now; ledger = a.ledger.now; books = length a.books.now; workers = a.workers; gate = a.gate.now } };
+    ghost view = { λ a. record {
+      layer = a.layer.now;
+      ledger = a.ledger.now;
+      books = length a.books.now;
+      workers = a.workers;
+      gate =
+          a.gate.now;
+    } };
 
     ghost invariant = { λ a. AreOfOneLayer a.layer.now a.problem.now a.ledger.now };
 }

@@ -1,4 +1,4 @@
-//! What a search goes by, what it has looked at, and who works on its layers.
+//! The settings of a search, the layers that it has looked at, and its workers.
 use crate::config::Config;
 use crate::desks::Desks;
 use crate::gate::Gate;
@@ -7,7 +7,7 @@ use grid::Square;
 use layers::{Parents, Problem};
 use std::alloc::Global;
 
-/// What a search goes by: the allocator, what is searched, the configuration and the gate.
+/// The settings of a search: the allocator, the problem, the configuration and the gate.
 #[derive(Drop)]
 pub(crate) struct Terms<'s, G: Gate> {
     pub(crate) alloc: Global,
@@ -16,8 +16,8 @@ pub(crate) struct Terms<'s, G: Gate> {
     pub(crate) gate: &'s G,
 }
 
-/// The layers that were looked at: the parents of the positions of each, how many positions they have together, and the memory that
-/// the last one's squares took.
+/// The layers that were looked at: the parents of the positions of each, how many positions they have together, and
+/// the memory that the last one's squares took.
 #[derive(Drop)]
 pub(crate) struct History {
     pub(crate) trail: Vec<Parents>,

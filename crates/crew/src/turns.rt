@@ -42,9 +42,11 @@ pub(crate) fn turn<R: Threads + Wait + Sync, G: Gate + Sync>(
     crew: &mut Crew<'_>,
 ) -> Result<Turned, AllocError>
     requires limits { IsWithinLimits terms.now.config }
-    requires turn { ArePausedBy terms.now.config terms.now.problem.now books.items history.old.trail.items history.old.positions }
+    requires turn { ArePausedBy terms.now.config terms.now.problem.now books.items history.old.trail.items
+        history.old.positions }
     requires crew { IsCrewOf terms.now.problem.now crew.old }
-    ensures turned { IfOk result (λ turned. TurnAnswer terms.now.config terms.now.problem.now history.new.trail.items history.old.positions
+    ensures turned { IfOk result
+        (λ turned. TurnAnswer terms.now.config terms.now.problem.now history.new.trail.items history.old.positions
         history.new.positions turned) }
     ensures crew { (crew.new.scratch.size ≡ crew.old.scratch.size) × (crew.new.desks ≡ crew.old.desks) }
 {
@@ -66,8 +68,8 @@ pub(crate) fn turn<R: Threads + Wait + Sync, G: Gate + Sync>(
     go_on(rt, terms, books, layer, history, crew)
 }
 
-// Lets the workers work through the last layer that the books closed, which was looked at. The only error is that memory was
-// refused.
+// Lets the workers work through the last layer that the books closed, which was looked at. The only error is that
+// memory was refused.
 fn go_on<R: Threads + Wait + Sync, G: Gate + Sync>(
     rt: &R,
     terms: &Terms<'_, G>,
@@ -77,11 +79,15 @@ fn go_on<R: Threads + Wait + Sync, G: Gate + Sync>(
     crew: &mut Crew<'_>,
 ) -> Result<Turned, AllocError>
     requires limits { IsWithinLimits terms.now.config }
-    requires looked { (before : ℕ) × HasLooked terms.now.config terms.now.problem.now books.items layer history.old.trail.items before history.old.positions }
+    requires looked { (before : ℕ) ×
+        HasLooked terms.now.config terms.now.problem.now books.items layer history.old.trail.items before
+        history.old.positions }
     requires crew { IsCrewOf terms.now.problem.now crew.old }
     ensures turned { (before : ℕ) →
-        HasLooked terms.now.config terms.now.problem.now books.items layer history.old.trail.items before history.old.positions →
-        IfOk result (λ turned. TurnAnswer terms.now.config terms.now.problem.now history.new.trail.items before history.new.positions turned) }
+        HasLooked terms.now.config terms.now.problem.now books.items layer history.old.trail.items before
+        history.old.positions →
+        IfOk result (λ turned. TurnAnswer terms.now.config terms.now.problem.now history.new.trail.items before
+        history.new.positions turned) }
     ensures crew { (crew.new.scratch.size ≡ crew.old.scratch.size) × (crew.new.desks ≡ crew.old.desks) }
 {
     let back = work_through(rt, terms, books, &layer, history.positions, crew)?;
@@ -97,8 +103,8 @@ fn go_on<R: Threads + Wait + Sync, G: Gate + Sync>(
     }
 }
 
-// Lends the books, which have closed so many positions together, to the workers, and does book by book what they left of the
-// last closed layer; `None` where other books came back. The only error is that memory was refused.
+// Lends the books, which have closed so many positions together, to the workers, and does book by book what they left
+// of the last closed layer; `None` where other books came back. The only error is that memory was refused.
 fn work_through<R: Threads + Wait + Sync, G: Gate + Sync>(
     rt: &R,
     terms: &Terms<'_, G>,
@@ -119,8 +125,8 @@ fn work_through<R: Threads + Wait + Sync, G: Gate + Sync>(
     finish_lent(rt, terms, back, layer, &mut crew.scratch)
 }
 
-// Does book by book what is left of a layer in the books that came back; `None` exactly where they are others than were lent.
-// The only error is that memory was refused, and it never comes where they are others.
+// Does book by book what is left of a layer in the books that came back; `None` exactly where they are others than
+// were lent. The only error is that memory was refused, and it never comes where they are others.
 fn finish_lent<R: Threads + Sync, G: Gate>(
     rt: &R,
     terms: &Terms<'_, G>,

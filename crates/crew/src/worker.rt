@@ -20,23 +20,22 @@ use std::mem::swap;
 use std::sync::atomic::AtomicU64;
 use std::sync::{Mutex, Wait};
 
-/// Works on a layer as one worker, until it ends: draws a batch of ranks, expands each of them while no lock is held, and
-/// hands the parcels back to each of the books in order, under one lock at a time and each under a lock of its own. A batch
-/// is one rank or a few, fewer in a small layer and toward the end of a large one. While another worker holds the book that
-/// it comes to, it enters what waits for the book of its own number, and draws on the next batch. The worker's place in the
-/// ledger is its number. After each draw that gives a rank, and each parcel that a book accepted, it asks the gate, with no
-/// lock held.
+/// Works on a layer as one worker: draws a batch of ranks, expands each of them without a lock, and hands the parcels
+/// back to each of the books in order, each under the lock of that book alone. A batch is one rank or a few, fewer in a
+/// small layer and toward the end of a large one. While another worker holds a book, it enters the pending successors
+/// of the book of its own number, and draws on the next batch. The worker's place in the ledger is its number. After
+/// each draw that gives a rank, and each parcel that a book accepted, it calls the gate without a lock.
 ///
-/// Each of the books is made for `workers` workers. Any book may be behind a lock, so under the lock the worker compares
-/// level, layer and number of workers. It ends with [`End::Stopped`] only if the gate may stop a worker, with
-/// [`End::Drained`] only if its drawer has its place and is spent out, with [`End::NoPlace`] only if its drawer has seen
-/// that place taken, with [`End::Refused`] only if a book of its own did not accept a parcel of the layer, for that reason,
-/// and with [`End::Foreign`] only if a book was not its own: of another level, at another layer, or made for another number
-/// of workers or for none of its number.
+/// Each of the books is made for `workers` workers. Any book may be behind a lock, so under the lock the worker
+/// compares level, layer and number of workers. It ends with [`End::Stopped`] only if the gate may stop a worker,
+/// with [`End::Drained`] only if its drawer has its place and is spent out, with [`End::NoPlace`] only if its drawer
+/// has seen that place taken, with [`End::Refused`] only if a book of its own did not accept a parcel of the layer,
+/// for that reason, and with [`End::Foreign`] only if a book was not its own: of another level, at another layer, or
+/// made for another number of workers or for none of its number.
 ///
-/// Its events are the ranks that it drew and the parcels that books accepted, and it tells the gate of each, by its number; it
-/// goes on only where the gate lets it, and ends as stopped at the first event after which the gate does not. Where it is
-/// drained, as many parcels were accepted as it drew ranks, times the number of books.
+/// Its events are the ranks that it drew and the parcels that books accepted. It calls the gate after each event with
+/// the event's number, and ends as stopped at the first event after which the gate stops it. If it ends as drained,
+/// each book has accepted a parcel for each rank that it drew.
 pub fn work<R: Wait, G: Gate>(
     rt: &R,
     layer: &Layer,
@@ -55,7 +54,8 @@ pub fn work<R: Wait, G: Gate>(
     ensures end { MayEnd G.may_stop result }
     ensures hand { EndsWith worker drawer.new.hand result }
     ensures answered { WasAnswered layer.now workers worker result }
-    ensures gate { AsksTheGate (G.may_answer gate.now layer.now.number worker) (length books.now) drawer.old.hand drawer.new.hand result }
+    ensures gate { AsksTheGate (G.may_answer gate.now layer.now.number worker) (length books.now) drawer.old.hand
+        drawer.new.hand result }
     ensures ledger { drawer.new.ledger ≡ ledger.now }
     ensures size { scratch.new.size ≡ scratch.old.size }
 {
@@ -84,7 +84,8 @@ fn work_on<R: Wait, G: Gate>(
     requires drawer { (drawer.old.ledger ≡ shift.now.ledger) × IsNone drawer.old.hand.place }
     requires place { worker < PLACES }
     ensures ends { HasEnded G.may_stop shift.now.layer shift.now.workers worker drawer.new.hand result }
-    ensures gate { AsksTheGate (answers_to G.may_answer shift.now worker) shift.now.books drawer.old.hand drawer.new.hand result }
+    ensures gate { AsksTheGate (answers_to G.may_answer shift.now worker) shift.now.books drawer.old.hand
+        drawer.new.hand result }
     ensures ledger { drawer.new.ledger ≡ shift.now.ledger }
     ensures size { scratch.new.size ≡ scratch.old.size }
 {
@@ -95,8 +96,8 @@ fn work_on<R: Wait, G: Gate>(
     }
 }
 
-// Works on a layer as [`work`] does, with lots that are kept from layer to layer. They grow to the lots of the layer; where that
-// is refused they are as small as they were.
+// Works on a layer as [`work`] does, with lots that are kept from layer to layer. They grow to the lots of the layer;
+// where that is refused they are as small as they were.
 pub(crate) fn work_at<'a, R: Wait, G: Gate>(
     post: &Post<'_, '_, '_, 'a, R, G>,
     drawer: &mut Drawer,
@@ -106,8 +107,10 @@ pub(crate) fn work_at<'a, R: Wait, G: Gate>(
     requires room { scratch.old.size ≡ length post.now.shift.now.layer.level.board.cells }
     requires drawer { (drawer.old.ledger ≡ post.now.shift.now.ledger) × IsNone drawer.old.hand.place }
     requires place { post.now.worker < PLACES }
-    ensures ends { HasEnded G.may_stop post.now.shift.now.layer post.now.shift.now.workers post.now.worker drawer.new.hand result }
-    ensures gate { AsksTheGate (answers_to G.may_answer post.now.shift.now post.now.worker) post.now.shift.now.books drawer.old.hand drawer.new.hand result }
+    ensures ends { HasEnded G.may_stop post.now.shift.now.layer post.now.shift.now.workers post.now.worker
+        drawer.new.hand result }
+    ensures gate { AsksTheGate (answers_to G.may_answer post.now.shift.now post.now.worker) post.now.shift.now.books
+        drawer.old.hand drawer.new.hand result }
     ensures ledger { drawer.new.ledger ≡ post.now.shift.now.ledger }
     ensures size { scratch.new.size ≡ scratch.old.size }
 {
@@ -129,8 +132,10 @@ fn work_by_ones<R: Wait, G: Gate>(
     requires room { scratch.old.size ≡ length post.now.shift.now.layer.level.board.cells }
     requires drawer { (drawer.old.ledger ≡ post.now.shift.now.ledger) × IsNone drawer.old.hand.place }
     requires place { post.now.worker < PLACES }
-    ensures ends { HasEnded G.may_stop post.now.shift.now.layer post.now.shift.now.workers post.now.worker drawer.new.hand result }
-    ensures gate { AsksTheGate (answers_to G.may_answer post.now.shift.now post.now.worker) post.now.shift.now.books drawer.old.hand drawer.new.hand result }
+    ensures ends { HasEnded G.may_stop post.now.shift.now.layer post.now.shift.now.workers post.now.worker
+        drawer.new.hand result }
+    ensures gate { AsksTheGate (answers_to G.may_answer post.now.shift.now post.now.worker) post.now.shift.now.books
+        drawer.old.hand drawer.new.hand result }
     ensures ledger { drawer.new.ledger ≡ post.now.shift.now.ledger }
     ensures size { scratch.new.size ≡ scratch.old.size }
 {
@@ -148,8 +153,10 @@ fn by_ones<R: Wait, G: Gate>(
     scratch: &mut Scratch,
 ) -> End
     requires ready { IsReady post.now.shift.now post.now.worker scratch.old drawer.old }
-    ensures ends { HasEnded G.may_stop post.now.shift.now.layer post.now.shift.now.workers post.now.worker drawer.new.hand result }
-    ensures gate { AsksTheGate (answers_to G.may_answer post.now.shift.now post.now.worker) post.now.shift.now.books drawer.old.hand drawer.new.hand result }
+    ensures ends { HasEnded G.may_stop post.now.shift.now.layer post.now.shift.now.workers post.now.worker
+        drawer.new.hand result }
+    ensures gate { AsksTheGate (answers_to G.may_answer post.now.shift.now post.now.worker) post.now.shift.now.books
+        drawer.old.hand drawer.new.hand result }
     ensures ledger { drawer.new.ledger ≡ post.now.shift.now.ledger }
     ensures size { scratch.new.size ≡ scratch.old.size }
 {
@@ -174,8 +181,8 @@ fn by_ones<R: Wait, G: Gate>(
     unreachable!()
 }
 
-// Draws lot after lot, and hands the parcels of each back. Where a book is held by another worker meanwhile, the next lot is
-// drawn on.
+// Draws lot after lot, and hands the parcels of each back. Where a book is held by another worker meanwhile, the next
+// lot is drawn on.
 fn by_lots<'a, R: Wait, G: Gate>(
     post: &Post<'_, '_, '_, 'a, R, G>,
     drawer: &mut Drawer,
@@ -185,8 +192,10 @@ fn by_lots<'a, R: Wait, G: Gate>(
 ) -> End
     requires ready { IsReady post.now.shift.now post.now.worker scratch.old drawer.old }
     requires lot { next.old ≡ [] }
-    ensures ends { HasEnded G.may_stop post.now.shift.now.layer post.now.shift.now.workers post.now.worker drawer.new.hand result }
-    ensures gate { AsksTheGate (answers_to G.may_answer post.now.shift.now post.now.worker) post.now.shift.now.books drawer.old.hand drawer.new.hand result }
+    ensures ends { HasEnded G.may_stop post.now.shift.now.layer post.now.shift.now.workers post.now.worker
+        drawer.new.hand result }
+    ensures gate { AsksTheGate (answers_to G.may_answer post.now.shift.now post.now.worker) post.now.shift.now.books
+        drawer.old.hand drawer.new.hand result }
     ensures ledger { drawer.new.ledger ≡ post.now.shift.now.ledger }
     ensures size { scratch.new.size ≡ scratch.old.size }
 {
@@ -220,8 +229,11 @@ pub(crate) fn draw<R: Wait, G: Gate>(
     ensures within { IfOk result (λ rank. rank < length post.now.shift.now.layer.places) }
     ensures drawn { IfOk result (λ rank. drawer.new.hand.numbers ≡ drawer.old.hand.numbers ++ rank ∷ []) }
     ensures none { IfErr result (λ end. IfDrained end (drawer.new.hand.numbers ≡ drawer.old.hand.numbers)) }
-    ensures ends { IfErr result (λ end. HasEnded G.may_stop post.now.shift.now.layer post.now.shift.now.workers post.now.worker drawer.new.hand end) }
-    ensures goes_on { OnOk result (IsTold (answers_to G.may_answer post.now.shift.now post.now.worker) nth.old true nth.new) }
+    ensures ends { IfErr result
+        (λ end. HasEnded G.may_stop post.now.shift.now.layer post.now.shift.now.workers post.now.worker
+        drawer.new.hand end) }
+    ensures goes_on { OnOk result
+        (IsTold (answers_to G.may_answer post.now.shift.now post.now.worker) nth.old true nth.new) }
     ensures gate { IfErr result (λ end. DrawsAtLast (answers_to G.may_answer post.now.shift.now post.now.worker)
         drawer.old.hand nth.old drawer.new.hand nth.new end) }
     ensures place { IsAtPlace post.now.shift.now.ledger post.now.worker drawer.new }
@@ -255,9 +267,12 @@ pub(crate) fn pass<R: Wait, G: Gate>(
     ensures stops { IfErr result (λ end. end ≡ Stopped) }
     ensures end { IfErr result (λ end. MayEnd G.may_stop end) }
     ensures hand { (hand : Hand) → IfErr result (λ end. EndsWith post.now.worker hand end) }
-    ensures answered { (layer : LayerView) (workers : ℕ) → IfErr result (λ end. WasAnswered layer workers post.now.worker end) }
-    ensures goes_on { OnOk result (IsTold (answers_to G.may_answer post.now.shift.now post.now.worker) nth.old true nth.new) }
-    ensures gate { IfErr result (λ end. EndsAtOnce (answers_to G.may_answer post.now.shift.now post.now.worker) nth.old nth.new end) }
+    ensures answered { (layer : LayerView) (workers : ℕ) →
+        IfErr result (λ end. WasAnswered layer workers post.now.worker end) }
+    ensures goes_on { OnOk result
+        (IsTold (answers_to G.may_answer post.now.shift.now post.now.worker) nth.old true nth.new) }
+    ensures gate { IfErr result
+        (λ end. EndsAtOnce (answers_to G.may_answer post.now.shift.now post.now.worker) nth.old nth.new end) }
 {
     let shift = post.shift;
     *nth = nth.saturating_add(1);

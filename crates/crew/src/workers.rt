@@ -12,8 +12,8 @@ use spreading::for_each_spread;
 use std::sync::Wait;
 use std::thread::Threads;
 
-// Lets a worker at each of the desks work on the layer, each in a thread of its own where one can be started, and waits until
-// all of them have ended.
+// Lets a worker at each of the desks work on the layer, each in a thread of its own where one can be started, and
+// waits until all of them have ended.
 pub(crate) fn work_all<'a, R: Threads + Wait + Sync, G: Gate + Sync>(
     rt: &R,
     desks: &mut [Desk<'a>],
@@ -36,13 +36,8 @@ pub(crate) fn work_all<'a, R: Threads + Wait + Sync, G: Gate + Sync>(
     );
 }
 
-// Works on the layer as one worker, with what is on the desk. How it ends decides nothing.
-fn help<'a, R: Wait, G: Gate>(
-    rt: &R,
-    desk: &mut Desk<'a>,
-    shift: &Shift<'_, 'a, G>,
-    worker: u8,
-)
+// Works on the layer as one worker, with the memory of the desk. Its result is ignored.
+fn help<'a, R: Wait, G: Gate>(rt: &R, desk: &mut Desk<'a>, shift: &Shift<'_, 'a, G>, worker: u8)
     requires place { worker < PLACES }
     requires drawer { desk.old.drawer ≡ Some (newcomer shift.now.ledger) }
     requires room { desk.old.scratch.size ≡ length shift.now.layer.level.board.cells }

@@ -22,5 +22,6 @@ LosesBox board q = (s : Scene) → IsScene board s → contains s.boxes q ≡ tr
 
 -- each state along a play that ends solved is undoomed: a solution is a safe play
 abbrev pub SolvesSafely : Board → Type 0
-SolvesSafely board = (s t : Scene) (ds : List Dir) (ps : List Push) → IsScene board s → Play board Any s ds ps t → IsSolved board t →
+SolvesSafely board =
+    (s t : Scene) (ds : List Dir) (ps : List Push) → IsScene board s → Play board Any s ds ps t → IsSolved board t →
     Play board (Undoomed board) s ds ps t

@@ -15,16 +15,20 @@ HaveDead board boxes = (q : ℕ) × (contains boxes q ≡ true) × IsDead board 
 
 -- each play from a state with just these boxes that ends solved has n pushes or more
 abbrev pub NeedAtLeast : Board → Squares → ℕ → Type 0
-NeedAtLeast board boxes n = (s t : Scene) (ds : List Dir) (ps : List Push) → IsScene board s → s.boxes ≡ boxes → Play board Any s ds ps t → IsSolved board t →
+NeedAtLeast board boxes n = (s t : Scene) (ds : List Dir) (ps : List Push) → IsScene board s → s.boxes ≡ boxes →
+    Play board Any s ds ps t → IsSolved board t →
     n ≤ length ps
 
 -- a push from a state with just these boxes leads to boxes whose sum, if they have one, is n less one or more
 abbrev pub LessenByOne : Board → Squares → ℕ → Type 0
-LessenByOne board boxes n = (s t : Scene) (d : Dir) (m : ℕ) → IsScene board s → s.boxes ≡ boxes → Pushes board s d t → IsLower board t.boxes m → n ≤ suc m
+LessenByOne board boxes n = (s t : Scene) (d : Dir) (m : ℕ) → IsScene board s → s.boxes ≡ boxes → Pushes board s d t →
+    IsLower board t.boxes m → n ≤ suc m
 
--- a push lessens the sum by one at most: where the boxes after it have one, those before have one too, of one more or less
+-- a push lessens the sum by one at most: where the boxes after it have one, those before have one too, of one more or
+-- less
 abbrev pub PushLessensByOne : Board → Type 0
-PushLessensByOne board = (s t : Scene) (d : Dir) (m : ℕ) → IsScene board s → Pushes board s d t → IsLower board t.boxes m → (n : ℕ) × IsLower board s.boxes n ×
+PushLessensByOne board = (s t : Scene) (d : Dir) (m : ℕ) → IsScene board s → Pushes board s d t →
+    IsLower board t.boxes m → (n : ℕ) × IsLower board s.boxes n ×
     (n ≤ suc m)
 
 -- solved boxes need no push

@@ -29,7 +29,8 @@ pub fn doomed_after(
     requires inside { push.square < length level.now.cells }
     requires moved { contains position.now.boxes (next level.now push.square push.dir) ≡ true }
     ensures from { IsTrue result ↔ DoomedFrom level.now position.now.boxes (next level.now push.square push.dir) }
-    ensures same { ComeUndoomed level.now push position.now.boxes → IsTrue result ↔ Doomed level.now position.now.boxes }
+    ensures same { ComeUndoomed level.now push position.now.boxes → IsTrue result ↔
+        Doomed level.now position.now.boxes }
     ensures lost { IsTrue result → AreLost level.now position.now.boxes }
     ensures kept { scratch.new ≡ scratch.old }
 {
@@ -56,7 +57,8 @@ fn is_doomed_from(
     requires dead_of_level { dead.now ≡ level.now }
     requires room { scratch.old.size ≡ length level.now.cells }
     ensures from { IsTrue result ↔ DoomedFrom level.now boxes.now square }
-    ensures others { (members : Squares) → IsFrozen level.now boxes.now members → IsTrue result ⊎ AreOthersFrozen level.now boxes.now square }
+    ensures others { (members : Squares) → IsFrozen level.now boxes.now members → IsTrue result ⊎
+        AreOthersFrozen level.now boxes.now square }
     ensures kept { scratch.new ≡ scratch.old }
 {
     dead.is_dead(square) || is_group_frozen(level, dead, boxes, square, scratch)
@@ -76,7 +78,8 @@ fn is_group_frozen(
     requires dead_of_level { dead.now ≡ level.now }
     requires room { scratch.old.size ≡ length level.now.cells }
     ensures group { IsTrue result ↔ IsGroupFrozen level.now boxes.now square }
-    ensures others { (members : Squares) → IsFrozen level.now boxes.now members → IsTrue result ⊎ AreOthersFrozen level.now boxes.now square }
+    ensures others { (members : Squares) → IsFrozen level.now boxes.now members → IsTrue result ⊎
+        AreOthersFrozen level.now boxes.now square }
     ensures kept { scratch.new ≡ scratch.old }
 {
     any_frozen(level, dead, boxes, scratch)

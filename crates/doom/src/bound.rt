@@ -50,7 +50,8 @@ impl Bound {
     /// allocates no memory.
     pub fn lower(&self, position: &Position) -> Option<u32>
         requires { FitsLevel self.now position.now }
-        ensures lower { MatchOption result (HaveDead self.now position.now.boxes) (λ low. IsLower self.now position.now.boxes low) }
+        ensures lower { MatchOption result (HaveDead self.now position.now.boxes)
+            (λ low. IsLower self.now position.now.boxes low) }
         ensures needed { IfSome result (λ low. NeedAtLeast self.now position.now.boxes low) }
         ensures pushed { IfSome result (λ low. LessenByOne self.now position.now.boxes low) }
         ensures lost { IfNone result (AreLost self.now position.now.boxes) }

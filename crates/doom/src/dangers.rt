@@ -69,8 +69,10 @@ impl Dangers {
     /// square is not dead, such a push from an undoomed position dooms nothing.
     #[inline(always)]
     pub fn spare(&self, square: Square, dir: Dir) -> bool
-        ensures { (board : Board) (boxes : Squares) (from : ℕ) → AreDangers board boxes self.now.words.items → IsTrue result → square ≡ next board from dir →
-            from < length board.cells → ¬ (IsDead board square) → IsLoose board (insert (remove boxes from) square) square }
+        ensures { (board : Board) (boxes : Squares) (from : ℕ) → AreDangers board boxes self.now.words.items →
+            IsTrue result → square ≡ next board from dir →
+            from < length board.cells → ¬ (IsDead board square) →
+            IsLoose board (insert (remove boxes from) square) square }
     {
         let index = square.0 as usize / WORD_BITS;
         if index >= self.words.len() {
@@ -93,7 +95,8 @@ fn word_for(danger: Danger, dir: Dir) -> u64
 fn find_words(holds: &Holds, cols: usize, boxes: &[u64], words: &mut ArrayVec<Danger, MOST_WORDS>)
     requires empty { length words.old.items ≡ 0 }
     requires holds { HaveRoom holds.now (length boxes.now) }
-    ensures { (board : Board) → AreHolds board holds.now → board.cols ≡ cols → 1 ≤ cols → AreDangers board (squares_of boxes.now) words.new.items }
+    ensures { (board : Board) → AreHolds board holds.now → board.cols ≡ cols → 1 ≤ cols →
+        AreDangers board (squares_of boxes.now) words.new.items }
 {
     let across = holds.across.as_words();
     let along = holds.along.as_words();

@@ -4,7 +4,8 @@ ghost use Rattle.grid.specs.Board.{is_wall};
 ghost use Rattle.grid.specs.Masks.{has_bit, word_count};
 ghost use Rattle.grid.specs.Squares.{Squares, contains};
 ghost use Rattle.area.specs.Words.{squares_of, word_bit};
-ghost use Rattle.doom.specs.inside.Locking.{AreWithin, HaveRoom, IsGroup, IsHeldBy, IsLargest, IsLook, IsPass, TellsLocked};
+ghost use Rattle.doom.specs.inside.Locking.{AreWithin, HaveRoom, IsGroup, IsHeldBy, IsLargest, IsLook, IsPass};
+ghost use Rattle.doom.specs.inside.Locking.{TellsLocked};
 
 use crate::holds::Holds;
 use crate::small::has_locked_few;
@@ -41,7 +42,8 @@ pub(crate) fn any_locked_with(
     requires there { contains boxes.now square ≡ true }
     requires holds { HaveRoom holds.now (word_count (length level.now.cells)) }
     requires room { scratch.old.size ≡ length level.now.cells }
-    ensures locked { (group : Squares) × IsGroup level.now boxes.now square group × TellsLocked holds.now level.now.cols group result }
+    ensures locked { (group : Squares) × IsGroup level.now boxes.now square group ×
+        TellsLocked holds.now level.now.cols group result }
     ensures kept { scratch.new ≡ scratch.old }
 {
     let members = scratch.group_aside(level, boxes, square);
@@ -159,7 +161,8 @@ pub(crate) fn peel_word(holds: &Holds, cols: usize, members: &mut [u64], index: 
 pub(crate) fn held(fast: &[u64], members: &[u64], index: usize, by: usize) -> u64
     requires index { index < length members.now }
     requires room { length members.now ≤ length fast.now }
-    ensures { (j : ℕ) → j < WORD_BITS → (word_bit result j ≡ true) ↔ IsHeldBy fast.now by (squares_of members.now) (WORD_BITS * index + j) }
+    ensures { (j : ℕ) → j < WORD_BITS → (word_bit result j ≡ true) ↔
+        IsHeldBy fast.now by (squares_of members.now) (WORD_BITS * index + j) }
 {
     (fast[index] | before(members, index, by)) | after(members, index, by)
 }

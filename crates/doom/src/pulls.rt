@@ -1,6 +1,7 @@
 //! The squares from which a lone box can be pushed to a goal, and their distances, found from the goals by pulls.
 ghost use Rattle.std.specs.Prelude.{◌≡◌, ◌+◌, ◌<◌, ◌≤◌, Some, OnOk, IfOk, [], vec_len, length};
-ghost use Rattle.doom.specs.inside.Pulling.{AreDistances, AreLiveFlags, IsDue, IsFilling, IsTurn, Marks, Pulls, far_at, unknown};
+ghost use Rattle.doom.specs.inside.Pulling.{AreDistances, AreLiveFlags, IsDue, IsFilling, IsTurn, Marks, Pulls, far_at};
+ghost use Rattle.doom.specs.inside.Pulling.{unknown};
 
 use grid::{Dir, Level, Square};
 use std::alloc::{AllocError, Global};
@@ -67,7 +68,9 @@ impl Found {
     /// Pulls a box from each square that is due; their distance is `steps - 1`.
     fn turn(&mut self, level: &Level, steps: u16) -> Result<(), AllocError>
         requires before { IsFilling level.now steps self.old.far.items self.old.due.items self.old.marked.items }
-        ensures { OnOk result (IsTurn level.now steps self.old.far.items self.old.marked.items self.new.far.items self.new.due.items self.new.marked.items) }
+        ensures { OnOk result
+            (IsTurn level.now steps self.old.far.items self.old.marked.items self.new.far.items self.new.due.items
+            self.new.marked.items) }
     {
         while let Some(square) = self.due.pop() {
             self.pull_around(level, square, steps)?;
@@ -78,9 +81,12 @@ impl Found {
     /// Pulls a box by one square from the square, in each direction.
     fn pull_around(&mut self, level: &Level, square: Square, steps: u16) -> Result<(), AllocError>
         requires before { IsDue level.now steps square 0 self.old.far.items self.old.due.items self.old.marked.items }
-        ensures after { OnOk result (IsFilling level.now steps self.new.far.items self.new.due.items self.new.marked.items) }
+        ensures after { OnOk result
+            (IsFilling level.now steps self.new.far.items self.new.due.items self.new.marked.items) }
         ensures due { self.new.due.items ≡ self.old.due.items }
-        ensures count { OnOk result (vec_len self.new.marked + unknown self.new.far.items ≤ vec_len self.old.marked + unknown self.old.far.items) }
+        ensures count { OnOk result
+            (vec_len self.new.marked + unknown self.new.far.items ≤ vec_len self.old.marked +
+            unknown self.old.far.items) }
     {
         for dir in Dir::ALL {
             self.pull(level, square, dir, steps)?;
@@ -98,7 +104,9 @@ impl Found {
     ) -> Result<(), AllocError>
         requires inside { square < length level.now.cells }
         requires size { vec_len self.old.far ≡ length level.now.cells }
-        ensures pulls { OnOk result (Pulls level.now steps square dir self.old.far.items self.old.marked.items self.new.far.items self.new.marked.items) }
+        ensures pulls { OnOk result
+            (Pulls level.now steps square dir self.old.far.items self.old.marked.items self.new.far.items
+            self.new.marked.items) }
         ensures due { self.new.due.items ≡ self.old.due.items }
     {
         let from = level.next(square, dir);
@@ -111,7 +119,8 @@ impl Found {
     /// Notes the distance of a square, unless one is known.
     fn mark(&mut self, square: Square, steps: u16) -> Result<(), AllocError>
         requires { square < vec_len self.old.far }
-        ensures marks { OnOk result (Marks steps square self.old.far.items self.old.marked.items self.new.far.items self.new.marked.items) }
+        ensures marks { OnOk result
+            (Marks steps square self.old.far.items self.old.marked.items self.new.far.items self.new.marked.items) }
         ensures due { self.new.due.items ≡ self.old.due.items }
     {
         let index = square.0 as usize;

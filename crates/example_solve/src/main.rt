@@ -1,5 +1,5 @@
-//! An example for users of the library: reads a collection from standard input, solves each of its levels on one thread,
-//! and prints a line for each: the pushes of its best solution and the solution, or why there is none.
+//! An example for users of the library: reads a collection from standard input, solves each of its levels on one
+//! thread, and prints a line for each: the pushes of its best solution and the solution, or why there is none.
 //!
 //! ```text
 //! rt run < ../../levels/first-steps.xsb

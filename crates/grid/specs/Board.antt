@@ -1,5 +1,6 @@
 -- Boards, states and single steps: the rules of the game.
-use Rattle.std.specs.Prelude.{◌≡◌, ℕ, suc, ◌+◌, ◌-◌, ◌%◌, Bool, true, false, cond, ◌==◌, nat_lt, List, length, slice_index_or}
+use Rattle.std.specs.Prelude.{◌≡◌, ℕ, suc, ◌+◌, ◌-◌, ◌%◌, Bool, true, false, cond, ◌==◌, nat_lt, List, length}
+use Rattle.std.specs.Prelude.{slice_index_or}
 use Rattle.std.specs.declared.cmp.Ordering.{Ordering}
 use Rattle.std.specs.Ordering.{nat_cmp, ordering_then}
 use Rattle.grid.specs.declared.dir.Dir.{Dir}
@@ -92,7 +93,8 @@ Walks board s d t = let q = next board s.player d in
 -- t is the state after a push: a box goes one square on, where there is neither wall nor box
 abbrev pub Pushes : Board → Scene → Dir → Scene → Type 0
 Pushes board s d t = let q = next board s.player d in let r = next board q d in
-    (contains s.boxes q ≡ true) × IsFree board s.boxes r × (t ≡ record { boxes = insert (remove s.boxes q) r; player = q })
+    (contains s.boxes q ≡ true) × IsFree board s.boxes r ×
+    (t ≡ record { boxes = insert (remove s.boxes q) r; player = q })
 
 -- every box stands on a goal
 abbrev pub IsSolved : Board → Scene → Type 0

@@ -27,8 +27,11 @@ abbrev pub writes_of : Scene → fed.HashWrites
 writes_of s = writes_of_squares s.boxes s.player
 
 -- equal positions write the same
-pub writes_alike : (s t : Scene) → IsTrue (pointwise nat_eq s.boxes t.boxes && (s.player == t.player)) → writes_of s ≡ writes_of t
+pub writes_alike : (s t : Scene) → IsTrue (pointwise nat_eq s.boxes t.boxes && (s.player == t.player)) →
+    writes_of s ≡ writes_of t
 writes_alike s t same =
-    let boxes = (bytes_decides s.boxes t.boxes).0 (first_so (pointwise nat_eq s.boxes t.boxes) (s.player == t.player) same) in
-    let player = (unsigned_Decides s.player t.player).0 (second_so (pointwise nat_eq s.boxes t.boxes) (s.player == t.player) same) in
+    let boxes = (bytes_decides s.boxes t.boxes).0
+    (first_so (pointwise nat_eq s.boxes t.boxes) (s.player == t.player) same) in
+    let player = (unsigned_Decides s.player t.player).0
+    (second_so (pointwise nat_eq s.boxes t.boxes) (s.player == t.player) same) in
     λ i. flat_map fed.u64 (words_of (boxes i) (player i))

@@ -1,7 +1,9 @@
 -- When cells make a lawful level, and which fault is the first.
-use Rattle.std.specs.Prelude.{◌≡◌, ℕ, ◌/◌, ◌%◌, ◌≤◌, false, cond, ◌==◌, nat_lt, length, count_by, Option, None, Some, ◌⊎◌}
+use Rattle.std.specs.Prelude.{◌≡◌, ℕ, ◌/◌, ◌%◌, ◌≤◌, false, cond, ◌==◌, nat_lt, length, count_by, Option, None, Some}
+use Rattle.std.specs.Prelude.{◌⊎◌}
 use Rattle.grid.specs.declared.fault.LevelFault.{LevelFault}
-use Rattle.grid.specs.declared.fault.LevelFault.TheVariants.{TooTall, TooWide, NoPlayer, TwoPlayers, NoBox, Counts, Open}
+use Rattle.grid.specs.declared.fault.LevelFault.TheVariants.{TooTall, TooWide, NoPlayer, TwoPlayers, NoBox, Counts}
+use Rattle.grid.specs.declared.fault.LevelFault.TheVariants.{Open}
 use Rattle.grid.specs.declared.limits.TheConstants.{MAX_ROWS, MAX_COLS}
 use Rattle.grid.specs.declared.dir.Dir.{Dir}
 use Rattle.grid.specs.Board.{Board, box_cell, goal_cell, player_cell, is_wall, next, start_player}
@@ -27,7 +29,8 @@ pub data InRoom (board : Board) : ℕ → Type 0 where
 abbrev pub IsOpen : Board → Type 0
 IsOpen board = (q : ℕ) × (d : Dir) × InRoom board q × (next board q d ≡ length board.cells)
 
--- the first fault that looking at the cells alone finds, in the order of their numbers: of the size, then of what stands there
+-- the first fault that looking at the cells alone finds, in the order of their numbers: of the size, then of what
+-- stands there
 abbrev pub cell_fault : Board → Option LevelFault
 cell_fault board =
     cond (nat_lt MAX_ROWS (row_count board)) (Some TooTall)

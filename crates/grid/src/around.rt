@@ -1,4 +1,4 @@
-//! The squares next to a square, and those of each square of a board, so that a step needs no division.
+//! The neighbours of a square, and a table of those of each square of a board, so that a step needs no division.
 ghost use Rattle.std.specs.Prelude.{◌≡◌, ◌%◌, ◌<◌, ◌≤◌, IfOk, length};
 ghost use Rattle.grid.specs.inside.AroundView.{AreAround, around_of};
 

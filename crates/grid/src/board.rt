@@ -12,7 +12,7 @@ use crate::square::Square;
 use std::alloc::{AllocError, Global};
 use std::marker::Model;
 
-/// A lawful board: a level without the tables that a search wants.
+/// A lawful board: a level without the tables that a search needs.
 #[derive(Debug, Drop)]
 pub struct Board {
     cols: usize,
@@ -36,13 +36,15 @@ impl Model for Board {
 }
 
 impl Board {
-    /// The board of these cells, row by row, or its first fault.
+    /// The board of these cells, row by row in rows of `cols`, or its first fault. The number of cells must be a
+    /// multiple of `cols`. Fails with the first [`LevelFault`] that applies, or if out of memory.
     pub fn from_cells(alloc: Global, cols: usize, cells: Vec<Cell>) -> Result<Board, LevelFault>
         requires columns { 1 ≤ cols }
         requires whole { length cells.items % cols ≡ 0 }
         ensures ok { IfOk result (λ board. board ≡ record { cols = cols; cells = cells.items }) }
         ensures lawful { IfOk result (λ board. IsLevel board) }
-        ensures err { IfErr result (λ f. (f ≡ LevelFault.OutOfMemory) ⊎ HasFault (record { cols = cols; cells = cells.items }) f) }
+        ensures err { IfErr result (λ f. (f ≡ LevelFault.OutOfMemory) ⊎
+            HasFault (record { cols = cols; cells = cells.items }) f) }
     {
         if let Some(fault) = cell_fault(cols, cells.as_slice()) {
             return Err(fault);
@@ -60,7 +62,7 @@ impl Board {
         })
     }
 
-    /// Tells what is true of every board.
+    /// States that the board is lawful. It does nothing; call it in proofs.
     pub fn tell(&self)
         ensures { IsLevel self.now }
     {

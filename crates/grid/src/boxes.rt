@@ -12,13 +12,13 @@ use crate::square::Square;
 use std::alloc::{AllocError, Global};
 use std::marker::Model;
 
-/// The boxes of a state, of which there may be any number. A box goes from one square to another without memory, also
-/// where the state is played on a level with more squares than the one in which it began.
+/// The boxes of a state, in any number. Moving a box takes no memory, also if the state is played on a level with more
+/// squares than the one in which it began.
 #[derive(Debug, Drop)]
 pub(crate) struct Boxes {
-    // for each square of the level in which the state began, whether a box stands on it
+    // for each square of the level in which the state began, whether a box is on it
     flags: Vec<bool>,
-    // all boxes, in rising order, once a box left these squares; then there are no flags any more
+    // all boxes, in rising order, once a box left these squares; then there are no flags
     listed: Vec<Square>,
 }
 
@@ -34,7 +34,7 @@ impl Model for Boxes {
 }
 
 impl Boxes {
-    /// The boxes with which the level begins.
+    /// The boxes at the start of the level.
     pub(crate) fn of(alloc: Global, level: &Level) -> Result<Boxes, AllocError>
         ensures { IfOk result (λ boxes. boxes ≡ start_boxes level.now) }
     {
@@ -43,7 +43,7 @@ impl Boxes {
         Ok(Boxes { flags, listed })
     }
 
-    /// Whether a box stands on the square.
+    /// Whether a box is on the square.
     pub(crate) fn has(&self, square: Square) -> bool
         ensures { result ≡ contains self.now square }
     {
@@ -77,7 +77,7 @@ fn box_flags(alloc: Global, cells: &[Cell]) -> Result<Vec<bool>, AllocError>
     cells.iter().map(|cell| cell.has_box()).collect(alloc)
 }
 
-// Lists the marked squares, and marks none any more.
+// Lists the marked squares, and clears the marks.
 fn list_all(flags: &mut Vec<bool>, listed: &mut Vec<Square>)
     requires apart { (listed.old.items ≡ []) ⊎ (flags.old.items ≡ []) }
     requires room { length (marked flags.old.items ++ listed.old.items) ≤ vec_capacity listed.old }

@@ -1,4 +1,4 @@
-/// What stands on a square at the start of a level, by the cells of the Sokoban Wiki's level format.
+/// What is on a square at the start of a level. The seven cells are those of the Sokoban Wiki's level format.
 #[derive(Clone, Copy, PartialEq, Eq, Debug)]
 pub enum Cell {
     Wall,
@@ -28,14 +28,14 @@ impl Cell {
         matches!(self, Cell::Goal | Cell::BoxOnGoal | Cell::PlayerOnGoal)
     }
 
-    /// Whether a box stands on the cell.
+    /// Whether a box is on the cell.
     pub fn has_box(self) -> bool
         ensures { result ≡ box_cell self }
     {
         matches!(self, Cell::Box | Cell::BoxOnGoal)
     }
 
-    /// Whether the player stands on the cell.
+    /// Whether the player is on the cell.
     pub fn has_player(self) -> bool
         ensures { result ≡ player_cell self }
     {

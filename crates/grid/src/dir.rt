@@ -27,7 +27,7 @@ impl Dir {
         }
     }
 
-    // The direction's place among the four.
+    // The direction's index among the four.
     #[inline(always)]
     pub(crate) fn place(self) -> usize
         ensures { result ≡ dir_number self }

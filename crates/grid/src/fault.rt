@@ -4,7 +4,7 @@ use crate::limits::{MAX_COLS, MAX_ROWS};
 use std::alloc::AllocError;
 use thiserror::Error;
 
-/// Why a board is no lawful level. Of several faults the first in this order is the one that is answered.
+/// Why a board is no lawful level. If several faults apply, the first in this order is reported.
 #[derive(Clone, Copy, PartialEq, Eq, Debug, Drop, Error)]
 pub enum LevelFault {
     /// More rows than [`MAX_ROWS`](crate::MAX_ROWS).
@@ -25,10 +25,10 @@ pub enum LevelFault {
     /// The numbers of boxes and of goals differ.
     #[error("{boxes} boxes and {goals} goals")]
     Counts { boxes: usize, goals: usize },
-    /// A square that the player may walk to, boxes ignored, lies at the edge of the grid.
+    /// A square that the player may walk to, boxes ignored, is at the edge of the grid.
     #[error("the player can reach the edge")]
     Open,
-    /// Memory was refused.
+    /// Out of memory.
     #[error("out of memory")]
     OutOfMemory,
 }

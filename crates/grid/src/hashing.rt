@@ -5,7 +5,7 @@ use crate::position::Position;
 use crate::square::Square;
 use std::hash::{Hash, Hasher};
 
-// Four squares are written at once: a hasher's work goes by writes.
+// Four squares are written at once, since a hasher's time depends on the number of writes.
 impl Hash for Position {
     ghost use Rattle.grid.specs.Hashing.{writes_of, writes_alike};
 
@@ -19,7 +19,7 @@ impl Hash for Position {
     }
 }
 
-/// Writes the squares of boxes and of a player to a hasher, four at once, as the hash of a position does.
+/// Writes the squares of boxes and of a player to a hasher, four at once, exactly as the hash of a position does.
 #[inline]
 pub fn hash_squares<H: Hasher>(mut boxes: &[Square], player: Square, state: &mut H)
     ensures { state.new ≡ fold H.write state.old (writes_of_squares boxes.now player) }
@@ -31,7 +31,7 @@ pub fn hash_squares<H: Hasher>(mut boxes: &[Square], player: Square, state: &mut
     state.write_u64(last_word(boxes, player));
 }
 
-// Up to three squares, and the player after them.
+// Up to three squares, and then the player.
 #[inline]
 fn last_word(squares: &[Square], player: Square) -> u64
     requires { length squares.now < 4 }

@@ -1,4 +1,4 @@
-//! What is wrong with the cells of a board: its size, and the numbers of players, boxes and goals.
+//! Checks of the cells of a board: its size, and the numbers of players, boxes and goals.
 ghost use Rattle.std.specs.Prelude.{◌≡◌, ℕ, ◌%◌, ◌≤◌, length, count_by};
 ghost use Rattle.grid.specs.Board.{box_cell, goal_cell, player_cell, start_player};
 ghost use Rattle.grid.specs.Lawful.{cell_fault};
@@ -9,7 +9,7 @@ use crate::fault::LevelFault;
 use crate::limits::{MAX_COLS, MAX_ROWS, MAX_SQUARES};
 use crate::square::Square;
 
-/// The first fault that looking at the cells alone finds.
+/// The first fault that the cells alone show.
 pub(crate) fn cell_fault(cols: usize, cells: &[Cell]) -> Option<LevelFault>
     requires columns { 1 ≤ cols }
     requires whole { length cells.now % cols ≡ 0 }
@@ -24,7 +24,7 @@ pub(crate) fn cell_fault(cols: usize, cells: &[Cell]) -> Option<LevelFault>
     count_fault(cells)
 }
 
-// What is wrong with the numbers of players, boxes and goals.
+// The fault of the numbers of players, boxes and goals, if there is one.
 fn count_fault(cells: &[Cell]) -> Option<LevelFault>
     requires { length cells.now ≤ MAX_SQUARES }
     ensures { (cols : ℕ) → result ≡ count_fault (record { cols = cols; cells = cells.now }) }
@@ -47,7 +47,7 @@ fn count_fault(cells: &[Cell]) -> Option<LevelFault>
     None
 }
 
-// Numbers of cells are counted in 16 bits, so that the processor looks at several cells at once.
+// Cells are counted in 16 bits, so that the compiler makes vector instructions.
 fn players_of(cells: &[Cell]) -> usize
     requires { length cells.now ≤ MAX_SQUARES }
     ensures { result ≡ count_by player_cell cells.now }

@@ -18,8 +18,8 @@ use std::alloc::{AllocError, Global};
 use std::marker::Model;
 
 /// A lawful level: one player, at least one box, as many boxes as goals, and no way from the player to the edge of
-/// the grid. It is a [`Board`] with the tables that a search wants: the neighbours of each square, so that a step needs
-/// no division, and the step masks and the room mask, so that a flood goes by words.
+/// the grid. It is a [`Board`] with the tables that a search needs: the neighbours of each square, so that a step needs
+/// no division, and step masks and a room mask, so that a flood works on words.
 #[derive(Debug, Drop)]
 pub struct Level {
     board: Board,
@@ -47,7 +47,8 @@ impl Level {
         requires whole { length cells.items % cols ≡ 0 }
         ensures ok { IfOk result (λ level. level ≡ record { cols = cols; cells = cells.items }) }
         ensures lawful { IfOk result (λ level. IsLevel level) }
-        ensures err { IfErr result (λ f. (f ≡ LevelFault.OutOfMemory) ⊎ HasFault (record { cols = cols; cells = cells.items }) f) }
+        ensures err { IfErr result (λ f. (f ≡ LevelFault.OutOfMemory) ⊎
+            HasFault (record { cols = cols; cells = cells.items }) f) }
     {
         let board = Board::from_cells(alloc, cols, cells)?;
         Ok(Level::of_board(alloc, board)?)
@@ -68,14 +69,15 @@ impl Level {
         })
     }
 
-    /// Tells what is true of every level.
+    /// States that the level is lawful. It does nothing; call it in proofs.
     pub fn tell(&self)
         ensures { IsLevel self.now }
     {
         self.board.tell();
     }
 
-    /// Tells that the level begins in a state of it, with as many boxes as the level has.
+    /// States that the level's start is a state of it, with as many boxes as the level has. It does nothing; call it in
+    /// proofs.
     pub fn tell_start(&self)
         ensures { FitsLevel self.now (start self.now) }
     {
@@ -96,7 +98,7 @@ impl Level {
         self.board.cols()
     }
 
-    /// The number of squares, which is the rows times the columns.
+    /// The number of squares: rows times columns.
     pub fn squares(&self) -> usize
         ensures { result ≡ length self.now.cells }
     {
@@ -111,7 +113,7 @@ impl Level {
         self.board.cells()
     }
 
-    /// Whether the square is a wall; everything outside the grid is.
+    /// Whether the square is a wall. Every number outside the grid is one.
     pub fn is_wall(&self, square: Square) -> bool
         ensures { result ≡ is_wall self.now square }
     {
@@ -125,7 +127,7 @@ impl Level {
         self.board.is_goal(square)
     }
 
-    /// Whether a box stands on the square at the start.
+    /// Whether a box is on the square at the start.
     pub fn has_box(&self, square: Square) -> bool
         ensures { result ≡ has_box self.now square }
     {
@@ -146,8 +148,7 @@ impl Level {
         self.board.player()
     }
 
-    /// The square next to a square in a direction; the number of squares, which is no square, where the grid ends
-    /// there.
+    /// The square next to a square in a direction. Where the grid ends it is the number of squares, which is no square.
     pub fn next(&self, square: Square, dir: Dir) -> Square
         requires { square < length self.now.cells }
         ensures { result ≡ next self.now square dir }
@@ -164,8 +165,8 @@ impl Level {
         self.around[square.0 as usize]
     }
 
-    /// The ways from a square: for each direction the square next to it, and the square itself where that is a wall or
-    /// the grid ends there.
+    /// The ways from a square: for each direction the square next to it, or the square itself if that is a wall or
+    /// outside the grid.
     pub fn ways(&self, square: Square) -> Around
         requires { square < length self.now.cells }
         ensures { result ≡ ways_of self.now square }
@@ -179,14 +180,14 @@ impl Level {
         }
     }
 
-    // The next square where that is no wall, and else the square itself.
+    // The next square if that is no wall, otherwise the square itself.
     fn way(&self, square: Square, next: Square) -> Square
         ensures { result ≡ (if is_wall self.now next then square else next) }
     {
         if self.is_wall(next) { square } else { next }
     }
 
-    /// Onto which squares a step in each direction can lead, as bits of words.
+    /// The squares that a step in each direction can lead to, as bits of words.
     pub fn step_masks(&self) -> &[StepMasks]
         ensures { AreMasks self.now result.now }
     {
@@ -200,8 +201,7 @@ impl Level {
         self.room.as_slice()
     }
 
-    /// Whether the square is of the player's room: what four-way steps over squares that are no wall reach from the
-    /// player, boxes ignored.
+    /// Whether the square belongs to the player's room: the squares that the player reaches if boxes are ignored.
     pub fn in_room(&self, square: Square) -> bool
         ensures { IsTrue result ↔ InRoom self.now square }
     {
@@ -230,7 +230,7 @@ impl PartialEq for Level {
 
     ghost laws = { Prim.search (comparing, rules) };
 
-    /// Whether the levels are of one size and have the same cells.
+    /// Whether the levels have the same size and the same cells.
     fn eq(&self, other: &Level) -> bool
         ensures answer { result ≡ same_board self.now other.now }
         ensures same { IsTrue result ↔ (self.now ≡ other.now) }
@@ -246,11 +246,11 @@ impl Eq for Level {
     ghost laws = { Prim.search (comparing, rules) };
 }
 
-// So many cells are looked at together.
+// This many cells are compared together.
 const AT_ONCE: usize = 16;
 
-// Whether the cells are the same. What is left over of so many at once would be looked at one by one, so the last ones are looked
-// at together once more.
+// Whether the cells are the same. The last cells, whose number need not be a multiple, are compared together once more
+// instead of one by one.
 fn same_cells(cells: &[Cell], others: &[Cell]) -> bool
     ensures { IsTrue result ↔ (cells.now ≡ others.now) }
 {
@@ -268,7 +268,8 @@ fn same_cells(cells: &[Cell], others: &[Cell]) -> bool
     front & back
 }
 
-// The same of as many cells. Where they are the same, each has to be looked at, so this goes on to the end, by several cells at once.
+// The same for equally many cells. Equal cells must all be compared, so the loop has no early end, which lets the
+// compiler compare several at once.
 #[inline(always)]
 fn are_same(cells: &[Cell], others: &[Cell]) -> bool
     requires { length cells.now ≡ length others.now }

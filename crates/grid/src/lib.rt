@@ -1,6 +1,9 @@
-//! Squares, lawful levels, states, steps and positions of Sokoban.
+//! The game: squares, lawful levels, states, steps and positions of Sokoban, and the limits of the program.
 //!
-//! With the `level` of a hall `@$.`, a player, a box and a goal in a row:
+//! Use [`Level`] and [`State`] to play moves by the rules, and [`Position`] (boxes in rising order, and the player) to
+//! search. A level takes memory in proportion to its squares; a step and a position take none.
+//!
+//! With the `level` of a corridor `@$.`, a player, a box and a goal in a row:
 //!
 //! ```text
 //! let mut state = State::start(alloc, &level).expect(&rt, "memory");

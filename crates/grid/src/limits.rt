@@ -1,4 +1,4 @@
-//! The limits of the program, which everything else names.
+//! The limits of the program. All other code names these constants.
 
 /// The greatest number of rows of a level.
 pub const MAX_ROWS: usize = 255;
@@ -6,7 +6,7 @@ pub const MAX_ROWS: usize = 255;
 /// The greatest number of columns of a level.
 pub const MAX_COLS: usize = 255;
 
-/// The greatest number of boxes of a level that the solver takes.
+/// The greatest number of boxes of a level that can be searched.
 pub const MAX_BOXES: usize = 64;
 
 /// The greatest number of squares of a level.

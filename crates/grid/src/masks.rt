@@ -12,12 +12,12 @@ use crate::limits::MAX_SQUARES;
 use crate::square::Square;
 use std::alloc::{AllocError, Global};
 
-/// The number of squares that a word has bits for.
+/// The number of squares for which a word has bits.
 pub const WORD_BITS: usize = 64;
 
-/// For [`WORD_BITS`] squares in a row, from a multiple of it on: for each direction a bit for each square onto which a
-/// step in that direction can lead, since it is no wall and the grid goes on behind it. The lowest bit is the first
-/// square's.
+/// Masks for [`WORD_BITS`] squares from a multiple of it on: for each direction, the bit of a square is set if a step
+/// in that direction can lead onto it, since it is no wall and the grid goes on behind it. The lowest bit is that of
+/// the first square.
 #[derive(Clone, Copy, PartialEq, Eq, Default, Debug)]
 pub struct StepMasks {
     pub d: u64,
@@ -46,7 +46,7 @@ pub(crate) fn masks_of(
     Ok(masks)
 }
 
-// The step masks of the squares of the word at a place.
+// The step masks of the squares of one word.
 fn word_masks(cells: &[Cell], around: &[Around], place: usize) -> StepMasks
     requires bound { length cells.now ≤ MAX_SQUARES }
     requires places { length around.now ≡ length cells.now }
@@ -65,7 +65,7 @@ fn word_masks(cells: &[Cell], around: &[Around], place: usize) -> StepMasks
     masks
 }
 
-// The masks with a bit more for each direction in which the grid goes on behind its square. The grid ends at `end`.
+// The masks with one more bit for each direction in which the grid goes on behind the square. The grid ends at `end`.
 #[inline(always)]
 fn entered(masks: StepMasks, bit: usize, around: Around, end: Square) -> StepMasks
     requires { bit < WORD_BITS }
@@ -79,7 +79,7 @@ fn entered(masks: StepMasks, bit: usize, around: Around, end: Square) -> StepMas
     }
 }
 
-// The word, and if `set` also the bit at the place.
+// The word, with one more bit if `set`.
 #[inline(always)]
 fn with_bit(word: u64, place: usize, set: bool) -> u64
     requires { place < WORD_BITS }
@@ -101,7 +101,7 @@ pub(crate) fn room_mask_of(alloc: Global, board: &Board) -> Result<Vec<u64>, All
     Ok(mask)
 }
 
-// The squares of the player's room among those of the word at a place.
+// The squares of the player's room among those of one word.
 fn room_word(board: &Board, place: usize) -> u64
     requires inside { WORD_BITS * place < MAX_SQUARES }
     ensures { IsRoomAt board.now place result }

@@ -36,7 +36,7 @@ impl Moves {
         }
     }
 
-    /// Appends a letter; where memory is refused the list stays as it was.
+    /// Appends a letter. Fails only if out of memory, and then leaves the list unchanged.
     pub fn push(&mut self, letter: Letter) -> Result<(), AllocError>
         ensures ok { OnOk result (self.new ≡ self.old ++ letter ∷ []) }
         ensures err { OnErr result (self.new ≡ self.old) }
@@ -45,7 +45,7 @@ impl Moves {
         Ok(())
     }
 
-    /// Cuts the list off after `len` letters; a shorter list stays as it is.
+    /// Shortens the list to `len` letters. A shorter list stays unchanged.
     pub fn truncate(&mut self, len: usize)
         ensures { self.new ≡ take len self.old }
     {
@@ -59,7 +59,7 @@ impl Moves {
         self.letters.len()
     }
 
-    /// Whether there is no letter.
+    /// Whether the list is empty.
     pub fn is_empty(&self) -> bool
         ensures { IsTrue result ↔ (self.now ≡ []) }
     {

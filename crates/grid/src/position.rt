@@ -1,4 +1,5 @@
-ghost use Rattle.std.specs.Prelude.{⊤, ◌≡◌, ℕ, ◌+◌, ◌-◌, ◌<◌, ◌≤◌, ◌↔◌, IsTrue, true, false, IfSome, IsSome, length, slice_index, nat_lt};
+ghost use Rattle.std.specs.Prelude.{⊤, ◌≡◌, ℕ, ◌+◌, ◌-◌, ◌<◌, ◌≤◌, ◌↔◌, IsTrue, true, false, IfSome, IsSome, length};
+ghost use Rattle.std.specs.Prelude.{slice_index, nat_lt};
 ghost use Rattle.std.specs.List.{prefix_len, list_any, remove as remove_at};
 ghost use Rattle.grid.specs.Board.{Board, Scene, is_wall, start};
 ghost use Rattle.grid.specs.Lawful.{box_count};
@@ -13,7 +14,7 @@ use arrayvec::ArrayVec;
 use std::alloc::AllocError;
 use std::marker::Model;
 
-/// Where the boxes stand, in rising order, and the player's square. Compared by the boxes first.
+/// The squares of the boxes, in rising order, and the player's square. Positions are compared by the boxes first.
 #[derive(PartialEq, Eq, PartialOrd, Ord, Debug, Drop)]
 pub struct Position {
     boxes: ArrayVec<Square, MAX_BOXES>,
@@ -35,7 +36,7 @@ impl Model for Position {
 }
 
 impl Position {
-    /// The position in which the level begins; `None` exactly where it has more boxes than [`MAX_BOXES`].
+    /// The position at the start of the level. `None` if the level has more boxes than [`MAX_BOXES`].
     pub fn start(level: &Level) -> Option<Position>
         ensures start { IfSome result (λ p. p ≡ start level.now) }
         ensures some { IsSome result ↔ (box_count level.now ≤ MAX_BOXES) }
@@ -49,7 +50,7 @@ impl Position {
         })
     }
 
-    /// The position with these boxes and this player; `None` exactly where the boxes don't rise or are more than
+    /// The position with these boxes and this player. `None` if the boxes are not in rising order or more than
     /// [`MAX_BOXES`].
     pub fn of(boxes: &[Square], player: Square) -> Option<Position>
         ensures value { IfSome result (λ p. p ≡ record { boxes = boxes.now; player = player }) }
@@ -68,7 +69,7 @@ impl Position {
         })
     }
 
-    /// The position with these boxes, which rise, and this player.
+    /// The position with these boxes, in rising order, and this player.
     pub fn of_rising(boxes: &[Square], player: Square) -> Position
         requires rising { is_rising boxes.now ≡ true }
         requires bound { length boxes.now ≤ MAX_BOXES }
@@ -109,8 +110,8 @@ impl Position {
         self.player = other.player;
     }
 
-    /// Whether the position may be played on the level: as many boxes as the level has, no box and not the player
-    /// on a wall or outside the grid, and the player on no box.
+    /// Whether the position can be played on the level: it has as many boxes as the level, neither a box nor the
+    /// player is on a wall or outside the grid, and the player is on no box.
     pub fn fits(&self, level: &Level) -> bool
         ensures { IsTrue result ↔ FitsLevel level.now self.now }
     {
@@ -132,7 +133,7 @@ impl Position {
         self.boxes.as_slice()
     }
 
-    /// Whether a box stands on the square.
+    /// Whether a box is on the square.
     pub fn contains(&self, square: Square) -> bool
         ensures { result ≡ contains self.now.boxes square }
     {
@@ -153,8 +154,8 @@ impl Position {
         self.player = player;
     }
 
-    /// Moves the box on `from` to `to`, and the player to where the box was. The box is looked for at a place among the
-    /// boxes first: whoever goes through boxes in their order knows it, and what is wrong of it is put right.
+    /// Moves the box on `from` to `to`, and the player to `from`. `place` is a guess at the index of the box, which a
+    /// caller that goes through the boxes in order knows; a wrong guess only costs time.
     pub fn push_at(&mut self, place: usize, from: Square, to: Square)
         requires box_there { contains self.old.boxes from ≡ true }
         requires free { contains self.old.boxes to ≡ false }
@@ -164,7 +165,7 @@ impl Position {
         self.player = from;
     }
 
-    /// Moves the box on `from` to `to`, and the player to where the box was.
+    /// Moves the box on `from` to `to`, and the player to `from`.
     pub fn push(&mut self, from: Square, to: Square)
         requires box_there { contains self.old.boxes from ≡ true }
         requires free { contains self.old.boxes to ≡ false }
@@ -213,7 +214,7 @@ fn first_boxes(level: &Level) -> ArrayVec<Square, MAX_BOXES>
     boxes
 }
 
-// Whether the square is one of these. All are looked at, so that the processor looks at several at once.
+// Whether the square is one of these. The loop has no early end, so that the compiler compares several at once.
 pub(crate) fn is_among(squares: &[Square], square: Square) -> bool
     ensures { result ≡ contains squares.now square }
 {
@@ -246,7 +247,7 @@ fn rises(squares: &[Square]) -> bool
     true
 }
 
-// Puts one square in the place of another, where the list rises. The one is looked for at a place first.
+// Replaces one square by another and keeps the list rising. `place` is a guess at its index.
 pub(crate) fn move_square(squares: &mut [Square], place: usize, from: Square, to: Square)
     requires rising { is_rising squares.old ≡ true }
     requires bound { length squares.old ≤ MAX_SQUARES }
@@ -258,7 +259,7 @@ pub(crate) fn move_square(squares: &mut [Square], place: usize, from: Square, to
     settle(squares, left, to);
 }
 
-// How many of the rising squares are less than this one, which is one of them, and is looked for at a place first.
+// How many of the rising squares are less than this one, which is one of them. `place` is a guess at its index.
 fn place_by(squares: &[Square], place: usize, square: Square) -> usize
     requires rising { is_rising squares.now ≡ true }
     requires bound { length squares.now ≤ MAX_SQUARES }
@@ -271,7 +272,7 @@ fn place_by(squares: &[Square], place: usize, square: Square) -> usize
     }
 }
 
-// How many of the rising squares are less than this one. All are looked at, so that no end of a loop has to be foreseen.
+// How many of the rising squares are less than this one. The loop has no early end, so that no branch is mispredicted.
 fn place_of(squares: &[Square], square: Square) -> usize
     requires rising { is_rising squares.now ≡ true }
     requires bound { length squares.now ≤ MAX_SQUARES }
@@ -284,7 +285,7 @@ fn place_of(squares: &[Square], square: Square) -> usize
     lesser as usize
 }
 
-// Takes out the square at a place, and puts another in where the list rises.
+// Removes the square at an index, and inserts another where the list stays rising.
 fn settle(squares: &mut [Square], place: usize, square: Square)
     requires inside { place < length squares.old }
     requires rising { is_rising (remove_at squares.old place) ≡ true }
@@ -296,7 +297,7 @@ fn settle(squares: &mut [Square], place: usize, square: Square)
     squares[hole] = square;
 }
 
-// Moves the lesser squares after a hole one place down, and tells where the hole is then.
+// Moves the lesser squares after a hole down by one, and returns where the hole is then.
 fn lesser_down(squares: &mut [Square], mut hole: usize, square: Square) -> usize
     requires { hole < length squares.old }
     ensures inside { result < length squares.new }
@@ -310,7 +311,7 @@ fn lesser_down(squares: &mut [Square], mut hole: usize, square: Square) -> usize
     hole
 }
 
-// Moves the greater squares before a hole one place up, and tells where the hole is then.
+// Moves the greater squares before a hole up by one, and returns where the hole is then.
 fn greater_up(squares: &mut [Square], mut hole: usize, square: Square) -> usize
     requires inside { hole < length squares.old }
     requires after { hole + 1 < length squares.old → square ≤ slice_index squares.old (hole + 1) }

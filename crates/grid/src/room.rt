@@ -1,7 +1,9 @@
-ghost use Rattle.std.specs.Prelude.{◌≡◌, ℕ, ◌+◌, ◌-◌, ◌%◌, ◌<◌, ◌≤◌, ◌∷◌, [], ◌↔◌, ◌&&◌, not, IfOk, IfErr, OnOk, true, false, length, slice_index_or};
+ghost use Rattle.std.specs.Prelude.{◌≡◌, ℕ, ◌+◌, ◌-◌, ◌%◌, ◌<◌, ◌≤◌, ◌∷◌, [], ◌↔◌, ◌&&◌, not, IfOk, IfErr, OnOk, true};
+ghost use Rattle.std.specs.Prelude.{false, length, slice_index_or};
 ghost use Rattle.grid.specs.Board.{is_wall, start_player};
 ghost use Rattle.grid.specs.Lawful.{InRoom, IsOpen};
-ghost use Rattle.grid.specs.inside.Filling.{Awaits, BeginsRun, IsFilling, IsMarked, IsRoomFault, IsRunning, IsSized, Seeds, board_of, work};
+ghost use Rattle.grid.specs.inside.Filling.{Awaits, BeginsRun, IsFilling, IsMarked, IsRoomFault, IsRunning, IsSized};
+ghost use Rattle.grid.specs.inside.Filling.{Seeds, board_of, work};
 
 use crate::cell::Cell;
 use crate::fault::LevelFault;
@@ -9,8 +11,8 @@ use crate::limits::MAX_SQUARES;
 use crate::square::Square;
 use std::alloc::{AllocError, Global};
 
-/// A mark for each square of the player's room: what four-way steps over squares that are no wall reach from the
-/// player, boxes ignored. The fault is that the room lies open, or a want of memory.
+/// A mark for each square of the player's room: the squares that the player reaches if boxes are ignored. Fails if the
+/// room is open, or if out of memory.
 pub(crate) fn room_of(
     alloc: Global,
     cols: usize,
@@ -29,8 +31,8 @@ pub(crate) fn room_of(
     Ok(room)
 }
 
-// Marks the squares of the room, where there is no mark yet, run by run: a run is what lies in one row between two walls.
-// What is pending are the first squares of runs, or squares in them, that are to be marked.
+// Marks the unmarked squares of the room run by run: a run is a part of one row between two walls. The pending squares
+// are the first squares of runs, or squares in them, that are to be marked.
 fn fill(
     alloc: Global,
     cols: usize,
@@ -54,7 +56,7 @@ fn fill(
     Ok(())
 }
 
-// Marks the run of a pending square, unless it has its marks.
+// Marks the run of a pending square, unless it is marked.
 fn fill_from(
     cols: usize,
     cells: &[Cell],
@@ -83,7 +85,7 @@ fn fill_from(
     fill_run(cols, cells, room, pending, first, start)
 }
 
-// The leftmost square that steps to the left over squares that are no wall reach in a row.
+// The leftmost square that steps to the left reach in a row.
 #[inline(always)]
 fn run_start(cols: usize, cells: &[Cell], first: usize, square: usize) -> usize
     requires columns { 1 ≤ cols }
@@ -102,8 +104,8 @@ fn run_start(cols: usize, cells: &[Cell], first: usize, square: usize) -> usize
     start
 }
 
-// Marks the squares of a run from the first on, and makes those above and below that have no mark pending: of several
-// in a row the first. Up to the first at the grid's edge.
+// Marks the squares of a run from the first on, and makes the unmarked squares above and below pending: of several in a
+// row the first. It ends at the first square at the grid's edge.
 #[inline(always)]
 fn fill_run(
     cols: usize,
@@ -136,8 +138,8 @@ fn fill_run(
     Ok(())
 }
 
-// Whether the square is no wall and has no mark. Where it is so and the square before it in its row was none such, it is
-// pending now.
+// Whether the square is no wall and has no mark. If so, and the square before it in its row was not such a square, it
+// becomes pending.
 #[inline(always)]
 fn seed(
     cols: usize,
@@ -150,7 +152,8 @@ fn seed(
     requires bound { length cells.now ≤ MAX_SQUARES }
     requires size { length room.now ≡ length cells.now }
     requires inside { place < length cells.now }
-    ensures { IfOk result (λ fresh. Seeds (board_of cols cells.now) room.now pending.old.items place before pending.new.items fresh) }
+    ensures { IfOk result
+        (λ fresh. Seeds (board_of cols cells.now) room.now pending.old.items place before pending.new.items fresh) }
 {
     let fresh = is_fresh(cols, cells, room, place);
     if fresh & !before {

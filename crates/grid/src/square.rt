@@ -1,7 +1,7 @@
 use crate::dir::Dir;
 use std::marker::Model;
 
-/// The number of a square: its row times the columns of the level, plus its column, both from 0.
+/// The number of a square: its row times the columns of the level, plus its column, both counted from 0.
 #[derive(Clone, Copy, PartialEq, Eq, PartialOrd, Ord, Hash, Default, Debug)]
 pub struct Square(pub u16);
 

@@ -10,18 +10,18 @@ use crate::square::Square;
 use std::alloc::{AllocError, Global};
 use std::marker::Model;
 
-/// What a step did.
+/// The result of a step.
 #[derive(Clone, Copy, PartialEq, Eq, Debug)]
 pub enum Step {
-    /// No step is possible in that direction; nothing changed.
+    /// No step is possible in that direction. Nothing changed.
     Blocked,
-    /// The player went one square on.
+    /// The player moved by one square.
     Walked,
-    /// The player went one square on and pushed a box.
+    /// The player moved by one square and pushed a box.
     Pushed,
 }
 
-/// A state of a level, with any number of boxes: where they stand, and the player's square.
+/// A state of a level: the squares of its boxes, in any number, and the player's square.
 #[derive(Debug, Drop)]
 pub struct State {
     boxes: Boxes,
@@ -37,7 +37,7 @@ impl Model for State {
 }
 
 impl State {
-    /// The state in which the level begins.
+    /// The state at the start of the level. Fails only if out of memory.
     pub fn start(alloc: Global, level: &Level) -> Result<State, AllocError>
         ensures start { IfOk result (λ s. s ≡ start level.now) }
         ensures scene { IfOk result (λ s. IsScene level.now s) }
@@ -49,7 +49,8 @@ impl State {
         })
     }
 
-    /// Goes one step in a direction, where the rules allow it.
+    /// Makes one step in a direction, if the rules allow it: the player moves to a free square, or pushes a box that
+    /// has a free square behind it. Takes no memory.
     pub fn step(&mut self, level: &Level, dir: Dir) -> Step
         requires { IsScene level.now self.old }
         ensures steps { Steps level.now self.old dir result self.new }
@@ -72,7 +73,7 @@ impl State {
         Step::Pushed
     }
 
-    /// Whether every box stands on a goal.
+    /// Whether every box is on a goal.
     pub fn is_solved(&self, level: &Level) -> bool
         requires { IsScene level.now self.now }
         ensures { IsTrue result ↔ IsSolved level.now self.now }
@@ -86,14 +87,14 @@ impl State {
         true
     }
 
-    /// Whether a box stands on the square.
+    /// Whether a box is on the square.
     pub fn has_box(&self, square: Square) -> bool
         ensures { result ≡ contains self.now.boxes square }
     {
         self.boxes.has(square)
     }
 
-    /// Sets the player down on a square that has neither wall nor box.
+    /// Moves the player to a square without wall or box.
     pub fn set_player(&mut self, level: &Level, square: Square)
         requires scene { IsScene level.now self.old }
         requires free { IsFree level.now self.old.boxes square }

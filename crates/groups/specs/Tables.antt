@@ -28,8 +28,8 @@ most_of t (suc n) boxes p = max (cond (is_within (t.boxes n) boxes) (t.excess n 
 abbrev pub excess_by : Listed → Scene → ℕ
 excess_by t s = most_of t t.count s.boxes s.player
 
--- a listed group passes a look: not all its boxes are on goals; no walk lessens its excess; and after a push of one of them some
--- listed group within them has so much that the push is paid, and an excess that was endless still is
+-- a listed group passes a look: not all its boxes are on goals; no walk lessens its excess; and after a push of one
+-- of them some listed group within them has so much that the push is paid, and an excess that was endless still is
 pub record Passes (board : Board) (far : ℕ → ℕ → ℕ → ℕ) (t : Listed) (i : ℕ) : Type 0 where
   pub rising : is_rising (t.boxes i) ≡ true
   pub home : (p : ℕ) → ¬ (IsSolved board (alone (t.boxes i) p))

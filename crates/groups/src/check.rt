@@ -1,4 +1,4 @@
-//! Whether a table of groups passes the look that makes its excess a lower bound: one step of the player at a time.
+//! The proved check that makes the excess of a table a lower bound: one step of the player at a time.
 ghost use Rattle.std.specs.Prelude.{◌≡◌, ◌<◌, ◌≤◌, ℕ, IsTrue, true, length, slice_index_or};
 ghost use Rattle.grid.specs.declared.dir.Dir.{Dir};
 ghost use Rattle.grid.specs.Board.{IsFree, is_goal};
@@ -11,7 +11,7 @@ use crate::table::{DEAD, ROWS, Table, is_among};
 use grid::{Dir, Level, Position, Square};
 use prices::{Distances, NEVER};
 
-/// Whether each listed group passes.
+/// Whether each listed group passes the check.
 pub(crate) fn is_sound(level: &Level, distances: &Distances, table: &Table) -> bool
     requires { level.now ≡ distances.now.level }
     ensures { IsTrue result → IsSound distances.now table.now }
@@ -22,7 +22,7 @@ pub(crate) fn is_sound(level: &Level, distances: &Distances, table: &Table) -> b
     wastes & pass
 }
 
-// Whether each push wastes as much as the table says.
+// Whether each push wastes at least what the table says.
 fn are_wastes(level: &Level, distances: &Distances, table: &Table) -> bool
     requires { level.now ≡ distances.now.level }
     ensures { IsTrue result → (q : ℕ) → q < length level.now.cells → (d : Dir)
@@ -41,7 +41,8 @@ fn are_wastes(level: &Level, distances: &Distances, table: &Table) -> bool
 fn are_wastes_of(level: &Level, distances: &Distances, table: &Table, square: Square) -> bool
     requires level { level.now ≡ distances.now.level }
     requires inside { square < length level.now.cells }
-    ensures { IsTrue result → (d : Dir) → IsWaste level.now (far_in distances.now.table) square d (waste_in table.now square d) }
+    ensures { IsTrue result → (d : Dir) →
+        IsWaste level.now (far_in distances.now.table) square d (waste_in table.now square d) }
 {
     let down = is_waste(level, distances, table, square, Dir::D);
     let left = is_waste(level, distances, table, square, Dir::L);
@@ -54,7 +55,8 @@ fn are_wastes_of(level: &Level, distances: &Distances, table: &Table, square: Sq
 fn is_waste(level: &Level, distances: &Distances, table: &Table, square: Square, dir: Dir) -> bool
     requires level { level.now ≡ distances.now.level }
     requires inside { square < length level.now.cells }
-    ensures { IsTrue result → IsWaste level.now (far_in distances.now.table) square dir (waste_in table.now square dir) }
+    ensures { IsTrue result →
+        IsWaste level.now (far_in distances.now.table) square dir (waste_in table.now square dir) }
 {
     distances.tell();
     if level.is_wall(square) {
@@ -73,7 +75,7 @@ fn is_waste(level: &Level, distances: &Distances, table: &Table, square: Square,
     )
 }
 
-// Whether each of the first numbers that is less than `NEVER` is, with what is wasted, greater than the other by at most one.
+// Whether each of the first numbers below `NEVER`, plus the waste, is at most one more than the other.
 fn are_within(numbers: &[u32], others: &[u32], count: usize, waste: u8) -> bool
     ensures { IsTrue result → AreWithin numbers.now others.now count waste }
 {
@@ -87,7 +89,7 @@ fn are_within(numbers: &[u32], others: &[u32], count: usize, waste: u8) -> bool
     true
 }
 
-// The number at a place; 0 where there is none.
+// The number at an index; 0 if there is none.
 fn number_at(numbers: &[u32], at: usize) -> u32
     ensures { result ≡ slice_index_or numbers.now at 0 }
 {
@@ -99,7 +101,8 @@ fn number_at(numbers: &[u32], at: usize) -> u32
 
 // Whether each listed group passes, if pushes waste what the table says.
 fn all_pass(level: &Level, table: &Table) -> bool
-    ensures { IsTrue result → (i : ℕ) → i < length table.now.entries.items → GroupPasses level.now (listed_in table.now) (waste_in table.now) i }
+    ensures { IsTrue result → (i : ℕ) → i < length table.now.entries.items →
+        GroupPasses level.now (listed_in table.now) (waste_in table.now) i }
 {
     for group in 0..table.count() {
         if !passes(level, table, group) {
@@ -134,9 +137,10 @@ fn are_on_goals(level: &Level, squares: &[Square]) -> bool
     true
 }
 
-// Whether no walk lessens the excess in the row, boxes being on the squares.
+// Whether no walk around boxes on the squares lessens the excess in the row.
 fn walks_keep(level: &Level, table: &Table, row: u32, boxes: &[Square]) -> bool
-    ensures { IsTrue result → (p : ℕ) → p < length level.now.cells → WalksKeep level.now boxes.now (row_excess table.now row) p }
+    ensures { IsTrue result → (p : ℕ) → p < length level.now.cells →
+        WalksKeep level.now boxes.now (row_excess table.now row) p }
 {
     if row < ROWS {
         return true;
@@ -166,14 +170,14 @@ fn walks_keep_from(level: &Level, table: &Table, row: u32, boxes: &[Square], pla
     down & left & right & up
 }
 
-// Whether so much excess is no more than what the row says where the player comes to a square, if it can.
+// Whether the row has at least this excess on a square, if the player can be there.
 fn is_kept(level: &Level, table: &Table, row: u32, boxes: &[Square], excess: u8, to: Square) -> bool
     ensures { IsTrue result → IsFree level.now boxes.now to → excess ≤ row_excess table.now row to }
 {
     level.is_wall(to) || is_among(boxes, to) || excess <= table.row_excess(row, to)
 }
 
-// Whether each push of a box of the group leaves enough.
+// Whether each push of a box of the group leaves enough excess.
 fn pushes_pay(level: &Level, table: &Table, group: usize, position: &Position) -> bool
     ensures { IsTrue result → (q : ℕ) → contains position.now.boxes q ≡ true → (d : Dir)
         → PushPays level.now (listed_in table.now) (waste_in table.now) group position.now.boxes q d }
@@ -195,7 +199,8 @@ fn pushes_pay_of(
     square: Square,
 ) -> bool
     requires { contains position.now.boxes square ≡ true }
-    ensures { IsTrue result → (d : Dir) → PushPays level.now (listed_in table.now) (waste_in table.now) group position.now.boxes square d }
+    ensures { IsTrue result → (d : Dir) →
+        PushPays level.now (listed_in table.now) (waste_in table.now) group position.now.boxes square d }
 {
     if level.is_wall(square) {
         return false;
@@ -218,7 +223,8 @@ fn push_pays(
 ) -> bool
     requires there { contains position.now.boxes square ≡ true }
     requires inside { square < length level.now.cells }
-    ensures { IsTrue result → PushPays level.now (listed_in table.now) (waste_in table.now) group position.now.boxes square dir }
+    ensures { IsTrue result →
+        PushPays level.now (listed_in table.now) (waste_in table.now) group position.now.boxes square dir }
 {
     let player = level.next(square, dir.opposite());
     if level.is_wall(player) || position.contains(player) {
@@ -234,7 +240,7 @@ fn push_pays(
     table.holds(after.boxes(), square, wanted)
 }
 
-// How much has to be left after a push that wastes so much.
+// The excess that must be left after a push with this waste.
 fn wanted(before: u8, waste: u8) -> u8
     ensures { (after : ℕ) → result ≤ after → IsLeft before waste after }
 {

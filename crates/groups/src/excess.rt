@@ -15,8 +15,8 @@ use prices::{Distances, Matching};
 use std::alloc::{AllocError, Global};
 use std::marker::Model;
 
-/// The distances of a level, and how many pushes groups of boxes need above what each box needs by itself. Contracts see the
-/// level.
+/// The distances of a level, and the pushes that groups of boxes need above what each box needs alone. Contracts see
+/// the level.
 #[derive(Debug, Drop)]
 pub struct Groups {
     distances: Distances,
@@ -36,8 +36,8 @@ impl Model for Groups {
 }
 
 impl Groups {
-    /// The groups of a level with at most [`MAX_BOXES`] boxes before their tables are made: they say what the prices say. The
-    /// only error is that memory was refused.
+    /// The groups of a level with at most [`MAX_BOXES`] boxes, without tables: the bounds are those of [`Distances`].
+    /// Fails only if out of memory.
     pub fn of_prices(alloc: Global, level: &Level) -> Result<Groups, AllocError>
         requires { box_count level.now ≤ MAX_BOXES }
         ensures { IfOk result (λ groups. groups ≡ level.now) }
@@ -49,8 +49,8 @@ impl Groups {
         })
     }
 
-    /// Makes the tables of groups of up to `most` boxes anew, if they would not be too large. The only error is that memory was
-    /// refused, and it leaves the groups as they were.
+    /// Makes the tables of groups of at most `most` boxes, 2 to 5. A size whose table would be too large is left out.
+    /// Takes up to a second or two. Fails only if out of memory, and then leaves the groups unchanged.
     pub fn make_tables(
         &mut self,
         alloc: Global,
@@ -71,8 +71,8 @@ impl Groups {
         &self.distances
     }
 
-    /// How many pushes the boxes need at least: no play from the position with fewer ends solved. Takes no memory. The
-    /// matching may be one of any other position; one of a position that differs by a push or two takes least time.
+    /// A lower bound on the pushes that the boxes need: no play from the position with fewer ends solved. Takes no
+    /// memory. The matching may be that of any position; one of a position that differs by a push or two is fastest.
     pub fn lower(&self, position: &Position, matching: &mut Matching) -> u64
         requires { IsScene self.now position.now }
         ensures { (m : ℕ) → m < result → NoneWithin self.now m position.now }
@@ -84,8 +84,8 @@ impl Groups {
         }
     }
 
-    /// Whether some group of the boxes is listed that can never be brought to goals: then no play from the position ends
-    /// solved. Takes no memory.
+    /// Whether the table lists some of the boxes as a group that can never come to goals: then no play from the
+    /// position ends solved. `false` says nothing. Takes no memory.
     pub fn is_dead(&self, position: &Position) -> bool
         requires { IsScene self.now position.now }
         ensures { IsTrue result → IsLost self.now position.now }
@@ -100,7 +100,7 @@ impl Groups {
     }
 }
 
-// How much the boxes of a position need above what each needs by itself.
+// The pushes that the boxes of a position need above what each needs alone.
 fn above(distances: &Distances, table: &Table, position: &Position) -> u64
     requires sound { IsSound distances.now table.now }
     requires scene { IsScene distances.now.level position.now }
@@ -114,7 +114,7 @@ fn above(distances: &Distances, table: &Table, position: &Position) -> u64
     above_by(distances, table, position, &picks.list)
 }
 
-// How much by picked groups.
+// The same, by picked groups.
 fn above_by(distances: &Distances, table: &Table, position: &Position, picks: &[u32]) -> u64
     requires sound { IsSound distances.now table.now }
     requires scene { IsScene distances.now.level position.now }
@@ -126,7 +126,7 @@ fn above_by(distances: &Distances, table: &Table, position: &Position, picks: &[
     table.above(position.boxes(), position.player(), picks)
 }
 
-// Whether a group is within the boxes and can never be brought to goals.
+// Whether a group is among the boxes and can never come to goals.
 fn is_dead_by(distances: &Distances, table: &Table, position: &Position, group: u32) -> bool
     requires sound { IsSound distances.now table.now }
     requires scene { IsScene distances.now.level position.now }

@@ -1,4 +1,4 @@
-//! The excess of all groups of so many boxes, found by pulls from the groups on goals. Nothing is promised of it: it is checked.
+//! The excess of all groups of one size, found by pulls from the groups on goals. It has no contract: it is checked.
 ghost use Rattle.std.specs.Prelude.{◌<◌};
 
 use crate::ground::{Ground, NONE, ground_at, ground_of, short};
@@ -8,19 +8,19 @@ use grid::{Dir, Level, Square};
 use prices::Distances;
 use std::alloc::{AllocError, Global};
 
-/// How many boxes a group has at most.
+/// The greatest number of boxes of a group.
 pub(crate) const LARGEST: usize = 5;
 
-/// How many bytes the excess of groups of one size takes at most while it is found. To find so many takes a second or two.
+/// The greatest number of bytes for the excess of all groups of one size. To find that many takes a second or two.
 const MOST: usize = 20_000_000;
 
-/// The excess that is not known yet, and that of groups that can't all be brought to goals.
+/// The excess that is not known yet, and that of groups that can never come to goals.
 const UNKNOWN: u8 = u8::MAX;
 
-/// No entry of the queue.
+/// The end of a list of the queue.
 const END: u32 = u32::MAX;
 
-/// Boxes by their places, which rise. As many count as groups have now.
+/// Boxes by their places, in rising order. Only the first ones count, as many as the size of the groups.
 pub(crate) type Group = [u16; LARGEST];
 
 /// The first group.
@@ -34,8 +34,8 @@ struct Entry {
     next: u32,
 }
 
-/// The excess of groups that was found so far, by their numbers and the player's squares, that of groups of one box fewer, and
-/// what is to be looked at: lists by excess.
+/// The excess that was found, by the numbers of groups and the player's squares; the excess of groups of one box fewer;
+/// and a queue: one list for each excess.
 #[derive(Debug, Drop)]
 pub(crate) struct Filling {
     pub(crate) ground: Vec<Ground>,
@@ -49,7 +49,8 @@ pub(crate) struct Filling {
     stack: Vec<u16>,
 }
 
-/// The table of a level for groups of up to so many boxes, not yet checked; none where that of two boxes would be too large.
+/// The table of a level for groups of at most `most` boxes, before the check. `None` if that of two boxes would be too
+/// large.
 pub(crate) fn table_of(
     alloc: Global,
     level: &Level,
@@ -90,7 +91,7 @@ fn begun(alloc: Global, level: &Level, distances: &Distances) -> Result<Filling,
     })
 }
 
-// Where the squares with places stand, by their places.
+// The squares that have places, by their places.
 fn spots_of(alloc: Global, ground: &[Ground]) -> Result<Vec<u16>, AllocError> {
     let mut count = 0_usize;
     for it in ground {
@@ -107,7 +108,7 @@ fn spots_of(alloc: Global, ground: &[Ground]) -> Result<Vec<u16>, AllocError> {
     Ok(spots)
 }
 
-// For each place and each number of boxes up to the largest, how many groups of so many boxes have lesser places only.
+// For each place and each size, the number of groups of that size with lesser places only.
 fn ways_of(alloc: Global, places: usize) -> Result<Vec<u32>, AllocError> {
     let mut ways = vec![in alloc; 0; LARGEST]?;
     let mut row = [0_u32; LARGEST];
@@ -125,7 +126,7 @@ fn ways_of(alloc: Global, places: usize) -> Result<Vec<u32>, AllocError> {
     Ok(ways)
 }
 
-/// Goes on to the next group of so many boxes.
+/// Goes on to the next group of a size.
 pub(crate) fn advance(group: &mut Group, size: usize) {
     let count = size.min(LARGEST);
     for index in 0..count {
@@ -168,7 +169,7 @@ fn sort_two(group: &mut Group, at: usize)
     group[at] = low.max(high);
 }
 
-/// Sets the byte at a place, if there is one.
+/// Sets the byte at an index, if there is one.
 pub(crate) fn set_byte(bytes: &mut [u8], at: usize, value: u8) {
     if let Some(byte) = bytes.get_mut(at) {
         *byte = value;
@@ -176,22 +177,22 @@ pub(crate) fn set_byte(bytes: &mut [u8], at: usize, value: u8) {
 }
 
 impl Filling {
-    // Whether the excess of groups of so many boxes takes little enough room.
+    // Whether the excess of the groups of a size fits into [`MOST`] bytes.
     fn is_small(&self, size: usize) -> bool {
         self.count(size).saturating_mul(self.ground.len()) <= MOST
     }
 
-    // How many groups of so many boxes there are.
+    // The number of groups of a size.
     fn count(&self, size: usize) -> usize {
         self.ways_below(short(self.spots.len()), size)
     }
 
-    /// How many groups there are.
+    /// The number of groups of the present size.
     pub(crate) fn groups(&self) -> usize {
         self.count(self.size)
     }
 
-    // How many groups of so many boxes have only lesser places than this.
+    // The number of groups of a size with only lesser places than this.
     #[inline(always)]
     fn ways_below(&self, place: u16, size: usize) -> usize {
         let at = (place as usize * LARGEST).saturating_add(size);
@@ -201,7 +202,7 @@ impl Filling {
         }
     }
 
-    /// Where the excess of a group of so many boxes begins.
+    /// The index at which the excess of a group begins.
     #[inline(always)]
     pub(crate) fn start(&self, group: &Group, size: usize) -> usize {
         let mut number = 0_usize;
@@ -211,7 +212,7 @@ impl Filling {
         number.saturating_mul(self.ground.len())
     }
 
-    /// Where the box at a place stands.
+    /// The square of a place.
     #[inline(always)]
     pub(crate) fn spot(&self, place: u16) -> u16 {
         match self.spots.get(place as usize) {
@@ -220,7 +221,7 @@ impl Filling {
         }
     }
 
-    // Finds the excess of all groups of so many boxes.
+    // Finds the excess of all groups of a size.
     fn fill(&mut self, alloc: Global, level: &Level, size: usize) -> Result<(), AllocError> {
         let len = self.count(size).saturating_mul(self.ground.len());
         let excess = vec![in alloc; UNKNOWN; len]?;
@@ -242,7 +243,7 @@ impl Filling {
         Ok(())
     }
 
-    // Nor has any group where a box stands, so that no walk goes there.
+    // Squares with a box get excess 0 as well, so that no walk goes there.
     fn begin_with(
         &mut self,
         level: &Level,
@@ -268,7 +269,7 @@ impl Filling {
         Ok(())
     }
 
-    // Notes an excess to be looked at, unless it is known.
+    // Appends an excess to the queue, unless it is known.
     fn note(
         &mut self,
         group: &Group,
@@ -297,7 +298,7 @@ impl Filling {
         Ok(())
     }
 
-    // Looks at all, by rising excess.
+    // Empties the queue, by rising excess.
     fn spread_all(&mut self) -> Result<(), AllocError> {
         for excess in 0..255 {
             self.spread(excess)?;
@@ -305,7 +306,7 @@ impl Filling {
         Ok(())
     }
 
-    // Looks at all that has this excess.
+    // Empties the list of one excess.
     fn spread(&mut self, excess: u8) -> Result<(), AllocError> {
         for _ in 0..u32::MAX {
             let head = self.heads[excess as usize] as usize;
@@ -323,7 +324,7 @@ impl Filling {
         Ok(())
     }
 
-    // Marks what has this excess, and notes what is a pull away.
+    // Marks the player's area with this excess, and appends what is one pull away.
     fn look_at(&mut self, group: &Group, player: u16, excess: u8) -> Result<(), AllocError> {
         let start = self.start(group, self.size);
         let at = start.saturating_add(player as usize);
@@ -367,7 +368,7 @@ impl Filling {
         Ok(())
     }
 
-    // Pulls a box on, if the player has room there and behind, and can be there.
+    // Pulls a box by one square, if the player has two free squares there and can be there.
     fn pull(
         &mut self,
         group: &Group,
@@ -398,7 +399,7 @@ impl Filling {
         self.note(&pulled, to, player, excess as usize + waste as usize)
     }
 
-    // Whether a box of the group stands there.
+    // Whether a box of the group is there.
     #[inline(always)]
     fn is_taken(&self, group: &Group, at: u16) -> bool {
         let mut found = false;

@@ -1,4 +1,4 @@
-//! The squares of the player's room in one stretch, and what a push costs there. Nothing is promised of it.
+//! The squares of the player's room as one list, and what a push costs there. It has no contract.
 
 use grid::{Dir, Level, Square};
 use prices::{Distances, NEVER};
@@ -7,8 +7,9 @@ use std::alloc::{AllocError, Global};
 /// No place.
 pub(crate) const NONE: u16 = u16::MAX;
 
-/// A square of the room: its number, those beside it by their places in the list, its place among the squares from which a box
-/// can be brought to a goal as they rise, and how many pushes the push wastes that a pull from it in each direction undoes.
+/// A square of the room: its number, its neighbours by their indexes in the list, its place among the squares from
+/// which a box can come to a goal, in rising order, and for each direction the waste of the push that a pull from it
+/// undoes.
 #[derive(Clone, Copy, Debug)]
 pub(crate) struct Ground {
     pub(crate) square: u16,
@@ -17,7 +18,7 @@ pub(crate) struct Ground {
     pub(crate) waste: [u8; 4],
 }
 
-/// The squares that a player who pushes no box comes to from the start, in turn.
+/// The squares that the player reaches from the start if boxes are ignored.
 pub(crate) fn ground_of(
     alloc: Global,
     level: &Level,
@@ -31,13 +32,13 @@ pub(crate) fn ground_of(
     Ok(ground)
 }
 
-/// A place as it is kept; none where it is too great.
+/// An index as 16 bits; none if it is too great.
 #[inline(always)]
 pub(crate) fn short(at: usize) -> u16 {
     u16::try_from(at).unwrap_or(NONE)
 }
 
-/// What is at a place; a square with nothing beside it where there is none.
+/// The entry at an index; a square without neighbours if there is none.
 #[inline(always)]
 pub(crate) fn ground_at(ground: &[Ground], at: u16) -> Ground {
     match ground.get(at as usize) {
@@ -51,7 +52,7 @@ pub(crate) fn ground_at(ground: &[Ground], at: u16) -> Ground {
     }
 }
 
-// The squares, each with those beside it.
+// The squares, each with its neighbours.
 fn gathered(alloc: Global, level: &Level, numbers: &mut [u16]) -> Result<Vec<Ground>, AllocError> {
     let mut ground = Vec::new(alloc);
     enter(&mut ground, numbers, level.player())?;
@@ -64,7 +65,7 @@ fn gathered(alloc: Global, level: &Level, numbers: &mut [u16]) -> Result<Vec<Gro
     Ok(ground)
 }
 
-// Appends the squares beside the one at a place.
+// Appends the neighbours of a square.
 fn visit(
     level: &Level,
     ground: &mut Vec<Ground>,
@@ -100,7 +101,7 @@ fn number_of(numbers: &[u16], square: Square) -> u16 {
     }
 }
 
-// Appends a square that was not met.
+// Appends a square that is new.
 fn enter(ground: &mut Vec<Ground>, numbers: &mut [u16], square: Square) -> Result<(), AllocError> {
     if number_of(numbers, square) != NONE {
         return Ok(());
@@ -117,7 +118,7 @@ fn enter(ground: &mut Vec<Ground>, numbers: &mut [u16], square: Square) -> Resul
     Ok(())
 }
 
-// Numbers the squares from which a box can be brought to a goal, as the squares rise.
+// Numbers the squares from which a box can come to a goal, in rising order.
 fn give_places(distances: &Distances, numbers: &[u16], ground: &mut [Ground]) {
     let mut place = 0_u16;
     for number in numbers {
@@ -130,7 +131,7 @@ fn give_places(distances: &Distances, numbers: &[u16], ground: &mut [Ground]) {
     }
 }
 
-// Whether a box on the square can be brought to a goal, the player being beside it.
+// Whether a box on the square can come to a goal, with the player on some neighbour.
 fn is_live(distances: &Distances, ground: &[Ground], at: u16) -> bool {
     let it = ground_at(ground, at);
     for beside in it.beside {
@@ -141,7 +142,7 @@ fn is_live(distances: &Distances, ground: &[Ground], at: u16) -> bool {
     false
 }
 
-/// Whether a box that is alone can be brought to a goal, the player being at another place.
+/// Whether a lone box can come to a goal, with the player on another square.
 pub(crate) fn is_hopeful(distances: &Distances, ground: &[Ground], at: u16, player: u16) -> bool {
     let square = ground_at(ground, at).square;
     let other = ground_at(ground, player).square;
@@ -158,7 +159,7 @@ fn is_near(row: &[u32]) -> bool {
     false
 }
 
-// Says of each square what the pushes waste that pulls from it undo.
+// Sets, for each square, the waste of the pushes that pulls from it undo.
 fn give_wastes(distances: &Distances, ground: &mut [Ground]) {
     for at in 0..ground.len() {
         let waste = [
@@ -171,7 +172,7 @@ fn give_wastes(distances: &Distances, ground: &mut [Ground]) {
     }
 }
 
-// How many pushes the push wastes that a pull from the square in the direction undoes.
+// The waste of the push that a pull from the square in the direction undoes.
 fn waste_of(distances: &Distances, ground: &[Ground], at: u16, dir: Dir) -> u8 {
     let to = ground_at(ground, at);
     let from = ground_at(ground, to.beside[dir as usize]);
@@ -182,8 +183,8 @@ fn waste_of(distances: &Distances, ground: &[Ground], at: u16, dir: Dir) -> u8 {
     )
 }
 
-// How many pushes a push wastes from one row of distances to another: one that comes nearer to some goal wastes none. Goals
-// that the box can't come to any more don't count.
+// The waste of a push, given the distances before and after: a push that comes nearer to some goal wastes none. Goals
+// that the box cannot come to do not count.
 fn wasted(before: &[u32], after: &[u32]) -> u8 {
     let mut least = u32::from(u8::MAX);
     for (place, far) in before.iter().enumerate() {

@@ -1,10 +1,16 @@
-//! Lower bounds on pushes by groups: how many pushes some boxes need together above what each needs by itself, whatever the
-//! goals. Boxes that stand in each other's way need some, and boxes that lock each other can never be brought to goals.
+//! Lower bounds on pushes by groups of two to five boxes: the pushes that some boxes need together above what each
+//! needs alone, whatever their goals. Boxes in each other's way need some, and boxes that lock each other can never
+//! come to goals.
 //!
-//! Where no box is counted twice, what groups need so comes on top of what all boxes need by the prices. A table lists groups
-//! with their excess. It may come from anywhere, since each listed group is looked at once, one step at a time.
+//! The excess of groups that share no box adds to the bound of the matching (`prices`). A table lists groups with their
+//! excess. A proved check looks at each listed group once, one step at a time, so it does not matter how the table was
+//! filled.
 //!
-//! With the `level` of a room of five rows of five squares, in the third row the player, two boxes side by side and two goals:
+//! Use [`Groups::of_prices`] for the bound of the matching, and [`Groups::make_tables`] once a search has become long:
+//! tables take up to a second or two. A bound takes no memory.
+//!
+//! With the `level` of a room of five rows of five squares, in the third row the player, two boxes side by side and two
+//! goals:
 //!
 //! ```text
 //! let start = Position::start(&level).expect(&rt, "few boxes");

@@ -1,4 +1,5 @@
-//! Lists groups in a table: those with more excess than the groups within them. Nothing is promised of it: the table is checked.
+//! Lists groups in a table: those with more excess than the groups within them. It has no contract: the table is
+//! checked.
 
 use crate::filling::{FIRST, Filling, Group, LARGEST, advance, set_byte};
 use crate::ground::{Ground, NONE, ground_at, short};
@@ -33,7 +34,7 @@ pub(crate) fn empty_table(
     Ok(table)
 }
 
-// Notes what the pushes of a box to the square waste.
+// Enters the waste of the pushes of a box to the square.
 fn note_wastes(table: &mut Table, ground: &[Ground], to: Ground) {
     for dir in Dir::ALL {
         let from = ground_at(ground, to.beside[dir as usize]);
@@ -46,7 +47,7 @@ fn note_wastes(table: &mut Table, ground: &[Ground], to: Ground) {
     }
 }
 
-/// Lists the squares from which a box can't be brought to a goal.
+/// Lists the squares from which a box cannot come to a goal.
 pub(crate) fn list_dead_squares(table: &mut Table, ground: &[Ground]) -> Result<(), AllocError> {
     for it in ground {
         if it.place == NONE {
@@ -57,7 +58,7 @@ pub(crate) fn list_dead_squares(table: &mut Table, ground: &[Ground]) -> Result<
     Ok(())
 }
 
-/// Lists the groups that were filled last and have more excess than those within them.
+/// Lists the groups of the present size that have more excess than those within them.
 pub(crate) fn list_groups(
     alloc: Global,
     table: &mut Table,
@@ -84,7 +85,7 @@ pub(crate) fn list_groups(
     Ok(())
 }
 
-// Whether the group has more excess somewhere than each group of one box fewer within it.
+// Whether the group has, for some square of the player, more excess than each group of one box fewer within it.
 fn has_more(filling: &Filling, group: &Group, start: usize) -> bool {
     let mut starts = [0; LARGEST];
     for index in 0..LARGEST {
@@ -99,7 +100,7 @@ fn has_more(filling: &Filling, group: &Group, start: usize) -> bool {
     false
 }
 
-// The greatest excess that groups of one box fewer have.
+// The greatest excess of the groups of one box fewer.
 fn most_within(filling: &Filling, starts: &[usize; LARGEST], player: usize) -> u8 {
     let mut most = 0;
     for index in 0..filling.size.min(LARGEST) {
@@ -118,7 +119,7 @@ fn without(group: &Group, index: usize) -> Group {
     rest
 }
 
-// Copies the excess of a group, and the greatest of it for the squares where nobody walks.
+// Copies the excess of a group, and its greatest excess for the squares where the player cannot be.
 fn copy_row(filling: &Filling, group: &Group, start: usize, bytes: &mut [u8]) {
     let mut most = 0;
     for player in 0..filling.ground.len() {
@@ -150,7 +151,7 @@ impl Table {
         Ok(row)
     }
 
-    // Lists a group of the last squares.
+    // Lists the group of the last squares.
     fn list(&mut self, count: usize, row: u32) -> Result<(), AllocError> {
         let first = self.squares.len().saturating_sub(count);
         self.entries.push(Entry {

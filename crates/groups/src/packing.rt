@@ -1,4 +1,4 @@
-//! Which groups of a position are counted together, and how listed groups are found. Nothing is promised of it.
+//! The choice of groups of a position that are counted together, and the index of listed groups. It has no contract.
 
 use crate::table::{DEAD, Table};
 use grid::{MAX_BOXES, Square};
@@ -10,20 +10,21 @@ pub(crate) const NO_GROUP: u32 = u32::MAX;
 /// No node.
 const NO_NODE: u32 = u32::MAX;
 
-/// How many groups are weighed.
+/// The greatest number of groups that are weighed.
 const MOST: usize = 128;
 
-/// More than the boxes of a group.
+/// More than the greatest number of boxes of a group.
 const DEEP: usize = 8;
 
-/// Some boxes with which listed groups begin: the group of just these boxes, if it is listed, and whether more begin so.
+/// A node of the index: the first boxes of listed groups. It has the group of just these boxes, if it is listed, and
+/// whether more groups begin so.
 #[derive(Clone, Copy, Debug)]
 struct Node {
     group: u32,
     is_inner: bool,
 }
 
-/// A node with one box more than another.
+/// A link to a node with one more box.
 #[derive(Clone, Copy, Debug)]
 struct Slot {
     parent: u32,
@@ -31,7 +32,7 @@ struct Slot {
     child: u32,
 }
 
-/// Listed groups by their boxes, in a tree whose nodes are found by a hash.
+/// The listed groups by their boxes: a tree whose links are in a hash table.
 #[derive(Debug, Drop)]
 pub(crate) struct Index {
     nodes: Vec<Node>,
@@ -47,7 +48,7 @@ impl Index {
         }
     }
 
-    // Where a node with one box more is looked for first.
+    // The first slot of a link.
     #[inline(always)]
     fn home(&self, parent: u32, square: u16) -> usize {
         let key = u64::from(parent) << 16 | u64::from(square);
@@ -55,7 +56,7 @@ impl Index {
         (hash.wrapping_mul(self.slots.len() as u64) >> 32) as usize
     }
 
-    // The place of the node with one box more, or where it can be put.
+    // The slot of a link, or a free one for it.
     #[inline(always)]
     fn slot(&self, parent: u32, square: u16) -> usize {
         let len = self.slots.len();
@@ -85,13 +86,13 @@ impl Index {
         }
     }
 
-    // The node with one box more.
+    // The node with one more box.
     #[inline(always)]
     fn child(&self, parent: u32, square: Square) -> u32 {
         self.slot_at(self.slot(parent, square.0)).child
     }
 
-    // The node with one box more, which is made if there is none.
+    // The node with one more box. Makes it if there is none.
     fn make_child(&mut self, parent: u32, square: u16) -> Result<u32, AllocError> {
         let at = self.slot(parent, square);
         let found = self.slot_at(at).child;
@@ -128,7 +129,7 @@ impl Index {
     }
 }
 
-/// Boxes of a position with which listed groups begin, and which of the boxes is tried next.
+/// Boxes of a position that begin listed groups, and the next box to try.
 #[derive(Clone, Copy, Debug)]
 struct Step {
     node: u32,
@@ -145,7 +146,7 @@ struct Walk {
 }
 
 impl Walk {
-    // Before the first group.
+    // Begins before the first group.
     fn new() -> Walk {
         Walk {
             steps: [Step {
@@ -158,7 +159,7 @@ impl Walk {
         }
     }
 
-    // The next group, whose boxes are then in the mask.
+    // The next group. The mask then has its boxes.
     fn next(&mut self, index: &Index, boxes: &[Square]) -> u32 {
         for _ in 0..u32::MAX {
             let depth = self.depth % DEEP;
@@ -191,7 +192,7 @@ impl Walk {
     }
 }
 
-// The first box from a place on with which listed groups go on.
+// The first box from an index on with which listed groups go on.
 #[inline(always)]
 fn first_child(index: &Index, node: u32, boxes: &[Square], from: usize) -> usize {
     for at in from..boxes.len() {
@@ -202,14 +203,14 @@ fn first_child(index: &Index, node: u32, boxes: &[Square], from: usize) -> usize
     boxes.len()
 }
 
-/// Groups that are counted together, up to the first number of no group, and a dead one.
+/// Groups that are counted together, up to the first [`NO_GROUP`], and a dead one.
 #[derive(Drop)]
 pub(crate) struct Picks {
     pub(crate) list: [u32; MAX_BOXES / 2],
     pub(crate) dead: u32,
 }
 
-/// A group with an excess: its boxes by their places in a position, and what it adds for each of them.
+/// A group with an excess: its boxes by their indexes in a position, and what it adds for each of them.
 #[derive(Clone, Copy, Debug)]
 struct Candidate {
     mask: u64,
@@ -266,7 +267,7 @@ impl Table {
         Ok(())
     }
 
-    /// A listed group within a few boxes that has so much excess; no group where none is found.
+    /// A listed group among a few boxes with at least this excess; no group if none is found.
     pub(crate) fn find_within(&self, boxes: &[Square], player: Square, wanted: u8) -> usize {
         let mut walk = Walk::new();
         for _ in 0..u32::MAX {
@@ -278,7 +279,7 @@ impl Table {
         NO_GROUP as usize
     }
 
-    /// Groups of the boxes of which no two share one, those that add most for each box first, and a dead group.
+    /// Groups of the boxes that share no box, those that add most for each box first, and a dead group.
     pub(crate) fn picks(&self, boxes: &[Square], player: Square) -> Picks {
         let mut found = Candidates {
             list: [NONE; MOST],
@@ -304,7 +305,7 @@ impl Table {
 }
 
 impl Candidates {
-    // Adds a group with an excess, if there is room.
+    // Appends a group with an excess, if the list is not full.
     fn add(&mut self, group: u32, mask: u64, excess: u8, count: usize) {
         if excess == 0 || self.count >= MOST {
             return;
@@ -318,7 +319,7 @@ impl Candidates {
         self.count += 1;
     }
 
-    // Picks by falling weight.
+    // Picks groups by falling weight.
     fn choose(&self) -> Picks {
         let mut used = 0;
         let mut picks = Picks {
@@ -336,7 +337,7 @@ impl Candidates {
         picks
     }
 
-    // The heaviest of which no box is used.
+    // The heaviest group without a used box.
     fn heaviest(&self, used: u64) -> Candidate {
         let mut best = NONE;
         for place in 0..self.count.min(MOST) {

@@ -1,4 +1,4 @@
-//! What groups of a position need that are counted together.
+//! The excess of groups of a position that are counted together.
 ghost use Rattle.std.specs.Prelude.{◌≡◌, ◌≤◌, ◌<◌, ◌*◌, IsTrue, length};
 ghost use Rattle.groups.specs.Groups.{IsApart};
 ghost use Rattle.groups.specs.inside.Picks.{Fits, IsExcessOf, boxes_of, is_apart, taken};
@@ -24,7 +24,7 @@ impl Table {
         sum
     }
 
-    // Whether the group is listed, lies within the boxes and shares none with the first picks.
+    // Whether the group is listed, is among the boxes, and shares none with the first picks.
     fn fits(&self, boxes: &[Square], picks: &[u32], group: usize, place: usize) -> bool
         requires { place < length picks.now }
         ensures { IsTrue result → Fits (listed_in self.now) boxes.now group (taken picks.now place) }
@@ -38,7 +38,8 @@ impl Table {
     // Whether the group shares no box with the first picks.
     fn is_apart(&self, picks: &[u32], group: usize, place: usize) -> bool
         requires { place < length picks.now }
-        ensures { IsTrue result → IsApart (boxes_in self.now group) (boxes_of (listed_in self.now) (taken picks.now place)) }
+        ensures { IsTrue result →
+            IsApart (boxes_in self.now group) (boxes_of (listed_in self.now) (taken picks.now place)) }
     {
         for earlier in 0..place {
             if !is_apart(self.boxes(group), self.boxes(picks[earlier] as usize)) {

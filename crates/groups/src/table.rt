@@ -8,13 +8,14 @@ ghost use Rattle.groups.specs.inside.Tables.{boxes_in, entry_of, excess_in, list
 use crate::packing::Index;
 use grid::{Dir, Square};
 
-/// The excess of boxes that can never all be brought to goals.
+/// The excess of boxes that can never all come to goals.
 pub(crate) const DEAD: u8 = u8::MAX;
 
-/// Rows of lesser numbers say one excess, wherever the player is.
+/// A row with a lesser number has this number as its excess, wherever the player is.
 pub(crate) const ROWS: u32 = 256;
 
-/// A listed group: its squares, which rise, stand from `first` on, so many as `count`, and its excess in the row of a number.
+/// A listed group: its squares, in rising order, are `count` squares from index `first` on, and its excess is in the
+/// row with the number `row`.
 #[derive(Clone, Copy, Debug)]
 pub(crate) struct Entry {
     pub(crate) first: u32,
@@ -22,10 +23,10 @@ pub(crate) struct Entry {
     pub(crate) row: u32,
 }
 
-/// Listed groups. A row whose number is less than [`ROWS`] says this number; any other says what stands from its number on,
-/// for each place of the player. Groups may have the same row.
+/// Listed groups. A row with a number below [`ROWS`] has this number as its excess; any other row begins at its
+/// number in `rows`, with a byte for each place of the player. Groups may share a row.
 ///
-/// A push of a box on a square in a direction wastes a number of pushes at least, whichever goal the box is for.
+/// The waste of a push of a box on a square in a direction is the same for all goals, or less.
 #[derive(Debug, Drop)]
 pub(crate) struct Table {
     /// The place of each square in a row.
@@ -40,7 +41,7 @@ pub(crate) struct Table {
 }
 
 impl Table {
-    /// How many groups are listed.
+    /// The number of listed groups.
     #[inline(always)]
     pub(crate) fn count(&self) -> usize
         ensures { result ≡ length self.now.entries.items }
@@ -69,7 +70,7 @@ impl Table {
         entry_of(self.entries.as_slice(), group).row
     }
 
-    /// What a row says, the player being on the square.
+    /// The excess of a row, with the player on the square.
     #[inline(always)]
     pub(crate) fn row_excess(&self, row: u32, player: Square) -> u8
         ensures { result ≡ row_excess self.now row player }
@@ -89,7 +90,7 @@ impl Table {
         self.row_excess(self.row(group), player)
     }
 
-    /// How many pushes a push of a box on the square wastes.
+    /// The waste of a push of a box on the square.
     #[inline(always)]
     pub(crate) fn waste(&self, square: Square, dir: Dir) -> u8
         ensures { result ≡ waste_in self.now square dir }
@@ -100,15 +101,16 @@ impl Table {
         )
     }
 
-    /// Whether some listed group within these boxes has so much excess. It may have where this says `false`.
+    /// Whether some listed group among these boxes has at least this excess. `false` says nothing.
     pub(crate) fn holds(&self, boxes: &[Square], player: Square, wanted: u8) -> bool
-        ensures { IsTrue result → wanted ≤ most_of (listed_in self.now) (length self.now.entries.items) boxes.now player }
+        ensures { IsTrue result →
+            wanted ≤ most_of (listed_in self.now) (length self.now.entries.items) boxes.now player }
     {
         wanted == 0
             || wanted <= self.at_least(boxes, player, self.find_within(boxes, player, wanted))
     }
 
-    /// The excess of a group, if it is listed and within the boxes.
+    /// The excess of a group, if it is listed and among the boxes; otherwise 0.
     pub(crate) fn at_least(&self, boxes: &[Square], player: Square, group: usize) -> u8
         ensures { result ≤ most_of (listed_in self.now) (length self.now.entries.items) boxes.now player }
     {
@@ -143,7 +145,7 @@ pub(crate) fn is_among(squares: &[Square], square: Square) -> bool
     found
 }
 
-// The places of a group; those of no group where there is none.
+// The entry of a group; an empty one if there is none.
 #[inline(always)]
 fn entry_of(entries: &[Entry], group: usize) -> Entry
     ensures { result ≡ entry_of entries.now group }
@@ -158,7 +160,7 @@ fn entry_of(entries: &[Entry], group: usize) -> Entry
     }
 }
 
-// The direction's place among the four.
+// The direction's index among the four.
 #[inline(always)]
 fn place_of(dir: Dir) -> usize
     ensures value { result ≡ dir_number dir }
@@ -167,7 +169,7 @@ fn place_of(dir: Dir) -> usize
     dir as usize
 }
 
-/// The byte at a place; 0 where there is none.
+/// The byte at an index; 0 if there is none.
 #[inline(always)]
 pub(crate) fn byte_at(bytes: &[u8], at: usize) -> u8
     ensures { result ≡ slice_index_or bytes.now at 0 }
@@ -178,7 +180,7 @@ pub(crate) fn byte_at(bytes: &[u8], at: usize) -> u8
     }
 }
 
-// The number at a place; 0 where there is none.
+// The number at an index; 0 if there is none.
 #[inline(always)]
 fn short_at(numbers: &[u16], at: usize) -> u16
     ensures { result ≡ slice_index_or numbers.now at 0 }
@@ -189,7 +191,7 @@ fn short_at(numbers: &[u16], at: usize) -> u16
     }
 }
 
-// So many elements from a place on; fewer where there are not so many.
+// The elements from an index on, at most `count`.
 #[inline(always)]
 fn part<T>(xs: &[T], from: usize, count: usize) -> &[T]
     ensures value { result.now ≡ take count (drop from xs.now) }

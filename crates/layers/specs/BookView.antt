@@ -1,5 +1,6 @@
 -- What contracts see of a book, and what is true of each: a book is lawful.
-use Rattle.std.specs.Prelude.{◌≡◌, ℕ, zero, suc, ◌+◌, ◌-◌, ◌^◌, ◌<◌, ◌≤◌, Bool, true, false, List, [], length, map, sum, take, count_by, slice_get}
+use Rattle.std.specs.Prelude.{◌≡◌, ℕ, zero, suc, ◌+◌, ◌-◌, ◌^◌, ◌<◌, ◌≤◌, Bool, true, false, List, [], length, map, sum}
+use Rattle.std.specs.Prelude.{take, count_by, slice_get}
 use Rattle.std.specs.Prelude.{slice_index_or, Option, None, Some}
 use Rattle.grid.specs.declared.square.Push.{Push}
 use Rattle.grid.specs.Board.{Scene, push_cmp}
@@ -18,9 +19,9 @@ use Rattle.successors.specs.Expansion.{IsSuccessor}
 use Rattle.layers.specs.Origins.{HasOrigin}
 use Rattle.successors.specs.Shares.{share_of}
 
--- a book: what it was made with, the level with its cap first; its closed layers, layer 0 first; whether the last one has begun, and then marks
--- over its ranks; the positions that stand open, each with its least origin; for each worker the number of ranks that
--- it handed back; and whether the limit was passed
+-- a book: what it was made with, the level with its cap first; its closed layers, layer 0 first; whether the last one
+-- has begun, and then marks over its ranks; the positions that stand open, each with its least origin; for each
+-- worker the number of ranks that it handed back; and whether the limit was passed
 pub record BookView : Type 0 where
   pub level : Task
   pub limit : ℕ
@@ -59,8 +60,10 @@ HasClosedOrigin task (suc k) m (Some o) = HasOrigin task k m o
 
 -- es is layer k cut down to the positions of one share, in the order of the leads, each with its origin
 pub record IsShareOfLayer (task : Task) (shares share k : ℕ) (es : List Closed) : Type 0 where
-  pub layer : IsLayer push_cmp (Reaches task.board) (λ j m. (share_of shares m ≡ share) × Admits task j m) k (places_of es)
-  pub origins : (i : ℕ) (m : Scene) (o : Option (Origin Push)) → slice_get es i ≡ Some (m, o) → HasClosedOrigin task k m o
+  pub layer : IsLayer push_cmp (Reaches task.board) (λ j m. (share_of shares m ≡ share) ×
+      Admits task j m) k (places_of es)
+  pub origins : (i : ℕ) (m : Scene) (o : Option (Origin Push)) → slice_get es i ≡ Some (m, o) →
+      HasClosedOrigin task k m o
   pub fits : (i : ℕ) (m : Scene) (o : Option (Origin Push)) → slice_get es i ≡ Some (m, o) → FitsLevel task.board m
 
 -- the lists are all the shares of layer k, share 0 first
@@ -91,18 +94,22 @@ pub record IsLawfulBook (v : BookView) : Type 0 where
   pub level : IsLevel v.level.board
   pub bounds : AreBounds v.limit v.workers v.share v.shares
   pub some : 1 ≤ length v.closed
-  pub closed : (k : ℕ) (es : List Closed) → slice_get v.closed k ≡ Some es → IsShareOfLayer v.level v.shares v.share k es
+  pub closed : (k : ℕ) (es : List Closed) → slice_get v.closed k ≡ Some es →
+      IsShareOfLayer v.level v.shares v.share k es
   pub wholes : List (List Scene)
   pub whole : AreLayersOf v.level wholes
   pub few : total wholes ≤ MOST_POSITIONS
   pub begun : v.begun ≡ true → (length wholes ≡ length v.closed) × (length v.claimed ≡ length v.done)
       × (length v.done ≡ length (slice_index_or wholes (last_layer v) []))
   pub not_begun : v.begun ≡ false → (length wholes ≡ last_layer v) × (v.claimed ≡ []) × (v.done ≡ []) × (v.waiting ≡ [])
-  pub waiting : v.begun ≡ true → IsOpen push_cmp (IsSuccessor v.level.board) (IsKept v) (λ j. slice_index_or wholes j []) (last_layer v) (λ r p. IsDone v r)
+  pub waiting : v.begun ≡ true →
+      IsOpen push_cmp (IsSuccessor v.level.board) (IsKept v) (λ j. slice_index_or wholes j []) (last_layer v)
+      (λ r p. IsDone v r)
       (origin_of v.waiting)
   pub distinct : AreDistinct (map (λ e. e.0) v.waiting)
   pub fits : (m : Scene) → IsIn (map (λ e. e.0) v.waiting) m → FitsLevel v.level.board m
-  pub tallies : (length v.tallies ≡ v.workers) × (sum v.tallies ≡ total (take (last_layer v) wholes) + count_by (λ b. b) v.done)
+  pub tallies : (length v.tallies ≡ v.workers) ×
+      (sum v.tallies ≡ total (take (last_layer v) wholes) + count_by (λ b. b) v.done)
   pub within : total v.closed + length v.waiting ≤ v.limit
   pub over : v.over ≡ true → IsPassed v × ((r : ℕ) × (r < length v.done) × (slice_index_or v.done r true ≡ false))
 

@@ -1,5 +1,6 @@
 -- The events of a book: each gives the book after it as a function of the book before, and says what it leaves.
-use Rattle.std.specs.Prelude.{◌≡◌, ◌≢◌, ℕ, suc, ◌+◌, ◌<◌, ◌≤◌, Bool, true, false, ◌==◌, ◌&&◌, not, List, [], ◌∷◌, ◌++◌, length, fold, replicate, slice_get}
+use Rattle.std.specs.Prelude.{◌≡◌, ◌≢◌, ℕ, suc, ◌+◌, ◌<◌, ◌≤◌, Bool, true, false, ◌==◌, ◌&&◌, not, List, [], ◌∷◌, ◌++◌}
+use Rattle.std.specs.Prelude.{length, fold, replicate, slice_get}
 use Rattle.std.specs.Prelude.{slice_index_or, slice_set, Option, None, Some, ◌⊎◌}
 use Rattle.std.specs.Map.{lookup}
 use Rattle.std.specs.List.{list_any}
@@ -12,9 +13,12 @@ use Rattle.grid.specs.Lawful.{box_count}
 use Rattle.layers.specs.declared.fault.BookFault.{BookFault}
 use Rattle.layers.specs.declared.fault.BookFault.TheVariants.{TooManyBoxes, OutOfMemory as BookOutOfMemory}
 use Rattle.layers.specs.declared.fault.BeginFault.{BeginFault}
-use Rattle.layers.specs.declared.fault.BeginFault.TheVariants.{OtherLevel as BeginOtherLevel, OtherLayer as BeginOtherLayer, OutOfMemory as BeginOutOfMemory}
+use Rattle.layers.specs.declared.fault.BeginFault.TheVariants.{OtherLevel as BeginOtherLevel}
+use Rattle.layers.specs.declared.fault.BeginFault.TheVariants.{OtherLayer as BeginOtherLayer}
+use Rattle.layers.specs.declared.fault.BeginFault.TheVariants.{OutOfMemory as BeginOutOfMemory}
 use Rattle.layers.specs.declared.fault.Refusal.{Refusal}
-use Rattle.layers.specs.declared.fault.Refusal.TheVariants.{OtherLevel, OtherLayer, NoSuchRank, Double, Over, OutOfMemory}
+use Rattle.layers.specs.declared.fault.Refusal.TheVariants.{OtherLevel, OtherLayer, NoSuchRank, Double, Over}
+use Rattle.layers.specs.declared.fault.Refusal.TheVariants.{OutOfMemory}
 use Rattle.layers.specs.declared.fault.CloseFault.{CloseFault}
 use Rattle.layers.specs.declared.fault.CloseFault.TheVariants.{NotAll, OutOfMemory as CloseOutOfMemory}
 use Rattle.layers.specs.declared.fault.JoinFault.{JoinFault}
@@ -42,7 +46,8 @@ pub record IsNew (task : Task) (limit workers share shares : ℕ) (v : BookView)
 
 -- each of the books is new, and is the share of its place in the list
 abbrev pub AreNewInOrder : Task → ℕ → ℕ → ℕ → List BookView → Type 0
-AreNewInOrder task limit workers shares books = (i : ℕ) (v : BookView) → slice_get books i ≡ Some v → IsNew task limit workers i shares v
+AreNewInOrder task limit workers shares books =
+    (i : ℕ) (v : BookView) → slice_get books i ≡ Some v → IsNew task limit workers i shares v
 
 -- the new books of all shares, share 0 first
 abbrev pub AreNewShares : Task → ℕ → ℕ → ℕ → List BookView → Type 0
@@ -69,7 +74,8 @@ HasBegun v layer = (layer.level ≡ v.level) × (layer.number ≡ last_layer v) 
 
 -- after a begin all ranks of the layer are free, and nothing stands open
 abbrev pub with_begun : BookView → ℕ → BookView
-with_begun v ranks = record v { begun = true; claimed = replicate ranks false; done = replicate ranks false; waiting = [] }
+with_begun v ranks =
+    record v { begun = true; claimed = replicate ranks false; done = replicate ranks false; waiting = [] }
 
 -- why a begin is refused; of two reasons the first in this order
 abbrev pub BeginRefused : BookView → LayerView → BeginFault → Type 0
@@ -92,7 +98,8 @@ IsFreeRank v r = (slice_get v.claimed r ≡ Some false) × (slice_get v.done r �
 abbrev pub ClaimAnswer : BookView → Option Claim → BookView → Type 0
 ClaimAnswer v None after = ((r : ℕ) → r < length v.done → IsTaken v r) × (after ≡ v)
 ClaimAnswer v (Some claim) after =
-    (claim.layer ≡ last_layer v) × IsFreeRank v claim.rank × ((r : ℕ) → r < claim.rank → IsTaken v r) × (after ≡ record v {
+    (claim.layer ≡ last_layer v) × IsFreeRank v claim.rank × ((r : ℕ) → r < claim.rank → IsTaken v r) ×
+    (after ≡ record v {
       claimed = slice_set v.claimed claim.rank true;
     })
 
@@ -124,7 +131,8 @@ IsAtWork v parcel = (parcel.level ≡ v.level) × (parcel.layer ≡ last_layer v
 
 -- the book is over, or would hold more positions than its limit
 abbrev pub PassesLimit : BookView → ParcelView → Type 0
-PassesLimit v parcel = (v.over ≡ true) ⊎ (v.limit < total v.closed + length (all_entered v parcel.rank parcel.successors))
+PassesLimit v parcel =
+    (v.over ≡ true) ⊎ (v.limit < total v.closed + length (all_entered v parcel.rank parcel.successors))
 
 -- nothing but want of memory stands in the parcel's way
 abbrev pub MayEnter : BookView → ParcelView → Type 0
@@ -135,7 +143,8 @@ MayEnter v parcel = IsAtWork v parcel × (slice_get v.done parcel.rank ≡ Some 
 abbrev pub HandBackRefused : BookView → ParcelView → Refusal → Type 0
 HandBackRefused v parcel OtherLevel = ¬ (parcel.level ≡ v.level)
 HandBackRefused v parcel OtherLayer = (parcel.level ≡ v.level) × (parcel.layer ≢ last_layer v)
-HandBackRefused v parcel NoSuchRank = (parcel.level ≡ v.level) × (parcel.layer ≡ last_layer v) × (length v.done ≤ parcel.rank)
+HandBackRefused v parcel NoSuchRank =
+    (parcel.level ≡ v.level) × (parcel.layer ≡ last_layer v) × (length v.done ≤ parcel.rank)
 HandBackRefused v parcel Double = IsAtWork v parcel × (slice_get v.done parcel.rank ≡ Some true)
 HandBackRefused v parcel Over = IsAtWork v parcel × (slice_get v.done parcel.rank ≡ Some false) × PassesLimit v parcel
 HandBackRefused v parcel OutOfMemory = MayEnter v parcel
@@ -175,7 +184,8 @@ pub record IsSortedOpen (v : BookView) (es : List Closed) : Type 0 where
 -- a close that is accepted
 abbrev pub IsClosedBy : BookView → Report → BookView → Type 0
 IsClosedBy v report after =
-    AllDone v × ((es : List Closed) × IsSortedOpen v es × (after ≡ with_closed v es) × (report.layer ≡ length v.closed) × (report.count ≡ length es))
+    AllDone v × ((es : List Closed) × IsSortedOpen v es × (after ≡ with_closed v es) ×
+    (report.layer ≡ length v.closed) × (report.count ≡ length es))
 
 -- why a close is refused
 abbrev pub CloseRefused : BookView → CloseFault → Type 0
@@ -184,7 +194,8 @@ CloseRefused v CloseOutOfMemory = AllDone v
 
 -- ---- join
 
--- the book is share i beside the first one: of the same level, cap, limit and number of shares, at the same last closed layer
+-- the book is share i beside the first one: of the same level, cap, limit and number of shares, at the same last
+-- closed layer
 abbrev pub IsShareBeside : BookView → ℕ → BookView → Type 0
 IsShareBeside first i v = (v.share ≡ i) × (v.level ≡ first.level) × (v.limit ≡ first.limit) × (v.shares ≡ first.shares)
     × (length v.closed ≡ length first.closed)
@@ -198,7 +209,8 @@ pub record AreAllShares (books : List BookView) : Type 0 where
 
 -- the layer is that of the books' level, at their last closed layer
 abbrev pub IsJoinOf : List BookView → LayerView → Type 0
-IsJoinOf books layer = AreAllShares books × ((v : BookView) → slice_get books 0 ≡ Some v → (layer.level ≡ v.level) × (layer.number ≡ last_layer v))
+IsJoinOf books layer = AreAllShares books ×
+    ((v : BookView) → slice_get books 0 ≡ Some v → (layer.level ≡ v.level) × (layer.number ≡ last_layer v))
 
 -- why books are not joined
 abbrev pub JoinRefused : List BookView → JoinFault → Type 0

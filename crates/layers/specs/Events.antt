@@ -9,7 +9,8 @@ use Rattle.layers.specs.LayerView.{LayerView, IsWhole}
 use Rattle.successors.specs.ParcelView.{ParcelView, IsParcel}
 use Rattle.layers.specs.BookView.{BookView}
 use Rattle.store.specs.Entries.{Closed}
-use Rattle.layers.specs.Books.{MayBegin, with_begun, BeginRefused, ClaimAnswer, MayEnter, with_parcel, HandBackRefused, after_refusal, with_reopened}
+use Rattle.layers.specs.Books.{MayBegin, with_begun, BeginRefused, ClaimAnswer, MayEnter, with_parcel, HandBackRefused}
+use Rattle.layers.specs.Books.{after_refusal, with_reopened}
 use Rattle.layers.specs.Books.{IsClosedBy, CloseRefused}
 
 -- an event with its answer: a layer begins or is refused; a rank is claimed, or none is left; a worker's parcel is
@@ -30,8 +31,10 @@ abbrev pub Happens : BookView → Event → BookView → Type 0
 Happens v (begins layer) after = IsWhole layer × MayBegin v layer × (after ≡ with_begun v (length layer.places))
 Happens v (begin_refused layer fault) after = IsWhole layer × BeginRefused v layer fault × (after ≡ v)
 Happens v (claims answer) after = ClaimAnswer v answer after
-Happens v (hands_back worker parcel) after = (worker < v.workers) × IsParcel parcel × MayEnter v parcel × (after ≡ with_parcel v worker parcel)
-Happens v (hand_back_refused worker parcel refusal) after = (worker < v.workers) × IsParcel parcel × HandBackRefused v parcel refusal
+Happens v (hands_back worker parcel) after =
+    (worker < v.workers) × IsParcel parcel × MayEnter v parcel × (after ≡ with_parcel v worker parcel)
+Happens v (hand_back_refused worker parcel refusal) after =
+    (worker < v.workers) × IsParcel parcel × HandBackRefused v parcel refusal
     × (after ≡ after_refusal v refusal)
 Happens v reopens after = after ≡ with_reopened v
 Happens v (closes report) after = IsClosedBy v report after
@@ -44,7 +47,8 @@ pub data History : BookView → List Event → BookView → Type 0 where
 
 -- the two books were made with the same level and numbers
 abbrev pub AreMadeAlike : BookView → BookView → Type 0
-AreMadeAlike v w = (v.level ≡ w.level) × (v.limit ≡ w.limit) × (v.workers ≡ w.workers) × (v.share ≡ w.share) × (v.shares ≡ w.shares)
+AreMadeAlike v w =
+    (v.level ≡ w.level) × (v.limit ≡ w.limit) × (v.workers ≡ w.workers) × (v.share ≡ w.share) × (v.shares ≡ w.shares)
 
 -- each list that v has closed stands in the same place in w
 abbrev pub KeepsClosed : BookView → BookView → Type 0
@@ -52,4 +56,5 @@ KeepsClosed v w = (k : ℕ) (es : List Closed) → slice_get v.closed k ≡ Some
 
 -- a closed list that both have is one list: the same positions in the same order, each with the same rank and push
 abbrev pub CloseAlike : BookView → BookView → Type 0
-CloseAlike v w = (k : ℕ) (es fs : List Closed) → slice_get v.closed k ≡ Some es → slice_get w.closed k ≡ Some fs → es ≡ fs
+CloseAlike v w =
+    (k : ℕ) (es fs : List Closed) → slice_get v.closed k ≡ Some es → slice_get w.closed k ≡ Some fs → es ≡ fs

@@ -10,8 +10,8 @@ use Rattle.successors.specs.Tasks.{Task}
 use Rattle.successors.specs.Reaching.{IsLayerOf, AreLayersOf, total}
 use Rattle.layers.specs.Origins.{HasOrigin}
 
--- a layer: its level with its cap, its number, its normal positions by rank, and for each the rank of its parent in the layer
--- before with its push; layer 0 has no parents
+-- a layer: its level with its cap, its number, its normal positions by rank, and for each the rank of its parent in
+-- the layer before with its push; layer 0 has no parents
 pub record LayerView : Type 0 where
   pub level : Task
   pub number : ℕ
@@ -21,13 +21,16 @@ pub record LayerView : Type 0 where
 -- each position has its parent's rank and its push, with which its lead ends
 pub record HaveOrigins (task : Task) (k : ℕ) (places : List Scene) (origins : List (Origin Push)) : Type 0 where
   pub each : length origins ≡ length places
-  pub right : (r : ℕ) (m : Scene) (o : Origin Push) → slice_get places r ≡ Some m → slice_get origins r ≡ Some o → HasOrigin task k m o
+  pub right : (r : ℕ) (m : Scene) (o : Origin Push) → slice_get places r ≡ Some m → slice_get origins r ≡ Some o →
+      HasOrigin task k m o
 
--- the whole layer of its level under its cap, in the order of the leads; layers 0 to it are no more than all books may hold
+-- the whole layer of its level under its cap, in the order of the leads; layers 0 to it are no more than all books
+-- may hold
 pub record IsWhole (v : LayerView) : Type 0 where
   pub lawful : IsLevel v.level.board
   pub layer : IsLayerOf v.level v.number v.places
   pub fits : (r : ℕ) (m : Scene) → slice_get v.places r ≡ Some m → FitsLevel v.level.board m
   pub first : v.number ≡ 0 → v.origins ≡ []
   pub later : (k : ℕ) → v.number ≡ suc k → HaveOrigins v.level k v.places v.origins
-  pub most : (before : List (List Scene)) × AreLayersOf v.level before × (length before ≡ v.number) × (total before + length v.places ≤ MOST_POSITIONS)
+  pub most : (before : List (List Scene)) × AreLayersOf v.level before × (length before ≡ v.number) ×
+      (total before + length v.places ≤ MOST_POSITIONS)

@@ -1,5 +1,5 @@
--- What stands open while a layer is made, and what the next one is. Over any places N and pushes P, so that nothing here
--- speaks of a board: Edge n p m says that the push p leads from n to m.
+-- What stands open while a layer is made, and what the next one is. Over any places N and pushes P, so that nothing
+-- here speaks of a board: Edge n p m says that the push p leads from n to m.
 use Rattle.std.specs.Prelude.{◌≡◌, ℕ, suc, ◌<◌, ◌≤◌, false, List, length, slice_get, Option, Some, ◌⊎◌, [], ◌∷◌, ◌++◌}
 use Rattle.std.specs.declared.cmp.Ordering.{Ordering}
 use Rattle.std.specs.declared.cmp.Ordering.TheVariants.{Less, Equal}
@@ -12,21 +12,28 @@ use Rattle.store.specs.Entries.{Origin, origin_cmp, Entry}
 -- of the origins
 pub record IsNext {N P : Type 0} (cmp : P → P → Ordering) (Edge : N → P → N → Type 0) (Kept : N → Type 0) (layer : ℕ →
     List N) (k : ℕ) (ys : List (Entry N P)) : Type 0 where
-  pub from : (i : ℕ) (m : N) (r : ℕ) (p : P) → slice_get ys i ≡ Some (m, (r, p)) → Kept m × ((n : N) × (slice_get (layer k) r ≡ Some n) × Edge n p m)
-  pub fresh : (i : ℕ) (m : N) (r : ℕ) (p : P) → slice_get ys i ≡ Some (m, (r, p)) → (j : ℕ) → j ≤ k → ¬ (IsIn (layer j) m)
-  pub least : (i : ℕ) (m : N) (r : ℕ) (p : P) → slice_get ys i ≡ Some (m, (r, p)) → (s : ℕ) (q : P) (n : N) → slice_get (layer k) s ≡ Some n → Edge n q m →
+  pub from : (i : ℕ) (m : N) (r : ℕ) (p : P) → slice_get ys i ≡ Some (m, (r, p)) → Kept m ×
+      ((n : N) × (slice_get (layer k) r ≡ Some n) × Edge n p m)
+  pub fresh : (i : ℕ) (m : N) (r : ℕ) (p : P) → slice_get ys i ≡ Some (m, (r, p)) → (j : ℕ) → j ≤ k →
+      ¬ (IsIn (layer j) m)
+  pub least : (i : ℕ) (m : N) (r : ℕ) (p : P) → slice_get ys i ≡ Some (m, (r, p)) → (s : ℕ) (q : P) (n : N) →
+      slice_get (layer k) s ≡ Some n → Edge n q m →
       is_gt (origin_cmp cmp (r, p) (s, q)) ≡ false
-  pub rise : (i j : ℕ) (x y : Entry N P) → i < j → slice_get ys i ≡ Some x → slice_get ys j ≡ Some y → origin_cmp cmp x.1 y.1 ≡ Less
+  pub rise : (i j : ℕ) (x y : Entry N P) → i < j → slice_get ys i ≡ Some x → slice_get ys j ≡ Some y →
+      origin_cmp cmp x.1 y.1 ≡ Less
   pub whole : (r : ℕ) (n : N) (p : P) (m : N) → slice_get (layer k) r ≡ Some n → Edge n p m → Kept m →
       ((j : ℕ) × (j ≤ k) × IsIn (layer j) m) ⊎ ((i : ℕ) × (o : Origin P) × (slice_get ys i ≡ Some (m, o)))
 
 -- what stands open once some origins were offered: the kept successors that come from them and are in no layer up
 -- to k, each with its least origin among them.  look m is the origin that m has, if m stands open.
-pub record IsOpen {N P : Type 0} (cmp : P → P → Ordering) (Edge : N → P → N → Type 0) (Kept : N → Type 0) (layer : ℕ → List N) (k : ℕ) (Offered : ℕ → P →
+pub record IsOpen {N P : Type 0} (cmp : P → P → Ordering) (Edge : N → P → N → Type 0) (Kept : N → Type 0)
+    (layer : ℕ → List N) (k : ℕ) (Offered : ℕ → P →
     Type 0) (look : N → Option (Origin P)) : Type 0 where
-  pub from : (m : N) (r : ℕ) (p : P) → look m ≡ Some (r, p) → Kept m × Offered r p × ((n : N) × (slice_get (layer k) r ≡ Some n) × Edge n p m)
+  pub from : (m : N) (r : ℕ) (p : P) → look m ≡ Some (r, p) → Kept m × Offered r p ×
+      ((n : N) × (slice_get (layer k) r ≡ Some n) × Edge n p m)
   pub fresh : (m : N) (r : ℕ) (p : P) → look m ≡ Some (r, p) → (j : ℕ) → j ≤ k → ¬ (IsIn (layer j) m)
-  pub least : (m : N) (r : ℕ) (p : P) → look m ≡ Some (r, p) → (s : ℕ) (q : P) (n : N) → Offered s q → slice_get (layer k) s ≡ Some n → Edge n q m →
+  pub least : (m : N) (r : ℕ) (p : P) → look m ≡ Some (r, p) → (s : ℕ) (q : P) (n : N) → Offered s q →
+      slice_get (layer k) s ≡ Some n → Edge n q m →
       is_gt (origin_cmp cmp (r, p) (s, q)) ≡ false
   pub whole : (r : ℕ) (p : P) (n m : N) → Offered r p → slice_get (layer k) r ≡ Some n → Edge n p m → Kept m →
       ((j : ℕ) × (j ≤ k) × IsIn (layer j) m) ⊎ ((o : Origin P) × (look m ≡ Some o))
@@ -34,11 +41,13 @@ pub record IsOpen {N P : Type 0} (cmp : P → P → Ordering) (Edge : N → P �
 -- what the order of layers rests on: the order of pushes is total and exact; a push leads on from a place that is
 -- reached, and what more than no push reaches is reached by such a last push; equal push lists end in one place; and
 -- what is admitted late or comes from what is admitted was admitted before
-pub record IsLayered {N P : Type 0} (cmp : P → P → Ordering) (Reach : List P → N → Type 0) (Edge : N → P → N → Type 0) (Adm : ℕ → N → Type 0) : Type 0 where
+pub record IsLayered {N P : Type 0} (cmp : P → P → Ordering) (Reach : List P → N → Type 0) (Edge : N → P → N → Type 0)
+    (Adm : ℕ → N → Type 0) : Type 0 where
   pub total : IsTotalOrder cmp
   pub exact : (p q : P) → cmp p q ≡ Equal → p ≡ q
   pub grow : (ps : List P) (n : N) (p : P) (m : N) → Reach ps n → Edge n p m → Reach (ps ++ p ∷ []) m
-  pub split : (qs : List P) (m : N) (k : ℕ) → Reach qs m → length qs ≡ suc k → (ps : List P) × (p : P) × (n : N) × (qs ≡ ps ++ p ∷ []) × Reach ps n × Edge n p m
+  pub split : (qs : List P) (m : N) (k : ℕ) → Reach qs m → length qs ≡ suc k → (ps : List P) × (p : P) × (n : N) ×
+      (qs ≡ ps ++ p ∷ []) × Reach ps n × Edge n p m
   pub same : (ps : List P) (m n : N) → Reach ps m → Reach ps n → m ≡ n
   pub closed : (k : ℕ) (ps : List P) (n : N) (p : P) (m : N) → Reach ps n → Edge n p m → Adm (suc k) m → Adm k n
   pub earlier : (j k : ℕ) (n : N) → j ≤ k → Adm k n → Adm j n

@@ -10,4 +10,5 @@ use Rattle.layers.specs.Leads.{IsLeadOf}
 -- m is come to from the rank o.0 of layer k by the push o.1, and so is its lead
 abbrev pub HasOrigin : Task → ℕ → Scene → Origin Push → Type 0
 HasOrigin task k m o = (xs : List Scene) → IsLayerOf task k xs →
-    (n : Scene) × (slice_get xs o.0 ≡ Some n) × ((ps : List Push) → IsLeadOf task.board n ps → IsLeadOf task.board m (ps ++ o.1 ∷ []))
+    (n : Scene) × (slice_get xs o.0 ≡ Some n) ×
+    ((ps : List Push) → IsLeadOf task.board n ps → IsLeadOf task.board m (ps ++ o.1 ∷ []))

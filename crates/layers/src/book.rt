@@ -1,4 +1,5 @@
-ghost use Rattle.std.specs.Prelude.{◌≡◌, ◌+◌, ◌-◌, ◌<◌, ◌≤◌, ◌↔◌, IsTrue, IfSome, MatchOption, length, slice_get, slice_index_or, Some};
+ghost use Rattle.std.specs.Prelude.{◌≡◌, ◌+◌, ◌-◌, ◌<◌, ◌≤◌, ◌↔◌, IsTrue, IfSome, MatchOption, length, slice_get};
+ghost use Rattle.std.specs.Prelude.{slice_index_or, Some};
 ghost use Rattle.layers.specs.BookView.{IsLawfulBook, last_layer};
 ghost use Rattle.layers.specs.Books.{closed_place};
 ghost use Rattle.layers.specs.inside.BookInside.{AreCuts, IsPiece};
@@ -11,26 +12,26 @@ use std::sync::Arc;
 use store::Found;
 use successors::Problem;
 
-// So many words are two lines of memory, which processors fetch together. What two workers write that far apart does not take
-// the one's lines away from the other's processor.
+// This many words are two cache lines, which processors fetch together. Data of two workers that are this far apart
+// share no cache line.
 pub(crate) const APART: usize = 16;
 
-/// A rank of a layer that a worker is to expand.
+/// A rank of a layer that a worker has claimed to expand.
 #[derive(Clone, Copy, PartialEq, Eq, Debug)]
 pub struct Claim {
     pub layer: u64,
     pub rank: u64,
 }
 
-/// A layer that a book has closed: its number, and how many of its positions are of the book's share.
+/// A layer that a book has closed: its number, and the number of its positions in the book's share.
 #[derive(Clone, Copy, PartialEq, Eq, Debug)]
 pub struct Closed {
     pub layer: u64,
     pub count: u64,
 }
 
-/// What a book holds of the layers of its level: the closed ones, as far as its share of the positions goes, the
-/// marks over the ranks of the last one while its successors are entered, and the positions that stand open.
+/// One share of the layers of a problem: the closed layers, marks for the ranks of the last one while its successors
+/// are entered, and the open positions, which will be the next layer.
 #[derive(Debug, Drop)]
 pub struct Book {
     pub(crate) problem: Arc<Problem>,
@@ -38,19 +39,19 @@ pub struct Book {
     pub(crate) workers: u8,
     pub(crate) share: u8,
     pub(crate) shares: u8,
-    // what each parcel asks for stands together, so that few lines of memory go from one worker's processor to another's
+    // the fields that each parcel needs are together, so that few cache lines move between processors
     pub(crate) begun: bool,
     pub(crate) over: bool,
     pub(crate) done: Marks,
     pub(crate) tallies: Vec<u64>,
-    // where each closed layer begins among the closed positions
+    // the index of the first position of each closed layer
     pub(crate) starts: Vec<usize>,
-    // the closed positions, layer after layer, and those that stand open
+    // the closed positions, layer after layer, and the open ones
     pub(crate) found: Found,
     pub(crate) claimed: Marks,
     // each rank below it is claimed or done
     pub(crate) next: usize,
-    // keeps what is written of the next book in a list off the lines of memory that this one is on
+    // keeps the next book in a list off the cache lines of this one
     pub(crate) apart: [u64; APART],
 }
 
@@ -67,7 +68,7 @@ impl Model for Book {
 }
 
 impl Book {
-    /// Tells what is true of every book; it does nothing, and is there for proofs.
+    /// A lemma: what is true of every book. It does nothing.
     pub fn tell(&self)
         ensures { IsLawfulBook self.now }
     {
@@ -81,14 +82,14 @@ impl Book {
         self.problem.level()
     }
 
-    /// The greatest number of pushes of a solution; `None` where no cap is set.
+    /// The greatest number of pushes of a solution; `None` if no cap is set.
     pub fn cap(&self) -> Option<u32>
         ensures { result ≡ self.now.level.cap }
     {
         self.problem.cap()
     }
 
-    /// Whether the book is of a layer's level, with the same cap.
+    /// Whether the book has a layer's level and cap.
     pub fn is_of_layer(&self, layer: &Layer) -> bool
         ensures { IsTrue result ↔ (self.now.level ≡ layer.now.level) }
     {
@@ -137,7 +138,7 @@ impl Book {
         self.begun
     }
 
-    /// How many ranks the worker has handed back.
+    /// The number of ranks that the worker has handed back.
     pub fn tally(&self, worker: u8) -> u64
         requires { worker < self.now.workers }
         ensures { result ≡ slice_index_or self.now.tallies worker 0 }
@@ -145,7 +146,7 @@ impl Book {
         self.tallies[worker as usize]
     }
 
-    /// The position at a place of a closed layer's list; `None` exactly beyond the closed lists.
+    /// The position at an index of a closed layer's list; `None` beyond the closed lists.
     pub fn closed_at(&self, layer: u64, place: u64) -> Option<Position>
         ensures { result ≡ closed_place self.now.closed layer place }
     {
@@ -157,7 +158,7 @@ impl Book {
     }
 }
 
-// Where a piece of a list that is cut at these places begins and ends; `None` exactly beyond the pieces.
+// The bounds of a piece of a list that is cut at these places; `None` beyond the pieces.
 pub(crate) fn piece_of(starts: &[usize], len: usize, piece: u64) -> Option<(usize, usize)>
     requires { AreCuts starts.now len }
     ensures piece { MatchOption result (length starts.now ≤ piece) (λ r. IsPiece starts.now len piece r.0 r.1) }
@@ -170,7 +171,7 @@ pub(crate) fn piece_of(starts: &[usize], len: usize, piece: u64) -> Option<(usiz
     }
 }
 
-// Where the last piece of a list that is cut at these places begins.
+// The beginning of the last piece of a list that is cut at these places.
 pub(crate) fn last_start(starts: &[usize]) -> usize
     requires { 0 < length starts.now }
     ensures { slice_get starts.now (length starts.now - 1) ≡ Some result }

@@ -1,9 +1,11 @@
-ghost use Rattle.std.specs.Prelude.{◌≡◌, ◌+◌, ◌<◌, ◌≤◌, [], ◌∷◌, ◌++◌, Some, false, true, slice_get, slice_index_or, slice_set, vec_len, IfNone, IfSome, IfErr};
+ghost use Rattle.std.specs.Prelude.{◌≡◌, ◌+◌, ◌<◌, ◌≤◌, [], ◌∷◌, ◌++◌, Some, false, true, slice_get, slice_index_or};
+ghost use Rattle.std.specs.Prelude.{slice_set, vec_len, IfNone, IfSome, IfErr};
 ghost use Rattle.std.specs.Prelude.{OnOk, OnErr, IfOk, length};
 ghost use Rattle.std.specs.Vec.{vec_capacity};
 ghost use Rattle.successors.specs.inside.Dealt.{successor_places};
 ghost use Rattle.layers.specs.declared.limits.TheConstants.{MOST_POSITIONS};
-ghost use Rattle.layers.specs.Books.{IsAtWork, MayBegin, with_begun, BeginRefused, ClaimAnswer, MayEnter, with_parcel, HandBackRefused, after_refusal};
+ghost use Rattle.layers.specs.Books.{IsAtWork, MayBegin, with_begun, BeginRefused, ClaimAnswer, MayEnter, with_parcel};
+ghost use Rattle.layers.specs.Books.{HandBackRefused, after_refusal};
 ghost use Rattle.layers.specs.Books.{with_reopened, IsClosedBy, CloseRefused};
 
 use crate::book::{Book, Claim, Closed};
@@ -14,7 +16,7 @@ use store::most_waiting;
 use successors::Parcel;
 
 impl Book {
-    /// Opens the ranks of the last closed layer. An error leaves the book as it was.
+    /// Opens the ranks of the last closed layer. An error leaves the book unchanged.
     pub fn begin(&mut self, layer: &Layer) -> Result<(), BeginFault>
         ensures may { OnOk result (MayBegin self.old layer.now) }
         ensures ok { OnOk result (self.new ≡ with_begun self.old (length layer.now.places)) }
@@ -41,8 +43,8 @@ impl Book {
         Ok(())
     }
 
-    /// The least rank of the layer at work that is neither done nor claimed, which is claimed from then on; `None`
-    /// where there is none or nothing has begun.
+    /// Claims the least rank of the layer at work that is neither done nor claimed. `None` if there is none or
+    /// nothing has begun.
     pub fn claim(&mut self) -> Option<Claim>
         ensures { ClaimAnswer self.old result self.new }
     {
@@ -60,10 +62,10 @@ impl Book {
         None
     }
 
-    /// Accepts the successors of a rank, which need not have been claimed: the rank is done, the worker's tally is
-    /// one more, and those successors that are of the book's share and in no closed layer stand open, each with the
-    /// least rank and push that has come. Where the book would hold more positions than its limit, and from then on,
-    /// the answer is `Over`, which marks the book over; every other error leaves it as it was.
+    /// Accepts the successors of a rank, which need not have been claimed. The rank is then done, the worker's tally is
+    /// one more, and the successors of the book's share that are in no closed layer are open, each with the least rank
+    /// and push that has come. If the book would hold more positions than its limit, the error is `Over` from then on,
+    /// and the book is marked over. Every other error leaves it unchanged.
     pub fn hand_back(&mut self, worker: u8, parcel: &Parcel<'_>) -> Result<(), Refusal>
         requires { worker < self.old.workers }
         ensures may { OnOk result (MayEnter self.old parcel.now) }
@@ -92,7 +94,7 @@ impl Book {
             self.over = true;
             return Err(Refusal::Over);
         }
-        // the last number of a worker is that of the one who does what the others left
+        // the last worker number belongs to the caller, who does what the others left
         let most = most_waiting(worker, self.workers - 1, self.share, self.shares);
         if self
             .found
@@ -105,9 +107,10 @@ impl Book {
         Ok(())
     }
 
-    // Why a parcel is refused whatever it holds: it is of no free rank of the layer at work.
+    // Why the book refuses a parcel, whatever it holds: it is of no free rank of the layer at work.
     fn refusal_of(&self, parcel: &Parcel<'_>) -> Option<Refusal>
-        ensures none { IfNone result (IsAtWork self.now parcel.now × (slice_get self.now.done parcel.now.rank ≡ Some false)) }
+        ensures none { IfNone result (IsAtWork self.now parcel.now ×
+            (slice_get self.now.done parcel.now.rank ≡ Some false)) }
         ensures some { IfSome result (λ refusal. HandBackRefused self.now parcel.now refusal) }
         ensures unchanged { IfSome result (λ refusal. after_refusal self.now refusal ≡ self.now) }
     {
@@ -132,8 +135,8 @@ impl Book {
         self.next = 0;
     }
 
-    /// Closes the next layer, once each rank of the layer at work is done: what stands open becomes its list, in the
-    /// order of ranks and pushes. An error leaves the book as it was.
+    /// Closes the next layer, once each rank of the layer at work is done: the open positions become its list, in the
+    /// order of ranks and pushes. An error leaves the book unchanged.
     pub fn close(&mut self) -> Result<Closed, CloseFault>
         ensures ok { IfOk result (λ closed. IsClosedBy self.old closed self.new) }
         ensures fault { IfErr result (λ fault. CloseRefused self.old fault) }
@@ -163,7 +166,7 @@ impl Book {
     }
 }
 
-// Appends a place to a list that has room for it.
+// Appends an index to a list that has capacity for it.
 fn push_within(places: &mut Vec<usize>, place: usize)
     requires { vec_len places.old < vec_capacity places.old }
     ensures { places.new.items ≡ places.old.items ++ place ∷ [] }
@@ -171,7 +174,7 @@ fn push_within(places: &mut Vec<usize>, place: usize)
     let _ = places.push(place);
 }
 
-// Whether none of a parcel's successors is of the share, as far as they are dealt to so many shares.
+// Whether none of a parcel's successors is of the share, if they are dealt to that number of shares.
 fn brings_nothing(parcel: &Parcel<'_>, share: u8, shares: u8) -> bool
     requires { share < shares }
     ensures { result ≡ true → successor_places shares share parcel.now.successors ≡ [] }
@@ -182,14 +185,15 @@ fn brings_nothing(parcel: &Parcel<'_>, share: u8, shares: u8) -> bool
     }
 }
 
-// Marks a rank done, with which the worker's tally is one more.
+// Marks a rank done, and adds one to the worker's tally.
 #[inline(always)]
 fn mark(done: &mut Marks, tallies: &mut Vec<u64>, worker: u8, rank: usize)
     requires rank { slice_get done.old rank ≡ Some false }
     requires worker { worker < length tallies.old.items }
     requires few { slice_index_or tallies.old.items worker 0 ≤ MOST_POSITIONS }
     ensures done { done.new ≡ slice_set done.old rank true }
-    ensures tally { tallies.new.items ≡ slice_set tallies.old.items worker (slice_index_or tallies.old.items worker 0 + 1) }
+    ensures tally { tallies.new.items ≡
+        slice_set tallies.old.items worker (slice_index_or tallies.old.items worker 0 + 1) }
 {
     done.set(rank);
     tallies[worker as usize] += 1;

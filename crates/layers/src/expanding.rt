@@ -23,7 +23,8 @@ pub fn expand<'a>(
     requires bound_of_level { bound.now ≡ layer.now.level.board }
     requires room { scratch.old.size ≡ length layer.now.level.board.cells }
     ensures of { (result.level ≡ layer.now.level) × (result.layer ≡ layer.now.number) × (result.rank ≡ rank) }
-    ensures successors { (n : Scene) → slice_get layer.now.places rank ≡ Some n → AreSuccessors layer.now.level layer.now.number n result.successors }
+    ensures successors { (n : Scene) → slice_get layer.now.places rank ≡ Some n →
+        AreSuccessors layer.now.level layer.now.number n result.successors }
     ensures size { scratch.new.size ≡ scratch.old.size }
 {
     let source = source_of(layer, rank);
@@ -42,7 +43,8 @@ pub fn expand_over<'a>(
     requires within { rank < length layer.now.places }
     requires room { scratch.old.size ≡ length layer.now.level.board.cells }
     ensures of { (result.level ≡ layer.now.level) × (result.layer ≡ layer.now.number) × (result.rank ≡ rank) }
-    ensures successors { (n : Scene) → slice_get layer.now.places rank ≡ Some n → AreSuccessors layer.now.level layer.now.number n result.successors }
+    ensures successors { (n : Scene) → slice_get layer.now.places rank ≡ Some n →
+        AreSuccessors layer.now.level layer.now.number n result.successors }
     ensures size { scratch.new.size ≡ scratch.old.size }
 {
     let source = source_of(layer, rank);
@@ -66,8 +68,10 @@ pub fn expand_over_into<'a>(
     requires problem { problem.now ≡ layer.now.level }
     requires within { rank < length layer.now.places }
     requires room { scratch.old.size ≡ length layer.now.level.board.cells }
-    ensures of { (parcel.new.level ≡ layer.now.level) × (parcel.new.layer ≡ layer.now.number) × (parcel.new.rank ≡ rank) }
-    ensures successors { (n : Scene) → slice_get layer.now.places rank ≡ Some n → AreSuccessors layer.now.level layer.now.number n parcel.new.successors }
+    ensures of { (parcel.new.level ≡ layer.now.level) × (parcel.new.layer ≡ layer.now.number) ×
+        (parcel.new.rank ≡ rank) }
+    ensures successors { (n : Scene) → slice_get layer.now.places rank ≡ Some n →
+        AreSuccessors layer.now.level layer.now.number n parcel.new.successors }
     ensures size { scratch.new.size ≡ scratch.old.size }
 {
     let source = source_of(layer, rank);

@@ -5,7 +5,7 @@ ghost use Rattle.layers.specs.Holding.{held};
 use crate::book::Book;
 
 impl Book {
-    /// How many positions the book holds: those that are closed and those that stand open.
+    /// The number of positions of the book, closed and open.
     pub fn positions(&mut self) -> u64
         ensures count { result ≡ held self.old }
         ensures same { self.new ≡ self.old }
@@ -13,15 +13,15 @@ impl Book {
         self.found.count() as u64
     }
 
-    /// How many positions the book holds at least, which costs nothing to ask: all of them but for some that came last.
+    /// A lower bound on the positions of the book, at no cost: all except some that came last.
     pub fn positions_at_least(&self) -> u64
         ensures { result ≤ held self.now }
     {
         self.found.count_entered() as u64
     }
 
-    /// Successors that came and wait to enter do so, where that are so many at least; says whether that is so. What the book shows
-    /// stays as it was: it shows them as entered in any case.
+    /// Enters the pending successors if they are at least `least`, and returns whether it did. Contracts show pending
+    /// successors as entered, so what the book shows does not change.
     pub fn enter_waiting(&mut self, least: usize) -> bool
         ensures { self.new ≡ self.old }
     {

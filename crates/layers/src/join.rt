@@ -1,4 +1,5 @@
-ghost use Rattle.std.specs.Prelude.{◌≡◌, ◌↔◌, ℕ, IsTrue, IfOk, IfSome, MatchOption, MatchResult, ◌≤◌, Some, ◌∷◌, [], map, slice_get};
+ghost use Rattle.std.specs.Prelude.{◌≡◌, ◌↔◌, ℕ, IsTrue, IfOk, IfSome, MatchOption, MatchResult, ◌≤◌, Some, ◌∷◌, []};
+ghost use Rattle.std.specs.Prelude.{map, slice_get};
 ghost use Rattle.grid.specs.Lawful.{box_count};
 ghost use Rattle.layers.specs.declared.limits.TheConstants.{MOST_POSITIONS};
 ghost use Rattle.successors.specs.Reaching.{total};
@@ -18,16 +19,16 @@ use std::sync::Arc;
 use store::Origin;
 
 impl Layer {
-    /// The last closed layer of the books, which are all the shares in order. The only errors are that they are not,
-    /// and that memory was refused.
+    /// The last closed layer of the books, which must be all the shares in order. Fails with [`JoinFault::NotWhole`]
+    /// if they are not, and with [`JoinFault::OutOfMemory`].
     pub fn join(alloc: Global, books: &[Book]) -> Result<Layer, JoinFault>
         ensures { MatchResult result (λ layer. IsJoinOf books.now layer) (λ fault. JoinRefused books.now fault) }
     {
         Layer::join_in(alloc, books, Vec::new(alloc))
     }
 
-    /// The same, in room that another layer left ([`Parents::of`](crate::Parents::of)), so that a search need not
-    /// ask for new memory layer by layer.
+    /// The same in the memory of an earlier layer ([`Parents::of`](crate::Parents::of)), so that a search does not
+    /// allocate for each layer.
     pub fn join_in(alloc: Global, books: &[Book], room: Vec<Square>) -> Result<Layer, JoinFault>
         ensures { MatchResult result (λ layer. IsJoinOf books.now layer) (λ fault. JoinRefused books.now fault) }
     {
@@ -40,9 +41,9 @@ impl Layer {
         }
     }
 
-    /// What [`Layer::join`] gives, made of stretches of that layer where all of it was merged in them, and otherwise of the
-    /// books. The errors are those of [`Layer::join`]. [`JoinFault::NotWhole`] leaves the stretches unchanged; otherwise
-    /// each of them is unchanged or holds nothing any more.
+    /// The layer that [`Layer::join`] gives, made of stretches of it if these hold all of it, and otherwise of the
+    /// books. The errors are those of [`Layer::join`]. [`JoinFault::NotWhole`] leaves the stretches unchanged;
+    /// otherwise each of them is unchanged or empty.
     pub fn join_stretches(
         alloc: Global,
         books: &[Book],
@@ -65,7 +66,8 @@ impl Layer {
 
 // The first of the books, if they are all the shares, in order.
 fn first_of_all(books: &[Book]) -> Option<&Book>
-    ensures { MatchOption result (¬ (AreAllShares books.now)) (λ first. (slice_get books.now 0 ≡ Some first.now) × AreAllShares books.now) }
+    ensures { MatchOption result (¬ (AreAllShares books.now)) (λ first. (slice_get books.now 0 ≡ Some first.now) ×
+        AreAllShares books.now) }
 {
     let first = books.first()?;
     if !are_all_shares(books, first) {
@@ -151,8 +153,8 @@ fn layer_of(
     })
 }
 
-// How many positions the last closed lists of the books have, their squares, in the memory of another list, and their origins,
-// merged by the origins.
+// How many positions the last closed lists of the books have, their squares, in the memory of another list, and their
+// origins, merged by the origins.
 fn merged_rows(
     alloc: Global,
     books: &[Book],
@@ -200,7 +202,8 @@ impl Book {
         self.starts.len() == first.starts.len()
     }
 
-    // The squares of the positions of the last closed list, in the memory of another list, and their origins, and how many they are.
+    // The squares of the positions of the last closed list, in the memory of another list, and their origins, and how
+    // many they are.
     fn last_rows(
         &self,
         alloc: Global,

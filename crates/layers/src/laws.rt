@@ -1,10 +1,12 @@
-//! Laws of books that callers may rely on. Each is the contract of a function that does nothing.
+//! Laws of books that callers may rely on. Each is the contract of a function that does nothing: call it in a proof to
+//! use the law.
 ghost use Rattle.std.specs.Prelude.{◌≡◌, ℕ, ◌+◌, ◌<◌, ◌≤◌, List, length, map, sum_by};
 ghost use Rattle.grid.specs.Board.{Scene};
 ghost use Rattle.successors.specs.Tasks.{Task};
 ghost use Rattle.grid.specs.Lawful.{IsLevel};
 ghost use Rattle.successors.specs.Reaching.{AreLayersOf, IsLayerOf, total};
-ghost use Rattle.layers.specs.BookView.{BookView, AreBounds, AreSharesOfLayer, AreLawfulBooks, IsLawfulBook, IsShareOfLayer, last_layer, last_list};
+ghost use Rattle.layers.specs.BookView.{BookView, AreBounds, AreSharesOfLayer, AreLawfulBooks, IsLawfulBook};
+ghost use Rattle.layers.specs.BookView.{IsShareOfLayer, last_layer, last_list};
 ghost use Rattle.store.specs.Entries.{Closed};
 ghost use Rattle.layers.specs.LayerView.{LayerView, IsWhole};
 ghost use Rattle.layers.specs.Books.{AreAllShares, HasBegun, IsNew};
@@ -16,33 +18,40 @@ ghost use Rattle.layers.specs.Events.{Event, History, AreMadeAlike, KeepsClosed,
 /// where it stood. A parcel that comes twice, too late or from elsewhere is an event that is refused; a claim that
 /// never comes back is one that no hand back follows.
 pub fn a_book_stays_lawful()
-    ensures lawful { (before after : BookView) (events : List Event) → IsLawfulBook before → History before events after → IsLawfulBook after }
-    ensures made { (before after : BookView) (events : List Event) → History before events after → AreMadeAlike before after }
-    ensures closed { (before after : BookView) (events : List Event) → History before events after → KeepsClosed before after }
+    ensures lawful { (before after : BookView) (events : List Event) → IsLawfulBook before →
+        History before events after → IsLawfulBook after }
+    ensures made { (before after : BookView) (events : List Event) → History before events after →
+        AreMadeAlike before after }
+    ensures closed { (before after : BookView) (events : List Event) → History before events after →
+        KeepsClosed before after }
 {}
 
 /// A new book of a lawful level is lawful, and so by [`a_book_stays_lawful`] it is after any list of events.
 pub fn a_new_book_is_lawful()
-    ensures { (task : Task) (limit workers share shares : ℕ) (book : BookView) → IsLevel task.board → AreBounds limit workers share shares →
+    ensures { (task : Task) (limit workers share shares : ℕ) (book : BookView) → IsLevel task.board →
+        AreBounds limit workers share shares →
         IsNew task limit workers share shares book → IsLawfulBook book }
 {}
 
-/// Lawful books of one share of one level and cap have closed the same lists, as far as both have come: in whatever order the
-/// parcels came to each, from whichever workers, however often, and whatever was refused.
+/// Lawful books of one share of one level and cap have closed the same lists, as far as both have come: in whatever
+/// order the parcels came to each, from whichever workers, however often, and whatever was refused.
 pub fn the_order_of_events_leaves_no_trace()
-    ensures { (one other : BookView) → IsLawfulBook one → IsLawfulBook other → one.level ≡ other.level → one.share ≡ other.share → one.shares ≡ other.shares →
+    ensures { (one other : BookView) → IsLawfulBook one → IsLawfulBook other → one.level ≡ other.level →
+        one.share ≡ other.share → one.shares ≡ other.shares →
         CloseAlike one other }
 {}
 
 /// A lawful book that has begun has marks for exactly the ranks of its last closed layer, whichever worker made or
 /// left them.
 pub fn a_begun_book_has_the_ranks_of_its_layer()
-    ensures { (book : BookView) (layer : LayerView) → IsLawfulBook book → IsWhole layer → HasBegun book layer → length book.done ≡ length layer.places }
+    ensures { (book : BookView) (layer : LayerView) → IsLawfulBook book → IsWhole layer → HasBegun book layer →
+        length book.done ≡ length layer.places }
 {}
 
 /// A layer has as many positions as all its shares together, and one share has no more than the layer.
 pub fn the_shares_make_up_the_layer()
-    ensures sum { (task : Task) (shares k : ℕ) (lists : List (List Closed)) (layer : List Scene) → IsLevel task.board → 0 < shares →
+    ensures sum { (task : Task) (shares k : ℕ) (lists : List (List Closed)) (layer : List Scene) →
+        IsLevel task.board → 0 < shares →
         AreSharesOfLayer task shares k lists → IsLayerOf task k layer → total lists ≡ length layer }
     ensures part { (task : Task) (shares share k : ℕ) (list : List Closed) (layer : List Scene) → IsLevel task.board →
         IsShareOfLayer task shares share k list → IsLayerOf task k layer → length list ≤ length layer }
@@ -53,17 +62,21 @@ pub fn the_shares_make_up_the_layer()
 pub fn the_books_of_all_shares_hold_the_layers()
     ensures last { (books : List BookView) (all : AreAllShares books) → AreLawfulBooks books →
         AreSharesOfLayer all.first.level all.first.shares (last_layer all.first) (map last_list books) }
-    ensures total { (books : List BookView) (all : AreAllShares books) → AreLawfulBooks books → (layers : List (List Scene)) →
-        AreLayersOf all.first.level layers → length layers ≡ length all.first.closed → total layers ≡ sum_by (λ book. total book.closed) books }
-    ensures part { (book : BookView) (layers : List (List Scene)) → IsLawfulBook book → AreLayersOf book.level layers → length book.closed ≤ length layers →
+    ensures total { (books : List BookView) (all : AreAllShares books) → AreLawfulBooks books →
+        (layers : List (List Scene)) →
+        AreLayersOf all.first.level layers → length layers ≡ length all.first.closed →
+        total layers ≡ sum_by (λ book. total book.closed) books }
+    ensures part { (book : BookView) (layers : List (List Scene)) → IsLawfulBook book →
+        AreLayersOf book.level layers → length book.closed ≤ length layers →
         total book.closed ≤ total layers }
 {}
 
 /// What lawful books that are all the shares hold together is the layers that they have closed, and so many different
-/// positions of the next one. So where that is more than a limit, the positions of these layers together with some of the next
-/// one are more.
+/// positions of the next one. So where that is more than a limit, the positions of these layers together with some of
+/// the next one are more.
 pub fn the_books_of_all_shares_hold_the_layers_and_some_of_the_next()
-    ensures { (books : List BookView) (all : AreAllShares books) → AreLawfulBooks books → (layers : List (List Scene)) → AreLayersOf all.first.level layers →
+    ensures { (books : List BookView) (all : AreAllShares books) → AreLawfulBooks books →
+        (layers : List (List Scene)) → AreLayersOf all.first.level layers →
         length layers ≡ length all.first.closed → (many : ℕ) × AreManyIn all.first.level (length all.first.closed) many
         × (all_held books ≡ total layers + many) }
 {}

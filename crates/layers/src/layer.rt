@@ -1,4 +1,5 @@
-ghost use Rattle.std.specs.Prelude.{◌≡◌, ◌+◌, ◌*◌, ◌<◌, ◌≤◌, ◌==◌, true, take, drop, length, slice_get, slice_index_or, Some};
+ghost use Rattle.std.specs.Prelude.{◌≡◌, ◌+◌, ◌*◌, ◌<◌, ◌≤◌, ◌==◌, true, take, drop, length, slice_get, slice_index_or};
+ghost use Rattle.std.specs.Prelude.{Some};
 ghost use Rattle.grid.specs.Board.{Scene};
 ghost use Rattle.grid.specs.Lawful.{box_count};
 ghost use Rattle.grid.specs.Rising.{is_rising};
@@ -12,14 +13,14 @@ use std::sync::Arc;
 use store::Origin;
 use successors::Problem;
 
-/// A whole layer of its level: the normal positions whose least push lists through undoomed positions have the
-/// layer's number of pushes, in the order of those lists. Where a cap of pushes is set it has only those positions from
-/// which the level may be solved within it, by what lone boxes need. A position's rank is its place in the list, from 0.
+/// A whole layer of a problem: the normal positions whose least push lists through undoomed positions have the layer's
+/// number of pushes, in the order of those lists. Under a cap it has only the positions from which the pushes that lone
+/// boxes need keep the cap. A position's rank is its index in the list, from 0.
 #[derive(Debug, Drop)]
 pub struct Layer {
     pub(crate) problem: Arc<Problem>,
     pub(crate) number: u64,
-    // how many positions there are, and the squares of one after the other: its boxes, and then its player
+    // the number of positions, and the squares of one after the other: its boxes, and then its player
     pub(crate) count: usize,
     pub(crate) squares: Vec<Square>,
     pub(crate) origins: Vec<Origin>,
@@ -38,7 +39,7 @@ impl Model for Layer {
 }
 
 impl Layer {
-    /// Tells what is true of every layer; it does nothing, and is there for proofs.
+    /// A lemma: what is true of every layer. It does nothing.
     pub fn tell(&self)
         ensures { IsWhole self.now }
     {
@@ -52,21 +53,21 @@ impl Layer {
         self.problem.level()
     }
 
-    /// The greatest number of pushes of a solution; `None` where no cap is set.
+    /// The greatest number of pushes of a solution; `None` if no cap is set.
     pub fn cap(&self) -> Option<u32>
         ensures { result ≡ self.now.level.cap }
     {
         self.problem.cap()
     }
 
-    /// What the search solves: the level with its cap, and what follows from both.
+    /// The problem: the level with its cap, and what follows from both.
     pub fn problem(&self) -> &Problem
         ensures { result.now ≡ self.now.level }
     {
         &*self.problem
     }
 
-    /// The layer's number, which is the number of pushes that lead to its positions.
+    /// The layer's number: the number of pushes that lead to its positions.
     pub fn number(&self) -> u64
         ensures { result ≡ self.now.number }
     {
@@ -87,7 +88,7 @@ impl Layer {
         self.count == 0
     }
 
-    /// The position with a rank; `None` exactly beyond the layer.
+    /// The position with a rank; `None` beyond the layer.
     pub fn position(&self, rank: u64) -> Option<Position>
         ensures { result ≡ slice_get self.now.places rank }
     {
@@ -105,8 +106,8 @@ impl Layer {
         read_boxes(self.squares.as_slice(), rank as usize, self.boxes())
     }
 
-    /// The rank of a position's parent in the layer before, and the push that leads from there; `None` exactly in
-    /// layer 0 and beyond the layer.
+    /// The rank of a position's parent in the layer before, and the push that leads from there; `None` in layer 0 and
+    /// beyond the layer.
     pub fn parent(&self, rank: u64) -> Option<(u64, Push)>
         ensures { result ≡ slice_get self.now.origins rank }
     {

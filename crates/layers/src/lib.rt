@@ -1,6 +1,10 @@
-//! Layers of normal positions in the order of the least push lists that lead there, and the books in which the
-//! successors of a layer are entered until the next one closes. What successors are given by stands in `successors`; what its
-//! callers name of it is here too.
+//! Layers of normal positions, in the order of the least push lists that lead there, and the books in which a search
+//! enters the successors of a layer until the next layer closes.
+//!
+//! Use it to write a layer search with your own workers: make books for all shares ([`Book::of_all_shares`]), expand
+//! each rank of a layer once ([`expand`]), hand the parcel to each book ([`Book::hand_back`]), close the books
+//! ([`Book::close`]) and join them ([`Layer::join`]). The order of events and the number of books do not change a layer
+//! (proved). A position takes some 50 to 150 bytes. The items of `successors` that callers need are exported here too.
 //!
 //! With the `level` of a room of three rows of three squares, the box in the middle, its goal at the top left and the
 //! player at the bottom right:

@@ -1,4 +1,4 @@
-//! The limits of books and layers, which everything else names.
+//! The limits of books and layers. All other code names these constants.
 use successors::MAX_SHARES;
 
 /// The greatest number of workers. A book may be made for one more, whose number is the caller's own.

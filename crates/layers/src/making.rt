@@ -22,7 +22,7 @@ use std::sync::Arc;
 use store::Found;
 use successors::{MAX_SHARES, Problem, share_of};
 
-/// To how many workers, and in how many shares, the positions of a level are dealt.
+/// The number of workers, and of shares to which the positions of a level are dealt.
 #[derive(Clone, Copy, PartialEq, Eq, Debug)]
 pub struct Dealing {
     pub workers: u8,
@@ -30,9 +30,10 @@ pub struct Dealing {
 }
 
 impl Book {
-    /// A book of a share of the level's positions, with layer 0 closed, which is empty where the start is doomed, needs
-    /// more pushes than the cap by what lone boxes need, or is of another share. The only errors are that the level has more
-    /// boxes than [`MAX_BOXES`](grid::MAX_BOXES), and that memory was refused.
+    /// A book of a share of the level's positions, with layer 0 closed. That layer is empty if the start is doomed,
+    /// if its lone boxes need more pushes than the cap, or if it is of another share. Fails with
+    /// [`BookFault::TooManyBoxes`] if the level has more than [`MAX_BOXES`](grid::MAX_BOXES) boxes, and with
+    /// [`BookFault::OutOfMemory`].
     pub fn of(
         alloc: Global,
         level: Arc<Level>,
@@ -47,7 +48,8 @@ impl Book {
         requires share { share < shares }
         requires shares { shares ≤ MAX_SHARES }
         ensures ok { IfOk result (λ book. IsNew (capped (arc_value level) cap) limit workers share shares book) }
-        ensures variant { MatchResult result (λ book. box_count (arc_value level) ≤ MAX_BOXES) (λ fault. BookRefused (arc_value level) fault) }
+        ensures variant { MatchResult result (λ book. box_count (arc_value level) ≤ MAX_BOXES)
+            (λ fault. BookRefused (arc_value level) fault) }
     {
         level.tell();
         level.tell_start();
@@ -61,9 +63,9 @@ impl Book {
         }
     }
 
-    /// The books of all shares of the positions of a problem, share 0 first, each as [`Book::of`] makes it. They share the
-    /// problem. The only errors are that the level has more boxes than [`MAX_BOXES`](grid::MAX_BOXES), and that memory was
-    /// refused.
+    /// The books of all shares of the positions of a problem, share 0 first, each as [`Book::of`] makes it. They
+    /// share the problem. Fails with [`BookFault::TooManyBoxes`] if the level has more than
+    /// [`MAX_BOXES`](grid::MAX_BOXES) boxes, and with [`BookFault::OutOfMemory`].
     pub fn of_all_shares(
         alloc: Global,
         problem: &Arc<Problem>,
@@ -75,7 +77,8 @@ impl Book {
         requires workers { (1 ≤ dealing.workers) × (dealing.workers ≤ MAX_WORKERS + 1) }
         requires shares { (1 ≤ dealing.shares) × (dealing.shares ≤ MAX_SHARES) }
         requires room { scratch.old.size ≡ length (arc_value problem.now).board.cells }
-        ensures ok { IfOk result (λ books. AreNewShares (arc_value problem.now) limit dealing.workers dealing.shares books.items) }
+        ensures ok { IfOk result
+            (λ books. AreNewShares (arc_value problem.now) limit dealing.workers dealing.shares books.items) }
         ensures variant { MatchResult result (λ books. box_count (arc_value problem.now).board ≤ MAX_BOXES)
             (λ fault. BookRefused (arc_value problem.now).board fault) }
         ensures size { scratch.new.size ≡ scratch.old.size }
@@ -93,8 +96,8 @@ impl Book {
         }
     }
 
-    // A book of a share of the level's positions, whose start is given, with a problem of its own. The only error is that
-    // memory was refused.
+    // A book of a share of the level's positions, given the start, with a problem of its own. Fails only if out of
+    // memory.
     fn of_share(
         alloc: Global,
         level: &Arc<Level>,
@@ -108,7 +111,8 @@ impl Book {
         requires few { box_count (arc_value level.now) ≤ MAX_BOXES }
         requires start { position.now ≡ start (arc_value level.now) }
         requires fits { FitsLevel (arc_value level.now) position.now }
-        ensures { IfOk result (λ book. IsNew (capped (arc_value level.now) cap) limit dealing.workers share dealing.shares book) }
+        ensures { IfOk result
+            (λ book. IsNew (capped (arc_value level.now) cap) limit dealing.workers share dealing.shares book) }
     {
         let problem = Problem::of(alloc, level, cap)?;
         let problem = Arc::new(alloc, problem)?;
@@ -155,7 +159,7 @@ impl Book {
     }
 }
 
-// The books of all shares, share 0 first, where the first position of the problem is found already.
+// The books of all shares, share 0 first, given the first position of the problem.
 fn all_with_first(
     alloc: Global,
     problem: &Arc<Problem>,
@@ -168,7 +172,8 @@ fn all_with_first(
     requires shares { (1 ≤ dealing.shares) × (dealing.shares ≤ MAX_SHARES) }
     requires few { box_count (arc_value problem.now).board ≤ MAX_BOXES }
     requires first { IsFirst (arc_value problem.now) first.now }
-    ensures { IfOk result (λ books. AreNewShares (arc_value problem.now) limit dealing.workers dealing.shares books.items) }
+    ensures { IfOk result
+        (λ books. AreNewShares (arc_value problem.now) limit dealing.workers dealing.shares books.items) }
 {
     let mut books = Vec::with_capacity(alloc, dealing.shares as usize)?;
     for share in 0..dealing.shares {
@@ -179,7 +184,7 @@ fn all_with_first(
     Ok(books)
 }
 
-// The first position of a problem: the start's normal position, or none where the start is doomed or not admitted.
+// The first position of a problem: the start's normal position, or none if the start is doomed or not admitted.
 fn first_position(problem: &Problem, position: &Position, scratch: &mut Scratch) -> Option<Position>
     requires start { position.now ≡ start problem.now.board }
     requires fits { FitsLevel problem.now.board position.now }
@@ -198,8 +203,8 @@ fn first_position(problem: &Problem, position: &Position, scratch: &mut Scratch)
     Some(normal)
 }
 
-// The tallies of so many workers, who have handed nothing back. They take more room than they have words, so that the tallies of
-// the next book are not on their lines of memory.
+// The tallies of so many workers, who have handed nothing back. They take more room than they have words, so that the
+// tallies of the next book are not on their lines of memory.
 fn first_tallies(alloc: Global, workers: u8) -> Result<Vec<u64>, AllocError>
     ensures { IfOk result (λ tallies. tallies.items ≡ replicate workers 0) }
 {
@@ -219,9 +224,11 @@ fn found_of_share(
     requires few { box_count problem.now.board ≤ MAX_BOXES }
     requires first { IsFirst problem.now first.now }
     requires shares { 0 < shares }
-    ensures layer { IfOk result (λ found. IsShareOfLayer problem.now shares share 0 found.seen × (length found.seen ≤ 1)) }
+    ensures layer { IfOk result (λ found. IsShareOfLayer problem.now shares share 0 found.seen ×
+        (length found.seen ≤ 1)) }
     ensures waiting { IfOk result (λ found. found.waiting ≡ []) }
-    ensures size { IfOk result (λ found. (found.boxes ≡ box_count problem.now.board) × (found.squares ≡ length problem.now.board.cells)) }
+    ensures size { IfOk result (λ found. (found.boxes ≡ box_count problem.now.board) ×
+        (found.squares ≡ length problem.now.board.cells)) }
 {
     let own = first_of_share(problem, first, share, shares);
     let squares = problem.level().squares();

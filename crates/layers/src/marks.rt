@@ -1,5 +1,6 @@
 //! Marks over the ranks of a layer, a bit each: bit i of word k is the mark of rank `WORD_BITS * k + i`.
-ghost use Rattle.std.specs.Prelude.{◌≡◌, ℕ, ◌*◌, ◌<◌, ◌==◌, ◌||◌, [], true, false, length, replicate, slice_get, slice_index_or, slice_set, Some, OnOk, OnErr};
+ghost use Rattle.std.specs.Prelude.{◌≡◌, ℕ, ◌*◌, ◌<◌, ◌==◌, ◌||◌, [], true, false, length, replicate, slice_get};
+ghost use Rattle.std.specs.Prelude.{slice_index_or, slice_set, Some, OnOk, OnErr};
 ghost use Rattle.std.specs.Bool.{MatchBool};
 ghost use Rattle.grid.specs.Masks.{has_bit};
 
@@ -79,7 +80,8 @@ impl Marks {
 
     /// Whether each mark is set.
     pub(crate) fn are_all_set(&self) -> bool
-        ensures { MatchBool result ((r : ℕ) → r < length self.now → slice_index_or self.now r false ≡ true) ((r : ℕ) × (slice_get self.now r ≡ Some false)) }
+        ensures { MatchBool result ((r : ℕ) → r < length self.now → slice_index_or self.now r false ≡ true) ((r : ℕ) ×
+            (slice_get self.now r ≡ Some false)) }
     {
         self.set == self.len
     }

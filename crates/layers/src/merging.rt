@@ -1,5 +1,6 @@
 //! The last closed lists of the books of several shares, merged into one by their origins.
-ghost use Rattle.std.specs.Prelude.{◌≡◌, ◌<◌, ◌≤◌, ◌∷◌, List, IfOk, IfSome, MatchOption, OnOk, drop, length, map, slice_index_or, true};
+ghost use Rattle.std.specs.Prelude.{◌≡◌, ◌<◌, ◌≤◌, ◌∷◌, List, IfOk, IfSome, MatchOption, OnOk, drop, length, map};
+ghost use Rattle.std.specs.Prelude.{slice_index_or, true};
 ghost use Rattle.layers.specs.declared.limits.TheConstants.{MOST_POSITIONS};
 ghost use Rattle.successors.specs.Reaching.{total};
 ghost use Rattle.store.specs.Entries.{Closed};
@@ -33,7 +34,8 @@ impl<'a> Model for Rest<'a> {
 
     ghost view = { λ a. drop a.place a.found.now.seen };
 
-    ghost invariant = { λ a. (a.place ≤ a.end) × (a.end ≡ length a.found.now.seen) × (a.first ≡ first_origin (drop a.place a.found.now.seen)) };
+    ghost invariant = { λ a. (a.place ≤ a.end) × (a.end ≡ length a.found.now.seen) ×
+        (a.first ≡ first_origin (drop a.place a.found.now.seen)) };
 }
 
 impl<'a> Rest<'a> {
@@ -83,8 +85,8 @@ impl<'a> Rest<'a> {
     }
 }
 
-/// The squares of the positions of all the books' last closed lists, in the memory of another list, and their origins, merged by
-/// the origins, and how many they are. The only error is that memory was refused.
+/// The squares of the positions of all the books' last closed lists, in the memory of another list, and their
+/// origins, merged by the origins, and how many they are. The only error is that memory was refused.
 pub(crate) fn merge(
     alloc: Global,
     books: &[Book],
@@ -105,8 +107,8 @@ pub(crate) fn merge(
     Ok((count, squares, origins))
 }
 
-// What is left of the last closed list of each book once so many positions of each were taken, or none where no number is
-// given.
+// What is left of the last closed list of each book once so many positions of each were taken, or none where no
+// number is given.
 pub(crate) fn rests_of<'a>(
     alloc: Global,
     books: &'a [Book],

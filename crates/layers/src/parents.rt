@@ -1,4 +1,4 @@
-//! What is kept of a layer whose ranks are done.
+//! The parents of a layer's positions: all that a search keeps of a layer whose ranks are done.
 ghost use Rattle.std.specs.Prelude.{◌≡◌, slice_get};
 
 use crate::layer::Layer;
@@ -6,7 +6,7 @@ use grid::{Push, Square};
 use std::marker::Model;
 use store::Origin;
 
-/// The parents of a layer's positions, by rank: all that is needed of an earlier layer to read a solution back.
+/// The parents of a layer's positions, by rank: one word a position, enough to retrace a solution.
 #[derive(Debug, Drop)]
 pub struct Parents {
     origins: Vec<Origin>,
@@ -23,7 +23,7 @@ impl Model for Parents {
 }
 
 impl Parents {
-    /// Those of a layer, which is given up for them, and the memory that its positions' squares took, for another layer
+    /// The parents of a layer, which it consumes, and the memory of its positions' squares, for another layer
     /// ([`Layer::join_in`]).
     pub fn of(layer: Layer) -> (Parents, Vec<Square>)
         ensures { result.0 ≡ layer.origins }
@@ -36,8 +36,8 @@ impl Parents {
         (Parents { origins }, squares)
     }
 
-    /// The rank of a position's parent in the layer before, and the push that leads from there; `None` exactly in
-    /// layer 0 and beyond the layer.
+    /// The rank of a position's parent in the layer before, and the push that leads from there; `None` in layer 0 and
+    /// beyond the layer.
     pub fn parent(&self, rank: u64) -> Option<(u64, Push)>
         ensures { result ≡ slice_get self.now rank }
     {

@@ -1,6 +1,7 @@
-//! Stretches of the layer that books closed last, each merged apart from the others, so that they can be merged side by
+//! Stretches of the last closed layer of books. Each is merged apart from the others, so threads can merge them side by
 //! side.
-ghost use Rattle.std.specs.Prelude.{◌≡◌, ℕ, ◌<◌, ◌≤◌, List, [], ◌++◌, true, IfOk, IfSome, OnOk, Some, length, map, slice_get};
+ghost use Rattle.std.specs.Prelude.{◌≡◌, ℕ, ◌<◌, ◌≤◌, List, [], ◌++◌, true, IfOk, IfSome, OnOk, Some, length, map};
+ghost use Rattle.std.specs.Prelude.{slice_get};
 ghost use Rattle.layers.specs.declared.limits.TheConstants.{MOST_POSITIONS};
 ghost use Rattle.successors.specs.Reaching.{total};
 ghost use Rattle.layers.specs.BookView.{last_list};
@@ -17,8 +18,8 @@ use store::{Origin, room_in};
 /// How often a list is halved at most until one place is left.
 const HALVINGS: u32 = 64;
 
-/// A stretch of the layer that books closed last: from so many positions of each book's share of it on, up to an origin. It
-/// holds its positions once it is merged.
+/// A stretch of the last closed layer of books: from an index in each book's share of it on, up to an origin. It holds
+/// its positions once it is merged.
 #[derive(Debug, Drop)]
 pub struct Stretch {
     // how many positions of each book's last list come before it
@@ -41,16 +42,17 @@ pub(crate) struct Merged {
 }
 
 impl Stretch {
-    /// In how many stretches of `least` positions or more the layer can be parted that the books closed last, up to `most`.
+    /// The number of stretches, at most `most`, of at least `least` positions into which the last closed layer of the
+    /// books can be divided.
     pub fn parts(books: &[Book], most: usize, least: usize) -> usize
         ensures { result ≤ most }
     {
         most.min(count_of(books) / least.max(1))
     }
 
-    /// The layer that the books closed last, in up to `most` stretches of about as many positions each, and `least` or more;
-    /// none where that would be one stretch, or where there is one book. The first one, to which the others are to be appended, has the
-    /// room that another layer left. The only error is that memory was refused.
+    /// The last closed layer of the books in at most `most` stretches of about equal length, at least `least` positions
+    /// each; none if that would be one stretch, or if there is one book. The first one, to which the others will be
+    /// appended, gets the memory of an earlier layer. Fails only if out of memory.
     pub fn all(
         alloc: Global,
         books: &[Book],
@@ -109,8 +111,8 @@ impl Stretch {
         })
     }
 
-    /// Merges the positions of the stretch, of the books that it was made of, by the origins. Where memory is refused it is not
-    /// merged, and then [`Layer::join_stretches`](crate::Layer::join_stretches) makes nothing of it.
+    /// Merges the positions of the stretch from its books, by the origins. If out of memory it stays unmerged, and
+    /// [`Layer::join_stretches`](crate::Layer::join_stretches) does not use it.
     pub fn merge(&mut self, alloc: Global, books: &[Book])
         ensures { IsStretchOf books.now self.new }
     {
@@ -126,8 +128,8 @@ impl Stretch {
         }
     }
 
-    /// Appends what others hold that follow this one, one after the other. Where one does not follow, or is not merged, or memory
-    /// is refused, this one is merged no more. Those that were appended hold nothing any more.
+    /// Appends the positions of the stretches that follow this one. If one does not follow, or is not merged, or if
+    /// out of memory, this one is unmerged again. The appended ones are empty afterwards.
     pub fn append_all(&mut self, books: &[Book], others: &mut [Stretch])
         requires own { IsStretchOf books.now self.old }
         requires others { (i : ℕ) (s : Stretch) → slice_get others.old i ≡ Some s → IsStretchOf books.now s }
@@ -142,8 +144,8 @@ impl Stretch {
     }
 }
 
-// Merges what is left of the books' last lists once so many of each were taken, up to a bound, in room for so many positions, for
-// whose squares there is memory of another list. The only error is that memory was refused.
+// Merges what is left of the books' last lists once so many of each were taken, up to a bound, in room for so many
+// positions, for whose squares there is memory of another list. The only error is that memory was refused.
 fn merge_upto(
     alloc: Global,
     books: &[Book],
@@ -153,7 +155,8 @@ fn merge_upto(
     lent: Vec<Square>,
 ) -> Result<Merged, AllocError>
     requires { length starts.now ≡ length books.now }
-    ensures { IfOk result (λ merged. AreTaken books.now starts.now merged.ends.items merged.squares.items merged.origins.items) }
+    ensures { IfOk result
+        (λ merged. AreTaken books.now starts.now merged.ends.items merged.squares.items merged.origins.items) }
 {
     tell_all(books);
     let mut rests = rests_of(alloc, books, starts)?;
@@ -177,8 +180,9 @@ fn merge_upto(
     })
 }
 
-// The squares of the positions of all the stretches and their origins, and how many they are; `None` where the stretches do not follow
-// each other from the first position to the last one, or one of them is not merged. The only error is that memory was refused.
+// The squares of the positions of all the stretches and their origins, and how many they are; `None` where the
+// stretches do not follow each other from the first position to the last one, or one of them is not merged. The only
+// error is that memory was refused.
 pub(crate) fn put_together(
     alloc: Global,
     books: &[Book],
@@ -186,7 +190,8 @@ pub(crate) fn put_together(
 ) -> Result<Option<(usize, Vec<Square>, Vec<Origin>)>, AllocError>
     requires few { total (map last_list books.now) ≤ MOST_POSITIONS }
     requires stretches { (i : ℕ) (s : Stretch) → slice_get stretches.old i ≡ Some s → IsStretchOf books.now s }
-    ensures merged { IfOk result (λ found. IfSome found (λ r. AreMerged (map last_list books.now) r.0 r.1.items r.2.items)) }
+    ensures merged { IfOk result
+        (λ found. IfSome found (λ r. AreMerged (map last_list books.now) r.0 r.1.items r.2.items)) }
     ensures stretches { AreKeptOrTaken stretches.old stretches.new }
 {
     let whole = rests_of(alloc, books, &[])?;
@@ -211,16 +216,19 @@ pub(crate) fn put_together(
     Ok(Some((count, squares, origins)))
 }
 
-// Appends what stretches hold that follow, one after the other, and tells whether each does, and is merged. What was appended a
-// stretch holds no more, so that no position is held twice for long. The only error is that memory was refused.
+// Appends what stretches hold that follow, one after the other, and tells whether each does, and is merged. What was
+// appended a stretch holds no more, so that no position is held twice for long. The only error is that memory was
+// refused.
 fn append_each(
     whole: &mut Merged,
     books: &[Book],
     stretches: &mut [Stretch],
 ) -> Result<bool, AllocError>
     requires stretches { (i : ℕ) (s : Stretch) → slice_get stretches.old i ≡ Some s → IsStretchOf books.now s }
-    ensures follow { (starts : List ℕ) → AreTaken books.now starts whole.old.ends.items whole.old.squares.items whole.old.origins.items →
-        IfOk result (λ follow. follow ≡ true → AreTaken books.now starts whole.new.ends.items whole.new.squares.items whole.new.origins.items) }
+    ensures follow { (starts : List ℕ) →
+        AreTaken books.now starts whole.old.ends.items whole.old.squares.items whole.old.origins.items →
+        IfOk result (λ follow. follow ≡ true →
+        AreTaken books.now starts whole.new.ends.items whole.new.squares.items whole.new.origins.items) }
     ensures stretches { AreKeptOrTaken stretches.old stretches.new }
 {
     for place in 0..stretches.len() {
@@ -231,16 +239,18 @@ fn append_each(
     Ok(true)
 }
 
-// Appends what a stretch holds, if it begins where the others end and is merged, and tells whether it does. Then it holds nothing
-// any more. The only error is that memory was refused.
+// Appends what a stretch holds, if it begins where the others end and is merged, and tells whether it does. Then it
+// holds nothing any more. The only error is that memory was refused.
 fn append_stretch(
     whole: &mut Merged,
     books: &[Book],
     stretch: &mut Stretch,
 ) -> Result<bool, AllocError>
     requires { IsStretchOf books.now stretch.old }
-    ensures follows { (starts : List ℕ) → AreTaken books.now starts whole.old.ends.items whole.old.squares.items whole.old.origins.items →
-        IfOk result (λ follows. follows ≡ true → AreTaken books.now starts whole.new.ends.items whole.new.squares.items whole.new.origins.items) }
+    ensures follows { (starts : List ℕ) →
+        AreTaken books.now starts whole.old.ends.items whole.old.squares.items whole.old.origins.items →
+        IfOk result (λ follows. follows ≡ true →
+        AreTaken books.now starts whole.new.ends.items whole.new.squares.items whole.new.origins.items) }
     ensures stretch { IsStretchOf books.now stretch.new }
     ensures taken { IsKeptOrTaken stretch.old stretch.new }
 {
@@ -256,8 +266,8 @@ fn append_stretch(
     Ok(true)
 }
 
-// Moves what one list holds behind what another one holds, of which it takes the place where that holds nothing. The only error is
-// that memory was refused.
+// Moves what one list holds behind what another one holds, of which it takes the place where that holds nothing. The
+// only error is that memory was refused.
 fn append<T>(list: &mut Vec<T>, more: &mut Vec<T>) -> Result<(), AllocError>
     ensures { OnOk result (list.new.items ≡ list.old.items ++ more.old.items) }
 {

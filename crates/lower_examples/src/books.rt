@@ -104,7 +104,8 @@ pub(crate) fn tally(rt: &impl Abort, book: &Book, worker: u8) -> u64 {
     book.tally(worker)
 }
 
-/// How many positions a book closes once each rank of its last layer was handed back to it, from the last one if turned.
+/// How many positions a book closes once each rank of its last layer was handed back to it, from the last one if
+/// turned.
 pub(crate) fn work_through(
     rt: &impl Abort,
     alloc: Global,

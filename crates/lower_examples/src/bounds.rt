@@ -148,7 +148,8 @@ fn is_solved(level: &Level, position: &Position) -> bool {
     position.boxes().iter().all(|square| level.is_goal(*square))
 }
 
-// Lowers what each step leads from to what it leads to and its pushes, where that is less, and says whether any was lowered.
+// Lowers what each step leads from to what it leads to and its pushes, where that is less, and says whether any was
+// lowered.
 fn lower_each(rt: &impl Abort, steps: &[(usize, usize, u64)], least: &mut [u64]) -> bool {
     let mut changed = false;
     for (from, to, pushes) in steps {
@@ -163,8 +164,8 @@ fn lower_each(rt: &impl Abort, steps: &[(usize, usize, u64)], least: &mut [u64])
     changed
 }
 
-// The least pushes with which a play from each position ends solved, by the rules alone. The shortest of these plays have fewer
-// steps than there are positions.
+// The least pushes with which a play from each position ends solved, by the rules alone. The shortest of these plays
+// have fewer steps than there are positions.
 fn least_pushes(rt: &impl Abort, alloc: Global, level: &Level, positions: &[Position]) -> Vec<u64> {
     let steps = steps_of(rt, alloc, level, positions);
     let mut least = Vec::new(alloc);
@@ -197,7 +198,8 @@ fn the_bound_is_between_that_of_lone_squares_and_the_fewest_pushes(rt: HostRunti
     }
 }
 
-// Holds the bound of each position of a level to the slow search and to the bound of `doom`. One matching serves them all.
+// Holds the bound of each position of a level to the slow search and to the bound of `doom`. One matching serves them
+// all.
 fn compare_all(rt: &impl Abort, alloc: Global, level: &Level, row: usize) {
     let positions = all_positions(rt, alloc, level);
     let least = least_pushes(rt, alloc, level, positions.as_slice());

@@ -158,8 +158,8 @@ fn is_doomed(rt: &impl Abort, alloc: Global, level: &Level) -> bool {
     doomed(level, &dead, &position, &mut scratch)
 }
 
-// What the freeze tests say of the start of a level where a push from square 17 leads: of the pushed box's group, and of
-// all boxes.
+// What the freeze tests say of the start of a level where a push from square 17 leads: of the pushed box's group, and
+// of all boxes.
 fn told(rt: &impl Abort, alloc: Global, level: &Level, dir: Dir) -> (bool, bool) {
     let dead = Dead::of(alloc, level).expect(rt, "memory");
     let mut scratch = Scratch::new(alloc, level).expect(rt, "memory");

@@ -1,5 +1,5 @@
-//! Calls that are made once more where memory was refused: what they borrowed is unchanged then, and they give the right result.
-//! `tests/refusals` runs each test with each request for memory refused in turn.
+//! Calls that are made once more where memory was refused: what they borrowed is unchanged then, and they give the
+//! right result. `tests/refusals` runs each test with each request for memory refused in turn.
 ghost use Rattle.std.specs.Prelude.{◌≡◌, length};
 ghost use Rattle.grid.specs.States.{IsScene};
 
@@ -126,7 +126,8 @@ fn layers_are_made_again(rt: HostRuntime) {
     drop(book);
 }
 
-// Checks the layer that a book closed last, and closes the next one. Each call is made once more where memory was refused.
+// Checks the layer that a book closed last, and closes the next one. Each call is made once more where memory was
+// refused.
 fn next_layer(rt: &impl Abort, alloc: Global, book: &mut Book, places: &[Place]) {
     let layer = join_again(rt, alloc, book);
     check_places(rt, &layer, places);

@@ -1,4 +1,5 @@
-//! The examples on the pages of the crates below `crew`, at the head of each `lib.rt`. `tests/cited` holds each page to the text here.
+//! The examples on the pages of the crates below `crew`, at the head of each `lib.rt`. `tests/cited` holds each page
+//! to the text here.
 ghost use Rattle.std.specs.Prelude.{◌≡◌, length};
 ghost use Rattle.grid.specs.Board.{start};
 ghost use Rattle.grid.specs.States.{FitsLevel};

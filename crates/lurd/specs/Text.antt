@@ -1,5 +1,6 @@
 -- LURD text: which bytes are a text, which letters it stands for, and which fault is the first.
-use Rattle.std.specs.Prelude.{◌≡◌, ℕ, ◌+◌, ◌-◌, ◌<◌, ◌≤◌, Bool, true, false, if◌then◌else◌, ◌||◌, ◌==◌, ◌⊎◌, List, [], ◌∷◌, ◌++◌, length, replicate, map}
+use Rattle.std.specs.Prelude.{◌≡◌, ℕ, ◌+◌, ◌-◌, ◌<◌, ◌≤◌, Bool, true, false, if◌then◌else◌, ◌||◌, ◌==◌, ◌⊎◌, List, []}
+use Rattle.std.specs.Prelude.{◌∷◌, ◌++◌, length, replicate, map}
 use Rattle.std.specs.Char.{is_ascii_digit}
 use Rattle.std.specs.List.{AllByRecursion, flat_map}
 use Rattle.counts.specs.Counts.{AreDigits, IsCount, begins_with_digit, repeats}
@@ -17,7 +18,8 @@ lower_byte L = 108
 lower_byte R = 114
 lower_byte U = 117
 
--- the byte that writes a letter: a step that pushes is written in upper case, whose bytes are 32 less, any other in lower case
+-- the byte that writes a letter: a step that pushes is written in upper case, whose bytes are 32 less, any other in
+-- lower case
 abbrev pub byte_of : Letter → ℕ
 byte_of letter = if letter.push then lower_byte letter.dir - 32 else lower_byte letter.dir
 

@@ -17,9 +17,11 @@ pub record Leads (board : Board) (s : Scene) (letters : List Letter) (t : Scene)
 
 -- no step is possible in the letter's direction
 abbrev pub IsBlocked : Board → Scene → Letter → Type 0
-IsBlocked board s letter = ((t : Scene) → ¬ (Walks board s letter.dir t)) × ((t : Scene) → ¬ (Pushes board s letter.dir t))
+IsBlocked board s letter =
+    ((t : Scene) → ¬ (Walks board s letter.dir t)) × ((t : Scene) → ¬ (Pushes board s letter.dir t))
 
--- t is the state after a step that is not as the case says: a walk by a letter in upper case, or a push by one in lower case
+-- t is the state after a step that is not as the case says: a walk by a letter in upper case, or a push by one in
+-- lower case
 abbrev pub StepsAgainstCase : Board → Scene → Dir → Bool → Scene → Type 0
 StepsAgainstCase board s dir true t = Walks board s dir t
 StepsAgainstCase board s dir false t = Pushes board s dir t
@@ -48,8 +50,10 @@ pub record EndsAs (board : Board) (letters : List Letter) (Is : Scene → Type 0
 -- the verdict on the letters, played from the level's start: letters in upper case push
 abbrev pub IsVerdict : Board → List Letter → Verdict → Type 0
 IsVerdict board letters (Solved pushes moves) =
-    EndsAs board letters (IsSolved board) × (pushes ≡ count_by (λ letter. letter.push) letters) × (moves ≡ length letters)
+    EndsAs board letters (IsSolved board) × (pushes ≡ count_by (λ letter. letter.push) letters) ×
+    (moves ≡ length letters)
 IsVerdict board letters (Unsolved pushes moves) =
-    EndsAs board letters (λ s. ¬ (IsSolved board s)) × (pushes ≡ count_by (λ letter. letter.push) letters) × (moves ≡ length letters)
+    EndsAs board letters (λ s. ¬ (IsSolved board s)) × (pushes ≡ count_by (λ letter. letter.push) letters) ×
+    (moves ≡ length letters)
 IsVerdict board letters (Blocked at) = StopsAt board letters at (IsBlocked board)
 IsVerdict board letters (WrongCase at) = StopsAt board letters at (HasWrongCase board)

@@ -5,21 +5,21 @@ use crate::limits::MAX_MOVES;
 use std::alloc::AllocError;
 use thiserror::Error;
 
-/// Why bytes are no LURD text. The first fault in the text is the one that is answered.
+/// Why bytes are no LURD text. `parse` reports the first fault in the text.
 #[derive(Clone, Copy, PartialEq, Eq, Debug, Drop, Error)]
 pub enum LurdFault {
-    /// A byte that is no letter, no digit and no blank, where a letter or a count might begin. `at` is its place,
+    /// A byte that is no letter, no digit and no blank, where a letter or a count might begin. `at` is its index,
     /// counted from 1.
     #[error("byte {at} begins neither a letter nor a count")]
     BadByte { at: usize },
-    /// A run of digits that has more digits than a count may have ([`MAX_DIGITS`](counts::MAX_DIGITS)), or the value 0,
-    /// or no letter right after it. `at` is the place of its first digit, counted from 1.
+    /// A run of digits that is longer than [`MAX_DIGITS`](counts::MAX_DIGITS), has the value 0, or has no letter right
+    /// after it. `at` is the index of its first digit, counted from 1.
     #[error("the digits at byte {at} are no count of a letter")]
     BadCount { at: usize },
-    /// A letter, with its count, that brings the moves above [`MAX_MOVES`](crate::MAX_MOVES).
+    /// More moves than [`MAX_MOVES`](crate::MAX_MOVES).
     #[error("more than {MAX_MOVES} moves")]
     TooManyMoves,
-    /// Memory was refused.
+    /// Out of memory.
     #[error("out of memory")]
     OutOfMemory,
 }

@@ -1,4 +1,5 @@
-ghost use Rattle.std.specs.Prelude.{◌≡◌, ℕ, ◌<◌, ◌≤◌, ◌∷◌, IfOk, IfErr, IfSome, IfNone, false, length, slice_index, List};
+ghost use Rattle.std.specs.Prelude.{◌≡◌, ℕ, ◌<◌, ◌≤◌, ◌∷◌, IfOk, IfErr, IfSome, IfNone, false, length, slice_index};
+ghost use Rattle.std.specs.Prelude.{List};
 ghost use Rattle.lurd.specs.inside.Item.{TakesItem, IsLetterByte};
 ghost use Rattle.lurd.specs.Text.{BeginsWithLetter, FaultsAt, byte_of, is_blank};
 
@@ -11,14 +12,14 @@ use grid::{Dir, Letter};
 #[derive(Clone, Copy)]
 pub(crate) struct Item {
     pub(crate) letter: Letter,
-    /// How often the letter is meant.
+    /// How many times the letter is repeated.
     pub(crate) times: usize,
     /// How many bytes the letter and its count take.
     pub(crate) len: usize,
 }
 
-/// Reads the letter that the bytes begin with, and its count if it has one, after so many moves. `at` is the place of
-/// the first byte, and is told where that is a fault.
+/// Reads the letter at the start of the bytes, and its count if it has one, after `moves` moves. `at` is the index of
+/// the first byte in the text, for the fault.
 pub(crate) fn read_item(bytes: &[u8], at: usize, moves: usize) -> Result<Item, LurdFault>
     requires some { 0 < length bytes.now }
     requires no_blank { is_blank (slice_index bytes.now 0) ≡ false }

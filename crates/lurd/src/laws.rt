@@ -1,4 +1,5 @@
-//! Laws of texts and verdicts that callers may rely on. Each is the contract of a function that does nothing.
+//! Laws of texts and verdicts that callers may rely on. Each is the contract of a function that does nothing: call it
+//! in a proof to use the law.
 ghost use Rattle.std.specs.Prelude.{◌≡◌, ◌≤◌, ℕ, List, length};
 ghost use Rattle.grid.specs.Board.{Board};
 ghost use Rattle.grid.specs.Plays.{IsSolution, dirs_of};
@@ -14,26 +15,27 @@ ghost use Rattle.lurd.specs.Solving.{WritesSolution};
 use crate::limits::MAX_MOVES;
 use crate::verdict::Verdict;
 
-/// Any bytes are a text of one list of letters and of no other, or have one first fault and no other, and never both.
+/// Bytes are either a text of exactly one list of letters, or have exactly one first fault.
 pub fn one_reading()
     ensures { (bytes : List ℕ) → ExactlyOne (λ r. Reads bytes r) }
 {}
 
-/// What `write` appends for letters that a text may stand for is a text of these letters.
+/// What [`write`](crate::write) appends is a text of its letters, if these are at most [`MAX_MOVES`](crate::MAX_MOVES).
 pub fn written_text()
     ensures { (letters : List Letter) → length letters ≤ MAX_MOVES → IsText (bytes_of letters) letters }
 {}
 
-/// For each level and letters there is one verdict and no other.
+/// Each level and list of letters have exactly one verdict.
 pub fn one_verdict()
     ensures { (board : Board) (letters : List Letter) → ExactlyOne (λ v. IsVerdict board letters v) }
 {}
 
-/// Letters that are judged solved write a solution with that many pushes and moves, and each solution is written by
-/// letters that are judged solved.
+/// Letters with the verdict `Solved` write a solution with that many pushes and moves, and the letters of each
+/// solution have that verdict.
 pub fn solved_is_solution()
     ensures there { (board : Board) (letters : List Letter) (pushes moves : ℕ) →
         IsVerdict board letters (Verdict.Solved pushes moves) → WritesSolution board letters pushes moves }
     ensures back { (board : Board) (ds : List Dir) (ps : List Push) → IsSolution board ds ps →
-        (letters : List Letter) × (dirs_of letters ≡ ds) × IsVerdict board letters (Verdict.Solved (length ps) (length ds)) }
+        (letters : List Letter) × (dirs_of letters ≡ ds) ×
+        IsVerdict board letters (Verdict.Solved (length ps) (length ds)) }
 {}

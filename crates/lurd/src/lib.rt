@@ -1,6 +1,7 @@
-//! Solutions as text in LURD notation, and what the rules say of them on a level.
+//! Solutions as text in LURD notation (letters for moves, capitals for pushes), and the verdict of the rules on them.
+//! [`parse`] reads a text, [`replay`] plays it on a level, [`write`] writes one. Memory and time grow with the moves.
 //!
-//! With the `level` of a hall `@$.`, a player, a box and a goal in a row:
+//! With the `level` of a corridor `@$.`, a player, a box and a goal in a row:
 //!
 //! ```text
 //! let moves = lurd::parse(alloc, b"R").expect(&rt, "letters");

@@ -1,4 +1,4 @@
 //! The limits of a text.
 
-/// The greatest number of moves that a text may stand for.
+/// The greatest number of moves of a text.
 pub const MAX_MOVES: usize = 1_000_000;

@@ -6,10 +6,11 @@ use crate::item::{is_blank, read_item};
 use grid::{Dir, Letter, Moves};
 use std::alloc::{AllocError, Global};
 
-/// The moves that a text stands for, or its first fault.
+/// The moves that a text writes, or its first fault.
 ///
-/// A text is letters `l`, `u`, `r`, `d`, `L`, `U`, `R`, `D`, each with a count before it or none, and blanks between
-/// them: spaces, tabs, CR and LF.
+/// A text is letters `l`, `u`, `r`, `d`, `L`, `U`, `R`, `D`, each with an optional count before it, and blanks between
+/// them: spaces, tabs, CR and LF. The grammar is in `specs/Text.antt`. Fails with the first [`LurdFault`] of the text,
+/// or if out of memory.
 pub fn parse(alloc: Global, text: &[u8]) -> Result<Moves, LurdFault>
     ensures ok { IfOk result (λ moves. IsText text.now moves) }
     ensures err { IfErr result (λ fault. (fault ≡ LurdFault.OutOfMemory) ⊎ HasTextFault text.now fault) }
@@ -28,7 +29,7 @@ pub fn parse(alloc: Global, text: &[u8]) -> Result<Moves, LurdFault>
     Ok(moves)
 }
 
-/// Appends a letter so many times. Where memory is refused, some of them may be appended.
+/// Appends a letter `times` times. After an error some of them may be appended.
 fn append(moves: &mut Moves, letter: Letter, times: usize) -> Result<(), AllocError>
     ensures { OnOk result (moves.new ≡ moves.old ++ replicate times letter) }
 {
@@ -38,8 +39,8 @@ fn append(moves: &mut Moves, letter: Letter, times: usize) -> Result<(), AllocEr
     Ok(())
 }
 
-/// Appends one letter for each move, in upper case where it pushes a box, without counts and blanks. Where memory is
-/// refused `out` stays as it was.
+/// Appends one letter for each move, in upper case if it pushes a box, without counts and blanks. Fails only if out of
+/// memory, and then leaves `out` unchanged.
 pub fn write(moves: &Moves, out: &mut Vec<u8>) -> Result<(), AllocError>
     ensures ok { OnOk result (out.new.items ≡ out.old.items ++ bytes_of moves.now) }
     ensures err { OnErr result (out.new.items ≡ out.old.items) }

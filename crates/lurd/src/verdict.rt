@@ -4,18 +4,18 @@ ghost use Rattle.lurd.specs.Verdict.{IsVerdict};
 use grid::{Level, Moves, State, Step};
 use std::alloc::{AllocError, Global};
 
-/// What the rules say of letters that are played on a level from its start.
+/// The result of playing letters on a level from its start, by the rules of the game.
 #[derive(Clone, Copy, PartialEq, Eq, Debug)]
 pub enum Verdict {
-    /// Each letter is a step as its case says, and in the end every box is on a goal. `pushes` counts the letters in
-    /// upper case, `moves` all.
+    /// Each letter is a step as its case says, and at the end every box is on a goal. `pushes` counts the letters in
+    /// upper case, `moves` all letters.
     Solved { pushes: usize, moves: usize },
-    /// Each letter is a step as its case says, and in the end some box is on no goal.
+    /// Each letter is a step as its case says, and at the end some box is off goal.
     Unsolved { pushes: usize, moves: usize },
-    /// No step is possible in the direction of the letter at this place, counted from 1, whatever its case.
+    /// No step is possible in the direction of the letter at this index, counted from 1, whatever its case.
     Blocked { at: usize },
-    /// The letter at this place, counted from 1, is in lower case and its step pushes a box, or is in upper case and
-    /// its step doesn't.
+    /// The letter at this index, counted from 1, is in lower case and its step pushes a box, or is in upper case and
+    /// its step does not.
     WrongCase { at: usize },
 }
 

@@ -10,21 +10,26 @@ use Rattle.area.specs.After.{IsPushed}
 use Rattle.prices.specs.Solving.{SolvableWithin, NoneWithin}
 use Rattle.prices.specs.Prices.{IsNeed, goals_of, sum_over, total_need}
 
--- no play of at most m pushes that ends solved pushes the box on the square in the direction, where it has stood there all the time
+-- no play of at most m pushes that ends solved pushes the box on the square in the direction, where it has stood
+-- there all the time
 abbrev pub NeverHelps : Board → ℕ → Scene → ℕ → Dir → Type 0
-NeverHelps board m s b d = (x y : Scene) (ds : List Dir) (ps : List Push) (n : ℕ) → Play board (λ z. contains z.boxes b ≡ true) s ds ps x
+NeverHelps board m s b d =
+    (x y : Scene) (ds : List Dir) (ps : List Push) (n : ℕ) → Play board (λ z. contains z.boxes b ≡ true) s ds ps x
     → Pushes board x d y → next board x.player d ≡ b → length ps + suc n ≤ m → ¬ (SolvableWithin board n y)
 
 -- so made at once it leads to nothing
 abbrev pub NeverLeadsOn : Board → Type 0
-NeverLeadsOn board = (left : ℕ) (s t : Scene) (p : Push) → IsScene board s → NeverHelps board (suc left) s p.square p.dir → IsPushed board s p t
+NeverLeadsOn board = (left : ℕ) (s t : Scene) (p : Push) → IsScene board s →
+    NeverHelps board (suc left) s p.square p.dir → IsPushed board s p t
     → NoneWithin board left t
 
 -- a push that costs more than is left never helps: with it the boxes need more, above the tolls, than there are pushes
 abbrev pub CostsTell : Board → Type 0
-CostsTell board = (toll : ℕ → ℕ) (need : ℕ → ℕ → ℕ) (m : ℕ) (s : Scene) (b : ℕ) (d : Dir) → IsNeed board toll need → IsScene board s
+CostsTell board =
+    (toll : ℕ → ℕ) (need : ℕ → ℕ → ℕ) (m : ℕ) (s : Scene) (b : ℕ) (d : Dir) → IsNeed board toll need → IsScene board s
     → contains s.boxes b ≡ true
-    → m + sum_over toll (goals_of board) + need b s.player ≤ total_need need s + need (next board b d) b → NeverHelps board m s b d
+    → m + sum_over toll (goals_of board) + need b s.player ≤ total_need need s + need (next board b d) b →
+    NeverHelps board m s b d
 
 -- a position of a level, and how many pushes at most may follow the next one: any number, where there is no cap
 pub record SlackView : Type 0 where

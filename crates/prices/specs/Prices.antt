@@ -23,8 +23,9 @@ pub record CanStand (board : Board) (b p : ℕ) : Type 0 where
   pub player : is_wall board p ≡ false
   pub apart : p ≢ b
 
--- what a box on a square needs at least to come to a goal and pay its toll, the player standing on a second square: on a goal
--- no more than the toll, and no step of the player lessens it but a push of the box, which does by at most one
+-- what a box on a square needs at least to come to a goal and pay its toll, the player standing on a second square:
+-- on a goal no more than the toll, and no step of the player lessens it but a push of the box, which does by at most
+-- one
 pub record IsNeed (board : Board) (toll : ℕ → ℕ) (need : ℕ → ℕ → ℕ) : Type 0 where
   pub home : (g p : ℕ) → is_goal board g ≡ true → CanStand board g p → need g p ≤ toll g
   pub walk : (b p : ℕ) (d : Dir) → let q = next board p d in
@@ -54,8 +55,8 @@ abbrev pub least_of : (ℕ → ℕ) → ℕ → List ℕ → ℕ
 least_of cost cap [] = cap
 least_of cost cap (g ∷ gs) = min (cost g) (least_of cost cap gs)
 
--- how far a box is from each goal at least, the player standing on a third square: nothing on the goal itself, and no step of
--- the player lessens it but a push of the box, which does by at most one
+-- how far a box is from each goal at least, the player standing on a third square: nothing on the goal itself, and no
+-- step of the player lessens it but a push of the box, which does by at most one
 pub record AreFar (board : Board) (far : ℕ → ℕ → ℕ → ℕ) : Type 0 where
   pub home : (g p : ℕ) → is_goal board g ≡ true → CanStand board g p → far g g p ≡ 0
   pub walk : (g b p : ℕ) (d : Dir) → let q = next board p d in

@@ -1,15 +1,16 @@
-//! Whether distances pass the look that makes them lower bounds: one step of the player, or one push, at a time.
+//! The proved check that distances are lower bounds: one step of the player, or one push, at a time.
 ghost use Rattle.std.specs.Prelude.{◌≡◌, ℕ, ◌<◌, IsTrue, true, length, slice_index_or};
 ghost use Rattle.prices.specs.Prices.{AreFar, CanStand, goals_of};
-ghost use Rattle.prices.specs.inside.Checks.{AreClosed, AreNoneAtHome, AreWithinOne, IsClosed, KeepRows, LessenByOne, LessensByOne, StayAway, StaysIn};
+ghost use Rattle.prices.specs.inside.Checks.{AreClosed, AreNoneAtHome, AreWithinOne, IsClosed, KeepRows, LessenByOne};
+ghost use Rattle.prices.specs.inside.Checks.{LessensByOne, StayAway, StaysIn};
 ghost use Rattle.prices.specs.inside.Tables.{far_in, row_in, has_number, spot_of};
 
 use crate::pulls::NEVER;
 use crate::table::{Side, Table};
 use grid::{Dir, Level, Square};
 
-/// Makes sure that the distances of a table are lower bounds: where they don't pass the look it has none any more, which
-/// says that no box needs a push.
+/// Makes sure that the distances of a table are lower bounds: a table that fails the check loses them all, which means
+/// that no box needs a push.
 pub(crate) fn make_sure(level: &Level, table: &mut Table)
     requires { table.old.goals.items ≡ goals_of level.now }
     ensures far { AreFar level.now (far_in table.new) }
@@ -33,7 +34,7 @@ fn are_far(level: &Level, table: &Table) -> bool
     kept & none & less
 }
 
-// Whether steps of the player that push nothing keep to one side of each lone box.
+// Whether steps of the player without a push stay on one side of each lone box.
 fn keep_rows(level: &Level, table: &Table) -> bool
     ensures { IsTrue result → KeepRows level.now table.now }
 {
@@ -46,7 +47,7 @@ fn keep_rows(level: &Level, table: &Table) -> bool
     true
 }
 
-// Whether the player leaves none of the sides of a lone box on the square without pushing it.
+// Whether the player leaves no side of a lone box on the square without pushing it.
 fn are_closed(level: &Level, table: &Table, square: Square) -> bool
     ensures { IsTrue result → AreClosed level.now table.now square }
 {
@@ -58,7 +59,7 @@ fn are_closed(level: &Level, table: &Table, square: Square) -> bool
     true
 }
 
-// Whether the player leaves the side of a lone box on the square at no step that doesn't push it.
+// Whether no step of the player that does not push a lone box on the square leaves this side of it.
 fn is_closed(level: &Level, table: &Table, square: Square, side: Side) -> bool
     ensures { IsTrue result → IsClosed level.now table.now square side }
 {
@@ -71,7 +72,7 @@ fn is_closed(level: &Level, table: &Table, square: Square, side: Side) -> bool
     true
 }
 
-// Whether from the player's square no step leads out of the side of a lone box.
+// Whether no step from the player's square leaves the side of a lone box.
 fn stays_in(level: &Level, table: &Table, square: Square, side: Side, player: Square) -> bool
     requires inside { player < length level.now.cells }
     ensures { IsTrue result → (d : Dir) → StaysIn level.now table.now square side player d }
@@ -86,14 +87,15 @@ fn stays_in(level: &Level, table: &Table, square: Square, side: Side, player: Sq
     down & left & right & up
 }
 
-// Whether the player cannot stand on a square, or is on the side of the lone box there.
+// Whether a square is a wall, or on this side of the lone box.
 fn is_in(level: &Level, table: &Table, square: Square, side: Side, player: Square) -> bool
-    ensures { IsTrue result → CanStand level.now square player → has_number side (spot_of table.now.spots.items player).number ≡ true }
+    ensures { IsTrue result → CanStand level.now square player →
+        has_number side (spot_of table.now.spots.items player).number ≡ true }
 {
     level.is_wall(player) || player == square || side.has(table.spot(player).number)
 }
 
-// Whether a box on a goal is nowhere far from it.
+// Whether a box on a goal has distance 0 to it, wherever the player is.
 fn are_none_at_home(level: &Level, table: &Table) -> bool
     ensures { IsTrue result → AreNoneAtHome level.now table.now }
 {
@@ -105,9 +107,10 @@ fn are_none_at_home(level: &Level, table: &Table) -> bool
     true
 }
 
-// Whether a box on a goal, which is the one at this place, is nowhere far from it.
+// Whether a box on a goal with this index has distance 0 to it, wherever the player is.
 fn is_none_at_home(level: &Level, table: &Table, place: usize, goal: Square) -> bool
-    ensures { IsTrue result → (p : ℕ) → p < length level.now.cells → slice_index_or (row_in table.now goal p) place 0 ≡ 0 }
+    ensures { IsTrue result → (p : ℕ) → p < length level.now.cells →
+        slice_index_or (row_in table.now goal p) place 0 ≡ 0 }
 {
     level.tell();
     for index in 0..level.squares() {
@@ -118,7 +121,7 @@ fn is_none_at_home(level: &Level, table: &Table, place: usize, goal: Square) -> 
     true
 }
 
-// The number at a place; 0 where there is none.
+// The number at an index; 0 if there is none.
 fn number_at(numbers: &[u32], place: usize) -> u32
     ensures { result ≡ slice_index_or numbers.now place 0 }
 {
@@ -128,7 +131,7 @@ fn number_at(numbers: &[u32], place: usize) -> u32
     }
 }
 
-// Whether each push lessens each distance of the box by one at most, and leaves one of `NEVER` so.
+// Whether each push lessens each distance of the box by at most one, and keeps those of `NEVER`.
 fn lessen_by_one(level: &Level, table: &Table) -> bool
     ensures { IsTrue result → LessenByOne level.now table.now }
 {
@@ -141,7 +144,7 @@ fn lessen_by_one(level: &Level, table: &Table) -> bool
     true
 }
 
-// Whether each push of the player from a square lessens each distance of the box by one at most.
+// Whether each push of the player from a square lessens each distance of the box by at most one.
 fn lessen_from(level: &Level, table: &Table, player: Square) -> bool
     requires { player < length level.now.cells }
     ensures { IsTrue result → (d : Dir) → LessensByOne level.now table.now player d }
@@ -153,7 +156,7 @@ fn lessen_from(level: &Level, table: &Table, player: Square) -> bool
     down & left & right & up
 }
 
-// Whether a push of the player from a square lessens each distance of the box by one at most.
+// Whether a push of the player from a square lessens each distance of the box by at most one.
 fn lessens_by_one(level: &Level, table: &Table, player: Square, dir: Dir) -> bool
     requires { player < length level.now.cells }
     ensures { IsTrue result → LessensByOne level.now table.now player dir }
@@ -172,7 +175,7 @@ fn lessens_by_one(level: &Level, table: &Table, player: Square, dir: Dir) -> boo
     are_within_one(table.row(from, player), table.row(to, from))
 }
 
-// Whether no number is greater than the other at its place by more than one, and beside one of `NEVER` or more stands
+// Whether each number is at most one more than the other with its index, and those of `NEVER` or more have such
 // another.
 fn are_within_one(numbers: &[u32], others: &[u32]) -> bool
     ensures { IsTrue result → AreWithinOne numbers.now others.now }

@@ -18,11 +18,11 @@ use grid::{Level, MAX_BOXES, Position, Square};
 use std::alloc::{AllocError, Global};
 use std::marker::Model;
 
-/// How many pushes a lone box needs to each goal of a level, by its square and the side of it on which the player stands.
-/// Contracts see the level that it was made of, and the numbers.
+/// The pushes that a lone box needs to each goal of a level, by its square and the side of it on which the player is.
+/// Contracts see the level and the numbers.
 ///
-/// It takes four bytes for each goal and each side of each square, 17 MB in the greatest rooms with 64 goals. There the
-/// sides are told apart at the first thousand squares that cut the room, and in rooms of up to 8,192 squares at all.
+/// It takes four bytes for each goal and each side of each square, 17 MB in the largest rooms with 64 goals. There it
+/// distinguishes the sides of the first thousand squares that cut the room; in rooms of up to 8,192 squares, of all.
 #[derive(Debug, Drop)]
 pub struct Distances {
     pub(crate) level: Level,
@@ -40,11 +40,12 @@ impl Model for Distances {
 
     ghost view = { λ a. record { level = a.level; table = a.table } };
 
-    ghost invariant = { λ a. AreFar a.level (far_in a.table) × (a.table.goals.items ≡ goals_of a.level) × StayAway a.level (far_in a.table) };
+    ghost invariant = { λ a. AreFar a.level (far_in a.table) × (a.table.goals.items ≡ goals_of a.level) ×
+        StayAway a.level (far_in a.table) };
 }
 
 impl Distances {
-    /// The distances of a level with at most [`MAX_BOXES`] boxes. The only error is that memory was refused.
+    /// The distances of a level with at most [`MAX_BOXES`] boxes. Fails only if out of memory.
     pub fn of(alloc: Global, level: &Level) -> Result<Distances, AllocError>
         requires { box_count level.now ≤ MAX_BOXES }
         ensures { IfOk result (λ distances. distances.level ≡ level.now) }
@@ -58,15 +59,16 @@ impl Distances {
         })
     }
 
-    /// Matches the boxes of a position with the goals, for what asks for the matching's tolls. Takes no memory.
+    /// Matches the boxes of a position with the goals, for callers that need only the matching's tolls. Takes no
+    /// memory.
     pub fn meet(&self, position: &Position, matching: &mut Matching) {
         matching.meet(&self.table, position);
     }
 
-    /// How many pushes the boxes need at least: no play from the position with fewer ends solved. It is
-    /// [`NEVER`](crate::NEVER) or more where the distances say that the boxes can't all be brought to goals, no two to one.
-    /// Takes no memory. The matching may be one of any other position; one of a position that differs by a push or two
-    /// takes least time.
+    /// A lower bound on the pushes that the boxes need: no play from the position with fewer ends solved. It is
+    /// [`NEVER`](crate::NEVER) or more if the distances say that the boxes cannot all come to goals of their own.
+    /// Takes no memory. The matching may be that of any position; one of a position that differs by a push or two is
+    /// fastest.
     pub fn lower(&self, position: &Position, matching: &mut Matching) -> u64
         requires { IsScene self.now.level position.now }
         ensures bound { (m : ℕ) → m < result → NoneWithin self.now.level m position.now }
@@ -76,9 +78,9 @@ impl Distances {
         self.needs_above(position, matching.tolls(self.table.goals.len()))
     }
 
-    /// Whether some boxes can be brought to fewer goals than they are: then no play from the position ends solved. The
-    /// matching is that of the position, as `lower` or `meet` leaves it; another may have it say `false`, which says nothing.
-    /// Takes no memory.
+    /// Whether some boxes can come only to goals that are fewer than these boxes: then no play from the position ends
+    /// solved. The matching is that of the position, as `lower` or `meet` leaves it; with another the result may be
+    /// `false`, which says nothing. Takes no memory.
     pub fn is_lost(&self, position: &Position, matching: &Matching) -> bool
         requires { IsScene self.now.level position.now }
         ensures { IsTrue result → IsLost self.now.level position.now }
@@ -94,8 +96,8 @@ impl Distances {
         mark_count(marks) < keep
     }
 
-    /// Tells that the distances are lower bounds, for each goal of the level, and that a box which can't be brought to a goal
-    /// can't be brought there after a push either.
+    /// States that the distances are lower bounds, for each goal of the level, and that a box that cannot come to a
+    /// goal cannot come there after a push either. It does nothing; call it in proofs.
     pub fn tell(&self)
         ensures far { AreFar self.now.level (far_in self.now.table) }
         ensures away { StayAway self.now.level (far_in self.now.table) }
@@ -104,14 +106,14 @@ impl Distances {
         let _ = &self.table;
     }
 
-    /// How many goals there are.
+    /// The number of goals.
     pub fn goals(&self) -> usize
         ensures { result ≡ length (goals_of self.now.level) }
     {
         self.table.goals.len()
     }
 
-    /// How far a lone box is from each goal, in the order of the goals, the player being on the second square.
+    /// The distances of a lone box to each goal, in the order of the goals, with the player on the second square.
     #[inline(always)]
     pub fn row(&self, square: Square, player: Square) -> &[u32]
         ensures { result.now ≡ row_in self.now.table square player }
@@ -119,7 +121,7 @@ impl Distances {
         self.table.row(square, player)
     }
 
-    // How much more the boxes need than the sum of these tolls; 0 where there is not one for each goal.
+    // What the boxes need above the sum of these tolls; 0 if there is not one toll for each goal.
     fn needs_above(&self, position: &Position, tolls: &[u32]) -> u64
         requires { length tolls.now ≤ MAX_BOXES }
         ensures { ComesOfTolls self.now.level (far_in self.now.table) position.now result }

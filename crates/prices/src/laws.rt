@@ -1,12 +1,13 @@
-//! Laws of plays with few pushes that callers may rely on. Each is the contract of a function that does nothing.
+//! Laws of plays with few pushes that callers may rely on. Each is the contract of a function that does nothing: call
+//! it in a proof to use the law.
 ghost use Rattle.prices.specs.Solving.{FirstPushLeads, NoneIsNotSolvable, NormsChangeNothing, WalksChangeNothing};
 ghost use Rattle.prices.specs.Prices.{NeedsHold, NeedsRefuse, TollsAreFree};
 ghost use Rattle.prices.specs.Helping.{CostsTell, NeverLeadsOn};
 
 use grid::Level;
 
-/// The laws of states that plays with few pushes solve: such a state that is not solved has a first push, after which one
-/// push less is enough; walking changes nothing; and that no play has few enough is that some play does not.
+/// The laws of states that a play with at most m pushes solves: an unsolved one has a first push, after which m - 1
+/// pushes are enough; walking changes nothing; and a state is either such a state or not.
 pub fn a_first_push_leads_on(level: &Level)
     ensures first { FirstPushLeads level.now }
     ensures walks { WalksChangeNothing level.now }
@@ -14,15 +15,16 @@ pub fn a_first_push_leads_on(level: &Level)
     ensures none { NoneIsNotSolvable level.now }
 {}
 
-/// The laws of what boxes need: no play that ends solved has fewer pushes than the boxes need above the tolls of the
-/// goals, and for any tolls the least of distance and toll is a need.
+/// The laws of needs: no play that ends solved has fewer pushes than the boxes need above the tolls of the goals; and
+/// for any tolls, the least sum of distance and toll is a need.
 pub fn needs_are_bounds(level: &Level)
     ensures hold { NeedsHold level.now }
     ensures refuse { NeedsRefuse level.now }
     ensures tolls { TollsAreFree level.now }
 {}
 
-/// The laws of pushes that never help: one that costs more than is left is such a push, and made at once it leads to nothing.
+/// The laws of pushes that never help: a push that costs more than is left never helps, and if it is made now, no play
+/// solves the level with the pushes that are left.
 pub fn costs_tell_what_never_helps(level: &Level)
     ensures costs { CostsTell level.now }
     ensures leads { NeverLeadsOn level.now }

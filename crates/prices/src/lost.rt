@@ -1,4 +1,4 @@
-//! Boxes that can be brought to marked goals only: more of them than marks can't all be brought to goals.
+//! Boxes that can come only to marked goals: if they are more than the marks, they cannot all come to goals.
 ghost use Rattle.std.specs.Prelude.{◌≡◌, ◌≤◌, cond, length};
 ghost use Rattle.prices.specs.Prices.{sum_over};
 ghost use Rattle.prices.specs.inside.Goals.{keeps_to, mark_count, marks_all};
@@ -8,7 +8,7 @@ use crate::table::Table;
 use grid::{MAX_BOXES, Square};
 
 impl Table {
-    /// How many of the boxes can be brought to marked goals only.
+    /// The number of boxes that can come only to marked goals.
     pub(crate) fn keep_to(&self, marks: &[bool], boxes: &[Square], player: Square) -> usize
         requires { length boxes.now ≤ MAX_BOXES }
         ensures { result ≡ sum_over (λ b. cond (keeps_to self.now marks.now b player) 1 0) boxes.now }
@@ -22,7 +22,7 @@ impl Table {
         count
     }
 
-    // Whether a box on the square can be brought to marked goals only.
+    // Whether a box on the square can come only to marked goals.
     fn keeps_to(&self, marks: &[bool], square: Square, player: Square) -> bool
         ensures { result ≡ keeps_to self.now marks.now square player }
     {
@@ -45,7 +45,7 @@ fn marks_all(row: &[u32], marks: &[bool]) -> bool
     true
 }
 
-/// How many marks there are.
+/// The number of marks.
 pub(crate) fn mark_count(marks: &[bool]) -> usize
     ensures { result ≡ mark_count marks.now }
 {

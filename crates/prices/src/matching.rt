@@ -1,5 +1,5 @@
-//! A matching of boxes with goals that costs least, and the tolls that it gives the goals. Nothing is promised of it: the
-//! bound holds for any tolls whatever.
+//! A matching of boxes with goals at least cost, and the tolls that it gives the goals. It has no contract: the bound
+//! holds for any tolls.
 ghost use Rattle.std.specs.Prelude.{◌≤◌, length};
 ghost use Rattle.prices.specs.inside.Matchings.{IsCopy};
 
@@ -9,25 +9,25 @@ use grid::{MAX_BOXES, Position, Square};
 /// No box, and no goal.
 pub(crate) const NONE: u8 = u8::MAX;
 
-/// The boxes of a position matched with the goals, at least cost. It is mended from one position to the next: what has not
-/// changed stays matched. A toll for each goal makes each box want the goal that it is matched with.
+/// The boxes of a position matched with the goals, at least cost. It is mended from one position to the next: boxes
+/// that did not move stay matched. The tolls of the goals make each box prefer the goal that it is matched with.
 #[derive(Debug, Drop)]
 pub struct Matching {
-    // where the distances of each box stand in the table, and how many boxes there are
+    // the index of each box's distances in the table, and the number of boxes
     pub(crate) rows: [u32; MAX_BOXES],
     pub(crate) count: usize,
     // the goal of each box, and the box of each goal
     pub(crate) goals: [u8; MAX_BOXES],
     pub(crate) boxes: [u8; MAX_BOXES],
     pub(crate) tolls: [u32; MAX_BOXES],
-    // of the search for a goal: what each goal costs at least, from which box it is reached, and whether it was left
+    // for the search for a goal: the least cost of each goal, the box from which it is reached, and whether it is done
     pub(crate) costs: [u32; MAX_BOXES],
     pub(crate) from: [u8; MAX_BOXES],
     pub(crate) left: [bool; MAX_BOXES],
 }
 
 impl Matching {
-    /// Nothing is matched yet. It serves all positions of all levels.
+    /// An empty matching. It serves all positions of all levels.
     pub fn new() -> Matching {
         Matching {
             rows: [0; MAX_BOXES],
@@ -41,7 +41,7 @@ impl Matching {
         }
     }
 
-    /// Becomes a copy of another matching, ready to be mended to a position that differs by a push or two.
+    /// Copies another matching, to be mended to a position that differs by a push or two.
     pub fn copy_from(&mut self, other: &Matching)
         ensures { IsCopy self.new other.now }
     {
@@ -52,7 +52,7 @@ impl Matching {
         self.tolls = other.tolls;
     }
 
-    /// The tolls of so many goals.
+    /// The tolls of the first `goals` goals.
     pub(crate) fn tolls(&self, goals: usize) -> &[u32]
         ensures { length result.now ≤ MAX_BOXES }
     {
@@ -71,7 +71,7 @@ impl Matching {
         self.lower_tolls(table.goals.len());
     }
 
-    // Keeps what is matched of the boxes whose distances stand where they stood; all other goals become free.
+    // Keeps the boxes matched whose distances have the same index as before; all other goals become free.
     fn keep(&mut self, table: &Table, boxes: &[Square], player: Square)
         requires { length boxes.now ≤ MAX_BOXES }
     {
@@ -93,7 +93,7 @@ impl Matching {
         self.list_boxes();
     }
 
-    // The first box from a place on whose distances don't stand before the row. They rise with the boxes.
+    // The first box from an index on whose distances are not before the row. They rise with the boxes.
     fn first_from(&self, from: usize, row: u32) -> usize {
         let count = self.count.min(MAX_BOXES);
         let mut place = from;
@@ -114,7 +114,7 @@ impl Matching {
         }
     }
 
-    // Takes from all tolls as much as the least is.
+    // Subtracts the least toll from all tolls.
     fn lower_tolls(&mut self, goals: usize) {
         let goals = goals.min(MAX_BOXES);
         let mut least = u32::MAX;

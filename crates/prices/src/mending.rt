@@ -1,4 +1,4 @@
-//! One more box matched, by a cheapest way through boxes that change their goals.
+//! Matching one more box, by a cheapest path through boxes that change their goals.
 
 ghost use Rattle.std.specs.Prelude.{◌<◌, ◌≤◌};
 
@@ -8,7 +8,7 @@ use crate::table::Table;
 use grid::MAX_BOXES;
 
 impl Matching {
-    /// Gives the box at a place a goal, and other boxes other goals where that costs less.
+    /// Gives the box with an index a goal, and other boxes other goals where that costs less.
     pub(crate) fn find_goal(&mut self, table: &Table, place: u8) {
         let goals = table.goals.len().min(MAX_BOXES);
         self.begin(table, place);
@@ -25,8 +25,8 @@ impl Matching {
         }
     }
 
-    /// The goals to which boxes can be brought that compete for too few: a box that lacks a goal to which it can be brought,
-    /// the boxes that have the goals to which it can be, and so on. None where no box lacks a goal.
+    /// The goals of boxes that compete for too few: of a box without a goal, of the boxes that have the goals that it
+    /// can reach, and so on. Empty if no box lacks a goal.
     pub(crate) fn wanted(&self, table: &Table) -> [bool; MAX_BOXES] {
         let mut wanted = [false; MAX_BOXES];
         let mut boxes = [self.first_without(table); MAX_BOXES];
@@ -49,7 +49,7 @@ impl Matching {
         wanted
     }
 
-    // The first box that is not matched with a goal to which it can be brought.
+    // The first box that is not matched with a goal that it can reach.
     fn first_without(&self, table: &Table) -> u8 {
         for place in 0..self.count.min(MAX_BOXES) {
             let row = table.row_at(self.rows[place]);
@@ -61,7 +61,7 @@ impl Matching {
         NONE
     }
 
-    // Each goal costs the box at a place its distance and toll.
+    // The cost of each goal for a box is its distance and toll.
     fn begin(&mut self, table: &Table, place: u8) {
         self.costs = [u32::MAX; MAX_BOXES];
         self.from = [place; MAX_BOXES];
@@ -74,7 +74,7 @@ impl Matching {
         }
     }
 
-    // The goal that costs least of those that were not left.
+    // The goal with the least cost that is not done.
     fn cheapest(&self, goals: usize) -> usize
         requires { goals ≤ MAX_BOXES }
         ensures { result < MAX_BOXES }
@@ -90,7 +90,7 @@ impl Matching {
         found
     }
 
-    // Goes on from a goal to those that its owner could have in its place.
+    // Goes on from a goal to those that its box could have instead.
     fn go_on(&mut self, table: &Table, goal: usize, owner: u8)
         requires { goal < MAX_BOXES }
     {
@@ -110,7 +110,7 @@ impl Matching {
         }
     }
 
-    // Raises the tolls of the goals that were left by as much as they cost less than `most`.
+    // Raises the toll of each goal that is done by the difference of its cost to `most`.
     fn raise_tolls(&mut self, most: u32, goals: usize)
         requires { goals ≤ MAX_BOXES }
     {
@@ -122,8 +122,8 @@ impl Matching {
         }
     }
 
-    // Gives a goal to the box from which it was reached, that box's goal to the box from which this was reached, and so on
-    // to the box at a place.
+    // Gives a goal to the box from which it was reached, that box's goal to the box from which this one was reached,
+    // and so on to the first box.
     fn change_goals(&mut self, free: usize, place: u8)
         requires { free < MAX_BOXES }
     {

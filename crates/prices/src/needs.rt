@@ -1,4 +1,4 @@
-//! What boxes need by the distances of a table and the tolls of the goals.
+//! The needs of boxes by the distances of a table and the tolls of the goals.
 ghost use Rattle.std.specs.Prelude.{◌≡◌, ℕ, ◌+◌, ◌*◌, ◌<◌, ◌≤◌, length, slice_index_or};
 ghost use Rattle.prices.specs.Prices.{sum_over};
 ghost use Rattle.prices.specs.inside.Sums.{greatest, least_sum, need_by, need_seen, total};
@@ -7,7 +7,7 @@ use crate::table::Table;
 use grid::{MAX_BOXES, Square};
 
 impl Table {
-    /// A lower bound of what boxes on these squares need, the player being on another, by a toll for each goal.
+    /// A lower bound on the needs of boxes on these squares, with the player on another, by a toll for each goal.
     pub(crate) fn needs(&self, boxes: &[Square], player: Square, tolls: &[u32]) -> u64
         requires few { length boxes.now ≤ MAX_BOXES }
         requires tolls { length tolls.now ≡ length self.now.goals.items }
@@ -20,7 +20,7 @@ impl Table {
         needs
     }
 
-    /// A lower bound of what a box on the square needs.
+    /// A lower bound on the need of a box on the square.
     pub(crate) fn need(&self, square: Square, player: Square, tolls: &[u32]) -> u32
         requires { length tolls.now ≡ length self.now.goals.items }
         ensures seen { result ≡ need_seen self.now tolls.now square player }
@@ -36,12 +36,13 @@ impl Table {
 }
 
 #[tactic(auto, using(crate::proofs::Sums::least_sum_most))]
-// The least sum of a number and the other at its place; the greatest number where that is less or there are none.
+// The least sum of a number and the other with its index, at most the greatest number of the type.
 fn least_sum(numbers: &[u32], others: &[u32]) -> u32
     requires { length numbers.now ≡ length others.now }
     ensures most { result ≤ greatest }
     ensures value { result ≡ least_sum numbers.now others.now }
-    ensures each { (i : ℕ) → i < length numbers.now → result ≤ slice_index_or numbers.now i 0 + slice_index_or others.now i 0 }
+    ensures each { (i : ℕ) → i < length numbers.now →
+        result ≤ slice_index_or numbers.now i 0 + slice_index_or others.now i 0 }
 {
     let mut least = u32::MAX;
     for (place, number) in numbers.iter().enumerate() {

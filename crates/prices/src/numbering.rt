@@ -1,16 +1,15 @@
-//! The squares numbered by a walk through the level that goes on to a new square wherever it can, and where it goes back
-//! what can be reached only through the square that it goes back to. Nothing is promised of it: what rests on it is
-//! checked.
+//! A depth-first numbering of the squares, and what can be reached only through a square. It has no contract: what uses
+//! it is checked.
 
 use grid::{Dir, Level, Square};
 use std::alloc::{AllocError, Global};
 
-/// No square: what stands before the one where the walk began.
+/// No square: the parent of the first one.
 pub(crate) const NO_SQUARE: u16 = u16::MAX;
 
-/// What the walk found of a square: its number from 1, or 0 where it did not come there; the least number beside it or
-/// beside the squares that were reached through it; one more than the greatest number of those; the square before it; and
-/// in how many directions the walk went on from it.
+/// The visit of a square: its number from 1, or 0 if it was not visited; the least number beside it or beside the
+/// squares that were reached through it; one more than the greatest number of those; its parent; and the number of
+/// directions that were tried.
 #[derive(Clone, Copy, Default, Debug)]
 pub(crate) struct Visit {
     pub(crate) number: u32,
@@ -20,7 +19,7 @@ pub(crate) struct Visit {
     tried: u8,
 }
 
-/// What the walk found of each square.
+/// The visits of all squares.
 pub(crate) fn visits(alloc: Global, level: &Level) -> Result<Vec<Visit>, AllocError> {
     level.tell();
     let squares = level.squares();
@@ -35,7 +34,7 @@ pub(crate) fn visits(alloc: Global, level: &Level) -> Result<Vec<Visit>, AllocEr
     Ok(visits)
 }
 
-/// What the walk found of a square.
+/// The visit of a square.
 pub(crate) fn visit_of(visits: &[Visit], square: Square) -> Visit {
     match visits.get(square.0 as usize) {
         Some(visit) => *visit,
@@ -43,8 +42,8 @@ pub(crate) fn visit_of(visits: &[Visit], square: Square) -> Visit {
     }
 }
 
-// Numbers the squares that a walk from a square reaches, from the number `next` on; gives the number after them. Each turn
-// tries a direction or goes back.
+// Numbers the squares that can be reached from a square, from the number `next` on, and returns the number after them.
+// Each iteration tries a direction or goes back.
 fn walk_from(level: &Level, visits: &mut [Visit], root: Square, mut next: u32) -> u32 {
     let mut square = root;
     next = enter(visits, root, NO_SQUARE, next);
@@ -67,7 +66,7 @@ fn walk_from(level: &Level, visits: &mut [Visit], root: Square, mut next: u32) -
     next
 }
 
-// The direction that is tried next where so many were.
+// The direction to try after `tried` others.
 fn direction(tried: u8) -> Option<Dir> {
     match tried {
         0 => Some(Dir::D),
@@ -78,7 +77,7 @@ fn direction(tried: u8) -> Option<Dir> {
     }
 }
 
-// Gives a square its number, and gives the number after it.
+// Gives a square its number, and returns the next number.
 fn enter(visits: &mut [Visit], square: Square, before: u16, next: u32) -> u32 {
     if let Some(visit) = visits.get_mut(square.0 as usize) {
         *visit = Visit {
@@ -92,7 +91,7 @@ fn enter(visits: &mut [Visit], square: Square, before: u16, next: u32) -> u32 {
     next.saturating_add(1)
 }
 
-// The square next to a square; the square itself where that is a wall. Where it was visited its number may be the least.
+// The square next to a square; the square itself if that is a wall. If it was visited, its number may be the least.
 fn step(level: &Level, visits: &mut [Visit], square: Square, dir: Dir) -> Square {
     let place = square.0 as usize;
     if place >= visits.len() || place >= level.squares() {
@@ -110,7 +109,7 @@ fn step(level: &Level, visits: &mut [Visit], square: Square, dir: Dir) -> Square
     to
 }
 
-// Ends the visit of a square, and tells the square before it of the least number.
+// Ends the visit of a square, and carries its least number to its parent.
 fn leave(visits: &mut [Visit], square: Square, next: u32) {
     let visit = visit_of(visits, square);
     if let Some(left) = visits.get_mut(square.0 as usize) {

@@ -1,21 +1,21 @@
-//! The distances of a table, found by pulls from each goal. Nothing is promised of them: they are checked.
+//! The distances of a table, found by pulls from each goal. They have no contract: they are checked.
 
 use crate::table::Table;
 use grid::{Dir, Level, Square};
 use std::alloc::{AllocError, Global};
 
-/// The distance of a box that can't be brought to the goal at all. All others are less, since a box need not come to a
-/// square with the player on one side of it twice. A hundred of them add up to less than [`u32::MAX`].
+/// The distance of a box that cannot come to the goal. All other distances are less, since a box need not come to a
+/// square twice with the player on the same side. The sum of a hundred of them is less than [`u32::MAX`].
 pub const NEVER: u32 = 1 << 24;
 
-/// A box on a square, the player being where its distances stand from `row` on.
+/// A box on a square, with the player on the side whose distances begin at `row`.
 #[derive(Clone, Copy)]
 struct Pulled {
     square: Square,
     row: u32,
 }
 
-/// The distances found so far to the goal at a place and to those before, and the boxes that were found, in turn.
+/// The distances to a goal and those before it as far as they were found, and the boxes that were found, in order.
 #[derive(Drop)]
 struct Filling {
     place: usize,
@@ -23,7 +23,7 @@ struct Filling {
     queue: Vec<Pulled>,
 }
 
-/// The distances to each goal, as the squares and sides of the table have room for them.
+/// The distances to each goal, for the squares and sides of the table.
 pub(crate) fn distances(
     alloc: Global,
     level: &Level,
@@ -52,7 +52,7 @@ impl Filling {
         self.mark(goal, table.spot(goal).row, 0)
     }
 
-    // Pulls the box on from each square and side that was found.
+    // Pulls the box from each square and side that was found.
     fn spread(&mut self, level: &Level, table: &Table) -> Result<(), AllocError> {
         for head in 0..self.far.len() {
             if head >= self.queue.len() {
@@ -64,7 +64,7 @@ impl Filling {
         Ok(())
     }
 
-    // Pulls the box one square on in each direction.
+    // Pulls the box by one square in each direction.
     fn pull_around(
         &mut self,
         level: &Level,
@@ -78,7 +78,7 @@ impl Filling {
         Ok(())
     }
 
-    // Pulls the box one square on, if the player has room there and behind, and is on this side of it.
+    // Pulls the box by one square, if the player has two free squares there and is on this side of it.
     fn pull(
         &mut self,
         level: &Level,
@@ -110,7 +110,7 @@ impl Filling {
         }
     }
 
-    // Notes the distance of a box on the square to the goal in a row, unless one is known.
+    // Enters the distance of a box on the square to the goal in a row, unless one is known.
     fn mark(&mut self, square: Square, row: u32, far: u32) -> Result<(), AllocError> {
         let at = (row as usize).saturating_add(self.place);
         if at < self.far.len() && self.far[at] == NEVER {

@@ -1,16 +1,16 @@
-//! The sides of each square: where a box on it cuts the room, into which parts. Nothing is promised of them: what rests on
-//! them is checked.
+//! The sides of each square: the parts into which a box on it cuts the room. They have no contract: what uses them is
+//! checked.
 
 use crate::numbering::{NO_SQUARE, Visit, visit_of, visits};
 use crate::table::{Side, Spot};
 use grid::{Dir, Level, Square};
 use std::alloc::{AllocError, Global};
 
-/// How often a square is looked at to check the sides, at most. Each side costs a look at each square, so the greatest
-/// rooms have at most a thousand squares whose sides are told apart, and rooms of up to 8,192 squares as many as they like.
+/// The greatest cost of the check of the sides, in squares. Each side costs one look at each square, so the largest
+/// rooms have at most a thousand squares with sides, and rooms of up to 8,192 squares any number.
 const MOST_LOOKS: usize = 1 << 26;
 
-/// The squares and the sides of a level for a table with so many goals, and how many distances the table has.
+/// The squares and the sides of a level, for a table with this number of goals, and the number of its distances.
 #[derive(Drop)]
 pub(crate) struct Sides {
     pub(crate) spots: Vec<Spot>,
@@ -18,7 +18,7 @@ pub(crate) struct Sides {
     pub(crate) len: u32,
 }
 
-/// The sides of each square of the level for a table with so many goals.
+/// The sides of each square of the level, for a table with this number of goals.
 pub(crate) fn sides_of(alloc: Global, level: &Level, goals: u32) -> Result<Sides, AllocError> {
     let visits = visits(alloc, level)?;
     level.tell();
@@ -35,7 +35,7 @@ pub(crate) fn sides_of(alloc: Global, level: &Level, goals: u32) -> Result<Sides
 }
 
 impl Sides {
-    // Adds a square with its sides, and room for its distances.
+    // Adds a square with its sides, and a row for its distances.
     fn add(
         &mut self,
         level: &Level,
@@ -63,7 +63,7 @@ impl Sides {
         Ok(())
     }
 
-    // Adds the side of a square in a direction, if all that was reached that way can only be reached through the square.
+    // Adds the side of a square in a direction, if all squares there can only be reached through the square.
     fn add_side(
         &mut self,
         level: &Level,
@@ -89,19 +89,19 @@ impl Sides {
         Ok(())
     }
 
-    // How many sides there are.
+    // The number of sides.
     fn count(&self) -> u32 {
         u32::try_from(self.sides.len()).unwrap_or(u32::MAX)
     }
 
-    // Whether one more side may be checked.
+    // Whether the check can afford one more side.
     fn has_room(&self, level: &Level) -> bool {
         self.sides.len().saturating_mul(level.squares()) < MOST_LOOKS
     }
 }
 
-// Whether what was reached through the second square, which was entered from the first, is reached only through the first.
-// Of the square where the walk began one way needs no side of its own.
+// Whether what was reached through the second square, the child of the first, can only be reached through the first.
+// One direction of the first square of all needs no side of its own.
 fn is_cut_off(here: Visit, square: Square, there: Visit) -> bool {
     let is_root_way = here.before == NO_SQUARE && there.number == here.number.saturating_add(1);
     there.before == square.0 && there.least >= here.number && !is_root_way

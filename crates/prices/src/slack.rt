@@ -11,8 +11,8 @@ use crate::table::{Table, part};
 use grid::{Dir, Level, MAX_BOXES, Position, Square};
 use std::marker::Model;
 
-/// How many more pushes are left than the boxes of a position need, by the tolls of a matching. Contracts see the level, the
-/// position, and how many pushes are left after the next; `None` is any number.
+/// How many more pushes are left than the boxes of a position need, by the tolls of a matching. Contracts see the
+/// level, the position, and how many pushes are left after the next one; `None` is any number.
 #[derive(Debug, Drop)]
 pub struct Slack<'a> {
     level: &'a Level,
@@ -20,7 +20,7 @@ pub struct Slack<'a> {
     position: &'a Position,
     tolls: [u32; MAX_BOXES],
     left: Option<u32>,
-    // under a cap, what a box may need more after its push than before, so much and no more
+    // under a cap, the most that a push may add to the need of its box
     spare: u64,
 }
 
@@ -36,8 +36,8 @@ impl<'a> Model for Slack<'a> {
 }
 
 impl<'a> Slack<'a> {
-    /// That of a position, where at most `left` pushes are left after the next one, or any number if that is `None`. The
-    /// matching may be any: one of the position's boxes leaves least.
+    /// The slack of a position with `left` pushes after the next one; `None` is any number. The matching may be any:
+    /// that of the position leaves least.
     pub fn of(
         distances: &'a Distances,
         position: &'a Position,
@@ -66,18 +66,20 @@ impl<'a> Slack<'a> {
         }
     }
 
-    /// How many pushes are left after the next; `None` is any number.
+    /// The number of pushes that are left after the next one; `None` is any number.
     pub fn left(&self) -> Option<u32>
         ensures { result ≡ self.now.left }
     {
         self.left
     }
 
-    /// Whether a push of one of the boxes costs more than is left: no play that ends solved with as few pushes as are left
-    /// pushes the box there before it has been moved. `false` says nothing, and is what it says where any number is left.
+    /// Whether the first push of a box costs more than is left: then no play that solves the position with the pushes
+    /// that are left begins the box's way with this push. `false` says nothing, and is always the result if any
+    /// number is left.
     pub fn never_helps(&self, square: Square, dir: Dir) -> bool
         requires { contains self.now.scene.boxes square ≡ true }
-        ensures { IsTrue result → (m : ℕ) → Allows self.now.left m → NeverHelps self.now.board (suc m) self.now.scene square dir }
+        ensures { IsTrue result → (m : ℕ) → Allows self.now.left m →
+            NeverHelps self.now.board (suc m) self.now.scene square dir }
     {
         if self.left.is_none() {
             return false;

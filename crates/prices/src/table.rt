@@ -1,11 +1,11 @@
-//! How many pushes bring a lone box to each goal, by the side of the box on which the player stands.
+//! The pushes that bring a lone box to each goal, by the side of the box on which the player is.
 ghost use Rattle.std.specs.Prelude.{◌≡◌, ◌≤◌, drop, length, take};
 ghost use Rattle.prices.specs.inside.Tables.{has_number, row_by, row_in, row_start, sides_of, spot_of};
 
 use grid::Square;
 
-/// The squares on one side of a box that cuts the room: those with a number from `from` on and less than `to`. The
-/// distances of the box, the player being there, stand from `row` on.
+/// The squares on one side of a box that cuts the room: those with a number from `from` to `to - 1`. The distances of
+/// the box, with the player there, begin at `row`.
 #[derive(Clone, Copy, Debug)]
 pub(crate) struct Side {
     pub(crate) from: u32,
@@ -13,8 +13,8 @@ pub(crate) struct Side {
     pub(crate) row: u32,
 }
 
-/// A square. For the player it has a number. A box on it has so many sides from the one with the number `first` on; where
-/// the player is on none of them, the distances stand from `row` on.
+/// A square: its number for the player, and the sides of a box on it, from the index `first` on. If the player is on
+/// none of these sides, the distances begin at `row`.
 #[derive(Clone, Copy, Default, Debug)]
 pub(crate) struct Spot {
     pub(crate) number: u32,
@@ -23,7 +23,7 @@ pub(crate) struct Spot {
     pub(crate) row: u32,
 }
 
-/// The distances of lone boxes: of each square and side a distance for each goal, in the order of the goals.
+/// The distances of lone boxes: for each square and side, one for each goal, in the order of the goals.
 #[derive(Debug, Drop)]
 pub(crate) struct Table {
     pub(crate) goals: Vec<Square>,
@@ -43,7 +43,7 @@ impl Side {
 }
 
 impl Table {
-    /// What the table says of a square; nothing where it says nothing.
+    /// The entry of a square; an empty one if there is none.
     #[inline(always)]
     pub(crate) fn spot(&self, square: Square) -> Spot
         ensures { result ≡ spot_of self.now.spots.items square }
@@ -64,7 +64,7 @@ impl Table {
         )
     }
 
-    /// Where the distances of a box on the square stand, the player being on another.
+    /// The index of the distances of a box on the square, with the player on another.
     #[inline(always)]
     pub(crate) fn row_start(&self, square: Square, player: Square) -> u32
         ensures { result ≡ row_start self.now.spots.items self.now.sides.items square player }
@@ -76,7 +76,7 @@ impl Table {
         )
     }
 
-    /// How many distances the table has room for: up to the end of the last square's.
+    /// The number of distances of the table: up to the end of the last square's.
     pub(crate) fn rows_end(&self) -> usize {
         match self.spots.as_slice().last() {
             Some(spot) => (spot.row as usize).saturating_add(self.goals.len()),
@@ -84,7 +84,7 @@ impl Table {
         }
     }
 
-    /// The distances that stand from a place on, one for each goal; fewer where the table ends before.
+    /// The distances from an index on, one for each goal; fewer if the table ends before.
     #[inline(always)]
     pub(crate) fn row_at(&self, start: u32) -> &[u32]
         ensures value { result.now ≡ take (length self.now.goals.items) (drop start self.now.far.items) }
@@ -93,7 +93,7 @@ impl Table {
         part(self.far.as_slice(), start as usize, self.goals.len())
     }
 
-    /// The distances of a box on the square, the player being on another.
+    /// The distances of a box on the square, with the player on another.
     #[inline(always)]
     pub(crate) fn row(&self, square: Square, player: Square) -> &[u32]
         ensures { result.now ≡ row_in self.now square player }
@@ -102,7 +102,7 @@ impl Table {
     }
 }
 
-// What is said of a square; nothing where nothing is.
+// The entry at an index; an empty one if there is none.
 #[inline(always)]
 fn spot_of(spots: &[Spot], square: Square) -> Spot
     ensures { result ≡ spot_of spots.now square }
@@ -118,7 +118,7 @@ fn spot_of(spots: &[Spot], square: Square) -> Spot
     }
 }
 
-// Where the distances for the first side that has the number stand; `other` where none has it.
+// The index of the distances of the first side that has the number; `other` if none has it.
 #[inline(always)]
 fn row_by(sides: &[Side], number: u32, other: u32) -> u32
     ensures { result ≡ row_by sides.now number other }
@@ -131,7 +131,7 @@ fn row_by(sides: &[Side], number: u32, other: u32) -> u32
     other
 }
 
-/// So many elements from a place on; fewer where there are not so many.
+/// The elements from an index on, at most `count`.
 #[inline(always)]
 pub(crate) fn part<T>(xs: &[T], from: usize, count: usize) -> &[T]
     ensures value { result.now ≡ take count (drop from xs.now) }

@@ -13,7 +13,8 @@ NoneHasFewer board pushes = (ds : List Dir) (ps : List Push) → IsSolution boar
 
 -- a play leads from the start to a state whose normal form is the position
 abbrev pub IsReachable : Board → Scene → Type 0
-IsReachable board n = (ds : List Dir) × (ps : List Push) × (s : Scene) × Play board Any (start board) ds ps s × IsNorm board s n
+IsReachable board n =
+    (ds : List Dir) × (ps : List Push) × (s : Scene) × Play board Any (start board) ds ps s × IsNorm board s n
 
 -- plays reach more positions than the limit, no two of them the same
 pub record HasMore (board : Board) (limit : ℕ) : Type 0 where

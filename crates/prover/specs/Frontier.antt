@@ -16,10 +16,12 @@ use Rattle.prover.specs.Fewest.{IsReachable}
 
 -- ---- what an expansion owes
 
--- what an expansion keeps of a position that k pushes led to, for plays with at most `most` pushes: if the position is not solved, and a
--- play solves it with at most m + 1 of the pushes that are left, then some kept position is solvable with at most m
+-- what an expansion keeps of a position that k pushes led to, for plays with at most `most` pushes: if the position
+-- is not solved, and a play solves it with at most m + 1 of the pushes that are left, then some kept position is
+-- solvable with at most m
 abbrev pub Keeps : Board → ℕ → (Scene → Type 0) → ℕ → Scene → Type 0
-Keeps board most Kept k s = (m : ℕ) → k + suc m ≤ most → ¬ (IsSolved board s) → SolvableWithin board (suc m) s → (t : Scene) × Kept t × SolvableWithin board m t
+Keeps board most Kept k s = (m : ℕ) → k + suc m ≤ most → ¬ (IsSolved board s) → SolvableWithin board (suc m) s →
+    (t : Scene) × Kept t × SolvableWithin board m t
 
 -- the position was found with at most k pushes
 abbrev pub IsFound : List Entry → ℕ → Scene → Type 0
@@ -27,8 +29,8 @@ IsFound all k s = (i : ℕ) × (x : Entry) × (slice_get all i ≡ Some x) × (x
 
 -- ---- what holds of each position that was found
 
--- for plays with at most `most` pushes in all, nothing is left to do: the position is not a solved one with so few, and what its expansion
--- has to keep was found
+-- for plays with at most `most` pushes in all, nothing is left to do: the position is not a solved one with so few,
+-- and what its expansion has to keep was found
 pub record IsDoneFor (board : Board) (most : ℕ) (all : List Entry) (x : Entry) : Type 0 where
   pub unsolved : IsSolved board x.position → most < x.pushes
   pub keeps : Keeps board most (IsFound all (suc x.pushes)) x.pushes x.position
@@ -37,7 +39,8 @@ pub record IsDoneFor (board : Board) (most : ℕ) (all : List Entry) (x : Entry)
 abbrev pub IsBound : Board → ℕ → Scene → ℕ → Type 0
 IsBound board pushes s total = (rest : ℕ) → SolvableWithin board rest s → total ≤ pushes + rest
 
--- an open position's least total is one that the cap allows, and a play through the position to a solved one has at least as many pushes
+-- an open position's least total is one that the cap allows, and a play through the position to a solved one has at
+-- least as many pushes
 pub record IsTotal (board : Board) (cap : Option ℕ) (pushes : ℕ) (s : Scene) (least : ℕ) : Type 0 where
   pub near : pushes ≤ least
   pub allowed : Allows cap least
@@ -101,14 +104,17 @@ AreClosed all = (i : ℕ) (x : Entry) → slice_get all i ≡ Some x → x.least
 
 -- ---- the laws
 
--- where the start is solvable within m pushes, which the cap allows, some open position leads to a solution with at most m
+-- where the start is solvable within m pushes, which the cap allows, some open position leads to a solution with at
+-- most m
 abbrev pub NothingIsLost : Board → Type 0
-NothingIsLost board = IsLevel board → (cap : Option ℕ) (all : List Entry) (m : ℕ) → IsUnderWay board cap all → Allows cap m →
+NothingIsLost board =
+    IsLevel board → (cap : Option ℕ) (all : List Entry) (m : ℕ) → IsUnderWay board cap all → Allows cap m →
     SolvableWithin board m (start board) → IsOnTheWay board m all
 
 -- so each solution that the cap allows has at least as many pushes as the least total of all open positions
 abbrev pub LeastBounds : Board → Type 0
-LeastBounds board = IsLevel board → (cap : Option ℕ) (all : List Entry) (k : ℕ) → IsUnderWay board cap all → AreFrom k all →
+LeastBounds board =
+    IsLevel board → (cap : Option ℕ) (all : List Entry) (k : ℕ) → IsUnderWay board cap all → AreFrom k all →
     (ds : List Dir) (ps : List Push) → IsSolution board ds ps → Allows cap (length ps) → k ≤ length ps
 
 -- and where no position is open, there is no solution that the cap allows

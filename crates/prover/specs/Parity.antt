@@ -16,7 +16,8 @@ is_odd (suc n) = not (is_odd n)
 
 -- two plays from one state to solved ones have pushes of one parity
 abbrev pub SolutionsAlike : Board → Type 0
-SolutionsAlike board = IsLevel board → (s t u : Scene) (ds es : List Dir) (ps qs : List Push) → FitsLevel board s → Play board Any s ds ps t →
+SolutionsAlike board = IsLevel board → (s t u : Scene) (ds es : List Dir) (ps qs : List Push) → FitsLevel board s →
+    Play board Any s ds ps t →
     IsSolved board t → Play board Any s es qs u → IsSolved board u → is_odd (length ps) ≡ is_odd (length qs)
 
 -- some solution has this number of pushes
@@ -25,7 +26,8 @@ SomeHas board pushes = (ds : List Dir) × (ps : List Push) × IsSolution board d
 
 -- so a solution has the fewest pushes where there is none with two pushes less
 abbrev pub TwoLessDecide : Board → Type 0
-TwoLessDecide board = IsLevel board → (m : ℕ) → SomeHas board (suc (suc m)) → NoneWithin board m (start board) → NoneHasFewer board (suc (suc m))
+TwoLessDecide board = IsLevel board → (m : ℕ) → SomeHas board (suc (suc m)) → NoneWithin board m (start board) →
+    NoneHasFewer board (suc (suc m))
 
 -- and where it has fewer than two
 abbrev pub FewDecide : Board → Type 0

@@ -30,20 +30,25 @@ optimal_report pushes letters = record { text = line (optimal_words pushes) ++ l
 
 -- the report of a search that ended at its limit: every solution has at least bound pushes
 abbrev pub undecided_report : ℕ → ℕ → Report
-undecided_report limit bound = one_line (codes "limit " ++ decimal limit ++ codes " reached, at least " ++ decimal bound ++ codes " pushes") 4
+undecided_report limit bound =
+    one_line (codes "limit " ++ decimal limit ++ codes " reached, at least " ++ decimal bound ++ codes " pushes") 4
 
--- the search ended at its limit: more positions than the limit can be reached, and no solution has fewer pushes than the bound
+-- the search ended at its limit: more positions than the limit can be reached, and no solution has fewer pushes than
+-- the bound
 abbrev pub IsUndecided : ℕ → Board → Report → Type 0
-IsUndecided limit board report = (bound : ℕ) × NoneHasFewer board bound × HasMore board limit × (report ≡ undecided_report limit bound)
+IsUndecided limit board report =
+    (bound : ℕ) × NoneHasFewer board bound × HasMore board limit × (report ≡ undecided_report limit bound)
 
--- the report of a level under a limit of positions: a solution with the fewest pushes, or that there is no solution, or that the search ended at
--- its limit
+-- the report of a level under a limit of positions: a solution with the fewest pushes, or that there is no solution,
+-- or that the search ended at its limit
 pub data IsBest (limit : ℕ) (board : Board) (report : Report) : Type 0 where
-  optimal : (letters : List Letter) (pushes : ℕ) → HasFewest board letters pushes → report ≡ optimal_report pushes letters → IsBest limit board report
+  optimal : (letters : List Letter) (pushes : ℕ) → HasFewest board letters pushes →
+      report ≡ optimal_report pushes letters → IsBest limit board report
   unsolvable : IsUnsolvable board → report ≡ one_line (codes "unsolvable") 1 → IsBest limit board report
   undecided : IsUndecided limit board report → IsBest limit board report
 
 -- the report of finding a solution with the fewest pushes of level n of these bytes, under a limit of positions
 abbrev pub IsBestReport : ℕ → ℕ → List ℕ → Report → Type 0
 IsBestReport limit n bytes report =
-    (listing : List Listed) × IsListing bytes listing × ReportsOn (IsSearchOf (IsBest limit)) n (level_at listing n) report
+    (listing : List Listed) × IsListing bytes listing ×
+    ReportsOn (IsSearchOf (IsBest limit)) n (level_at listing n) report

@@ -28,8 +28,10 @@ marked_row row = line (cut_end (λ b. b == 32) row)
 -- the report of the dead squares of a level: a line for each row
 abbrev pub IsMapOf : Board → Report → Type 0
 IsMapOf board report =
-    (marks : List ℕ) × AreMarks board marks × (report ≡ record { text = flat_map marked_row (rows_from (row_count board) board.cols marks); status = 0 })
+    (marks : List ℕ) × AreMarks board marks ×
+    (report ≡ record { text = flat_map marked_row (rows_from (row_count board) board.cols marks); status = 0 })
 
 -- the report of the dead squares of level n of these bytes
 abbrev pub IsDeadReport : ℕ → List ℕ → Report → Type 0
-IsDeadReport n bytes report = (listing : List Listed) × IsListing bytes listing × ReportsOn IsMapOf n (level_at listing n) report
+IsDeadReport n bytes report =
+    (listing : List Listed) × IsListing bytes listing × ReportsOn IsMapOf n (level_at listing n) report

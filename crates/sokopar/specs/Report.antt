@@ -1,6 +1,7 @@
 -- What the program writes, and its exit status.
 use Rattle.std.specs.Prelude.{◌<◌, ◌≤◌}
-use Rattle.std.specs.Prelude.{◌≡◌, ℕ, suc, ◌==◌, if◌then◌else◌, List, [], ◌∷◌, ◌++◌, length, count_by, is_ok, Result, Ok, Err, Option, Some, None, codes}
+use Rattle.std.specs.Prelude.{◌≡◌, ℕ, suc, ◌==◌, if◌then◌else◌, List, [], ◌∷◌, ◌++◌, length, count_by, is_ok, Result}
+use Rattle.std.specs.Prelude.{Ok, Err, Option, Some, None, codes}
 use Rattle.std.specs.Prelude.{decimal, ◌⊎◌}
 use Rattle.grid.specs.Board.{Board}
 use Rattle.grid.specs.Lawful.{row_count, box_count}
@@ -44,7 +45,8 @@ fault_words level.OutOfMemory = codes "fault 8 OutOfMemory"
 -- how a judged board is told: a lawful level by its rows, columns and boxes
 abbrev pub judged_words : Result Board LevelFault → List ℕ
 judged_words (Ok board) =
-    codes "ok " ++ decimal (row_count board) ++ codes "x" ++ decimal board.cols ++ codes " " ++ decimal (box_count board) ++ codes " boxes"
+    codes "ok " ++ decimal (row_count board) ++ codes "x" ++ decimal board.cols ++ codes " " ++ decimal
+    (box_count board) ++ codes " boxes"
 judged_words (Err fault) = fault_words fault
 
 -- a name after one space; nothing for the empty name
@@ -55,7 +57,8 @@ named (b ∷ bs) = codes " " ++ (b ∷ bs)
 -- the line of level n
 abbrev pub check_line : ℕ → Listed → List ℕ
 check_line n listed =
-    line (decimal n ++ codes " line " ++ decimal listed.first_line ++ codes " " ++ judged_words listed.board ++ named listed.name)
+    line (decimal n ++ codes " line " ++ decimal listed.first_line ++ codes " " ++ judged_words listed.board ++ named
+    listed.name)
 
 -- the lines of levels, numbered from n
 abbrev pub check_lines : ℕ → List Listed → List ℕ
@@ -66,10 +69,12 @@ check_lines n (listed ∷ listing) = check_line n listed ++ check_lines (suc n) 
 abbrev pub good_count : List Listed → ℕ
 good_count listing = count_by (λ listed. is_ok listed.board) listing
 
--- the report of checking a collection: a line for each level, and then their number and that of the lawful ones; good if all are
+-- the report of checking a collection: a line for each level, and then their number and that of the lawful ones; good
+-- if all are
 abbrev pub check_report : List Listed → Report
 check_report listing = record {
-  text = check_lines 1 listing ++ line (decimal (length listing) ++ codes " levels, " ++ decimal (good_count listing) ++ codes " good");
+  text = check_lines 1 listing ++ line
+      (decimal (length listing) ++ codes " levels, " ++ decimal (good_count listing) ++ codes " good");
   status = if good_count listing == length listing then 0 else 1;
 }
 
@@ -109,10 +114,12 @@ text_fault_report (text.BadCount at) = one_line (codes "bad count at " ++ decima
 text_fault_report text.TooManyMoves = one_line (codes "too many moves") 1
 text_fault_report text.OutOfMemory = one_line (codes "out of memory") 1
 
--- the report on the text of a solution of a lawful level: the first fault of the text, or what is reported of the verdict on its letters
+-- the report on the text of a solution of a lawful level: the first fault of the text, or what is reported of the
+-- verdict on its letters
 abbrev pub IsOfText : (Board → Verdict → Report → Type 0) → Board → List ℕ → Report → Type 0
 IsOfText Reports board solution report =
-    ((letters : List Letter) × (v : Verdict) × IsText solution letters × IsVerdict board letters v × Reports board v report) ⊎
+    ((letters : List Letter) × (v : Verdict) × IsText solution letters × IsVerdict board letters v ×
+    Reports board v report) ⊎
     ((fault : LurdFault) × HasTextFault solution fault × (report ≡ text_fault_report fault))
 
 -- the report of replaying a text on a lawful level: the verdict on its letters
@@ -120,7 +127,8 @@ abbrev pub IsReplayOf : Board → List ℕ → Report → Type 0
 IsReplayOf board solution report = IsOfText (λ b v r. r ≡ verdict_report v) board solution report
 
 -- the report on level n of a listing and a solution, which is read exactly where the level is lawful
-abbrev pub ReportsOnText : (Board → List ℕ → Report → Type 0) → ℕ → Option (Result Board LevelFault) → Option (List ℕ) → Report → Type 0
+abbrev pub ReportsOnText : (Board → List ℕ → Report → Type 0) → ℕ → Option (Result Board LevelFault) → Option (List ℕ)
+    → Report → Type 0
 ReportsOnText Has n None solution report = (solution ≡ None) × (report ≡ no_level n)
 ReportsOnText Has n (Some (Err fault)) solution report = (solution ≡ None) × (report ≡ fault_report fault)
 ReportsOnText Has n (Some (Ok board)) solution report = (read : List ℕ) × (solution ≡ Some read) × Has board read report
@@ -140,7 +148,8 @@ IsCheckReport bytes report = (listing : List Listed) × IsListing bytes listing 
 
 -- the report of showing level n of these bytes
 abbrev pub IsShowReport : ℕ → List ℕ → Report → Type 0
-IsShowReport n bytes report = (listing : List Listed) × IsListing bytes listing × ReportsOn IsShown n (level_at listing n) report
+IsShowReport n bytes report =
+    (listing : List Listed) × IsListing bytes listing × ReportsOn IsShown n (level_at listing n) report
 
 -- the report of replaying on level n of these bytes a solution, if one was read
 abbrev pub IsReplayReport : ℕ → List ℕ → Option (List ℕ) → Report → Type 0

@@ -31,7 +31,8 @@ abbrev pub StopsFor : Seen → Seen → List ℕ → RunFault → Type 0
 StopsFor old new bytes Read = ReadFails old new bytes
 StopsFor old new bytes Write = ⊥
 StopsFor old new bytes TooLong = Pass old.acts new.acts bytes × (length bytes ≡ suc MAX_FILE)
-StopsFor old new bytes OutOfMemory = (Pass old.acts new.acts bytes × (length bytes ≤ suc MAX_FILE)) ⊎ ReadsWhole old new bytes
+StopsFor old new bytes OutOfMemory =
+    (Pass old.acts new.acts bytes × (length bytes ≤ suc MAX_FILE)) ⊎ ReadsWhole old new bytes
 
 -- the reading of a source stopped before a report was made; known bytes that were left began with those that it gave
 pub record Stops (old new : Seen) (fault : RunFault) : Type 0 where
@@ -39,12 +40,14 @@ pub record Stops (old new : Seen) (fault : RunFault) : Type 0 where
   pub cause : StopsFor old new bytes fault
   pub first : Consumes old.known new.known bytes
 
--- the sink took the whole text, no write failed, and no other was asked for; what it holds, if known, has grown by the text
+-- the sink took the whole text, no write failed, and no other was asked for; what it holds, if known, has grown by
+-- the text
 pub record WritesWhole (old new : Seen) (text : List ℕ) : Type 0 where
   pub taken : Pass old.acts new.acts text
   pub holds : Appends old.known new.known text
 
--- the sink took a beginning of the text, then a write failed, and no other was asked for; what it holds, if known, has grown by it
+-- the sink took a beginning of the text, then a write failed, and no other was asked for; what it holds, if known,
+-- has grown by it
 pub record WritesPart (old new : Seen) (text : List ℕ) : Type 0 where
   pub part : List ℕ
   pub rest : List ℕ
@@ -59,10 +62,12 @@ pub record WritesPart (old new : Seen) (text : List ℕ) : Type 0 where
 -- reading stops and nothing is written
 abbrev pub Runs : (List ℕ → Report → Type 0) → Seen → Seen → Seen → Seen → Result ℕ RunFault → Type 0
 Runs IsReport source read sink written (Ok status) =
-    (bytes : List ℕ) × (report : Report) × ReadsWhole source read bytes × IsReport bytes report × WritesWhole sink written report.text ×
+    (bytes : List ℕ) × (report : Report) × ReadsWhole source read bytes × IsReport bytes report ×
+    WritesWhole sink written report.text ×
     (status ≡ report.status)
 Runs IsReport source read sink written (Err Write) =
-    (bytes : List ℕ) × (report : Report) × ReadsWhole source read bytes × IsReport bytes report × WritesPart sink written report.text
+    (bytes : List ℕ) × (report : Report) × ReadsWhole source read bytes × IsReport bytes report ×
+    WritesPart sink written report.text
 Runs IsReport source read sink written (Err fault) = Stops source read fault × (written ≡ sink)
 
 -- a second source was read to its end, or left alone
@@ -75,15 +80,20 @@ ReadsIfSome old new (Some bytes) = ReadsWhole old new bytes
 abbrev pub StopsInTwo : ℕ → Seen → Seen → Seen → Seen → RunFault → Type 0
 StopsInTwo n source read second second_read fault =
     (Stops source read fault × (second_read ≡ second)) ⊎
-    ((bytes : List ℕ) × (board : Board) × ReadsWhole source read bytes × IsLevelOf bytes n board × Stops second second_read fault)
+    ((bytes : List ℕ) × (board : Board) × ReadsWhole source read bytes × IsLevelOf bytes n board ×
+    Stops second second_read fault)
 
--- what a run over two sources does, by its answer, as a run over one source does: a collection, and a solution, which is read to its end
--- where level n is lawful, and left alone elsewhere
-abbrev pub RunsInTwo : (List ℕ → Option (List ℕ) → Report → Type 0) → ℕ → Seen → Seen → Seen → Seen → Seen → Seen → Result ℕ RunFault → Type 0
+-- what a run over two sources does, by its answer, as a run over one source does: a collection, and a solution, which
+-- is read to its end where level n is lawful, and left alone elsewhere
+abbrev pub RunsInTwo : (List ℕ → Option (List ℕ) → Report → Type 0) → ℕ → Seen → Seen → Seen → Seen → Seen → Seen →
+    Result ℕ RunFault → Type 0
 RunsInTwo IsReport n source read second second_read sink written (Ok status) =
-    (bytes : List ℕ) × (solution : Option (List ℕ)) × (report : Report) × ReadsWhole source read bytes × ReadsIfSome second second_read solution ×
+    (bytes : List ℕ) × (solution : Option (List ℕ)) × (report : Report) × ReadsWhole source read bytes ×
+    ReadsIfSome second second_read solution ×
     IsReport bytes solution report × WritesWhole sink written report.text × (status ≡ report.status)
 RunsInTwo IsReport n source read second second_read sink written (Err Write) =
-    (bytes : List ℕ) × (solution : Option (List ℕ)) × (report : Report) × ReadsWhole source read bytes × ReadsIfSome second second_read solution ×
+    (bytes : List ℕ) × (solution : Option (List ℕ)) × (report : Report) × ReadsWhole source read bytes ×
+    ReadsIfSome second second_read solution ×
     IsReport bytes solution report × WritesPart sink written report.text
-RunsInTwo IsReport n source read second second_read sink written (Err fault) = StopsInTwo n source read second second_read fault × (written ≡ sink)
+RunsInTwo IsReport n source read second second_read sink written (Err fault) =
+    StopsInTwo n source read second second_read fault × (written ≡ sink)

@@ -20,22 +20,27 @@ cap_words (Some most) = decimal most
 -- the report of an answer under a cap of pushes and a limit of positions; good where the level is solved
 abbrev pub answer_report : Option ℕ → ℕ → Answer → Report
 answer_report cap limit (Solved moves pushes positions) = record {
-  text = line (codes "solved " ++ counts_words pushes (length moves) ++ positions_words positions) ++ line (bytes_of moves);
+  text = line (codes "solved " ++ counts_words pushes (length moves) ++ positions_words positions) ++ line
+      (bytes_of moves);
   status = 0;
 }
 answer_report cap limit (Unsolvable positions) = one_line (codes "unsolvable" ++ positions_words positions) 1
-answer_report cap limit (NoneWithin positions) = one_line (codes "none within " ++ cap_words cap ++ codes " pushes" ++ positions_words positions) 1
+answer_report cap limit (NoneWithin positions) =
+    one_line (codes "none within " ++ cap_words cap ++ codes " pushes" ++ positions_words positions) 1
 answer_report cap limit Limit = one_line (codes "limit " ++ decimal limit ++ codes " reached") 4
 
 -- the report of an answer to a level under a cap of pushes and a limit of positions
 abbrev pub IsAnswered : Option ℕ → ℕ → Board → Report → Type 0
 IsAnswered cap limit board report =
-    (answer : Answer) × IsAnswer (record { board = board; cap = cap }) limit answer × (report ≡ answer_report cap limit answer)
+    (answer : Answer) × IsAnswer (record { board = board; cap = cap }) limit answer ×
+    (report ≡ answer_report cap limit answer)
 
--- the report of solving a lawful level under a cap of pushes and a limit of positions: that its boxes are too many, or an answer
+-- the report of solving a lawful level under a cap of pushes and a limit of positions: that its boxes are too many,
+-- or an answer
 abbrev pub IsSolveOf : Option ℕ → ℕ → Board → Report → Type 0
 IsSolveOf cap limit board report = IsSearchOf (IsAnswered cap limit) board report
 
 -- the report of solving level n of these bytes under a cap of pushes and a limit of positions
 abbrev pub IsSolveReport : Option ℕ → ℕ → ℕ → List ℕ → Report → Type 0
-IsSolveReport cap limit n bytes report = (listing : List Listed) × IsListing bytes listing × ReportsOn (IsSolveOf cap limit) n (level_at listing n) report
+IsSolveReport cap limit n bytes report =
+    (listing : List Listed) × IsListing bytes listing × ReportsOn (IsSolveOf cap limit) n (level_at listing n) report

@@ -13,7 +13,7 @@ use prover::{Outcome, SearchFault};
 use std::alloc::{AllocError, Global};
 use xsb::MAX_FILE;
 
-/// Appends a number of pushes that no solution goes below.
+/// Appends a lower bound on the pushes of every solution.
 pub(crate) fn put_optimal(text: &mut Text, pushes: usize) -> Result<(), AllocError>
     ensures { OnOk result (text.new ≡ text.old ++ optimal_words pushes) }
 {
@@ -43,7 +43,7 @@ fn unsolvable(alloc: Global) -> Result<Report, AllocError>
     Ok(Report::new(text, 1))
 }
 
-/// The report of a search that ended at its limit: every solution has at least `bound` pushes.
+/// The report of a search that ended at its limit; every solution has at least `bound` pushes.
 pub(crate) fn undecided(alloc: Global, limit: u32, bound: u32) -> Result<Report, AllocError>
     ensures { IfOk result (λ report. report ≡ undecided_report limit bound) }
 {

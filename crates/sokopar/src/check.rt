@@ -9,7 +9,7 @@ use grid::{Board, LevelFault};
 use std::alloc::{AllocError, Global};
 use xsb::{BoardEntry, Collection, MAX_FILE};
 
-/// Appends how a fault is told.
+/// Appends the words of a fault.
 pub(crate) fn put_fault(text: &mut Text, fault: LevelFault) -> Result<(), AllocError>
     ensures { OnOk result (text.new ≡ text.old ++ fault_words fault) }
 {
@@ -30,7 +30,7 @@ pub(crate) fn put_fault(text: &mut Text, fault: LevelFault) -> Result<(), AllocE
     }
 }
 
-/// Appends how a lawful level is told, of which the board is enough.
+/// Appends the words of a lawful level, given its board.
 fn put_level(text: &mut Text, board: &Board) -> Result<(), AllocError>
     ensures { OnOk result (text.new ≡ text.old ++ level_words board.now) }
 {
@@ -79,7 +79,8 @@ fn is_good(entry: &BoardEntry) -> bool
 
 /// Appends the line of totals.
 fn put_totals(text: &mut Text, levels: usize, good: usize) -> Result<(), AllocError>
-    ensures { OnOk result (text.new ≡ text.old ++ line (decimal levels ++ codes " levels, " ++ decimal good ++ codes " good")) }
+    ensures { OnOk result
+        (text.new ≡ text.old ++ line (decimal levels ++ codes " levels, " ++ decimal good ++ codes " good")) }
 {
     text.put_number(levels)?;
     text.put(b" levels, ")?;
@@ -87,8 +88,7 @@ fn put_totals(text: &mut Text, levels: usize, good: usize) -> Result<(), AllocEr
     text.put(b" good\n")
 }
 
-/// The report of checking a collection. A board's line is made as the board is read, and then the board is dropped; no
-/// level is made of it.
+/// The report of checking a collection. It makes the line of a board when it reads the board, and then drops the board.
 pub(crate) fn check_report(alloc: Global, bytes: &[u8]) -> Result<Report, AllocError>
     requires { length bytes.now ≤ MAX_FILE }
     ensures { IfOk result (λ report. IsCheckReport bytes.now report) }

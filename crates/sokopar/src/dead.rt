@@ -14,7 +14,7 @@ use grid::{Level, Square};
 use std::alloc::{AllocError, Global};
 use xsb::MAX_FILE;
 
-/// The byte for a square: a wall, a goal, a dead square of the player's room, or any other.
+/// The byte of a square: a wall, a goal, a dead square of the player's room, or any other.
 fn mark_of(level: &Level, dead: &Dead, square: Square) -> u8
     requires { dead.now ≡ level.now }
     ensures { IsMark level.now square result }
@@ -31,7 +31,7 @@ fn mark_of(level: &Level, dead: &Dead, square: Square) -> u8
 }
 
 #[tactic(auto, using(crate::proofs::Maps::marks_all))]
-/// The bytes for the squares of a level, in order.
+/// The bytes of the squares of a level, in order.
 fn marks_of(alloc: Global, level: &Level) -> Result<Vec<u8>, AllocError>
     ensures { IfOk result (λ marks. AreMarks level.now marks.items) }
 {
@@ -66,7 +66,7 @@ fn put_row(text: &mut Text, row: &[u8]) -> Result<(), AllocError>
     text.put(b"\n")
 }
 
-/// Appends rows of a length, as many as `rows` says.
+/// Appends `rows` rows of a length.
 fn put_map(text: &mut Text, rows: usize, cols: usize, marks: &[u8]) -> Result<(), AllocError>
     ensures { OnOk result (text.new ≡ text.old ++ flat_map marked_row (rows_from rows cols marks.now)) }
 {

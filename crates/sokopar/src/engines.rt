@@ -20,12 +20,12 @@ use std::sync::Wait;
 use std::thread::Threads;
 
 #[tactic(auto, using(crate::proofs::Reading::stops_after))]
-/// Checks a collection: writes a line for each level, and the totals. Gives the exit status, 0 where each level is
-/// lawful, else 1.
+/// Checks a collection: writes a line for each level, and the totals. Returns the exit status: 0 if each level is
+/// lawful, otherwise 1.
 ///
-/// [`RunFault::Read`] where a read failed, [`RunFault::TooLong`] where there are more bytes than
-/// [`MAX_FILE`](xsb::MAX_FILE), [`RunFault::OutOfMemory`] where memory was refused: then nothing was written.
-/// [`RunFault::Write`] where a write failed, after a beginning of the report.
+/// Fails with [`RunFault::Read`] if a read fails, with [`RunFault::TooLong`] for more than [`MAX_FILE`](xsb::MAX_FILE)
+/// bytes, and with [`RunFault::OutOfMemory`]; then it has written nothing. Fails with [`RunFault::Write`] if a write
+/// fails; then it has written a beginning of the report.
 pub fn run_check<S: Source, K: Sink>(
     alloc: Global,
     source: &mut S,
@@ -39,8 +39,8 @@ pub fn run_check<S: Source, K: Sink>(
 }
 
 #[tactic(auto, using(crate::proofs::Reading::stops_after))]
-/// Shows a level of a collection, counted from 1, in plain rows. Gives the exit status, 0 where there is such a level
-/// and it is lawful, else 1. The faults are those of [`run_check`].
+/// Shows a level of a collection, counted from 1, in plain rows. Returns the exit status: 0 if there is such a level
+/// and it is lawful, otherwise 1. The faults are those of [`run_check`].
 pub fn run_show<S: Source, K: Sink>(
     alloc: Global,
     source: &mut S,
@@ -48,7 +48,8 @@ pub fn run_show<S: Source, K: Sink>(
     sink: &mut K,
 ) -> Result<u8, RunFault>
     requires { 1 ≤ number }
-    ensures { Runs (IsShowReport number) (S.seen source.old) (S.seen source.new) (K.seen sink.old) (K.seen sink.new) result }
+    ensures { Runs (IsShowReport number) (S.seen source.old) (S.seen source.new) (K.seen sink.old) (K.seen sink.new)
+        result }
 {
     let bytes = read_whole(alloc, source)?;
     let report = show_in(alloc, bytes.as_slice(), number)?;
@@ -56,8 +57,8 @@ pub fn run_show<S: Source, K: Sink>(
 }
 
 #[tactic(auto, using(crate::proofs::Reading::stops_after))]
-/// Shows walls, goals and dead squares of a level of a collection, counted from 1. Gives the exit status, 0 where there
-/// is such a level and it is lawful, else 1. The faults are those of [`run_check`].
+/// Shows walls, goals and dead squares of a level of a collection, counted from 1. Returns the exit status: 0 if there
+/// is such a level and it is lawful, otherwise 1. The faults are those of [`run_check`].
 pub fn run_dead<S: Source, K: Sink>(
     alloc: Global,
     source: &mut S,
@@ -65,7 +66,8 @@ pub fn run_dead<S: Source, K: Sink>(
     sink: &mut K,
 ) -> Result<u8, RunFault>
     requires { 1 ≤ number }
-    ensures { Runs (IsDeadReport number) (S.seen source.old) (S.seen source.new) (K.seen sink.old) (K.seen sink.new) result }
+    ensures { Runs (IsDeadReport number) (S.seen source.old) (S.seen source.new) (K.seen sink.old) (K.seen sink.new)
+        result }
 {
     let bytes = read_whole(alloc, source)?;
     let report = dead_in(alloc, bytes.as_slice(), number)?;
@@ -73,9 +75,9 @@ pub fn run_dead<S: Source, K: Sink>(
 }
 
 #[tactic(auto, using(crate::proofs::Reading::stops_after))]
-/// Replays a solution, which is LURD text, on a level of a collection, counted from 1. Gives the exit status, 0 where
-/// the solution solves the level, else 1. The collection is read first; the solution is read only where the level is
-/// lawful. The faults are those of [`run_check`].
+/// Replays a solution in LURD text on a level of a collection, counted from 1. Returns the exit status: 0 if the
+/// solution solves the level, otherwise 1. It reads the collection first, and the solution only if the level is lawful.
+/// The faults are those of [`run_check`].
 pub fn run_replay<S: Source, T: Source, K: Sink>(
     alloc: Global,
     source: &mut S,
@@ -84,7 +86,8 @@ pub fn run_replay<S: Source, T: Source, K: Sink>(
     sink: &mut K,
 ) -> Result<u8, RunFault>
     requires { 1 ≤ number }
-    ensures { RunsInTwo (IsReplayReport number) number (S.seen source.old) (S.seen source.new) (T.seen solution.old) (T.seen solution.new)
+    ensures { RunsInTwo (IsReplayReport number) number (S.seen source.old) (S.seen source.new) (T.seen solution.old)
+        (T.seen solution.new)
         (K.seen sink.old) (K.seen sink.new) result }
 {
     let bytes = read_whole(alloc, source)?;
@@ -92,11 +95,11 @@ pub fn run_replay<S: Source, T: Source, K: Sink>(
     report.send(sink)
 }
 
-/// Solves a level of a collection, counted from 1, with the fewest pushes, by the configuration's workers: writes the
-/// numbers of its least solution and the solution as LURD text, or that there is none, or that more positions than the
-/// limit are needed to say so. Gives the exit status, 0 where the level is solved, 4 where the limit was reached, else
-/// 1. What is written is the only report of these bytes under this cap and this limit, so the same bytes for every number of
-/// workers and of locks. The faults are those of [`run_check`].
+/// Solves a level of a collection, counted from 1, with the fewest pushes, by the configuration's workers. Writes the
+/// numbers of its least solution and the solution as LURD text, or that there is none, or that the limit of positions
+/// is too low to tell. Returns the exit status: 0 if the level is solved, 4 at the limit, otherwise 1. The report is
+/// the only one for these bytes, this cap and this limit, so it does not depend on the numbers of workers and locks.
+/// The faults are those of [`run_check`].
 pub fn run_solve<R: Threads + Wait + Sync, S: Source, K: Sink>(
     rt: &R,
     alloc: Global,
@@ -107,13 +110,14 @@ pub fn run_solve<R: Threads + Wait + Sync, S: Source, K: Sink>(
 ) -> Result<u8, RunFault>
     requires number { 1 ≤ number }
     requires limits { IsWithinLimits config }
-    ensures { Runs (IsOnlySolveReport config.cap config.limit number) (S.seen source.old) (S.seen source.new) (K.seen sink.old) (K.seen sink.new) result }
+    ensures { Runs (IsOnlySolveReport config.cap config.limit number) (S.seen source.old) (S.seen source.new)
+        (K.seen sink.old) (K.seen sink.new) result }
 {
     let request = SolveRequest { number, config };
     run_solve_with(rt, alloc, source, request, &Free, sink)
 }
 
-/// What [`run_solve_with`] is asked: to solve the level with a number, counted from 1, as a configuration says.
+/// The level for [`run_solve_with`], counted from 1, and the configuration of the search.
 #[derive(Clone, Copy, PartialEq, Eq, Debug)]
 pub struct SolveRequest {
     pub number: u32,
@@ -121,8 +125,8 @@ pub struct SolveRequest {
 }
 
 #[tactic(auto, using(crate::proofs::Reading::stops_after))]
-/// Solves a level as [`run_solve`] does, and asks a gate after each event of a worker whether that worker goes on. The report
-/// is the same for every gate.
+/// Solves a level as [`run_solve`] does, and calls a gate after each event of a worker: the gate decides whether that
+/// worker goes on. The report is the same for every gate.
 pub fn run_solve_with<R: Threads + Wait + Sync, S: Source, G: Gate + Sync, K: Sink>(
     rt: &R,
     alloc: Global,
@@ -133,7 +137,8 @@ pub fn run_solve_with<R: Threads + Wait + Sync, S: Source, G: Gate + Sync, K: Si
 ) -> Result<u8, RunFault>
     requires number { 1 ≤ request.number }
     requires limits { IsWithinLimits request.config }
-    ensures { Runs (IsOnlySolveReport request.config.cap request.config.limit request.number) (S.seen source.old) (S.seen source.new) (K.seen sink.old)
+    ensures { Runs (IsOnlySolveReport request.config.cap request.config.limit request.number) (S.seen source.old)
+        (S.seen source.new) (K.seen sink.old)
         (K.seen sink.new) result }
 {
     let SolveRequest { number, config } = request;

@@ -4,19 +4,19 @@ ghost use Rattle.sokopar.specs.declared.fault.RunFault.TheVariants.{OutOfMemory}
 use std::alloc::AllocError;
 use thiserror::Error;
 
-/// Why a run has no report.
+/// Why a run has no whole report.
 #[derive(Clone, Copy, PartialEq, Eq, Debug, Drop, Error)]
 pub enum RunFault {
     /// A read failed.
     #[error("cannot read")]
     Read,
-    /// A write failed, or took no byte.
+    /// A write failed, or wrote zero bytes.
     #[error("cannot write")]
     Write,
-    /// A source gave more bytes than a file may have.
+    /// A source gave more bytes than [`MAX_FILE`](xsb::MAX_FILE).
     #[error("file too long")]
     TooLong,
-    /// Memory was refused.
+    /// Out of memory.
     #[error("out of memory")]
     OutOfMemory,
 }

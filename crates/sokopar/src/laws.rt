@@ -1,5 +1,6 @@
-//! Laws of the reports of all commands except `best` and `prove`, as the clauses of functions that do nothing. A level may
-//! have several solutions with the fewest pushes, so `best` and `prove` may have several right reports.
+//! Laws of the reports of all commands except `best` and `prove`. Each is the contract of a function that does nothing:
+//! call it in a proof to use the law. A level may have several solutions with the fewest pushes, so `best` and `prove`
+//! may have several right reports.
 ghost use Rattle.std.specs.Prelude.{◌≡◌, ℕ, List, Option, length};
 ghost use Rattle.grid.specs.Board.{Board};
 ghost use Rattle.grid.specs.declared.moves.Letter.{Letter};
@@ -18,17 +19,19 @@ use solo::Answer;
 use solo::laws::an_answer_is_the_only_one;
 use xsb::laws::one_collection;
 
-/// A solution that is given replays as solved, with the numbers of pushes and of moves that are told with it.
+/// The solution of an answer replays as solved, with the answer's numbers of pushes and moves.
 pub fn solution_replays()
     ensures { (board : Board) (cap : Option ℕ) (limit : ℕ) (moves : List Letter) (pushes positions : ℕ) →
-        IsAnswer (capped board cap) limit (Answer.Solved moves pushes positions) → IsVerdict board moves (Verdict.Solved pushes (length moves)) }
+        IsAnswer (capped board cap) limit (Answer.Solved moves pushes positions) →
+        IsVerdict board moves (Verdict.Solved pushes (length moves)) }
 {}
 
-/// The line of a solution that [`run_solve`](crate::run_solve) writes for a level solves that level when it is given to
-/// [`run_replay`](crate::run_replay), with the numbers that were told with it, where the solution has at most
+/// If [`run_replay`](crate::run_replay) reads the line of a solution that [`run_solve`](crate::run_solve) wrote, it
+/// reports that the line solves the level, with the same numbers. The solution must have at most
 /// [`MAX_MOVES`](lurd::MAX_MOVES) moves.
 pub fn printed_solution_replays()
-    ensures { (cap : Option ℕ) (limit n : ℕ) (bytes : List ℕ) (report : Report) → IsSolveReport cap limit n bytes report → report.status ≡ 0 →
+    ensures { (cap : Option ℕ) (limit n : ℕ) (bytes : List ℕ) (report : Report) →
+        IsSolveReport cap limit n bytes report → report.status ≡ 0 →
         ReplaysAsTold n bytes report }
 {
     written_text();
@@ -37,14 +40,16 @@ pub fn printed_solution_replays()
     one_collection();
 }
 
-/// Each input of `check`, `show`, `dead`, `replay` and `solve` has at most one report: for the same bytes, level number,
-/// solution, cap and limit two reports have the same text and the same status.
+/// Each input of `check`, `show`, `dead`, `replay` and `solve` has at most one report: two reports for the same bytes,
+/// level number, solution, cap and limit have the same text and the same status.
 pub fn one_report()
     ensures check { (bytes : List ℕ) → IsOneAtMost (λ report. IsCheckReport bytes report) }
     ensures show { (n : ℕ) (bytes : List ℕ) → IsOneAtMost (λ report. IsShowReport n bytes report) }
     ensures dead { (n : ℕ) (bytes : List ℕ) → IsOneAtMost (λ report. IsDeadReport n bytes report) }
-    ensures replay { (n : ℕ) (bytes : List ℕ) (solution : Option (List ℕ)) → IsOneAtMost (λ report. IsReplayReport n bytes solution report) }
-    ensures solve { (cap : Option ℕ) (limit n : ℕ) (bytes : List ℕ) → IsOneAtMost (λ report. IsSolveReport cap limit n bytes report) }
+    ensures replay { (n : ℕ) (bytes : List ℕ) (solution : Option (List ℕ)) →
+        IsOneAtMost (λ report. IsReplayReport n bytes solution report) }
+    ensures solve { (cap : Option ℕ) (limit n : ℕ) (bytes : List ℕ) →
+        IsOneAtMost (λ report. IsSolveReport cap limit n bytes report) }
 {
     one_collection();
     one_reading();

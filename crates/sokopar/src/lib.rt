@@ -1,4 +1,5 @@
-//! The engines of the program: each reads its files to their end, makes a whole report and writes it.
+//! The engines of the program: each reads its files to their end, makes a whole report and writes it. Use them to run
+//! a command over memory or any other [`Source`] and [`Sink`]. A report takes memory in proportion to its length.
 //!
 //! With `file`, the bytes of a collection:
 //!

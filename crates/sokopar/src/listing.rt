@@ -5,15 +5,16 @@ use grid::{Level, LevelFault};
 use std::alloc::{AllocError, Global};
 use xsb::{Collection, MAX_FILE};
 
-/// The level that a command is about, or its fault; `None` where the collection has fewer levels.
+/// The level of a command, or its fault; `None` if the collection has fewer levels.
 pub(crate) type Chosen = Option<Result<Level, LevelFault>>;
 
-/// Level N of a collection, counted from 1. All boards are judged, one after the other, and of this one alone a level is
-/// made.
+/// Level N of a collection, counted from 1. It judges all boards, one after the other, and makes a level only of this
+/// one.
 pub(crate) fn level_of(alloc: Global, bytes: &[u8], number: u32) -> Result<Chosen, AllocError>
     requires number { 1 ≤ number }
     requires bound { length bytes.now ≤ MAX_FILE }
-    ensures { IfOk result (λ chosen. (listing : List Listed) × IsListing bytes.now listing × (chosen ≡ level_at listing number)) }
+    ensures { IfOk result (λ chosen. (listing : List Listed) × IsListing bytes.now listing ×
+        (chosen ≡ level_at listing number)) }
 {
     let Ok(mut collection) = Collection::of(bytes) else {
         unreachable!();

@@ -36,7 +36,7 @@ fn optimal(alloc: Global, pushes: usize) -> Result<Report, AllocError>
     Ok(Report::new(text, 0))
 }
 
-/// The report that a solution with the fewest pushes has fewer.
+/// The report that a solution with the fewest pushes has fewer pushes.
 fn beaten(alloc: Global, pushes: usize, fewest: usize, moves: &Moves) -> Result<Report, AllocError>
     ensures { IfOk result (λ report. report ≡ beaten_report pushes fewest moves.now) }
 {
@@ -52,10 +52,10 @@ fn beaten(alloc: Global, pushes: usize, fewest: usize, moves: &Moves) -> Result<
 }
 
 #[tactic(auto, using(crate::proofs::Judging::of_judged))]
-/// The report of a solution by its number of pushes, under a limit of positions.
+/// The report of a solution with this number of pushes, under a limit of positions.
 ///
-/// The solutions of a level all have an even number of pushes, or all an odd one. So a solution has the fewest pushes unless
-/// another one has at least two fewer.
+/// All solutions of a level have an even number of pushes, or all have an odd number. So a solution has the fewest
+/// pushes unless another one has at least two fewer.
 fn judged(alloc: Global, level: &Level, pushes: usize, limit: u32) -> Result<Report, AllocError>
     requires some { SomeHas level.now pushes }
     requires few { pushes ≤ MAX_MOVES }
@@ -94,7 +94,8 @@ fn moves_report(
     limit: u32,
 ) -> Result<Report, AllocError>
     requires { length moves.now ≤ MAX_MOVES }
-    ensures { IfOk result (λ report. (v : Verdict) × IsVerdict level.now moves.now v × IsProvedBy limit level.now v report) }
+    ensures { IfOk result (λ report. (v : Verdict) × IsVerdict level.now moves.now v ×
+        IsProvedBy limit level.now v report) }
 {
     let verdict = replay(alloc, level, moves)?;
     match verdict {
@@ -122,8 +123,8 @@ fn prove_report(
 }
 
 #[tactic(auto, using(crate::proofs::Reading::stops_after))]
-/// The report of proving on level N under a limit of positions; the solution is read to its end exactly where the level is
-/// lawful.
+/// The report of proving on level N under a limit of positions. It reads the solution to its end if the level is
+/// lawful, and not otherwise.
 fn prove_level<T: Source>(
     alloc: Global,
     chosen: &Chosen,
@@ -132,10 +133,12 @@ fn prove_level<T: Source>(
     solution: &mut T,
 ) -> Result<Report, RunFault>
     requires { 1 ≤ number }
-    ensures ok { IfOk result (λ report. (text : Option (List ℕ)) × ReadsIfSome (T.seen solution.old) (T.seen solution.new) text
+    ensures ok { IfOk result (λ report. (text : Option (List ℕ)) ×
+        ReadsIfSome (T.seen solution.old) (T.seen solution.new) text
         × ReportsOnText (IsProofOf limit) number chosen.now text report) }
     ensures err { IfErr result (λ fault. ((fault ≡ RunFault.OutOfMemory) × (T.seen solution.new ≡ T.seen solution.old))
-        ⊎ ((board : Board) × (chosen.now ≡ Some (Ok board)) × Stops (T.seen solution.old) (T.seen solution.new) fault)) }
+        ⊎ ((board : Board) × (chosen.now ≡ Some (Ok board)) ×
+        Stops (T.seen solution.old) (T.seen solution.new) fault)) }
 {
     match chosen {
         None => Ok(no_level(alloc, number)?),
@@ -147,8 +150,8 @@ fn prove_level<T: Source>(
     }
 }
 
-/// The report of proving on level N of a collection under a limit of positions; the solution is read to its end exactly where
-/// the level is lawful.
+/// The report of proving on level N of a collection under a limit of positions. It reads the solution to its end if the
+/// level is lawful, and not otherwise.
 pub(crate) fn prove_in<T: Source>(
     alloc: Global,
     bytes: &[u8],
@@ -158,10 +161,12 @@ pub(crate) fn prove_in<T: Source>(
 ) -> Result<Report, RunFault>
     requires number { 1 ≤ number }
     requires bound { length bytes.now ≤ MAX_FILE }
-    ensures ok { IfOk result (λ report. (text : Option (List ℕ)) × ReadsIfSome (T.seen solution.old) (T.seen solution.new) text
+    ensures ok { IfOk result (λ report. (text : Option (List ℕ)) ×
+        ReadsIfSome (T.seen solution.old) (T.seen solution.new) text
         × IsProveReport limit number bytes.now text report) }
     ensures err { IfErr result (λ fault. ((fault ≡ RunFault.OutOfMemory) × (T.seen solution.new ≡ T.seen solution.old))
-        ⊎ ((board : Board) × IsLevelOf bytes.now number board × Stops (T.seen solution.old) (T.seen solution.new) fault)) }
+        ⊎ ((board : Board) × IsLevelOf bytes.now number board ×
+        Stops (T.seen solution.old) (T.seen solution.new) fault)) }
 {
     let chosen = level_of(alloc, bytes, number)?;
     prove_level(alloc, &chosen, number, limit, solution)

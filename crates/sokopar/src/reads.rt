@@ -6,12 +6,12 @@ use crate::source::Source;
 use std::alloc::Global;
 use xsb::MAX_FILE;
 
-/// How many bytes one read asks for at most.
+/// The greatest number of bytes of one read.
 const CHUNK: usize = 8192;
 
 #[tactic(auto, using(crate::proofs::Acts::pass_none, crate::proofs::Acts::consumes_none, crate::proofs::Acts::consumes_kept, crate::proofs::Acts::were_all))]
-/// Reads a source to its end. It stops at the first read that fails, and as soon as more bytes are there than a file
-/// may have.
+/// Reads a source to its end. It stops at the first read that fails, and once there are more than
+/// [`MAX_FILE`](xsb::MAX_FILE) bytes.
 pub(crate) fn read_whole<S: Source>(alloc: Global, source: &mut S) -> Result<Vec<u8>, RunFault>
     ensures ok { IfOk result (λ bytes. ReadsWhole (S.seen source.old) (S.seen source.new) bytes.items) }
     ensures err { IfErr result (λ fault. Stops (S.seen source.old) (S.seen source.new) fault) }

@@ -1,5 +1,6 @@
 ghost use Rattle.std.specs.Prelude.{◌≡◌, ◌≢◌, ◌++◌, ◌⊎◌, ◌≤◌, ℕ, List, length, Option, OnOk, IfOk, IfErr};
-ghost use Rattle.sokopar.specs.Report.{counts_words, verdict_report, text_fault_report, IsReplayOf, ReportsOnText, IsReplayReport};
+ghost use Rattle.sokopar.specs.Report.{counts_words, verdict_report, text_fault_report, IsReplayOf, ReportsOnText};
+ghost use Rattle.sokopar.specs.Report.{IsReplayReport};
 ghost use Rattle.sokopar.specs.Runs.{ReadsIfSome, Stops};
 ghost use Rattle.grid.specs.Board.{Board};
 ghost use Rattle.sokopar.specs.Listing.{IsLevelOf};
@@ -94,7 +95,7 @@ pub(crate) fn replay_report(
 }
 
 #[tactic(auto, using(crate::proofs::Reading::stops_after))]
-/// The report of replaying on level N; the solution is read to its end exactly where the level is lawful.
+/// The report of replaying on level N. It reads the solution to its end if the level is lawful, and not otherwise.
 pub(crate) fn replay_level<T: Source>(
     alloc: Global,
     chosen: &Chosen,
@@ -102,10 +103,12 @@ pub(crate) fn replay_level<T: Source>(
     solution: &mut T,
 ) -> Result<Report, RunFault>
     requires { 1 ≤ number }
-    ensures ok { IfOk result (λ report. (text : Option (List ℕ)) × ReadsIfSome (T.seen solution.old) (T.seen solution.new) text
+    ensures ok { IfOk result (λ report. (text : Option (List ℕ)) ×
+        ReadsIfSome (T.seen solution.old) (T.seen solution.new) text
         × ReportsOnText IsReplayOf number chosen.now text report) }
     ensures err { IfErr result (λ fault. ((fault ≡ RunFault.OutOfMemory) × (T.seen solution.new ≡ T.seen solution.old))
-        ⊎ ((board : Board) × (chosen.now ≡ Some (Ok board)) × Stops (T.seen solution.old) (T.seen solution.new) fault)) }
+        ⊎ ((board : Board) × (chosen.now ≡ Some (Ok board)) ×
+        Stops (T.seen solution.old) (T.seen solution.new) fault)) }
 {
     match chosen {
         None => Ok(no_level(alloc, number)?),
@@ -117,7 +120,8 @@ pub(crate) fn replay_level<T: Source>(
     }
 }
 
-/// The report of replaying on level N of a collection; the solution is read to its end exactly where the level is lawful.
+/// The report of replaying on level N of a collection. It reads the solution to its end if the level is lawful, and not
+/// otherwise.
 pub(crate) fn replay_in<T: Source>(
     alloc: Global,
     bytes: &[u8],
@@ -126,10 +130,12 @@ pub(crate) fn replay_in<T: Source>(
 ) -> Result<Report, RunFault>
     requires number { 1 ≤ number }
     requires bound { length bytes.now ≤ MAX_FILE }
-    ensures ok { IfOk result (λ report. (text : Option (List ℕ)) × ReadsIfSome (T.seen solution.old) (T.seen solution.new) text
+    ensures ok { IfOk result (λ report. (text : Option (List ℕ)) ×
+        ReadsIfSome (T.seen solution.old) (T.seen solution.new) text
         × IsReplayReport number bytes.now text report) }
     ensures err { IfErr result (λ fault. ((fault ≡ RunFault.OutOfMemory) × (T.seen solution.new ≡ T.seen solution.old))
-        ⊎ ((board : Board) × IsLevelOf bytes.now number board × Stops (T.seen solution.old) (T.seen solution.new) fault)) }
+        ⊎ ((board : Board) × IsLevelOf bytes.now number board ×
+        Stops (T.seen solution.old) (T.seen solution.new) fault)) }
 {
     let chosen = level_of(alloc, bytes, number)?;
     replay_level(alloc, &chosen, number, solution)

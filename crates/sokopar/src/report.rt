@@ -32,7 +32,7 @@ impl Report {
         Report { text, status }
     }
 
-    /// Writes the report, and gives its status.
+    /// Writes the report, and returns its status.
     pub(crate) fn send<K: Sink>(&self, sink: &mut K) -> Result<u8, RunFault>
         ensures { Sends self.now (K.seen sink.old) (K.seen sink.new) result }
     {

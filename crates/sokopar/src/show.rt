@@ -9,7 +9,7 @@ use grid::{Level, LevelFault};
 use std::alloc::{AllocError, Global};
 use xsb::MAX_FILE;
 
-/// The report where there is no level N.
+/// The report that there is no level N.
 pub(crate) fn no_level(alloc: Global, number: u32) -> Result<Report, AllocError>
     ensures { IfOk result (λ report. report ≡ no_level number) }
 {
@@ -20,7 +20,7 @@ pub(crate) fn no_level(alloc: Global, number: u32) -> Result<Report, AllocError>
     Ok(Report::new(text, 1))
 }
 
-/// The report where level N has a fault.
+/// The report that level N has a fault.
 pub(crate) fn fault_report(alloc: Global, fault: LevelFault) -> Result<Report, AllocError>
     ensures { IfOk result (λ report. report ≡ fault_report fault) }
 {

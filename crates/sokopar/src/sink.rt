@@ -7,12 +7,12 @@ use std::fmt;
 use std::fmt::{Debug, Formatter};
 use std::io::Write;
 
-/// Where a report goes.
+/// The destination of a report.
 pub trait Sink {
-    // what its writes did so far, and the bytes that it holds, where these are known
+    // what its writes did so far, and the bytes that it holds, if these are known
     ghost seen: { Self → Seen };
 
-    /// Takes bytes from the front of the text, at least one, and gives their number.
+    /// Writes bytes from the front of the text, at least one, and returns their number.
     fn write(&mut self, text: &[u8]) -> Result<usize, Failed>
         requires some { 1 ≤ length text.now }
         ensures bound { IfOk result (λ n. (1 ≤ n) × (n ≤ length text.now)) }
@@ -21,7 +21,7 @@ pub trait Sink {
         ensures bytes { WriteAppends (seen self.old).known (seen self.new).known result text.now };
 }
 
-/// A writer of std as a sink. A write that takes no byte counts as a failure.
+/// A writer of std as a sink. A write of zero bytes is a failure.
 #[derive(Drop)]
 pub struct Writer<W: Write> {
     writer: W,
@@ -29,7 +29,7 @@ pub struct Writer<W: Write> {
 }
 
 impl<W: Write + Drop> Writer<W> {
-    /// The sink that hands on to the writer.
+    /// The sink that writes to this writer.
     pub fn new(writer: W) -> Writer<W>
         ensures { ⟦<Writer<W> as Sink>⟧.seen result ≡ untouched (W.contents writer) }
     {

@@ -21,7 +21,7 @@ use std::sync::{Arc, Wait};
 use std::thread::Threads;
 use xsb::MAX_FILE;
 
-/// The report where the level has more boxes than a search takes.
+/// The report that the level has more than [`MAX_BOXES`](grid::MAX_BOXES) boxes.
 pub(crate) fn too_many_boxes(alloc: Global) -> Result<Report, AllocError>
     ensures { IfOk result (λ report. report ≡ too_many_boxes) }
 {
@@ -41,7 +41,9 @@ fn put_positions(text: &mut Text, positions: u64) -> Result<(), AllocError>
 
 /// The report of a solution.
 fn solved(alloc: Global, moves: &Moves, pushes: u64, positions: u64) -> Result<Report, AllocError>
-    ensures { IfOk result (λ report. report ≡ record { text = solved_text pushes (length moves.now) positions (bytes_of moves.now); status = 0 }) }
+    ensures { IfOk result
+        (λ report. report ≡ record
+        { text = solved_text pushes (length moves.now) positions (bytes_of moves.now); status = 0 }) }
 {
     let mut text = Text::new(alloc);
     text.put(b"solved ")?;
@@ -73,7 +75,7 @@ pub(crate) fn put_limit(text: &mut Text, limit: u32) -> Result<(), AllocError>
     text.put(b" reached")
 }
 
-/// The report where the limit was reached.
+/// The report that the limit was reached.
 fn limit_reached(alloc: Global, limit: u32) -> Result<Report, AllocError>
     ensures { IfOk result (λ report. report ≡ answer_report None limit Answer.Limit) }
 {
@@ -159,8 +161,8 @@ pub(crate) fn solve_report<R: Threads + Wait + Sync, G: Gate + Sync>(
     }
 }
 
-/// The report of solving level N of a collection by a configuration, with a gate for its workers; there is no other report
-/// under its cap and its limit.
+/// The report of solving level N of a collection by a configuration, with a gate for its workers: the only report under
+/// its cap and its limit.
 pub(crate) fn solve_in<R: Threads + Wait + Sync, G: Gate + Sync>(
     rt: &R,
     alloc: Global,

@@ -7,12 +7,12 @@ use std::fmt;
 use std::fmt::{Debug, Formatter};
 use std::io::Read;
 
-/// Where a file's bytes come from.
+/// The origin of a file's bytes.
 pub trait Source {
-    // what its reads did so far, and the bytes that it has left, where these are known
+    // what its reads did so far, and the bytes that it has left, if these are known
     ghost seen: { Self → Seen };
 
-    /// Reads bytes into the front of the buffer, and gives their number; none is the source's end.
+    /// Reads bytes into the front of the buffer, and returns their number; zero means end of file.
     fn read(&mut self, buffer: &mut [u8]) -> Result<usize, Failed>
         requires room { 1 ≤ length buffer.old }
         ensures bound { IfOk result (λ n. n ≤ length buffer.new) }
@@ -29,7 +29,7 @@ pub struct Reader<R: Read> {
 }
 
 impl<R: Read + Drop> Reader<R> {
-    /// The source of what the reader has left.
+    /// The source of the bytes that the reader has left.
     pub fn new(reader: R) -> Reader<R>
         ensures { ⟦<Reader<R> as Source>⟧.seen result ≡ untouched (R.remaining reader) }
     {

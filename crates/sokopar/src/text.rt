@@ -8,10 +8,10 @@ use std::alloc::{AllocError, Global};
 use std::marker::Model;
 use xsb::write;
 
-/// For how many bytes a text first takes room.
+/// The first capacity of a text, in bytes.
 const LEAST_ROOM: usize = 64;
 
-/// A text as it is made.
+/// A text to append to.
 #[derive(Drop)]
 pub(crate) struct Text {
     bytes: Vec<u8>,
@@ -26,7 +26,7 @@ impl Model for Text {
 }
 
 impl Text {
-    /// No text.
+    /// An empty text.
     pub(crate) fn new(alloc: Global) -> Text
         ensures { result ≡ [] }
     {
@@ -35,7 +35,7 @@ impl Text {
         }
     }
 
-    /// Appends words; where memory is refused the text stays as it was.
+    /// Appends words. Fails only if out of memory, and then leaves the text unchanged.
     pub(crate) fn put(&mut self, words: &[u8]) -> Result<(), AllocError>
         ensures ok { OnOk result (self.new ≡ self.old ++ words.now) }
         ensures err { OnErr result (self.new ≡ self.old) }
@@ -45,8 +45,8 @@ impl Text {
         Ok(())
     }
 
-    /// Makes room for some bytes more; where there is none yet, also for a quarter of what is there, so that a long text
-    /// has little to spare.
+    /// Reserves capacity for more bytes. If it must grow, it grows by at least a quarter, so that a long text has
+    /// little to spare.
     fn make_room(&mut self, more: usize) -> Result<(), AllocError>
         ensures { self.new ≡ self.old }
     {
@@ -57,7 +57,7 @@ impl Text {
         Ok(())
     }
 
-    /// Appends a number in decimal digits; where memory is refused the text stays as it was.
+    /// Appends a number in decimal digits. Fails only if out of memory, and then leaves the text unchanged.
     pub(crate) fn put_number(&mut self, number: usize) -> Result<(), AllocError>
         ensures ok { OnOk result (self.new ≡ self.old ++ decimal number) }
         ensures err { OnErr result (self.new ≡ self.old) }
@@ -65,7 +65,7 @@ impl Text {
         self.put(Buffer::new().format(number).as_bytes())
     }
 
-    /// Appends the rows of a level; where memory is refused the text stays as it was.
+    /// Appends the rows of a level. Fails only if out of memory, and then leaves the text unchanged.
     pub(crate) fn put_rows(&mut self, level: &Level) -> Result<(), AllocError>
         ensures ok { OnOk result (self.new ≡ self.old ++ written level.now) }
         ensures err { OnErr result (self.new ≡ self.old) }
@@ -73,7 +73,7 @@ impl Text {
         write(level, &mut self.bytes)
     }
 
-    /// Appends the letters of moves; where memory is refused the text stays as it was.
+    /// Appends the letters of moves. Fails only if out of memory, and then leaves the text unchanged.
     pub(crate) fn put_letters(&mut self, moves: &Moves) -> Result<(), AllocError>
         ensures ok { OnOk result (self.new ≡ self.old ++ bytes_of moves.now) }
         ensures err { OnErr result (self.new ≡ self.old) }

@@ -1,4 +1,4 @@
-//! The history of a source or a sink, which contracts alone see. It takes no memory, and its methods do nothing.
+//! The history of a source or a sink, which only contracts see. It takes no memory, and its methods do nothing.
 ghost use Rattle.std.specs.Prelude.{◌≡◌, List, []};
 ghost use Rattle.std.specs.Borrow.{ftrue};
 ghost use Rattle.sokopar.specs.Ends.{Act};
@@ -12,14 +12,14 @@ use thiserror::Error;
 #[error("a read or a write failed")]
 pub struct Failed;
 
-/// What a read or a write did: it moved some bytes, or it failed.
+/// The result of a read or a write: it moved some bytes, or it failed.
 #[derive(Clone, Copy, Drop)]
 pub(crate) enum Event<'a> {
     Moved(&'a [u8]),
     Failed,
 }
 
-/// What was done so far.
+/// The results so far.
 #[derive(Drop)]
 pub(crate) struct Trail {
     pub ghost acts: { List Act } by { acts_code },
@@ -30,14 +30,14 @@ impl Model for Trail {
 }
 
 impl Trail {
-    /// Nothing was done yet.
+    /// The empty history.
     pub(crate) fn new() -> Trail
         ensures { result.acts ≡ [] }
     {
         Trail {}
     }
 
-    /// The history with one event more.
+    /// The history with one more event.
     pub(crate) fn then(&self, _event: &Event<'_>) -> Trail
         ensures { result.acts ≡ after self.now.acts _event.now }
     {

@@ -33,9 +33,11 @@ IsSolutionOf task ds ps = IsSolution task.board ds ps × KeepsCap task.cap (leng
 
 -- the first n layers of the level under its cap have so many positions together
 abbrev pub HaveTotal : Task → ℕ → ℕ → Type 0
-HaveTotal task n positions = (layers : List (List Scene)) × AreLayersOf task layers × (length layers ≡ n) × (total layers ≡ positions)
+HaveTotal task n positions =
+    (layers : List (List Scene)) × AreLayersOf task layers × (length layers ≡ n) × (total layers ≡ positions)
 
--- all layers of the level under its cap together have so many positions; layer n is the first empty one, so later ones are too
+-- all layers of the level under its cap together have so many positions; layer n is the first empty one, so later
+-- ones are too
 pub record HasInAll (task : Task) (positions : ℕ) : Type 0 where
   pub layers : List (List Scene)
   pub are : AreLayersOf task layers
@@ -64,7 +66,8 @@ HasNone task limit positions =
 -- positions of all layers under the cap; or that the limit is passed
 abbrev pub IsAnswer : Task → ℕ → Answer → Type 0
 IsAnswer task limit (Solved moves pushes positions) =
-    WritesLeastSolution task.board moves pushes × HaveTotal task (suc pushes) positions × (positions ≤ limit) × KeepsCap task.cap pushes
+    WritesLeastSolution task.board moves pushes × HaveTotal task (suc pushes) positions × (positions ≤ limit) ×
+    KeepsCap task.cap pushes
 IsAnswer task limit (Unsolvable positions) = (task.cap ≡ None) × HasNone task limit positions
 IsAnswer task limit (NoneWithin positions) = ¬ (task.cap ≡ None) × HasNone task limit positions
 IsAnswer task limit Limit = PassesLimit task limit

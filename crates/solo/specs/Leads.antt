@@ -39,7 +39,8 @@ last_places layers = places_or_none (slice_get layers (length layers - 1))
 -- the list is layers 0 to k of one level under one cap, for some k
 pub record AreFirstLayers (layers : List LayerView) : Type 0 where
   pub some : 1 ≤ length layers
-  pub each : (j : ℕ) (layer : LayerView) → slice_get layers j ≡ Some layer → (layer.level ≡ level_of layers) × (layer.number ≡ j)
+  pub each : (j : ℕ) (layer : LayerView) → slice_get layers j ≡ Some layer → (layer.level ≡ level_of layers) ×
+      (layer.number ≡ j)
 
 -- the letters write a play from the start whose pushes are the lead of the position n, and no play with these pushes
 -- is shorter, or as short and of a lesser text
@@ -49,4 +50,5 @@ pub record WritesLead (board : Board) (n : Scene) (letters : List Letter) : Type
   pub end : Scene
   pub play : Play board Any (start board) (dirs_of letters) pushes end
   pub written : letters_of play ≡ letters
-  pub least : (es : List Dir) (t : Scene) → Play board Any (start board) es pushes t → is_gt (shortlex dir_cmp (dirs_of letters) es) ≡ false
+  pub least : (es : List Dir) (t : Scene) → Play board Any (start board) es pushes t →
+      is_gt (shortlex dir_cmp (dirs_of letters) es) ≡ false

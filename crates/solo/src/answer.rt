@@ -5,7 +5,7 @@ use grid::{MAX_BOXES, Moves};
 use std::alloc::AllocError;
 use thiserror::Error;
 
-/// What the search for the solution with the fewest pushes found.
+/// The result of a search for the solution with the fewest pushes.
 #[derive(Debug, Drop)]
 pub enum Answer {
     /// The least solution: the fewest pushes, of those the least push list, of those the fewest moves, of those the
@@ -22,24 +22,24 @@ pub enum Answer {
     Unsolvable {
         positions: u64,
     },
-    /// No play with so many pushes as the cap allows ends with every box on a goal; answered in place of
-    /// [`Unsolvable`](Answer::Unsolvable) exactly where a cap is set. `positions` counts all positions that pushes lead
+    /// No play within the cap of pushes ends with every box on a goal; replaces
+    /// [`Unsolvable`](Answer::Unsolvable) exactly if a cap is set. `positions` counts all positions that pushes lead
     /// to through undoomed positions and that the cap admits.
     NoneWithin {
         positions: u64,
     },
-    /// More positions than the limit are needed to give one of the other answers; nothing is said of the level.
+    /// More positions than the limit are needed for one of the other answers; the level stays undecided.
     Limit,
 }
 
-/// Why a level was not solved. Of several reasons `BadConfig` comes before all others, and of the others the first in
-/// this order is the one that is answered.
+/// Why a level was not searched. If several reasons apply, `BadConfig` is reported before all others, and otherwise the
+/// first in this order.
 #[derive(Clone, Copy, PartialEq, Eq, Debug, Drop, Error)]
 pub enum SolveFault {
     /// The level has more boxes than [`MAX_BOXES`](grid::MAX_BOXES).
     #[error("more than {MAX_BOXES} boxes")]
     TooManyBoxes,
-    /// Memory was refused.
+    /// Out of memory.
     #[error("out of memory")]
     OutOfMemory,
     /// A number of the configuration is outside its limits. [`solve_alone`](crate::solve_alone), which takes no

@@ -1,4 +1,4 @@
-//! Positions whose boxes all stand on goals.
+//! Positions whose boxes are all on goals.
 ghost use Rattle.std.specs.Prelude.{◌≡◌, ◌↔◌, ◌<◌, true, false, IsTrue, MatchOption, length, slice_index_or};
 ghost use Rattle.std.specs.List.{list_all};
 ghost use Rattle.grid.specs.Board.{Scene, IsSolved, is_goal};
@@ -7,10 +7,10 @@ ghost use Rattle.solo.specs.Leads.{AreUnsolved, IsFirstSolved};
 use grid::{Level, Square};
 use layers::Layer;
 
-/// The least rank of the layer whose position has all its boxes on goals; `None` exactly where there is none. Takes
-/// no memory.
+/// The least rank of the layer whose position has all its boxes on goals; `None` if there is none. Takes no memory.
 pub fn first_solved(layer: &Layer) -> Option<u64>
-    ensures { MatchOption result (AreUnsolved layer.now.level.board layer.now.places) (λ rank. IsFirstSolved layer.now.level.board layer.now.places rank) }
+    ensures { MatchOption result (AreUnsolved layer.now.level.board layer.now.places)
+        (λ rank. IsFirstSolved layer.now.level.board layer.now.places rank) }
 {
     let mut likely = 0;
     for rank in 0..layer.len() {
@@ -21,15 +21,15 @@ pub fn first_solved(layer: &Layer) -> Option<u64>
     None
 }
 
-// Whether each box of a position stands on a goal. One that does not is told by its place, and looked at first next time: positions
-// of near ranks have most of their boxes in common.
+// Whether each box of a position is on a goal. It keeps the index of a box that is not, to look at it first next time:
+// positions of near ranks have most of their boxes in common.
 fn is_solved(level: &Level, boxes: &[Square], likely: &mut usize) -> bool
     ensures { (n : Scene) → boxes.now ≡ n.boxes → IsTrue result ↔ IsSolved level.now n }
 {
     are_goals(boxes, level, likely)
 }
 
-// Whether each square has a goal, of which that at the likely place is looked at first.
+// Whether each square has a goal. It looks at the likely index first.
 fn are_goals(squares: &[Square], level: &Level, likely: &mut usize) -> bool
     ensures { result ≡ list_all (is_goal level.now) squares.now }
 {
@@ -45,10 +45,12 @@ fn are_goals(squares: &[Square], level: &Level, likely: &mut usize) -> bool
     true
 }
 
-// Whether there is a square at a place, and it has no goal.
+// Whether there is a square at an index, and it has no goal.
 fn is_off_goal(squares: &[Square], level: &Level, place: usize) -> bool
-    ensures off { result ≡ true → (place < length squares.now) × (is_goal level.now (slice_index_or squares.now place 0) ≡ false) }
-    ensures on { result ≡ false → place < length squares.now → is_goal level.now (slice_index_or squares.now place 0) ≡ true }
+    ensures off { result ≡ true → (place < length squares.now) ×
+        (is_goal level.now (slice_index_or squares.now place 0) ≡ false) }
+    ensures on { result ≡ false → place < length squares.now →
+        is_goal level.now (slice_index_or squares.now place 0) ≡ true }
 {
     match squares.get(place) {
         Some(square) => !level.is_goal(*square),

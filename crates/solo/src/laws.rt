@@ -1,4 +1,5 @@
-//! Laws of answers that callers may rely on. Each is the contract of a function that does nothing.
+//! Laws of answers that callers may rely on. Each is the contract of a function that does nothing: call it in a proof
+//! to use the law.
 ghost use Rattle.std.specs.Prelude.{◌≡◌, ℕ, suc, ◌<◌, ◌≤◌, ◌↔◌, true, List, [], length};
 ghost use Rattle.grid.specs.Board.{Scene};
 ghost use Rattle.successors.specs.Tasks.{Task};
@@ -19,41 +20,50 @@ use crate::answer::Answer;
 /// A level with its cap and a limit have at most one answer.
 #[tactic(auto, using(crate::proofs::Uniqueness::answer_same))]
 pub fn an_answer_is_the_only_one()
-    ensures { (task : Task) (limit : ℕ) (a b : Answer) → IsLevel task.board → IsAnswer task limit a → IsAnswer task limit b → a ≡ b }
+    ensures { (task : Task) (limit : ℕ) (a b : Answer) → IsLevel task.board → IsAnswer task limit a →
+        IsAnswer task limit b → a ≡ b }
 {}
 
-/// A level with its cap and a limit is never without an answer: that none fits leads to a contradiction. Memory does not
-/// come into it, for this is about the definitions alone.
+/// A level with its cap and a limit always has an answer: that none fits is a contradiction. This is a law of the
+/// definitions; memory plays no part in it.
 pub fn an_answer_is_never_missing()
-    ensures { (task : Task) (limit : ℕ) → IsLevel task.board → ((answer : Answer) → ¬ (IsAnswer task limit answer)) → ⊥ }
+    ensures { (task : Task) (limit : ℕ) → IsLevel task.board → ((answer : Answer) → ¬ (IsAnswer task limit answer)) →
+        ⊥ }
 {}
 
 /// The answer is `Limit` exactly where the positions that are needed are more than the limit: for a level that is
 /// solved, those of the layers up to the least number of pushes of a solution; for one that is not, those of all
 /// layers.
 pub fn the_limit_is_passed_by_the_positions_needed()
-    ensures solved { (task : Task) (limit pushes positions : ℕ) → IsLevel task.board → IsFewest task pushes → HaveTotal task (suc pushes) positions →
+    ensures solved { (task : Task) (limit pushes positions : ℕ) → IsLevel task.board → IsFewest task pushes →
+        HaveTotal task (suc pushes) positions →
         IsAnswer task limit Limit ↔ (limit < positions) }
-    ensures unsolvable { (task : Task) (limit positions : ℕ) → IsLevel task.board → IsUnsolvable task → HasInAll task positions →
+    ensures unsolvable { (task : Task) (limit positions : ℕ) → IsLevel task.board → IsUnsolvable task →
+        HasInAll task positions →
         IsAnswer task limit Limit ↔ (limit < positions) }
 {}
 
 /// Beyond a layer without positions there is nothing.
 pub fn an_empty_layer_is_the_last()
-    ensures { (task : Task) (empty later : ℕ) (places : List Scene) → IsLevel task.board → IsLayerOf task empty [] → empty ≤ later →
+    ensures { (task : Task) (empty later : ℕ) (places : List Scene) → IsLevel task.board → IsLayerOf task empty [] →
+        empty ≤ later →
         IsLayerOf task later places → places ≡ [] }
 {}
 
 /// Where a book of whatever share is over, and the layers that it has closed were looked at, the answer is `Limit`.
 pub fn a_book_that_is_over_passes_the_limit()
-    ensures { (task : Task) (limit positions : ℕ) (trail : List (List (Origin Push))) (book : BookView) → IsLookedAt task limit trail positions →
-        IsLawfulBook book → book.level ≡ task → book.limit ≡ limit → book.over ≡ true → length book.closed ≡ length trail → IsAnswer task limit Limit }
+    ensures { (task : Task) (limit positions : ℕ) (trail : List (List (Origin Push))) (book : BookView) →
+        IsLookedAt task limit trail positions →
+        IsLawfulBook book → book.level ≡ task → book.limit ≡ limit → book.over ≡ true →
+        length book.closed ≡ length trail → IsAnswer task limit Limit }
 {}
 
-/// Where the books of all shares hold more positions together than the limit, and the layers that they have closed were looked
-/// at, the answer is `Limit`, whichever ranks are done in which of them.
+/// Where the books of all shares hold more positions together than the limit, and the layers that they have closed
+/// were looked at, the answer is `Limit`, whichever ranks are done in which of them.
 pub fn books_that_hold_more_together_pass_the_limit()
-    ensures { (task : Task) (limit positions : ℕ) (trail : List (List (Origin Push))) (books : List BookView) (all : AreAllShares books) →
-        IsLookedAt task limit trail positions → AreLawfulBooks books → all.first.level ≡ task → length all.first.closed ≡ length trail →
+    ensures { (task : Task) (limit positions : ℕ) (trail : List (List (Origin Push))) (books : List BookView)
+        (all : AreAllShares books) →
+        IsLookedAt task limit trail positions → AreLawfulBooks books → all.first.level ≡ task →
+        length all.first.closed ≡ length trail →
         limit < all_held books → IsAnswer task limit Limit }
 {}

@@ -1,4 +1,4 @@
-//! The play that leads to a position, read back through the layers.
+//! The play that leads to a position, retraced through the layers.
 ghost use Rattle.std.specs.Prelude.{◌≡◌, ℕ, ◌≤◌, ◌<◌, IfOk, List, Some, length, map, slice_get};
 ghost use Rattle.grid.specs.declared.square.Push.{Push as Made};
 ghost use Rattle.grid.specs.Board.{Scene};
@@ -27,7 +27,8 @@ pub fn moves_to(
     requires layers { AreFirstLayers layers.now }
     requires rank { rank < length (last_places layers.now) }
     requires room { scratch.old.size ≡ length (level_of layers.now).board.cells }
-    ensures lead { IfOk result (λ moves. (n : Scene) → slice_get (last_places layers.now) rank ≡ Some n → WritesLead (level_of layers.now).board n moves) }
+    ensures lead { IfOk result (λ moves. (n : Scene) → slice_get (last_places layers.now) rank ≡ Some n →
+        WritesLead (level_of layers.now).board n moves) }
     ensures size { scratch.new.size ≡ scratch.old.size }
 {
     tell_each(layers);
@@ -35,7 +36,7 @@ pub fn moves_to(
     play_pushes(alloc, layers[0].level(), pushes.as_slice(), scratch)
 }
 
-// The same for a layer, where of those before it only the parents of their positions are kept.
+// The same for a layer, if of earlier layers only the parents of their positions are kept.
 pub(crate) fn moves_back(
     alloc: Global,
     trail: &[Parents],
@@ -46,7 +47,8 @@ pub(crate) fn moves_back(
     requires next { IsNextOf trail.now layer.now }
     requires rank { rank < length layer.now.places }
     requires room { scratch.old.size ≡ length layer.now.level.board.cells }
-    ensures lead { IfOk result (λ moves. (n : Scene) → slice_get layer.now.places rank ≡ Some n → WritesLead layer.now.level.board n moves) }
+    ensures lead { IfOk result (λ moves. (n : Scene) → slice_get layer.now.places rank ≡ Some n →
+        WritesLead layer.now.level.board n moves) }
     ensures size { scratch.new.size ≡ scratch.old.size }
 {
     let pushes = lead_back(alloc, trail, layer, rank)?;
@@ -88,7 +90,7 @@ impl HasParents for Parents {
     }
 }
 
-// The lead of the position with a rank of a layer, where of those before it only the parents are kept.
+// The lead of the position with a rank of a layer, if of earlier layers only the parents are kept.
 fn lead_back(
     alloc: Global,
     trail: &[Parents],
@@ -108,9 +110,10 @@ fn lead_back(
     Ok(pushes)
 }
 
-// The lead of the position with a rank of the last layer of some first ones, read back through the parents.
+// The lead of the position with a rank of the last of the first layers, retraced through the parents.
 fn lead_of<P: HasParents>(alloc: Global, trail: &[P], asked: u64) -> Result<Vec<Push>, AllocError>
-    ensures { IfOk result (λ pushes. (task : Task) (layers : List LayerView) → AreTrailed task layers (map P.origins trail.now) →
+    ensures { IfOk result (λ pushes. (task : Task) (layers : List LayerView) →
+        AreTrailed task layers (map P.origins trail.now) →
         asked < length (last_places layers) → IsLeadAt task (last_places layers) asked pushes.items) }
 {
     let mut pushes = Vec::new(alloc);

@@ -1,5 +1,7 @@
-//! The solution of a level with the fewest pushes: plays read off layers, the turns of a search through the layers, and
-//! the search on one thread.
+//! The search for the least solution of a level on one thread ([`solve_alone`]), and its parts for solvers with
+//! workers: the turns of a search ([`turn`], [`rest`]), and plays that are retraced through layers ([`moves_to`]).
+//!
+//! Time and memory grow with the positions: some 50 to 150 bytes and 1 to 5 microseconds each.
 //!
 //! With the `level` of a room of three rows of three squares, the box in the middle, its goal at the top left and the
 //! player at the bottom right:

@@ -1,5 +1,6 @@
-//! What is left of a layer in books that several workers shared, within what the limit leaves over all of them.
-ghost use Rattle.std.specs.Prelude.{◌≡◌, ◌+◌, ◌<◌, ◌≤◌, ℕ, Some, true, IfNone, IfOk, IfSome, MatchBool, OnOk, length, slice_get};
+//! The rest of a layer in books that several workers shared, within the limit over all of them.
+ghost use Rattle.std.specs.Prelude.{◌≡◌, ◌+◌, ◌<◌, ◌≤◌, ℕ, Some, true, IfNone, IfOk, IfSome, MatchBool, OnOk, length};
+ghost use Rattle.std.specs.Prelude.{slice_get};
 ghost use Rattle.successors.specs.declared.limits.TheConstants.{MAX_SHARES};
 ghost use Rattle.layers.specs.BookView.{BookView, AreLawfulBooks, IsLawfulBook};
 ghost use Rattle.layers.specs.Books.{AllDone, HasBegun};
@@ -12,10 +13,11 @@ use area::Scratch;
 use layers::{Book, Layer};
 use std::alloc::AllocError;
 
-/// Does as one of the workers whatever ranks are left of the last closed layer in each of the books, one after the other, and
-/// closes none; until they pass the limit: one of them is over, or all of them together hold more positions. Gives what the
-/// limit leaves once each rank is done, or `None` where the limit is passed. After an error each book is still at work on
-/// that layer, perhaps with more of its ranks done. That worker alone is credited, with each rank that is done here.
+/// Does, as one of the workers, the ranks of the last closed layer that are left in each of the books, one book after
+/// the other, and closes none. It stops when the limit is passed: one of the books is over, or all together hold more
+/// positions. Returns what the limit leaves once each rank is done, or `None` if the limit is passed. After an error
+/// each book is still at work on that layer, perhaps with more of its ranks done. Only that worker gets credit for the
+/// ranks that are done here.
 pub fn do_rest(
     books: &mut [Book],
     layer: &Layer,
@@ -44,8 +46,8 @@ pub fn do_rest(
     Ok(left_of(books, limit))
 }
 
-// Does whatever ranks are left of the last closed layer in one of the books, until it is over or holds more than `left`
-// positions more; `false` where it does.
+// Does the ranks of the last closed layer that are left in one of the books, until the book is over or holds more than
+// `left` positions more; then it returns `false`.
 fn do_rest_of(
     book: &mut Book,
     layer: &Layer,
@@ -59,7 +61,8 @@ fn do_rest_of(
     requires room { scratch.old.size ≡ length layer.now.level.board.cells }
     ensures still { IsStill layer.now book.old book.new }
     ensures credited { IsDoneBy worker book.old book.new }
-    ensures within { IfOk result (λ within. MatchBool within (AllDone book.new) (IsFull (held book.old + left) book.new)) }
+    ensures within { IfOk result
+        (λ within. MatchBool within (AllDone book.new) (IsFull (held book.old + left) book.new)) }
     ensures lawful { OnOk result (IsLawfulBook book.new) }
     ensures size { scratch.new.size ≡ scratch.old.size }
 {
@@ -72,7 +75,7 @@ fn do_rest_of(
     Ok(within)
 }
 
-// What the limit leaves over all the books; `None` where one of them is over, or all of them together hold more positions.
+// What the limit leaves over all books; `None` if one of them is over, or all together hold more positions.
 fn left_of(books: &mut [Book], limit: u32) -> Option<u64>
     requires few { length books.old ≤ MAX_SHARES }
     ensures left { IfSome result (λ left. left + all_held books.new ≡ limit) }
@@ -102,7 +105,7 @@ fn is_one_over(books: &[Book]) -> bool
     false
 }
 
-// How many positions all the books hold together.
+// The number of positions of all books together.
 fn count_all(books: &mut [Book]) -> u64
     requires few { length books.old ≤ MAX_SHARES }
     ensures lawful { AreLawfulBooks books.new }

@@ -15,12 +15,12 @@ use layers::{Book, Dealing, Parents, Problem};
 use std::alloc::{AllocError, Global};
 use std::sync::Arc;
 
-/// The solution of the level with the fewest pushes, or that it has none, within a cap of pushes if one is set, or that
-/// more than `limit` positions are needed to say so.
+/// Searches for the solution of the level with the fewest pushes, within a cap of pushes if one is set. The answer is
+/// that solution, or that there is none, or that more than `limit` positions are needed to decide.
 ///
-/// A solution that is given is the least one: the fewest pushes, then the least push list, then the fewest moves, then
-/// the least text. The errors are that the level has more boxes than [`MAX_BOXES`](grid::MAX_BOXES), and that memory
-/// was refused.
+/// The solution is the least one: the fewest pushes, then the least push list, then the fewest moves, then the least
+/// text. Fails with [`SolveFault::TooManyBoxes`] if the level has more than [`MAX_BOXES`](grid::MAX_BOXES) boxes, and
+/// with [`SolveFault::OutOfMemory`].
 pub fn solve_alone(
     alloc: Global,
     level: &Arc<Level>,
@@ -29,7 +29,8 @@ pub fn solve_alone(
 ) -> Result<Answer, SolveFault>
     requires { 1 ≤ limit }
     ensures answer { IfOk result (λ answer. IsAnswer (capped (arc_value level.now) cap) limit answer) }
-    ensures boxes { MatchResult result (λ answer. box_count (arc_value level.now) ≤ MAX_BOXES) (λ fault. SolveRefused (arc_value level.now) fault) }
+    ensures boxes { MatchResult result (λ answer. box_count (arc_value level.now) ≤ MAX_BOXES)
+        (λ fault. SolveRefused (arc_value level.now) fault) }
 {
     if level.boxes() > MAX_BOXES {
         return Err(SolveFault::TooManyBoxes);
@@ -40,7 +41,7 @@ pub fn solve_alone(
     }
 }
 
-// The answer that the layers of a level give. The only error is that memory was refused.
+// The answer that the layers of a level give. Fails only if out of memory.
 fn search(
     alloc: Global,
     level: &Arc<Level>,
@@ -115,7 +116,8 @@ fn turn(
 ) -> Result<Option<Answer>, AllocError>
     requires turn { AreBetweenTurns terms.now.problem.now terms.now.limit 1 1 books.old trail.old.items positions.old }
     requires room { scratch.old.size ≡ length terms.now.problem.now.board.cells }
-    ensures answer { IfOk result (λ found. IfSome found (λ answer. IsAnswer terms.now.problem.now terms.now.limit answer)) }
+    ensures answer { IfOk result
+        (λ found. IfSome found (λ answer. IsAnswer terms.now.problem.now terms.now.limit answer)) }
     ensures onward { IfOk result (λ found. IfNone found
         (GoesOn terms.now.problem.now terms.now.limit books.new trail.new.items positions.old positions.new)) }
     ensures size { scratch.new.size ≡ scratch.old.size }

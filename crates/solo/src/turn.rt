@@ -1,6 +1,7 @@
-//! The turns of a search, for one worker and for several: each looks at the next layer, and where that gives no answer
-//! has its ranks done until the layer after it is closed. The only error is that memory was refused.
-ghost use Rattle.std.specs.Prelude.{◌≡◌, ◌≢◌, ◌+◌, ◌-◌, ◌<◌, ◌≤◌, ◌↔◌, ℕ, List, [], ◌∷◌, ◌++◌, Some, true, false, length, slice_get};
+//! The turns of a search, for one worker and for several: each looks at the next layer, and if that gives no answer,
+//! does its ranks until the layer after it is closed. These functions fail only if out of memory.
+ghost use Rattle.std.specs.Prelude.{◌≡◌, ◌≢◌, ◌+◌, ◌-◌, ◌<◌, ◌≤◌, ◌↔◌, ℕ, List, [], ◌∷◌, ◌++◌, Some, true, false};
+ghost use Rattle.std.specs.Prelude.{length, slice_get};
 ghost use Rattle.std.specs.Prelude.{IfNone, IfOk, IfSome, MatchBool, MatchResult, OnErr, OnOk};
 ghost use Rattle.std.specs.Arc.{arc_value};
 ghost use Rattle.grid.specs.Lawful.{box_count};
@@ -9,13 +10,15 @@ ghost use Rattle.successors.specs.declared.limits.TheConstants.{MAX_SHARES};
 ghost use Rattle.layers.specs.declared.limits.TheConstants.{MAX_WORKERS};
 ghost use Rattle.layers.specs.BookView.{BookView};
 ghost use Rattle.store.specs.Entries.{Closed};
-ghost use Rattle.layers.specs.Books.{AllDone, AreAllShares, AreNewShares, HasBegun, IsAtWork, IsJoinOf, MayBegin, with_begun, with_closed, with_parcel};
+ghost use Rattle.layers.specs.Books.{AllDone, AreAllShares, AreNewShares, HasBegun, IsAtWork, IsJoinOf, MayBegin};
+ghost use Rattle.layers.specs.Books.{with_begun, with_closed, with_parcel};
 ghost use Rattle.solo.specs.Answers.{HasNone, IsAnswer};
 ghost use Rattle.solo.specs.Leads.{IsFirstSolved};
 ghost use Rattle.solo.specs.declared.answer.Answer.TheVariants.{Limit};
 ghost use Rattle.solo.specs.inside.Searched.{HaveBefore, IsCounted, IsLookedAt};
 ghost use Rattle.solo.specs.inside.Rests.{MayBeClosed, RestAnswer, RestAnswers};
-ghost use Rattle.solo.specs.inside.Turns.{AreDoneBy, HaveBegun, IsDoneBy, IsReopenedAt, IsStillAt, MayBeWorked, MayHaveBegun};
+ghost use Rattle.solo.specs.inside.Turns.{AreDoneBy, HaveBegun, IsDoneBy, IsReopenedAt, IsStillAt, MayBeWorked};
+ghost use Rattle.solo.specs.inside.Turns.{MayHaveBegun};
 ghost use Rattle.solo.specs.inside.Turns.{WorkAnswer, WorkAnswers, with_over};
 ghost use Rattle.solo.specs.inside.Together.{IsFull};
 
@@ -40,8 +43,8 @@ pub enum Worked {
     Over,
 }
 
-/// The new books of all shares of a problem's positions, share 0 first, for so many workers. The level has no more boxes
-/// than [`MAX_BOXES`](grid::MAX_BOXES).
+/// The new books of all shares of a problem's positions, share 0 first, for the workers of `dealing`. The level has at
+/// most [`MAX_BOXES`](grid::MAX_BOXES) boxes.
 pub fn new_books(
     alloc: Global,
     problem: &Arc<Problem>,
@@ -54,7 +57,8 @@ pub fn new_books(
     requires workers { (1 ≤ dealing.workers) × (dealing.workers ≤ MAX_WORKERS + 1) }
     requires shares { (1 ≤ dealing.shares) × (dealing.shares ≤ MAX_SHARES) }
     requires room { scratch.old.size ≡ length (arc_value problem.now).board.cells }
-    ensures books { IfOk result (λ books. AreNewShares (arc_value problem.now) limit dealing.workers dealing.shares books.items) }
+    ensures books { IfOk result
+        (λ books. AreNewShares (arc_value problem.now) limit dealing.workers dealing.shares books.items) }
     ensures size { scratch.new.size ≡ scratch.old.size }
 {
     match Book::of_all_shares(alloc, problem, limit, dealing, scratch) {
@@ -64,12 +68,12 @@ pub fn new_books(
     }
 }
 
-/// Looks at the next layer of a level, after those whose parents are kept: the answer, if it gives one; otherwise its
-/// positions are counted.
+/// Looks at the next layer of a level, after those whose parents are kept. Returns the answer, if the layer gives one;
+/// otherwise it adds its positions to the count.
 ///
-/// The layer is counted first. More positions than the limit, in it and the layers before it together, are the answer
-/// `Limit`, a solved position is the answer `Solved`, and a layer without positions is the answer `Unsolvable`, or
-/// `NoneWithin` where a cap is set. An answer and an error leave the count as it was.
+/// The answer is `Limit` if this layer and those before it have more positions than the limit, `Solved` if it has a
+/// solved position, and `Unsolvable`, or `NoneWithin` under a cap, if it has no positions. An answer and an error leave
+/// the count unchanged.
 pub fn look(
     alloc: Global,
     trail: &[Parents],
@@ -82,9 +86,11 @@ pub fn look(
     requires next { layer.now.number ≡ length trail.now }
     requires room { scratch.old.size ≡ length layer.now.level.board.cells }
     ensures answer { IfOk result (λ found. IfSome found (λ answer. IsAnswer layer.now.level limit answer)) }
-    ensures onward { IfOk result (λ found. IfNone found (IsCounted limit trail.now layer.now positions.old positions.new)) }
+    ensures onward { IfOk result
+        (λ found. IfNone found (IsCounted limit trail.now layer.now positions.old positions.new)) }
     ensures limit { IfOk result (λ found. (found ≡ Some Limit) ↔ (limit < positions.old + length layer.now.places)) }
-    ensures kept { MatchResult result (λ found. IfSome found (λ _. positions.new ≡ positions.old)) (λ _. positions.new ≡ positions.old) }
+    ensures kept { MatchResult result (λ found. IfSome found (λ _. positions.new ≡ positions.old))
+        (λ _. positions.new ≡ positions.old) }
     ensures size { scratch.new.size ≡ scratch.old.size }
 {
     layer.tell();
@@ -103,7 +109,7 @@ pub fn look(
     Ok(None)
 }
 
-// The answer where no play solves the level within the layer's cap.
+// The answer if no play solves the level within the layer's cap.
 fn none_of(layer: &Layer, positions: u64) -> Answer
     ensures answer { (limit : ℕ) → HasNone layer.now.level limit positions → IsAnswer layer.now.level limit result }
     ensures known { result ≢ Limit }
@@ -114,7 +120,7 @@ fn none_of(layer: &Layer, positions: u64) -> Answer
     }
 }
 
-// The answer where the position with a rank is the first solved one of the layer after those that were looked at.
+// The answer if the position with a rank is the first solved one of the layer after those of the trail.
 fn solved(
     alloc: Global,
     trail: &[Parents],
@@ -140,7 +146,7 @@ fn solved(
     })
 }
 
-/// The last layer that the books have closed, which are all the shares in order, in room that the layer before left.
+/// The last closed layer of the books, which are all the shares in order. It reuses the memory of an earlier layer.
 pub fn last_layer(alloc: Global, books: &[Book], room: Vec<Square>) -> Result<Layer, AllocError>
     requires { AreAllShares books.now }
     ensures { IfOk result (λ layer. IsJoinOf books.now layer) }
@@ -152,8 +158,8 @@ pub fn last_layer(alloc: Global, books: &[Book], room: Vec<Square>) -> Result<La
     }
 }
 
-/// Opens the ranks of the last closed layer in each of the books. After an error some of them have begun, and the others
-/// are as they were.
+/// Opens the ranks of the last closed layer in each of the books. After an error some of them have begun, and the
+/// others are unchanged.
 pub fn begin_each(books: &mut [Book], layer: &Layer) -> Result<(), AllocError>
     requires { (i : ℕ) (v : BookView) → slice_get books.old i ≡ Some v → MayBegin v layer.now }
     ensures ok { OnOk result (HaveBegun books.old (length layer.now.places) books.new) }
@@ -165,7 +171,7 @@ pub fn begin_each(books: &mut [Book], layer: &Layer) -> Result<(), AllocError>
     Ok(())
 }
 
-/// Opens the ranks of the last closed layer. An error leaves the book as it was.
+/// Opens the ranks of the last closed layer. An error leaves the book unchanged.
 pub fn begin(book: &mut Book, layer: &Layer) -> Result<(), AllocError>
     requires { MayBegin book.old layer.now }
     ensures ok { OnOk result (book.new ≡ with_begun book.old (length layer.now.places)) }
@@ -178,9 +184,9 @@ pub fn begin(book: &mut Book, layer: &Layer) -> Result<(), AllocError>
     }
 }
 
-/// Does as one of the workers whatever is left of the last closed layer in each of the books, one after the other, and
-/// closes the next one there; until one of them is over, or comes to be. After an error each book is as it was, still at
-/// work on that layer, perhaps with more of its ranks done, or has closed the next one.
+/// Does, as one of the workers, what is left of the last closed layer in each of the books, one after the other, and
+/// closes the next layer there. It stops when a book is over. After an error each book is unchanged, or still at work
+/// on that layer, perhaps with more of its ranks done, or has closed the next one.
 pub fn finish_each(
     books: &mut [Book],
     layer: &Layer,
@@ -198,8 +204,8 @@ pub fn finish_each(
     finish_rest(books, layer, scratch, worker)
 }
 
-/// Does what [`finish`] does in each of the books that has not closed the next layer already, one after the other; until
-/// one of them is over, or comes to be. After an error each book is as after one of [`finish_each`].
+/// Does what [`finish`] does in each of the books that has not closed the next layer, one after the other. It stops
+/// when a book is over. After an error each book is as after one of [`finish_each`].
 pub fn finish_rest(
     books: &mut [Book],
     layer: &Layer,
@@ -246,9 +252,9 @@ fn finish_begun(
     finish(book, layer, scratch, worker)
 }
 
-/// Does as one of the workers whatever is left of the last closed layer, whoever claimed it, and closes the next one;
-/// unless the book is over, or comes to be. After an error the book is still at work on that layer, perhaps with more of
-/// its ranks done. That worker alone is credited, with each rank that is done here.
+/// Does, as one of the workers, what is left of the last closed layer, whoever claimed it, and closes the next one,
+/// unless the book is over. After an error the book is still at work on that layer, perhaps with more of its ranks
+/// done. Only that worker gets credit for the ranks that are done here.
 pub fn finish(
     book: &mut Book,
     layer: &Layer,
@@ -275,8 +281,8 @@ pub fn finish(
     Ok(Worked::Through)
 }
 
-// Does each rank that is not done, where none is claimed by others; `false` where the book is over, or holds more positions
-// than it is to hold at most.
+// Does each rank that is not done, if no other worker has claimed one. Returns `false` if the book is over or holds
+// more than `most` positions.
 pub(crate) fn do_ranks(
     book: &mut Book,
     layer: &Layer,
@@ -311,13 +317,15 @@ pub(crate) fn do_ranks(
     }
 }
 
-// Enters the successors of a rank; `false` where the book would hold more positions than its limit, and is over from
-// then on.
+// Enters the successors of a rank. Returns `false` if the book would hold more positions than its limit; it is then
+// over.
 fn enter(book: &mut Book, worker: u8, parcel: &Parcel<'_>) -> Result<bool, AllocError>
     requires work { IsAtWork book.old parcel.now }
     requires free { slice_get book.old.done parcel.now.rank ≡ Some false }
     requires worker { worker < book.old.workers }
-    ensures ok { IfOk result (λ within. MatchBool within (book.new ≡ with_parcel book.old worker parcel.now) (book.new ≡ with_over book.old)) }
+    ensures ok { IfOk result
+        (λ within. MatchBool within (book.new ≡ with_parcel book.old worker parcel.now)
+        (book.new ≡ with_over book.old)) }
     ensures err { OnErr result (book.new ≡ book.old) }
 {
     match book.hand_back(worker, parcel) {
@@ -328,8 +336,8 @@ fn enter(book: &mut Book, worker: u8, parcel: &Parcel<'_>) -> Result<bool, Alloc
     }
 }
 
-/// Closes the next layer ahead of [`finish`], where each rank is done. Where one is not, or memory is refused, the book stays as it
-/// was.
+/// Closes the next layer before [`finish`] does, if each rank is done. Otherwise, or if out of memory, the book stays
+/// unchanged.
 pub fn close_ahead(book: &mut Book)
     ensures { MayBeClosed book.old book.new }
 {

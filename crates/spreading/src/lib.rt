@@ -1,5 +1,5 @@
-//! Calls at each place of a slice, each in a thread of its own, where the caller starts all of the threads: one that a just
-//! started thread starts is mostly put on the same processor, and the two take turns there.
+//! Calls a function for each element of a slice, each call in a thread of its own. The caller starts all threads: a
+//! thread that a new thread starts mostly runs on the same processor, and the two take turns there.
 //!
 //! ```text
 //! let mut numbers = [0u64; 4];
@@ -19,8 +19,9 @@ ghost use denote.Param.Send.{IsSync, IsSend};
 
 use std::thread::{Threads, join_mut};
 
-/// Calls f(i, &mut s[i]) at each place, each in a thread of its own where one can be started; the caller starts all of them,
-/// and does the last one itself. What each call needs and gives is what `f` says.
+/// Calls `f(i, &mut s[i])` for each index, each call in a thread of its own if one can be started. The caller starts
+/// all threads and makes the last call itself, and the calls for which no thread starts. Returns when all calls have
+/// returned. The contract of `f` says what each call needs and gives.
 pub fn for_each_spread<R: Threads + Sync, T: Send, F: Fn(usize, &mut T) + Sync>(
     rt: &R,
     s: &mut [T],
@@ -34,8 +35,8 @@ pub fn for_each_spread<R: Threads + Sync, T: Send, F: Fn(usize, &mut T) + Sync>(
     }
 }
 
-// Calls f at each place of a slice that stands at `base` of the whole one. The slice is the last parameter, since what a
-// closure reads after it lends a captured `&mut` is not covered by the borrow checker.
+// Calls f for each element of a slice that begins at index `base` of the whole one. The slice is the last parameter,
+// since the borrow checker does not cover what a closure reads after it lends a captured `&mut`.
 #[cycle(rest)]
 fn spread_from<R: Threads + Sync, T: Send, F: Fn(usize, &mut T) + Sync>(
     rt: &R,
@@ -56,7 +57,7 @@ fn spread_from<R: Threads + Sync, T: Send, F: Fn(usize, &mut T) + Sync>(
     first_and_rest(rt, f, base, one, base + 1, more);
 }
 
-// Calls f at one place in a new thread, and meanwhile at those after it.
+// Calls f for one element in a new thread, and meanwhile for those after it.
 #[cycle(rest)]
 fn first_and_rest<R: Threads + Sync, T: Send, F: Fn(usize, &mut T) + Sync>(
     rt: &R,
@@ -90,7 +91,7 @@ fn first_and_rest<R: Threads + Sync, T: Send, F: Fn(usize, &mut T) + Sync>(
     join_mut(rt, &mut front, &mut back);
 }
 
-// Calls f at the one place that there is.
+// Calls f for the one element.
 fn at_only<T, F: Fn(usize, &mut T)>(f: &F, place: usize, one: &mut [T])
     requires one { length one.old ≡ 1 }
     requires accepts { HoldsFrom (AcceptsAt F.Fn f.now) place one.old }

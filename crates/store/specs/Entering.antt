@@ -1,5 +1,6 @@
 -- What stands open once positions are offered, and what is closed of it.
-use Rattle.std.specs.Prelude.{◌≡◌, ℕ, ◌<◌, Bool, true, false, ◌==◌, ◌&&◌, not, List, [], ◌∷◌, ◌++◌, length, map, slice_get, Some, is_some, if◌then◌else◌}
+use Rattle.std.specs.Prelude.{◌≡◌, ℕ, ◌<◌, Bool, true, false, ◌==◌, ◌&&◌, not, List, [], ◌∷◌, ◌++◌, length, map}
+use Rattle.std.specs.Prelude.{slice_get, Some, is_some, if◌then◌else◌}
 use Rattle.std.specs.Map.{lookup}
 use Rattle.grid.specs.declared.square.Push.{Push}
 use Rattle.grid.specs.Board.{Scene, push_cmp}
@@ -32,12 +33,15 @@ closed_entry y = (y.0, Some y.1)
 
 -- no entry has a lesser origin than one before it
 abbrev pub RiseByOrigin : List (Entry Scene Push) → Type 0
-RiseByOrigin es = (i j : ℕ) (x y : Entry Scene Push) → i < j → slice_get es i ≡ Some x → slice_get es j ≡ Some y → is_gt (origin_cmp push_cmp x.1 y.1) ≡ false
+RiseByOrigin es = (i j : ℕ) (x y : Entry Scene Push) → i < j → slice_get es i ≡ Some x → slice_get es j ≡ Some y →
+    is_gt (origin_cmp push_cmp x.1 y.1) ≡ false
 
 -- the same entries, perhaps in another order: as many, each position found as before, and none twice
 abbrev pub AreReordered : List (Entry Scene Push) → List (Entry Scene Push) → Type 0
-AreReordered before after = (length after ≡ length before) × ((m : Scene) → origin_of after m ≡ origin_of before m) × AreDistinct (map (λ e. e.0) after)
+AreReordered before after = (length after ≡ length before) × ((m : Scene) → origin_of after m ≡ origin_of before m) ×
+    AreDistinct (map (λ e. e.0) after)
 
 -- what stood open is appended to what was seen, in the order of the origins
 abbrev pub IsSortedAppend : List Closed → List (Entry Scene Push) → List Closed → Type 0
-IsSortedAppend seen waiting after = (es : List (Entry Scene Push)) × AreReordered waiting es × RiseByOrigin es × (after ≡ seen ++ map closed_entry es)
+IsSortedAppend seen waiting after =
+    (es : List (Entry Scene Push)) × AreReordered waiting es × RiseByOrigin es × (after ≡ seen ++ map closed_entry es)

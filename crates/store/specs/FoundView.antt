@@ -1,5 +1,6 @@
 -- What contracts see of the positions that a book has found.
-use Rattle.std.specs.Prelude.{⊤, ◌≡◌, ℕ, ◌<◌, ◌≤◌, Bool, false, ◌==◌, ◌||◌, not, is_some, List, [], ◌∷◌, ◌++◌, fold, map, take, drop, length, slice_get, Option}
+use Rattle.std.specs.Prelude.{⊤, ◌≡◌, ℕ, ◌<◌, ◌≤◌, Bool, false, ◌==◌, ◌||◌, not, is_some, List, [], ◌∷◌, ◌++◌, fold}
+use Rattle.std.specs.Prelude.{map, take, drop, length, slice_get, Option}
 use Rattle.std.specs.Prelude.{Some, None, if◌then◌else◌}
 use Rattle.std.specs.Map.{lookup}
 use Rattle.std.specs.Ordering.{is_gt, is_lt}
@@ -43,7 +44,8 @@ let_in seen waiting e = if is_some (lookup (same_scene e.0) seen) then waiting e
 abbrev pub all_let_in : List Closed → List (Entry Scene Push) → List (Entry Scene Push) → List (Entry Scene Push)
 all_let_in seen waiting offers = fold (let_in seen) waiting offers
 
--- what is found: of the entries those before a place are closed, and with those from it on stands open what the inbox has
+-- what is found: of the entries those before a place are closed, and with those from it on stands open what the inbox
+-- has
 abbrev pub found_view : ℕ → ℕ → ℕ → List Closed → List (Entry Scene Push) → FoundView
 found_view boxes squares start es inbox = record {
   boxes = boxes;
@@ -54,7 +56,8 @@ found_view boxes squares start es inbox = record {
 
 -- it is the same with these entries and that inbox, and with others and another one
 abbrev pub StaysFound : ℕ → List Closed → List (Entry Scene Push) → List Closed → List (Entry Scene Push) → Type 0
-StaysFound start es inbox others other = (boxes squares : ℕ) → found_view boxes squares start others other ≡ found_view boxes squares start es inbox
+StaysFound start es inbox others other =
+    (boxes squares : ℕ) → found_view boxes squares start others other ≡ found_view boxes squares start es inbox
 
 -- what is found once the wanted successors of a rank have entered
 abbrev pub with_entered : FoundView → ℕ → ℕ → ℕ → List Successor → FoundView

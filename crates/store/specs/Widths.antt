@@ -1,6 +1,7 @@
 -- What contracts see of what is found, and of what is visited, whatever the width of the keys.
 use Rattle.store.specs.declared.found.Tables.{Tables}
-use Rattle.store.specs.declared.found.Tables.TheVariants.{NarrowLow, MiddleLow, HalfLow, WideLow, BroadLow, WidestLow, Narrow, Middle, Half, Wide, Broad}
+use Rattle.store.specs.declared.found.Tables.TheVariants.{NarrowLow, MiddleLow, HalfLow, WideLow, BroadLow, WidestLow}
+use Rattle.store.specs.declared.found.Tables.TheVariants.{Narrow, Middle, Half, Wide, Broad}
 use Rattle.store.specs.declared.found.Tables.TheVariants.{Widest}
 use Rattle.store.specs.declared.visited.AnyLabels.{AnyLabels}
 use Rattle.store.specs.declared.visited.AnyLabels.TheVariants as any

@@ -1,5 +1,6 @@
 //! The open positions become a closed layer, in the map that holds them behind the closed ones.
-ghost use Rattle.std.specs.Prelude.{◌≡◌, ◌+◌, ◌<◌, ◌≤◌, length, map, true, slice_get, Some, OnOk, OnErr, IfOk, IsPermutation};
+ghost use Rattle.std.specs.Prelude.{◌≡◌, ◌+◌, ◌<◌, ◌≤◌, length, map, true, slice_get, Some, OnOk, OnErr, IfOk};
+ghost use Rattle.std.specs.Prelude.{IsPermutation};
 ghost use Rattle.std.specs.List.{IsDistinct};
 ghost use Rattle.grid.specs.Board.{push_cmp};
 ghost use Rattle.store.specs.Entries.{origin_cmp, same_scene, Closed};
@@ -22,7 +23,8 @@ pub(crate) fn arrange<const N: usize, const M: usize>(
 ) -> Result<(), AllocError>
     requires width { (N ≤ MAX_BOXES + 1) × (M ≤ MAX_BOXES + 1) }
     requires found { IsFound start table.old.entries }
-    ensures ok { OnOk result (IsSortedAppend (seen_of start table.old.entries) (open_of start table.old.entries) table.new.entries) }
+    ensures ok { OnOk result
+        (IsSortedAppend (seen_of start table.old.entries) (open_of start table.old.entries) table.new.entries) }
     ensures err { OnErr result (table.new.entries ≡ table.old.entries) }
 {
     if do_rise(table, start) {

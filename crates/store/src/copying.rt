@@ -17,7 +17,8 @@ pub(crate) fn copy_entry<const N: usize, const M: usize>(
     origins: &mut Vec<Origin>,
 ) -> Result<(), AllocError>
     requires { (N ≤ MAX_BOXES + 1) × (M ≤ MAX_BOXES + 1) }
-    ensures { OnOk result (IsCopied (key.now, origin) squares.old.items squares.new.items origins.old.items origins.new.items) }
+    ensures { OnOk result
+        (IsCopied (key.now, origin) squares.old.items squares.new.items origins.old.items origins.new.items) }
 {
     let mut row = [Square(0); N];
     let count = key.write_squares(&mut row);
@@ -56,7 +57,8 @@ pub(crate) fn copy_from<const N: usize, const M: usize>(
     requires order { from ≤ to }
     requires within { to ≤ length table.now.entries }
     requires boxes { boxes ≤ MAX_BOXES }
-    ensures squares { IfOk result (λ r. r.0.items ≡ squares_of (map (λ e. e.0) (drop from (take to table.now.entries)))) }
+    ensures squares { IfOk result
+        (λ r. r.0.items ≡ squares_of (map (λ e. e.0) (drop from (take to table.now.entries)))) }
     ensures origins { IfOk result (λ r. r.1.items ≡ origins_of (drop from (take to table.now.entries))) }
 {
     let count = to - from;

@@ -1,5 +1,6 @@
 //! Offers that enter the open positions, which the map holds behind the closed ones.
-ghost use Rattle.std.specs.Prelude.{◌≡◌, ℕ, ◌+◌, ◌<◌, ◌≤◌, ◌&&◌, ◌||◌, [], IsTrue, Some, false, not, is_some, length, fold};
+ghost use Rattle.std.specs.Prelude.{◌≡◌, ℕ, ◌+◌, ◌<◌, ◌≤◌, ◌&&◌, ◌||◌, [], IsTrue, Some, false, not, is_some, length};
+ghost use Rattle.std.specs.Prelude.{fold};
 ghost use Rattle.indexmap.specs.IndexMap.{insert_entry, spare};
 ghost use Rattle.std.specs.List.{list_any};
 ghost use Rattle.store.specs.Entries.{origin_of, same_scene};
@@ -74,7 +75,8 @@ pub(crate) fn enter<const N: usize, const M: usize>(
     requires found { IsFoundUpTo start table.old.entries last.old }
     ensures found { IsFoundUpTo start table.new.entries last.new }
     ensures seen { seen_of start table.new.entries ≡ seen_of start table.old.entries }
-    ensures waiting { open_of start table.new.entries ≡ let_in (seen_of start table.old.entries) (open_of start table.old.entries) (key.now, origin) }
+    ensures waiting { open_of start table.new.entries ≡
+        let_in (seen_of start table.old.entries) (open_of start table.old.entries) (key.now, origin) }
     ensures room { spare table.old ≤ spare table.new + 1 }
 {
     if is_kept(table, start, *last, key, origin) {
@@ -114,7 +116,8 @@ pub(crate) fn count_new<const N: usize, const M: usize>(
     requires few { AllSuit N M successors.now }
     requires found { IsFound start table.now.entries }
     ensures { (rank : ℕ) → length
-        (fold (entered (is_wanted_in (seen_of start table.now.entries) shares share) rank) (open_of start table.now.entries) successors.now) ≡
+        (fold (entered (is_wanted_in (seen_of start table.now.entries) shares share) rank)
+        (open_of start table.now.entries) successors.now) ≡
         length (open_of start table.now.entries) + result }
 {
     let mut count = 0;
@@ -147,7 +150,8 @@ fn is_new<const N: usize, const M: usize>(
     requires suits { Suits N M position.now }
     requires found { IsFound start table.now.entries }
     ensures { result ≡ (is_wanted_in (seen_of start table.now.entries) shares share position.now &&
-        not (is_some (origin_of (open_of start table.now.entries) position.now) || list_any (λ s. same_scene s.position position.now) before.now)) }
+        not (is_some (origin_of (open_of start table.now.entries) position.now) || list_any
+        (λ s. same_scene s.position position.now) before.now)) }
 {
     if share_of(position, shares) != share {
         return false;

@@ -1,5 +1,6 @@
 //! The positions that a book of `layers` has found.
-ghost use Rattle.std.specs.Prelude.{◌≡◌, ℕ, ◌+◌, ◌<◌, ◌≤◌, [], length, map, drop, nat_lt, option_map, slice_get, IfOk, IfSome, OnOk, OnErr, Some};
+ghost use Rattle.std.specs.Prelude.{◌≡◌, ℕ, ◌+◌, ◌<◌, ◌≤◌, [], length, map, drop, nat_lt, option_map, slice_get, IfOk};
+ghost use Rattle.std.specs.Prelude.{IfSome, OnOk, OnErr, Some};
 ghost use Rattle.store.specs.Entries.{Closed, origins_of};
 ghost use Rattle.store.specs.Entering.{IsSortedAppend};
 ghost use Rattle.store.specs.FoundView.{AllFit, FitsGrid, first_entries, origin_in, with_entered};
@@ -128,7 +129,9 @@ impl Found {
         requires shares { 0 < shares }
         requires few { AllFit self.old successors.now }
         requires within { length self.old.seen + length self.old.waiting ≤ limit }
-        ensures passed { (rank : ℕ) → result ≡ nat_lt limit (length self.old.seen + length (with_entered self.old shares share rank successors.now).waiting) }
+        ensures passed { (rank : ℕ) →
+            result ≡ nat_lt limit
+            (length self.old.seen + length (with_entered self.old shares share rank successors.now).waiting) }
         ensures same { self.new ≡ self.old }
     {
         in_each!(Tables, &mut self.tables, table => table.passes(limit, share, shares, successors))

@@ -218,7 +218,8 @@ fn write_high(row: &mut [u8], boxes: &[Square], player: Square)
 fn write_boxes(row: &mut [Square], low: &[u8], high: &[u8])
     requires some { 0 < length low.now }
     requires room { length row.old ≡ length low.now }
-    ensures squares { take (length low.now - 1) row.new ≡ take (length low.now - 1) (drop 1 (joined_bytes low.now high.now)) }
+    ensures squares { take (length low.now - 1) row.new ≡
+        take (length low.now - 1) (drop 1 (joined_bytes low.now high.now)) }
     ensures room { length row.new ≡ length row.old }
 {
     for place in 0..low.len() - 1 {
@@ -309,7 +310,8 @@ pub(crate) fn same_rows(
     lower: &[u8],
     higher: &[u8],
 ) -> bool
-    ensures { result ≡ (((boxes == others) && pointwise nat_eq low.now lower.now) && pointwise nat_eq high.now higher.now) }
+    ensures { result ≡ (((boxes == others) && pointwise nat_eq low.now lower.now) && pointwise nat_eq high.now
+        higher.now) }
 {
     let same_low = same_bytes(low, lower);
     let same_high = same_bytes(high, higher);

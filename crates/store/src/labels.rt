@@ -78,7 +78,8 @@ impl<const N: usize, const M: usize> Labels<N, M> {
     /// The label of the position at a place.
     pub(crate) fn label(&self, place: usize) -> Label
         requires { place < length self.now.entries }
-        ensures { (x : Entry) → slice_get self.now.entries place ≡ Some x → (result.pushes ≡ x.pushes) × (result.least ≡ x.least) × (result.parent ≡ x.parent) }
+        ensures { (x : Entry) → slice_get self.now.entries place ≡ Some x → (result.pushes ≡ x.pushes) ×
+            (result.least ≡ x.least) × (result.parent ≡ x.parent) }
     {
         let Some((_, label)) = self.map.get_index(place) else {
             unreachable!()
@@ -95,7 +96,8 @@ impl<const N: usize, const M: usize> Labels<N, M> {
         requires fits { FitsGrid self.old.boxes self.old.squares position.now }
         ensures boxes { self.new.boxes ≡ self.old.boxes }
         ensures squares { self.new.squares ≡ self.old.squares }
-        ensures ok { IfOk result (λ place. HasEntered self.old.entries self.new.entries (entry_of (position.now, label)) place) }
+        ensures ok { IfOk result
+            (λ place. HasEntered self.old.entries self.new.entries (entry_of (position.now, label)) place) }
         ensures err { OnErr result (self.new.entries ≡ self.old.entries) }
     {
         enter(&mut self.map, Key::of(position), label)
@@ -106,7 +108,8 @@ impl<const N: usize, const M: usize> Labels<N, M> {
         requires { place < length self.old.entries }
         ensures boxes { self.new.boxes ≡ self.old.boxes }
         ensures squares { self.new.squares ≡ self.old.squares }
-        ensures closed { (x : Entry) → slice_get self.old.entries place ≡ Some x → self.new.entries ≡ slice_set self.old.entries place (closed x) }
+        ensures closed { (x : Entry) → slice_get self.old.entries place ≡ Some x →
+            self.new.entries ≡ slice_set self.old.entries place (closed x) }
     {
         self.map[place].least = None;
     }
@@ -119,7 +122,9 @@ fn enter<const N: usize, const M: usize>(
     label: Label,
 ) -> Result<Option<usize>, AllocError>
     requires width { (N ≤ MAX_BOXES + 1) × (M ≤ MAX_BOXES + 1) }
-    ensures ok { IfOk result (λ place. HasEntered (entries_of map.old.entries) (entries_of map.new.entries) (entry_of (key.entry, label)) place) }
+    ensures ok { IfOk result
+        (λ place. HasEntered (entries_of map.old.entries) (entries_of map.new.entries) (entry_of (key.entry, label))
+        place) }
     ensures err { OnErr result (map.new.entries ≡ map.old.entries) }
 {
     match map.entry(key)? {

@@ -33,7 +33,8 @@ pub(crate) fn enter_by_parts<const N: usize, const M: usize>(
     requires found { IsFoundUpTo start table.old.entries last.old }
     ensures found { IsFoundUpTo start table.new.entries last.new }
     ensures seen { seen_of start table.new.entries ≡ seen_of start table.old.entries }
-    ensures waiting { open_of start table.new.entries ≡ all_let_in (seen_of start table.old.entries) (open_of start table.old.entries) offers.now }
+    ensures waiting { open_of start table.new.entries ≡
+        all_let_in (seen_of start table.old.entries) (open_of start table.old.entries) offers.now }
     ensures room { spare table.old ≤ spare table.new + length offers.now }
 {
     let mut rest = offers;
@@ -57,7 +58,8 @@ fn enter_part<const N: usize, const M: usize>(
     requires found { IsFoundUpTo start table.old.entries last.old }
     ensures found { IsFoundUpTo start table.new.entries last.new }
     ensures seen { seen_of start table.new.entries ≡ seen_of start table.old.entries }
-    ensures waiting { open_of start table.new.entries ≡ all_let_in (seen_of start table.old.entries) (open_of start table.old.entries) offers.now }
+    ensures waiting { open_of start table.new.entries ≡
+        all_let_in (seen_of start table.old.entries) (open_of start table.old.entries) offers.now }
     ensures room { spare table.old ≤ spare table.new + length offers.now }
 {
     let mut digests = [0; PART];
@@ -129,7 +131,8 @@ fn enter_each<const N: usize, const M: usize>(
     requires found { IsFoundUpTo start table.old.entries last.old }
     ensures found { IsFoundUpTo start table.new.entries last.new }
     ensures seen { seen_of start table.new.entries ≡ seen_of start table.old.entries }
-    ensures waiting { open_of start table.new.entries ≡ all_let_in (seen_of start table.old.entries) (open_of start table.old.entries) offers.now }
+    ensures waiting { open_of start table.new.entries ≡
+        all_let_in (seen_of start table.old.entries) (open_of start table.old.entries) offers.now }
     ensures room { spare table.old ≤ spare table.new + length offers.now }
 {
     for (nth, offer) in offers.iter().enumerate() {
@@ -152,7 +155,8 @@ fn enter_at<const N: usize, const M: usize>(
     requires found { IsFoundUpTo start table.old.entries last.old }
     ensures found { IsFoundUpTo start table.new.entries last.new }
     ensures seen { seen_of start table.new.entries ≡ seen_of start table.old.entries }
-    ensures waiting { open_of start table.new.entries ≡ let_in (seen_of start table.old.entries) (open_of start table.old.entries) offer.now }
+    ensures waiting { open_of start table.new.entries ≡
+        let_in (seen_of start table.old.entries) (open_of start table.old.entries) offer.now }
     ensures room { spare table.old ≤ spare table.new + 1 }
 {
     if changes_nothing(table, start, *last, offer, place) {
@@ -174,7 +178,8 @@ fn changes_nothing<const N: usize, const M: usize>(
     requires width { (N ≤ MAX_BOXES + 1) × (M ≤ MAX_BOXES + 1) }
     requires stands { StandsIfAt table.now.entries place offer.now.0 }
     requires found { IsFoundUpTo start table.now.entries last }
-    ensures { result ≡ true → true ≡ keeps (seen_of start table.now.entries) (open_of start table.now.entries) offer.now.0 offer.now.1 }
+    ensures { result ≡ true →
+        true ≡ keeps (seen_of start table.now.entries) (open_of start table.now.entries) offer.now.0 offer.now.1 }
 {
     if place == NOWHERE {
         return false;

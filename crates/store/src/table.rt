@@ -1,6 +1,7 @@
 //! The positions that a book has found, in keys of one width. A map holds the closed positions and behind them the
 //! open ones. An inbox holds the offers that are not looked up yet.
-ghost use Rattle.std.specs.Prelude.{◌≡◌, ℕ, ◌+◌, ◌<◌, ◌≤◌, [], length, map, drop, nat_lt, option_map, slice_get, IfOk, IfSome, OnOk, OnErr, Some};
+ghost use Rattle.std.specs.Prelude.{◌≡◌, ℕ, ◌+◌, ◌<◌, ◌≤◌, [], length, map, drop, nat_lt, option_map, slice_get, IfOk};
+ghost use Rattle.std.specs.Prelude.{IfSome, OnOk, OnErr, Some};
 ghost use Rattle.store.specs.Entries.{Closed, origins_of};
 ghost use Rattle.store.specs.Entering.{IsSortedAppend};
 ghost use Rattle.store.specs.FoundView.{AllFit, FitsGrid, first_entries, origin_in, with_entered};
@@ -162,7 +163,9 @@ impl<const N: usize, const M: usize> Table<N, M> {
         requires shares { 0 < shares }
         requires few { AllFit self.old successors.now }
         requires within { length self.old.seen + length self.old.waiting ≤ limit }
-        ensures passed { (rank : ℕ) → result ≡ nat_lt limit (length self.old.seen + length (with_entered self.old shares share rank successors.now).waiting) }
+        ensures passed { (rank : ℕ) →
+            result ≡ nat_lt limit
+            (length self.old.seen + length (with_entered self.old shares share rank successors.now).waiting) }
         ensures same { self.new ≡ self.old }
     {
         let room = limit - self.table.len();

@@ -101,7 +101,8 @@ impl Visited {
     /// The label of the position at a place below [`Visited::len`].
     pub fn label(&self, place: usize) -> Label
         requires { place < length self.now.entries }
-        ensures { (x : Entry) → slice_get self.now.entries place ≡ Some x → (result.pushes ≡ x.pushes) × (result.least ≡ x.least) × (result.parent ≡ x.parent) }
+        ensures { (x : Entry) → slice_get self.now.entries place ≡ Some x → (result.pushes ≡ x.pushes) ×
+            (result.least ≡ x.least) × (result.parent ≡ x.parent) }
     {
         in_each!(AnyLabels, &self.labels, labels => labels.label(place))
     }
@@ -115,7 +116,8 @@ impl Visited {
         requires fits { FitsGrid self.old.boxes self.old.squares position.now }
         ensures boxes { self.new.boxes ≡ self.old.boxes }
         ensures squares { self.new.squares ≡ self.old.squares }
-        ensures ok { IfOk result (λ place. HasEntered self.old.entries self.new.entries (entry_of (position.now, label)) place) }
+        ensures ok { IfOk result
+            (λ place. HasEntered self.old.entries self.new.entries (entry_of (position.now, label)) place) }
         ensures err { OnErr result (self.new.entries ≡ self.old.entries) }
     {
         in_each!(AnyLabels, &mut self.labels, labels => labels.enter(position, label))
@@ -126,7 +128,8 @@ impl Visited {
         requires { place < length self.old.entries }
         ensures boxes { self.new.boxes ≡ self.old.boxes }
         ensures squares { self.new.squares ≡ self.old.squares }
-        ensures closed { (x : Entry) → slice_get self.old.entries place ≡ Some x → self.new.entries ≡ slice_set self.old.entries place (closed x) }
+        ensures closed { (x : Entry) → slice_get self.old.entries place ≡ Some x →
+            self.new.entries ≡ slice_set self.old.entries place (closed x) }
     {
         in_each!(AnyLabels, &mut self.labels, labels => labels.close(place))
     }

@@ -11,5 +11,6 @@ AreDistinct ms = (i j : ℕ) (m : Scene) → slice_get ms i ≡ Some m → slice
 
 -- k pushes through undoomed positions lead to m, and no fewer, and m is admitted there
 abbrev pub IsAtDistance : Task → Scene → ℕ → Type 0
-IsAtDistance task m k = ((ps : List Push) × Reaches task.board ps m × (length ps ≡ k)) × ((qs : List Push) → Reaches task.board qs m → k ≤ length qs) ×
+IsAtDistance task m k = ((ps : List Push) × Reaches task.board ps m × (length ps ≡ k)) ×
+    ((qs : List Push) → Reaches task.board qs m → k ≤ length qs) ×
     IsAdmitted task.board task.cap k m

@@ -8,7 +8,8 @@ use Rattle.area.specs.After.{IsAreaOf}
 use Rattle.area.specs.Pushes.{ArePushes}
 use Rattle.successors.specs.Tasks.{Task}
 
--- an expander: the level with its cap, the squares that its last flood reached and those of the boxes round which it went, and pushes
+-- an expander: the level with its cap, the squares that its last flood reached and those of the boxes round which it
+-- went, and pushes
 pub record ExpanderView : Type 0 where
   pub task : Task
   pub reached : Squares

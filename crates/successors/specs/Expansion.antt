@@ -12,7 +12,8 @@ use Rattle.grid.specs.Squares.{insert, remove}
 
 -- the state after the push: the box one square on, and the player where the box was
 abbrev pub after_push : Board → Scene → Push → Scene
-after_push board n p = record { boxes = insert (remove n.boxes p.square) (next board p.square p.dir); player = p.square }
+after_push board n p =
+    record { boxes = insert (remove n.boxes p.square) (next board p.square p.dir); player = p.square }
 
 -- m is an undoomed successor of n by a push: a play from n with that push alone ends in a state of the normal form m
 abbrev pub IsSuccessor : Board → Scene → Push → Scene → Type 0

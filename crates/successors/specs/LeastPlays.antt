@@ -16,7 +16,8 @@ ArePlayed board pushes = (ds : List Dir) × (t : Scene) × Play board Any (start
 abbrev pub AllComeTo : Board → List Push → Scene → Type 0
 AllComeTo board pushes t =
     (es : List Dir) (u : Scene) → Play board Any (start board) es pushes u
-    → (fs : List Dir) × (ws : List Dir) × (es ≡ fs ++ ws) × Play board Any (start board) fs pushes t × Play board Any t ws [] u
+    → (fs : List Dir) × (ws : List Dir) × (es ≡ fs ++ ws) × Play board Any (start board) fs pushes t ×
+    Play board Any t ws [] u
 
 -- the letters write a play from the start with these pushes to the state t right after the last of them, and no play
 -- with these pushes is shorter, or as short and of a lesser text
@@ -24,7 +25,8 @@ pub record WritesLeastPlay (board : Board) (pushes : List Push) (t : Scene) (let
   pub dirs : List Dir
   pub play : Play board Any (start board) dirs pushes t
   pub written : letters_of play ≡ letters
-  pub least : (es : List Dir) (u : Scene) → Play board Any (start board) es pushes u → is_gt (shortlex dir_cmp dirs es) ≡ false
+  pub least : (es : List Dir) (u : Scene) → Play board Any (start board) es pushes u →
+      is_gt (shortlex dir_cmp dirs es) ≡ false
   pub common : AllComeTo board pushes t
 
 -- the letters of the least walk behind a box, and of the push, are appended

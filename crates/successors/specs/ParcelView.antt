@@ -24,8 +24,10 @@ pub record ParcelView : Type 0 where
 -- once, in the order of the pushes
 pub record AreSuccessors (task : Task) (k : ℕ) (n : Scene) (ss : List Successor) : Type 0 where
   pub each : (i : ℕ) (s : Successor) → slice_get ss i ≡ Some s → IsSuccessorIn task k n s.push s.position
-  pub rise : (i j : ℕ) (s t : Successor) → i < j → slice_get ss i ≡ Some s → slice_get ss j ≡ Some t → push_cmp s.push t.push ≡ Less
-  pub whole : (p : Push) (m : Scene) → IsSuccessorIn task k n p m → (i : ℕ) × (slice_get ss i ≡ Some (record { push = p; position = m }))
+  pub rise : (i j : ℕ) (s t : Successor) → i < j → slice_get ss i ≡ Some s → slice_get ss j ≡ Some t →
+      push_cmp s.push t.push ≡ Less
+  pub whole : (p : Push) (m : Scene) → IsSuccessorIn task k n p m → (i : ℕ) ×
+      (slice_get ss i ≡ Some (record { push = p; position = m }))
 
 -- each successor is a position of the level
 abbrev pub FitLevel : Board → List Successor → Type 0
@@ -34,7 +36,8 @@ FitLevel board ss = (i : ℕ) (s : Successor) → slice_get ss i ≡ Some s → 
 -- `more` is `ss` and after it what the push leads to; or it is `ss`, where the push leads to no successor
 abbrev pub IsAppended : Board → Scene → Push → List Successor → List Successor → Type 0
 IsAppended board n p ss more =
-    ((s : Successor) × (more ≡ ss ++ s ∷ []) × (s.push ≡ p) × IsSuccessor board n p s.position × FitsLevel board s.position) ⊎
+    ((s : Successor) × (more ≡ ss ++ s ∷ []) × (s.push ≡ p) × IsSuccessor board n p s.position ×
+    FitsLevel board s.position) ⊎
     ((more ≡ ss) × ((m : Scene) → ¬ (IsSuccessor board n p m)))
 
 -- the parcel of a rank of its layer holds exactly the undoomed successors of the position there that are admitted

@@ -11,9 +11,11 @@ use Rattle.successors.specs.Tasks.{Task, IsAdmitted}
 
 -- ps are the pushes of a play from the start, through undoomed positions alone, to a state of the normal form n
 abbrev pub Reaches : Board → List Push → Scene → Type 0
-Reaches board ps n = (ds : List Dir) × (t : Scene) × Play board (Undoomed board) (start board) ds ps t × IsNorm board t n
+Reaches board ps n =
+    (ds : List Dir) × (t : Scene) × Play board (Undoomed board) (start board) ds ps t × IsNorm board t n
 
--- xs is layer k of the level under its cap: the admitted normal forms whose leads have length k, in the order of their leads
+-- xs is layer k of the level under its cap: the admitted normal forms whose leads have length k, in the order of
+-- their leads
 abbrev pub IsLayerOf : Task → ℕ → List Scene → Type 0
 IsLayerOf task k xs = IsLayer push_cmp (Reaches task.board) (IsAdmitted task.board task.cap) k xs
 

@@ -37,9 +37,11 @@ impl<'p> Model for Expander<'p> {
 
     ghost Value = { ExpanderView };
 
-    ghost view = { λ a. record { task = a.problem.now; reached = a.scratch.reached; boxes = a.scratch.boxes; pushes = a.pushes.items } };
+    ghost view = { λ a. record
+        { task = a.problem.now; reached = a.scratch.reached; boxes = a.scratch.boxes; pushes = a.pushes.items } };
 
-    ghost invariant = { λ a. (a.scratch.size ≡ length a.problem.now.board.cells) × AreDangers a.problem.now.board a.scratch.boxes a.dangers.words.items };
+    ghost invariant = { λ a. (a.scratch.size ≡ length a.problem.now.board.cells) ×
+        AreDangers a.problem.now.board a.scratch.boxes a.dangers.words.items };
 }
 
 impl<'p> Expander<'p> {
@@ -81,7 +83,8 @@ impl<'p> Expander<'p> {
         );
     }
 
-    /// The pushes that were found last, in their order: the boxes by rising squares, and each box down, left, right, up.
+    /// The pushes that were found last, in their order: the boxes by rising squares, and each box down, left, right,
+    /// up.
     pub fn pushes(&self) -> &[Push]
         ensures { result.now ≡ self.now.pushes }
     {
@@ -95,12 +98,13 @@ impl<'p> Expander<'p> {
         &self.scratch
     }
 
-    /// The normal position after a push of the position whose pushes were found last. `None` if the pushed box dooms that
-    /// position, so that no play solves it. Takes no memory.
+    /// The normal position after a push of the position whose pushes were found last. `None` if the pushed box dooms
+    /// that position, so that no play solves it. Takes no memory.
     pub fn try_push(&mut self, position: &Position, push: Push) -> Option<Position>
         requires found { HasPushesOf self.old position.now }
         requires possible { CanPush self.old.task.board position.now push }
-        ensures made { IfSome result (λ after. IsNorm self.old.task.board (after_push self.old.task.board position.now push) after
+        ensures made { IfSome result
+            (λ after. IsNorm self.old.task.board (after_push self.old.task.board position.now push) after
             × FitsLevel self.old.task.board after) }
         ensures successor { Undoomed self.old.task.board position.now →
             MatchOption result ((m : Scene) → ¬ (IsSuccessor self.old.task.board position.now push m))
@@ -147,7 +151,8 @@ fn push_in(
     requires boxes { scratch.old.boxes ≡ position.now.boxes }
     requires dangers { AreDangers problem.now.board scratch.old.boxes dangers.now.words.items }
     requires possible { CanPush problem.now.board position.now push }
-    ensures made { IfSome result (λ after. IsNorm problem.now.board (after_push problem.now.board position.now push) after
+    ensures made { IfSome result
+        (λ after. IsNorm problem.now.board (after_push problem.now.board position.now push) after
         × FitsLevel problem.now.board after) }
     ensures successor { Undoomed problem.now.board position.now →
         MatchOption result ((m : Scene) → ¬ (IsSuccessor problem.now.board position.now push m))

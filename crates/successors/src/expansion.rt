@@ -36,8 +36,10 @@ impl<'a> Parcel<'a> {
         requires dead_of_level { dead.now ≡ level.now }
         requires bound_of_level { MatchOption bound (source.now.cap ≡ None) (λ b. b.now ≡ level.now) }
         requires room { scratch.old.size ≡ length level.now.cells }
-        ensures of { (result.level ≡ capped level.now source.now.cap) × (result.layer ≡ source.now.layer) × (result.rank ≡ source.now.rank) }
-        ensures successors { AreSuccessors (capped level.now source.now.cap) source.now.layer source.now.position result.successors }
+        ensures of { (result.level ≡ capped level.now source.now.cap) × (result.layer ≡ source.now.layer) ×
+            (result.rank ≡ source.now.rank) }
+        ensures successors { AreSuccessors (capped level.now source.now.cap) source.now.layer source.now.position
+            result.successors }
         ensures size { scratch.new.size ≡ scratch.old.size }
     {
         let mut parcel = Parcel {
@@ -58,7 +60,8 @@ impl<'a> Parcel<'a> {
         requires source { IsSource problem.now.board source.now }
         requires cap { source.now.cap ≡ problem.now.cap }
         requires room { scratch.old.size ≡ length problem.now.board.cells }
-        ensures of { (self.new.level ≡ problem.now) × (self.new.layer ≡ source.now.layer) × (self.new.rank ≡ source.now.rank) }
+        ensures of { (self.new.level ≡ problem.now) × (self.new.layer ≡ source.now.layer) ×
+            (self.new.rank ≡ source.now.rank) }
         ensures successors { AreSuccessors problem.now source.now.layer source.now.position self.new.successors }
         ensures size { scratch.new.size ≡ scratch.old.size }
     {
@@ -95,8 +98,11 @@ fn successors_of(
     requires bound_of_level { MatchOption bound (source.now.cap ≡ None) (λ b. b.now ≡ level.now) }
     requires room { scratch.old.size ≡ length level.now.cells }
     ensures filled { AreFilled result sheet.new.slots }
-    ensures parcel { IsParcel (parcel_of (capped level.now source.now.cap) source.now.layer source.now.rank sheet.new.slots.successors.items result) }
-    ensures successors { AreSuccessors (capped level.now source.now.cap) source.now.layer source.now.position (take result sheet.new.slots.successors.items) }
+    ensures parcel { IsParcel
+        (parcel_of (capped level.now source.now.cap) source.now.layer source.now.rank sheet.new.slots.successors.items
+        result) }
+    ensures successors { AreSuccessors (capped level.now source.now.cap) source.now.layer source.now.position
+        (take result sheet.new.slots.successors.items) }
     ensures size { scratch.new.size ≡ scratch.old.size }
 {
     let position = &source.position;

@@ -1,13 +1,13 @@
 //! The successors of a Sokoban position: the positions that its pushes lead to, except those that are doomed and those
 //! from which no solution keeps the cap on pushes.
 //!
-//! A [`Problem`] is what a search solves: a level, perhaps with a cap, and what follows from them. A [`Parcel`] holds all
-//! successors of a position, in the order of their pushes; use it to store them, and to deal them to threads by their
-//! shares. An [`Expander`] makes the successors one at a time; use it to skip pushes. [`play_pushes`] writes the least
-//! play with given pushes.
+//! A [`Problem`] is what a search solves: a level, perhaps with a cap, and what follows from them. A [`Parcel`] holds
+//! all successors of a position, in the order of their pushes; use it to store them, and to deal them to threads by
+//! their shares. An [`Expander`] makes the successors one at a time; use it to skip pushes. [`play_pushes`] writes
+//! the least play with given pushes.
 //!
-//! Only the constructors and [`play_pushes`] take memory. To expand a position costs one flood of the player's area and,
-//! for each push, a test of the boxes around the pushed one and rarely another flood.
+//! Only the constructors and [`play_pushes`] take memory. To expand a position costs one flood of the player's area
+//! and, for each push, a test of the boxes around the pushed one and rarely another flood.
 //!
 //! With the start of a row that has two boxes, on the squares 9 and 11, and the player between them:
 //!

@@ -1,5 +1,6 @@
 //! Makes the successors of a position in the slots of a parcel.
-ghost use Rattle.std.specs.Prelude.{◌≡◌, ℕ, ◌+◌, ◌*◌, ◌<◌, ◌≤◌, ◌↔◌, ◌++◌, ◌∷◌, [], IsTrue, IsFalse, false, length, sum, take};
+ghost use Rattle.std.specs.Prelude.{◌≡◌, ℕ, ◌+◌, ◌*◌, ◌<◌, ◌≤◌, ◌↔◌, ◌++◌, ◌∷◌, [], IsTrue, IsFalse, false, length};
+ghost use Rattle.std.specs.Prelude.{sum, take};
 ghost use Rattle.grid.specs.Board.{Scene, next};
 ghost use Rattle.grid.specs.States.{FitsLevel};
 ghost use Rattle.area.specs.Area.{IsNorm};
@@ -43,7 +44,9 @@ pub(crate) fn successors_by(
     requires pushes { ArePushes site.now.level.now site.now.position.now pushes.now }
     requires bound { length pushes.now ≤ MAX_SUCCESSORS }
     ensures filled { AreFilled result slots.new }
-    ensures successors { (layer : ℕ) → AreSuccessors (uncapped site.now.level.now) layer site.now.position.now (take result slots.new.successors.items) }
+    ensures successors { (layer : ℕ) →
+        AreSuccessors (uncapped site.now.level.now) layer site.now.position.now
+        (take result slots.new.successors.items) }
     ensures fits { FitLevel site.now.level.now (take result slots.new.successors.items) }
     ensures kept { scratch.new ≡ scratch.old }
 {
@@ -187,11 +190,13 @@ pub(crate) fn make_after(
 ) -> bool
     requires ready { IsReady site.now scratch.old }
     requires possible { CanPush site.now.level.now site.now.position.now push }
-    ensures made { IsTrue result → IsNorm site.now.level.now (after_push site.now.level.now site.now.position.now push) moved.new
+    ensures made { IsTrue result →
+        IsNorm site.now.level.now (after_push site.now.level.now site.now.position.now push) moved.new
         × FitsLevel site.now.level.now moved.new }
     ensures undoomed { Undoomed site.now.level.now site.now.position.now →
         IsTrue result ↔ Undoomed site.now.level.now (after_push site.now.level.now site.now.position.now push) }
-    ensures lost { IsFalse result → IsLost site.now.level.now (after_push site.now.level.now site.now.position.now push) }
+    ensures lost { IsFalse result →
+        IsLost site.now.level.now (after_push site.now.level.now site.now.position.now push) }
     ensures kept { scratch.new ≡ scratch.old }
 {
     let Push { square, dir } = push;
@@ -226,7 +231,8 @@ fn is_doomed(
     requires moved { moved.now ≡ after_push site.now.level.now site.now.position.now push }
     ensures same { Undoomed site.now.level.now site.now.position.now →
         IsTrue result ↔ Doomed site.now.level.now (after_push site.now.level.now site.now.position.now push).boxes }
-    ensures lost { IsTrue result → IsLost site.now.level.now (after_push site.now.level.now site.now.position.now push) }
+    ensures lost { IsTrue result →
+        IsLost site.now.level.now (after_push site.now.level.now site.now.position.now push) }
     ensures kept { scratch.new ≡ scratch.old }
 {
     let Push { square, dir } = push;

@@ -34,8 +34,8 @@ enum After {
     HandBack,
 }
 
-/// A gate that counts the events of each layer. In one layer it holds the worker whose draw, or whose accepted parcel, comes
-/// first, until a parcel of another worker is accepted there by one of the `locks` books.
+/// A gate that counts the events of each layer. In one layer it holds the worker whose draw, or whose accepted
+/// parcel, comes first, until a parcel of another worker is accepted there by one of the `locks` books.
 #[derive(Drop)]
 struct Holding {
     locks: u8,

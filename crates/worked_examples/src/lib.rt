@@ -1,7 +1,7 @@
 //! Worked examples over the public calls of all crates, run over memory.
 //!
-//! Who owns a book moves it on or drops it by name. At the end of a block the proof of the function would take it apart field by
-//! field, which takes most of a minute for each such end.
+//! Who owns a book moves it on or drops it by name. At the end of a block the proof of the function would take it
+//! apart field by field, which takes most of a minute for each such end.
 #![tactic(auto)]
 
 #[cfg(test)]

@@ -1,4 +1,5 @@
-//! The examples on the pages of `crew` and `sokopar`, at the head of each `lib.rt`. `tests/cited` holds each page to the text here.
+//! The examples on the pages of `crew` and `sokopar`, at the head of each `lib.rt`. `tests/cited` holds each page to
+//! the text here.
 use crate::boards::CORNER;
 use crate::books::level_of;
 use crew::{Config, Free};

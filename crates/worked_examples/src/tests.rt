@@ -59,7 +59,8 @@ pub(crate) enum Command<'a> {
     Solve(u32, u8),
 }
 
-/// Runs the engine of a command. Numbers of levels, of workers and of locks outside their ranges are taken for the nearest within.
+/// Runs the engine of a command. Numbers of levels, of workers and of locks outside their ranges are taken for the
+/// nearest within.
 fn perform<R: Threads + Wait + Sync, S: Source, T: Source, K: Sink>(
     rt: &R,
     alloc: Global,

@@ -39,11 +39,13 @@ pub record AreParts (lines gap : List (List ℕ)) (parts : List Part) : Type 0 w
   pub boards : AllByRecursion IsPart parts
   pub apart : AreApart parts
 
--- what stands in a part whose first line has a number, after a gap: the rows of the board are those of its lines, in order
+-- what stands in a part whose first line has a number, after a gap: the rows of the board are those of its lines, in
+-- order
 pub record IsFound (line : ℕ) (before : List (List ℕ)) (part : Part) (found : Found) : Type 0 where
   pub name : found.name ≡ name_of before part.gap
   pub first_line : found.first_line ≡ line
-  pub board : (rows : List (List (List Cell))) × AllZip IsRowLine part.board rows × (found.board ≡ board_of (flat_map (λ r. r) rows))
+  pub board : (rows : List (List (List Cell))) × AllZip IsRowLine part.board rows ×
+      (found.board ≡ board_of (flat_map (λ r. r) rows))
 
 -- what stands in the parts, in order, the first of which begins at a line and after a gap
 abbrev pub AreFound : ℕ → List (List ℕ) → List Part → List Found → Type 0
@@ -55,7 +57,8 @@ AreFound line before parts founds = ⊥
 -- the bytes are a collection of these boards: its lines are cut into gaps and boards, and these are what is found
 unfoldable pub IsCollection : List ℕ → List Found → Type 0
 IsCollection bytes founds =
-    (gap : List (List ℕ)) × (parts : List Part) × AreParts (lines_of_text bytes) gap parts × AreFound (suc (length gap)) gap parts founds
+    (gap : List (List ℕ)) × (parts : List Part) × AreParts (lines_of_text bytes) gap parts ×
+    AreFound (suc (length gap)) gap parts founds
 
 -- the board is a lawful level and that level is given, or it has the fault that is given
 abbrev pub IsJudged : Board → Result Board LevelFault → Type 0

@@ -20,7 +20,7 @@ without_last c [] = []
 without_last c (b ∷ []) = cond (b == c) [] (b ∷ [])
 without_last c (b ∷ next ∷ bytes) = b ∷ without_last c (next ∷ bytes)
 
--- the lines: each ends at a line feed, which is the byte 10, or at the end of the input, and one carriage return, which is
--- the byte 13, right before that is no part of it
+-- the lines: each ends at a line feed, which is the byte 10, or at the end of the input, and one carriage return,
+-- which is the byte 13, right before that is no part of it
 unfoldable pub lines_of_text : List ℕ → List (List ℕ)
 lines_of_text bytes = map (without_last 13) (without_last_empty (slice_split (λ b. b == 10) (without_mark bytes)))

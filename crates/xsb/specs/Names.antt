@@ -1,5 +1,6 @@
 -- The names of boards.
-use Rattle.std.specs.Prelude.{ℕ, Bool, cond, ◌==◌, ◌||◌, nat_eq, List, [], ◌∷◌, length, drop, Option, Some, None, codes, unwrap_or}
+use Rattle.std.specs.Prelude.{ℕ, Bool, cond, ◌==◌, ◌||◌, nat_eq, List, [], ◌∷◌, length, drop, Option, Some, None, codes}
+use Rattle.std.specs.Prelude.{unwrap_or}
 use Rattle.std.specs.List.{starts_with}
 use Rattle.std.specs.Option.{option_or}
 use Rattle.xsb.specs.Boards.{cut_end}
@@ -35,4 +36,5 @@ trimmed bytes = cut_end is_blank (cut_start is_blank bytes)
 -- line of the gap after; else the empty name. A line so chosen decides even if its name is empty
 unfoldable pub name_of : List (List ℕ) → List (List ℕ) → List ℕ
 name_of before after =
-    trimmed (unwrap_or (option_or (last_some (after_prefix (codes ";")) before) (first_some (after_prefix (codes "Title:")) after)) [])
+    trimmed (unwrap_or (option_or (last_some (after_prefix (codes ";")) before)
+    (first_some (after_prefix (codes "Title:")) after)) [])

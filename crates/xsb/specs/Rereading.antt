@@ -22,4 +22,5 @@ HasFullRow board = Any (λ row. cut_row row ≡ row) (rows_of_board board)
 -- the cell of which it is known whether it has a wall, a box, the player and a goal
 abbrev pub cell_with : Bool → Bool → Bool → Bool → Cell
 cell_with wall boxed player goal =
-    cond wall Wall (cond boxed (cond goal BoxOnGoal Box) (cond player (cond goal PlayerOnGoal Player) (cond goal Goal Floor)))
+    cond wall Wall (cond boxed (cond goal BoxOnGoal Box)
+    (cond player (cond goal PlayerOnGoal Player) (cond goal Goal Floor)))

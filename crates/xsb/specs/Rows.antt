@@ -15,18 +15,21 @@ byte_of BoxOnGoal = 42
 byte_of Goal = 46
 byte_of Floor = 32
 
--- the byte stands for the cell: `#` wall, `@` player, `+` player on goal, `$` box, `*` box on goal, `.` goal; space, `-`, `_` floor
+-- the byte stands for the cell: `#` wall, `@` player, `+` player on goal, `$` box, `*` box on goal, `.` goal; space,
+-- `-`, `_` floor
 abbrev pub StandsFor : ℕ → Cell → Type 0
 StandsFor b c = (b ≡ byte_of c) ⊎ (((b ≡ 45) ⊎ (b ≡ 95)) × (c ≡ Floor))
 
 -- an item: a cell byte, which with a count right before it stands for that many cells, and else for one
 pub data IsItem : List ℕ → List Cell → Type 0 where
-  counted : (digits : List ℕ) (n b : ℕ) (c : Cell) → Means digits n → StandsFor b c → IsItem (digits ++ b ∷ []) (replicate n c)
+  counted : (digits : List ℕ) (n b : ℕ) (c : Cell) → Means digits n → StandsFor b c →
+      IsItem (digits ++ b ∷ []) (replicate n c)
 
 -- a row: items one after the other
 pub data IsRow : List ℕ → List Cell → Type 0 where
   done : IsRow [] []
-  more : (item bytes : List ℕ) (cells row : List Cell) → IsItem item cells → IsRow bytes row → IsRow (item ++ bytes) (cells ++ row)
+  more : (item bytes : List ℕ) (cells row : List Cell) → IsItem item cells → IsRow bytes row →
+      IsRow (item ++ bytes) (cells ++ row)
 
 -- the pieces into which bars, which are the byte 124, cut a line; empty ones are skipped
 abbrev pub pieces_of : List ℕ → List (List ℕ)

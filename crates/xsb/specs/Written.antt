@@ -12,4 +12,5 @@ rows_from (suc n) cols xs = take cols xs ∷ rows_from n cols (drop cols xs)
 
 -- a board as it is written, row by row: each without floor at its end, and ended by a line feed
 unfoldable pub written : Board → List ℕ
-written board = flat_map (λ row. map byte_of (cut_row row) ++ 10 ∷ []) (rows_from (row_count board) board.cols board.cells)
+written board =
+    flat_map (λ row. map byte_of (cut_row row) ++ 10 ∷ []) (rows_from (row_count board) board.cols board.cells)

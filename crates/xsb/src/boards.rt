@@ -11,7 +11,7 @@ use bstr::LinesWithTerminator;
 use grid::{Board, Cell, LevelFault, MAX_COLS, MAX_ROWS};
 use std::alloc::{AllocError, Global};
 
-/// The lines of a board, which are still to be made into cells.
+/// The lines of a board, before they are made into cells.
 #[derive(Drop)]
 pub(crate) struct Stretch<'a> {
     /// The number of the first line.
@@ -24,7 +24,7 @@ pub(crate) struct Stretch<'a> {
     pub(crate) size: Size,
 }
 
-/// Reads the row lines that come next, up to a text line or the end. `None` where none comes next.
+/// Reads the next row lines, up to a text line or the end. `None` if the next line is no row line.
 pub(crate) fn read_board<'a>(lines: &mut Lines<'a>) -> Option<Stretch<'a>>
     ensures { MatchOption result (ReadsNoBoard lines.old lines.new) (λ board. ReadsBoard lines.old lines.new board) }
 {
@@ -66,7 +66,7 @@ impl Stretch<'_> {
         Ok(cells)
     }
 
-    /// The board that the lines make, or its first fault. No cells are made of a board that is too tall or too wide.
+    /// The board of the lines, or its first fault. A board that is too tall or too wide gets no cells.
     pub(crate) fn board(&self, alloc: Global) -> Result<Result<Board, LevelFault>, AllocError>
         requires { (rows : List (List Cell)) × HasRows self.now rows }
         ensures { (rows : List (List Cell)) → HasRows self.now rows → IfOk result (IsJudged (board_of rows)) }
@@ -90,7 +90,7 @@ impl Stretch<'_> {
     }
 }
 
-/// Whether a board was not made for want of memory alone.
+/// Whether a board was not made because of memory.
 fn is_want_of_memory(fault: LevelFault) -> bool
     ensures { MatchBool result (fault ≡ LevelFault.OutOfMemory) (fault ≢ LevelFault.OutOfMemory) }
 {

@@ -3,7 +3,7 @@
 /// Ends a line.
 pub const LINE_FEED: u8 = b'\n';
 
-/// May stand before a line feed, or last in the input, and is then no part of the line.
+/// Carriage return: before a line feed, or last in the input, it is no part of the line.
 pub const CARRIAGE_RETURN: u8 = b'\r';
 
 /// Cuts a line into pieces.
@@ -12,7 +12,7 @@ pub const BAR: u8 = b'|';
 /// The byte of a wall.
 pub const WALL: u8 = b'#';
 
-/// The byte of floor, as it is written.
+/// The byte that is written for floor.
 pub const FLOOR: u8 = b' ';
 
 /// Another byte of floor.
@@ -36,8 +36,8 @@ pub const PLAYER: u8 = b'@';
 /// The byte of the player on a goal.
 pub const PLAYER_ON_GOAL: u8 = b'+';
 
-/// A byte that is cut off at both ends of a name.
+/// A byte that is removed at both ends of a name.
 pub const SPACE: u8 = b' ';
 
-/// Another byte that is cut off at both ends of a name.
+/// Another byte that is removed at both ends of a name.
 pub const TAB: u8 = b'\t';

@@ -9,7 +9,7 @@ use crate::bytes::{
 };
 use grid::Cell;
 
-/// The cell that a byte stands for.
+/// The cell of a byte.
 pub(crate) fn cell_of(byte: u8) -> Option<Cell>
     ensures { result ≡ cell_of byte }
 {
@@ -25,7 +25,7 @@ pub(crate) fn cell_of(byte: u8) -> Option<Cell>
     }
 }
 
-/// The byte that is written for a cell.
+/// The byte of a cell.
 pub(crate) fn byte_of(cell: Cell) -> u8
     ensures { result ≡ byte_of cell }
 {

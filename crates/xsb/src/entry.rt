@@ -9,7 +9,7 @@ use thiserror::Error;
 /// A board of a collection.
 #[derive(Debug, Drop)]
 pub struct Entry {
-    /// The name, without spaces and tabs at its ends; empty where the collection gives none.
+    /// The name, without spaces and tabs at its ends; empty if the collection gives none.
     pub name: Vec<u8>,
     /// The number of the board's first line, from 1.
     pub first_line: u32,
@@ -17,10 +17,10 @@ pub struct Entry {
     pub board: Result<Level, LevelFault>,
 }
 
-/// A board of a collection, of which no level was made yet: it has no tables for a search.
+/// A board of a collection, without the tables of a level.
 #[derive(Debug, Drop)]
 pub struct BoardEntry {
-    /// The name, as that of an [`Entry`].
+    /// The name, as in an [`Entry`].
     pub name: Vec<u8>,
     /// The number of the board's first line, from 1.
     pub first_line: u32,
@@ -29,9 +29,10 @@ pub struct BoardEntry {
 }
 
 impl BoardEntry {
-    /// The entry of the same board, with its level.
+    /// The entry of the same board, with its level. Fails only if out of memory.
     pub fn into_entry(self, alloc: Global) -> Result<Entry, AllocError>
-        ensures { IfOk result (λ entry. entry ≡ record { name = self.name; first_line = self.first_line; board = self.board }) }
+        ensures { IfOk result
+            (λ entry. entry ≡ record { name = self.name; first_line = self.first_line; board = self.board }) }
     {
         let BoardEntry {
             name,
@@ -65,7 +66,7 @@ pub enum ReadFault {
     /// More bytes than [`MAX_FILE`](crate::MAX_FILE).
     #[error("more than {MAX_FILE} bytes")]
     TooLong,
-    /// Memory was refused.
+    /// Out of memory.
     #[error("out of memory")]
     OutOfMemory,
 }

@@ -5,7 +5,7 @@ use crate::lines::Lines;
 use crate::names::Gap;
 use crate::sizes::line_size;
 
-/// Reads the text lines that come next, up to a row line or the end.
+/// Reads the next text lines, up to a row line or the end.
 pub(crate) fn read_gap<'a>(lines: &mut Lines<'a>) -> Gap<'a>
     ensures { ReadsGap lines.old lines.new result }
 {

@@ -6,14 +6,14 @@ use crate::cells::cell_of;
 use counts::{digit_count, times};
 use grid::Cell;
 
-/// Cells of one kind, one after the other, which an item stands for.
+/// The cells of an item: one kind, several in a row.
 #[derive(Clone, Copy)]
 pub(crate) struct Run {
     pub(crate) count: usize,
     pub(crate) cell: Cell,
 }
 
-/// The first item of a piece, and the bytes after it. `None` where the piece begins with no item.
+/// The first item of a piece, and the bytes after it. `None` if the piece does not begin with an item.
 pub(crate) fn first_item(piece: &[u8]) -> Option<(Run, &[u8])>
     ensures { MatchOption result (HasNoItem piece.now) (λ first. BeginsWithItem piece.now first.0 first.1.now) }
 {

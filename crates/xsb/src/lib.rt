@@ -1,15 +1,21 @@
 //! Collections of Sokoban levels in XSB notation, read from bytes and written to bytes.
 //!
-//! - **Lines.** A byte order mark at the beginning is skipped. A line ends at a line feed or at the end of the input; one
+//! [`read`] gives all levels of a collection at once, [`Collection`] gives one board after the other and keeps only one
+//! in memory. [`write`] writes a level. Time and memory grow with the bytes of the collection and its boards.
+//!
+//! - **Lines.** A byte order mark at the beginning is skipped. A line ends at a line feed or at the end of the input;
+//!   one
 //!   carriage return right before that is no part of it. Lines are numbered from 1.
-//! - **Row lines.** A line is cut into pieces at each `|`; empty pieces are skipped. A piece is a row where it is a list
-//!   of items: a cell byte, or a count of one to four digits from 1 to 9999 and then a cell byte, which stand for that
-//!   many cells. A line is a row line where each piece is a row and the line holds a `#`; every other line is a text line.
+//! - **Row lines.** Each `|` ends a piece of a line; empty pieces are skipped. A piece is a row if it is a list of
+//!   items:
+//!   a cell byte, or a count (one to four digits, from 1 to 9999) and a cell byte for that many cells. A line is a row
+//!   line if each piece is a row and the line has a `#`. Every other line is a text line.
 //! - **Cells.** `#` wall, `@` player, `+` player on goal, `$` box, `*` box on goal, `.` goal; space, `-` and `_` floor.
-//! - **Boards.** A board is a longest run of row lines. Floor at the end of a row is cut off, the greatest length after
-//!   that is the number of columns, and shorter rows are padded with floor on the right.
-//! - **Names.** The last line of the gap before a board that begins with `;` names it; else the first line of the gap
-//!   after it that begins with `Title:`; else its name is empty. Spaces and tabs at both ends of a name are cut off.
+//! - **Boards.** A board is a longest run of row lines. Floor at the end of a row is removed. The greatest length is
+//!   then
+//!   the number of columns, and shorter rows are padded with floor on the right.
+//! - **Names.** A board's name is the last line that begins with `;` in the gap before it, or else the first line that
+//!   begins with `Title:` in the gap after it, or else empty. Spaces and tabs at both ends of a name are removed.
 //!
 //! ```text
 //! let entries = xsb::read(alloc, b"; first\n#####\n#@$.#\n#####\n").expect(&rt, "memory");

@@ -9,10 +9,10 @@ use crate::bytes::{CARRIAGE_RETURN, LINE_FEED};
 use crate::limits::MAX_FILE;
 use bstr::{ByteSlice, LinesWithTerminator};
 
-/// The bytes that may stand at the beginning of a text and say nothing but how it is encoded.
+/// The byte order mark, which may begin a text and only says how it is encoded.
 const BYTE_ORDER_MARK: [u8; 3] = [0xEF, 0xBB, 0xBF];
 
-/// The lines of a collection from some line on.
+/// The lines of a collection, from one of them on.
 #[derive(Drop)]
 pub(crate) struct Lines<'a> {
     pub(crate) rest: LinesWithTerminator<'a>,
@@ -35,7 +35,7 @@ impl<'a> Lines<'a> {
         }
     }
 
-    /// The same lines once more.
+    /// A copy of the iterator.
     pub(crate) fn copy(&self) -> Lines<'a>
         ensures rest { result.rest ≡ self.now.rest }
         ensures number { result.number ≡ self.now.number }
@@ -46,7 +46,7 @@ impl<'a> Lines<'a> {
         }
     }
 
-    /// The next line, without what ends it.
+    /// The next line, without its end.
     pub(crate) fn peek(&self) -> Option<&'a [u8]>
         ensures { MatchOption result (self.now.rest ≡ []) (λ line. ComesNext self.now.rest line.now) }
     {
@@ -55,7 +55,7 @@ impl<'a> Lines<'a> {
         Some(cut_line(raw))
     }
 
-    /// Goes on to the line after the next one.
+    /// Skips the next line.
     pub(crate) fn skip(&mut self)
         requires { 0 < length self.old.rest }
         ensures rest { self.new.rest ≡ drop 1 self.old.rest }
@@ -66,7 +66,7 @@ impl<'a> Lines<'a> {
     }
 }
 
-/// The bytes after a byte order mark at the beginning.
+/// The bytes without a byte order mark at the beginning.
 fn without_mark(bytes: &[u8]) -> &[u8]
     ensures { result.now ≡ without_mark bytes.now }
 {
@@ -76,7 +76,7 @@ fn without_mark(bytes: &[u8]) -> &[u8]
     bytes
 }
 
-/// The bytes without a byte where they end in it.
+/// The bytes without this byte at the end.
 fn without_last(byte: u8, bytes: &[u8]) -> &[u8]
     ensures { result.now ≡ without_last byte bytes.now }
 {
@@ -88,7 +88,7 @@ fn without_last(byte: u8, bytes: &[u8]) -> &[u8]
     bytes
 }
 
-/// A line without the line feed that ends it, and without a carriage return before that.
+/// A line without its line feed, and without a carriage return before that.
 pub(crate) fn cut_line(raw: &[u8]) -> &[u8]
     ensures { result.now ≡ cut_line raw.now }
 {

@@ -1,17 +1,17 @@
-//! Names of boards, which stand in the gaps between them.
+//! Names of boards, which are lines of the gaps between boards.
 ghost use Rattle.std.specs.Prelude.{◌≡◌, List, ℕ, option_copied, ◌∷◌, [], ◌++◌};
 ghost use Rattle.xsb.specs.Boards.{cut_end};
 ghost use Rattle.xsb.specs.Names.{after_prefix, trimmed, cut_start, is_blank};
 
 use crate::bytes::{SPACE, TAB};
 
-/// What names a board after it begins a line so.
+/// The beginning of a line that names the board after it.
 pub(crate) const COMMENT: &[u8] = b";";
 
-/// What names a board before it begins a line so.
+/// The beginning of a line that names the board before it.
 pub(crate) const TITLE: &[u8] = b"Title:";
 
-/// The bytes after a prefix, where the bytes begin with it.
+/// The bytes after a prefix, if they begin with it.
 fn after_prefix<'a>(prefix: &[u8], bytes: &'a [u8]) -> Option<&'a [u8]>
     ensures { option_copied result ≡ after_prefix prefix.now bytes.now }
 {
@@ -21,7 +21,7 @@ fn after_prefix<'a>(prefix: &[u8], bytes: &'a [u8]) -> Option<&'a [u8]>
     None
 }
 
-/// Whether a byte is cut off at both ends of a name.
+/// Whether a byte is removed at both ends of a name.
 fn is_blank(byte: u8) -> bool
     ensures { result ≡ is_blank byte }
 {
@@ -63,13 +63,13 @@ fn trim(bytes: &[u8]) -> &[u8]
     trim_end(trim_start(bytes))
 }
 
-/// What the text lines between two boards name.
+/// The names that the text lines between two boards give.
 #[derive(Clone, Copy)]
 pub(crate) struct Gap<'a> {
-    /// The bytes after the `;` of the last line that begins with it, which name the board after the gap.
+    /// The bytes after the `;` of the last line that begins with it: the name of the board after the gap.
     comment: Option<&'a [u8]>,
-    /// The bytes after the `Title:` of the first line that begins with it, which name the board before the gap where
-    /// no comment does.
+    /// The bytes after the `Title:` of the first line that begins with it: the name of the board before the gap, if no
+    /// comment names it.
     title: Option<&'a [u8]>,
 }
 
@@ -86,7 +86,7 @@ impl<'a> Gap<'a> {
         }
     }
 
-    /// The gap with a text line more.
+    /// The gap with one more text line.
     pub(crate) fn with(self, line: &'a [u8]) -> Gap<'a>
         ensures { (lines : List (List ℕ)) → IsGap self.entry lines → IsGap result (lines ++ line.now ∷ []) }
     {

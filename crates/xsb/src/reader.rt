@@ -14,7 +14,7 @@ use std::alloc::{AllocError, Global};
 use std::fmt;
 use std::fmt::{Debug, Formatter};
 
-/// A collection that is read board by board: no more than one board is in memory, unless the caller keeps more.
+/// A collection that is read board by board. Only one board is in memory, unless the caller keeps more.
 #[derive(Drop)]
 pub struct Collection<'a> {
     /// The lines that are left, from a board on, or none.
@@ -24,8 +24,8 @@ pub struct Collection<'a> {
 }
 
 impl<'a> Collection<'a> {
-    /// The collection that the bytes are, of which no board was read yet. [`ReadFault::TooLong`] is answered exactly for
-    /// more than [`MAX_FILE`] bytes, and no other fault.
+    /// The collection of these bytes, before its first board. Fails with [`ReadFault::TooLong`] for more than
+    /// [`MAX_FILE`] bytes, and with no other fault.
     pub fn of(bytes: &'a [u8]) -> Result<Collection<'a>, ReadFault>
         ensures begins { IfOk result (λ left. HasRead bytes.now left []) }
         ensures bound { IfOk result (λ left. lines_left left ≤ MAX_FILE) }
@@ -40,10 +40,11 @@ impl<'a> Collection<'a> {
         Ok(Collection { lines, before })
     }
 
-    /// The next board, as [`read`] gives it, but without a level of it; `None` where there is none any more. A want of
-    /// memory is the error, also while the board is made; the collection is then as it was, and the board comes next.
+    /// The next board, as [`read`] gives it, without the tables of a level; `None` after the last. Fails only if out of
+    /// memory. The collection is then unchanged, so the next call tries the same board again.
     pub fn next_board(&mut self, alloc: Global) -> Result<Option<BoardEntry>, AllocError>
-        ensures next { (bytes : List ℕ) (founds : List Found) → HasRead bytes self.old founds → IfOk result (GivesNext bytes founds self.new) }
+        ensures next { (bytes : List ℕ) (founds : List Found) → HasRead bytes self.old founds →
+            IfOk result (GivesNext bytes founds self.new) }
         ensures fewer { IfOk result (λ next. IfSome next (λ _. lines_left self.new < lines_left self.old)) }
         ensures err { OnErr result (self.new ≡ self.old) }
     {
@@ -64,7 +65,7 @@ impl<'a> Collection<'a> {
     }
 }
 
-// shows on which line it goes on, and not the bytes that are left
+// shows the number of the next line, and not the bytes that are left
 impl<'a> Debug for Collection<'a> {
     fn fmt<W: fmt::Write>(&self, f: &mut Formatter<W>) -> fmt::Result {
         f.debug_struct("Collection")
@@ -73,21 +74,23 @@ impl<'a> Debug for Collection<'a> {
     }
 }
 
-/// The boards of a collection, in order: exactly those of the notation, each with its name, the number of its first
-/// line, and the level that it makes or its first fault. [`ReadFault::TooLong`] is answered exactly for more than
-/// [`MAX_FILE`] bytes. A want of memory is [`ReadFault::OutOfMemory`], also while a level is made.
+/// The boards of a collection, in order: each with its name, the number of its first line, and its level or its first
+/// fault. Fails with [`ReadFault::TooLong`] for more than [`MAX_FILE`] bytes, and with [`ReadFault::OutOfMemory`] if
+/// out of memory, also while a level is made.
 pub fn read(alloc: Global, bytes: &[u8]) -> Result<Vec<Entry>, ReadFault>
-    ensures found { IfOk result (λ entries. (founds : List Found) × IsCollection bytes.now founds × AllZip IsEntry entries.items founds) }
+    ensures found { IfOk result (λ entries. (founds : List Found) × IsCollection bytes.now founds ×
+        AllZip IsEntry entries.items founds) }
     ensures too_long { (result ≡ Err ReadFault.TooLong) ↔ (MAX_FILE < length bytes.now) }
 {
     let mut collection = Collection::of(bytes)?;
     Ok(read_all(alloc, &mut collection)?)
 }
 
-/// The entries of all boards of a collection, of which no board was read yet.
+/// The entries of all boards of a collection, before its first board is read.
 fn read_all(alloc: Global, collection: &mut Collection<'_>) -> Result<Vec<Entry>, AllocError>
     ensures { (bytes : List ℕ) → HasRead bytes collection.old [] →
-        IfOk result (λ entries. (founds : List Found) × IsCollection bytes founds × AllZip IsEntry entries.items founds) }
+        IfOk result (λ entries. (founds : List Found) × IsCollection bytes founds ×
+        AllZip IsEntry entries.items founds) }
 {
     let mut entries = Vec::new(alloc);
     'boards: loop {

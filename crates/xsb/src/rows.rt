@@ -10,7 +10,7 @@ use crate::items::first_item;
 use grid::Cell;
 use std::alloc::AllocError;
 
-/// The length of the row that a piece is, without the floor at its end. `None` where it is no row.
+/// The length of a piece as a row, without the floor at its end. `None` if it is no row.
 pub(crate) fn row_length(piece: &[u8]) -> Option<usize>
     ensures { MatchOption result (IsNoRow piece.now) (λ n. IsRowOfLength piece.now n) }
 {
@@ -28,10 +28,11 @@ pub(crate) fn row_length(piece: &[u8]) -> Option<usize>
     Some(kept)
 }
 
-/// Appends the cells of a row, with floor on the right up to a number of columns that is no less than its length
-/// without the floor at its end.
+/// Appends the cells of a row, with floor on the right up to `cols` columns. These are at least its length without the
+/// floor at its end.
 pub(crate) fn push_row(piece: &[u8], cols: usize, cells: &mut Vec<Cell>) -> Result<(), AllocError>
-    ensures { (row : List Cell) → IsRow piece.now row → length (cut_row row) ≤ cols → OnOk result (cells.new.items ≡ cells.old.items ++ padded cols row) }
+    ensures { (row : List Cell) → IsRow piece.now row → length (cut_row row) ≤ cols →
+        OnOk result (cells.new.items ≡ cells.old.items ++ padded cols row) }
 {
     let mut rest = piece;
     let mut room = cols;

@@ -9,7 +9,7 @@ use crate::rows::{push_row, row_length};
 use grid::Cell;
 use std::alloc::AllocError;
 
-/// How many rows there are, and the length of the longest of them, without the floor at their ends.
+/// The number of rows, and the length of the longest, without the floor at the ends.
 #[derive(Clone, Copy)]
 pub(crate) struct Size {
     pub(crate) rows: usize,
@@ -19,9 +19,10 @@ pub(crate) struct Size {
 impl Size {
     ghost use Rattle.xsb.specs.inside.Reading.{IsSize};
 
-    /// The size of these rows and more.
+    /// The size of these rows together with others.
     pub(crate) fn with(self, more: Size) -> Size
-        ensures { (rows others : List (List Cell)) → IsSize self rows → IsSize more others → IsSize result (rows ++ others) }
+        ensures { (rows others : List (List Cell)) → IsSize self rows → IsSize more others →
+            IsSize result (rows ++ others) }
     {
         Size {
             rows: self.rows.saturating_add(more.rows),
@@ -32,7 +33,8 @@ impl Size {
 
 /// The size of the rows of a row line. `None` for a text line.
 pub(crate) fn line_size(line: &[u8]) -> Option<Size>
-    ensures { MatchOption result (IsTextLine line.now) (λ size. (rows : List (List Cell)) × IsRowLine line.now rows × IsSize size rows) }
+    ensures { MatchOption result (IsTextLine line.now) (λ size. (rows : List (List Cell)) × IsRowLine line.now rows ×
+        IsSize size rows) }
 {
     if !line.contains(&WALL) {
         return None;
@@ -50,8 +52,8 @@ pub(crate) fn line_size(line: &[u8]) -> Option<Size>
     Some(size)
 }
 
-/// Appends the cells of the rows of a row line, each with floor on the right up to a number of columns that is no less
-/// than the length of any of them.
+/// Appends the cells of the rows of a row line, each with floor on the right up to `cols` columns. These are at least
+/// the length of each row.
 pub(crate) fn push_line(line: &[u8], cols: usize, cells: &mut Vec<Cell>) -> Result<(), AllocError>
     ensures { OnOk result (AppendsRows line.now cols cells.old.items cells.new.items) }
 {

@@ -1,4 +1,5 @@
-ghost use Rattle.std.specs.Prelude.{◌≡◌, ◌+◌, ◌*◌, ◌≤◌, ◌<◌, ◌++◌, [], ◌∷◌, length, take, drop, slice_index_or, OnOk, OnErr};
+ghost use Rattle.std.specs.Prelude.{◌≡◌, ◌+◌, ◌*◌, ◌≤◌, ◌<◌, ◌++◌, [], ◌∷◌, length, take, drop, slice_index_or, OnOk};
+ghost use Rattle.std.specs.Prelude.{OnErr};
 ghost use Rattle.bstr.specs.Text.{Extends};
 ghost use Rattle.grid.specs.Lawful.{IsLevel};
 ghost use Rattle.xsb.specs.Boards.{cut_row};
@@ -12,12 +13,12 @@ use crate::cells::{byte_of, is_floor};
 use grid::{Cell, Level, Square};
 use std::alloc::AllocError;
 
-/// Appends the level in plain rows: a byte a cell, a space for floor, no floor at a row's end, each row ended by a line
-/// feed. Where memory is refused, `out` stays as it was.
+/// Appends the level in plain rows: one byte for each cell, a space for floor, no floor at the end of a row, a line
+/// feed after each row. Fails only if out of memory, and then leaves `out` unchanged.
 pub fn write(level: &Level, out: &mut Vec<u8>) -> Result<(), AllocError>
     ensures ok { OnOk result (out.new.items ≡ out.old.items ++ written level.now) }
     ensures err { OnErr result (out.new.items ≡ out.old.items) }
-    // Reading gives the level back, without a name.
+    // reading gives the level back, without a name
     ensures again { HasWallInEachRow level.now → HasFullRow level.now
         → IsCollection (written level.now) (record { name = []; first_line = 1; board = level.now } ∷ []) }
 {
@@ -32,7 +33,7 @@ pub fn write(level: &Level, out: &mut Vec<u8>) -> Result<(), AllocError>
     }
 }
 
-/// Appends the rows of a level. Where memory is refused, some of them may have been appended.
+/// Appends the rows of a level. After an error some of them may be appended.
 fn push_rows(level: &Level, out: &mut Vec<u8>) -> Result<(), AllocError>
     requires { IsLevel level.now }
     ensures ok { OnOk result (out.new.items ≡ out.old.items ++ written level.now) }
@@ -44,11 +45,12 @@ fn push_rows(level: &Level, out: &mut Vec<u8>) -> Result<(), AllocError>
     Ok(())
 }
 
-/// Appends the row that begins at a place among the cells. Where memory is refused, some of it may have been appended.
+/// Appends the row that begins at an index of the cells. After an error a part of it may be appended.
 fn push_row(level: &Level, start: usize, out: &mut Vec<u8>) -> Result<(), AllocError>
     requires level { IsLevel level.now }
     requires inside { start + level.now.cols ≤ length level.now.cells }
-    ensures ok { OnOk result (out.new.items ≡ out.old.items ++ written_row (take level.now.cols (drop start level.now.cells))) }
+    ensures ok { OnOk result
+        (out.new.items ≡ out.old.items ++ written_row (take level.now.cols (drop start level.now.cells))) }
     ensures more { Extends out.old.items out.new.items }
 {
     let kept = kept_cells(level, start);
@@ -59,7 +61,7 @@ fn push_row(level: &Level, start: usize, out: &mut Vec<u8>) -> Result<(), AllocE
     Ok(())
 }
 
-/// The length of the row that begins at a place among the cells, without the floor at its end.
+/// The length of the row that begins at an index of the cells, without the floor at its end.
 fn kept_cells(level: &Level, start: usize) -> usize
     requires level { IsLevel level.now }
     requires inside { start + level.now.cols ≤ length level.now.cells }
@@ -75,7 +77,7 @@ fn kept_cells(level: &Level, start: usize) -> usize
     kept
 }
 
-/// The cell at a place.
+/// The cell at an index.
 fn cell_at(level: &Level, place: usize) -> Cell
     requires level { IsLevel level.now }
     requires inside { place < length level.now.cells }
@@ -91,7 +93,7 @@ fn cell_at(level: &Level, place: usize) -> Cell
     )
 }
 
-/// The cell of which it is known whether it has a wall, a box, the player and a goal.
+/// The cell with or without a wall, a box, the player and a goal.
 fn cell_with(wall: bool, boxed: bool, player: bool, goal: bool) -> Cell
     ensures { result ≡ cell_with wall boxed player goal }
 {

@@ -17,12 +17,14 @@ IsFirstDown board mark q d = IsDown board mark q d × ((e : Dir) → IsDown boar
 -- from q, going down in the first direction each time, over reached squares, one comes to a square by these steps
 pub data IsDescent (board : Board) (base to : ℕ) (mark : ℕ → ℕ) : ℕ → List Dir → Type 0 where
   arrived : IsDescent board base to mark to []
-  onward : {q : ℕ} {d : Dir} {ds : List Dir} → base < mark (next board q d) → IsFirstDown board mark q d → IsDescent board base to mark (next board q d) ds →
+  onward : {q : ℕ} {d : Dir} {ds : List Dir} → base < mark (next board q d) → IsFirstDown board mark q d →
+      IsDescent board base to mark (next board q d) ds →
       IsDescent board base to mark q (d ∷ ds)
 
 -- in the midst of a descent: the letters so far are those of the steps from the first square to q, and going on from
 -- q goes on from the first square
-pub record IsDescending (board : Board) (base to : ℕ) (mark : ℕ → ℕ) (first q : ℕ) (before now : List Letter) : Type 0 where
-  pub ds : List Dir
-  pub letters : now ≡ before ++ walk_letters ds
-  pub rest : (es : List Dir) → IsDescent board base to mark q es → IsDescent board base to mark first (ds ++ es)
+pub record IsDescending (board : Board) (base to : ℕ) (mark : ℕ → ℕ) (first q : ℕ) (before now : List Letter) : Type 0
+  where
+    pub ds : List Dir
+    pub letters : now ≡ before ++ walk_letters ds
+    pub rest : (es : List Dir) → IsDescent board base to mark q es → IsDescent board base to mark first (ds ++ es)

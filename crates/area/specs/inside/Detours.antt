@@ -19,7 +19,8 @@ IsAcross d e = (e ≡ across d) ⊎ (e ≡ opposite (across d))
 -- from the square `from` one comes to a square by steps onto squares of a set, round the square `but`
 pub data Skirts (board : Board) (set : Squares) (but from : ℕ) : ℕ → Type 0 where
   here : Skirts board set but from from
-  onward : {q : ℕ} (d : Dir) → Skirts board set but from q → contains set (next board q d) ≡ true → next board q d ≢ but →
+  onward : {q : ℕ} (d : Dir) → Skirts board set but from q → contains set (next board q d) ≡ true →
+      next board q d ≢ but →
       Skirts board set but from (next board q d)
 
 -- on the square beside `q` in a direction there is the square `but`, a wall, one of the boxes, or a square of the set

@@ -1,5 +1,6 @@
 -- How a flood goes by words of bits: what a visit to one of them may add.
-use Rattle.std.specs.Prelude.{◌≡◌, ◌≢◌, ℕ, ◌+◌, ◌-◌, ◌*◌, ◌^◌, ◌<◌, ◌≤◌, Bool, true, false, ◌&&◌, ◌||◌, List, length, slice_index, sum_by}
+use Rattle.std.specs.Prelude.{◌≡◌, ◌≢◌, ℕ, ◌+◌, ◌-◌, ◌*◌, ◌^◌, ◌<◌, ◌≤◌, Bool, true, false, ◌&&◌, ◌||◌, List, length}
+use Rattle.std.specs.Prelude.{slice_index, sum_by}
 use Rattle.grid.specs.declared.dir.Dir.{Dir}
 use Rattle.grid.specs.declared.dir.Dir.TheVariants.{D, L, R, U}
 use Rattle.grid.specs.declared.masks.TheConstants.{WORD_BITS}
@@ -29,7 +30,8 @@ AllPass test words = (q : ℕ) → has_bit words q ≡ true → test q ≡ true
 -- a step from a square that passes the test, onto one where no box stands, leads to one that passes it
 abbrev pub IsKept : Board → List ℕ → (ℕ → Bool) → Type 0
 IsKept board boxes test =
-    (d : Dir) (q : ℕ) → has_bit boxes q ≡ false → can_enter board d q ≡ true → test (next board q (opposite d)) ≡ true → test q ≡ true
+    (d : Dir) (q : ℕ) → has_bit boxes q ≡ false → can_enter board d q ≡ true →
+    test (next board q (opposite d)) ≡ true → test q ≡ true
 
 -- how much the words could still grow
 abbrev pub room_left : List ℕ → ℕ
@@ -78,7 +80,8 @@ pub record PassesOn (test : ℕ → Bool) (by down left right up : ℕ) : Type 0
 pub record IsGrown (old new : ℕ) (Passes : (ℕ → Bool) → Type 0) : Type 0 where
   pub kept : (j : ℕ) → word_bit old j ≡ true → word_bit new j ≡ true
   pub most : old ≤ new
-  pub sound : (test : ℕ → Bool) → Passes test → ((j : ℕ) → word_bit old j ≡ true → test j ≡ true) → (j : ℕ) → word_bit new j ≡ true → test j ≡ true
+  pub sound : (test : ℕ → Bool) → Passes test → ((j : ℕ) → word_bit old j ≡ true → test j ≡ true) → (j : ℕ) →
+      word_bit new j ≡ true → test j ≡ true
 
 -- the words have a bit for each square, and are just the boxes of a state
 pub record AreBoxes (board : Board) (s : Scene) (words : List ℕ) : Type 0 where

@@ -25,7 +25,8 @@ AreAllowedBefore board reach square seen ps = AreAll (λ p. p) (λ p. Allows boa
 
 -- the masks have a bit for each direction in which a flood allows to push the box on the square
 abbrev pub TellsPushes : Board → Reach → PushMasks → ℕ → ℕ → Type 0
-TellsPushes board reach masks bit square = (d : Dir) → (word_bit (push_word d masks) bit ≡ true) ↔ Allows board reach (record { square = square; dir = d })
+TellsPushes board reach masks bit square =
+    (d : Dir) → (word_bit (push_word d masks) bit ≡ true) ↔ Allows board reach (record { square = square; dir = d })
 
 -- how many of the squares are less than q
 abbrev pub count_below : Squares → ℕ → ℕ
@@ -34,4 +35,5 @@ count_below (x ∷ xs) q = cond (nat_lt x q) 1 0 + count_below xs q
 
 -- ps is the pushes that a flood allows, of lesser squares than this one, each once, in their order: at most four a box
 abbrev pub AreAllowedBelow : Board → Reach → ℕ → List Push → Type 0
-AreAllowedBelow board reach square ps = AreAllowedBefore board reach square 0 ps × (length ps ≤ 4 * count_below reach.boxes square)
+AreAllowedBelow board reach square ps =
+    AreAllowedBefore board reach square 0 ps × (length ps ≤ 4 * count_below reach.boxes square)

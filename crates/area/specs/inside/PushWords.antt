@@ -12,7 +12,8 @@ is_open board boxes d q = can_enter board d q && not (has_bit boxes q)
 -- a box stands on the square, a step in the direction leads there from a reached square, and the next square is open to
 -- such a step
 abbrev pub can_push : Board → List ℕ → List ℕ → Dir → ℕ → Bool
-can_push board boxes reached d q = (has_bit boxes q && comes_by board reached d q) && is_open board boxes d (next board q d)
+can_push board boxes reached d q =
+    (has_bit boxes q && comes_by board reached d q) && is_open board boxes d (next board q d)
 
 -- a step in the direction leads so many numbers on
 abbrev pub GoesOn : Board → Dir → ℕ → Type 0

@@ -67,9 +67,11 @@ goes_round view = ((goes_past view.one && view.other.front) || (goes_past view.o
 
 -- each square next to the middle is joined by a way of its own
 abbrev pub keeps_each : Turned → Bool
-keeps_each view = (keeps_side view.one && keeps_side view.other) && ((not view.beyond || goes_past view.one) || goes_past view.other)
+keeps_each view =
+    (keeps_side view.one && keeps_side view.other) && ((not view.beyond || goes_past view.one) || goes_past view.other)
 
--- where the middle is of the set, those next to it stay joined with the square that a box comes from when it comes there
+-- where the middle is of the set, those next to it stay joined with the square that a box comes from when it comes
+-- there
 abbrev pub joins : Turned → Bool
 joins view = (goes_round view || keeps_each view) || not view.middle
 

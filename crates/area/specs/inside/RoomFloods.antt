@@ -30,11 +30,12 @@ AreUnused index free words = (k : ℕ) → index ≤ k → (slice_index free k �
 
 -- the set has each free number of the word at an index that is beside one of its own
 abbrev pub IsFull : ℕ → List ℕ → ℕ → List ℕ → Type 0
-IsFull cols free index words = (p j : ℕ) → j < WORD_BITS → IsBeside cols p (WORD_BITS * index + j) → has_bit free (WORD_BITS * index + j) ≡ true
+IsFull cols free index words =
+    (p j : ℕ) → j < WORD_BITS → IsBeside cols p (WORD_BITS * index + j) → has_bit free (WORD_BITS * index + j) ≡ true
     → has_bit words p ≡ true → has_bit words (WORD_BITS * index + j) ≡ true
 
--- what a visit to the word at an index does to a set: it changes no other word, and where it says that the set did not grow,
--- the set has all that it can have of the word
+-- what a visit to the word at an index does to a set: it changes no other word, and where it says that the set did
+-- not grow, the set has all that it can have of the word
 pub record IsVisit (cols : ℕ) (free : List ℕ) (index : ℕ) (old new : List ℕ) (grew : Bool) : Type 0 where
   pub widened : IsWidened cols free old new
   pub others : (k : ℕ) → k ≢ index → slice_index new k ≡ slice_index old k

@@ -11,8 +11,8 @@ use Rattle.area.specs.Words.{squares_of}
 abbrev pub view_of : Inside → Reach
 view_of a = record { size = length a.marks.items; reached = squares_of a.reached; boxes = squares_of a.boxes }
 
--- there is a mark and a place in the queue for each square, and the marks are small enough for one more search; each set
--- has room for the squares
+-- there is a mark and a place in the queue for each square, and the marks are small enough for one more search; each
+-- set has room for the squares
 pub record IsReady (a : Inside) : Type 0 where
   pub places : length a.queue.items ≡ length a.marks.items
   pub small : length a.marks.items ≤ MAX_SQUARES

@@ -1,5 +1,6 @@
 -- How a search spreads over the squares: each square that it comes upon is marked with the steps that lead there.
-use Rattle.std.specs.Prelude.{◌≡◌, ◌≢◌, ℕ, suc, ◌+◌, ◌^◌, ◌<◌, ◌≤◌, true, false, ◌⊎◌, ◌↔◌, List, length, slice_index, slice_set, nat_lt, sum_by, cond}
+use Rattle.std.specs.Prelude.{◌≡◌, ◌≢◌, ℕ, suc, ◌+◌, ◌^◌, ◌<◌, ◌≤◌, true, false, ◌⊎◌, ◌↔◌, List, length, slice_index}
+use Rattle.std.specs.Prelude.{slice_set, nat_lt, sum_by, cond}
 use Rattle.grid.specs.declared.dir.Dir.{Dir}
 use Rattle.grid.specs.Board.{Board, is_wall, next, dir_number}
 use Rattle.grid.specs.Squares.{Squares, contains}
@@ -12,12 +13,14 @@ use Rattle.area.specs.declared.scratch.TheConstants.{GREATEST_BASE}
 -- before a search: the boxes have the mark `base`, and every other square has a lesser one
 abbrev pub AreBlocked : ℕ → Squares → List ℕ → Type 0
 AreBlocked base boxes marks =
-    (q : ℕ) → (contains boxes q ≡ true → slice_index marks q ≡ base) × (contains boxes q ≡ false → slice_index marks q < base)
+    (q : ℕ) → (contains boxes q ≡ true → slice_index marks q ≡ base) ×
+    (contains boxes q ≡ false → slice_index marks q < base)
 
 -- the square next to q in a direction, where it is neither a wall nor a box's, is reached, with one step more at most
 abbrev pub IsClosed : Board → ℕ → (ℕ → ℕ) → ℕ → Dir → Type 0
 IsClosed board base mark q d =
-    is_wall board (next board q d) ≡ false → mark (next board q d) ≢ base → (base < mark (next board q d)) × (mark (next board q d) ≤ suc (mark q))
+    is_wall board (next board q d) ≡ false → mark (next board q d) ≢ base → (base < mark (next board q d)) ×
+    (mark (next board q d) ≤ suc (mark q))
 
 -- a square was reached from a square beside it that is reached with one step less
 abbrev pub HasCome : Board → ℕ → (ℕ → ℕ) → ℕ → Type 0
@@ -35,7 +38,8 @@ pub record IsSpread (board : Board) (base from : ℕ) (mark : ℕ → ℕ) : Typ
 -- after a search round boxes: they have the mark `base` and nothing else has, and all that walks reach is marked
 pub record IsSearched (board : Board) (boxes : Squares) (base from : ℕ) (marks : List ℕ) : Type 0 where
   pub spread : IsSpread board base from (λ q. slice_index marks q)
-  pub blocked : (q : ℕ) → (contains boxes q ≡ true → slice_index marks q ≡ base) × (contains boxes q ≡ false → slice_index marks q ≢ base)
+  pub blocked : (q : ℕ) → (contains boxes q ≡ true → slice_index marks q ≡ base) ×
+      (contains boxes q ≡ false → slice_index marks q ≢ base)
 
 -- which squares have a box's mark stays
 abbrev pub KeepsBlocked : ℕ → List ℕ → List ℕ → Type 0
@@ -45,8 +49,8 @@ KeepsBlocked base old new = (q : ℕ) → (slice_index old q ≡ base) ↔ (slic
 abbrev pub AreWithin : ℕ → ℕ → List ℕ → Type 0
 AreWithin base most marks = (q : ℕ) → slice_index marks q ≤ base + most
 
--- memory in which a search may begin: a mark and a place for each square, and no mark more than one for each square above
--- the last one of a box, which is not too great for one more search
+-- memory in which a search may begin: a mark and a place for each square, and no mark more than one for each square
+-- above the last one of a box, which is not too great for one more search
 pub record IsMemory (board : Board) (base : ℕ) (marks queue : List ℕ) : Type 0 where
   pub room : length marks ≡ length board.cells
   pub places : length queue ≡ length board.cells
@@ -78,10 +82,11 @@ pub record IsSpreading (board : Board) (base from : ℕ) (mark place : ℕ → �
   pub now : (d : Dir) → dir_number d < seen → IsClosed board base mark (place head) d
   pub order : head ≤ tail
 
--- a look at the square n, in marks and queue as they stand: a wall, a box or a square that has been reached passes, and any
--- other takes the mark and the place at the queue's end
+-- a look at the square n, in marks and queue as they stand: a wall, a box or a square that has been reached passes,
+-- and any other takes the mark and the place at the queue's end
 pub data IsLook (board : Board) (base n mark tail : ℕ) (marks queue : List ℕ) : ℕ → List ℕ → List ℕ → Type 0 where
-  passes : (is_wall board n ≡ false → base ≤ slice_index marks n) → IsLook board base n mark tail marks queue tail marks queue
+  passes : (is_wall board n ≡ false → base ≤ slice_index marks n) →
+      IsLook board base n mark tail marks queue tail marks queue
   takes : is_wall board n ≡ false → slice_index marks n < base →
       IsLook board base n mark tail marks queue (tail + 1) (slice_set marks n mark) (slice_set queue tail n)
 

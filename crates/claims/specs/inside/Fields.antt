@@ -15,7 +15,8 @@ abbrev pub IsSoundLedger : LedgerInside → Type 0
 IsSoundLedger a = (a.table.shared.table_id.words ≡ suc PLACES) × (a.table.shared.key ≡ a.len)
 
 abbrev pub drawer_view : DrawerInside → DrawerView
-drawer_view a = record { ledger = record { table = a.seat.table_id; len = a.seat.me.0.len }; hand = first_hand a.seat.me.0.hands }
+drawer_view a =
+    record { ledger = record { table = a.seat.table_id; len = a.seat.me.0.len }; hand = first_hand a.seat.me.0.hands }
 
 -- the seat has one hand, and the drawer remembers its place and whether it is spent out
 pub record IsSoundDrawer (a : DrawerInside) : Type 0 where

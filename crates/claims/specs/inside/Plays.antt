@@ -36,7 +36,8 @@ one_more slots = step slots 0 1 0 none
 
 -- draw: one addition to the next number, which was above all numbers of the hand
 abbrev pub draws : Step (Unit {0}) → Sat → ℕ → Sat → Type 0
-draws st me found me' = (me' ≡ sat me.0.len (after_draw me.0.len found (first_hand me.0.hands))) × All (λ x. x < found) (first_hand me.0.hands).numbers
+draws st me found me' = (me' ≡ sat me.0.len (after_draw me.0.len found (first_hand me.0.hands))) ×
+    All (λ x. x < found) (first_hand me.0.hands).numbers
 
 -- such an addition keeps the rule
 abbrev pub MayAddOne : ℕ → ℕ → ℕ → Sat → Type 0

@@ -16,7 +16,8 @@ abbrev pub shut_round : Board → Squares → (ℕ → Bool) → (ℕ → Bool) 
 shut_round board boxes held room q =
     nat_lt q (length board.cells) &&
     (not (contains boxes q) &&
-    (shut_beside board held room q D && (shut_beside board held room q L && (shut_beside board held room q R && shut_beside board held room q U))))
+    (shut_beside board held room q D &&
+    (shut_beside board held room q L && (shut_beside board held room q R && shut_beside board held room q U))))
 
 -- each of the squares is one of the level
 abbrev pub are_inside : Board → Squares → Bool
@@ -24,7 +25,8 @@ are_inside board xs = list_all (λ q. nat_lt q (length board.cells)) xs
 
 -- one of the boxes is off goal, or one of the squares has a goal
 abbrev pub has_to_change : Board → Squares → Squares → Bool
-has_to_change board boxes squares = list_any (λ q. not (is_goal board q)) boxes || list_any (λ q. is_goal board q) squares
+has_to_change board boxes squares =
+    list_any (λ q. not (is_goal board q)) boxes || list_any (λ q. is_goal board q) squares
 
 -- on the square stands a box, all of whose pushes that could be the first of a held box are ready
 abbrev pub IsReadyBox : Board → ℕ → (ℕ → Bool) → (ℕ → Bool) → Scene → ℕ → Type 0

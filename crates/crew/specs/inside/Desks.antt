@@ -9,4 +9,5 @@ AreRoomy size desks = (i : ℕ) (desk : Desk) → slice_get desks i ≡ Some des
 
 -- each of the first so many has a drawer of the ledger with an empty hand
 abbrev pub HaveDrawers : LedgerView → ℕ → List Desk → Type 0
-HaveDrawers ledger place desks = (i : ℕ) (desk : Desk) → i < place → slice_get desks i ≡ Some desk → desk.drawer ≡ Some (newcomer ledger)
+HaveDrawers ledger place desks =
+    (i : ℕ) (desk : Desk) → i < place → slice_get desks i ≡ Some desk → desk.drawer ≡ Some (newcomer ledger)

@@ -9,9 +9,10 @@ use Rattle.crew.specs.declared.end.End.{End}
 use Rattle.crew.specs.inside.Shifts.{ShiftView}
 
 -- the scratch is for the layer's level, and the drawer has the worker's place in the ledger
-pub record IsReady {G : Type 0} (shift : ShiftView G) (worker : ℕ) (scratch : Reach) (drawer : DrawerView) : Type 0 where
-  pub room : scratch.size ≡ length shift.layer.level.board.cells
-  pub place : IsAtPlace shift.ledger worker drawer
+pub record IsReady {G : Type 0} (shift : ShiftView G) (worker : ℕ) (scratch : Reach) (drawer : DrawerView) : Type 0
+  where
+    pub room : scratch.size ≡ length shift.layer.level.board.cells
+    pub place : IsAtPlace shift.ledger worker drawer
 
 -- the worker may end so, its drawer is left with what belongs to such an end, and a book answered so if one ended it
 pub record HasEnded (may_stop : Bool) (layer : LayerView) (workers worker : ℕ) (hand : Hand) (end : End) : Type 0 where

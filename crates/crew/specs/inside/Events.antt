@@ -16,9 +16,11 @@ pub record IsTold (may_answer : ℕ → Bool → Bool) (nth : ℕ) (answer : Boo
 -- so many events more, and after each the gate let the worker go on
 abbrev pub GoesOn : (ℕ → Bool → Bool) → ℕ → ℕ → ℕ → Type 0
 GoesOn may_answer nth zero after = after ≡ nth
-GoesOn may_answer nth (suc events) after = (last : ℕ) × GoesOn may_answer nth events last × IsTold may_answer last true after
+GoesOn may_answer nth (suc events) after =
+    (last : ℕ) × GoesOn may_answer nth events last × IsTold may_answer last true after
 
--- how a worker that is not drained ends at once: the gate does not let it go on after one event more, or a book ends it with no event
+-- how a worker that is not drained ends at once: the gate does not let it go on after one event more, or a book ends
+-- it with no event
 abbrev pub EndsAtOnce : (ℕ → Bool → Bool) → ℕ → ℕ → End → Type 0
 EndsAtOnce may_answer nth after Stopped = IsTold may_answer nth false after
 EndsAtOnce may_answer nth after (Refused refusal) = after ≡ nth
@@ -26,19 +28,22 @@ EndsAtOnce may_answer nth after Foreign = after ≡ nth
 EndsAtOnce may_answer nth after Drained = ⊥
 EndsAtOnce may_answer nth after NoPlace = ⊥
 
--- how a draw and then the gate end a worker: the gate does not let it go on after one rank more, or it is drained, with no event
+-- how a draw and then the gate end a worker: the gate does not let it go on after one rank more, or it is drained,
+-- with no event
 abbrev pub DrawsAtLast : (ℕ → Bool → Bool) → Hand → ℕ → Hand → ℕ → End → Type 0
-DrawsAtLast may_answer hand nth later after Stopped = (length later.numbers ≡ length hand.numbers + 1) × IsTold may_answer nth false after
+DrawsAtLast may_answer hand nth later after Stopped =
+    (length later.numbers ≡ length hand.numbers + 1) × IsTold may_answer nth false after
 DrawsAtLast may_answer hand nth later after Drained = (later.numbers ≡ hand.numbers) × (after ≡ nth)
 DrawsAtLast may_answer hand nth later after (Refused refusal) = ⊥
 DrawsAtLast may_answer hand nth later after Foreign = ⊥
 DrawsAtLast may_answer hand nth later after NoPlace = ⊥
 
--- so many events more of a worker that then ended, and was not drained: after each the gate let it go on, but for the last one
--- where it is stopped
+-- so many events more of a worker that then ended, and was not drained: after each the gate let it go on, but for the
+-- last one where it is stopped
 abbrev pub GoesOnUntil : (ℕ → Bool → Bool) → ℕ → ℕ → ℕ → End → Type 0
 GoesOnUntil may_answer nth events after Stopped =
-    (before : ℕ) × (last : ℕ) × (events ≡ suc before) × GoesOn may_answer nth before last × IsTold may_answer last false after
+    (before : ℕ) × (last : ℕ) × (events ≡ suc before) × GoesOn may_answer nth before last ×
+    IsTold may_answer last false after
 GoesOnUntil may_answer nth events after (Refused refusal) = GoesOn may_answer nth events after
 GoesOnUntil may_answer nth events after Foreign = GoesOn may_answer nth events after
 GoesOnUntil may_answer nth events after Drained = ⊥
@@ -51,14 +56,16 @@ pub record IsCutOff (may_answer : ℕ → Bool → Bool) (most nth after : ℕ) 
   pub until : GoesOnUntil may_answer nth events after end
 
 -- a worker goes on: its events are the ranks that its hand has drawn since, and so many parcels that a book accepted
-pub record Works (may_answer : ℕ → Bool → Bool) (accepted : ℕ) (hand : Hand) (nth : ℕ) (later : Hand) (after : ℕ) : Type 0 where
+pub record Works (may_answer : ℕ → Bool → Bool) (accepted : ℕ) (hand : Hand) (nth : ℕ) (later : Hand) (after : ℕ) :
+    Type 0 where
   pub drawn : ℕ
   pub draws : length later.numbers ≡ length hand.numbers + drawn
   pub on : GoesOn may_answer nth (drawn + accepted) after
 
--- a worker goes on and then ends, and is not drained: its events are the ranks that its hand has drawn since, and no more parcels
--- than so many
-pub record WorksUntil (may_answer : ℕ → Bool → Bool) (most : ℕ) (hand : Hand) (nth : ℕ) (later : Hand) (after : ℕ) (end : End) : Type 0 where
+-- a worker goes on and then ends, and is not drained: its events are the ranks that its hand has drawn since, and no
+-- more parcels than so many
+pub record WorksUntil (may_answer : ℕ → Bool → Bool) (most : ℕ) (hand : Hand) (nth : ℕ) (later : Hand) (after : ℕ)
+    (end : End) : Type 0 where
   pub drawn : ℕ
   pub accepted : ℕ
   pub few : accepted ≤ most

@@ -18,7 +18,8 @@ AreOfLayer layer lot = (i : ℕ) (parcel : ParcelView) → slice_get lot i ≡ S
 -- behind what stood before a place comes a parcel of the rank
 abbrev pub IsPut : LayerView → ℕ → ℕ → List ParcelView → List ParcelView → Type 0
 IsPut layer rank place before after =
-    (parcel : ParcelView) × IsOfRank layer rank parcel × (take (place + 1) after ≡ take place before ++ parcel ∷ []) × (place + 1 ≤ length after)
+    (parcel : ParcelView) × IsOfRank layer rank parcel × (take (place + 1) after ≡ take place before ++ parcel ∷ []) ×
+    (place + 1 ≤ length after)
 
 -- each rank is one of the layer
 abbrev pub AreRanks : LayerView → List ℕ → Type 0

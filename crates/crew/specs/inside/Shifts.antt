@@ -4,8 +4,8 @@ use Rattle.layers.specs.LayerView.{LayerView}
 use Rattle.successors.specs.Tasks.{Task}
 use Rattle.claims.specs.Hands.{LedgerView}
 
--- the layer that they work on, the ledger that they draw its ranks from, how many books there are, for how many workers these are made,
--- and the gate
+-- the layer that they work on, the ledger that they draw its ranks from, how many books there are, for how many
+-- workers these are made, and the gate
 pub record ShiftView (G : Type 0) : Type 0 where
   pub layer : LayerView
   pub ledger : LedgerView

@@ -17,10 +17,12 @@ use Rattle.crew.specs.declared.turns.Turned.TheVariants.{Onward, Found, Foreign}
 
 -- the books of a search by the configuration are between two turns
 abbrev pub ArePausedBy : Config → Task → List BookView → List (List (Origin Push)) → ℕ → Type 0
-ArePausedBy config task books trail positions = AreBetweenTurns task config.limit (config.workers + 1) config.locks books trail positions
+ArePausedBy config task books trail positions =
+    AreBetweenTurns task config.limit (config.workers + 1) config.locks books trail positions
 
 -- they are, and their last closed layer was looked at and counted, after so many positions
-pub record HasLooked (config : Config) (task : Task) (books : List BookView) (layer : LayerView) (trail : List (List (Origin Push)))
+pub record HasLooked (config : Config) (task : Task) (books : List BookView) (layer : LayerView)
+    (trail : List (List (Origin Push)))
     (before positions : ℕ) : Type 0 where
   pub turn : ArePausedBy config task books trail before
   pub join : IsJoinOf books layer
@@ -29,12 +31,14 @@ pub record HasLooked (config : Config) (task : Task) (books : List BookView) (la
 -- the books of a search by the configuration were at work on the layer, and this is how its last ranks left them
 abbrev pub AreWorkedBy : Config → LayerView → Worked → List BookView → Type 0
 AreWorkedBy config layer worked books =
-    (before : List BookView) × AreDealt layer.level config.limit (config.workers + 1) config.locks before × AreWorkingOn layer before
+    (before : List BookView) × AreDealt layer.level config.limit (config.workers + 1) config.locks before ×
+    AreWorkingOn layer before
     × AreFinished config.limit before layer worked books
 
 -- how a turn ends: the search goes on with books that have closed the next layer; or there is an answer; or other books
 -- came back
 abbrev pub TurnAnswer : Config → Task → List (List (Origin Push)) → ℕ → ℕ → Turned → Type 0
-TurnAnswer config task trail before positions (Onward books) = ArePausedBy config task books.items trail positions × (before < positions)
+TurnAnswer config task trail before positions (Onward books) =
+    ArePausedBy config task books.items trail positions × (before < positions)
 TurnAnswer config task trail before positions (Found answer) = IsAnswer task config.limit answer
 TurnAnswer config task trail before positions Foreign = Unit {0}

@@ -20,13 +20,16 @@ danger_word U m = m.u
 -- a box that is pushed onto the square in the direction is loose there, unless the square is dead
 abbrev pub IsSpared : Board → Squares → Dir → ℕ → Type 0
 IsSpared board boxes d q =
-    (from : ℕ) → q ≡ next board from d → from < length board.cells → ¬ (IsDead board q) → IsLoose board (insert (remove boxes from) q) q
+    (from : ℕ) → q ≡ next board from d → from < length board.cells → ¬ (IsDead board q) →
+    IsLoose board (insert (remove boxes from) q) q
 
 -- where the word at a place has no bit for a direction, a box that is pushed there so is loose
 abbrev pub TellsDanger : Board → Squares → ℕ → Danger → Type 0
 TellsDanger board boxes place danger =
-    (d : Dir) (j : ℕ) → j < WORD_BITS → word_bit (danger_word d danger) j ≡ false → IsSpared board boxes d (WORD_BITS * place + j)
+    (d : Dir) (j : ℕ) → j < WORD_BITS → word_bit (danger_word d danger) j ≡ false →
+    IsSpared board boxes d (WORD_BITS * place + j)
 
 -- these are the dangers of the squares of the first words
 abbrev pub AreDangers : Board → Squares → List Danger → Type 0
-AreDangers board boxes words = (place : ℕ) (danger : Danger) → slice_get words place ≡ Some danger → TellsDanger board boxes place danger
+AreDangers board boxes words =
+    (place : ℕ) (danger : Danger) → slice_get words place ≡ Some danger → TellsDanger board boxes place danger

@@ -16,7 +16,8 @@ pub record HaveRoom (holds : Holds) (words : ℕ) : Type 0 where
 
 -- a box on the square is held on an axis: anyway, or by a member so many numbers after it or before it
 abbrev pub IsHeldBy : List ℕ → ℕ → Squares → ℕ → Type 0
-IsHeldBy fast by members q = (has_bit fast q ≡ true) ⊎ ((contains members (q + by) ≡ true) ⊎ ((p : ℕ) × (p + by ≡ q) × (contains members p ≡ true)))
+IsHeldBy fast by members q = (has_bit fast q ≡ true) ⊎
+    ((contains members (q + by) ≡ true) ⊎ ((p : ℕ) × (p + by ≡ q) × (contains members p ≡ true)))
 
 -- it is held on both axes
 abbrev pub IsHeldTwice : Holds → ℕ → Squares → ℕ → Type 0
@@ -52,17 +53,20 @@ IsGroup board boxes square group = (q : ℕ) → (contains group q ≡ true) ↔
 abbrev pub weight : List ℕ → ℕ
 weight words = sum_by (λ w. w) words
 
--- what a look at the word at a place does to a set: each of its members there that the set does not hold goes, and no other
+-- what a look at the word at a place does to a set: each of its members there that the set does not hold goes, and no
+-- other
 pub record IsLook (holds : Holds) (cols place : ℕ) (old new : List ℕ) (went : Bool) : Type 0 where
-  pub kept : (q : ℕ) → (has_bit new q ≡ true) ↔ ((has_bit old q ≡ true) × (q / WORD_BITS ≡ place → IsHeldTwice holds cols (squares_of old) q))
+  pub kept : (q : ℕ) → (has_bit new q ≡ true) ↔
+      ((has_bit old q ≡ true) × (q / WORD_BITS ≡ place → IsHeldTwice holds cols (squares_of old) q))
   pub less : went ≡ true → weight new < weight old
   pub same : went ≡ false → new ≡ old
 
--- what a pass over the words does to a set: no member comes, and no set of members that hold one another loses one; where
--- none went, all members hold one another
+-- what a pass over the words does to a set: no member comes, and no set of members that hold one another loses one;
+-- where none went, all members hold one another
 pub record IsPass (holds : Holds) (cols : ℕ) (old new : List ℕ) (went : Bool) : Type 0 where
   pub within : AreWithin (squares_of new) (squares_of old)
-  pub keeps : (others : Squares) → AreHeld holds cols others → AreWithin others (squares_of old) → AreWithin others (squares_of new)
+  pub keeps : (others : Squares) → AreHeld holds cols others → AreWithin others (squares_of old) →
+      AreWithin others (squares_of new)
   pub less : went ≡ true → weight new < weight old
   pub held : went ≡ false → AreHeld holds cols (squares_of new)
 

@@ -1,5 +1,6 @@
 -- How the distances of squares are found: from each goal backwards, by pulls, turn after turn.
-use Rattle.std.specs.Prelude.{◌≡◌, ◌↔◌, ◌⊎◌, ◌+◌, ◌<◌, ◌≤◌, ℕ, suc, Bool, true, false, cond, is_some, Option, Some, None, List, [], ◌∷◌, ◌++◌, length}
+use Rattle.std.specs.Prelude.{◌≡◌, ◌↔◌, ◌⊎◌, ◌+◌, ◌<◌, ◌≤◌, ℕ, suc, Bool, true, false, cond, is_some, Option, Some}
+use Rattle.std.specs.Prelude.{None, List, [], ◌∷◌, ◌++◌, length}
 use Rattle.std.specs.Prelude.{slice_index_or, slice_set}
 use Rattle.grid.specs.declared.dir.Dir.{Dir}
 use Rattle.grid.specs.Squares.{contains}
@@ -26,19 +27,22 @@ pub record AreDistances (board : Board) (far : List (Option ℕ)) : Type 0 where
   pub known : (q n : ℕ) → far_at far q ≡ Some n → IsFar board q n
   pub dead : (q : ℕ) → far_at far q ≡ None → IsDead board q
 
--- a box on the square can be pulled one square on: neither that square nor the one beyond, where the player goes, is a wall
+-- a box on the square can be pulled one square on: neither that square nor the one beyond, where the player goes, is
+-- a wall
 abbrev pub CanPull : Board → ℕ → Dir → Type 0
 CanPull board q d = (is_wall board (next board q d) ≡ false) × (is_wall board (next board (next board q d) d) ≡ false)
 
 -- where the square has no distance it gets k, and is put at the end of the list
 abbrev pub Marks : ℕ → ℕ → List (Option ℕ) → List ℕ → List (Option ℕ) → List ℕ → Type 0
 Marks k q far marked far' marked' =
-    (far' ≡ cond (is_some (far_at far q)) far (slice_set far q (Some k))) × (marked' ≡ cond (is_some (far_at far q)) marked (marked ++ q ∷ []))
+    (far' ≡ cond (is_some (far_at far q)) far (slice_set far q (Some k))) ×
+    (marked' ≡ cond (is_some (far_at far q)) marked (marked ++ q ∷ []))
 
 -- where a box can be pulled in the direction, the square that it comes to is marked; elsewhere nothing changes
 abbrev pub Pulls : Board → ℕ → ℕ → Dir → List (Option ℕ) → List ℕ → List (Option ℕ) → List ℕ → Type 0
 Pulls board k q d far marked far' marked' =
-    (CanPull board q d × Marks k (next board q d) far marked far' marked') ⊎ (¬ (CanPull board q d) × (far' ≡ far) × (marked' ≡ marked))
+    (CanPull board q d × Marks k (next board q d) far marked far' marked') ⊎
+    (¬ (CanPull board q d) × (far' ≡ far) × (marked' ≡ marked))
 
 -- so many pushes bring a lone box from the square to a goal
 abbrev pub HasWay : Board → ℕ → ℕ → Type 0
@@ -48,9 +52,11 @@ HasWay board q n = (way : Live board q) × (pushes_of way ≡ n)
 abbrev pub IsKnownWithin : List (Option ℕ) → ℕ → ℕ → Type 0
 IsKnownWithin far q m = (n : ℕ) × (far_at far q ≡ Some n) × (n ≤ m)
 
--- in turn k the goals that are asked for have distance 0, each known distance is that of a way and k at most, those due have
--- one less than k and those marked k; from each other square that is known a box was pulled in the directions that are due
-pub record IsSpread (board : Board) (Asked : ℕ → Type 0) (Due : ℕ → Dir → Type 0) (k : ℕ) (far : List (Option ℕ)) (due marked : List ℕ) : Type 0 where
+-- in turn k the goals that are asked for have distance 0, each known distance is that of a way and k at most, those
+-- due have one less than k and those marked k; from each other square that is known a box was pulled in the
+-- directions that are due
+pub record IsSpread (board : Board) (Asked : ℕ → Type 0) (Due : ℕ → Dir → Type 0) (k : ℕ) (far : List (Option ℕ))
+    (due marked : List ℕ) : Type 0 where
   pub size : length far ≡ length board.cells
   pub sound : (q n : ℕ) → far_at far q ≡ Some n → HasWay board q n
   pub goals : (q : ℕ) → Asked q → is_goal board q ≡ true → far_at far q ≡ Some 0
@@ -58,7 +64,8 @@ pub record IsSpread (board : Board) (Asked : ℕ → Type 0) (Due : ℕ → Dir 
   pub before : (q : ℕ) → contains due q ≡ true → (n : ℕ) × (far_at far q ≡ Some n) × (suc n ≡ k)
   pub last : (q : ℕ) → contains marked q ≡ true → far_at far q ≡ Some k
   pub closed : (q n : ℕ) → far_at far q ≡ Some n → (contains due q ≡ true) ⊎
-      ((contains marked q ≡ true) ⊎ ((d : Dir) → Due q d → CanPull board q d → IsKnownWithin far (next board q d) (suc n)))
+      ((contains marked q ≡ true) ⊎
+      ((d : Dir) → Due q d → CanPull board q d → IsKnownWithin far (next board q d) (suc n)))
 
 -- all goals, and pulls in all directions
 abbrev pub IsFilling : Board → ℕ → List (Option ℕ) → List ℕ → List ℕ → Type 0
@@ -80,7 +87,8 @@ unknown (Some n ∷ far) = unknown far
 unknown (None ∷ far) = suc (unknown far)
 
 -- after a turn nothing is due, and each square that was marked was unknown before
-pub record IsTurn (board : Board) (k : ℕ) (far : List (Option ℕ)) (marked : List ℕ) (far' : List (Option ℕ)) (due' marked' : List ℕ) : Type 0 where
+pub record IsTurn (board : Board) (k : ℕ) (far : List (Option ℕ)) (marked : List ℕ) (far' : List (Option ℕ))
+    (due' marked' : List ℕ) : Type 0 where
   pub filling : IsFilling board k far' [] marked'
   pub none : due' ≡ []
   pub count : length marked' + unknown far' ≤ length marked + unknown far

@@ -13,7 +13,8 @@ around_of board q = record { d = next board q D; l = next board q L; r = next bo
 abbrev pub AreAround : Board → List Around → Type 0
 AreAround board around = (q : ℕ) (e : Around) → q < length board.cells → slice_index_or around q e ≡ around_of board q
 
--- the square next to q in a direction where that is no wall, and else q itself: where a step of the player ends, boxes ignored
+-- the square next to q in a direction where that is no wall, and else q itself: where a step of the player ends,
+-- boxes ignored
 abbrev pub way : Board → ℕ → Dir → ℕ
 way board q d = cond (is_wall board (next board q d)) q (next board q d)
 

@@ -1,5 +1,6 @@
 -- What happens to marks, and to the list of squares to look at, while an area is filled.
-use Rattle.std.specs.Prelude.{◌≡◌, ℕ, ◌+◌, ◌-◌, ◌*◌, ◌%◌, ◌<◌, ◌≤◌, Bool, true, false, not, List, length, count_by, slice_index_or, ◌⊎◌}
+use Rattle.std.specs.Prelude.{◌≡◌, ℕ, ◌+◌, ◌-◌, ◌*◌, ◌%◌, ◌<◌, ◌≤◌, Bool, true, false, not, List, length, count_by}
+use Rattle.std.specs.Prelude.{slice_index_or, ◌⊎◌}
 use Rattle.grid.specs.declared.cell.Cell.{Cell}
 use Rattle.grid.specs.declared.fault.LevelFault.{LevelFault}
 use Rattle.grid.specs.declared.fault.LevelFault.TheVariants.{Open, OutOfMemory}
@@ -43,7 +44,8 @@ work marks pending = length pending + 2 * count_by not marks
 -- q is no wall, and steps to the right over squares that are no wall lead to it from a pending one
 pub data Awaits (board : Board) (pending : List ℕ) : ℕ → Type 0 where
   listed : {q : ℕ} → contains pending q ≡ true → is_wall board q ≡ false → Awaits board pending q
-  along : {q : ℕ} → Awaits board pending q → is_wall board (next board q R) ≡ false → Awaits board pending (next board q R)
+  along : {q : ℕ} → Awaits board pending q → is_wall board (next board q R) ≡ false →
+      Awaits board pending (next board q R)
 
 -- the room half filled, by runs, while the marks of one run end before a place: a step from a marked square leads to a
 -- marked square or to one that awaits its mark, and a step to the right to a marked square or to that place
@@ -52,7 +54,8 @@ pub record IsRunning (board : Board) (marks : List Bool) (pending : List ℕ) (p
   pub start : IsMarked marks (start_player board) ⊎ Awaits board pending (start_player board)
   pub inside : (q : ℕ) → IsMarked marks q → InRoom board q
   pub waits : (q : ℕ) → contains pending q ≡ true → is_wall board q ≡ false → InRoom board q
-  pub whole : (q : ℕ) → IsMarked marks q → is_wall board (next board q R) ≡ false → IsMarked marks (next board q R) ⊎ (next board q R ≡ place)
+  pub whole : (q : ℕ) → IsMarked marks q → is_wall board (next board q R) ≡ false → IsMarked marks (next board q R) ⊎
+      (next board q R ≡ place)
   pub closed : (q : ℕ) (d : Dir) → IsMarked marks q → is_wall board (next board q d) ≡ false
       → IsMarked marks (next board q d) ⊎ Awaits board pending (next board q d)
   pub inner : (q : ℕ) (d : Dir) → IsMarked marks q → ¬ (next board q d ≡ length board.cells)
@@ -61,9 +64,10 @@ pub record IsRunning (board : Board) (marks : List Bool) (pending : List ℕ) (p
 abbrev pub IsFilling : Board → List Bool → List ℕ → Type 0
 IsFilling board marks pending = IsRunning board marks pending (length board.cells)
 
--- a square was looked at: it is fresh if it is no wall and has no mark, and then it is pending, unless the square before
--- it was fresh too
-pub record Seeds (board : Board) (marks : List Bool) (pending : List ℕ) (q : ℕ) (before : Bool) (later : List ℕ) (fresh : Bool) : Type 0 where
+-- a square was looked at: it is fresh if it is no wall and has no mark, and then it is pending, unless the square
+-- before it was fresh too
+pub record Seeds (board : Board) (marks : List Bool) (pending : List ℕ) (q : ℕ) (before : Bool) (later : List ℕ)
+    (fresh : Bool) : Type 0 where
   pub floor : fresh ≡ true → is_wall board q ≡ false
   pub marked : fresh ≡ false → is_wall board q ≡ false → IsMarked marks q
   pub begun : fresh ≡ true → before ≡ false → contains later q ≡ true

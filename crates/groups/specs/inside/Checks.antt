@@ -10,7 +10,8 @@ use Rattle.groups.specs.Tables.{Listed, excess_by}
 
 -- of the first numbers each that is less than `NEVER` is, with what is wasted, greater than the other by at most one
 abbrev pub AreWithin : List ℕ → List ℕ → ℕ → ℕ → Type 0
-AreWithin xs ys count waste = (i : ℕ) → i < count → slice_index_or xs i 0 < NEVER → slice_index_or xs i 0 + waste ≤ suc (slice_index_or ys i 0)
+AreWithin xs ys count waste =
+    (i : ℕ) → i < count → slice_index_or xs i 0 < NEVER → slice_index_or xs i 0 + waste ≤ suc (slice_index_or ys i 0)
 
 -- a push of a box on q in the direction wastes so many pushes, whichever goal it is for
 abbrev pub IsWaste : Board → (ℕ → ℕ → ℕ → ℕ) → ℕ → Dir → ℕ → Type 0

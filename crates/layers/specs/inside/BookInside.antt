@@ -1,5 +1,6 @@
 -- What contracts see of a book's fields, and what is true of them.
-use Rattle.std.specs.Prelude.{◌≡◌, ℕ, suc, ◌<◌, ◌≤◌, List, [], ◌∷◌, take, drop, length, slice_get, Option, Some, None, ◌⊎◌}
+use Rattle.std.specs.Prelude.{◌≡◌, ℕ, suc, ◌<◌, ◌≤◌, List, [], ◌∷◌, take, drop, length, slice_get, Option, Some, None}
+use Rattle.std.specs.Prelude.{◌⊎◌}
 use Rattle.std.specs.Arc.{arc_value}
 use Rattle.grid.specs.Board.{Scene, start}
 use Rattle.grid.specs.Lawful.{box_count}
@@ -38,7 +39,8 @@ book_view a = record {
 -- the first position of a level: the start's normal position, or none where the start is doomed or not admitted
 abbrev pub IsFirst : Task → Option Scene → Type 0
 IsFirst task None = Doomed task.board (start task.board).boxes ⊎ ¬ (Admits task 0 (start task.board))
-IsFirst task (Some m) = Undoomed task.board (start task.board) × IsNorm task.board (start task.board) m × FitsLevel task.board m × Admits task 0 m
+IsFirst task (Some m) = Undoomed task.board (start task.board) × IsNorm task.board (start task.board) m ×
+    FitsLevel task.board m × Admits task 0 m
 
 -- the places at which a list is cut: the first one is its beginning, and they do not fall
 pub record AreCuts (starts : List ℕ) (len : ℕ) : Type 0 where
@@ -48,13 +50,15 @@ pub record AreCuts (starts : List ℕ) (len : ℕ) : Type 0 where
 
 -- the piece k begins at p and goes up to q, where the next one begins or the list ends
 abbrev pub IsPiece : List ℕ → ℕ → ℕ → ℕ → ℕ → Type 0
-IsPiece starts len k p q = (slice_get starts k ≡ Some p) × ((slice_get starts (suc k) ≡ Some q) ⊎ ((slice_get starts (suc k) ≡ None) × (q ≡ len)))
+IsPiece starts len k p q = (slice_get starts k ≡ Some p) ×
+    ((slice_get starts (suc k) ≡ Some q) ⊎ ((slice_get starts (suc k) ≡ None) × (q ≡ len)))
 
--- a book's fields show a lawful book, of as many boxes as there may be; keys are made for its boxes and its squares; each closed layer is a
--- piece of what was seen, and all ranks before the next one to look at are taken
+-- a book's fields show a lawful book, of as many boxes as there may be; keys are made for its boxes and its squares;
+-- each closed layer is a piece of what was seen, and all ranks before the next one to look at are taken
 pub record IsSoundBook (a : Inside) : Type 0 where
   pub lawful : IsLawfulBook (book_view a)
   pub few : box_count (arc_value a.problem).board ≤ MAX_BOXES
-  pub boxes : (a.found.boxes ≡ box_count (arc_value a.problem).board) × (a.found.squares ≡ length (arc_value a.problem).board.cells)
+  pub boxes : (a.found.boxes ≡ box_count (arc_value a.problem).board) ×
+      (a.found.squares ≡ length (arc_value a.problem).board.cells)
   pub cuts : AreCuts a.starts.items (length a.found.seen)
   pub taken : (r : ℕ) → r < a.next → IsTaken (book_view a) r

@@ -10,7 +10,8 @@ use Rattle.layers.specs.LayerView.{LayerView, IsWhole}
 -- so many positions of so many boxes, read from their squares
 abbrev pub scenes_of : ℕ → ℕ → List ℕ → List Scene
 scenes_of boxes zero xs = []
-scenes_of boxes (suc count) xs = record { boxes = take boxes xs; player = slice_index_or xs boxes 0 } ∷ scenes_of boxes count (drop (suc boxes) xs)
+scenes_of boxes (suc count) xs =
+    record { boxes = take boxes xs; player = slice_index_or xs boxes 0 } ∷ scenes_of boxes count (drop (suc boxes) xs)
 
 abbrev pub layer_view : LayerInside → LayerView
 layer_view a = record {

@@ -1,5 +1,6 @@
 -- Lists that are merged by their origins: again and again the least first entry of all is taken.
-use Rattle.std.specs.Prelude.{◌≡◌, ◌⊎◌, ℕ, false, List, [], ◌∷◌, ◌++◌, drop, length, slice_get, slice_set, Option, Some, None, IfSome}
+use Rattle.std.specs.Prelude.{◌≡◌, ◌⊎◌, ℕ, false, List, [], ◌∷◌, ◌++◌, drop, length, slice_get, slice_set, Option, Some}
+use Rattle.std.specs.Prelude.{None, IfSome}
 use Rattle.std.specs.Ordering.{is_gt}
 use Rattle.grid.specs.declared.square.Push.{Push}
 use Rattle.grid.specs.Board.{push_cmp}
@@ -28,7 +29,8 @@ HasLeastFirst rests s = (e : Closed) × (rest : List Closed) × IsLeastFirst res
 -- the entries were taken from the lists, one after the other, each the least first one, and the rests are left
 pub data Takes (lists : List (List Closed)) : List Closed → List (List Closed) → Type 0 where
   nothing : Takes lists [] lists
-  one : {taken : List Closed} {rests : List (List Closed)} {s : ℕ} {e : Closed} {rest : List Closed} → Takes lists taken rests → IsLeastFirst rests s e rest →
+  one : {taken : List Closed} {rests : List (List Closed)} {s : ℕ} {e : Closed} {rest : List Closed} →
+      Takes lists taken rests → IsLeastFirst rests s e rest →
       Takes lists (taken ++ e ∷ []) (slice_set rests s rest)
 
 -- the entries are the lists merged: so they were taken, and nothing is left
@@ -36,7 +38,8 @@ abbrev pub IsMerged : List (List Closed) → List Closed → Type 0
 IsMerged lists es = (rests : List (List Closed)) × Takes lists es rests × (total rests ≡ 0)
 
 -- the squares and the origins are those of the lists merged, in so many entries
-pub record AreMerged (lists : List (List Closed)) (count : ℕ) (squares : List ℕ) (origins : List (Origin Push)) : Type 0 where
+pub record AreMerged (lists : List (List Closed)) (count : ℕ) (squares : List ℕ) (origins : List (Origin Push)) : Type
+    0 where
   pub entries : List Closed
   pub merged : IsMerged lists entries
   pub counted : count ≡ length entries
@@ -49,8 +52,8 @@ left_of [] ns = []
 left_of (v ∷ vs) [] = last_list v ∷ left_of vs []
 left_of (v ∷ vs) (n ∷ ns) = drop n (last_list v) ∷ left_of vs ns
 
--- the squares and the origins are those of entries that were taken from the last closed lists, of which so many had been taken
--- before, and so many of each were after that
+-- the squares and the origins are those of entries that were taken from the last closed lists, of which so many had
+-- been taken before, and so many of each were after that
 pub record AreTaken (books : List BookView) (starts ends squares : List ℕ) (origins : List (Origin Push)) : Type 0 where
   pub entries : List Closed
   pub taken : Takes (left_of books starts) entries (left_of books ends)
@@ -69,4 +72,5 @@ IsKeptOrTaken before after = (after ≡ before) ⊎ (after ≡ record before { m
 abbrev pub AreKeptOrTaken : List Stretch → List Stretch → Type 0
 AreKeptOrTaken before after =
     (length after ≡ length before)
-    × ((i : ℕ) (s : Stretch) → slice_get before i ≡ Some s → (t : Stretch) × (slice_get after i ≡ Some t) × IsKeptOrTaken s t)
+    × ((i : ℕ) (s : Stretch) → slice_get before i ≡ Some s → (t : Stretch) × (slice_get after i ≡ Some t) ×
+    IsKeptOrTaken s t)

@@ -54,8 +54,8 @@ const CLAIMED: &[Event] = &[
     Event::Claims(Some(Claim { layer: 0, rank: 0 })),
 ];
 
-/// Parcels come before the layer has begun, of another layer, unclaimed, twice, and of another level; a layer is begun twice, and
-/// closed too early.
+/// Parcels come before the layer has begun, of another layer, unclaimed, twice, and of another level; a layer is
+/// begun twice, and closed too early.
 const STRANGE: &[Event] = &[
     Event::Takes(Origin::Last, 0, 0, Err(Refusal::NoSuchRank)),
     Event::Takes(Origin::First, 0, 0, Err(Refusal::OtherLayer)),
@@ -143,7 +143,8 @@ fn check_next(
     check_events(rt, alloc, book, [&last, first, foreign], events);
 }
 
-// Checks what a book answers to each of these events in turn: its last layer, layer 0, and that of another level are given.
+// Checks what a book answers to each of these events in turn: its last layer, layer 0, and that of another level are
+// given.
 fn check_events(
     rt: &impl Abort,
     alloc: Global,

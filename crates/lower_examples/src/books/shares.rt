@@ -59,8 +59,8 @@ fn joined(rt: &impl Abort, alloc: Global, books: &[Book]) -> Layer {
     Layer::join(alloc, books).expect(rt, "a layer")
 }
 
-// A way to come to the layers of a level: the number of shares that its positions are dealt to, and whether parcels come from
-// the last rank on.
+// A way to come to the layers of a level: the number of shares that its positions are dealt to, and whether parcels
+// come from the last rank on.
 type Way = (u8, bool);
 
 // Checks the layers of a level.

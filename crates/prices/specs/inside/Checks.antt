@@ -41,7 +41,8 @@ pub record AreWithinOne (xs ys : List ℕ) : Type 0 where
 -- a push from the player's square lessens each distance of the box by one at most, and leaves one of `NEVER` so
 abbrev pub LessensByOne : Board → Table → ℕ → Dir → Type 0
 LessensByOne board t p d = let q = next board p d in let r = next board q d in
-    is_wall board p ≡ false → is_wall board q ≡ false → is_wall board r ≡ false → AreWithinOne (row_in t q p) (row_in t r q)
+    is_wall board p ≡ false → is_wall board q ≡ false → is_wall board r ≡ false →
+    AreWithinOne (row_in t q p) (row_in t r q)
 
 -- so does each push
 abbrev pub LessenByOne : Board → Table → Type 0

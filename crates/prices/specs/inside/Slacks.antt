@@ -14,11 +14,12 @@ slack_view a = record { board = a.level.now; scene = a.position.now; left = a.le
 abbrev pub tolls_of : Inside → List ℕ
 tolls_of a = take (length a.table.now.goals.items) (drop 0 a.tolls)
 
--- the table is the level's, and under a cap the pushes that are left with the tolls are no more than what is spare and what
--- the boxes need
+-- the table is the level's, and under a cap the pushes that are left with the tolls are no more than what is spare
+-- and what the boxes need
 pub record IsSlack (a : Inside) : Type 0 where
   pub scene : IsScene a.level.now a.position.now
   pub far : AreFar a.level.now (far_in a.table.now)
   pub goals : a.table.now.goals.items ≡ goals_of a.level.now
   pub spare : (left : ℕ) → a.left ≡ Some left → length (tolls_of a) ≡ length a.table.now.goals.items →
-      suc left + total (tolls_of a) ≤ a.spare + sum_over (λ b. need_seen a.table.now (tolls_of a) b a.position.now.player) a.position.now.boxes
+      suc left + total (tolls_of a) ≤ a.spare +
+      sum_over (λ b. need_seen a.table.now (tolls_of a) b a.position.now.player) a.position.now.boxes

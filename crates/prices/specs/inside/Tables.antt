@@ -1,5 +1,6 @@
 -- What the table of distances says.
-use Rattle.std.specs.Prelude.{◌==◌, ◌&&◌, ℕ, suc, Bool, cond, nat_le, nat_lt, List, [], ◌∷◌, length, slice_index_or, take, drop}
+use Rattle.std.specs.Prelude.{◌==◌, ◌&&◌, ℕ, suc, Bool, cond, nat_le, nat_lt, List, [], ◌∷◌, length, slice_index_or}
+use Rattle.std.specs.Prelude.{take, drop}
 use Rattle.prices.specs.declared.table.Side.{Side}
 use Rattle.prices.specs.declared.table.Spot.{Spot}
 use Rattle.prices.specs.declared.table.Table.{Table}

@@ -1,5 +1,6 @@
 -- What the calls of a search ask for and tell, each under one name.
-use Rattle.std.specs.Prelude.{◌≡◌, ℕ, zero, suc, ◌+◌, ◌*◌, ◌-◌, ◌≤◌, ◌<◌, ◌⊎◌, Bool, true, IsTrue, List, [], ◌∷◌, ◌++◌, length, slice_get, slice_set, ◌^◌}
+use Rattle.std.specs.Prelude.{◌≡◌, ℕ, zero, suc, ◌+◌, ◌*◌, ◌-◌, ◌≤◌, ◌<◌, ◌⊎◌, Bool, true, IsTrue, List, [], ◌∷◌, ◌++◌}
+use Rattle.std.specs.Prelude.{length, slice_get, slice_set, ◌^◌}
 use Rattle.std.specs.Prelude.{Option, None, Some}
 use Rattle.std.specs.List.{Contains}
 use Rattle.grid.specs.declared.dir.Dir.{Dir}
@@ -30,7 +31,8 @@ pub record IsFirst (tickets : List Ticket) (t : Ticket) : Type 0 where
 
 -- each open position waits
 abbrev pub IsQueued : List Entry → List Ticket → Type 0
-IsQueued all tickets = (i : ℕ) (x : Entry) (least : ℕ) → slice_get all i ≡ Some x → x.least ≡ Some least → Waits tickets least i
+IsQueued all tickets =
+    (i : ℕ) (x : Entry) (least : ℕ) → slice_get all i ≡ Some x → x.least ≡ Some least → Waits tickets least i
 
 -- ---- how what was found changes
 
@@ -58,7 +60,8 @@ abbrev pub openness : Option ℕ → ℕ
 openness None = 0
 openness (Some least) = 1
 
--- how often the positions that were found can be opened and closed again at most, where each new opening is one with fewer pushes
+-- how often the positions that were found can be opened and closed again at most, where each new opening is one with
+-- fewer pushes
 abbrev pub turns : List Entry → ℕ
 turns [] = 0
 turns (x ∷ all) = 2 * x.pushes + openness x.least + turns all
@@ -91,7 +94,8 @@ IsAtPlace all place s k = (x : Entry) × (slice_get all place ≡ Some x) × (x.
 
 -- the position at the place is open with this least total, and not solved
 abbrev pub IsUnsolvedOpen : Board → List Entry → ℕ → ℕ → Type 0
-IsUnsolvedOpen board all place least = (x : Entry) × (slice_get all place ≡ Some x) × (x.least ≡ Some least) × ¬ (IsSolved board x.position)
+IsUnsolvedOpen board all place least =
+    (x : Entry) × (slice_get all place ≡ Some x) × (x.least ≡ Some least) × ¬ (IsSolved board x.position)
 
 -- the position is closed at the place, and nothing else changes
 abbrev pub IsClosedAt : List Entry → ℕ → List Entry → Type 0
@@ -106,7 +110,8 @@ pub record IsExpanding (board : Board) (cap : Option ℕ) (v : VisitedView) (fro
   pub bound : IsBound board from.pushes from.position from.least
   pub few : suc from.pushes < 2 ^ 32
 
--- an expansion of a position with k pushes has gone on: each position keeps its place, and only entries with more pushes change
+-- an expansion of a position with k pushes has gone on: each position keeps its place, and only entries with more
+-- pushes change
 pub record Widens (board : Board) (cap : Option ℕ) (k : ℕ) (old new : VisitedView) : Type 0 where
   pub searched : IsSearched board cap new
   pub still : KeepPlaces old.entries new.entries
@@ -117,8 +122,8 @@ pub record Widens (board : Board) (cap : Option ℕ) (k : ℕ) (old new : Visite
 abbrev pub Expands : Board → Option ℕ → List Entry → ℕ → Scene → Type 0
 Expands board cap all k s = (most : ℕ) → Allows cap most → Keeps board most (IsFound all (suc k)) k s
 
--- a push after k pushes is done with: where a play that the cap allows goes on with it and ends solved, some position was found from
--- which one ends solved with no more pushes
+-- a push after k pushes is done with: where a play that the cap allows goes on with it and ends solved, some position
+-- was found from which one ends solved with no more pushes
 abbrev pub IsTaken : Board → Option ℕ → List Entry → ℕ → Scene → Push → Type 0
 IsTaken board cap all k s p = (m : ℕ) → Allows cap (k + suc m) → SolvableWithin board m (after_push board s p) →
     (t : Scene) × IsFound all (suc k) t × SolvableWithin board m t
@@ -129,7 +134,8 @@ IsChosen only held p = IsTrue only → has_bit held p.square ≡ true
 
 -- of the first pushes, those that are to be tried are done with
 abbrev pub AreTaken : Board → Option ℕ → List Entry → (Push → Type 0) → ℕ → Scene → List Push → ℕ → Type 0
-AreTaken board cap all Tried k s pushes count = (i : ℕ) (p : Push) → i < count → slice_get pushes i ≡ Some p → Tried p → IsTaken board cap all k s p
+AreTaken board cap all Tried k s pushes count =
+    (i : ℕ) (p : Push) → i < count → slice_get pushes i ≡ Some p → Tried p → IsTaken board cap all k s p
 
 -- ---- reading back
 
@@ -139,7 +145,8 @@ AreLeading board ps n = (ds : List Dir) × (s : Scene) × Play board Any (start 
 
 -- each position that was found comes from its parent, or is the start
 abbrev pub AreTraced : Board → List Entry → Type 0
-AreTraced board all = (i : ℕ) (x : Entry) → slice_get all i ≡ Some x → FitsLevel board x.position × ComesFrom board all x x.parent
+AreTraced board all =
+    (i : ℕ) (x : Entry) → slice_get all i ≡ Some x → FitsLevel board x.position × ComesFrom board all x x.parent
 
 -- with how many pushes the position at the place was found
 abbrev pub pushes_at : List Entry → ℕ → ℕ
@@ -147,7 +154,8 @@ pushes_at [] place = 0
 pushes_at (x ∷ all) zero = x.pushes
 pushes_at (x ∷ all) (suc place) = pushes_at all place
 
--- the pushes that were read back lead from one position to another, and are no more than what the second has above the first
+-- the pushes that were read back lead from one position to another, and are no more than what the second has above
+-- the first
 pub record AreReadBack (board : Board) (from to : Entry) (late : List Push) : Type 0 where
   pub leading : (ps : List Push) → AreLeading board ps from.position → AreLeading board (ps ++ late) to.position
   pub few : length late + from.pushes ≤ to.pushes

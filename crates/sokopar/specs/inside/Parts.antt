@@ -16,7 +16,8 @@ is_good listed = is_ok listed.board
 -- how a lawful level is told: its rows, columns and boxes
 abbrev pub level_words : Board → List ℕ
 level_words board =
-    codes "ok " ++ decimal (row_count board) ++ codes "x" ++ decimal board.cols ++ codes " " ++ decimal (box_count board) ++ codes " boxes"
+    codes "ok " ++ decimal (row_count board) ++ codes "x" ++ decimal board.cols ++ codes " " ++ decimal
+    (box_count board) ++ codes " boxes"
 
 -- that a limit of positions was reached
 abbrev pub limit_words : ℕ → List ℕ
@@ -24,7 +25,8 @@ limit_words limit = codes "limit " ++ decimal limit ++ codes " reached"
 
 -- the report that no play solves a level within a cap
 abbrev pub none_within : Option ℕ → ℕ → Report
-none_within cap positions = one_line (codes "none within " ++ cap_words cap ++ codes " pushes" ++ positions_words positions) 1
+none_within cap positions =
+    one_line (codes "none within " ++ cap_words cap ++ codes " pushes" ++ positions_words positions) 1
 
 -- the report of the dead squares of level n of a listing
 abbrev pub MapsOn : ℕ → Option (Result Board LevelFault) → Report → Type 0

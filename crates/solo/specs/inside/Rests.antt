@@ -13,18 +13,24 @@ MayBeClosed before after = (after ≡ before) ⊎ WorkAnswer before Through afte
 -- so is each of several books
 abbrev pub MayBeClosedEach : List BookView → List BookView → Type 0
 MayBeClosedEach before after =
-    (length after ≡ length before) × ((i : ℕ) (v : BookView) → slice_get before i ≡ Some v → (w : BookView) × (slice_get after i ≡ Some w) × MayBeClosed v w)
+    (length after ≡ length before) ×
+    ((i : ℕ) (v : BookView) → slice_get before i ≡ Some v → (w : BookView) × (slice_get after i ≡ Some w) ×
+    MayBeClosed v w)
 
 -- how the last ranks of a layer leave a book that may have closed the next one ahead: if it has, as it was
 abbrev pub RestAnswer : BookView → Worked → BookView → Type 0
-RestAnswer before worked after = MatchBool before.begun (WorkAnswer before worked after) ((worked ≡ Through) × (after ≡ before))
+RestAnswer before worked after =
+    MatchBool before.begun (WorkAnswer before worked after) ((worked ≡ Through) × (after ≡ before))
 
 -- the book at a place was left so
 abbrev pub IsRestLeft : List BookView → Worked → List BookView → ℕ → BookView → Type 0
-IsRestLeft before worked after i v = (w : BookView) × (slice_get after i ≡ Some w) × RestAnswer v worked w × IsLawfulBook w
+IsRestLeft before worked after i v =
+    (w : BookView) × (slice_get after i ≡ Some w) × RestAnswer v worked w × IsLawfulBook w
 
 -- how they leave several such books
 abbrev pub RestAnswers : List BookView → Worked → List BookView → Type 0
 RestAnswers before Through after =
-    (length after ≡ length before) × ((i : ℕ) (v : BookView) → slice_get before i ≡ Some v → IsRestLeft before Through after i v)
-RestAnswers before Over after = (i : ℕ) × (v : BookView) × (slice_get before i ≡ Some v) × IsRestLeft before Over after i v
+    (length after ≡ length before) ×
+    ((i : ℕ) (v : BookView) → slice_get before i ≡ Some v → IsRestLeft before Through after i v)
+RestAnswers before Over after =
+    (i : ℕ) × (v : BookView) × (slice_get before i ≡ Some v) × IsRestLeft before Over after i v

@@ -21,7 +21,8 @@ places_of layers = map (λ layer. layer.places) layers
 
 -- the first layers of the level, and for each the origins of its positions
 pub record AreTrailed (task : Task) (layers : List LayerView) (trail : List (List (Origin Push))) : Type 0 where
-  pub each : (j : ℕ) (layer : LayerView) → slice_get layers j ≡ Some layer → (layer.level ≡ task) × (layer.number ≡ j) × IsWhole layer
+  pub each : (j : ℕ) (layer : LayerView) → slice_get layers j ≡ Some layer → (layer.level ≡ task) ×
+      (layer.number ≡ j) × IsWhole layer
   pub shown : map (λ layer. layer.origins) layers ≡ trail
 
 -- the layer comes next after those whose origins are kept
@@ -46,9 +47,10 @@ pub record IsLookedAt (task : Task) (limit : ℕ) (trail : List (List (Origin Pu
   pub count : positions ≡ total (places_of layers)
   pub within : positions ≤ limit
 
--- the layer was looked at after those whose origins are kept: it is not empty, no longer than the limit, and its positions are
--- counted
-pub record IsCounted (limit : ℕ) (trail : List (List (Origin Push))) (layer : LayerView) (before positions : ℕ) : Type 0 where
+-- the layer was looked at after those whose origins are kept: it is not empty, no longer than the limit, and its
+-- positions are counted
+pub record IsCounted (limit : ℕ) (trail : List (List (Origin Push))) (layer : LayerView) (before positions : ℕ) : Type
+    0 where
   pub looked : IsLookedAt layer.level limit (trail ++ layer.origins ∷ []) positions
   pub ranks : (0 < length layer.places) × (length layer.places ≤ limit)
   pub count : positions ≡ before + length layer.places

@@ -28,14 +28,17 @@ IsStill layer before after = AreMadeAlike before after × (after.closed ≡ befo
 -- so is each of several books
 abbrev pub AreStill : LayerView → List BookView → List BookView → Type 0
 AreStill layer before after =
-    (length after ≡ length before) × ((i : ℕ) (v : BookView) → slice_get before i ≡ Some v → (w : BookView) × (slice_get after i ≡ Some w) × IsStill layer v w)
+    (length after ≡ length before) ×
+    ((i : ℕ) (v : BookView) → slice_get before i ≡ Some v → (w : BookView) × (slice_get after i ≡ Some w) ×
+    IsStill layer v w)
 
 -- each rank of each of the books is done
 abbrev pub AreAllDone : List BookView → Type 0
 AreAllDone books = (i : ℕ) (v : BookView) → slice_get books i ≡ Some v → AllDone v
 
--- how the last ranks of a layer leave books: each has closed the next layer; or one of them is over its limit; or they are
--- still at work, and pass the limit together
+-- how the last ranks of a layer leave books: each has closed the next layer; or one of them is over its limit; or
+-- they are still at work, and pass the limit together
 abbrev pub AreFinished : ℕ → List BookView → LayerView → Worked → List BookView → Type 0
 AreFinished limit before layer Through after = WorkAnswers before Through after
-AreFinished limit before layer Over after = WorkAnswers before Over after ⊎ (AreStill layer before after × PassTogether limit after)
+AreFinished limit before layer Over after =
+    WorkAnswers before Over after ⊎ (AreStill layer before after × PassTogether limit after)

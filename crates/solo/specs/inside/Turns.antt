@@ -1,6 +1,7 @@
--- What a search keeps between two turns, each of which looks at the next layer and does its ranks, and what its books are
--- meanwhile: one for each share of the positions.
-use Rattle.std.specs.Prelude.{◌≡◌, ℕ, suc, ◌+◌, ◌<◌, ◌⊎◌, true, false, not, List, length, count_by, slice_get, slice_index_or, slice_set, Some}
+-- What a search keeps between two turns, each of which looks at the next layer and does its ranks, and what its books
+-- are meanwhile: one for each share of the positions.
+use Rattle.std.specs.Prelude.{◌≡◌, ℕ, suc, ◌+◌, ◌<◌, ◌⊎◌, true, false, not, List, length, count_by, slice_get}
+use Rattle.std.specs.Prelude.{slice_index_or, slice_set, Some}
 use Rattle.grid.specs.declared.square.Push.{Push}
 use Rattle.successors.specs.Tasks.{Task}
 use Rattle.layers.specs.LayerView.{LayerView}
@@ -17,7 +18,8 @@ use Rattle.solo.specs.declared.turn.Worked.TheVariants.{Through, Over}
 
 -- the book is a share of the level, made with this limit and for so many workers
 abbrev pub IsDealt : Task → ℕ → ℕ → ℕ → ℕ → BookView → Type 0
-IsDealt task limit workers shares share v = (v.level ≡ task) × (v.limit ≡ limit) × (v.workers ≡ workers) × (v.share ≡ share) × (v.shares ≡ shares)
+IsDealt task limit workers shares share v =
+    (v.level ≡ task) × (v.limit ≡ limit) × (v.workers ≡ workers) × (v.share ≡ share) × (v.shares ≡ shares)
 
 -- the books are all the shares of the level in order, made with this limit and for so many workers
 pub record AreDealt (task : Task) (limit workers shares : ℕ) (books : List BookView) : Type 0 where
@@ -26,7 +28,8 @@ pub record AreDealt (task : Task) (limit workers shares : ℕ) (books : List Boo
 
 -- each of the books has closed so many layers, and not begun the last of them
 abbrev pub ArePaused : ℕ → List BookView → Type 0
-ArePaused closed books = (i : ℕ) (v : BookView) → slice_get books i ≡ Some v → (v.begun ≡ false) × (length v.closed ≡ closed)
+ArePaused closed books =
+    (i : ℕ) (v : BookView) → slice_get books i ≡ Some v → (v.begun ≡ false) × (length v.closed ≡ closed)
 
 -- the book is at work on the layer, which it has closed last
 abbrev pub IsWorkingOn : LayerView → BookView → Type 0
@@ -38,34 +41,40 @@ AreWorkingOn layer books = (i : ℕ) (v : BookView) → slice_get books i ≡ So
 
 -- between two turns each of the books, which are all the shares, has closed one layer more than were looked at, and has
 -- not begun it
-pub record AreBetweenTurns (task : Task) (limit workers shares : ℕ) (books : List BookView) (trail : List (List (Origin Push))) (positions : ℕ) : Type 0 where
+pub record AreBetweenTurns (task : Task) (limit workers shares : ℕ) (books : List BookView)
+    (trail : List (List (Origin Push))) (positions : ℕ) : Type 0 where
   pub dealt : AreDealt task limit workers shares books
   pub paused : ArePaused (suc (length trail)) books
   pub looked : IsLookedAt task limit trail positions
 
 -- the search of one worker over one book goes on: between two turns, with more positions counted
 abbrev pub GoesOn : Task → ℕ → List BookView → List (List (Origin Push)) → ℕ → ℕ → Type 0
-GoesOn task limit books trail before positions = AreBetweenTurns task limit 1 1 books trail positions × (before < positions)
+GoesOn task limit books trail before positions =
+    AreBetweenTurns task limit 1 1 books trail positions × (before < positions)
 
 -- ---- a layer begins
 
 -- each of the books has begun so many ranks
 abbrev pub HaveBegun : List BookView → ℕ → List BookView → Type 0
 HaveBegun before ranks after =
-    (length after ≡ length before) × ((i : ℕ) (v : BookView) → slice_get before i ≡ Some v → slice_get after i ≡ Some (with_begun v ranks))
+    (length after ≡ length before) ×
+    ((i : ℕ) (v : BookView) → slice_get before i ≡ Some v → slice_get after i ≡ Some (with_begun v ranks))
 
 -- each of the books is as it was, or has begun so many ranks
 abbrev pub MayHaveBegun : List BookView → ℕ → List BookView → Type 0
 MayHaveBegun before ranks after =
     (length after ≡ length before)
-    × ((i : ℕ) (v : BookView) → slice_get before i ≡ Some v → (slice_get after i ≡ Some v) ⊎ (slice_get after i ≡ Some (with_begun v ranks)))
+    × ((i : ℕ) (v : BookView) → slice_get before i ≡ Some v → (slice_get after i ≡ Some v) ⊎
+    (slice_get after i ≡ Some (with_begun v ranks)))
 
 -- ---- the ranks of a layer are done
 
 -- how the last ranks of a layer leave a book: it has closed the next layer, and not begun it; or it is over its limit
 abbrev pub WorkAnswer : BookView → Worked → BookView → Type 0
-WorkAnswer before Through after = AreMadeAlike before after × (after.begun ≡ false) × (length after.closed ≡ suc (length before.closed))
-WorkAnswer before Over after = AreMadeAlike before after × (after.over ≡ true) × (length after.closed ≡ length before.closed)
+WorkAnswer before Through after =
+    AreMadeAlike before after × (after.begun ≡ false) × (length after.closed ≡ suc (length before.closed))
+WorkAnswer before Over after =
+    AreMadeAlike before after × (after.over ≡ true) × (length after.closed ≡ length before.closed)
 
 -- the book at a place was left so
 abbrev pub IsLeft : List BookView → Worked → List BookView → ℕ → BookView → Type 0
@@ -74,13 +83,15 @@ IsLeft before worked after i v = (w : BookView) × (slice_get after i ≡ Some w
 -- how they leave several books: each has closed the next layer; or one of them is over its limit
 abbrev pub WorkAnswers : List BookView → Worked → List BookView → Type 0
 WorkAnswers before Through after =
-    (length after ≡ length before) × ((i : ℕ) (v : BookView) → slice_get before i ≡ Some v → IsLeft before Through after i v)
+    (length after ≡ length before) ×
+    ((i : ℕ) (v : BookView) → slice_get before i ≡ Some v → IsLeft before Through after i v)
 WorkAnswers before Over after = (i : ℕ) × (v : BookView) × (slice_get before i ≡ Some v) × IsLeft before Over after i v
 
 -- all the shares were at work on the layer, and this is how its last ranks left them
 abbrev pub AreWorked : Task → ℕ → ℕ → ℕ → LayerView → Worked → List BookView → Type 0
 AreWorked task limit workers shares layer worked after =
-    (before : List BookView) × AreDealt task limit workers shares before × AreWorkingOn layer before × WorkAnswers before worked after
+    (before : List BookView) × AreDealt task limit workers shares before × AreWorkingOn layer before ×
+    WorkAnswers before worked after
 
 -- the book is at work on the layer, and was made as it was before, with the same closed layers
 pub record IsStillAt (before : BookView) (layer : LayerView) (book : BookView) : Type 0 where
@@ -106,12 +117,14 @@ left_ranks v = count_by not v.done
 
 -- the worker has handed back so many ranks more, and no other worker any
 abbrev pub IsCredited : ℕ → ℕ → BookView → BookView → Type 0
-IsCredited worker ranks before after = after.tallies ≡ slice_set before.tallies worker (slice_index_or before.tallies worker 0 + ranks)
+IsCredited worker ranks before after =
+    after.tallies ≡ slice_set before.tallies worker (slice_index_or before.tallies worker 0 + ranks)
 
--- the worker alone is credited with what was done meanwhile: as many ranks as there are fewer left. A book that has closed the next layer has
--- none left
+-- the worker alone is credited with what was done meanwhile: as many ranks as there are fewer left. A book that has
+-- closed the next layer has none left
 abbrev pub IsDoneBy : ℕ → BookView → BookView → Type 0
-IsDoneBy worker before after = (ranks : ℕ) × (left_ranks before ≡ left_ranks after + ranks) × IsCredited worker ranks before after
+IsDoneBy worker before after =
+    (ranks : ℕ) × (left_ranks before ≡ left_ranks after + ranks) × IsCredited worker ranks before after
 
 -- so it is with each of several books
 abbrev pub AreDoneBy : ℕ → List BookView → List BookView → Type 0

@@ -1,5 +1,6 @@
 -- The bytes of a key: the low ones of its squares in one row, and the high ones in another where there are any.
-use Rattle.std.specs.Prelude.{◌≡◌, ℕ, zero, suc, ◌+◌, ◌*◌, ◌/◌, ◌%◌, ◌<◌, ◌≤◌, ◌==◌, ◌⊎◌, IsTrue, true, List, [], ◌∷◌, map, nat_eq, take, length}
+use Rattle.std.specs.Prelude.{◌≡◌, ℕ, zero, suc, ◌+◌, ◌*◌, ◌/◌, ◌%◌, ◌<◌, ◌≤◌, ◌==◌, ◌⊎◌, IsTrue, true, List, [], ◌∷◌}
+use Rattle.std.specs.Prelude.{map, nat_eq, take, length}
 use Rattle.std.specs.Prelude.{slice_get, slice_index_or, Some, fold}
 use Rattle.std.specs.Cmp.{first_so, second_so, unsigned_Decides}
 use Rattle.std.specs.Cmp.Lexicographic.{pointwise, bytes_decides}
@@ -51,7 +52,8 @@ pub record IsKey (n k count : ℕ) (low high : List ℕ) : Type 0 where
   pub low_is : low ≡ padded n (low_bytes (key_squares (key_scene count low high)))
   pub high_is : high ≡ padded k (high_bytes (key_squares (key_scene count low high)))
 
--- a position has a key with rows of so many bytes: it has fewer boxes, and where there are no high bytes its squares need none
+-- a position has a key with rows of so many bytes: it has fewer boxes, and where there are no high bytes its squares
+-- need none
 pub record Suits (n k : ℕ) (m : Scene) : Type 0 where
   pub room : length m.boxes < n
   pub bytes : (k ≡ n) ⊎ ((k ≡ 0) × AreBelow 256 (key_squares m))
@@ -79,13 +81,16 @@ key_digest n k m = folding.finish (fold folding.write folding.initial (key_write
 
 -- the numbers of the keys of offers
 abbrev pub AreDigests : ℕ → ℕ → List (Entry Scene Push) → List ℕ → Type 0
-AreDigests n k offers digests = (i : ℕ) (o : Entry Scene Push) → slice_get offers i ≡ Some o → slice_index_or digests i 0 ≡ key_digest n k o.0
+AreDigests n k offers digests =
+    (i : ℕ) (o : Entry Scene Push) → slice_get offers i ≡ Some o → slice_index_or digests i 0 ≡ key_digest n k o.0
 
 -- equal positions have equal numbers
 pub digests_alike : (n k : ℕ) (s t : Scene) → IsTrue (same_scene s t) → key_digest n k s ≡ key_digest n k t
 digests_alike n k s t same =
-    let boxes = (bytes_decides s.boxes t.boxes).0 (first_so (pointwise nat_eq s.boxes t.boxes) (s.player == t.player) same) in
-    let player = (unsigned_Decides s.player t.player).0 (second_so (pointwise nat_eq s.boxes t.boxes) (s.player == t.player) same) in
+    let boxes = (bytes_decides s.boxes t.boxes).0
+    (first_so (pointwise nat_eq s.boxes t.boxes) (s.player == t.player) same) in
+    let player = (unsigned_Decides s.player t.player).0
+    (second_so (pointwise nat_eq s.boxes t.boxes) (s.player == t.player) same) in
     λ i. key_digest n k (record { boxes = boxes i; player = player i })
 
 -- what a key feeds a hasher: its number
@@ -99,6 +104,8 @@ keys_alike n k s t same = λ i. fed.u64 (digests_alike n k s t same i)
 -- what is equal to a position is equal to the same ones
 pub same_alike : (q x y : Scene) → IsTrue (same_scene q x) → same_scene q y ≡ same_scene x y
 same_alike q x y same =
-    let boxes = (bytes_decides q.boxes x.boxes).0 (first_so (pointwise nat_eq q.boxes x.boxes) (q.player == x.player) same) in
-    let player = (unsigned_Decides q.player x.player).0 (second_so (pointwise nat_eq q.boxes x.boxes) (q.player == x.player) same) in
+    let boxes = (bytes_decides q.boxes x.boxes).0
+    (first_so (pointwise nat_eq q.boxes x.boxes) (q.player == x.player) same) in
+    let player = (unsigned_Decides q.player x.player).0
+    (second_so (pointwise nat_eq q.boxes x.boxes) (q.player == x.player) same) in
     λ i. same_scene (record { boxes = boxes i; player = player i }) y

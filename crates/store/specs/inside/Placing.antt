@@ -17,7 +17,8 @@ rows_of k (w ∷ ws) = (w.1, k) ∷ rows_of (suc k) ws
 
 -- no row has a lesser origin than one before it
 abbrev pub RowsRise : List Row → Type 0
-RowsRise rows = (i j : ℕ) (x y : Row) → i < j → slice_get rows i ≡ Some x → slice_get rows j ≡ Some y → is_gt (origin_cmp push_cmp x.0 y.0) ≡ false
+RowsRise rows = (i j : ℕ) (x y : Row) → i < j → slice_get rows i ≡ Some x → slice_get rows j ≡ Some y →
+    is_gt (origin_cmp push_cmp x.0 y.0) ≡ false
 
 -- the rows have exactly the places up to their number
 pub record HaveAllPlaces (rows : List Row) : Type 0 where
@@ -26,7 +27,8 @@ pub record HaveAllPlaces (rows : List Row) : Type 0 where
 
 -- the target of each place is where its row stands
 abbrev pub AreTargets : List Row → List ℕ → Type 0
-AreTargets rows targets = (length targets ≡ length rows) × ((x t : ℕ) → slice_get targets x ≡ Some t → (r : Row) × (slice_get rows t ≡ Some r) × (r.1 ≡ x))
+AreTargets rows targets = (length targets ≡ length rows) ×
+    ((x t : ℕ) → slice_get targets x ≡ Some t → (r : Row) × (slice_get rows t ≡ Some r) × (r.1 ≡ x))
 
 -- each target is a place, and no two are the same
 pub record AreApart (targets : List ℕ) : Type 0 where
@@ -36,8 +38,10 @@ pub record AreApart (targets : List ℕ) : Type 0 where
 -- the entry at each place behind the start is the one at its target in another list
 abbrev pub AreAtTargets : ℕ → List Closed → List ℕ → List Closed → Type 0
 AreAtTargets start entries targets others =
-    (length others ≡ length targets) × ((x t : ℕ) → slice_get targets x ≡ Some t → slice_get entries (start + x) ≡ slice_get others t)
+    (length others ≡ length targets) ×
+    ((x t : ℕ) → slice_get targets x ≡ Some t → slice_get entries (start + x) ≡ slice_get others t)
 
 -- the entries from the start on were brought to their targets
 abbrev pub AreBrought : ℕ → List Closed → List ℕ → List Closed → Type 0
-AreBrought start before targets after = (others : List Closed) → AreAtTargets start before targets others → after ≡ seen_of start before ++ others
+AreBrought start before targets after =
+    (others : List Closed) → AreAtTargets start before targets others → after ≡ seen_of start before ++ others

@@ -17,4 +17,5 @@ StandsIfAt es place m = place ≢ NOWHERE → StandsAt es place m
 -- there is a place for each offer, and its position stands there, if that is one
 pub record AllStand (es : List Closed) (offers : List (Entry Scene Push)) (places : List ℕ) : Type 0 where
   pub many : length offers ≤ length places
-  pub each : (i : ℕ) (o : Entry Scene Push) → slice_get offers i ≡ Some o → StandsIfAt es (slice_index_or places i 0) o.0
+  pub each : (i : ℕ) (o : Entry Scene Push) → slice_get offers i ≡ Some o →
+      StandsIfAt es (slice_index_or places i 0) o.0

@@ -1,5 +1,6 @@
 -- The places of a parcel's successors, dealt to the shares.
-use Rattle.std.specs.Prelude.{◌≡◌, ℕ, suc, ◌+◌, ◌*◌, ◌%◌, ◌<◌, ◌≤◌, ◌==◌, List, [], ◌∷◌, map, get_or, take, drop, if◌then◌else◌}
+use Rattle.std.specs.Prelude.{◌≡◌, ℕ, suc, ◌+◌, ◌*◌, ◌%◌, ◌<◌, ◌≤◌, ◌==◌, List, [], ◌∷◌, map, get_or, take, drop}
+use Rattle.std.specs.Prelude.{if◌then◌else◌}
 use Rattle.successors.specs.declared.parcel.Successor.{Successor}
 use Rattle.successors.specs.declared.limits.TheConstants.{MAX_SHARES}
 use Rattle.successors.specs.declared.dealing.TheConstants.{MOST_DEALT}
@@ -8,7 +9,8 @@ use Rattle.successors.specs.inside.Sums.{scene_sum}
 -- the places of those of these sums that are of the share, where the first one stands at k
 abbrev pub share_places : ℕ → ℕ → ℕ → List ℕ → List ℕ
 share_places shares share k [] = []
-share_places shares share k (x ∷ xs) = if x % shares == share then k ∷ share_places shares share (suc k) xs else share_places shares share (suc k) xs
+share_places shares share k (x ∷ xs) =
+    if x % shares == share then k ∷ share_places shares share (suc k) xs else share_places shares share (suc k) xs
 
 -- the places of those successors that are of the share
 abbrev pub successor_places : ℕ → ℕ → List Successor → List ℕ
@@ -17,7 +19,8 @@ successor_places shares share ss = share_places shares share 0 (map (λ s. scene
 -- the row of a share begins with the places of its successors
 pub record IsListed (shares share : ℕ) (rows lens sums : List ℕ) : Type 0 where
   pub within : get_or lens share 0 ≤ MOST_DEALT
-  pub places : drop (share * MOST_DEALT) (take (share * MOST_DEALT + get_or lens share 0) rows) ≡ share_places shares share 0 sums
+  pub places : drop (share * MOST_DEALT) (take (share * MOST_DEALT + get_or lens share 0) rows) ≡
+      share_places shares share 0 sums
 
 -- so do those of each share
 abbrev pub AllListed : ℕ → List ℕ → List ℕ → List ℕ → Type 0

@@ -6,4 +6,5 @@ use Rattle.successors.specs.ParcelView.{ParcelView}
 
 -- a parcel whose successors are the first so many of these
 abbrev pub parcel_of : Task → ℕ → ℕ → List Successor → ℕ → ParcelView
-parcel_of level layer rank slots count = record { level = level; layer = layer; rank = rank; successors = take count slots }
+parcel_of level layer rank slots count =
+    record { level = level; layer = layer; rank = rank; successors = take count slots }

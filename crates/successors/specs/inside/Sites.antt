@@ -8,8 +8,8 @@ use Rattle.successors.specs.declared.parcel.Slots.{Slots}
 use Rattle.successors.specs.declared.pushing.Site.{Site}
 use Rattle.successors.specs.inside.Sums.{AreSums}
 
--- the position may be played on the level, the dead squares are the level's, the last flood was that of the position, and the
--- dangers are those of its boxes
+-- the position may be played on the level, the dead squares are the level's, the last flood was that of the position,
+-- and the dangers are those of its boxes
 pub record IsReady (site : Site) (reach : Reach) : Type 0 where
   pub fits : FitsLevel site.level.now site.position.now
   pub dead_of_level : site.dead.now ≡ site.level.now

@@ -50,7 +50,8 @@ fn over_one<R: Wait + Abort, G: Gate>(
     worked(rt, alloc, layer, book, &ledger, own, 1, worker, gate)
 }
 
-/// How a worker of this number ends that works on layer 0 of two ends with this book, and whether the book is as it was.
+/// How a worker of this number ends that works on layer 0 of two ends with this book, and whether the book is as it
+/// was.
 fn ended<R: Wait + Abort>(rt: &R, alloc: Global, book: Book, worker: u8) -> (End, bool) {
     let layer = start_of(rt, alloc, TWO_ENDS);
     let (end, mut book) = over_one(rt, alloc, &layer, book, worker, &Free);
@@ -135,8 +136,8 @@ fn a_rank_that_was_handed_back_is_refused(rt: HostRuntime) {
     assert!(rt; end == End::Refused(Refusal::Double));
 }
 
-/// Share 0 of two of two ends, at work on layer 0 and at its limit: the start is of this share, and so is one of the two
-/// positions that come from it.
+/// Share 0 of two of two ends, at work on layer 0 and at its limit: the start is of this share, and so is one of the
+/// two positions that come from it.
 fn full_share(rt: &impl Abort, alloc: Global) -> Book {
     let level = level_of(rt, alloc, TWO_ENDS);
     let mut book = Book::of(alloc, level, None, 1, WORKERS, 0, 2).expect(rt, "a book");

@@ -31,8 +31,8 @@ const SMALL: Counted = Counted {
     positions: 1053,
 };
 
-/// A room with five boxes. The search that counted the layers of the other room counted here 1, 18, 141, 670, 2219 and 5533
-/// positions, of which one of the last is solved.
+/// A room with five boxes. The search that counted the layers of the other room counted here 1, 18, 141, 670, 2219
+/// and 5533 positions, of which one of the last is solved.
 const LARGE: Counted = Counted {
     text: b"##########\n#@ .     #\n#  * $ * #\n#    .$  #\n# $      #\n# .      #\n##########\n",
     layer: 4,
@@ -44,9 +44,9 @@ const LARGE: Counted = Counted {
 /// How often a worker that is held looks whether it may go on.
 const TURNS: u32 = 20_000_000;
 
-/// A gate that counts the events of each worker in one layer. There it holds each worker at its first event until all of
-/// them have had one, and one of them, whose turn it is, until more events came than the layer has ranks: so another one has
-/// handed a parcel back meanwhile.
+/// A gate that counts the events of each worker in one layer. There it holds each worker at its first event until all
+/// of them have had one, and one of them, whose turn it is, until more events came than the layer has ranks: so
+/// another one has handed a parcel back meanwhile.
 #[derive(Drop)]
 struct Meeting {
     layer: u64,
@@ -170,8 +170,8 @@ fn check_answer<R: Threads + Wait + Sync + Abort>(
     }
 }
 
-/// Checks that no worker waited in vain, that each of them had events, which rise from 1, and that there are as many as ranks
-/// are drawn once and handed back once to each book.
+/// Checks that no worker waited in vain, that each of them had events, which rise from 1, and that there are as many
+/// as ranks are drawn once and handed back once to each book.
 fn check_gate(rt: &impl Abort, gate: &Meeting, locks: u8) {
     let workers = gate.workers;
     assert_eq!(rt;

@@ -67,7 +67,8 @@ fn fails_at_each_read_of_a_solution(rt: HostRuntime) {
     }
 }
 
-// Checks a command one of whose reads fails, after so many reads of the collection and of the solution: it reads no more.
+// Checks a command one of whose reads fails, after so many reads of the collection and of the solution: it reads no
+// more.
 fn check_fault(
     rt: &(impl Abort + Threads + Wait + Sync),
     alloc: Global,

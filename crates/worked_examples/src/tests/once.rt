@@ -1,5 +1,5 @@
-//! One call of a source or a sink asks std's end once, and tells what it answered: an end in the midst of the bytes, and
-//! failures of each kind. The ends would go on if they were asked once more.
+//! One call of a source or a sink asks std's end once, and tells what it answered: an end in the midst of the bytes,
+//! and failures of each kind. The ends would go on if they were asked once more.
 use super::Outcome;
 use crate::Paper;
 use crate::boards::ONE;

@@ -70,8 +70,8 @@ fn check_report<R: Threads + Wait + Sync + Abort>(
     );
 }
 
-// The first layer has one position and the second two. Each is drawn once, and handed back once to each of the books, of
-// which there are as many as locks.
+// The first layer has one position and the second two. Each is drawn once, and handed back once to each of the books,
+// of which there are as many as locks.
 #[test]
 fn each_rank_is_drawn_once_and_handed_to_a_book_for_each_lock(rt: HostRuntime) {
     assert_eq!(&rt; passed(&rt, rt.alloc(), 1), [2, 4, 0]);

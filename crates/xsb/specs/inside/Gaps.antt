@@ -24,7 +24,8 @@ pub record IsGap (gap : Gap) (lines : List (List ℕ)) : Type 0 where
 -- the name of a board between the lines of two gaps
 abbrev pub IsNameBetween : Gap → Gap → List ℕ → Type 0
 IsNameBetween before after name =
-    (before_lines after_lines : List (List ℕ)) → IsGap before before_lines → IsGap after after_lines → name ≡ name_of before_lines after_lines
+    (before_lines after_lines : List (List ℕ)) → IsGap before before_lines → IsGap after after_lines →
+    name ≡ name_of before_lines after_lines
 
 -- a row line comes first, or no line
 abbrev pub BeginsBoard : List (List ℕ) → Type 0

@@ -21,13 +21,15 @@ pub record HasRead (bytes : List ℕ) (left : Collection) (founds : List Found) 
   pub texts : List (List ℕ)
   pub gap : IsGap left.before texts
   pub begins : BeginsBoard (cut_lines left.lines.rest)
-  pub onto : (parts : List Part) (others : List Found) → Continues left.lines.number texts (cut_lines left.lines.rest) parts others →
+  pub onto : (parts : List Part) (others : List Found) →
+      Continues left.lines.number texts (cut_lines left.lines.rest) parts others →
       IsCollection bytes (founds ++ others)
 
 -- the next board, and the collection after it; or these boards are all
 abbrev pub GivesNext : List ℕ → List Found → Collection → Option BoardEntry → Type 0
 GivesNext bytes founds after None = IsCollection bytes founds
-GivesNext bytes founds after (Some entry) = (found : Found) × IsBoardEntry entry found × HasRead bytes after (founds ++ found ∷ [])
+GivesNext bytes founds after (Some entry) =
+    (found : Found) × IsBoardEntry entry found × HasRead bytes after (founds ++ found ∷ [])
 
 -- a collection has no more boards than it has lines left
 abbrev pub lines_left : Collection → ℕ

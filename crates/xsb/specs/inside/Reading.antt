@@ -27,7 +27,8 @@ pub record IsSize (size : Size) (rows : List (List Cell)) : Type 0 where
 
 -- the cells of the rows of a row line are appended, each row with floor on the right up to the columns
 abbrev pub AppendsRows : List ℕ → ℕ → List Cell → List Cell → Type 0
-AppendsRows line cols cells more = (rows : List (List Cell)) → IsRowLine line rows → cols_of rows ≤ cols → more ≡ cells ++ flat_map (padded cols) rows
+AppendsRows line cols cells more =
+    (rows : List (List Cell)) → IsRowLine line rows → cols_of rows ≤ cols → more ≡ cells ++ flat_map (padded cols) rows
 
 -- the bytes are no row
 abbrev pub IsNoRow : List ℕ → Type 0
