@@ -246,30 +246,17 @@ impl Eq for Level {
     ghost laws = { Prim.search (comparing, rules) };
 }
 
-// This many cells are compared together.
-const AT_ONCE: usize = 16;
-
-// Whether the cells are the same. The last cells, whose number need not be a multiple, are compared together once more
-// instead of one by one.
+// Whether the cells are the same.
 fn same_cells(cells: &[Cell], others: &[Cell]) -> bool
     ensures { IsTrue result ↔ (cells.now ≡ others.now) }
 {
-    let count = cells.len();
-    if count != others.len() {
+    if cells.len() != others.len() {
         return false;
     }
-    if count < AT_ONCE {
-        return are_same(cells, others);
-    }
-    let whole = count / AT_ONCE * AT_ONCE;
-    let last = count - AT_ONCE;
-    let front = are_same(&cells[..whole], &others[..whole]);
-    let back = are_same(&cells[last..], &others[last..]);
-    front & back
+    are_same(cells, others)
 }
 
-// The same for equally many cells. Equal cells must all be compared, so the loop has no early end, which lets the
-// compiler compare several at once.
+// The same for equally many cells. The loop has no early end, so that the compiler compares several at once.
 #[inline(always)]
 fn are_same(cells: &[Cell], others: &[Cell]) -> bool
     requires { length cells.now ≡ length others.now }
