@@ -1,7 +1,6 @@
 //! Worked examples of layers and books.
 ghost use Rattle.std.specs.Prelude.{◌≡◌, ◌<◌, length};
 
-mod leads;
 mod refusals;
 mod shares;
 pub(crate) mod traces;
