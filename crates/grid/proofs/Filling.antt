@@ -1,5 +1,6 @@
 -- Filling the player's room: marks grow until they are closed under steps.
-use Rattle.std.proofs.Common.{◌≡◌, ℕ, Bool, true, false, eqb, ◌||◌, List, [], ◌∷◌, ◌++◌, length, replicate, ◌⊎◌, ◌↔◌, inl, inr, refl, sym, subst, ◌∙◌, arith}
+use Rattle.std.proofs.Common.{◌≡◌, ℕ, Bool, true, false, eqb, List, [], ◌∷◌, ◌++◌, length, replicate, ◌⊎◌, ◌↔◌, inl}
+use Rattle.std.proofs.Common.{inr, refl, sym, subst, ◌∙◌, arith}
 use Rattle.std.proofs.lemmas.Bool.{eqb-true, eq-eqb, cases_lt, or_cases, or_left, or_right, false≢true}
 use Rattle.std.proofs.lemmas.List.{get_or_past, get_or-replicate, length-replicate}
 use Rattle.grid.specs.declared.dir.Dir.TheVariants.{R}
@@ -10,33 +11,9 @@ use Rattle.grid.specs.Squares.{contains}
 use Rattle.grid.specs.inside.Filling.{Awaits, IsFilling, IsMarked, IsRunning}
 use Rattle.grid.specs.inside.Filling.Awaits.{listed, along}
 use Rattle.grid.proofs.lemmas.Steps.{inside_grid}
+use Rattle.grid.proofs.lemmas.Squares.{contains-push_cases, contains-push_kept, contains-push_last}
 
 -- ---- marks and pending squares
-
--- one square more at the end of those that are pending
-pub contains_push : (xs : List ℕ) (q r : ℕ) → contains (xs ++ q ∷ []) r ≡ (contains xs r || eqb q r)
-contains_push [] q r = none (eqb q r)
-  where
-    none : (b : Bool) → (b || false) ≡ b
-    none true = refl
-    none false = refl
-contains_push (x ∷ xs) q r = rw (contains_push xs q r) (assoc (eqb x r) (contains xs r) (eqb q r))
-  where
-    assoc : (a b c : Bool) → (a || (b || c)) ≡ ((a || b) || c)
-    assoc true b c = refl
-    assoc false b c = refl
-
-pub contains_push_before : (xs : List ℕ) (q r : ℕ) → contains xs r ≡ true → contains (xs ++ q ∷ []) r ≡ true
-contains_push_before xs q r h = contains_push xs q r ∙ or_left (contains xs r) (eqb q r) h
-
-pub contains_push_here : (xs : List ℕ) (q : ℕ) → contains (xs ++ q ∷ []) q ≡ true
-contains_push_here xs q = contains_push xs q q ∙ or_right (contains xs q) (eqb q q) (eq-eqb q q refl)
-
-pub contains_push_cases : (xs : List ℕ) (q r : ℕ) → contains (xs ++ q ∷ []) r ≡ true → (contains xs r ≡ true) ⊎ (q ≡ r)
-contains_push_cases xs q r h = elim (or_cases (contains xs r) (eqb q r) (sym (contains_push xs q r) ∙ h)) [
-  | inl e ↦ inl e
-  | inr e ↦ inr (eqb-true q r e)
-]
 
 -- no mark, before the first
 pub unmarked : (n q : ℕ) → IsMarked (replicate n false) q → ⊥
@@ -51,19 +28,22 @@ unmarked n q h = elim (cases_lt q n) [
 pub awaits_without : (board : Board) (marks : List Bool) (p : ℕ) (xs ys : List ℕ)
     → ((r : ℕ) → contains xs r ≡ true → contains ys r ≡ true)
     → (is_wall board p ≡ false → IsMarked marks p ⊎ Awaits board ys p)
-    → ((q : ℕ) → IsMarked marks q → is_wall board (next board q R) ≡ false → IsMarked marks (next board q R) ⊎ Awaits board ys (next board q R))
+    → ((q : ℕ) → IsMarked marks q → is_wall board (next board q R) ≡ false → IsMarked marks (next board q R)
+    ⊎ Awaits board ys (next board q R))
     → (x : ℕ) → Awaits board (p ∷ xs) x → IsMarked marks x ⊎ Awaits board ys x
 awaits_without board marks p xs ys more gone whole x a = go a
   where
     go : {y : ℕ} → Awaits board (p ∷ xs) y → IsMarked marks y ⊎ Awaits board ys y
     go (listed {q} there floor) = elim (or_cases (eqb p q) (contains xs q) there) [
-      | inl e ↦ subst (λ (y : ℕ). is_wall board y ≡ false → IsMarked marks y ⊎ Awaits board ys y) (eqb-true p q e) gone floor
+      | inl e ↦ subst (λ (y : ℕ). is_wall board y ≡ false → IsMarked marks y ⊎ Awaits board ys y)
+          (eqb-true p q e) gone floor
       | inr e ↦ inr (listed (more q e) floor)
     ]
     go (along {q} before floor) = elim (go before) [ inl e ↦ whole q e floor | inr e ↦ inr (along e floor) ]
 
 -- what awaits its mark awaits it where more is pending
-pub awaits_more : (board : Board) (xs ys : List ℕ) → ((r : ℕ) → contains xs r ≡ true → contains ys r ≡ true) → (x : ℕ) → Awaits board xs x → Awaits board ys x
+pub awaits_more : (board : Board) (xs ys : List ℕ) → ((r : ℕ) → contains xs r ≡ true → contains ys r ≡ true) → (x : ℕ)
+    → Awaits board xs x → Awaits board ys x
 awaits_more board xs ys more x a = go a
   where
     go : {y : ℕ} → Awaits board xs y → Awaits board ys y
@@ -84,7 +64,8 @@ not_at_end board q floor e = (let lt = inside_grid board q floor in omega (arith
 
 -- p is no longer pending, since it is a wall or has its mark
 pub forget : (board : Board) (marks : List Bool) (p place : ℕ) (xs : List ℕ) → IsRunning board marks (p ∷ xs) place
-    → (is_wall board p ≡ false → IsMarked marks p) → (is_wall board place ≡ false → IsMarked marks place) → IsFilling board marks xs
+    → (is_wall board p ≡ false → IsMarked marks p) → (is_wall board place ≡ false → IsMarked marks place)
+    → IsFilling board marks xs
 forget board marks p place xs f gone ended = record {
   size = f.size;
   start = elim f.start [ inl e ↦ inl e | inr e ↦ without (start_player board) e ];
@@ -102,19 +83,24 @@ forget board marks p place xs f gone ended = record {
     ]
 
     without : (x : ℕ) → Awaits board (p ∷ xs) x → IsMarked marks x ⊎ Awaits board xs x
-    without x a = awaits_without board marks p xs xs (λ r h. h) (λ floor. inl (gone floor)) (λ q h floor. inl (right q h floor)) x a
+    without x a = awaits_without board marks p xs xs (λ r h. h) (λ floor. inl (gone floor))
+        (λ q h floor. inl (right q h floor)) x a
 
 -- ---- the beginning and the end
 
 -- the player's square is pending
-pub fill_start : (board : Board) (clear : List Bool) (pending : List ℕ) → length clear ≡ length board.cells → ((q : ℕ) → IsMarked clear q → ⊥)
+pub fill_start : (board : Board) (clear : List Bool) (pending : List ℕ) → length clear ≡ length board.cells
+    → ((q : ℕ) → IsMarked clear q → ⊥)
     → pending ≡ start_player board ∷ [] → is_wall board (start_player board) ≡ false → IsFilling board clear pending
 fill_start board clear pending sized none is floor = subst (IsFilling board clear) (sym is) first
   where
     first : IsFilling board clear (start_player board ∷ [])
     first = record {
       size = sized;
-      start = inr (listed (or_left (eqb (start_player board) (start_player board)) false (eq-eqb (start_player board) (start_player board) refl)) floor);
+      start =
+          inr
+          (listed (or_left (eqb (start_player board) (start_player board)) false
+          (eq-eqb (start_player board) (start_player board) refl)) floor);
       inside = λ q h. absurd (none q h);
       waits = λ q there open_here. elim (or_cases (eqb (start_player board) q) false there) [
         | inl e ↦ subst (InRoom board) (eqb-true (start_player board) q e) here
@@ -126,36 +112,47 @@ fill_start board clear pending sized none is floor = subst (IsFilling board clea
     }
 
 -- the last of those that are pending may stand first
-pub last_first : (board : Board) (marks : List Bool) (xs : List ℕ) (p : ℕ) → IsFilling board marks (xs ++ p ∷ []) → IsFilling board marks (p ∷ xs)
+pub last_first : (board : Board) (marks : List Bool) (xs : List ℕ) (p : ℕ) → IsFilling board marks (xs ++ p ∷ [])
+    → IsFilling board marks (p ∷ xs)
 last_first board marks xs p f = record {
   size = f.size;
-  start = elim f.start [ inl e ↦ inl e | inr e ↦ inr (awaits_more board (xs ++ p ∷ []) (p ∷ xs) to (start_player board) e) ];
+  start = elim f.start [
+    | inl e ↦ inl e
+    | inr e ↦
+        inr (awaits_more board (xs ++ p ∷ []) (p ∷ xs) to (start_player board) e)
+  ];
   inside = f.inside;
   waits = λ q there floor. f.waits q (back q there) floor;
   whole = f.whole;
-  closed = λ q d h floor. elim (f.closed q d h floor) [ inl e ↦ inl e | inr e ↦ inr (awaits_more board (xs ++ p ∷ []) (p ∷ xs) to (next board q d) e) ];
+  closed = λ q d h floor. elim (f.closed q d h floor) [
+    | inl e ↦ inl e
+    | inr e ↦
+        inr (awaits_more board (xs ++ p ∷ []) (p ∷ xs) to (next board q d) e)
+  ];
   inner = f.inner;
 }
   where
     to : (r : ℕ) → contains (xs ++ p ∷ []) r ≡ true → contains (p ∷ xs) r ≡ true
-    to r h = elim (contains_push_cases xs p r h) [
+    to r h = elim (contains-push_cases xs p r h) [
       | inl e ↦ or_right (eqb p r) (contains xs r) e
       | inr e ↦ or_left (eqb p r) (contains xs r) (eq-eqb p r e)
     ]
 
     back : (r : ℕ) → contains (p ∷ xs) r ≡ true → contains (xs ++ p ∷ []) r ≡ true
     back r h = elim (or_cases (eqb p r) (contains xs r) h) [
-      | inl e ↦ subst (λ (y : ℕ). contains (xs ++ p ∷ []) y ≡ true) (eqb-true p r e) (contains_push_here xs p)
-      | inr e ↦ contains_push_before xs p r e
+      | inl e ↦ subst (λ (y : ℕ). contains (xs ++ p ∷ []) y ≡ true) (eqb-true p r e) (contains-push_last xs p)
+      | inr e ↦ contains-push_kept xs p r e
     ]
 
 -- nothing is pending: the marks are the room
-pub fill_done : (board : Board) (marks : List Bool) → IsFilling board marks [] → (q : ℕ) → IsMarked marks q ↔ InRoom board q
+pub fill_done : (board : Board) (marks : List Bool) → IsFilling board marks [] → (q : ℕ)
+    → IsMarked marks q ↔ InRoom board q
 fill_done board marks f q = (f.inside q, reached)
   where
     reached : {x : ℕ} → InRoom board x → IsMarked marks x
     reached here = elim f.start [ inl e ↦ e | inr e ↦ absurd (awaits_none board (start_player board) e) ]
-    reached (beside {q} d r floor) = elim (f.closed q d (reached r) floor) [ inl e ↦ e | inr e ↦ absurd (awaits_none board (next board q d) e) ]
+    reached (beside {q} d r floor) =
+        elim (f.closed q d (reached r) floor) [ inl e ↦ e | inr e ↦ absurd (awaits_none board (next board q d) e) ]
 
 -- nothing is pending: the room is closed
 pub fill_closed : (board : Board) (marks : List Bool) → IsFilling board marks [] → IsOpen board → ⊥

@@ -1,4 +1,5 @@
 -- The lemmas that the proofs of upper crates cite.
+pub mod Directions
 pub mod Steps
 pub mod Squares
 pub mod Orders

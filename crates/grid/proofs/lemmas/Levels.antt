@@ -1,6 +1,6 @@
 -- Laws of lawful levels, and of the state in which a level begins.
-use Rattle.std.proofs.Common.{◌≡◌, ◌≢◌, ℕ, ◌+◌, ◌*◌, ◌%◌, ◌≤◌, Bool, true, false, cond, eqb, ltb, length, get_or, Option, Some, None, refl, sym, ◌∙◌}
-use Rattle.std.proofs.Common.{mul-le-mul, div-add-mod', arith}
+use Rattle.std.proofs.Common.{◌≡◌, ◌≢◌, ℕ, ◌+◌, ◌*◌, ◌%◌, ◌≤◌, Bool, true, false, cond, eqb, ltb, length, get_or}
+use Rattle.std.proofs.Common.{Option, Some, None, refl, sym, ◌∙◌, mul-le-mul, div-add-mod', arith}
 use Rattle.std.proofs.lemmas.Bool.{eqb-true, eqb-false, ltb-false, false≢true}
 use Rattle.grid.specs.declared.limits.TheConstants.{MAX_ROWS, MAX_COLS, MAX_SQUARES}
 use Rattle.grid.specs.declared.fault.LevelFault.TheVariants.{TooTall, TooWide, NoPlayer, TwoPlayers, NoBox, Counts}
@@ -13,12 +13,14 @@ use Rattle.grid.specs.Board.{Board, Scene, is_wall, wall_cell, box_cell, player_
 use Rattle.grid.specs.States.{IsScene, Steps, FitsLevel, has_box, start_boxes}
 use Rattle.grid.specs.Lawful.{IsLevel, row_count, box_count, goal_count, player_count, cell_fault}
 use Rattle.grid.specs.inside.Counting.{count_fault}
-use Rattle.grid.proofs.Marked.{is_rising-places_from, contains-places, contains-first, length-places_from, first_place}
+use Rattle.grid.proofs.lemmas.Places.{is_rising-places_from, contains-places, contains-first, length-places_from}
+use Rattle.grid.proofs.lemmas.Places.{first_place}
 use Rattle.grid.proofs.lemmas.Steps.{scene_after_step, length-step}
 
 -- ---- what a lawful level has
 
-guard_none : {A : Type 0} (b : Bool) (x : A) (rest : Option A) → cond b (Some x) rest ≡ None → (b ≡ false) × (rest ≡ None)
+guard_none : {A : Type 0} (b : Bool) (x : A) (rest : Option A) → cond b (Some x) rest ≡ None
+    → (b ≡ false) × (rest ≡ None)
 guard_none true x rest e = absurd cc
 guard_none false x rest e = (refl, e)
 
@@ -37,18 +39,22 @@ pub record HasCounts (board : Board) : Type 0 where
 -- cells without a fault keep the limits and have one player, some box, and as many goals as boxes
 pub counts_of : (board : Board) → cell_fault board ≡ None → HasCounts board
 counts_of board e =
-    let tall = guard_none (ltb MAX_ROWS (row_count board)) TooTall (cond (ltb MAX_COLS board.cols) (Some TooWide) (count_fault board)) e in
+    let tall = guard_none (ltb MAX_ROWS (row_count board)) TooTall
+    (cond (ltb MAX_COLS board.cols) (Some TooWide) (count_fault board)) e in
     let wide = guard_none (ltb MAX_COLS board.cols) TooWide (count_fault board) tall.1 in
     let one = guard_none (eqb (player_count board) 0) NoPlayer
     (cond (ltb 1 (player_count board)) (Some TwoPlayers)
     (cond (eqb (box_count board) 0) (Some NoBox)
-    (cond (eqb (box_count board) (goal_count board)) None (Some (Counts (box_count board) (goal_count board)))))) wide.1 in
+    (cond (eqb (box_count board) (goal_count board)) None (Some (Counts (box_count board) (goal_count board))))))
+    wide.1 in
     let two = guard_none (ltb 1 (player_count board)) TwoPlayers
     (cond (eqb (box_count board) 0) (Some NoBox)
-    (cond (eqb (box_count board) (goal_count board)) None (Some (Counts (box_count board) (goal_count board))))) one.1 in
+    (cond (eqb (box_count board) (goal_count board)) None (Some (Counts (box_count board) (goal_count board)))))
+    one.1 in
     let some = guard_none (eqb (box_count board) 0) NoBox
     (cond (eqb (box_count board) (goal_count board)) None (Some (Counts (box_count board) (goal_count board)))) two.1 in
-    let same = last_guard_none (eqb (box_count board) (goal_count board)) (Counts (box_count board) (goal_count board)) some.1 in
+    let same = last_guard_none (eqb (box_count board) (goal_count board))
+    (Counts (box_count board) (goal_count board)) some.1 in
     let there : player_count board ≢ 0 = eqb-false (player_count board) 0 one.0 in
     let few : player_count board ≤ 1 = ltb-false 1 (player_count board) two.0 in
     let box_there : box_count board ≢ 0 = eqb-false (box_count board) 0 some.0 in
@@ -69,7 +75,8 @@ pub level_squares : (board : Board) → IsLevel board → length board.cells ≤
 level_squares board level =
     let counts = level_counts board level in
     let product : row_count board * board.cols ≤ MAX_ROWS * MAX_COLS = mul-le-mul counts.rows counts.cols in
-    let cells : row_count board * board.cols + length board.cells % board.cols ≡ length board.cells = div-add-mod' (length board.cells) board.cols in
+    let cells : row_count board * board.cols + length board.cells % board.cols ≡ length board.cells =
+    div-add-mod' (length board.cells) board.cols in
     omega arith
 
 -- ---- the start
@@ -111,14 +118,16 @@ pub length-start_boxes : (board : Board) → length (start_boxes board) ≡ box_
 length-start_boxes board = length-places_from box_cell 0 board.cells
 
 -- the cell on which the player stands at the start has the player
-pub player_at_start : (board : Board) → player_count board ≡ 1 → player_cell (get_or board.cells (start_player board) Wall) ≡ true
+pub player_at_start : (board : Board) → player_count board ≡ 1
+    → player_cell (get_or board.cells (start_player board) Wall) ≡ true
 player_at_start board one =
     let places = places_from player_cell 0 board.cells in
     let size = length-places_from player_cell 0 board.cells in
     sym (contains-places player_cell board.cells (start_player board) Wall refl) ∙ contains-first places (omega arith)
 
 -- a square whose cell has the player is the player's at the start
-pub start_player_is : (board : Board) (q : ℕ) → player_count board ≡ 1 → player_cell (get_or board.cells q Wall) ≡ true → start_player board ≡ q
+pub start_player_is : (board : Board) (q : ℕ) → player_count board ≡ 1 → player_cell (get_or board.cells q Wall) ≡ true
+    → start_player board ≡ q
 start_player_is board q one here = first_place player_cell board.cells q Wall refl one here
 
 -- where there is one player the start is a state
@@ -128,7 +137,8 @@ start_is_scene_with board one =
     let here = player_at_start board one in
     record {
       rising = is_rising-places_from box_cell 0 board.cells;
-      boxes = λ q box. box_no_wall (get_or board.cells q Wall) (sym (contains-places box_cell board.cells q Wall refl) ∙ box);
+      boxes = λ q box. box_no_wall (get_or board.cells q Wall) (sym (contains-places box_cell board.cells q Wall refl)
+          ∙ box);
       player = (
         player_no_wall (get_or board.cells (start_player board) Wall) here,
         contains-places box_cell board.cells (start_player board) Wall refl ∙
@@ -146,7 +156,8 @@ unfolding start
 start_fits board level = record { scene = start_is_scene board level; boxes = length-start_boxes board }
 
 -- a step keeps the number of boxes that fits
-pub fits_after_step : (board : Board) (s : Scene) (d : Dir) (did : Step) (t : Scene) → FitsLevel board s → Steps board s d did t → FitsLevel board t
+pub fits_after_step : (board : Board) (s : Scene) (d : Dir) (did : Step) (t : Scene) → FitsLevel board s
+    → Steps board s d did t → FitsLevel board t
 fits_after_step board s d did t fits h = record {
   scene = scene_after_step board s d did t fits.scene h;
   boxes = length-step board s d did t fits.scene h ∙

@@ -1,6 +1,6 @@
 -- Laws of the orders of directions, pushes, lists and solutions.
-use Rattle.std.proofs.Common.{◌≡◌, ℕ, suc, ◌+◌, ◌<◌, ◌≤◌, false, List, [], ◌∷◌, ◌++◌, length, ◌⊎◌, inl, inr, refl, sym, ap, subst, ◌∙◌, arith, Ordering, Less}
-use Rattle.std.proofs.Common.{Equal, Greater, nat_cmp, is_gt}
+use Rattle.std.proofs.Common.{◌≡◌, ℕ, suc, ◌+◌, ◌<◌, ◌≤◌, false, List, [], ◌∷◌, ◌++◌, length, ◌⊎◌, inl, inr, refl, sym}
+use Rattle.std.proofs.Common.{ap, ◌∙◌, arith, Ordering, Less, Equal, Greater, nat_cmp, is_gt}
 use Rattle.std.specs.Ordering.{ordering_then, ordering_reverse}
 use Rattle.std.specs.Cmp.{IsTotalOrder}
 use Rattle.std.specs.Cmp.Lexicographic.{slice_cmp}
@@ -10,12 +10,11 @@ use Rattle.std.proofs.lemmas.Cmp.{nat_cmp_total, on_total, then_total, lists_tot
 use Rattle.std.proofs.lemmas.Map.Lookups.{CmpEqualImpliesEq, exact_unsigned}
 use Rattle.std.proofs.lemmas.List.{length-append}
 use Rattle.grid.specs.declared.dir.Dir.{Dir}
-use Rattle.grid.specs.declared.dir.Dir.TheVariants.{D, L, R, U}
 use Rattle.grid.specs.declared.square.Push.{Push}
 use Rattle.grid.specs.Board.{Board, dir_cmp, push_cmp, dir_number}
-use Rattle.grid.specs.Plays.{IsSolution, IsLeastSolution, shortlex}
+use Rattle.grid.specs.Plays.{IsLeastSolution, shortlex}
 use Rattle.grid.specs.Laws.{solution_cmp}
-use Rattle.grid.proofs.lemmas.Plays.{play_same}
+use Rattle.grid.proofs.lemmas.Directions.{dir_same}
 
 -- ---- one order, then another
 
@@ -49,11 +48,16 @@ then-none Less = refl
 then-none Equal = refl
 then-none Greater = refl
 
+-- what comes first in the first of two orders comes first in both, one after the other
+pub then-less : (a b : Ordering) → a ≡ Less → ordering_then a b ≡ Less
+then-less a b e = ap (λ (x : Ordering). ordering_then x b) e
+
 -- ---- what the laws of an order give
 
 -- of two that don't come after each other each is the other
-pub same_since_tied : {K : Type 0} {C : K → K → Ordering} → IsTotalOrder C → CmpEqualImpliesEq C → (x y : K) → is_gt (C x y) ≡ false → is_gt (C y x) ≡ false →
-    x ≡ y
+pub same_since_tied : {K : Type 0} {C : K → K → Ordering} → IsTotalOrder C → CmpEqualImpliesEq C → (x y : K)
+    → is_gt (C x y) ≡ false → is_gt (C y x) ≡ false
+    → x ≡ y
 same_since_tied {C = C} order exact x y p q = exact x y (tied (C x y) (C y x) (order.antisymm x y) p q)
   where
     tied : (a b : Ordering) → a ≡ ordering_reverse b → is_gt a ≡ false → is_gt b ≡ false → a ≡ Equal
@@ -64,7 +68,8 @@ same_since_tied {C = C} order exact x y p q = exact x y (tied (C x y) (C y x) (o
     tied Greater b e f g = absurd (true≢false f)
 
 -- of two, one does not come after the other
-pub either_first : {K : Type 0} {C : K → K → Ordering} → IsTotalOrder C → (x y : K) → (is_gt (C x y) ≡ false) ⊎ (C y x ≡ Less)
+pub either_first : {K : Type 0} {C : K → K → Ordering} → IsTotalOrder C → (x y : K)
+    → (is_gt (C x y) ≡ false) ⊎ (C y x ≡ Less)
 either_first {C = C} order x y = first (C x y) (C y x) (order.antisymm y x)
   where
     first : (a b : Ordering) → b ≡ ordering_reverse a → (is_gt a ≡ false) ⊎ (b ≡ Less)
@@ -88,25 +93,6 @@ not_gt_since_equal Greater e = absurd cc
 pub not_gt_itself : {K : Type 0} {C : K → K → Ordering} → IsTotalOrder C → (x : K) → is_gt (C x x) ≡ false
 not_gt_itself {C = C} order x = not_gt_since_equal (C x x) (tied_itself order x)
 
--- what comes before something that does not come after a third comes before the third
-pub less_then_not_gt : {K : Type 0} {C : K → K → Ordering} → IsTotalOrder C → CmpEqualImpliesEq C → (x y z : K) → C x y ≡ Less → is_gt (C y z) ≡ false →
-    C x z ≡ Less
-less_then_not_gt {C = C} order exact x y z p q = by_second (C y z) refl q
-  where
-    by_second : (a : Ordering) → C y z ≡ a → is_gt a ≡ false → C x z ≡ Less
-    by_second Less e f = order.trans x y z p e
-    by_second Equal e f = subst (λ w. C x w ≡ Less) (exact y z e) p
-    by_second Greater e f = absurd (true≢false f)
-
--- what does not come after something that comes before a third comes before the third
-pub not_gt_then_less : {K : Type 0} {C : K → K → Ordering} → IsTotalOrder C → (x y z : K) → is_gt (C x y) ≡ false → C y z ≡ Less → C x z ≡ Less
-not_gt_then_less {C = C} order x y z p q = by_first (C x y) refl p
-  where
-    by_first : (a : Ordering) → C x y ≡ a → is_gt a ≡ false → C x z ≡ Less
-    by_first Less e f = order.trans x y z e q
-    by_first Equal e f = order.congr x y z e ∙ q
-    by_first Greater e f = absurd (true≢false f)
-
 -- ---- numbers
 
 -- numbers are ordered as those before them
@@ -127,24 +113,6 @@ nat_cmp-not_gt m n e = grind (arith, nat_tests)
 
 -- ---- directions and pushes
 
-dir_number_exact : (d e : Dir) → dir_number d ≡ dir_number e → d ≡ e
-dir_number_exact D D h = refl
-dir_number_exact D L h = absurd (omega arith)
-dir_number_exact D R h = absurd (omega arith)
-dir_number_exact D U h = absurd (omega arith)
-dir_number_exact L D h = absurd (omega arith)
-dir_number_exact L L h = refl
-dir_number_exact L R h = absurd (omega arith)
-dir_number_exact L U h = absurd (omega arith)
-dir_number_exact R D h = absurd (omega arith)
-dir_number_exact R L h = absurd (omega arith)
-dir_number_exact R R h = refl
-dir_number_exact R U h = absurd (omega arith)
-dir_number_exact U D h = absurd (omega arith)
-dir_number_exact U L h = absurd (omega arith)
-dir_number_exact U R h = absurd (omega arith)
-dir_number_exact U U h = refl
-
 abbrev push_of : ℕ → Dir → Push
 push_of q d = record { square = q; dir = d }
 
@@ -154,11 +122,12 @@ dir_cmp_total = on_total dir_number nat_cmp_total
 
 -- and equal where the order does not tell them apart
 pub dir_cmp_exact : CmpEqualImpliesEq dir_cmp
-dir_cmp_exact d e h = dir_number_exact d e (exact_unsigned (dir_number d) (dir_number e) h)
+dir_cmp_exact d e h = dir_same d e (exact_unsigned (dir_number d) (dir_number e) h)
 
 -- pushes are totally ordered
 pub push_cmp_total : IsTotalOrder push_cmp
-push_cmp_total = then_total (on_total (λ (p : Push). p.square) nat_cmp_total) (on_total (λ (p : Push). p.dir) dir_cmp_total)
+push_cmp_total = then_total (on_total (λ (p : Push). p.square) nat_cmp_total)
+    (on_total (λ (p : Push). p.dir) dir_cmp_total)
 
 -- and equal where the order does not tell them apart
 pub push_cmp_exact : CmpEqualImpliesEq push_cmp
@@ -198,7 +167,8 @@ slice_cmp-append C (x ∷ xs) (y ∷ ys) us vs e =
 pub slice_cmp-push : {K : Type 0} (C : K → K → Ordering) (xs ys : List K) (x y : K) → length xs ≡ length ys →
     slice_cmp C (xs ++ x ∷ []) (ys ++ y ∷ []) ≡ ordering_then (slice_cmp C xs ys) (C x y)
 slice_cmp-push C xs ys x y e =
-    slice_cmp-append C xs ys (x ∷ []) (y ∷ []) e ∙ ap (λ (o : Ordering). ordering_then (slice_cmp C xs ys) o) (then-none (C x y))
+    slice_cmp-append C xs ys (x ∷ []) (y ∷ []) e ∙ ap (λ (o : Ordering). ordering_then (slice_cmp C xs ys) o)
+    (then-none (C x y))
 
 -- ---- the shorter list first
 
@@ -208,44 +178,43 @@ shortlex_total order = then_total (on_total length nat_cmp_total) (lists_total o
 
 -- and lists are equal where it does not tell them apart
 pub shortlex_exact : {K : Type 0} {C : K → K → Ordering} → CmpEqualImpliesEq C → CmpEqualImpliesEq (shortlex C)
-shortlex_exact {C = C} exact xs ys h = slice_cmp_exact exact xs ys (then-equal (nat_cmp (length xs) (length ys)) (slice_cmp C xs ys) h).1
+shortlex_exact {C = C} exact xs ys h =
+    slice_cmp_exact exact xs ys (then-equal (nat_cmp (length xs) (length ys)) (slice_cmp C xs ys) h).1
 
 -- the shorter list comes first
-pub shortlex-shorter : {K : Type 0} (C : K → K → Ordering) (xs ys : List K) → length xs < length ys → shortlex C xs ys ≡ Less
+pub shortlex-shorter : {K : Type 0} (C : K → K → Ordering) (xs ys : List K) → length xs < length ys
+    → shortlex C xs ys ≡ Less
 shortlex-shorter C xs ys lt = rw (nat_cmp-less (length xs) (length ys) lt) refl
 
+-- no list comes before the empty one
+pub shortlex-none : {K : Type 0} (C : K → K → Ordering) (xs : List K) → is_gt (shortlex C [] xs) ≡ false
+shortlex-none C [] = refl
+shortlex-none C (x ∷ xs) = not_gt_since_less _ (shortlex-shorter C [] (x ∷ xs) (omega arith))
+
 -- lists of one length are compared element by element
-pub shortlex-even : {K : Type 0} (C : K → K → Ordering) (xs ys : List K) → length xs ≡ length ys → shortlex C xs ys ≡ slice_cmp C xs ys
+pub shortlex-even : {K : Type 0} (C : K → K → Ordering) (xs ys : List K) → length xs ≡ length ys
+    → shortlex C xs ys ≡ slice_cmp C xs ys
 shortlex-even C xs ys e = rw (nat_cmp-same (length xs) (length ys) e) refl
 
 -- what does not come after a list is no longer than it
-pub shortlex-length : {K : Type 0} (C : K → K → Ordering) (xs ys : List K) → is_gt (shortlex C xs ys) ≡ false → length xs ≤ length ys
-shortlex-length C xs ys h = nat_cmp-not_gt (length xs) (length ys) (then-first (nat_cmp (length xs) (length ys)) (slice_cmp C xs ys) h)
-
--- one more element behind each of two lists
-pub shortlex-push : {K : Type 0} (C : K → K → Ordering) (xs ys : List K) (x y : K) →
-    shortlex C (xs ++ x ∷ []) (ys ++ y ∷ []) ≡ ordering_then (shortlex C xs ys) (C x y)
-shortlex-push C xs ys x y = pushed (nat_cmp (length xs) (length ys)) refl
-  where
-    lengths : nat_cmp (length (xs ++ x ∷ [])) (length (ys ++ y ∷ [])) ≡ nat_cmp (length xs) (length ys)
-    lengths = rw (length-append xs (x ∷ []), length-append ys (y ∷ [])) (grind (arith, nat_tests))
-
-    pushed : (o : Ordering) → nat_cmp (length xs) (length ys) ≡ o → shortlex C (xs ++ x ∷ []) (ys ++ y ∷ []) ≡ ordering_then (shortlex C xs ys) (C x y)
-    pushed Less e = rw (lengths, e) refl
-    pushed Equal e = rw (lengths, e) (slice_cmp-push C xs ys x y (exact_unsigned (length xs) (length ys) e))
-    pushed Greater e = rw (lengths, e) refl
+pub shortlex-length : {K : Type 0} (C : K → K → Ordering) (xs ys : List K) → is_gt (shortlex C xs ys) ≡ false
+    → length xs ≤ length ys
+shortlex-length C xs ys h = nat_cmp-not_gt (length xs) (length ys)
+    (then-first (nat_cmp (length xs) (length ys)) (slice_cmp C xs ys) h)
 
 -- parts of one length each are compared one after the other
-pub shortlex-append : {K : Type 0} (C : K → K → Ordering) (xs ys us vs : List K) → length xs ≡ length ys → length us ≡ length vs →
-    shortlex C (xs ++ us) (ys ++ vs) ≡ ordering_then (shortlex C xs ys) (shortlex C us vs)
+pub shortlex-append : {K : Type 0} (C : K → K → Ordering) (xs ys us vs : List K) → length xs ≡ length ys
+    → length us ≡ length vs
+    → shortlex C (xs ++ us) (ys ++ vs) ≡ ordering_then (shortlex C xs ys) (shortlex C us vs)
 shortlex-append C xs ys us vs e f =
     shortlex-even C (xs ++ us) (ys ++ vs) (let a = length-append xs us in let b = length-append ys vs in omega arith)
     ∙ (slice_cmp-append C xs ys us vs e
     ∙ rw (shortlex-even C xs ys e, shortlex-even C us vs f) refl)
 
 -- where neither part comes after the other list's, the whole does not
-pub shortlex-append_not_gt : {K : Type 0} (C : K → K → Ordering) (xs ys us vs : List K) → is_gt (shortlex C xs ys) ≡ false → is_gt (shortlex C us vs) ≡ false →
-    is_gt (shortlex C (xs ++ us) (ys ++ vs)) ≡ false
+pub shortlex-append_not_gt : {K : Type 0} (C : K → K → Ordering) (xs ys us vs : List K)
+    → is_gt (shortlex C xs ys) ≡ false → is_gt (shortlex C us vs) ≡ false
+    → is_gt (shortlex C (xs ++ us) (ys ++ vs)) ≡ false
 shortlex-append_not_gt C xs ys us vs p q = by_lengths (cases_order (length xs + length us) (length ys + length vs))
   where
     front : length xs ≤ length ys
@@ -261,17 +230,13 @@ shortlex-append_not_gt C xs ys us vs p q = by_lengths (cases_order (length xs + 
     other = length-append ys vs
 
     by_lengths : (length xs + length us ≡ length ys + length vs) ⊎
-        ((length xs + length us < length ys + length vs) ⊎ (length ys + length vs < length xs + length us)) → is_gt (shortlex C (xs ++ us) (ys ++ vs)) ≡ false
-    by_lengths (inl e) = rw (shortlex-append C xs ys us vs (omega (arith, front, behind)) (omega (arith, front, behind)))
+        ((length xs + length us < length ys + length vs) ⊎ (length ys + length vs < length xs + length us))
+        → is_gt (shortlex C (xs ++ us) (ys ++ vs)) ≡ false
+    by_lengths (inl e) =
+        rw (shortlex-append C xs ys us vs (omega (arith, front, behind)) (omega (arith, front, behind)))
         (then-not_gt (shortlex C xs ys) (shortlex C us vs) p q)
     by_lengths (inr (inl lt)) = rw (shortlex-shorter C (xs ++ us) (ys ++ vs) (omega (arith, whole, other))) refl
     by_lengths (inr (inr gt)) = absurd (omega (arith, front, behind))
-
--- one front before two lists changes nothing
-pub shortlex-same_front : {K : Type 0} {C : K → K → Ordering} → IsTotalOrder C → (xs us vs : List K) → shortlex C (xs ++ us) (xs ++ vs) ≡ shortlex C us vs
-shortlex-same_front order [] us vs = refl
-shortlex-same_front {C = C} order (x ∷ xs) us vs =
-    rw (nat_cmp-suc (length (xs ++ us)) (length (xs ++ vs)), tied_itself order x) (shortlex-same_front order xs us vs)
 
 -- ---- solutions
 
@@ -285,7 +250,8 @@ solution_cmp_total = then_total (on_total (λ (x : List Dir × List Push). x.1) 
     (on_total (λ (x : List Dir × List Push). x.0) (shortlex_total dir_cmp_total))
 
 -- what it does not tell apart is equal
-pub solution_cmp_exact : (ds es : List Dir) (ps qs : List Push) → solution_cmp ds ps es qs ≡ Equal → (ds ≡ es) × (ps ≡ qs)
+pub solution_cmp_exact : (ds es : List Dir) (ps qs : List Push) → solution_cmp ds ps es qs ≡ Equal
+    → (ds ≡ es) × (ps ≡ qs)
 solution_cmp_exact ds es ps qs h =
     let both = then-equal (shortlex push_cmp ps qs) (shortlex dir_cmp ds es) h in
     (shortlex_exact dir_cmp_exact ds es both.1, shortlex_exact push_cmp_exact ps qs both.0)
@@ -302,7 +268,8 @@ pair_cmp_exact x y h =
     same_pair i j = cc
 
 -- of two solutions one does not come after the other
-pub solutions_either : (ds es : List Dir) (ps qs : List Push) → (is_gt (solution_cmp ds ps es qs) ≡ false) ⊎ (is_gt (solution_cmp es qs ds ps) ≡ false)
+pub solutions_either : (ds es : List Dir) (ps qs : List Push)
+    → (is_gt (solution_cmp ds ps es qs) ≡ false) ⊎ (is_gt (solution_cmp es qs ds ps) ≡ false)
 solutions_either ds es ps qs =
     elim (either_first solution_cmp_total (ds, ps) (es, qs)) [
       | inl e ↦ inl e
@@ -310,21 +277,15 @@ solutions_either ds es ps qs =
     ]
 
 -- of two solutions that don't come after each other each is the other
-pub same_solution : (ds es : List Dir) (ps qs : List Push) → is_gt (solution_cmp ds ps es qs) ≡ false → is_gt (solution_cmp es qs ds ps) ≡ false → (ds ≡ es) ×
+pub same_solution : (ds es : List Dir) (ps qs : List Push) → is_gt (solution_cmp ds ps es qs) ≡ false
+    → is_gt (solution_cmp es qs ds ps) ≡ false → (ds ≡ es) ×
     (ps ≡ qs)
 same_solution ds es ps qs p q =
     let e = same_since_tied solution_cmp_total pair_cmp_exact (ds, ps) (es, qs) p q in
     (ap (λ (x : List Dir × List Push). x.0) e, ap (λ (x : List Dir × List Push). x.1) e)
 
--- a solution has no more pushes than those that it does not come after
-pub solution_pushes : (ds es : List Dir) (ps qs : List Push) → is_gt (solution_cmp ds ps es qs) ≡ false → length ps ≤ length qs
-solution_pushes ds es ps qs h = shortlex-length push_cmp ps qs (then-first (shortlex push_cmp ps qs) (shortlex dir_cmp ds es) h)
-
--- the directions of a solution say its pushes
-pub solution_same : (board : Board) (ds : List Dir) (ps qs : List Push) → IsSolution board ds ps → IsSolution board ds qs → ps ≡ qs
-solution_same board ds ps qs one two = (play_same one.1 two.1).0
-
 -- there is one least solution
-pub least_solution_same : (board : Board) (ds es : List Dir) (ps qs : List Push) → IsLeastSolution board ds ps → IsLeastSolution board es qs → (ds ≡ es) ×
+pub least_solution_same : (board : Board) (ds es : List Dir) (ps qs : List Push) → IsLeastSolution board ds ps
+    → IsLeastSolution board es qs → (ds ≡ es) ×
     (ps ≡ qs)
 least_solution_same board ds es ps qs one two = same_solution ds es ps qs (one.1 es qs two.0) (two.1 ds ps one.0)

@@ -1,8 +1,12 @@
 -- Laws of sets of squares.
-use Rattle.std.proofs.Common.{◌≡◌, ◌≢◌, ℕ, zero, suc, ◌+◌, ◌<◌, ◌≤◌, Bool, true, false, not, cond, eqb, ltb, leb, ◌&&◌, ◌||◌, List, [], ◌∷◌, ◌++◌, length}
-use Rattle.std.proofs.Common.{get_or, ◌⊎◌, inl, inr, refl, sym, ap, subst, ◌∙◌, arith}
-use Rattle.std.proofs.lemmas.Bool.{eqb-true, eqb-false, eq-eqb, ne_eqb, ltb-true, ltb-false, leb-true, le-leb, and_parts, and_from, cases_eq, cases_order}
-use Rattle.std.proofs.lemmas.Bool.{true≢false, false≢true}
+use Rattle.std.proofs.Common.{◌≡◌, ◌≢◌, ℕ, zero, suc, ◌+◌, ◌<◌, ◌≤◌, Bool, true, false, not, cond, eqb, ltb, leb, ◌&&◌}
+use Rattle.std.proofs.Common.{◌||◌, List, [], ◌∷◌, ◌++◌, length, get_or, ◌⊎◌, inl, inr, refl, sym, ap, ◌∙◌, arith, ◌==◌}
+use Rattle.std.proofs.lemmas.Bool.{eqb-true, eqb-false, eq-eqb, ne_eqb, ltb-true, ltb-false, leb-true, le-leb}
+use Rattle.std.proofs.lemmas.Bool.{and_parts, and_from, cases_eq, cases_order, true≢false, false≢true, or_cases}
+use Rattle.std.proofs.lemmas.Bool.{or_left, or_right, or_parts}
+use Rattle.std.proofs.Math.Bool.{or-false, and-false}
+use Rattle.std.proofs.lemmas.List.Folds.{list_any-append}
+use Rattle.std.specs.Cmp.{both_ways}
 use Rattle.grid.specs.Squares.{Squares, contains, remove, insert}
 use Rattle.grid.specs.Rising.{rises_from, is_rising}
 
@@ -28,25 +32,18 @@ without_swap true false c apart = refl
 without_swap false true c apart = refl
 without_swap false false c apart = refl
 
-same_bool : (a b : Bool) → (a ≡ true → b ≡ true) → (b ≡ true → a ≡ true) → a ≡ b
-same_bool true b to from = sym (to refl)
-same_bool false true to from = from refl
-same_bool false false to from = refl
-
 -- ---- members after an insert
 
 pub contains_head : (x : ℕ) (xs : Squares) → contains (x ∷ xs) x ≡ true
 contains_head x xs = rw (eq-eqb x x refl) refl
 
-contains_tail : (x : ℕ) (xs : Squares) (q : ℕ) → contains xs q ≡ true → contains (x ∷ xs) q ≡ true
-contains_tail x xs q h = or_true (eqb x q) (contains xs q) h
-  where
-    or_true : (a b : Bool) → b ≡ true → (a || b) ≡ true
-    or_true true b e = refl
-    or_true false b e = e
+-- the members of the rest are members
+pub contains_tail : (x : ℕ) (xs : Squares) (q : ℕ) → contains xs q ≡ true → contains (x ∷ xs) q ≡ true
+contains_tail x xs q h = or_right (eqb x q) (contains xs q) h
 
-insert_at : (x : ℕ) (xs : Squares) (q r : ℕ) (lt eq : Bool) → (eq ≡ true → x ≡ q) → contains (insert xs q) r ≡ (eqb q r || contains xs r) →
-    contains (cond lt (q ∷ x ∷ xs) (cond eq (x ∷ xs) (x ∷ insert xs q))) r ≡ (eqb q r || (eqb x r || contains xs r))
+insert_at : (x : ℕ) (xs : Squares) (q r : ℕ) (lt eq : Bool) → (eq ≡ true → x ≡ q)
+    → contains (insert xs q) r ≡ (eqb q r || contains xs r)
+    → contains (cond lt (q ∷ x ∷ xs) (cond eq (x ∷ xs) (x ∷ insert xs q))) r ≡ (eqb q r || (eqb x r || contains xs r))
 insert_at x xs q r true eq same h = refl
 insert_at x xs q r false true same h = rw (same refl) (or_twice (eqb q r) (contains xs r))
 insert_at x xs q r false false same h = rw h (or_swap (eqb x r) (eqb q r) (contains xs r))
@@ -69,12 +66,32 @@ pub contains-insert_other : (xs : Squares) (q r : ℕ) → q ≢ r → contains 
 contains-insert_other xs q r apart = rw (contains-insert xs q r, ne_eqb q r apart) refl
 
 -- what is in after an insert was put in, or was in before
-pub contains-insert_cases : (xs : Squares) (q r : ℕ) → contains (insert xs q) r ≡ true → (q ≡ r) ⊎ (contains xs r ≡ true)
+pub contains-insert_cases : (xs : Squares) (q r : ℕ) → contains (insert xs q) r ≡ true
+    → (q ≡ r) ⊎ (contains xs r ≡ true)
 contains-insert_cases xs q r h = cases_of (eqb q r) (contains xs r) (eqb-true q r) (sym (contains-insert xs q r) ∙ h)
   where
     cases_of : (a b : Bool) → (a ≡ true → q ≡ r) → (a || b) ≡ true → (q ≡ r) ⊎ (b ≡ true)
     cases_of true b same e = inl (same refl)
     cases_of false b same e = inr e
+
+-- ---- members after a push
+
+-- a square is in a list with one more where it is in the list or is the one more
+pub contains-push : (xs : Squares) (x q : ℕ) → contains (xs ++ x ∷ []) q ≡ (contains xs q || eqb x q)
+contains-push xs x q =
+    list_any-append (λ y. y == q) xs (x ∷ []) ∙ ap (λ b. contains xs q || b) (or-false (eqb x q))
+
+pub contains-push_cases : (xs : Squares) (x q : ℕ) → contains (xs ++ x ∷ []) q ≡ true → (contains xs q ≡ true) ⊎ (x ≡ q)
+contains-push_cases xs x q there = elim (or_cases (contains xs q) (eqb x q) (sym (contains-push xs x q) ∙ there)) [
+  | inl before ↦ inl before
+  | inr same ↦ inr (eqb-true x q same)
+]
+
+pub contains-push_kept : (xs : Squares) (x q : ℕ) → contains xs q ≡ true → contains (xs ++ x ∷ []) q ≡ true
+contains-push_kept xs x q there = contains-push xs x q ∙ or_left (contains xs q) (eqb x q) there
+
+pub contains-push_last : (xs : Squares) (x : ℕ) → contains (xs ++ x ∷ []) x ≡ true
+contains-push_last xs x = contains-push xs x x ∙ or_right (contains xs x) (eqb x x) (eq-eqb x x refl)
 
 -- ---- members after a remove
 
@@ -82,15 +99,12 @@ remove_at : (x : ℕ) (xs : Squares) (q r : ℕ) (eq : Bool) → (eq ≡ true �
     contains (remove xs q) r ≡ (not (eqb q r) && contains xs r) →
     contains (cond eq (remove xs q) (x ∷ remove xs q)) r ≡ (not (eqb q r) && (eqb x r || contains xs r))
 remove_at x xs q r true same apart h = rw (same refl) (h ∙ without_twice (eqb q r) (contains xs r))
-remove_at x xs q r false same apart h = rw h (without_swap (eqb x r) (eqb q r) (contains xs r) (λ a b. apart refl (eqb-true x r a ∙ sym (eqb-true q r b))))
+remove_at x xs q r false same apart h =
+    rw h (without_swap (eqb x r) (eqb q r) (contains xs r) (λ a b. apart refl (eqb-true x r a ∙ sym (eqb-true q r b))))
 
 -- a square is in the set without q where it is not q and is in the set
 pub contains-remove : (xs : Squares) (q r : ℕ) → contains (remove xs q) r ≡ (not (eqb q r) && contains xs r)
-contains-remove [] q r = never (not (eqb q r))
-  where
-    never : (a : Bool) → false ≡ (a && false)
-    never true = refl
-    never false = refl
+contains-remove [] q r = sym (and-false (not (eqb q r)))
 contains-remove (x ∷ xs) q r = remove_at x xs q r (eqb x q) (eqb-true x q) (eqb-false x q) (contains-remove xs q r)
 
 -- the square that is taken out is not in
@@ -102,7 +116,8 @@ pub contains-remove_other : (xs : Squares) (q r : ℕ) → q ≢ r → contains 
 contains-remove_other xs q r apart = rw (contains-remove xs q r, ne_eqb q r apart) refl
 
 -- what is in after a remove is another square, and was in before
-pub contains-remove_parts : (xs : Squares) (q r : ℕ) → contains (remove xs q) r ≡ true → (q ≢ r) × (contains xs r ≡ true)
+pub contains-remove_parts : (xs : Squares) (q r : ℕ) → contains (remove xs q) r ≡ true
+    → (q ≢ r) × (contains xs r ≡ true)
 contains-remove_parts xs q r h = parts_of (eqb q r) (contains xs r) (eqb-false q r) (sym (contains-remove xs q r) ∙ h)
   where
     parts_of : (a b : Bool) → (a ≡ false → q ≢ r) → (not a && b) ≡ true → (q ≢ r) × (b ≡ true)
@@ -111,11 +126,7 @@ contains-remove_parts xs q r h = parts_of (eqb q r) (contains xs r) (eqb-false q
 
 -- what was out stays out
 pub contains-remove_out : (xs : Squares) (q r : ℕ) → contains xs r ≡ false → contains (remove xs q) r ≡ false
-contains-remove_out xs q r h = rw (contains-remove xs q r, h) (never (not (eqb q r)))
-  where
-    never : (a : Bool) → (a && false) ≡ false
-    never true = refl
-    never false = refl
+contains-remove_out xs q r h = rw (contains-remove xs q r, h) (and-false (not (eqb q r)))
 
 -- ---- rising lists
 
@@ -152,7 +163,8 @@ contains-from k xs q h c = elim (cases_order q k) [
   | inr (inr gt) ↦ omega arith
 ]
 
-same_from : (k : ℕ) (xs ys : Squares) → rises_from k xs ≡ true → rises_from k ys ≡ true → ((q : ℕ) → contains xs q ≡ contains ys q) → xs ≡ ys
+same_from : (k : ℕ) (xs ys : Squares) → rises_from k xs ≡ true → rises_from k ys ≡ true
+    → ((q : ℕ) → contains xs q ≡ contains ys q) → xs ≡ ys
 same_from k [] [] hx hy same = refl
 same_from k [] (y ∷ ys) hx hy same = absurd (false≢true (same y ∙ contains_head y ys))
 same_from k (x ∷ xs) [] hx hy same = absurd (false≢true (sym (same x) ∙ contains_head x xs))
@@ -161,9 +173,12 @@ same_from k (x ∷ xs) (y ∷ ys) hx hy same =
     let r = rises_from-parts k y ys hy in
     let heads : x ≡ y = elim (cases_order x y) [
       | inl e ↦ e
-      | inr (inl lt) ↦ absurd (false≢true (sym (contains-below y (y ∷ ys) x (rises_from-cons y y ys (omega arith) r.1) lt) ∙
+      | inr (inl lt) ↦
+          absurd (false≢true (sym (contains-below y (y ∷ ys) x (rises_from-cons y y ys (omega arith) r.1) lt) ∙
           (sym (same x) ∙ contains_head x xs)))
-      | inr (inr gt) ↦ absurd (false≢true (sym (contains-below x (x ∷ xs) y (rises_from-cons x x xs (omega arith) p.1) gt) ∙ (same y ∙ contains_head y ys)))
+      | inr (inr gt) ↦
+          absurd (false≢true (sym (contains-below x (x ∷ xs) y (rises_from-cons x x xs (omega arith) p.1) gt)
+          ∙ (same y ∙ contains_head y ys)))
     ] in
     let rest : rises_from (suc x) ys ≡ true = rw heads r.1 in
     let tails : (q : ℕ) → contains xs q ≡ contains ys q = λ q. elim (cases_eq x q) [
@@ -176,16 +191,21 @@ same_from k (x ∷ xs) (y ∷ ys) hx hy same =
     skip z zs q ne = rw (ne_eqb z q ne) refl
 
 -- two sets with the same members are equal
-pub same_set : (xs ys : Squares) → is_rising xs ≡ true → is_rising ys ≡ true → ((q : ℕ) → contains xs q ≡ contains ys q) → xs ≡ ys
+pub same_set : (xs ys : Squares) → is_rising xs ≡ true → is_rising ys ≡ true → ((q : ℕ) → contains xs q ≡ contains ys q)
+    → xs ≡ ys
 same_set xs ys hx hy same = same_from 0 xs ys hx hy same
 
 -- two sets, each of which has the members of the other, are equal
-pub same_set_both : (xs ys : Squares) → is_rising xs ≡ true → is_rising ys ≡ true → ((q : ℕ) → contains xs q ≡ true → contains ys q ≡ true) →
-    ((q : ℕ) → contains ys q ≡ true → contains xs q ≡ true) → xs ≡ ys
-same_set_both xs ys hx hy to from = same_set xs ys hx hy (λ q. same_bool (contains xs q) (contains ys q) (to q) (from q))
+pub same_set_both : (xs ys : Squares) → is_rising xs ≡ true → is_rising ys ≡ true
+    → ((q : ℕ) → contains xs q ≡ true → contains ys q ≡ true)
+    → ((q : ℕ) → contains ys q ≡ true → contains xs q ≡ true) → xs ≡ ys
+same_set_both xs ys hx hy to from =
+    same_set xs ys hx hy (λ q. both_ways (contains xs q) (contains ys q) (to q) (from q))
 
-insert_rises_at : (k x : ℕ) (xs : List ℕ) (q : ℕ) (lt eq : Bool) → k ≤ q → k ≤ x → rises_from (suc x) xs ≡ true → (lt ≡ true → q < x) → (lt ≡ false → x ≤ q) →
-    (eq ≡ false → x ≢ q) → (suc x ≤ q → rises_from (suc x) (insert xs q) ≡ true) → rises_from k (cond lt (q ∷ x ∷ xs) (cond eq (x ∷ xs) (x ∷ insert xs q))) ≡
+insert_rises_at : (k x : ℕ) (xs : List ℕ) (q : ℕ) (lt eq : Bool) → k ≤ q → k ≤ x → rises_from (suc x) xs ≡ true
+    → (lt ≡ true → q < x) → (lt ≡ false → x ≤ q)
+    → (eq ≡ false → x ≢ q) → (suc x ≤ q → rises_from (suc x) (insert xs q) ≡ true)
+    → rises_from k (cond lt (q ∷ x ∷ xs) (cond eq (x ∷ xs) (x ∷ insert xs q))) ≡
     true
 insert_rises_at k x xs q true eq kq kx h less more apart rest = let lt : q < x = less refl in
     rises_from-cons k q (x ∷ xs) kq (rises_from-cons (suc q) x xs (omega arith) h)
@@ -196,11 +216,13 @@ insert_rises_at k x xs q false false kq kx h less more apart rest =
     rises_from-cons k x (insert xs q) kx (rest (omega (arith, ne)))
 
 -- an insert keeps a list rising
-pub rises_from-insert : (k : ℕ) (xs : List ℕ) (q : ℕ) → k ≤ q → rises_from k xs ≡ true → rises_from k (insert xs q) ≡ true
+pub rises_from-insert : (k : ℕ) (xs : List ℕ) (q : ℕ) → k ≤ q → rises_from k xs ≡ true
+    → rises_from k (insert xs q) ≡ true
 rises_from-insert k [] q le h = rises_from-cons k q [] le refl
 rises_from-insert k (x ∷ xs) q le h =
     let p = rises_from-parts k x xs h in
-    insert_rises_at k x xs q (ltb q x) (eqb x q) le p.0 p.1 (ltb-true q x) (ltb-false q x) (eqb-false x q) (λ more. rises_from-insert (suc x) xs q more p.1)
+    insert_rises_at k x xs q (ltb q x) (eqb x q) le p.0 p.1 (ltb-true q x) (ltb-false q x) (eqb-false x q)
+    (λ more. rises_from-insert (suc x) xs q more p.1)
 
 -- an insert keeps a set a set
 pub is_rising-insert : (xs : List ℕ) (q : ℕ) → is_rising xs ≡ true → is_rising (insert xs q) ≡ true
@@ -230,50 +252,46 @@ insert_length_at x xs q true eq ne h = refl
 insert_length_at x xs q false true ne h = absurd (true≢false ne)
 insert_length_at x xs q false false ne h = ap suc h
 
-or_none : (a b : Bool) → (a || b) ≡ false → (a ≡ false) × (b ≡ false)
-or_none true b e = absurd (true≢false e)
-or_none false b e = (refl, e)
-
 -- a new square makes a set larger by one
 pub length-insert : (xs : Squares) (q : ℕ) → contains xs q ≡ false → length (insert xs q) ≡ suc (length xs)
 length-insert [] q out = refl
 length-insert (x ∷ xs) q out =
-    let p = or_none (eqb x q) (contains xs q) out in
+    let p = or_parts (eqb x q) (contains xs q) out in
     insert_length_at x xs q (ltb q x) (eqb x q) p.0 (length-insert xs q p.1)
 
 -- taking out what is not in changes nothing
 pub remove_out : (xs : Squares) (q : ℕ) → contains xs q ≡ false → remove xs q ≡ xs
 remove_out [] q out = refl
 remove_out (x ∷ xs) q out =
-    let p = or_none (eqb x q) (contains xs q) out in
+    let p = or_parts (eqb x q) (contains xs q) out in
     rw p.0 (ap (λ (zs : List ℕ). x ∷ zs) (remove_out xs q p.1))
 
--- putting in what is in changes nothing
-pub insert_in : (xs : Squares) (q : ℕ) → is_rising xs ≡ true → contains xs q ≡ true → insert xs q ≡ xs
-insert_in xs q h here = same_set (insert xs q) xs (is_rising-insert xs q h) h (λ r. elim (cases_eq q r) [
-  | inl e ↦ subst (λ (z : ℕ). contains (insert xs q) z ≡ contains xs z) e (contains-insert_here xs q ∙ sym here)
-  | inr ne ↦ contains-insert_other xs q r ne
-])
-
-remove_length_at : (k x : ℕ) (xs : List ℕ) (q : ℕ) (eq : Bool) → (eq ≡ true → x ≡ q) → rises_from (suc x) xs ≡ true → (eq || contains xs q) ≡ true →
-    (contains xs q ≡ true → suc (length (remove xs q)) ≡ length xs) → suc (length (cond eq (remove xs q) (x ∷ remove xs q))) ≡ suc (length xs)
+remove_length_at : (k x : ℕ) (xs : List ℕ) (q : ℕ) (eq : Bool) → (eq ≡ true → x ≡ q) → rises_from (suc x) xs ≡ true
+    → (eq || contains xs q) ≡ true
+    → (contains xs q ≡ true → suc (length (remove xs q)) ≡ length xs)
+    → suc (length (cond eq (remove xs q) (x ∷ remove xs q))) ≡ suc (length xs)
 remove_length_at k x xs q true same h here rest =
-    ap (λ (zs : List ℕ). suc (length zs)) (remove_out xs q (contains-below (suc x) xs q h (let e = same refl in omega arith)))
+    ap (λ (zs : List ℕ). suc (length zs))
+    (remove_out xs q (contains-below (suc x) xs q h (let e = same refl in omega arith)))
 remove_length_at k x xs q false same h here rest = ap suc (rest here)
 
-length-remove_from : (k : ℕ) (xs : Squares) (q : ℕ) → rises_from k xs ≡ true → contains xs q ≡ true → suc (length (remove xs q)) ≡ length xs
+length-remove_from : (k : ℕ) (xs : Squares) (q : ℕ) → rises_from k xs ≡ true → contains xs q ≡ true
+    → suc (length (remove xs q)) ≡ length xs
 length-remove_from k [] q h here = absurd (false≢true here)
 length-remove_from k (x ∷ xs) q h here =
     let p = rises_from-parts k x xs h in
     remove_length_at k x xs q (eqb x q) (eqb-true x q) p.1 here (λ there. length-remove_from (suc x) xs q p.1 there)
 
 -- taking out a member makes a set smaller by one
-pub length-remove : (xs : Squares) (q : ℕ) → is_rising xs ≡ true → contains xs q ≡ true → suc (length (remove xs q)) ≡ length xs
+pub length-remove : (xs : Squares) (q : ℕ) → is_rising xs ≡ true → contains xs q ≡ true
+    → suc (length (remove xs q)) ≡ length xs
 length-remove xs q h here = length-remove_from 0 xs q h here
 
 -- where one square takes the place of another, the size stays
-pub length-moved : (xs : Squares) (q r : ℕ) → is_rising xs ≡ true → contains xs q ≡ true → contains xs r ≡ false → length (insert (remove xs q) r) ≡ length xs
-length-moved xs q r h here out = length-insert (remove xs q) r (contains-remove_out xs q r out) ∙ length-remove xs q h here
+pub length-moved : (xs : Squares) (q r : ℕ) → is_rising xs ≡ true → contains xs q ≡ true → contains xs r ≡ false
+    → length (insert (remove xs q) r) ≡ length xs
+length-moved xs q r h here out = length-insert (remove xs q) r (contains-remove_out xs q r out)
+    ∙ length-remove xs q h here
 
 -- ---- members by their place in the list
 
@@ -288,42 +306,51 @@ pub place_of_member : (xs : Squares) (q d : ℕ) → contains xs q ≡ true → 
 place_of_member [] q d here = absurd (false≢true here)
 place_of_member (x ∷ xs) q d here = at (eqb x q) (eqb-true x q) here (place_of_member xs q d)
   where
-    at : (a : Bool) → (a ≡ true → x ≡ q) → (a || contains xs q) ≡ true → (contains xs q ≡ true → (i : ℕ) × (i < length xs) × (get_or xs i d ≡ q)) → (i : ℕ) ×
+    at : (a : Bool) → (a ≡ true → x ≡ q) → (a || contains xs q) ≡ true
+        → (contains xs q ≡ true → (i : ℕ) × (i < length xs) × (get_or xs i d ≡ q)) → (i : ℕ) ×
         (i < length (x ∷ xs)) × (get_or (x ∷ xs) i d ≡ q)
     at true same e later = (zero, omega arith, same refl)
     at false same e later = let l = later e in (suc l.0, omega (arith, l.1), l.2)
 
 -- elements rise with their places
-pub rising_places : (xs : Squares) (i j d : ℕ) → is_rising xs ≡ true → i < j → j < length xs → get_or xs i d < get_or xs j d
+pub rising_places : (xs : Squares) (i j d : ℕ) → is_rising xs ≡ true → i < j → j < length xs
+    → get_or xs i d < get_or xs j d
 rising_places xs i j d h lt in_range = risen 0 xs i j h lt in_range
   where
     least : (k : ℕ) (ys : Squares) (n : ℕ) → rises_from k ys ≡ true → n < length ys → k ≤ get_or ys n d
     least k ys n hy l = contains-from k ys (get_or ys n d) hy (contains-get_or ys n d l)
 
-    risen : (k : ℕ) (ys : Squares) (m n : ℕ) → rises_from k ys ≡ true → m < n → n < length ys → get_or ys m d < get_or ys n d
+    risen : (k : ℕ) (ys : Squares) (m n : ℕ) → rises_from k ys ≡ true → m < n → n < length ys
+        → get_or ys m d < get_or ys n d
     risen k [] m n hy l b = absurd (omega arith)
     risen k (y ∷ ys) m zero hy l b = absurd (omega arith)
     risen k (y ∷ ys) zero (suc n) hy l b =
         let p = rises_from-parts k y ys hy in
         let e = least (suc y) ys n p.1 (omega arith) in omega arith
-    risen k (y ∷ ys) (suc m) (suc n) hy l b = risen (suc y) ys m n (rises_from-parts k y ys hy).1 (omega arith) (omega arith)
+    risen k (y ∷ ys) (suc m) (suc n) hy l b =
+        risen (suc y) ys m n (rises_from-parts k y ys hy).1 (omega arith) (omega arith)
 
 -- one more number at the end, above all the others, keeps a list rising
-pub is_rising-push : (xs : Squares) (q : ℕ) → is_rising xs ≡ true → ((x : ℕ) → contains xs x ≡ true → x < q) → is_rising (xs ++ q ∷ []) ≡ true
+pub is_rising-push : (xs : Squares) (q : ℕ) → is_rising xs ≡ true → ((x : ℕ) → contains xs x ≡ true → x < q)
+    → is_rising (xs ++ q ∷ []) ≡ true
 is_rising-push xs q h above = pushed 0 xs (omega arith) h above
   where
-    pushed : (k : ℕ) (ys : Squares) → k ≤ q → rises_from k ys ≡ true → ((x : ℕ) → contains ys x ≡ true → x < q) → rises_from k (ys ++ q ∷ []) ≡ true
+    pushed : (k : ℕ) (ys : Squares) → k ≤ q → rises_from k ys ≡ true → ((x : ℕ) → contains ys x ≡ true → x < q)
+        → rises_from k (ys ++ q ∷ []) ≡ true
     pushed k [] le hy all = rises_from-cons k q [] le refl
     pushed k (y ∷ ys) le hy all =
         let p = rises_from-parts k y ys hy in
         let first = all y (contains_head y ys) in
-        rises_from-cons k y (ys ++ q ∷ []) p.0 (pushed (suc y) ys (omega arith) p.1 (λ x here. all x (contains_tail y ys x here)))
+        rises_from-cons k y (ys ++ q ∷ []) p.0
+        (pushed (suc y) ys (omega arith) p.1 (λ x here. all x (contains_tail y ys x here)))
 
 -- a set of squares below n has at most n members
-pub length-le_bound : (xs : Squares) (n : ℕ) → is_rising xs ≡ true → ((q : ℕ) → contains xs q ≡ true → q < n) → length xs ≤ n
+pub length-le_bound : (xs : Squares) (n : ℕ) → is_rising xs ≡ true → ((q : ℕ) → contains xs q ≡ true → q < n)
+    → length xs ≤ n
 length-le_bound xs n h below = let e = counted 0 xs (omega arith) h below in omega arith
   where
-    counted : (k : ℕ) (ys : Squares) → k ≤ n → rises_from k ys ≡ true → ((q : ℕ) → contains ys q ≡ true → q < n) → length ys + k ≤ n
+    counted : (k : ℕ) (ys : Squares) → k ≤ n → rises_from k ys ≡ true → ((q : ℕ) → contains ys q ≡ true → q < n)
+        → length ys + k ≤ n
     counted k [] le hy all = omega arith
     counted k (y ∷ ys) le hy all =
         let p = rises_from-parts k y ys hy in

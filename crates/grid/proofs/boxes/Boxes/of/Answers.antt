@@ -5,7 +5,7 @@ use Rattle.grid.specs.Squares.{Squares}
 use Rattle.grid.specs.Rising.{is_rising}
 use Rattle.grid.specs.Marks.{marked}
 use Rattle.grid.proofs.Kept.{marked_few, marked_first}
-use Rattle.grid.proofs.Marked.{is_rising-places_from}
+use Rattle.grid.proofs.lemmas.Places.{is_rising-places_from}
 use Rattle.grid.proofs.lemmas.Levels.{length-start_boxes}
 use Rattle.grid.proofs.boxes.Boxes.of.Goals as goal
 
@@ -16,7 +16,8 @@ invariant_of-result c =
     let is : flags ≡ map box_cell level.cells = c.in_ok-flags.ensures ∙ ap (map box_cell) c.cells.ensures.value in
     let first = marked_first level flags c.in_ok-listed.listed.items is c.in_ok-listed.ensures.items in
     let many = ap length first ∙ length-start_boxes level in
-    let all = ap length (ap (λ (ys : List ℕ). marked flags ++ ys) c.in_ok-listed.ensures.items ∙ append-nil (marked flags)) in
+    let all = ap length (ap (λ (ys : List ℕ). marked flags ++ ys) c.in_ok-listed.ensures.items
+    ∙ append-nil (marked flags)) in
     let few = marked_few flags in
     let size = ap length is ∙ length-map level.cells box_cell in
     let cells = ap length c.cells.ensures.value in
