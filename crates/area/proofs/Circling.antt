@@ -1,6 +1,6 @@
 -- What the rows of squares round one tell: which squares they are, and that those next to it stay joined.
-use Rattle.std.proofs.Common.{◌≡◌, ℕ, suc, ◌+◌, ◌-◌, ◌%◌, ◌<◌, ◌≤◌, Bool, true, false, not, eqb, ◌||◌, ◌⊎◌, List, length, inl, inr, refl, sym, ap, subst}
-use Rattle.std.proofs.Common.{◌∙◌, arith}
+use Rattle.std.proofs.Common.{◌≡◌, ℕ, suc, ◌+◌, ◌-◌, ◌%◌, ◌<◌, ◌≤◌, Bool, true, false, not, eqb, ◌||◌, ◌⊎◌, List}
+use Rattle.std.proofs.Common.{length, inl, inr, refl, sym, ap, subst, ◌∙◌, arith}
 use Rattle.std.proofs.lemmas.Bool.{and_parts, or_cases, not-true, true≢false, eqb-false}
 use Rattle.grid.specs.declared.dir.Dir.{Dir}
 use Rattle.grid.specs.declared.dir.Dir.TheVariants.{D, L, R, U}
@@ -10,13 +10,15 @@ use Rattle.grid.specs.Board.{Board, next, opposite}
 use Rattle.grid.specs.Lawful.{IsLevel, InRoom}
 use Rattle.grid.proofs.lemmas.Steps.{next_back_inside, opposite_twice}
 use Rattle.grid.proofs.lemmas.Rooms.{room_inner}
+use Rattle.grid.proofs.lemmas.Directions.{next_below, next_above, not_first}
 use Rattle.area.specs.declared.ring.Flank.{Flank}
 use Rattle.area.specs.declared.ring.Ring.{Ring}
 use Rattle.area.specs.declared.ring.Turned.{Turned}
 use Rattle.area.specs.inside.Detours.{across, IsAcross, IsJoined, StaysJoined, GoesPast}
-use Rattle.area.specs.inside.RingBits.{IsRing, IsAround, IsFlankOf, IsTurned, side_bit, corner_bit, goes_past, keeps_side, goes_round, keeps_each, joins}
-use Rattle.area.proofs.Rings.{across_each, across_back, crossed, round_all_joined, sides_all_joined, same_column, row_below, not_first}
-use Rattle.area.proofs.Rings.{down_is, up_is, left_is, right_is, down_to, up_to, left_to, right_to}
+use Rattle.area.specs.inside.RingBits.{IsRing, IsAround, IsFlankOf, IsTurned, side_bit, corner_bit, goes_past}
+use Rattle.area.specs.inside.RingBits.{keeps_side, goes_round, keeps_each, joins}
+use Rattle.area.proofs.Rings.{across_each, across_back, crossed, round_all_joined, sides_all_joined, same_column}
+use Rattle.area.proofs.Rings.{row_below, left_is, right_is, down_to, up_to, left_to, right_to}
 
 -- ---- which squares the rows have
 
@@ -35,31 +37,37 @@ module _ (board : Board) (level : IsLevel board) (q : ℕ) (room : InRoom board 
 
   -- the square above is none of the first column
   above_right_of : suc (next board q U - 1) ≡ next board q U
-  above_right_of = not_first board.cols (next board q U) (same_column board.cols (next board q U) q (up_is board q up_inside) (left_is board q left_inside).0)
+  above_right_of = not_first board.cols (next board q U)
+      (same_column board.cols (next board q U) q (next_above board q up_inside) (left_is board q left_inside).0)
 
   -- so a whole row lies before the square, and one more
   pub room_after_row : board.cols < q
-  room_after_row = let a = up_is board q up_inside in let b = above_right_of in omega (arith, a, b)
+  room_after_row = let a = next_above board q up_inside in let b = above_right_of in omega (arith, a, b)
 
   -- the one below it is none of the last, so the grid goes on after it
   below_right_inside : q + board.cols + 1 < length board.cells
   below_right_inside =
-      let down = down_is board q down_inside in
+      let down = next_below board q down_inside in
       let lt = down_inside in
       let test = row_below board.cols (suc q) (suc q + board.cols) refl (right_is board q right_inside).0 in
       let ne : suc q + board.cols ≡ length board.cells → ⊥ =
       λ e. eqb-false ((suc q + board.cols) % board.cols) 0 test (ap (λ (x : ℕ). x % board.cols) e ∙ level.whole) in
       omega (arith, down, lt, ne)
 
-  module _ (set : Squares) (words : List ℕ) (ring : Ring) (same : (r : ℕ) → has_bit words r ≡ contains set r) (rows : IsRing board.cols words q ring) where
+  module _ (set : Squares) (words : List ℕ) (ring : Ring) (same : (r : ℕ) → has_bit words r ≡ contains set r)
+      (rows : IsRing board.cols words q ring) where
     named : (bit : Bool) (r s : ℕ) → bit ≡ has_bit words r → s ≡ r → bit ≡ contains set s
     named bit r s told at = told ∙ (same r ∙ ap (contains set) (sym at))
 
     ring_sides : (d : Dir) → side_bit ring d ≡ contains set (next board q d)
-    ring_sides D = let a = down_is board q down_inside in named _ (q + board.cols) _ (rows.below _ 1 (omega arith) (omega arith)) a
-    ring_sides L = let a = (left_is board q left_inside).1 in named _ (next board q L) _ (rows.beside _ 0 (omega arith) (omega (arith, a))) refl
-    ring_sides R = let a = (right_is board q right_inside).1 in named _ (suc q) _ (rows.beside _ 2 (omega arith) (omega arith)) a
-    ring_sides U = let a = up_is board q up_inside in named _ (next board q U) _ (rows.above _ 1 (omega arith) (omega (arith, a))) refl
+    ring_sides D = let a = next_below board q down_inside in
+        named _ (q + board.cols) _ (rows.below _ 1 (omega arith) (omega arith)) a
+    ring_sides L = let a = (left_is board q left_inside).1 in
+        named _ (next board q L) _ (rows.beside _ 0 (omega arith) (omega (arith, a))) refl
+    ring_sides R = let a = (right_is board q right_inside).1 in
+        named _ (suc q) _ (rows.beside _ 2 (omega arith) (omega arith)) a
+    ring_sides U = let a = next_above board q up_inside in
+        named _ (next board q U) _ (rows.above _ 1 (omega arith) (omega (arith, a))) refl
 
     abbrev TellsCorner : Dir → Dir → Type 0
     TellsCorner d e = corner_bit ring d e ≡ contains set (next board (next board q d) e)
@@ -75,27 +83,28 @@ module _ (board : Board) (level : IsLevel board) (q : ℕ) (room : InRoom board 
 
         down_left : TellsCorner D L
         down_left =
-            let a = down_is board q down_inside in
+            let a = next_below board q down_inside in
             let b = before.1 in
             named _ (next board q L + board.cols) _ (rows.below _ 0 (omega arith) (omega (arith, b)))
             (left_to board (next board q D) _ (row_below board.cols q _ (sym a) before.0) (omega (arith, a, b)))
 
         down_right : TellsCorner D R
         down_right =
-            let a = down_is board q down_inside in
+            let a = next_below board q down_inside in
             named _ (suc q + board.cols) _ (rows.below _ 2 (omega arith) (omega arith))
-            (right_to board (next board q D) _ (row_below board.cols (suc q) _ (omega (arith, a)) after.0) (omega (arith, a)))
+            (right_to board (next board q D) _ (row_below board.cols (suc q) _ (omega (arith, a)) after.0)
+            (omega (arith, a)))
 
         up_left : TellsCorner U L
         up_left =
-            let a = up_is board q up_inside in
+            let a = next_above board q up_inside in
             let b = above_right_of in
             named _ (next board q U - 1) _ (rows.above _ 0 (omega arith) (omega (arith, a, b)))
             (left_to board (next board q U) _ (same_column board.cols _ q a before.0) b)
 
         up_right : TellsCorner U R
         up_right =
-            let a = up_is board q up_inside in
+            let a = next_above board q up_inside in
             named _ (suc (next board q U)) _ (rows.above _ 2 (omega arith) (omega (arith, a)))
             (right_to board (next board q U) _ (same_column board.cols _ (suc q) (omega (arith, a)) after.0) refl)
 
@@ -108,7 +117,7 @@ module _ (board : Board) (level : IsLevel board) (q : ℕ) (room : InRoom board 
 
         left_up : TellsCorner L U
         left_up =
-            let a = up_is board q up_inside in
+            let a = next_above board q up_inside in
             let b = before.1 in
             let e = above_right_of in
             named _ (next board q U - 1) _ (rows.above _ 0 (omega arith) (omega (arith, a, e)))
@@ -123,7 +132,7 @@ module _ (board : Board) (level : IsLevel board) (q : ℕ) (room : InRoom board 
 
         right_up : TellsCorner R U
         right_up =
-            let a = up_is board q up_inside in
+            let a = next_above board q up_inside in
             let b = after.1 in
             named _ (suc (next board q U)) _ (rows.above _ 2 (omega arith) (omega (arith, a)))
             (up_to board (next board q R) _ (omega (arith, a, b)))
@@ -145,14 +154,18 @@ across_behind : (d e : Dir) → IsAcross d e → IsAcross (opposite d) e
 across_behind d e side = across_each e (opposite d) (across_back e d (across_each d e side))
 
 -- the corner behind the square that a box comes to is beside the one that it comes from
-pub corner_behind : (board : Board) (set : Squares) (ring : Ring) (q : ℕ) (d e : Dir) → q < length board.cells → next board q d < length board.cells →
-    IsAround board set (next board q d) ring → IsAcross d e → corner_bit ring (opposite d) e ≡ contains set (next board q e)
-corner_behind board set ring q d e inside ahead_inside around side = around.corners (opposite d) e (across_behind d e side) ∙
+pub corner_behind : (board : Board) (set : Squares) (ring : Ring) (q : ℕ) (d e : Dir) → q < length board.cells
+    → next board q d < length board.cells
+    → IsAround board set (next board q d) ring → IsAcross d e
+    → corner_bit ring (opposite d) e ≡ contains set (next board q e)
+corner_behind board set ring q d e inside ahead_inside around side =
+    around.corners (opposite d) e (across_behind d e side) ∙
     ap (λ (x : ℕ). contains set (next board x e)) (next_back_inside board q d inside ahead_inside)
 
 -- a box comes from the square `q` to the next in the direction `d`, which has the ring
 module _ (board : Board) (set : Squares) (columns : 1 ≤ board.cols) (within : (x : ℕ) → contains set x ≡ true →
-    x < length board.cells) (ring : Ring) (q : ℕ) (d : Dir) (inside : q < length board.cells) (ahead_inside : next board q d <
+    x < length board.cells) (ring : Ring) (q : ℕ) (d : Dir) (inside : q < length board.cells)
+    (ahead_inside : next board q d <
     length board.cells) (around : IsAround board set (next board q d) ring) where
   abbrev c : ℕ
   c = next board q d
@@ -160,7 +173,8 @@ module _ (board : Board) (set : Squares) (columns : 1 ≤ board.cols) (within : 
   behind : (e : Dir) → IsAcross d e → corner_bit ring (opposite d) e ≡ contains set (next board q e)
   behind e side = corner_behind board set ring q d e inside ahead_inside around side
 
-  past_by : (e : Dir) (flank : Flank) → IsAcross d e → IsFlankOf ring d e flank → goes_past flank ≡ true → GoesPast board set q c d e
+  past_by : (e : Dir) (flank : Flank) → IsAcross d e → IsFlankOf ring d e flank → goes_past flank ≡ true
+      → GoesPast board set q c d e
   past_by e flank side of h =
       let both = and_parts _ _ h in
       let two = and_parts _ _ both.0 in
@@ -178,7 +192,8 @@ module _ (board : Board) (set : Squares) (columns : 1 ≤ board.cols) (within : 
   ]
 
   -- the corner in front of the other flank ends a way round
-  front_by : (e : Dir) (flank : Flank) → IsAcross d e → IsFlankOf ring d e flank → flank.front ≡ true → contains set (next board (next board c d) e) ≡ true
+  front_by : (e : Dir) (flank : Flank) → IsAcross d e → IsFlankOf ring d e flank → flank.front ≡ true
+      → contains set (next board (next board c d) e) ≡ true
   front_by e flank side of h = sym (around.corners d e side) ∙ (corner_same ring d e side ∙ (sym of.at_front ∙ h))
 
   module _ (view : Turned) (turned : IsTurned ring d view) where
@@ -196,16 +211,19 @@ module _ (board : Board) (set : Squares) (columns : 1 ≤ board.cols) (within : 
           }))
       | inl first ↦
           (let way = and_parts _ _ first in
-          round_all_joined board set columns within q c d (opposite (across d)) inside refl ahead_inside (inr refl) (record {
+          round_all_joined board set columns within q c d (opposite (across d)) inside refl ahead_inside (inr refl)
+          (record {
             past = past_by (opposite (across d)) view.one (inr refl) turned.to_one way.0;
             beyond = sym beyond_is ∙ both.1;
-            fifth = subst (λ (x : Dir). contains set (next board (next board c d) x) ≡ true) (sym (opposite_twice (across d)))
+            fifth = subst (λ (x : Dir). contains set (next board (next board c d) x) ≡ true)
+                (sym (opposite_twice (across d)))
                 (front_by (across d) view.other (inl refl) turned.to_other way.1);
           }))
     ]
 
     beyond_by : ((not view.beyond || goes_past view.one) || goes_past view.other) ≡ true →
-        (contains set (next board c d) ≡ false) ⊎ (GoesPast board set q c d (across d) ⊎ GoesPast board set q c d (opposite (across d)))
+        (contains set (next board c d) ≡ false) ⊎ (GoesPast board set q c d (across d) ⊎ GoesPast board set q c d
+        (opposite (across d)))
     beyond_by h = elim (or_cases _ _ h) [
       | inr second ↦ inr (inl (past_by (across d) view.other (inl refl) turned.to_other second))
       | inl rest ↦ elim (or_cases _ _ rest) [

@@ -9,6 +9,7 @@ pub mod Circling
 pub mod Seams
 pub mod Spreading
 pub mod UnderWay
+pub mod Visits
 pub mod Visiting
 pub mod Carries
 pub mod Widening

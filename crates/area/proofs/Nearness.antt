@@ -1,7 +1,8 @@
 -- Whether a square is in the area is decided by looking ever farther from the player, until nothing new comes.
-use Rattle.std.proofs.Common.{◌≡◌, ℕ, zero, suc, ◌+◌, ◌<◌, ◌≤◌, Bool, true, false, not, cond, eqb, ◌&&◌, ◌||◌, ◌⊎◌, ◌↔◌, inl, inr, List, [], ◌∷◌, ◌++◌, length}
-use Rattle.std.proofs.Common.{refl, sym, ap, subst, ◌∙◌, arith}
-use Rattle.std.proofs.lemmas.Bool.{cases_lt, cases_Bool, eqb-true, eq-eqb, and_parts, and_from, or_cases, or_left, or_right, not-true, true≢false, false≢true}
+use Rattle.std.proofs.Common.{◌≡◌, ℕ, zero, suc, ◌+◌, ◌<◌, ◌≤◌, Bool, true, false, not, cond, eqb, ◌&&◌, ◌||◌, ◌⊎◌, ◌↔◌}
+use Rattle.std.proofs.Common.{inl, inr, List, [], ◌∷◌, ◌++◌, length, refl, sym, ap, subst, ◌∙◌, arith}
+use Rattle.std.proofs.lemmas.Bool.{cases_lt, cases_Bool, eqb-true, eq-eqb, and_parts, and_from, or_cases, or_left}
+use Rattle.std.proofs.lemmas.Bool.{or_right, not-true, true≢false, false≢true}
 use Rattle.grid.specs.declared.dir.Dir.{Dir}
 use Rattle.grid.specs.declared.dir.Dir.TheVariants.{D, L, R, U}
 use Rattle.grid.specs.Board.{Board, Scene, IsFree, Walks, is_wall, next, opposite}
@@ -19,7 +20,8 @@ tally : (ℕ → Bool) → ℕ → ℕ
 tally test zero = 0
 tally test (suc n) = cond (test n) 1 0 + tally test n
 
-tally_one : (b : Bool) (m n : ℕ) → m ≤ n → cond b 1 0 + m ≤ suc n
+-- one more test adds at most one
+pub tally_one : (b : Bool) (m n : ℕ) → m ≤ n → cond b 1 0 + m ≤ suc n
 tally_one true m n le = omega arith
 tally_one false m n le = omega arith
 
@@ -52,7 +54,8 @@ tally_le p q zero le = omega arith
 tally_le p q (suc n) le = tally_keeps (p n) (q n) (tally p n) (tally q n) (le n) (tally_le p q n le)
 
 -- a test that more numbers pass passes the same ones below n, or more of them
-same_or_more : (p q : ℕ → Bool) (n : ℕ) → ((x : ℕ) → p x ≡ true → q x ≡ true) → ((x : ℕ) → x < n → p x ≡ q x) ⊎ (tally p n < tally q n)
+same_or_more : (p q : ℕ → Bool) (n : ℕ) → ((x : ℕ) → p x ≡ true → q x ≡ true)
+    → ((x : ℕ) → x < n → p x ≡ q x) ⊎ (tally p n < tally q n)
 unfolding tally
 same_or_more p q zero le = inl (λ x lt. absurd (omega arith))
 same_or_more p q (suc n) le = elim (same_or_more p q n le) [
@@ -67,7 +70,8 @@ same_or_more p q (suc n) le = elim (same_or_more p q n le) [
 ]
 
 -- the first number below n that passes a test
-first_or_none : (test : ℕ → Bool) (n : ℕ) → ((x : ℕ) → x < n → test x ≡ false) ⊎ ((m : ℕ) × (test m ≡ true) × ((x : ℕ) → x < m → test x ≡ false))
+first_or_none : (test : ℕ → Bool) (n : ℕ)
+    → ((x : ℕ) → x < n → test x ≡ false) ⊎ ((m : ℕ) × (test m ≡ true) × ((x : ℕ) → x < m → test x ≡ false))
 first_or_none test zero = inl (λ x lt. absurd (omega arith))
 first_or_none test (suc n) = elim (first_or_none test n) [
   | inr found ↦ inr found
@@ -81,7 +85,8 @@ first_or_none test (suc n) = elim (first_or_none test n) [
 ]
 
 -- a test that some number passes has a least one
-pub least_passing : (test : ℕ → Bool) (some : ℕ) → test some ≡ true → (m : ℕ) × (test m ≡ true) × ((x : ℕ) → test x ≡ true → m ≤ x)
+pub least_passing : (test : ℕ → Bool) (some : ℕ) → test some ≡ true
+    → (m : ℕ) × (test m ≡ true) × ((x : ℕ) → test x ≡ true → m ≤ x)
 least_passing test some holds = elim (first_or_none test (suc some)) [
   | inl none ↦ absurd (true≢false (sym holds ∙ none some (omega arith)))
   | inr found ↦ (
@@ -110,9 +115,11 @@ unfolding is_free
 free_is board boxes q h = and_from (not (is_wall board q)) (not (contains boxes q)) (rw h.0 refl) (rw h.1 refl)
 
 beside : Board → (ℕ → Bool) → ℕ → Bool
-beside board test q = test (next board q D) || (test (next board q L) || (test (next board q R) || test (next board q U)))
+beside board test q =
+    test (next board q D) || (test (next board q L) || (test (next board q R) || test (next board q U)))
 
-beside_some : (board : Board) (test : ℕ → Bool) (q : ℕ) → beside board test q ≡ true → (d : Dir) × (test (next board q d) ≡ true)
+beside_some : (board : Board) (test : ℕ → Bool) (q : ℕ) → beside board test q ≡ true
+    → (d : Dir) × (test (next board q d) ≡ true)
 unfolding beside
 beside_some board test q h = elim (or_cases (test (next board q D)) _ h) [
   | inl d ↦ (D, d)
@@ -125,26 +132,33 @@ beside_some board test q h = elim (or_cases (test (next board q D)) _ h) [
   ]
 ]
 
-beside_at : (board : Board) (test : ℕ → Bool) (q : ℕ) (d : Dir) → test (next board q d) ≡ true → beside board test q ≡ true
+beside_at : (board : Board) (test : ℕ → Bool) (q : ℕ) (d : Dir) → test (next board q d) ≡ true
+    → beside board test q ≡ true
 unfolding beside
 beside_at board test q D h = or_left (test (next board q D)) _ h
 beside_at board test q L h = or_right (test (next board q D)) _ (or_left (test (next board q L)) _ h)
-beside_at board test q R h = or_right (test (next board q D)) _ (or_right (test (next board q L)) _ (or_left (test (next board q R)) _ h))
-beside_at board test q U h = or_right (test (next board q D)) _ (or_right (test (next board q L)) _ (or_right (test (next board q R)) _ h))
+beside_at board test q R h = or_right (test (next board q D)) _
+    (or_right (test (next board q L)) _ (or_left (test (next board q R)) _ h))
+beside_at board test q U h = or_right (test (next board q D)) _
+    (or_right (test (next board q L)) _ (or_right (test (next board q R)) _ h))
 
 beside_same : (board : Board) (p r : ℕ → Bool) (q : ℕ) → ((x : ℕ) → p x ≡ r x) → beside board p q ≡ beside board r q
 unfolding beside
-beside_same board p r q same = rw (same (next board q D), same (next board q L), same (next board q R), same (next board q U)) refl
+beside_same board p r q same =
+    rw (same (next board q D), same (next board q L), same (next board q R), same (next board q U)) refl
 
 near : Board → Squares → ℕ → ℕ → ℕ → Bool
 near board boxes from zero q = eqb q from
-near board boxes from (suc k) q = near board boxes from k q || (is_free board boxes q && beside board (near board boxes from k) q)
+near board boxes from (suc k) q =
+    near board boxes from k q || (is_free board boxes q && beside board (near board boxes from k) q)
 
-near_more : (board : Board) (boxes : Squares) (from k q : ℕ) → near board boxes from k q ≡ true → near board boxes from (suc k) q ≡ true
+near_more : (board : Board) (boxes : Squares) (from k q : ℕ) → near board boxes from k q ≡ true
+    → near board boxes from (suc k) q ≡ true
 unfolding near
 near_more board boxes from k q h = or_left (near board boxes from k q) _ h
 
-near_free : (board : Board) (boxes : Squares) (from k q : ℕ) → IsFree board boxes from → near board boxes from k q ≡ true → IsFree board boxes q
+near_free : (board : Board) (boxes : Squares) (from k q : ℕ) → IsFree board boxes from
+    → near board boxes from k q ≡ true → IsFree board boxes q
 unfolding near
 near_free board boxes from zero q free h = subst (λ (x : ℕ). IsFree board boxes x) (sym (eqb-true q from h)) free
 near_free board boxes from (suc k) q free h = elim (or_cases (near board boxes from k q) _ h) [
@@ -156,11 +170,15 @@ abbrev pub set_down : Squares → ℕ → Scene
 set_down boxes q = record { boxes = boxes; player = q }
 
 -- a walk leads to a square that is near
-near_walk : (board : Board) (boxes : Squares) (from k q : ℕ) → IsFree board boxes from → near board boxes from k q ≡ true → (ds : List Dir) ×
+near_walk : (board : Board) (boxes : Squares) (from k q : ℕ) → IsFree board boxes from
+    → near board boxes from k q ≡ true → (ds : List Dir) ×
     Play board Any (set_down boxes from) ds [] (set_down boxes q)
 unfolding near
-near_walk board boxes from zero q free h =
-    ([], subst (λ (x : ℕ). Play board Any (set_down boxes from) [] [] (set_down boxes x)) (sym (eqb-true q from h)) (stay tt))
+near_walk board boxes from zero q free h = (
+  [],
+  subst (λ (x : ℕ). Play board Any (set_down boxes from) [] [] (set_down boxes x)) (sym (eqb-true q from h))
+      (stay tt),
+)
 near_walk board boxes from (suc k) q free h = elim (or_cases (near board boxes from k q) _ h) [
   | inl old ↦ near_walk board boxes from k q free old
   | inr new ↦
@@ -175,43 +193,57 @@ near_walk board boxes from (suc k) q free h = elim (or_cases (near board boxes f
       (w.0 ++ opposite b.0 ∷ [], play_walk_on (opposite b.0) w.1 step tt))
 ]
 
-near_step : (board : Board) (boxes : Squares) (from k q : ℕ) (d : Dir) → IsFree board boxes q → near board boxes from k (next board q d) ≡ true →
-    near board boxes from (suc k) q ≡ true
+near_step : (board : Board) (boxes : Squares) (from k q : ℕ) (d : Dir) → IsFree board boxes q
+    → near board boxes from k (next board q d) ≡ true
+    → near board boxes from (suc k) q ≡ true
 unfolding near
 near_step board boxes from k q d free h =
-    or_right (near board boxes from k q) _ (and_from (is_free board boxes q) _ (free_is board boxes q free) (beside_at board (near board boxes from k) q d h))
+    or_right (near board boxes from k q) _
+    (and_from (is_free board boxes q) _ (free_is board boxes q free)
+    (beside_at board (near board boxes from k) q d h))
 
 -- where a walk leads from a near square is near, with its steps more
-near_along : (board : Board) (boxes : Squares) (from k : ℕ) {s t : Scene} {ds : List Dir} → s.boxes ≡ boxes → IsScene board s →
-    near board boxes from k s.player ≡ true → Play board Any s ds [] t → (j : ℕ) × (near board boxes from j t.player ≡ true)
+near_along : (board : Board) (boxes : Squares) (from k : ℕ) {s t : Scene} {ds : List Dir} → s.boxes ≡ boxes
+    → IsScene board s
+    → near board boxes from k s.player ≡ true → Play board Any s ds [] t
+    → (j : ℕ) × (near board boxes from j t.player ≡ true)
 near_along board boxes from k same scene h (stay o) = (k, h)
 near_along board boxes from k {s = s} same scene h (walk {m = m} {d = d} o w p) =
     let scene' : IsScene board m = scene_after_walk board s d m scene w in
     let same' : m.boxes ≡ boxes = walk_boxes board s d m w ∙ same in
     let back : next board m.player (opposite d) ≡ s.player =
     next_back_to board s.player m.player d (sym (walk_player board s d m w)) scene.player.0 scene'.player.0 in
-    let free : IsFree board boxes m.player = (scene'.player.0, subst (λ (b : Squares). contains b m.player ≡ false) same' scene'.player.1) in
+    let free : IsFree board boxes m.player =
+    (scene'.player.0, subst (λ (b : Squares). contains b m.player ≡ false) same' scene'.player.1) in
     near_along board boxes from (suc k) {s = m} same' scene'
-    (near_step board boxes from k m.player (opposite d) free (subst (λ (x : ℕ). near board boxes from k x ≡ true) (sym back) h)) p
+    (near_step board boxes from k m.player (opposite d) free
+    (subst (λ (x : ℕ). near board boxes from k x ≡ true) (sym back) h)) p
 
 -- once one step more brings nothing new, no number of steps does
-near_stable : (board : Board) (boxes : Squares) (from k : ℕ) → ((q : ℕ) → near board boxes from k q ≡ near board boxes from (suc k) q) → (j q : ℕ) →
-    near board boxes from (j + k) q ≡ near board boxes from k q
+near_stable : (board : Board) (boxes : Squares) (from k : ℕ)
+    → ((q : ℕ) → near board boxes from k q ≡ near board boxes from (suc k) q) → (j q : ℕ)
+    → near board boxes from (j + k) q ≡ near board boxes from k q
 unfolding near
-near_stable board boxes from k stable zero q = ap (λ n. near board boxes from n q) (let e : 0 + k ≡ k = omega arith in e)
+near_stable board boxes from k stable zero q = ap (λ n. near board boxes from n q) (let e : 0 + k ≡ k = omega arith in
+    e)
 near_stable board boxes from k stable (suc j) q =
     ap (λ n. near board boxes from n q) (let e : suc j + k ≡ suc (j + k) = omega arith in e)
     ∙ (rw (
       near_stable board boxes from k stable j q,
-      beside_same board (near board boxes from (j + k)) (near board boxes from k) q (near_stable board boxes from k stable j),
+      beside_same board (near board boxes from (j + k)) (near board boxes from k) q
+          (near_stable board boxes from k stable j),
     ) refl ∙ sym (stable q))
 
-near_up : (board : Board) (boxes : Squares) (from j k q : ℕ) → near board boxes from k q ≡ true → near board boxes from (j + k) q ≡ true
-near_up board boxes from zero k q h = subst (λ (n : ℕ). near board boxes from n q ≡ true) (let e : k ≡ 0 + k = omega arith in e) h
-near_up board boxes from (suc j) k q h = subst (λ (n : ℕ). near board boxes from n q ≡ true) (let e : suc (j + k) ≡ suc j + k = omega arith in
+near_up : (board : Board) (boxes : Squares) (from j k q : ℕ) → near board boxes from k q ≡ true
+    → near board boxes from (j + k) q ≡ true
+near_up board boxes from zero k q h =
+    subst (λ (n : ℕ). near board boxes from n q ≡ true) (let e : k ≡ 0 + k = omega arith in e) h
+near_up board boxes from (suc j) k q h =
+    subst (λ (n : ℕ). near board boxes from n q ≡ true) (let e : suc (j + k) ≡ suc j + k = omega arith in
     e) (near_more board boxes from (j + k) q (near_up board boxes from j k q h))
 
-near_inside : (board : Board) (boxes : Squares) (from k q : ℕ) → IsFree board boxes from → length board.cells ≤ q → near board boxes from k q ≡ false
+near_inside : (board : Board) (boxes : Squares) (from k q : ℕ) → IsFree board boxes from → length board.cells ≤ q
+    → near board boxes from k q ≡ false
 near_inside board boxes from k q free out = elim (cases_Bool (near board boxes from k q)) [
   | inl holds ↦ absurd (true≢false (sym (wall_outside board q out) ∙ (near_free board boxes from k q free holds).0))
   | inr fails ↦ fails
@@ -220,9 +252,11 @@ near_inside board boxes from k q free out = elim (cases_Bool (near board boxes f
 stable_from : (board : Board) (boxes : Squares) (from : ℕ) → IsFree board boxes from → (fuel k : ℕ) →
     length board.cells < tally (near board boxes from k) (length board.cells) + fuel → (j : ℕ) ×
     ((q : ℕ) → near board boxes from j q ≡ near board boxes from (suc j) q)
-stable_from board boxes from free zero k more = absurd (let b = tally_bound (near board boxes from k) (length board.cells) in omega arith)
+stable_from board boxes from free zero k more =
+    absurd (let b = tally_bound (near board boxes from k) (length board.cells) in omega arith)
 stable_from board boxes from free (suc fuel) k more =
-    elim (same_or_more (near board boxes from k) (near board boxes from (suc k)) (length board.cells) (λ q h. near_more board boxes from k q h)) [
+    elim (same_or_more (near board boxes from k) (near board boxes from (suc k)) (length board.cells)
+    (λ q h. near_more board boxes from k q h)) [
       | inr grown ↦ stable_from board boxes from free fuel (suc k) (omega arith)
       | inl same ↦ (
         k,
@@ -238,7 +272,8 @@ unfolding near
 near_here board boxes from = eq-eqb from from refl
 
 -- a test tells which squares are in the area
-pub area_test : (board : Board) (s : Scene) → IsScene board s → (test : ℕ → Bool) × ((q : ℕ) → (test q ≡ true) ↔ Area board s q)
+pub area_test : (board : Board) (s : Scene) → IsScene board s
+    → (test : ℕ → Bool) × ((q : ℕ) → (test q ≡ true) ↔ Area board s q)
 area_test board s scene =
     let n : ℕ = length board.cells in
     let k = stable_from board s.boxes s.player scene.player (suc n) 0 (omega arith) in (

@@ -1,13 +1,14 @@
 -- The squares round one: which of them are the same, and how one comes round by them.
-use Rattle.std.proofs.Common.{◌≡◌, ◌≢◌, ℕ, zero, suc, ◌+◌, ◌-◌, ◌%◌, ◌<◌, ◌≤◌, Bool, true, false, ◌⊎◌, eqb, ltb, cond, length, inl, inr, refl, sym, ap, subst}
-use Rattle.std.proofs.Common.{◌∙◌, arith}
-use Rattle.std.proofs.Math.Nat.{zero-mod, add-mod_right}
-use Rattle.std.proofs.lemmas.Bool.{eqb-false, ltb-false, lt-ltb, le-ltb, true≢false}
+use Rattle.std.proofs.Common.{◌≡◌, ◌≢◌, ℕ, suc, ◌+◌, ◌-◌, ◌%◌, ◌<◌, ◌≤◌, Bool, true, false, ◌⊎◌, eqb, cond}
+use Rattle.std.proofs.Common.{length, inl, inr, refl, sym, ap, subst, ◌∙◌, arith}
+use Rattle.std.proofs.Math.Nat.{add-mod_right}
+use Rattle.std.proofs.lemmas.Bool.{eqb-false, lt-ltb, le-ltb, true≢false}
 use Rattle.grid.specs.declared.dir.Dir.{Dir}
 use Rattle.grid.specs.declared.dir.Dir.TheVariants.{D, L, R, U}
 use Rattle.grid.specs.Squares.{Squares, contains}
 use Rattle.grid.specs.Board.{Board, next, opposite}
 use Rattle.grid.proofs.lemmas.Steps.{next_back_inside, opposite_twice}
+use Rattle.grid.proofs.lemmas.Directions.{next_below, next_above, not_first}
 use Rattle.area.specs.inside.Detours.{across, IsAcross, Skirts, IsJoined, GoesPast, GoesRound}
 use Rattle.area.specs.inside.Detours.Skirts.{here}
 use Rattle.area.proofs.Detours.{all_round, skirt_on}
@@ -15,7 +16,8 @@ use Rattle.area.proofs.Detours.{all_round, skirt_on}
 -- ---- directions across
 
 -- what is so for each two directions across each other
-pub crossed : (P : Dir → Dir → Type 0) → P D L → P D R → P L D → P L U → P R D → P R U → P U L → P U R → (d e : Dir) → IsAcross d e → P d e
+pub crossed : (P : Dir → Dir → Type 0) → P D L → P D R → P L D → P L U → P R D → P R U → P U L → P U R → (d e : Dir)
+    → IsAcross d e → P d e
 crossed P dl dr ld lu rd ru ul ur D e (inl f) = subst (P D) (sym f) dr
 crossed P dl dr ld lu rd ru ul ur D e (inr f) = subst (P D) (sym f) dl
 crossed P dl dr ld lu rd ru ul ur L e (inl f) = subst (P L) (sym f) ld
@@ -27,44 +29,28 @@ crossed P dl dr ld lu rd ru ul ur U e (inr f) = subst (P U) (sym f) ul
 
 -- of two directions across each other either is across the other, and so is the opposite
 pub across_each : (d e : Dir) → IsAcross d e → IsAcross e d
-across_each = crossed (λ d e. IsAcross e d) (inl refl) (inl refl) (inr refl) (inr refl) (inl refl) (inl refl) (inr refl) (inr refl)
+across_each = crossed (λ d e. IsAcross e d) (inl refl) (inl refl) (inr refl) (inr refl) (inl refl) (inl refl) (inr refl)
+    (inr refl)
 
 pub across_back : (d e : Dir) → IsAcross d e → IsAcross d (opposite e)
-across_back = crossed (λ d e. IsAcross d (opposite e)) (inl refl) (inr refl) (inr refl) (inl refl) (inr refl) (inl refl) (inl refl) (inr refl)
+across_back = crossed (λ d e. IsAcross d (opposite e)) (inl refl) (inr refl) (inr refl) (inl refl) (inr refl) (inl refl)
+    (inl refl) (inr refl)
 
 -- a direction and one across, and those back, are all
-pub all_across : (P : Dir → Type 0) (d e : Dir) → IsAcross d e → P d → P (opposite d) → P e → P (opposite e) → (x : Dir) → P x
-all_across P d e (inl f) ahead back side other = all_round P d ahead back (subst P f side) (subst P (ap opposite f) other)
-all_across P d e (inr f) ahead back side other = all_round P d ahead back (subst P (ap opposite f ∙ opposite_twice (across d)) other) (subst P f side)
+pub all_across : (P : Dir → Type 0) (d e : Dir) → IsAcross d e → P d → P (opposite d) → P e → P (opposite e) → (x : Dir)
+    → P x
+all_across P d e (inl f) ahead back side other =
+    all_round P d ahead back (subst P f side) (subst P (ap opposite f) other)
+all_across P d e (inr f) ahead back side other =
+    all_round P d ahead back (subst P (ap opposite f ∙ opposite_twice (across d)) other) (subst P f side)
 
 -- ---- the next square by its number
-
-chosen : (n a : ℕ) (b : Bool) → cond b a n < n → cond b a n ≡ a
-chosen n a true lt = refl
-chosen n a false lt = absurd (omega arith)
 
 left_over : (n a : ℕ) (b : Bool) → cond b n a < n → (b ≡ false) × (cond b n a ≡ a)
 left_over n a true lt = absurd (omega arith)
 left_over n a false lt = (refl, refl)
 
--- from a number with the remainder 0 there is no step to the left
-pub not_first : (cols q : ℕ) → eqb (q % cols) 0 ≡ false → suc (q - 1) ≡ q
-not_first cols zero test = absurd (eqb-false (zero % cols) 0 test (zero-mod cols))
-not_first cols (suc q) test = omega arith
-
 module _ (board : Board) (q : ℕ) where
-  pub down_is : next board q D < length board.cells → next board q D ≡ q + board.cols
-  unfolding next
-  down_is lt = chosen (length board.cells) (q + board.cols) (ltb (q + board.cols) (length board.cells)) lt
-
-  pub up_is : next board q U < length board.cells → next board q U + board.cols ≡ q
-  unfolding next
-  up_is lt =
-      let f = left_over (length board.cells) (q - board.cols) (ltb q board.cols) lt in
-      let above : board.cols ≤ q = ltb-false q board.cols f.0 in
-      let e : cond (ltb q board.cols) (length board.cells) (q - board.cols) ≡ q - board.cols = f.1 in
-      omega (arith, above, e)
-
   pub left_is : next board q L < length board.cells → (eqb (q % board.cols) 0 ≡ false) × (suc (next board q L) ≡ q)
   unfolding next
   left_is lt =
@@ -103,46 +89,50 @@ narrow : (cols q : ℕ) → cols ≡ 1 → eqb (q % cols) 0 ≡ false → ⊥
 narrow cols q e test = eqb-false (q % cols) 0 test (ap (λ (x : ℕ). q % x) e ∙ omega arith)
 
 -- the next square is another one
-pub next_other : (board : Board) (q : ℕ) (d : Dir) → 1 ≤ board.cols → next board q d < length board.cells → next board q d ≢ q
-next_other board q D columns lt = λ e. let f = down_is board q lt in omega (arith, columns, e, f)
+pub next_other : (board : Board) (q : ℕ) (d : Dir) → 1 ≤ board.cols → next board q d < length board.cells
+    → next board q d ≢ q
+next_other board q D columns lt = λ e. let f = next_below board q lt in omega (arith, columns, e, f)
 next_other board q L columns lt = λ e. let f = (left_is board q lt).1 in omega (arith, e, f)
 next_other board q R columns lt = λ e. let f = (right_is board q lt).1 in omega (arith, e, f)
-next_other board q U columns lt = λ e. let f = up_is board q lt in omega (arith, columns, e, f)
+next_other board q U columns lt = λ e. let f = next_above board q lt in omega (arith, columns, e, f)
 
 -- the next squares in two directions across each other are not the same
 abbrev pub IsApart : Board → Dir → Dir → Type 0
-IsApart board d e = (q : ℕ) → next board q d < length board.cells → next board q e < length board.cells → next board q d ≢ next board q e
+IsApart board d e = (q : ℕ) → next board q d < length board.cells → next board q e < length board.cells
+    → next board q d ≢ next board q e
 
 turned : (board : Board) (d e : Dir) → IsApart board d e → IsApart board e d
 turned board d e apart q f g same = apart q g f (sym same)
 
 pub next_apart : (board : Board) → 1 ≤ board.cols → (d e : Dir) → IsAcross d e → IsApart board d e
-next_apart board columns = crossed (IsApart board) down_left down_right (turned board D L down_left) (turned board U L up_left) (turned board D R down_right)
+next_apart board columns = crossed (IsApart board) down_left down_right (turned board D L down_left)
+    (turned board U L up_left) (turned board D R down_right)
     (turned board U R up_right) up_left up_right
   where
     down_left : IsApart board D L
-    down_left q f g e = let a = down_is board q f in let b = (left_is board q g).1 in omega (arith, columns, e, a, b)
+    down_left q f g e = let a = next_below board q f in let b = (left_is board q g).1 in omega (arith, columns, e, a, b)
 
     down_right : IsApart board D R
     down_right q f g e =
-        let a = down_is board q f in
+        let a = next_below board q f in
         let b = right_is board q g in
         let h = b.1 in
         narrow board.cols (suc q) (omega (arith, e, a, h)) b.0
 
     up_left : IsApart board U L
     up_left q f g e =
-        let a = up_is board q f in
+        let a = next_above board q f in
         let b = left_is board q g in
         let h = b.1 in
         narrow board.cols q (omega (arith, e, a, h)) b.0
 
     up_right : IsApart board U R
-    up_right q f g e = let a = up_is board q f in let b = (right_is board q g).1 in omega (arith, columns, e, a, b)
+    up_right q f g e = let a = next_above board q f in let b = (right_is board q g).1 in omega (arith, columns, e, a, b)
 
 -- one comes to the same square by a step in one direction and one across, in either order
 abbrev pub IsCorner : Board → Dir → Dir → Type 0
-IsCorner board d e = (q : ℕ) → next board q d < length board.cells → next board q e < length board.cells → next board (next board q d) e < length board.cells →
+IsCorner board d e = (q : ℕ) → next board q d < length board.cells → next board q e < length board.cells → next board
+    (next board q d) e < length board.cells →
     next board (next board q e) d ≡ next board (next board q d) e
 
 pub next_corner : (board : Board) → (d e : Dir) → IsAcross d e → IsCorner board d e
@@ -150,28 +140,28 @@ next_corner board = crossed (IsCorner board) down_left down_right left_down left
   where
     down_left : IsCorner board D L
     down_left q f g h =
-        let a = down_is board q f in
+        let a = next_below board q f in
         let b = (left_is board q g).1 in
         let t = (left_is board (next board q D) h).1 in
         down_to board (next board q L) _ (omega (arith, a, b, t)) h
 
     down_right : IsCorner board D R
     down_right q f g h =
-        let a = down_is board q f in
+        let a = next_below board q f in
         let b = (right_is board q g).1 in
         let t = (right_is board (next board q D) h).1 in
         down_to board (next board q R) _ (omega (arith, a, b, t)) h
 
     up_left : IsCorner board U L
     up_left q f g h =
-        let a = up_is board q f in
+        let a = next_above board q f in
         let b = (left_is board q g).1 in
         let t = (left_is board (next board q U) h).1 in
         up_to board (next board q L) _ (omega (arith, a, b, t))
 
     up_right : IsCorner board U R
     up_right q f g h =
-        let a = up_is board q f in
+        let a = next_above board q f in
         let b = (right_is board q g).1 in
         let t = (right_is board (next board q U) h).1 in
         up_to board (next board q R) _ (omega (arith, a, b, t))
@@ -180,39 +170,42 @@ next_corner board = crossed (IsCorner board) down_left down_right left_down left
     left_down q f g h =
         let a = left_is board q f in
         let e = a.1 in
-        let b = down_is board q g in
-        let t = down_is board (next board q L) h in
+        let b = next_below board q g in
+        let t = next_below board (next board q L) h in
         left_to board (next board q D) _ (row_below board.cols q _ (sym b) a.0) (omega (arith, e, b, t))
 
     left_up : IsCorner board L U
     left_up q f g h =
         let a = left_is board q f in
         let e = a.1 in
-        let b = up_is board q g in
-        let t = up_is board (next board q L) h in
+        let b = next_above board q g in
+        let t = next_above board (next board q L) h in
         left_to board (next board q U) _ (same_column board.cols _ q b a.0) (omega (arith, e, b, t))
 
     right_down : IsCorner board R D
     right_down q f g h =
         let a = right_is board q f in
         let e = a.1 in
-        let b = down_is board q g in
-        let t = down_is board (next board q R) h in
-        right_to board (next board q D) _ (row_below board.cols (suc q) _ (omega (arith, b)) a.0) (omega (arith, e, b, t))
+        let b = next_below board q g in
+        let t = next_below board (next board q R) h in
+        right_to board (next board q D) _ (row_below board.cols (suc q) _ (omega (arith, b)) a.0)
+        (omega (arith, e, b, t))
 
     right_up : IsCorner board R U
     right_up q f g h =
         let a = right_is board q f in
         let e = a.1 in
-        let b = up_is board q g in
-        let t = up_is board (next board q R) h in
-        right_to board (next board q U) _ (same_column board.cols _ (suc q) (omega (arith, b)) a.0) (omega (arith, e, b, t))
+        let b = next_above board q g in
+        let t = next_above board (next board q R) h in
+        right_to board (next board q U) _ (same_column board.cols _ (suc q) (omega (arith, b)) a.0)
+        (omega (arith, e, b, t))
 
 -- ---- the way round the square ahead
 
 -- from the square `q` one looks at `c`, the next in the direction `d`, and goes round it on the side `e`
 module _ (board : Board) (set : Squares) (columns : 1 ≤ board.cols) (within : (x : ℕ) → contains set x ≡ true →
-    x < length board.cells) (q c : ℕ) (d e : Dir) (inside : q < length board.cells) (ahead : c ≡ next board q d) (ahead_inside : c < length board.cells) (side :
+    x < length board.cells) (q c : ℕ) (d e : Dir) (inside : q < length board.cells) (ahead : c ≡ next board q d)
+    (ahead_inside : c < length board.cells) (side :
     IsAcross d e) where
   -- back from the square ahead
   pub back_joined : IsJoined board set c q (opposite d)
@@ -226,17 +219,22 @@ module _ (board : Board) (set : Squares) (columns : 1 ≤ board.cols) (within : 
   side_joined first there =
       let a : next board q d < length board.cells = subst (λ (x : ℕ). x < length board.cells) ahead ahead_inside in
       let corner : next board (next board q e) d ≡ next board c e =
-      next_corner board d e side q a (within _ first) (subst (λ (x : ℕ). next board x e < length board.cells) ahead (within _ there)) ∙
+      next_corner board d e side q a (within _ first)
+      (subst (λ (x : ℕ). next board x e < length board.cells) ahead (within _ there)) ∙
       sym (ap (λ (x : ℕ). next board x e) ahead) in
-      let one = skirt_on board set c q q (next board q e) e here refl first (λ f. next_apart board columns d e side q a (within _ first) (sym ahead ∙ sym f)) in
-      skirt_on board set c q (next board q e) (next board c e) d one (sym corner) there (next_other board c e columns (within _ there))
+      let one = skirt_on board set c q q (next board q e) e here refl first
+      (λ f. next_apart board columns d e side q a (within _ first) (sym ahead ∙ sym f)) in
+      skirt_on board set c q (next board q e) (next board c e) d one (sym corner) there
+      (next_other board c e columns (within _ there))
 
   -- to the square beyond it
-  pub beyond_joined : contains set (next board q e) ≡ true → contains set (next board c e) ≡ true → contains set (next board (next board c e) d) ≡ true →
-      IsJoined board set c q d
+  pub beyond_joined : contains set (next board q e) ≡ true → contains set (next board c e) ≡ true
+      → contains set (next board (next board c e) d) ≡ true
+      → IsJoined board set c q d
   beyond_joined first second third there =
       let two = side_joined first second in
-      let home : next board (next board c e) (opposite e) ≡ c = next_back_inside board c e ahead_inside (within _ second) in
+      let home : next board (next board c e) (opposite e) ≡ c =
+      next_back_inside board c e ahead_inside (within _ second) in
       let three = skirt_on board set c q (next board c e) (next board (next board c e) d) d two refl third (λ f.
       next_apart board columns d (opposite e) (across_back d e side) (next board c e) (within _ third)
       (subst (λ (x : ℕ). x < length board.cells) (sym home) ahead_inside) (f ∙ sym home)) in
@@ -244,25 +242,33 @@ module _ (board : Board) (set : Squares) (columns : 1 ≤ board.cols) (within : 
       next_corner board e d (across_each d e side) c (within _ second) (within _ there) (within _ third) in
       let back : next board (next board (next board c e) d) (opposite e) ≡ next board c d =
       sym (ap (λ (x : ℕ). next board x (opposite e)) corner) ∙
-      next_back_inside board (next board c d) e (within _ there) (subst (λ (x : ℕ). x < length board.cells) (sym corner) (within _ third)) in
+      next_back_inside board (next board c d) e (within _ there)
+      (subst (λ (x : ℕ). x < length board.cells) (sym corner) (within _ third)) in
       skirt_on board set c q (next board (next board c e) d) (next board c d) (opposite e) three (sym back) there
       (next_other board c d columns (within _ there))
 
   -- to the square on its other side
-  pub round_joined : Skirts board set c q (next board c d) → contains set (next board c d) ≡ true → contains set (next board (next board c d) (opposite e)) ≡
+  pub round_joined : Skirts board set c q (next board c d) → contains set (next board c d) ≡ true
+      → contains set (next board (next board c d) (opposite e)) ≡
       true → IsJoined board set c q (opposite e)
   round_joined far fourth fifth there =
-      let home : next board (next board c d) (opposite d) ≡ c = next_back_inside board c d ahead_inside (within _ fourth) in
-      let around = across_each (opposite e) (opposite d) (across_back (opposite e) d (across_each d (opposite e) (across_back d e side))) in
-      let five = skirt_on board set c q (next board c d) (next board (next board c d) (opposite e)) (opposite e) far refl fifth (λ f.
-      next_apart board columns (opposite d) (opposite e) around (next board c d) (subst (λ (x : ℕ). x < length board.cells) (sym home) ahead_inside)
+      let home : next board (next board c d) (opposite d) ≡ c =
+      next_back_inside board c d ahead_inside (within _ fourth) in
+      let around = across_each (opposite e) (opposite d)
+      (across_back (opposite e) d (across_each d (opposite e) (across_back d e side))) in
+      let five = skirt_on board set c q (next board c d) (next board (next board c d) (opposite e))
+      (opposite e) far refl fifth (λ f.
+      next_apart board columns (opposite d) (opposite e) around (next board c d)
+      (subst (λ (x : ℕ). x < length board.cells) (sym home) ahead_inside)
       (within _ fifth) (home ∙ sym f)) in
       let corner : next board (next board c (opposite e)) d ≡ next board (next board c d) (opposite e) =
       next_corner board d (opposite e) (across_back d e side) c (within _ fourth) (within _ there) (within _ fifth) in
       let back : next board (next board (next board c d) (opposite e)) (opposite d) ≡ next board c (opposite e) =
       sym (ap (λ (x : ℕ). next board x (opposite d)) corner) ∙
-      next_back_inside board (next board c (opposite e)) d (within _ there) (subst (λ (x : ℕ). x < length board.cells) (sym corner) (within _ fifth)) in
-      skirt_on board set c q (next board (next board c d) (opposite e)) (next board c (opposite e)) (opposite d) five (sym back) there
+      next_back_inside board (next board c (opposite e)) d (within _ there)
+      (subst (λ (x : ℕ). x < length board.cells) (sym corner) (within _ fifth)) in
+      skirt_on board set c q (next board (next board c d) (opposite e)) (next board c (opposite e)) (opposite d) five
+      (sym back) there
       (next_other board c (opposite e) columns (within _ there))
 
   -- past it on that side
@@ -277,13 +283,16 @@ module _ (board : Board) (set : Squares) (columns : 1 ≤ board.cols) (within : 
       (round_joined (far round.beyond) round.beyond round.fifth)
 
   -- the square on that side, where it is of the set
-  pub either_joined : (contains set (next board q e) ≡ true) ⊎ (contains set (next board c e) ≡ false) → IsJoined board set c q e
+  pub either_joined : (contains set (next board q e) ≡ true) ⊎ (contains set (next board c e) ≡ false)
+      → IsJoined board set c q e
   either_joined (inl first) there = side_joined first there
   either_joined (inr not_there) there = absurd (true≢false (sym there ∙ not_there))
 
 -- where the squares on both sides are joined, and one goes past on one of them to the square beyond, all are
-pub sides_all_joined : (board : Board) (set : Squares) (columns : 1 ≤ board.cols) (within : (x : ℕ) → contains set x ≡ true →
-    x < length board.cells) (q c : ℕ) (d e : Dir) (inside : q < length board.cells) (ahead : c ≡ next board q d) (ahead_inside : c < length board.cells) (side :
+pub sides_all_joined : (board : Board) (set : Squares) (columns : 1 ≤ board.cols) (within : (x : ℕ)
+    → contains set x ≡ true
+    → x < length board.cells) (q c : ℕ) (d e : Dir) (inside : q < length board.cells) (ahead : c ≡ next board q d)
+    (ahead_inside : c < length board.cells) (side :
     IsAcross d e)
     → (contains set (next board q e) ≡ true) ⊎ (contains set (next board c e) ≡ false)
     → (contains set (next board q (opposite e)) ≡ true) ⊎ (contains set (next board c (opposite e)) ≡ false)
@@ -296,7 +305,9 @@ sides_all_joined board set columns within q c d e inside ahead ahead_inside side
     (either_joined board set columns within q c d e inside ahead ahead_inside side first)
     (either_joined board set columns within q c d (opposite e) inside ahead ahead_inside (across_back d e side) second)
   where
-    beyond : (contains set (next board c d) ≡ false) ⊎ (GoesPast board set q c d e ⊎ GoesPast board set q c d (opposite e)) → IsJoined board set c q d
+    beyond : (contains set (next board c d) ≡ false) ⊎ (GoesPast board set q c d e ⊎ GoesPast board set q c d
+        (opposite e)) → IsJoined board set c q d
     beyond (inl not_there) = λ there. absurd (true≢false (sym there ∙ not_there))
     beyond (inr (inl past)) = past_joined board set columns within q c d e inside ahead ahead_inside side past
-    beyond (inr (inr past)) = past_joined board set columns within q c d (opposite e) inside ahead ahead_inside (across_back d e side) past
+    beyond (inr (inr past)) = past_joined board set columns within q c d (opposite e) inside ahead ahead_inside
+        (across_back d e side) past

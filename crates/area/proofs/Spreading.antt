@@ -3,7 +3,7 @@ use Rattle.std.proofs.Common.{◌≡◌, ◌≢◌, ℕ, suc, ◌+◌, ◌<◌, 
 use Rattle.std.proofs.lemmas.Bool.{cases_eq, cases_lt}
 use Rattle.grid.specs.declared.dir.Dir.{Dir}
 use Rattle.grid.specs.Board.{Board, is_wall, next, dir_number}
-use Rattle.area.proofs.lemmas.Directions.{dir_same, dir_number-lt}
+use Rattle.grid.proofs.lemmas.Directions.{dir_same, dir_number-lt}
 use Rattle.area.specs.inside.Spread.{IsClosed, HasCome, IsSpread, IsSpreading}
 
 -- the directions below the next number are those below this one, and the one with this number
@@ -13,7 +13,8 @@ more_dirs seen d e at lt = elim (cases_lt (dir_number e) seen) [
   | inr more ↦ inr (dir_same d e (omega arith))
 ]
 
-module _ (board : Board) (base from : ℕ) (mark place : ℕ → ℕ) (head seen tail : ℕ) (d : Dir) (n : ℕ) (s : IsSpreading board base from mark place head seen tail)
+module _ (board : Board) (base from : ℕ) (mark place : ℕ → ℕ) (head seen tail : ℕ) (d : Dir) (n : ℕ)
+    (s : IsSpreading board base from mark place head seen tail)
     (here : head < tail) (at : dir_number d ≡ seen) (is : next board (place head) d ≡ n) where
   -- a wall, a box or a square that was reached before: nothing changes
   pub skipped : (is_wall board n ≡ false → base ≤ mark n) → IsSpreading board base from mark place head (suc seen) tail
@@ -43,9 +44,11 @@ module _ (board : Board) (base from : ℕ) (mark place : ℕ → ℕ) (head seen
           (lt, subst (λ (x : ℕ). mark x ≤ suc (mark (place head))) l.2 c)
 
       closed : IsClosed board base mark (place head) d
-      closed = subst (λ (x : ℕ). is_wall board x ≡ false → mark x ≢ base → (base < mark x) × (mark x ≤ suc (mark (place head)))) (sym is) closed_at
+      closed = subst (λ (x : ℕ). is_wall board x ≡ false → mark x ≢ base → (base < mark x)
+          × (mark x ≤ suc (mark (place head)))) (sym is) closed_at
 
-  module _ (mark' place' : ℕ → ℕ) (clear : is_wall board n ≡ false) (new : mark n < base) (set : mark' n ≡ suc (mark (place head))) (kept : (q : ℕ) → q ≢ n →
+  module _ (mark' place' : ℕ → ℕ) (clear : is_wall board n ≡ false) (new : mark n < base)
+      (set : mark' n ≡ suc (mark (place head))) (kept : (q : ℕ) → q ≢ n →
       mark' q ≡ mark q) (put : place' tail ≡ n) (stays : (i : ℕ) → i < tail → place' i ≡ place i) where
     apart : (q : ℕ) → base < mark q → q ≢ n
     apart q lt e = let f : mark q ≡ mark n = ap mark e in absurd (omega arith)
@@ -126,23 +129,31 @@ module _ (board : Board) (base from : ℕ) (mark place : ℕ → ℕ) (head seen
             (l.0, omega arith, stays l.0 l.1 ∙ l.2))
       ];
       queued = λ i lt. elim (more i lt) [
-        | inl less ↦ (let e : mark' (place' i) ≡ mark (place i) = old_place i less in let h : base < mark (place i) = s.queued i less in omega arith)
-        | inr at_end ↦ (let e : mark' (place' i) ≡ suc (mark (place head)) = ap (λ x. mark' (place' x)) at_end ∙ new_place in
+        | inl less ↦ (let e : mark' (place' i) ≡ mark (place i) = old_place i less in let h : base < mark (place i) =
+            s.queued i less in omega arith)
+        | inr at_end ↦ (let e : mark' (place' i) ≡ suc (mark (place head)) = ap (λ x. mark' (place' x)) at_end
+            ∙ new_place in
             let h : base < mark (place head) = above in omega arith)
       ];
       bound = λ i lt. elim (more i lt) [
-        | inl less ↦ (let e : mark' (place' i) ≡ mark (place i) = old_place i less in let h : mark (place i) ≤ suc base + i = s.bound i less in omega arith)
-        | inr at_end ↦ (let e : mark' (place' i) ≡ suc (mark (place head)) = ap (λ x. mark' (place' x)) at_end ∙ new_place in
+        | inl less ↦ (let e : mark' (place' i) ≡ mark (place i) = old_place i less in
+            let h : mark (place i) ≤ suc base + i = s.bound i less in omega arith)
+        | inr at_end ↦ (let e : mark' (place' i) ≡ suc (mark (place head)) = ap (λ x. mark' (place' x)) at_end
+            ∙ new_place in
             let h : mark (place head) ≤ suc base + head = s.bound head here in omega arith)
       ];
       sorted = λ i j le lt. elim (more j lt) [
-        | inl less ↦ (let e : mark' (place' i) ≡ mark (place i) = old_place i (omega arith) in let f : mark' (place' j) ≡ mark (place j) = old_place j less in
+        | inl less ↦ (let e : mark' (place' i) ≡ mark (place i) = old_place i (omega arith) in
+            let f : mark' (place' j) ≡ mark (place j) = old_place j less in
             let h : mark (place i) ≤ mark (place j) = s.sorted i j le less in omega arith)
-        | inr at_end ↦ (let f : mark' (place' j) ≡ suc (mark (place head)) = ap (λ x. mark' (place' x)) at_end ∙ new_place in
+        | inr at_end ↦ (let f : mark' (place' j) ≡ suc (mark (place head)) = ap (λ x. mark' (place' x)) at_end
+            ∙ new_place in
             elim (more i (omega arith)) [
               | inl less ↦ (let e : mark' (place' i) ≡ mark (place i) = old_place i less in
-                  let h : mark (place i) ≤ suc (mark (place head)) = s.close head i (omega arith) here less in omega arith)
-              | inr too ↦ (let e : mark' (place' i) ≡ suc (mark (place head)) = ap (λ x. mark' (place' x)) too ∙ new_place in omega arith)
+                  let h : mark (place i) ≤ suc (mark (place head)) = s.close head i (omega arith) here less in
+                  omega arith)
+              | inr too ↦ (let e : mark' (place' i) ≡ suc (mark (place head)) = ap (λ x. mark' (place' x)) too
+                  ∙ new_place in omega arith)
             ])
       ];
       close = λ i j low lt lt'. elim (more i lt) [
@@ -150,20 +161,24 @@ module _ (board : Board) (base from : ℕ) (mark place : ℕ → ℕ) (head seen
             elim (more j lt') [
               | inl less' ↦ (let f : mark' (place' j) ≡ mark (place j) = old_place j less' in
                   let h : mark (place j) ≤ suc (mark (place i)) = s.close i j low less less' in omega arith)
-              | inr at_end ↦ (let f : mark' (place' j) ≡ suc (mark (place head)) = ap (λ x. mark' (place' x)) at_end ∙ new_place in
+              | inr at_end ↦ (let f : mark' (place' j) ≡ suc (mark (place head)) = ap (λ x. mark' (place' x)) at_end
+                  ∙ new_place in
                   let h : mark (place head) ≤ mark (place i) = s.sorted head i low less in omega arith)
             ])
         | inr too ↦ (let e : mark' (place' i) ≡ suc (mark (place head)) = ap (λ x. mark' (place' x)) too ∙ new_place in
             elim (more j lt') [
               | inl less' ↦ (let f : mark' (place' j) ≡ mark (place j) = old_place j less' in
-                  let h : mark (place j) ≤ suc (mark (place head)) = s.close head j (omega arith) here less' in omega arith)
-              | inr at_end ↦ (let f : mark' (place' j) ≡ suc (mark (place head)) = ap (λ x. mark' (place' x)) at_end ∙ new_place in omega arith)
+                  let h : mark (place j) ≤ suc (mark (place head)) = s.close head j (omega arith) here less' in
+                  omega arith)
+              | inr at_end ↦ (let f : mark' (place' j) ≡ suc (mark (place head)) = ap (λ x. mark' (place' x)) at_end
+                  ∙ new_place in omega arith)
             ])
       ];
       done = λ i before lt e. subst (λ (x : ℕ). IsClosed board base mark' x e) (sym (stays i (omega arith)))
           (keeps (place i) e (s.queued i (omega arith)) (s.done i before (omega arith) e));
       now = λ e lt. elim (more_dirs seen d e at lt) [
-        | inl less ↦ subst (λ (x : ℕ). IsClosed board base mark' x e) (sym (stays head here)) (keeps (place head) e above (s.now e less))
+        | inl less ↦ subst (λ (x : ℕ). IsClosed board base mark' x e) (sym (stays head here))
+            (keeps (place head) e above (s.now e less))
         | inr same ↦ subst (λ (x : Dir). IsClosed board base mark' (place' head) x) same closed
       ];
       order = let o = s.order in omega arith;
@@ -178,15 +193,17 @@ module _ (board : Board) (base from : ℕ) (mark place : ℕ → ℕ) (head seen
 
         closed_here : IsClosed board base mark' (place head) d
         closed_here = subst (λ (x : ℕ). is_wall board x ≡ false → mark' x ≢ base → (base < mark' x) ×
-            (mark' x ≤ suc (mark' (place head)))) (sym is) (subst (λ (x : ℕ). is_wall board n ≡ false → mark' n ≢ base → (base < mark' n) ×
+            (mark' x ≤ suc (mark' (place head)))) (sym is)
+            (subst (λ (x : ℕ). is_wall board n ≡ false → mark' n ≢ base → (base < mark' n) ×
             (mark' n ≤ suc (mark' x))) (stays head here) closed_at)
 
         closed : IsClosed board base mark' (place' head) d
         closed = subst (λ (x : ℕ). IsClosed board base mark' x d) (sym (stays head here)) closed_here
 
 -- the square at the head was looked round from: the next is at the head
-pub turned : (board : Board) (base from : ℕ) (mark place : ℕ → ℕ) (head tail : ℕ) → IsSpreading board base from mark place head 4 tail → head < tail →
-    IsSpreading board base from mark place (suc head) 0 tail
+pub turned : (board : Board) (base from : ℕ) (mark place : ℕ → ℕ) (head tail : ℕ)
+    → IsSpreading board base from mark place head 4 tail → head < tail
+    → IsSpreading board base from mark place (suc head) 0 tail
 turned board base from mark place head tail s here = record {
   start = s.start;
   free = s.free;
@@ -198,15 +215,17 @@ turned board base from mark place head tail s here = record {
   close = λ i j low lt lt'. s.close i j (omega arith) lt lt';
   done = λ i before lt e. elim (cases_lt i head) [
     | inl less ↦ s.done i less lt e
-    | inr at_least ↦ subst (λ (x : ℕ). IsClosed board base mark (place x) e) (let f : head ≡ i = omega arith in f) (s.now e (dir_number-lt e))
+    | inr at_least ↦ subst (λ (x : ℕ). IsClosed board base mark (place x) e) (let f : head ≡ i = omega arith in
+        f) (s.now e (dir_number-lt e))
   ];
   now = λ e lt. absurd (omega arith);
   order = omega arith;
 }
 
 -- once every square of the queue was looked round from, the search is done
-pub finished : (board : Board) (base from : ℕ) (mark place : ℕ → ℕ) (head tail : ℕ) → IsSpreading board base from mark place head 0 tail → tail ≤ head →
-    IsSpread board base from mark
+pub finished : (board : Board) (base from : ℕ) (mark place : ℕ → ℕ) (head tail : ℕ)
+    → IsSpreading board base from mark place head 0 tail → tail ≤ head
+    → IsSpread board base from mark
 finished board base from mark place head tail s all = record {
   start = s.start;
   free = s.free;

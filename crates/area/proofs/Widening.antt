@@ -1,20 +1,22 @@
 -- Floods over one set of free squares, by their numbers: visits to words, and rounds of them.
-use Rattle.std.proofs.Common.{◌≡◌, ◌≢◌, ℕ, ◌+◌, ◌-◌, ◌*◌, ◌/◌, ◌%◌, ◌^◌, ◌<◌, ◌≤◌, Bool, true, false, not, eqb, ◌&&◌, ◌||◌, ◌⊎◌, ◌↔◌, List, length, get_or}
-use Rattle.std.proofs.Common.{set, inl, inr, refl, sym, ap, subst, ◌∙◌, arith}
+use Rattle.std.proofs.Common.{◌≡◌, ◌≢◌, ℕ, ◌+◌, ◌-◌, ◌*◌, ◌/◌, ◌%◌, ◌^◌, ◌<◌, ◌≤◌, Bool, true, false, not, eqb, ◌&&◌}
+use Rattle.std.proofs.Common.{◌||◌, ◌↔◌, List, length, get_or, set, inl, inr, refl, sym, ap, subst, ◌∙◌, arith}
 use Rattle.std.specs.Int.{bit_not, w64}
 use Rattle.std.specs.Int.RustNames.{bit_and, bit_or}
 use Rattle.std.proofs.lemmas.Bool.{cases_Bool, cases_lt, cases_eq, not-true, eqb-true, eqb-false, or_cases, true≢false}
-use Rattle.std.proofs.lemmas.Bool.{false≢true}
+use Rattle.std.proofs.lemmas.Bool.{false≢true, not-false, or_parts}
 use Rattle.std.proofs.lemmas.List.{get_or-set_same, get_or-set_other, length-set, ext_get_or}
-use Rattle.std.proofs.lemmas.List.Sums.{sum_by-set}
 use Rattle.std.proofs.lemmas.Nat.{le_or_l}
 use Rattle.grid.specs.declared.masks.TheConstants.{WORD_BITS}
 use Rattle.grid.specs.Masks.{has_bit}
 use Rattle.area.specs.Words.{word_bit}
 use Rattle.area.specs.inside.Flooding.{AllPass, IsGrown, PassesUp, PassesDown, PassesOn, room_left}
-use Rattle.area.specs.inside.RoomFloods.{IsBeside, PassesOver, IsWidened, IsFull, IsVisit, IsPassing, IsRound, IsWidening}
-use Rattle.area.proofs.lemmas.WordBits.{word_bit-and, word_bit-not, word_bit_inside, has_bit-at, has_bit-parts, has_bit_inside, square_parts}
+use Rattle.area.specs.inside.RoomFloods.{IsBeside, PassesOver, IsWidened, IsFull, IsVisit, IsPassing, IsRound}
+use Rattle.area.specs.inside.RoomFloods.{IsWidening}
+use Rattle.area.proofs.lemmas.WordBits.{word_bit-and, word_bit-not, word_bit_inside, has_bit-at, has_bit-parts}
+use Rattle.area.proofs.lemmas.WordBits.{has_bit_inside, square_parts}
 use Rattle.area.proofs.lemmas.Growing.{or_bit, and_bit, bit_or_left, bit_or_right, bit_and_from, grown_by, grown_then}
+use Rattle.area.proofs.Visits.{bit_same, written_kept, written_sound, written_less, room_less}
 
 -- ---- one word
 
@@ -27,7 +29,8 @@ pub beside_bits : (words : List ℕ) (cols q j a b d e : ℕ)
     → (word_bit (bit_or (bit_or a b) (bit_or d e)) j ≡ true) ↔ ((p : ℕ) × IsBeside cols p q × (has_bit words p ≡ true))
 beside_bits words cols q j a b d e left none_left right up none_up down = (there, back)
   where
-    there : word_bit (bit_or (bit_or a b) (bit_or d e)) j ≡ true → (p : ℕ) × IsBeside cols p q × (has_bit words p ≡ true)
+    there : word_bit (bit_or (bit_or a b) (bit_or d e)) j ≡ true
+        → (p : ℕ) × IsBeside cols p q × (has_bit words p ≡ true)
     there h = elim (or_bit (bit_or a b) (bit_or d e) j h) [
       | inl row ↦ elim (or_bit a b j row) [
         | inl x ↦ elim (cases_lt q 1) [
@@ -73,7 +76,8 @@ grown_once word right left row down last free by r l m d u =
 pub widened_none : (cols : ℕ) (free words : List ℕ) → IsWidened cols free words words
 widened_none cols free words = record { size = refl; kept = λ q h. h; sound = λ test passes all. all }
 
-pub widened_then : (cols : ℕ) (free a b c : List ℕ) → IsWidened cols free a b → IsWidened cols free b c → IsWidened cols free a c
+pub widened_then : (cols : ℕ) (free a b c : List ℕ) → IsWidened cols free a b → IsWidened cols free b c
+    → IsWidened cols free a c
 widened_then cols free a b c g h = record {
   size = h.size ∙ g.size;
   kept = λ q x. h.kept q (g.kept q x);
@@ -82,20 +86,25 @@ widened_then cols free a b c g h = record {
 
 -- where a word is written over with itself, nothing changes
 pub set_itself : (words : List ℕ) (index word : ℕ) → word ≡ get_or words index 0 → set words index word ≡ words
-set_itself words index word same = ext_get_or 0 (set words index word) words (length-set words index word) (λ k lt. elim (cases_eq k index) [
-  | inl e ↦ ap (λ (x : ℕ). get_or (set words index word) x 0) e ∙
-      (get_or-set_same words index word 0 (let z = length-set words index word in omega (arith, z, e, lt)) ∙ (same ∙ ap (λ (x : ℕ). get_or words x 0) (sym e)))
-  | inr ne ↦ get_or-set_other words index k word 0 ne
-])
+set_itself words index word same =
+    ext_get_or 0 (set words index word) words (length-set words index word) (λ k lt. elim (cases_eq k index) [
+      | inl e ↦ ap (λ (x : ℕ). get_or (set words index word) x 0) e ∙
+          (get_or-set_same words index word 0 (let z = length-set words index word in omega (arith, z, e, lt))
+          ∙ (same ∙ ap (λ (x : ℕ). get_or words x 0) (sym e)))
+      | inr ne ↦ get_or-set_other words index k word 0 ne
+    ])
 
 -- a word of free numbers passes a test on within it as the set of free numbers does
-module _ (cols : ℕ) (free : List ℕ) (index : ℕ) (fits : get_or free index 0 < 2 ^ 64) (test : ℕ → Bool) (passes : PassesOver cols free test) where
-  onto : (i j : ℕ) → IsBeside cols (WORD_BITS * index + i) (WORD_BITS * index + j) → word_bit (get_or free index 0) j ≡ true →
-      test (WORD_BITS * index + i) ≡ true → test (WORD_BITS * index + j) ≡ true
+module _ (cols : ℕ) (free : List ℕ) (index : ℕ) (fits : get_or free index 0 < 2 ^ 64) (test : ℕ → Bool)
+    (passes : PassesOver cols free test) where
+  onto : (i j : ℕ) → IsBeside cols (WORD_BITS * index + i) (WORD_BITS * index + j)
+      → word_bit (get_or free index 0) j ≡ true
+      → test (WORD_BITS * index + i) ≡ true → test (WORD_BITS * index + j) ≡ true
   onto i j near bit old = passes (WORD_BITS * index + i) (WORD_BITS * index + j) near
       (has_bit-at free index j (word_bit_inside (get_or free index 0) j fits bit) ∙ bit) old
 
-  pub all_ways : PassesOn (λ j. test (WORD_BITS * index + j)) cols (get_or free index 0) (get_or free index 0) (get_or free index 0) (get_or free index 0)
+  pub all_ways : PassesOn (λ j. test (WORD_BITS * index + j)) cols (get_or free index 0) (get_or free index 0) (get_or
+      free index 0) (get_or free index 0)
   all_ways = record {
     on_down = λ i j e bit old. onto i j (inr (inl (omega (arith, e)))) bit old;
     on_left = λ i j e bit old. onto i j (inl (inr (omega (arith, e)))) bit old;
@@ -105,22 +114,30 @@ module _ (cols : ℕ) (free : List ℕ) (index : ℕ) (fits : get_or free index 
 
 -- ---- a visit
 
--- where a word has each of its free numbers, it is full
-pub visit_full : (cols : ℕ) (free old : List ℕ) (index : ℕ) → bit_or (get_or old index 0) (get_or free index 0) ≡ get_or old index 0 →
-    IsVisit cols free index old old false
-visit_full cols free old index same = record {
+-- a visit to a full word changes nothing
+visit_none : (cols : ℕ) (free old : List ℕ) (index : ℕ) → IsFull cols free index old
+    → IsVisit cols free index old old false
+visit_none cols free old index full = record {
   widened = widened_none cols free old;
   others = λ k ne. refl;
   less = λ h. absurd (false≢true h);
   same = λ h. refl;
-  full = λ h p j lt near vacant there.
-      has_bit-at old index j lt ∙ (ap (λ (w : ℕ). word_bit w j) (sym same) ∙
-      bit_or_right (get_or old index 0) (get_or free index 0) j (sym (has_bit-at free index j lt) ∙ vacant));
+  full = λ h. full;
 }
 
-module _ (cols : ℕ) (free old : List ℕ) (index came : ℕ) (inside : index < length old) (old_fits : get_or old index 0 < 2 ^ 64)
+-- where a word has each of its free numbers, it is full
+pub visit_full : (cols : ℕ) (free old : List ℕ) (index : ℕ)
+    → bit_or (get_or old index 0) (get_or free index 0) ≡ get_or old index 0
+    → IsVisit cols free index old old false
+visit_full cols free old index same = visit_none cols free old index (λ p j lt near vacant there.
+    has_bit-at old index j lt ∙ (ap (λ (w : ℕ). word_bit w j) (sym same) ∙
+    bit_or_right (get_or old index 0) (get_or free index 0) j (sym (has_bit-at free index j lt) ∙ vacant)))
+
+module _ (cols : ℕ) (free old : List ℕ) (index came : ℕ) (inside : index < length old)
+    (old_fits : get_or old index 0 < 2 ^ 64)
     (free_fits : get_or free index 0 < 2 ^ 64)
-    (bits : (j : ℕ) → j < WORD_BITS → (word_bit came j ≡ true) ↔ ((p : ℕ) × IsBeside cols p (WORD_BITS * index + j) × (has_bit old p ≡ true))) where
+    (bits : (j : ℕ) → j < WORD_BITS → (word_bit came j ≡ true)
+    ↔ ((p : ℕ) × IsBeside cols p (WORD_BITS * index + j) × (has_bit old p ≡ true))) where
   abbrev pub first_bits : ℕ
   first_bits = bit_or (get_or old index 0) (bit_and came (get_or free index 0))
 
@@ -129,22 +146,19 @@ module _ (cols : ℕ) (free old : List ℕ) (index came : ℕ) (inside : index <
       has_bit-at old index j lt
       ∙ (ap (λ (w : ℕ). word_bit w j) (sym same)
       ∙ bit_or_right (get_or old index 0) (bit_and came (get_or free index 0)) j
-      (bit_and_from came (get_or free index 0) j ((bits j lt).1 (p, near, there)) (sym (has_bit-at free index j lt) ∙ vacant)))
+      (bit_and_from came (get_or free index 0) j ((bits j lt).1 (p, near, there)) (sym (has_bit-at free index j lt)
+      ∙ vacant)))
 
   -- where a visit adds nothing to a word, it is full
   pub visit_still : first_bits ≡ get_or old index 0 → IsVisit cols free index old old false
-  visit_still same = record {
-    widened = widened_none cols free old;
-    others = λ k ne. refl;
-    less = λ h. absurd (false≢true h);
-    same = λ h. refl;
-    full = λ h. still_full same;
-  }
+  visit_still same = visit_none cols free old index (still_full same)
 
   -- the numbers beside the set pass a test that all of the set pass
-  first_pass : (test : ℕ → Bool) → PassesOver cols free test → AllPass test old → (j : ℕ) → word_bit first_bits j ≡ true → test (WORD_BITS * index + j) ≡ true
+  first_pass : (test : ℕ → Bool) → PassesOver cols free test → AllPass test old → (j : ℕ) → word_bit first_bits j ≡ true
+      → test (WORD_BITS * index + j) ≡ true
   first_pass test passes all j h = elim (or_bit (get_or old index 0) (bit_and came (get_or free index 0)) j h) [
-    | inl here ↦ all (WORD_BITS * index + j) (has_bit-at old index j (word_bit_inside (get_or old index 0) j old_fits here) ∙ here)
+    | inl here ↦ all (WORD_BITS * index + j)
+        (has_bit-at old index j (word_bit_inside (get_or old index 0) j old_fits here) ∙ here)
     | inr new ↦
         (let p = and_bit came (get_or free index 0) j new in
         let lt = word_bit_inside (get_or free index 0) j free_fits p.1 in
@@ -152,53 +166,34 @@ module _ (cols : ℕ) (free old : List ℕ) (index came : ℕ) (inside : index <
         passes w.0 (WORD_BITS * index + j) w.1 (has_bit-at free index j lt ∙ p.1) (all w.0 w.2))
   ]
 
-  module _ (filled : ℕ) (Passes : (ℕ → Bool) → Type 0) (fits : filled < 2 ^ 64) (weaker : (test : ℕ → Bool) → PassesOver cols free test →
+  module _ (filled : ℕ) (Passes : (ℕ → Bool) → Type 0) (fits : filled < 2 ^ 64)
+      (weaker : (test : ℕ → Bool) → PassesOver cols free test →
       Passes (λ j. test (WORD_BITS * index + j))) (grown : IsGrown first_bits filled Passes) where
-    -- a number's bit is of the word that was written, or as before
-    bit_now : (q : ℕ) → (q / WORD_BITS ≡ index) × (has_bit (set old index filled) q ≡ word_bit filled (q % WORD_BITS)) ×
-        (has_bit old q ≡ word_bit (get_or old index 0) (q % WORD_BITS)) ⊎ (has_bit (set old index filled) q ≡ has_bit old q)
-    bit_now q = elim (cases_eq (q / WORD_BITS) index) [
-      | inl at ↦ inl (
-        at,
-        has_bit-parts (set old index filled) q ∙
-            (ap (λ (k : ℕ). word_bit (get_or (set old index filled) k 0) (q % WORD_BITS)) at ∙
-            ap (λ (w : ℕ). word_bit w (q % WORD_BITS)) (get_or-set_same old index filled 0 inside)),
-        has_bit-parts old q ∙ ap (λ (k : ℕ). word_bit (get_or old k 0) (q % WORD_BITS)) at,
-      )
-      | inr ne ↦ inr (has_bit-parts (set old index filled) q ∙
-          (ap (λ (w : ℕ). word_bit w (q % WORD_BITS)) (get_or-set_other old index (q / WORD_BITS) filled 0 ne) ∙ sym (has_bit-parts old q)))
-    ]
-
     widens : IsWidened cols free old (set old index filled)
     widens = record {
       size = length-set old index filled;
-      kept = λ q h. elim (bit_now q) [
-        | inl now ↦ now.1 ∙ grown.kept (q % WORD_BITS) (bit_or_left (get_or old index 0) (bit_and came (get_or free index 0)) (q % WORD_BITS) (sym now.2 ∙ h))
-        | inr same ↦ same ∙ h
-      ];
-      sound = λ test passes all q h. elim (bit_now q) [
-        | inl now ↦
-            (let at : WORD_BITS * index + q % WORD_BITS ≡ q = (let p = now.0 in omega arith) in
-            sym (ap test at) ∙ grown.sound (λ j. test (WORD_BITS * index + j)) (weaker test passes) (first_pass test passes all) (q % WORD_BITS)
-            (sym now.1 ∙ h))
-        | inr same ↦ all q (sym same ∙ h)
-      ];
+      kept = written_kept old index first_bits filled Passes inside
+          (bit_or_left (get_or old index 0) (bit_and came (get_or free index 0))) grown;
+      sound = λ test passes all.
+          written_sound old index first_bits filled Passes inside
+          (bit_or_left (get_or old index 0) (bit_and came (get_or free index 0))) grown
+          test (weaker test passes) (first_pass test passes all) all;
     }
 
     -- where the word changes, there is less room left
     shrinks : filled ≢ get_or old index 0 → room_left (set old index filled) < room_left old
     shrinks more =
-        let total = sum_by-set (λ (w : ℕ). 2 ^ 64 - w) old index filled 0 inside in
         let first = le_or_l (get_or old index 0) (bit_and came (get_or free index 0)) in
         let last = grown.most in
-        omega (arith, total, first, last, more, fits)
+        written_less old index filled inside fits (omega (arith, first, last, more))
 
     -- a visit that found something
     pub visit_grown : first_bits ≢ get_or old index 0 → IsVisit cols free index old (set old index filled) true
     visit_grown more = record {
       widened = widens;
       others = λ k ne. get_or-set_other old index k filled 0 ne;
-      less = λ h. shrinks (λ e. more (let first = le_or_l (get_or old index 0) (bit_and came (get_or free index 0)) in let last = grown.most in
+      less = λ h. shrinks (λ e. more (let first = le_or_l (get_or old index 0) (bit_and came (get_or free index 0)) in
+          let last = grown.most in
           omega (arith, first, last, e)));
       same = λ h. absurd (true≢false h);
       full = λ h. absurd (true≢false h);
@@ -211,16 +206,13 @@ module _ (cols : ℕ) (free old : List ℕ) (index came : ℕ) (inside : index <
       others = λ k ne. get_or-set_other old index k filled 0 ne;
       less = λ h. shrinks (eqb-false filled (get_or old index 0) (not-true (eqb filled (get_or old index 0)) h));
       same = λ h. set_itself old index filled (even h);
-      full = λ h. still_full (let first = le_or_l (get_or old index 0) (bit_and came (get_or free index 0)) in let last = grown.most in let e = even h in
+      full = λ h. still_full (let first = le_or_l (get_or old index 0) (bit_and came (get_or free index 0)) in
+          let last = grown.most in let e = even h in
           omega (arith, first, last, e));
     }
       where
         even : not (eqb filled (get_or old index 0)) ≡ false → filled ≡ get_or old index 0
-        even h = eqb-true filled (get_or old index 0) (turned (eqb filled (get_or old index 0)) h)
-          where
-            turned : (b : Bool) → not b ≡ false → b ≡ true
-            turned true h = refl
-            turned false h = absurd (true≢false h)
+        even h = eqb-true filled (get_or old index 0) (not-false (eqb filled (get_or old index 0)) h)
 
 -- ---- rounds
 
@@ -232,66 +224,62 @@ passing_first cols free words = record {
   full = λ h k lt. absurd (omega (arith, lt));
 }
 
-either_none : (a b : Bool) → (a || b) ≡ false → (a ≡ false) × (b ≡ false)
-either_none true b h = absurd (true≢false h)
-either_none false b h = (refl, h)
-
-pub passing_next : (cols : ℕ) (free : List ℕ) (index : ℕ) (old now new : List ℕ) (grew more : Bool) → IsPassing cols free index old now grew →
-    IsVisit cols free index now new more → IsPassing cols free (index + 1) old new (grew || more)
+pub passing_next : (cols : ℕ) (free : List ℕ) (index : ℕ) (old now new : List ℕ) (grew more : Bool)
+    → IsPassing cols free index old now grew
+    → IsVisit cols free index now new more → IsPassing cols free (index + 1) old new (grew || more)
 passing_next cols free index old now new grew more f v = record {
   widened = widened_then cols free old now new f.widened v.widened;
   less = λ h. elim (or_cases grew more h) [
-    | inl x ↦ (let a = f.less x in let b = after more refl in omega (arith, a, b))
-    | inr x ↦ (let a = before grew refl in let b = v.less x in omega (arith, a, b))
+    | inl x ↦ (let a = f.less x in let b = room_less more now new v.less v.same in omega (arith, a, b))
+    | inr x ↦ (let a = room_less grew old now f.less f.same in let b = v.less x in omega (arith, a, b))
   ];
-  same = λ h. (let n = either_none grew more h in v.same n.1 ∙ f.same n.0);
+  same = λ h. (let n = or_parts grew more h in v.same n.1 ∙ f.same n.0);
   full = λ h k lt.
-      (let n = either_none grew more h in
+      (let n = or_parts grew more h in
       elim (cases_lt k index) [
         | inl early ↦ f.full n.0 k early
         | inr late ↦ subst (λ (x : ℕ). IsFull cols free x old) (let e : index ≡ k = omega (arith, late, lt) in
             e) (subst (λ (ws : List ℕ). IsFull cols free index ws) (f.same n.0) (v.full n.1))
       ]);
 }
-  where
-    after : (b : Bool) → more ≡ b → room_left new ≤ room_left now
-    after true e = (let l = v.less e in omega (arith, l))
-    after false e = (let l = ap room_left (v.same e) in omega (arith, l))
 
-    before : (b : Bool) → grew ≡ b → room_left now ≤ room_left old
-    before true e = (let l = f.less e in omega (arith, l))
-    before false e = (let l = ap room_left (f.same e) in omega (arith, l))
+-- where each word of the free numbers is full, the set keeps what it passes on over all of them
+full_passes : (cols : ℕ) (free words : List ℕ) (index : ℕ) → length free ≤ index
+    → ((k : ℕ) → k < index → IsFull cols free k words)
+    → PassesOver cols free (has_bit words)
+full_passes cols free words index all full p q near vacant there =
+    let at = square_parts q in
+    let lt = has_bit_inside free q vacant in
+    subst (λ (x : ℕ). IsBeside cols p x → has_bit free x ≡ true → has_bit words x ≡ true) at.0
+    (λ close clear. full (q / WORD_BITS) (omega (arith, lt, all)) p (q % WORD_BITS) at.1 close clear there) near vacant
 
-pub passing_last : (cols : ℕ) (free : List ℕ) (index : ℕ) (old new : List ℕ) (grew : Bool) → length free ≤ index → IsPassing cols free index old new grew →
-    IsRound cols free old new grew
+pub passing_last : (cols : ℕ) (free : List ℕ) (index : ℕ) (old new : List ℕ) (grew : Bool) → length free ≤ index
+    → IsPassing cols free index old new grew
+    → IsRound cols free old new grew
 passing_last cols free index old new grew all f = record {
   widened = f.widened;
   less = f.less;
-  whole = λ h. subst (λ (ws : List ℕ). PassesOver cols free (has_bit ws)) (sym (f.same h)) (λ p q near vacant there. whole (f.full h) p q near vacant there);
+  whole = λ h. subst (λ (ws : List ℕ). PassesOver cols free (has_bit ws)) (sym (f.same h))
+      (full_passes cols free old index all (f.full h));
 }
-  where
-    whole : ((k : ℕ) → k < index → IsFull cols free k old) → PassesOver cols free (has_bit old)
-    whole full p q near vacant there =
-        let at = square_parts q in
-        let lt = has_bit_inside free q vacant in
-        subst (λ (x : ℕ). IsBeside cols p x → has_bit free x ≡ true → has_bit old x ≡ true) at.0
-        (λ close clear. full (q / WORD_BITS) (omega (arith, lt, all)) p (q % WORD_BITS) at.1 close clear there) near vacant
 
 -- ---- visits that go back
 
-pub widening_on : (cols : ℕ) (free old now new : List ℕ) (index : ℕ) (grew : Bool) → IsWidening cols free index old now →
-    IsVisit cols free index now new grew → grew ≡ false → IsWidening cols free (index + 1) old new
+pub widening_on : (cols : ℕ) (free old now new : List ℕ) (index : ℕ) (grew : Bool) → IsWidening cols free index old now
+    → IsVisit cols free index now new grew → grew ≡ false → IsWidening cols free (index + 1) old new
 widening_on cols free old now new index grew f v even = record {
   widened = widened_then cols free old now new f.widened v.widened;
   full = λ k lt. subst (λ (ws : List ℕ). IsFull cols free k ws) (sym (v.same even)) (elim (cases_lt k index) [
     | inl early ↦ f.full k early
-    | inr late ↦ subst (λ (x : ℕ). IsFull cols free x now) (let e : index ≡ k = omega (arith, late, lt) in e) (v.full even)
+    | inr late ↦ subst (λ (x : ℕ). IsFull cols free x now) (let e : index ≡ k = omega (arith, late, lt) in
+        e) (v.full even)
   ]);
 }
 
 -- a visit that added numbers changed no word that is so far before it, nor what is beside its own there
-pub widening_back : (cols : ℕ) (free old now new : List ℕ) (index back : ℕ) (grew : Bool) → cols / WORD_BITS + 1 ≤ back → IsWidening cols free index old now →
-    IsVisit cols free index now new grew → IsWidening cols free (index - back) old new
+pub widening_back : (cols : ℕ) (free old now new : List ℕ) (index back : ℕ) (grew : Bool) → cols / WORD_BITS + 1 ≤ back
+    → IsWidening cols free index old now
+    → IsVisit cols free index now new grew → IsWidening cols free (index - back) old new
 widening_back cols free old now new index back grew far f v = record {
   widened = widened_then cols free old now new f.widened v.widened;
   full = λ k lt p j inner near vacant there. v.widened.kept (WORD_BITS * k + j)
@@ -305,16 +293,12 @@ widening_back cols free old now new index back grew far f v = record {
     low k p j lt inner (inr (inr e)) = omega (arith, lt, inner, e, far)
 
     before : (x : ℕ) → x < WORD_BITS * index → has_bit new x ≡ has_bit now x
-    before x lt = has_bit-parts new x ∙
-        (ap (λ (w : ℕ). word_bit w (x % WORD_BITS)) (v.others (x / WORD_BITS) (λ e. omega (arith, e, lt))) ∙ sym (has_bit-parts now x))
+    before x lt = bit_same now new x (v.others (x / WORD_BITS) (λ e. omega (arith, e, lt)))
 
-pub widening_last : (cols : ℕ) (free old new : List ℕ) (index : ℕ) → length free ≤ index → IsWidening cols free index old new →
-    PassesOver cols free (has_bit new)
-widening_last cols free old new index all f p q near vacant there =
-    let at = square_parts q in
-    let lt = has_bit_inside free q vacant in
-    subst (λ (x : ℕ). IsBeside cols p x → has_bit free x ≡ true → has_bit new x ≡ true) at.0
-    (λ close clear. f.full (q / WORD_BITS) (omega (arith, lt, all)) p (q % WORD_BITS) at.1 close clear there) near vacant
+pub widening_last : (cols : ℕ) (free old new : List ℕ) (index : ℕ) → length free ≤ index
+    → IsWidening cols free index old new
+    → PassesOver cols free (has_bit new)
+widening_last cols free old new index all f = full_passes cols free new index all f.full
 
 -- ---- squares that others are not
 
@@ -322,21 +306,26 @@ widening_last cols free old new index all f p q near vacant there =
 abbrev pub AreCleared : List ℕ → List ℕ → ℕ → List ℕ → Type 0
 AreCleared squares words index now =
     (length now ≡ length words)
-    × ((k j : ℕ) → k < index → j < WORD_BITS → word_bit (get_or now k 0) j ≡ (word_bit (get_or squares k 0) j && not (word_bit (get_or words k 0) j)))
+    × ((k j : ℕ) → k < index → j < WORD_BITS → word_bit
+    (get_or now k 0) j ≡ (word_bit (get_or squares k 0) j && not (word_bit (get_or words k 0) j)))
     × ((k : ℕ) → index ≤ k → get_or now k 0 ≡ get_or words k 0)
 
-pub cleared_on : (squares words now : List ℕ) (index word : ℕ) → AreCleared squares words index now → index < length now → word ≡ get_or now index 0 →
-    word < 2 ^ 64 → AreCleared squares words (index + 1) (set now index (bit_and (get_or squares index 0) (bit_not w64 word)))
+pub cleared_on : (squares words now : List ℕ) (index word : ℕ) → AreCleared squares words index now → index < length now
+    → word ≡ get_or now index 0
+    → word < 2 ^ 64
+    → AreCleared squares words (index + 1) (set now index (bit_and (get_or squares index 0) (bit_not w64 word)))
 cleared_on squares words now index word (size, before, rest) inside read fits = (
   length-set now index new ∙ size,
   λ k j lt below. elim (cases_eq k index) [
     | inl e ↦
-        ap (λ (w : ℕ). word_bit w j) (ap (λ (x : ℕ). get_or (set now index new) x 0) e ∙ get_or-set_same now index new 0 inside)
+        ap (λ (w : ℕ). word_bit w j) (ap (λ (x : ℕ). get_or (set now index new) x 0) e
+        ∙ get_or-set_same now index new 0 inside)
         ∙ (word_bit-and (get_or squares index 0) (bit_not w64 word) j
         ∙ (ap (λ (b : Bool). word_bit (get_or squares index 0) j && b) (word_bit-not word j fits below ∙
         ap (λ (w : ℕ). not (word_bit w j)) (read ∙ rest index (omega arith)))
         ∙ ap (λ (x : ℕ). word_bit (get_or squares x 0) j && not (word_bit (get_or words x 0) j)) (sym e)))
-    | inr ne ↦ ap (λ (w : ℕ). word_bit w j) (get_or-set_other now index k new 0 ne) ∙ before k j (omega (arith, lt, ne)) below
+    | inr ne ↦ ap (λ (w : ℕ). word_bit w j) (get_or-set_other now index k new 0 ne)
+        ∙ before k j (omega (arith, lt, ne)) below
   ],
   λ k le. get_or-set_other now index k new 0 (λ e. omega (arith, le, e)) ∙ rest k (omega arith),
 )
@@ -350,11 +339,13 @@ none_past words q past = elim (cases_Bool (has_bit words q)) [
   | inr h ↦ h
 ]
 
-pub cleared_bit : (squares words now : List ℕ) (index q : ℕ) → AreCleared squares words index now → length squares ≡ length words → length words ≤ index →
-    has_bit now q ≡ (has_bit squares q && not (has_bit words q))
+pub cleared_bit : (squares words now : List ℕ) (index q : ℕ) → AreCleared squares words index now
+    → length squares ≡ length words → length words ≤ index
+    → has_bit now q ≡ (has_bit squares q && not (has_bit words q))
 cleared_bit squares words now index q (size, before, rest) room whole = elim (cases_lt q (WORD_BITS * length words)) [
   | inl lt ↦ has_bit-parts now q ∙
-      (before (q / WORD_BITS) (q % WORD_BITS) (omega (arith, lt, whole)) (omega arith) ∙ cc2 (has_bit-parts squares q) (has_bit-parts words q))
+      (before (q / WORD_BITS) (q % WORD_BITS) (omega (arith, lt, whole)) (omega arith)
+      ∙ cc2 (has_bit-parts squares q) (has_bit-parts words q))
   | inr past ↦ none_past now q (omega (arith, past, size)) ∙
       sym (ap (λ (b : Bool). b && not (has_bit words q)) (none_past squares q (omega (arith, past, room))))
 ]

@@ -8,4 +8,3 @@ pub mod Moving
 pub mod Hanging
 pub mod Flooding
 pub mod PushOrder
-pub mod Directions

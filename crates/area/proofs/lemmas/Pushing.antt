@@ -1,10 +1,12 @@
 -- Words of bits tell which boxes can be pushed.
-use Rattle.std.proofs.Common.{◌≡◌, ℕ, ◌+◌, ◌-◌, ◌*◌, ◌^◌, ◌<◌, ◌≤◌, Bool, true, false, not, ◌&&◌, ◌↔◌, List, length, get_or, inl, inr, refl, sym, ap, subst}
-use Rattle.std.proofs.Common.{◌∙◌, arith}
+use Rattle.std.proofs.Common.{◌≡◌, ℕ, ◌+◌, ◌-◌, ◌*◌, ◌^◌, ◌<◌, ◌≤◌, Bool, true, false, not, ◌&&◌, ◌↔◌, List, length}
+use Rattle.std.proofs.Common.{get_or, inl, inr, refl, sym, ap, subst, ◌∙◌, arith}
 use Rattle.std.specs.Int.{bit_not, w64}
 use Rattle.std.specs.Int.RustNames.{bit_and}
 use Rattle.std.proofs.lemmas.Bool.{cases_lt, cases_Bool, and_parts, and_from, not-true, not_from_false, true≢false}
 use Rattle.std.proofs.lemmas.List.{length-map}
+use Rattle.std.specs.Cmp.{both_ways}
+use Rattle.std.proofs.Math.Bool.{and-true}
 use Rattle.grid.specs.declared.dir.Dir.{Dir}
 use Rattle.grid.specs.declared.dir.Dir.TheVariants.{D, L, R, U}
 use Rattle.grid.specs.declared.masks.StepMasks.{StepMasks}
@@ -39,12 +41,15 @@ back_up board by cols q h = let s = source_U board q h in omega arith
 
 -- ---- the open squares of a word
 
-module _ (board : Board) (masks : List StepMasks) (boxes : List ℕ) (d : Dir) (index : ℕ) (are : AreMasks board masks) (j : ℕ) (lt : j < WORD_BITS) where
-  pub open_bits : (e : StepMasks) (word held : ℕ) → index < length masks → word ≡ word_for d (get_or masks index e) → held ≡ get_or boxes index 0 →
-      held < 2 ^ 64 → word_bit (bit_and word (bit_not w64 held)) j ≡ is_open board boxes d (WORD_BITS * index + j)
+module _ (board : Board) (masks : List StepMasks) (boxes : List ℕ) (d : Dir) (index : ℕ) (are : AreMasks board masks)
+    (j : ℕ) (lt : j < WORD_BITS) where
+  pub open_bits : (e : StepMasks) (word held : ℕ) → index < length masks → word ≡ word_for d (get_or masks index e)
+      → held ≡ get_or boxes index 0
+      → held < 2 ^ 64 → word_bit (bit_and word (bit_not w64 held)) j ≡ is_open board boxes d (WORD_BITS * index + j)
   open_bits e word held inside named at fits =
       word_bit-and word (bit_not w64 held) j
-      ∙ (ap (λ (b : Bool). b && word_bit (bit_not w64 held) j) (ap (λ (w : ℕ). word_bit w j) named ∙ mask_bit board masks d index j e are inside lt)
+      ∙ (ap (λ (b : Bool). b && word_bit (bit_not w64 held) j) (ap (λ (w : ℕ). word_bit w j) named
+      ∙ mask_bit board masks d index j e are inside lt)
       ∙ ap (λ (b : Bool). can_enter board d (WORD_BITS * index + j) && b) (word_bit-not held j fits lt ∙
       ap not (ap (λ (w : ℕ). word_bit w j) at ∙ sym (has_bit-at boxes index j lt))))
 
@@ -54,7 +59,9 @@ module _ (board : Board) (masks : List StepMasks) (boxes : List ℕ) (d : Dir) (
     where
       shut : can_enter board d (WORD_BITS * index + j) ≡ false
       shut = elim (cases_Bool (can_enter board d (WORD_BITS * index + j))) [
-        | inl h ↦ absurd (let below = has_bit_inside (words_for d masks) (WORD_BITS * index + j) (are.bits d (WORD_BITS * index + j) ∙ h) in
+        | inl h ↦
+            absurd (let below = has_bit_inside (words_for d masks) (WORD_BITS * index + j)
+            (are.bits d (WORD_BITS * index + j) ∙ h) in
             let size = length-map masks (word_for d) in omega (arith, below, size, past))
         | inr h ↦ h
       ]
@@ -68,13 +75,9 @@ module _ (board : Board) (boxes : List ℕ) (d : Dir) (q : ℕ) (clear : is_wall
       let p = and_parts (can_enter board d (next board q d)) (not (has_bit boxes (next board q d))) h in
       next_back board q d clear (enter_parts board d (next board q d) p.0).0
 
-  same_if : (a b : Bool) → (a ≡ true → b ≡ true) → (b ≡ true → a ≡ true) → a ≡ b
-  same_if true b f g = sym (f refl)
-  same_if false true f g = g refl
-  same_if false false f g = refl
-
-  pub ahead_on : (by : ℕ) (bit : Bool) → GoesOn board d by → bit ≡ is_open board boxes d (q + by) → bit ≡ is_open board boxes d (next board q d)
-  ahead_on by bit on seen = same_if bit (is_open board boxes d (next board q d))
+  pub ahead_on : (by : ℕ) (bit : Bool) → GoesOn board d by → bit ≡ is_open board boxes d (q + by)
+      → bit ≡ is_open board boxes d (next board q d)
+  ahead_on by bit on seen = both_ways bit (is_open board boxes d (next board q d))
       (λ h.
       (let here : is_open board boxes d (q + by) ≡ true = sym seen ∙ h in
       let can = (and_parts (can_enter board d (q + by)) (not (has_bit boxes (q + by))) here).0 in
@@ -87,9 +90,10 @@ module _ (board : Board) (boxes : List ℕ) (d : Dir) (q : ℕ) (clear : is_wall
       let e : q + by ≡ next board q d = ap (λ (x : ℕ). x + by) (sym (ahead_back h)) ∙ on (next board q d) can in
       seen ∙ (ap (is_open board boxes d) e ∙ h)))
 
-  pub ahead_behind : (by : ℕ) (bit : Bool) → GoesBack board d by → ((i : ℕ) → i + by ≡ q → bit ≡ is_open board boxes d i) → (q < by → bit ≡ false) →
-      bit ≡ is_open board boxes d (next board q d)
-  ahead_behind by bit back seen none = same_if bit (is_open board boxes d (next board q d))
+  pub ahead_behind : (by : ℕ) (bit : Bool) → GoesBack board d by
+      → ((i : ℕ) → i + by ≡ q → bit ≡ is_open board boxes d i) → (q < by → bit ≡ false)
+      → bit ≡ is_open board boxes d (next board q d)
+  ahead_behind by bit back seen none = both_ways bit (is_open board boxes d (next board q d))
       (λ h. elim (cases_lt q by) [
         | inl lt ↦ absurd (true≢false (sym h ∙ none lt))
         | inr le ↦
@@ -109,17 +113,22 @@ module _ (board : Board) (boxes : List ℕ) (d : Dir) (q : ℕ) (clear : is_wall
 -- ---- a word's boxes that can be pushed
 
 -- what the bits of a word's boxes, of those entered and of those with an open square ahead say together
-pub push_bits : (board : Board) (masks : List StepMasks) (boxes reached : List ℕ) (index : ℕ) (d : Dir) (e : StepMasks) (j side word ahead : ℕ) →
-    AreMasks board masks → index < length masks → j < WORD_BITS
+pub push_bits : (board : Board) (masks : List StepMasks) (boxes reached : List ℕ) (index : ℕ) (d : Dir) (e : StepMasks)
+    (j side word ahead : ℕ)
+    → AreMasks board masks → index < length masks → j < WORD_BITS
     → word ≡ word_for d (get_or masks index e)
-    → (can_enter board d (WORD_BITS * index + j) ≡ true → word_bit side j ≡ has_bit reached (next board (WORD_BITS * index + j) (opposite d)))
-    → (is_wall board (WORD_BITS * index + j) ≡ false → word_bit ahead j ≡ is_open board boxes d (next board (WORD_BITS * index + j) d))
-    → word_bit (bit_and (bit_and (get_or boxes index 0) (bit_and side word)) ahead) j ≡ can_push board boxes reached d (WORD_BITS * index + j)
+    → (can_enter board d (WORD_BITS * index + j) ≡ true
+    → word_bit side j ≡ has_bit reached (next board (WORD_BITS * index + j) (opposite d)))
+    → (is_wall board (WORD_BITS * index + j) ≡ false
+    → word_bit ahead j ≡ is_open board boxes d (next board (WORD_BITS * index + j) d))
+    → word_bit (bit_and (bit_and (get_or boxes index 0) (bit_and side word)) ahead) j ≡ can_push board boxes reached d
+    (WORD_BITS * index + j)
 push_bits board masks boxes reached index d e j side word ahead are inside lt named come opens =
     word_bit-and (bit_and (get_or boxes index 0) (bit_and side word)) ahead j
     ∙ (ap (λ (b : Bool). b && word_bit ahead j) (word_bit-and (get_or boxes index 0) (bit_and side word) j ∙
     ap (λ (b : Bool). word_bit (get_or boxes index 0) j && b) (word_bit-and side word j))
-    ∙ joined (word_bit (get_or boxes index 0) j) (has_bit boxes q) (word_bit side j) (has_bit reached (next board q (opposite d))) (word_bit word j)
+    ∙ joined (word_bit (get_or boxes index 0) j) (has_bit boxes q) (word_bit side j)
+    (has_bit reached (next board q (opposite d))) (word_bit word j)
     (can_enter board d q) (word_bit ahead j) (is_open board boxes d (next board q d))
     (sym (has_bit-at boxes index j lt)) (ap (λ (w : ℕ). word_bit w j) named ∙
     mask_bit board masks d index j e are inside lt) come (λ can. opens (enter_parts board d q can).0))
@@ -127,13 +136,10 @@ push_bits board masks boxes reached index d e j side word ahead are inside lt na
     q : ℕ
     q = WORD_BITS * index + j
 
-    joined : (a b s t m c x y : Bool) → a ≡ b → m ≡ c → (c ≡ true → s ≡ t) → (c ≡ true → x ≡ y) → ((a && (s && m)) && x) ≡ ((b && (c && t)) && y)
+    joined : (a b s t m c x y : Bool) → a ≡ b → m ≡ c → (c ≡ true → s ≡ t) → (c ≡ true → x ≡ y)
+        → ((a && (s && m)) && x) ≡ ((b && (c && t)) && y)
     joined a b s t m true x y e f g h = let p = g refl in let r = h refl in ap (λ (z : Bool). (a && (s && z)) && x) f ∙
-        ap (λ (z : Bool). (a && z) && x) (and_true s) ∙ cc
-      where
-        and_true : (z : Bool) → (z && true) ≡ z
-        and_true true = refl
-        and_true false = refl
+        ap (λ (z : Bool). (a && z) && x) (and-true s) ∙ cc
     joined a b s t m false x y e f g h = ap (λ (z : Bool). (a && (s && z)) && x) f ∙ (none a s x ∙ sym (gone b y))
       where
         none : (a s x : Bool) → ((a && (s && false)) && x) ≡ false
@@ -146,9 +152,11 @@ push_bits board masks boxes reached index d e j side word ahead are inside lt na
         gone false y = refl
 
 -- and what they say is that the box can be pushed
-pub pushable_from : (board : Board) (boxes reached : Squares) (held seen : List ℕ) (d : Dir) (q : ℕ) → ((x : ℕ) → contains boxes x ≡ has_bit held x) →
-    ((x : ℕ) → contains reached x ≡ has_bit seen x) → ((x : ℕ) → contains boxes x ≡ true → is_wall board x ≡ false) →
-    ((x : ℕ) → contains reached x ≡ true → x < length board.cells) → (can_push board held seen d q ≡ true) ↔ IsPushable board boxes reached d q
+pub pushable_from : (board : Board) (boxes reached : Squares) (held seen : List ℕ) (d : Dir) (q : ℕ)
+    → ((x : ℕ) → contains boxes x ≡ has_bit held x)
+    → ((x : ℕ) → contains reached x ≡ has_bit seen x) → ((x : ℕ) → contains boxes x ≡ true → is_wall board x ≡ false) →
+    ((x : ℕ) → contains reached x ≡ true → x < length board.cells)
+    → (can_push board held seen d q ≡ true) ↔ IsPushable board boxes reached d q
 pushable_from board boxes reached held seen d q as_held as_seen clear inside = (on, back)
   where
     ahead : ℕ
@@ -175,38 +183,39 @@ pushable_from board boxes reached held seen d q as_held as_seen clear inside = (
         let home : next board ahead (opposite d) ≡ q = next_back board q d here h.ahead.0 in
         let enter : can_enter board d q ≡ true = enter_from board d q here (inside behind h.behind) in
         let onward : can_enter board d ahead ≡ true =
-        enter_from board d ahead h.ahead.0 (subst (λ (x : ℕ). x < length board.cells) (sym home) (inside_grid board q here)) in
+        enter_from board d ahead h.ahead.0
+        (subst (λ (x : ℕ). x < length board.cells) (sym home) (inside_grid board q here)) in
         and_from (has_bit held q && comes_by board seen d q) (is_open board held d ahead)
         (and_from (has_bit held q) (comes_by board seen d q) (sym (as_held q) ∙
         h.there) (and_from (can_enter board d q) (has_bit seen behind) enter (sym (as_seen behind) ∙ h.behind)))
-        (and_from (can_enter board d ahead) (not (has_bit held ahead)) onward (not_from_false (has_bit held ahead) (sym (as_held ahead) ∙ h.ahead.1)))
+        (and_from (can_enter board d ahead) (not (has_bit held ahead)) onward
+        (not_from_false (has_bit held ahead) (sym (as_held ahead) ∙ h.ahead.1)))
 
 pub pushable_bit : (board : Board) (boxes reached : Squares) (held seen : List ℕ) (d : Dir) (q : ℕ) (bit : Bool) →
     ((x : ℕ) → contains boxes x ≡ has_bit held x) → ((x : ℕ) → contains reached x ≡ has_bit seen x) →
-    ((x : ℕ) → contains boxes x ≡ true → is_wall board x ≡ false) → ((x : ℕ) → contains reached x ≡ true → x < length board.cells) →
-    bit ≡ can_push board held seen d q → (bit ≡ true) ↔ IsPushable board boxes reached d q
+    ((x : ℕ) → contains boxes x ≡ true → is_wall board x ≡ false)
+    → ((x : ℕ) → contains reached x ≡ true → x < length board.cells)
+    → bit ≡ can_push board held seen d q → (bit ≡ true) ↔ IsPushable board boxes reached d q
 pushable_bit board boxes reached held seen d q bit as_held as_seen clear inside e =
     let p = pushable_from board boxes reached held seen d q as_held as_seen clear inside in
     (λ h. p.0 (sym e ∙ h), λ h. e ∙ p.1 h)
 
 -- no box of a word without boxes can be pushed
-pub none_pushable : (board : Board) (boxes reached : Squares) (held : List ℕ) (index j : ℕ) (d : Dir) → ((x : ℕ) → contains boxes x ≡ has_bit held x) →
-    get_or held index 0 ≡ 0 → j < WORD_BITS → (word_bit 0 j ≡ true) ↔ IsPushable board boxes reached d (WORD_BITS * index + j)
+pub none_pushable : (board : Board) (boxes reached : Squares) (held : List ℕ) (index j : ℕ) (d : Dir)
+    → ((x : ℕ) → contains boxes x ≡ has_bit held x)
+    → get_or held index 0 ≡ 0 → j < WORD_BITS
+    → (word_bit 0 j ≡ true) ↔ IsPushable board boxes reached d (WORD_BITS * index + j)
 none_pushable board boxes reached held index j d as_held none lt = (
   λ h. absurd (true≢false (sym h ∙ word_bit-zero j)),
-  λ h. sym (ap (λ (w : ℕ). word_bit w j) none) ∙ (sym (has_bit-at held index j lt) ∙ (sym (as_held (WORD_BITS * index + j)) ∙ h.there)),
+  λ h. sym (ap (λ (w : ℕ). word_bit w j) none)
+      ∙ (sym (has_bit-at held index j lt) ∙ (sym (as_held (WORD_BITS * index + j)) ∙ h.there)),
 )
-
--- what is so in each direction
-pub each_way : (P : Dir → Type 0) → P D → P L → P R → P U → (d : Dir) → P d
-each_way P down left right up D = down
-each_way P down left right up L = left
-each_way P down left right up R = right
-each_way P down left right up U = up
 
 -- ---- after a flood
 
 -- what is reached is in the grid
-pub reached_inside : (board : Board) (s : Scene) (reached : Squares) → IsScene board s → ((q : ℕ) → (contains reached q ≡ true) ↔ Area board s q) → (q : ℕ) →
-    contains reached q ≡ true → q < length board.cells
-reached_inside board s reached scene area q h = let walked = (area q).0 h in inside_grid board q (walk_free board s walked.0 q scene walked.1).0
+pub reached_inside : (board : Board) (s : Scene) (reached : Squares) → IsScene board s
+    → ((q : ℕ) → (contains reached q ≡ true) ↔ Area board s q) → (q : ℕ)
+    → contains reached q ≡ true → q < length board.cells
+reached_inside board s reached scene area q h = let walked = (area q).0 h in
+    inside_grid board q (walk_free board s walked.0 q scene walked.1).0

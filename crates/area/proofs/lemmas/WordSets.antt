@@ -1,11 +1,15 @@
 -- Sets of squares as words: one square more or less, the least square, and the list of the squares.
-use Rattle.std.proofs.Common.{◌≡◌, ◌≢◌, ℕ, zero, suc, ◌+◌, ◌*◌, ◌/◌, ◌%◌, ◌^◌, ◌<◌, ◌≤◌, min, Bool, true, false, not, cond, eqb, ◌&&◌, ◌||◌, ◌⊎◌, List, ◌∷◌}
-use Rattle.std.proofs.Common.{length, get_or, set, replicate, inl, inr, refl, sym, ap, subst, ◌∙◌, arith}
+use Rattle.std.proofs.Common.{◌≡◌, ◌≢◌, ℕ, zero, suc, ◌+◌, ◌*◌, ◌/◌, ◌%◌, ◌^◌, ◌<◌, ◌≤◌, min, Bool, true, false, not}
+use Rattle.std.proofs.Common.{cond, eqb, ◌&&◌, ◌||◌, ◌⊎◌, List, ◌∷◌, length, get_or, set, replicate, inl, inr, refl}
+use Rattle.std.proofs.Common.{sym, ap, subst, ◌∙◌, arith}
 use Rattle.std.specs.Int.{bit_at, bit_not, trailing_zeros, w64}
 use Rattle.std.specs.Int.RustNames.{bit_and, bit_or}
-use Rattle.std.proofs.lemmas.Bool.{cases_lt, cases_eq, cases_order, and_parts, not-true, cases_Bool, eq-eqb, ne_eqb, eqb-true, true≢false}
+use Rattle.std.proofs.lemmas.Bool.{cases_lt, cases_eq, cases_order, and_parts, not-true, cases_Bool, eq-eqb, ne_eqb}
+use Rattle.std.proofs.lemmas.Bool.{eqb-true, true≢false}
 use Rattle.std.proofs.lemmas.List.{get_or-set_same, get_or-set_other, get_or-replicate, get_or_past, length-replicate}
-use Rattle.std.proofs.lemmas.Nat.Bits.{bit_at_set_same, bit_at_set_other, bit_at_clear_same, bit_at_clear_other, bit_at-trailing_zeros}
+use Rattle.std.proofs.lemmas.Nat.Bits.{bit_at_set_same, bit_at_set_other, bit_at_clear_same, bit_at_clear_other}
+use Rattle.std.proofs.lemmas.Nat.Bits.{bit_at-trailing_zeros}
+use Rattle.std.proofs.Math.Bool.{or-true, or-false, and-true, and-false}
 use Rattle.grid.specs.declared.masks.TheConstants.{WORD_BITS}
 use Rattle.grid.specs.Masks.{has_bit}
 use Rattle.grid.specs.Squares.{Squares, contains}
@@ -17,38 +21,25 @@ use Rattle.area.proofs.lemmas.WordBits.{has_bit-at, has_bit-parts, has_bit_insid
 
 -- ---- one square
 
-or_true : (a : Bool) → (a || true) ≡ true
-or_true true = refl
-or_true false = refl
-
-or_false : (a : Bool) → (a || false) ≡ a
-or_false true = refl
-or_false false = refl
-
-and_true : (a : Bool) → (a && true) ≡ a
-and_true true = refl
-and_true false = refl
-
-and_false : (a : Bool) → (a && false) ≡ false
-and_false true = refl
-and_false false = refl
-
 set_bit : (w k j : ℕ) → k < WORD_BITS → word_bit (bit_or w (1 * 2 ^ k % 2 ^ 64)) j ≡ (word_bit w j || eqb k j)
 unfolding word_bit
 set_bit w k j lt = elim (cases_eq j k) [
   | inl e ↦ ap (λ (x : ℕ). eqb x 1) (ap (bit_at (bit_or w (1 * 2 ^ k % 2 ^ 64))) e ∙ bit_at_set_same w64 w k lt) ∙
-      sym (ap (λ (b : Bool). eqb (bit_at w j) 1 || b) (eq-eqb k j (sym e)) ∙ or_true (eqb (bit_at w j) 1))
+      sym (ap (λ (b : Bool). eqb (bit_at w j) 1 || b) (eq-eqb k j (sym e)) ∙ or-true (eqb (bit_at w j) 1))
   | inr ne ↦ ap (λ (x : ℕ). eqb x 1) (bit_at_set_other w64 w k lt j ne) ∙
-      sym (ap (λ (b : Bool). eqb (bit_at w j) 1 || b) (ne_eqb k j (λ e. ne (sym e))) ∙ or_false (eqb (bit_at w j) 1))
+      sym (ap (λ (b : Bool). eqb (bit_at w j) 1 || b) (ne_eqb k j (λ e. ne (sym e))) ∙ or-false (eqb (bit_at w j) 1))
 ]
 
-pub cleared_bit : (w k j : ℕ) → k < WORD_BITS → j < WORD_BITS → word_bit (bit_and w (bit_not w64 (1 * 2 ^ k % 2 ^ 64))) j ≡ (word_bit w j && not (eqb k j))
+pub cleared_bit : (w k j : ℕ) → k < WORD_BITS → j < WORD_BITS
+    → word_bit (bit_and w (bit_not w64 (1 * 2 ^ k % 2 ^ 64))) j ≡ (word_bit w j && not (eqb k j))
 unfolding word_bit
 cleared_bit w k j lt in_word = elim (cases_eq j k) [
-  | inl e ↦ ap (λ (x : ℕ). eqb x 1) (ap (bit_at (bit_and w (bit_not w64 (1 * 2 ^ k % 2 ^ 64)))) e ∙ bit_at_clear_same w64 w k lt) ∙
-      sym (ap (λ (b : Bool). eqb (bit_at w j) 1 && not b) (eq-eqb k j (sym e)) ∙ and_false (eqb (bit_at w j) 1))
+  | inl e ↦ ap (λ (x : ℕ). eqb x 1) (ap (bit_at (bit_and w (bit_not w64 (1 * 2 ^ k % 2 ^ 64)))) e
+      ∙ bit_at_clear_same w64 w k lt) ∙
+      sym (ap (λ (b : Bool). eqb (bit_at w j) 1 && not b) (eq-eqb k j (sym e)) ∙ and-false (eqb (bit_at w j) 1))
   | inr ne ↦ ap (λ (x : ℕ). eqb x 1) (bit_at_clear_other w64 w k lt j in_word ne) ∙
-      sym (ap (λ (b : Bool). eqb (bit_at w j) 1 && not b) (ne_eqb k j (λ e. ne (sym e))) ∙ and_true (eqb (bit_at w j) 1))
+      sym (ap (λ (b : Bool). eqb (bit_at w j) 1 && not b) (ne_eqb k j (λ e. ne (sym e)))
+      ∙ and-true (eqb (bit_at w j) 1))
 ]
 
 -- two tests for equal numbers that say the same
@@ -60,49 +51,62 @@ same_test a b c d f g = elim (cases_eq a b) [
 
 -- the set with one square more
 pub bit_put : (words : List ℕ) (read square q : ℕ) → read ≡ square → read / WORD_BITS < length words →
-    has_bit (set words (read / WORD_BITS) (bit_or (get_or words (read / WORD_BITS) 0) (1 * 2 ^ (read % WORD_BITS) % 2 ^ 64))) q ≡
+    has_bit (set words (read / WORD_BITS)
+    (bit_or (get_or words (read / WORD_BITS) 0) (1 * 2 ^ (read % WORD_BITS) % 2 ^ 64))) q ≡
     (has_bit words q || eqb square q)
 bit_put words read square q at inside = elim (cases_eq (q / WORD_BITS) (read / WORD_BITS)) [
   | inl e ↦
       has_bit-parts new q
       ∙ (ap (λ (k : ℕ). word_bit (get_or new k 0) (q % WORD_BITS)) e
       ∙ (ap (λ (w : ℕ). word_bit w (q % WORD_BITS))
-      (get_or-set_same words (read / WORD_BITS) (bit_or (get_or words (read / WORD_BITS) 0) (1 * 2 ^ (read % WORD_BITS) % 2 ^ 64)) 0 inside)
+      (get_or-set_same words (read / WORD_BITS)
+      (bit_or (get_or words (read / WORD_BITS) 0) (1 * 2 ^ (read % WORD_BITS) % 2 ^ 64)) 0 inside)
       ∙ (set_bit (get_or words (read / WORD_BITS) 0) (read % WORD_BITS) (q % WORD_BITS) (square_parts read).1
       ∙ (ap (λ (b : Bool). b ||
-      eqb (read % WORD_BITS) (q % WORD_BITS)) (sym (has_bit-parts words q ∙ ap (λ (k : ℕ). word_bit (get_or words k 0) (q % WORD_BITS)) e))
-      ∙ ap (λ (b : Bool). has_bit words q || b) (same_test (read % WORD_BITS) (q % WORD_BITS) square q (λ f. omega arith) (λ f. omega arith))))))
+      eqb (read % WORD_BITS) (q % WORD_BITS))
+      (sym (has_bit-parts words q ∙ ap (λ (k : ℕ). word_bit (get_or words k 0) (q % WORD_BITS)) e))
+      ∙ ap (λ (b : Bool). has_bit words q || b)
+      (same_test (read % WORD_BITS) (q % WORD_BITS) square q (λ f. omega arith) (λ f. omega arith))))))
   | inr ne ↦
       has_bit-parts new q
       ∙ (ap (λ (w : ℕ). word_bit w (q % WORD_BITS))
-      (get_or-set_other words (read / WORD_BITS) (q / WORD_BITS) (bit_or (get_or words (read / WORD_BITS) 0) (1 * 2 ^ (read % WORD_BITS) % 2 ^ 64)) 0 ne)
+      (get_or-set_other words (read / WORD_BITS) (q / WORD_BITS)
+      (bit_or (get_or words (read / WORD_BITS) 0) (1 * 2 ^ (read % WORD_BITS) % 2 ^ 64)) 0 ne)
       ∙ (sym (has_bit-parts words q)
-      ∙ sym (ap (λ (b : Bool). has_bit words q || b) (ne_eqb square q (λ f. ne (ap (λ (x : ℕ). x / WORD_BITS) (sym f ∙ sym at)))) ∙
-      or_false (has_bit words q))))
+      ∙ sym (ap (λ (b : Bool). has_bit words q || b)
+      (ne_eqb square q (λ f. ne (ap (λ (x : ℕ). x / WORD_BITS) (sym f ∙ sym at)))) ∙
+      or-false (has_bit words q))))
 ]
   where
     new : List ℕ
-    new = set words (read / WORD_BITS) (bit_or (get_or words (read / WORD_BITS) 0) (1 * 2 ^ (read % WORD_BITS) % 2 ^ 64))
+    new = set words (read / WORD_BITS)
+        (bit_or (get_or words (read / WORD_BITS) 0) (1 * 2 ^ (read % WORD_BITS) % 2 ^ 64))
 
 -- the set with one square less
 pub bit_take : (words : List ℕ) (read square q : ℕ) → read ≡ square → read / WORD_BITS < length words →
-    has_bit (set words (read / WORD_BITS) (bit_and (get_or words (read / WORD_BITS) 0) (bit_not w64 (1 * 2 ^ (read % WORD_BITS) % 2 ^ 64)))) q ≡
+    has_bit (set words (read / WORD_BITS)
+    (bit_and (get_or words (read / WORD_BITS) 0) (bit_not w64 (1 * 2 ^ (read % WORD_BITS) % 2 ^ 64)))) q ≡
     (has_bit words q && not (eqb square q))
 bit_take words read square q at inside = elim (cases_eq (q / WORD_BITS) (read / WORD_BITS)) [
   | inl e ↦
       has_bit-parts new q
       ∙ (ap (λ (k : ℕ). word_bit (get_or new k 0) (q % WORD_BITS)) e
       ∙ (ap (λ (w : ℕ). word_bit w (q % WORD_BITS)) (get_or-set_same words (read / WORD_BITS) left 0 inside)
-      ∙ (cleared_bit (get_or words (read / WORD_BITS) 0) (read % WORD_BITS) (q % WORD_BITS) (square_parts read).1 (square_parts q).1
+      ∙ (cleared_bit (get_or words (read / WORD_BITS) 0) (read % WORD_BITS) (q % WORD_BITS) (square_parts read).1
+      (square_parts q).1
       ∙ (ap (λ (b : Bool). b &&
-      not (eqb (read % WORD_BITS) (q % WORD_BITS))) (sym (has_bit-parts words q ∙ ap (λ (k : ℕ). word_bit (get_or words k 0) (q % WORD_BITS)) e))
-      ∙ ap (λ (b : Bool). has_bit words q && not b) (same_test (read % WORD_BITS) (q % WORD_BITS) square q (λ f. omega arith) (λ f. omega arith))))))
+      not (eqb (read % WORD_BITS) (q % WORD_BITS)))
+      (sym (has_bit-parts words q ∙ ap (λ (k : ℕ). word_bit (get_or words k 0) (q % WORD_BITS)) e))
+      ∙ ap (λ (b : Bool). has_bit words q && not b)
+      (same_test (read % WORD_BITS) (q % WORD_BITS) square q (λ f. omega arith) (λ f. omega arith))))))
   | inr ne ↦
       has_bit-parts new q
-      ∙ (ap (λ (w : ℕ). word_bit w (q % WORD_BITS)) (get_or-set_other words (read / WORD_BITS) (q / WORD_BITS) left 0 ne)
+      ∙ (ap (λ (w : ℕ). word_bit w (q % WORD_BITS))
+      (get_or-set_other words (read / WORD_BITS) (q / WORD_BITS) left 0 ne)
       ∙ (sym (has_bit-parts words q)
-      ∙ sym (ap (λ (b : Bool). has_bit words q && not b) (ne_eqb square q (λ f. ne (ap (λ (x : ℕ). x / WORD_BITS) (sym f ∙ sym at)))) ∙
-      and_true (has_bit words q))))
+      ∙ sym (ap (λ (b : Bool). has_bit words q && not b)
+      (ne_eqb square q (λ f. ne (ap (λ (x : ℕ). x / WORD_BITS) (sym f ∙ sym at)))) ∙
+      and-true (has_bit words q))))
 ]
   where
     left : ℕ
@@ -126,15 +130,18 @@ none_set words n q e =
 
 -- a word without the bit of a square
 pub bit_without : (index word read square j : ℕ) → read ≡ square → index ≡ read / WORD_BITS → j < WORD_BITS →
-    word_bit (bit_and word (bit_not w64 (1 * 2 ^ (read % WORD_BITS) % 2 ^ 64))) j ≡ (word_bit word j && not (eqb (WORD_BITS * index + j) square))
+    word_bit (bit_and word (bit_not w64 (1 * 2 ^ (read % WORD_BITS) % 2 ^ 64))) j ≡ (word_bit word j && not
+    (eqb (WORD_BITS * index + j) square))
 bit_without index word read square j at same lt =
     cleared_bit word (read % WORD_BITS) j (square_parts read).1 lt
-    ∙ ap (λ (b : Bool). word_bit word j && not b) (same_test (read % WORD_BITS) j (WORD_BITS * index + j) square (λ f. omega arith) (λ f. omega arith))
+    ∙ ap (λ (b : Bool). word_bit word j && not b)
+    (same_test (read % WORD_BITS) j (WORD_BITS * index + j) square (λ f. omega arith) (λ f. omega arith))
 
 -- ---- the least square
 
 -- the lowest bit of a word
-pub lowest_bit : (word : ℕ) → 0 < word → word < 2 ^ 64 → (trailing_zeros w64 word < WORD_BITS) × (word_bit word (trailing_zeros w64 word) ≡ true) ×
+pub lowest_bit : (word : ℕ) → 0 < word → word < 2 ^ 64
+    → (trailing_zeros w64 word < WORD_BITS) × (word_bit word (trailing_zeros w64 word) ≡ true) ×
     ((j : ℕ) → word_bit word j ≡ true → trailing_zeros w64 word ≤ j)
 unfolding word_bit
 lowest_bit word some fits =
@@ -148,13 +155,18 @@ lowest_bit word some fits =
     )
 
 -- what is less than an index's squares is of a word before it
-pub least_word : (words : List ℕ) (index r : ℕ) → ((k : ℕ) → k < index → get_or words k 0 ≡ 0) → 0 < get_or words index 0 → get_or words index 0 < 2 ^ 64 →
-    r ≡ WORD_BITS * index + trailing_zeros w64 (get_or words index 0) → (has_bit words r ≡ true) × ((q : ℕ) → has_bit words q ≡ true → r ≤ q)
+pub least_word : (words : List ℕ) (index r : ℕ) → ((k : ℕ) → k < index → get_or words k 0 ≡ 0)
+    → 0 < get_or words index 0 → get_or words index 0 < 2 ^ 64
+    → r ≡ WORD_BITS * index + trailing_zeros w64 (get_or words index 0)
+    → (has_bit words r ≡ true) × ((q : ℕ) → has_bit words q ≡ true → r ≤ q)
 least_word words index r none some fits e =
     let t = lowest_bit (get_or words index 0) some fits in (
       ap (has_bit words) e ∙ (has_bit-at words index (trailing_zeros w64 (get_or words index 0)) t.0 ∙ t.1),
       λ q h. elim (cases_order (q / WORD_BITS) index) [
-        | inl same ↦ (let p = t.2 (q % WORD_BITS) (sym (has_bit-parts words q ∙ ap (λ (k : ℕ). word_bit (get_or words k 0) (q % WORD_BITS)) same) ∙ h) in
+        | inl same ↦
+            (let p =
+            t.2 (q % WORD_BITS)
+            (sym (has_bit-parts words q ∙ ap (λ (k : ℕ). word_bit (get_or words k 0) (q % WORD_BITS)) same) ∙ h) in
             omega (arith, p))
         | inr (inl less) ↦ absurd
             (true≢false (sym h ∙ (has_bit-parts words q ∙
@@ -164,7 +176,8 @@ least_word words index r none some fits e =
     )
 
 -- where all words are 0, nothing is in the set
-pub none_there : (words : List ℕ) (n q : ℕ) → ((k : ℕ) → k < n → get_or words k 0 ≡ 0) → length words ≤ n → has_bit words q ≡ true → ⊥
+pub none_there : (words : List ℕ) (n q : ℕ) → ((k : ℕ) → k < n → get_or words k 0 ≡ 0) → length words ≤ n
+    → has_bit words q ≡ true → ⊥
 none_there words n q none all h =
     let lt = has_bit_inside words q h in
     true≢false (sym h ∙ (has_bit-parts words q ∙
@@ -172,15 +185,18 @@ none_there words n q none all h =
 
 -- ---- the list of the squares
 
+-- a number that is not the first, and not among the rest, is not in the list
+not_first : (k q : ℕ) (xs : Squares) (b : Bool) → k ≢ q → contains xs q ≡ false
+    → contains (cond b (k ∷ xs) xs) q ≡ false
+not_first k q xs true ne h = ap (λ (x : Bool). x || contains xs q) (ne_eqb k q ne) ∙ h
+not_first k q xs false ne h = h
+
 -- a number is among those that pass where it is in the range and passes
 passing_below : (test : ℕ → Bool) (k n q : ℕ) → q < k → contains (passing_from test k n) q ≡ false
 passing_below test k zero q lt = refl
-passing_below test k (suc n) q lt = skip (test k) (passing_below test (suc k) n q (omega arith))
-  where
-    skip : (b : Bool) → contains (passing_from test (suc k) n) q ≡ false → contains (cond b (k ∷ passing_from test (suc k) n) (passing_from test (suc k) n)) q ≡
-        false
-    skip true h = ap (λ (x : Bool). x || contains (passing_from test (suc k) n) q) (ne_eqb k q (λ e. omega arith)) ∙ h
-    skip false h = h
+passing_below test k (suc n) q lt =
+    not_first k q (passing_from test (suc k) n) (test k) (λ e. omega arith)
+    (passing_below test (suc k) n q (omega arith))
 
 pub passing_within : (test : ℕ → Bool) (k n q : ℕ) → k ≤ q → q < k + n → contains (passing_from test k n) q ≡ test q
 passing_within test k zero q ge lt = absurd (omega arith)
@@ -200,19 +216,17 @@ passing_within test k (suc n) q ge lt = elim (cases_eq k q) [
 
 pub passing_past : (test : ℕ → Bool) (k n q : ℕ) → k + n ≤ q → contains (passing_from test k n) q ≡ false
 passing_past test k zero q ge = refl
-passing_past test k (suc n) q ge = skip (test k) (passing_past test (suc k) n q (omega arith))
-  where
-    skip : (b : Bool) → contains (passing_from test (suc k) n) q ≡ false → contains (cond b (k ∷ passing_from test (suc k) n) (passing_from test (suc k) n)) q ≡
-        false
-    skip true h = ap (λ (x : Bool). x || contains (passing_from test (suc k) n) q) (ne_eqb k q (λ e. omega arith)) ∙ h
-    skip false h = h
+passing_past test k (suc n) q ge =
+    not_first k q (passing_from test (suc k) n) (test k) (λ e. omega arith)
+    (passing_past test (suc k) n q (omega arith))
 
 -- a square is in the list where the words have its bit
 pub contains-squares_of : (words : List ℕ) (q : ℕ) → contains (squares_of words) q ≡ has_bit words q
 unfolding squares_of
 contains-squares_of words q = elim (cases_lt q (WORD_BITS * length words)) [
   | inl lt ↦ passing_within (has_bit words) 0 (WORD_BITS * length words) q (omega arith) (omega arith)
-  | inr ge ↦ passing_past (has_bit words) 0 (WORD_BITS * length words) q (omega arith) ∙ sym (past ge (cases_Bool (has_bit words q)))
+  | inr ge ↦ passing_past (has_bit words) 0 (WORD_BITS * length words) q (omega arith)
+      ∙ sym (past ge (cases_Bool (has_bit words q)))
 ]
   where
     past : WORD_BITS * length words ≤ q → (has_bit words q ≡ true) ⊎ (has_bit words q ≡ false) → has_bit words q ≡ false
@@ -241,14 +255,18 @@ unfolding squares_of
 squares_of_rise words = passing_rise (has_bit words) 0 (WORD_BITS * length words)
 
 -- the same where the words and the list have names
-pub listed : (words seen : List ℕ) (squares : Squares) (q : ℕ) → squares_of words ≡ squares → seen ≡ words → contains squares q ≡ has_bit seen q
+pub listed : (words seen : List ℕ) (squares : Squares) (q : ℕ) → squares_of words ≡ squares → seen ≡ words
+    → contains squares q ≡ has_bit seen q
 listed words seen squares q list same =
-    ap (λ (xs : Squares). contains xs q) (sym list) ∙ (contains-squares_of words q ∙ ap (λ (ws : List ℕ). has_bit ws q) (sym same))
+    ap (λ (xs : Squares). contains xs q) (sym list)
+    ∙ (contains-squares_of words q ∙ ap (λ (ws : List ℕ). has_bit ws q) (sym same))
 
 -- the squares of the words before an index are none but `but`
-pub below_word : (words : List ℕ) (but index word rest : ℕ) → ((q : ℕ) → q < WORD_BITS * index → has_bit words q ≡ true → q ≡ but) →
-    word ≡ get_or words index 0 → ((j : ℕ) → j < WORD_BITS → word_bit rest j ≡ (word_bit word j && not (eqb (WORD_BITS * index + j) but))) → rest ≡ 0 →
-    (q : ℕ) → q < WORD_BITS * (index + 1) → has_bit words q ≡ true → q ≡ but
+pub below_word : (words : List ℕ) (but index word rest : ℕ)
+    → ((q : ℕ) → q < WORD_BITS * index → has_bit words q ≡ true → q ≡ but)
+    → word ≡ get_or words index 0 → ((j : ℕ) → j < WORD_BITS
+    → word_bit rest j ≡ (word_bit word j && not (eqb (WORD_BITS * index + j) but))) → rest ≡ 0
+    → (q : ℕ) → q < WORD_BITS * (index + 1) → has_bit words q ≡ true → q ≡ but
 below_word words but index word rest below at bits none q lt h = elim (cases_lt q (WORD_BITS * index)) [
   | inl less ↦ below q less h
   | inr ge ↦
@@ -259,19 +277,28 @@ below_word words but index word rest below at bits none q lt h = elim (cases_lt 
       elim (cases_eq (WORD_BITS * index + q % WORD_BITS) but) [
         | inl e ↦ sym whole ∙ e
         | inr ne ↦ absurd (true≢false (sym (bits (q % WORD_BITS) (square_parts q).1 ∙
-            (ap (λ (b : Bool). b && not (eqb (WORD_BITS * index + q % WORD_BITS) but)) here ∙ ap not (ne_eqb (WORD_BITS * index + q % WORD_BITS) but ne))) ∙
+            (ap (λ (b : Bool). b && not (eqb (WORD_BITS * index + q % WORD_BITS) but)) here
+            ∙ ap not (ne_eqb (WORD_BITS * index + q % WORD_BITS) but ne))) ∙
             (ap (λ (w : ℕ). word_bit w (q % WORD_BITS)) none ∙ word_bit-zero (q % WORD_BITS))))
       ])
 ]
 
 -- the least of a word's squares but for `but`, or one that is less, is the least of all
-pub least_rest : (words : List ℕ) (but more index word rest r : ℕ) → ((q : ℕ) → q < WORD_BITS * index → has_bit words q ≡ true → q ≡ but) →
-    word ≡ get_or words index 0 → ((j : ℕ) → j < WORD_BITS → word_bit rest j ≡ (word_bit word j && not (eqb (WORD_BITS * index + j) but))) → 0 < rest →
-    rest < 2 ^ 64 → r ≡ min (WORD_BITS * index + trailing_zeros w64 rest) more → IsLeastWith (squares_of words) but more r
+pub least_rest : (words : List ℕ) (but more index word rest r : ℕ)
+    → ((q : ℕ) → q < WORD_BITS * index → has_bit words q ≡ true → q ≡ but)
+    → word ≡ get_or words index 0 → ((j : ℕ) → j < WORD_BITS
+    → word_bit rest j ≡ (word_bit word j && not (eqb (WORD_BITS * index + j) but))) → 0 < rest
+    → rest < 2 ^ 64 → r ≡ min (WORD_BITS * index + trailing_zeros w64 rest) more
+    → IsLeastWith (squares_of words) but more r
 least_rest words but more index word rest r below at bits some fits e = record {
   one = elim (cases_lt more first) [
     | inl lt ↦ inl (omega arith)
-    | inr ge ↦ inr (contains-squares_of words r ∙ (ap (has_bit words) (is_first ge) ∙ there), λ f. apart (sym (is_first ge) ∙ f))
+    | inr ge ↦
+        inr (
+          contains-squares_of words r ∙ (ap (has_bit words) (is_first ge) ∙ there),
+          λ f. apart
+              (sym (is_first ge) ∙ f),
+        )
   ];
   most = omega arith;
   least = λ q h ne. (let le : first ≤ q = no_less q (sym (contains-squares_of words q) ∙ h) ne in omega arith);
@@ -285,10 +312,12 @@ least_rest words but more index word rest r below at bits some fits e = record {
     low = lowest_bit rest some fits
 
     parts : (word_bit word (trailing_zeros w64 rest) ≡ true) × (not (eqb first but) ≡ true)
-    parts = and_parts (word_bit word (trailing_zeros w64 rest)) (not (eqb first but)) (sym (bits (trailing_zeros w64 rest) low.0) ∙ low.1)
+    parts = and_parts (word_bit word (trailing_zeros w64 rest)) (not (eqb first but))
+        (sym (bits (trailing_zeros w64 rest) low.0) ∙ low.1)
 
     there : has_bit words first ≡ true
-    there = has_bit-at words index (trailing_zeros w64 rest) low.0 ∙ (ap (λ (w : ℕ). word_bit w (trailing_zeros w64 rest)) (sym at) ∙ parts.0)
+    there = has_bit-at words index (trailing_zeros w64 rest) low.0
+        ∙ (ap (λ (w : ℕ). word_bit w (trailing_zeros w64 rest)) (sym at) ∙ parts.0)
 
     apart : first ≢ but
     apart f = true≢false (sym (eq-eqb first but f) ∙ not-true (eqb first but) parts.1)
@@ -311,8 +340,9 @@ least_rest words but more index word rest r below at bits some fits e = record {
     ]
 
 -- where nothing is in the set but `but`, the one more is the least
-pub least_none : (words : List ℕ) (but more n : ℕ) → ((q : ℕ) → q < WORD_BITS * n → has_bit words q ≡ true → q ≡ but) → length words ≤ n →
-    IsLeastWith (squares_of words) but more more
+pub least_none : (words : List ℕ) (but more n : ℕ) → ((q : ℕ) → q < WORD_BITS * n → has_bit words q ≡ true → q ≡ but)
+    → length words ≤ n
+    → IsLeastWith (squares_of words) but more more
 least_none words but more n below all = record {
   one = inl refl;
   most = omega arith;
