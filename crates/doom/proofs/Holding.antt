@@ -1,46 +1,38 @@
 -- Where walls and dead squares alone hold a box, as sets.
-use Rattle.std.proofs.Common.{◌≡◌, ◌≢◌, ◌↔◌, ◌<◌, ◌≤◌, ◌+◌, ◌-◌, ℕ, Bool, true, false, eqb, ltb, ◌||◌, List, length, refl, sym, ap, subst, ◌∙◌, inl, inr, arith}
-use Rattle.std.proofs.Common.{add-one, IsTrue}
-use Rattle.std.proofs.lemmas.Bool.{false≢true, cases_Bool, cond_both, or_cases, or_left, or_right, cases_eq, eqb-true, eq-eqb, ltb-false}
+use Rattle.std.proofs.Common.{◌≡◌, ◌≢◌, ◌↔◌, ◌<◌, ◌≤◌, ◌+◌, ◌-◌, ℕ, Bool, true, false, eqb, ◌||◌, List, length, refl}
+use Rattle.std.proofs.Common.{sym, ap, subst, ◌∙◌, inl, inr, arith, IsTrue}
+use Rattle.std.proofs.lemmas.Bool.{false≢true, cases_Bool, or_cases, or_left, or_right, cases_eq, eqb-true, eq-eqb}
 use Rattle.grid.specs.declared.dir.Dir.{Dir}
 use Rattle.grid.specs.declared.dir.Dir.TheVariants.{D, L, R, U}
 use Rattle.grid.specs.Board.{Board, next, opposite}
 use Rattle.grid.specs.Masks.{has_bit, word_count}
 use Rattle.grid.proofs.lemmas.Steps.{inside_grid}
 use Rattle.grid.specs.Squares.{Squares, contains}
+use Rattle.grid.proofs.lemmas.Directions.{next_right, next_left, next_below, next_above}
 use Rattle.doom.specs.declared.holds.Holds.{Holds}
 use Rattle.doom.specs.inside.Locking.{AreLocked, HaveRoom, IsHeldBy, StandInside}
 use Rattle.doom.specs.Deadlocks.{IsFrozen, IsHeld}
 use Rattle.doom.specs.inside.Holding.{IsFast, AreFast, AreHolds, IsApart}
 use Rattle.doom.proofs.Peeling.{blocked_by_axes}
-use Rattle.doom.proofs.Beside.{held_fast, held_cases, floor_ahead, floor_behind, right_of, left_of}
+use Rattle.doom.proofs.Beside.{held_fast, held_cases, floor_ahead, floor_behind}
 
 -- ---- how far off the squares beside one are
 
-pub below_of : (board : Board) (q : ℕ) → next board q D < length board.cells → next board q D ≡ q + board.cols
-unfolding next
-below_of board q = cond_both (ltb (q + board.cols) (length board.cells)) (q + board.cols) (length board.cells) (λ (x : ℕ). x < length board.cells →
-    x ≡ q + board.cols) (λ e lt. refl) (λ e lt. absurd (omega arith))
-
-pub above_of : (board : Board) (q : ℕ) → next board q U < length board.cells → next board q U + board.cols ≡ q
-unfolding next
-above_of board q = cond_both (ltb q board.cols) (length board.cells) (q - board.cols) (λ (x : ℕ). x < length board.cells →
-    x + board.cols ≡ q) (λ e lt. absurd (omega arith)) (λ e lt. (let le = ltb-false q board.cols e in omega arith))
-
 pub apart_across : (board : Board) → IsApart board R 1
 apart_across board q loose = (
-  right_of board q (inside_grid board (next board q R) (floor_ahead board q R loose)) ∙ sym (add-one q),
-  left_of board q (inside_grid board (next board q L) (floor_behind board q R loose)),
+  next_right board q (inside_grid board (next board q R) (floor_ahead board q R loose)),
+  next_left board q (inside_grid board (next board q L) (floor_behind board q R loose)),
 )
 
 pub apart_along : (board : Board) (cols : ℕ) → cols ≡ board.cols → IsApart board D cols
 apart_along board cols same = subst (IsApart board D) (sym same) (λ q loose. (
-  below_of board q (inside_grid board (next board q D) (floor_ahead board q D loose)),
-  above_of board q (inside_grid board (next board q U) (floor_behind board q D loose)),
+  next_below board q (inside_grid board (next board q D) (floor_ahead board q D loose)),
+  next_above board q (inside_grid board (next board q U) (floor_behind board q D loose)),
 ))
 
 -- the squares beside one that nothing holds fast are others
-pub other_beside : (board : Board) (q : ℕ) (d : Dir) (by : ℕ) → 1 ≤ by → IsApart board d by → ¬ (IsFast board q d) → (next board q d ≢ q) ×
+pub other_beside : (board : Board) (q : ℕ) (d : Dir) (by : ℕ) → 1 ≤ by → IsApart board d by → ¬ (IsFast board q d)
+    → (next board q d ≢ q) ×
     (next board q (opposite d) ≢ q)
 other_beside board q d by some apart loose =
     let (after, before) = apart q loose in
@@ -49,8 +41,9 @@ other_beside board q d by some apart loose =
 -- ---- what holds a box among the members of a set
 
 -- a box is held by what the sets tell where walls, members or dead squares hold it
-held_told : (board : Board) (fast : List ℕ) (members : Squares) (q by : ℕ) (d : Dir) → AreFast board d fast → IsApart board d by → q < length board.cells →
-    IsHeldBy fast by members q ↔ IsHeld board members q d
+held_told : (board : Board) (fast : List ℕ) (members : Squares) (q by : ℕ) (d : Dir) → AreFast board d fast
+    → IsApart board d by → q < length board.cells
+    → IsHeldBy fast by members q ↔ IsHeld board members q d
 held_told board fast members q by d are apart inside = elim (cases_Bool (has_bit fast q)) [
   | inl there ↦ (λ _. held_fast board members q d ((are.right q inside).0 there), λ _. inl there)
   | inr none ↦
@@ -59,7 +52,10 @@ held_told board fast members q by d are apart inside = elim (cases_Bool (has_bit
         λ held. elim held [
           | inl there ↦ absurd (false≢true (sym none ∙ there))
           | inr (inl h) ↦ inl (inr (ap (contains members) after ∙ h))
-          | inr (inr (p, e, h)) ↦ inr (inl (inr (ap (contains members) (let same : next board q (opposite d) ≡ p = omega (arith, before, e) in same) ∙ h)))
+          | inr (inr (p, e, h)) ↦
+              inr
+              (inl (inr (ap (contains members) (let same : next board q (opposite d) ≡ p = omega (arith, before, e) in
+              same) ∙ h)))
         ],
         λ held. elim (held_cases board members q d loose held) [
           | inl ahead ↦ inr (inl (sym (ap (contains members) after) ∙ ahead))
@@ -74,7 +70,8 @@ room_of board holds are = let a = are.across.size in let b = are.along.size in l
     record { across = omega (arith, a); along = omega (arith, b); goals = omega (arith, c) }
 
 -- so boxes that are locked are frozen, and back
-module _ (board : Board) (holds : Holds) (are : AreHolds board holds) (boxes : Squares) (stand : StandInside board boxes) where
+module _ (board : Board) (holds : Holds) (are : AreHolds board holds) (boxes : Squares)
+    (stand : StandInside board boxes) where
   pub frozen_as_locked : (part : Squares) → AreLocked holds board.cols boxes part → IsFrozen board boxes part
   frozen_as_locked part locked =
       let (x, here, off) = locked.off in
@@ -86,7 +83,8 @@ module _ (board : Board) (holds : Holds) (are : AreHolds board holds) (boxes : S
             let (across, along) = locked.held q h in
             blocked_by_axes board part q
             ((held_told board holds.across part q 1 R are.across (apart_across board) inside).0 across)
-            ((held_told board holds.along part q board.cols D are.along (apart_along board board.cols refl) inside).0 along));
+            ((held_told board holds.along part q board.cols D are.along (apart_along board board.cols refl) inside).0
+            along));
       }
 
   pub locked_as_frozen : (part : Squares) → IsFrozen board boxes part → AreLocked holds board.cols boxes part
@@ -98,11 +96,13 @@ module _ (board : Board) (holds : Holds) (are : AreHolds board holds) (boxes : S
         held = λ q h.
             (let inside = stand q (frozen.some q h) in (
               (held_told board holds.across part q 1 R are.across (apart_across board) inside).1 (frozen.blocked q h R),
-              (held_told board holds.along part q board.cols D are.along (apart_along board board.cols refl) inside).1 (frozen.blocked q h D),
+              (held_told board holds.along part q board.cols D are.along (apart_along board board.cols refl) inside).1
+                  (frozen.blocked q h D),
             ));
       }
 
-  pub frozen_told : (told : Bool) → IsTrue told ↔ ((part : Squares) × AreLocked holds board.cols boxes part) → IsTrue told ↔
+  pub frozen_told : (told : Bool) → IsTrue told ↔ ((part : Squares) × AreLocked holds board.cols boxes part)
+      → IsTrue told ↔
       ((part : Squares) × IsFrozen board boxes part)
   frozen_told told tells = (
     λ h. (let (part, locked) = tells.0 h in (part, frozen_as_locked part locked)),
@@ -118,8 +118,9 @@ IsFilledUpTo P n words = (q : ℕ) → (has_bit words q ≡ true) ↔ ((q < n) �
 pub filled_none : (P : ℕ → Type 0) (words : List ℕ) → ((q : ℕ) → has_bit words q ≡ false) → IsFilledUpTo P 0 words
 filled_none P words none q = (λ h. absurd (false≢true (sym (none q) ∙ h)), λ (lt, p). absurd (omega (arith, lt)))
 
-pub filled_more : (P : ℕ → Type 0) (old new : List ℕ) (n : ℕ) → ((q : ℕ) → has_bit new q ≡ (has_bit old q || eqb n q)) → P n → IsFilledUpTo P n old →
-    IsFilledUpTo P (n + 1) new
+pub filled_more : (P : ℕ → Type 0) (old new : List ℕ) (n : ℕ) → ((q : ℕ) → has_bit new q ≡ (has_bit old q || eqb n q))
+    → P n → IsFilledUpTo P n old
+    → IsFilledUpTo P (n + 1) new
 filled_more P old new n put p filled q = (
   λ h. elim (or_cases (has_bit old q) (eqb n q) (sym (put q) ∙ h)) [
     | inl before ↦ (let (lt, has) = (filled q).0 before in (omega (arith, lt), has))
@@ -131,7 +132,8 @@ filled_more P old new n put p filled q = (
   ],
 )
 
-pub filled_less : (P : ℕ → Type 0) (words : List ℕ) (n : ℕ) → ¬ (P n) → IsFilledUpTo P n words → IsFilledUpTo P (n + 1) words
+pub filled_less : (P : ℕ → Type 0) (words : List ℕ) (n : ℕ) → ¬ (P n) → IsFilledUpTo P n words
+    → IsFilledUpTo P (n + 1) words
 filled_less P words n none filled q = (
   λ h. (let (lt, has) = (filled q).0 h in (omega (arith, lt), has)),
   λ (lt, has). elim (cases_eq n q) [
@@ -139,9 +141,3 @@ filled_less P words n none filled q = (
     | inr ne ↦ (filled q).1 (omega (arith, lt, ne), has)
   ],
 )
-
--- tests that pass together are the same
-pub same_tests : (a b : Bool) → (a ≡ true → b ≡ true) → (b ≡ true → a ≡ true) → a ≡ b
-same_tests true b f g = sym (f refl)
-same_tests false true f g = g refl
-same_tests false false f g = refl

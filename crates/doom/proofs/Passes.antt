@@ -4,7 +4,7 @@ use Rattle.std.proofs.Common.{length, get_or, set, refl, sym, ap, subst, ◌∙�
 use Rattle.std.specs.Int.{bit_not, trailing_zeros, w64}
 use Rattle.std.specs.Int.RustNames.{bit_and, bit_or}
 use Rattle.std.proofs.lemmas.Bool.{false≢true, true≢false, cases_eq, cases_lt, or_cases, or_left, or_right, eqb-true, eqb-false, not-true, not_from_false}
-use Rattle.std.proofs.lemmas.Bool.{and_parts, and_from, or_parts}
+use Rattle.std.proofs.lemmas.Bool.{and_parts, and_from, or_parts, not-false}
 use Rattle.std.proofs.lemmas.List.{get_or-set_same, get_or-set_other, set-get_or}
 use Rattle.std.proofs.lemmas.List.Folds.{list_any_at}
 use Rattle.std.specs.List.{list_any}
@@ -122,12 +122,8 @@ module _ (holds : Holds) (cols : ℕ) (words : List ℕ) (place across along : �
   looked = record {
     kept = kept_bits;
     less = λ h. lighter (eqb-false left (get_or words place 0) (not-true (eqb left (get_or words place 0)) h));
-    same = λ h. ap (set words place) (eqb-true left (get_or words place 0) (no_not (eqb left (get_or words place 0)) h)) ∙ set-get_or words place 0;
+    same = λ h. ap (set words place) (eqb-true left (get_or words place 0) (not-false (eqb left (get_or words place 0)) h)) ∙ set-get_or words place 0;
   }
-    where
-      no_not : (b : Bool) → not b ≡ false → b ≡ true
-      no_not true h = refl
-      no_not false h = absurd (true≢false h)
 
 -- ---- a pass over words
 

@@ -1,16 +1,18 @@
 -- Pulls from the goals, turn after turn, find exactly the least numbers of pushes.
-use Rattle.std.proofs.Common.{◌≡◌, ◌≢◌, ◌<◌, ◌≤◌, ◌+◌, ◌++◌, ℕ, zero, suc, true, cond, is_some, Option, Some, None, List, [], ◌∷◌, length, get_or, set}
-use Rattle.std.proofs.Common.{replicate, refl, sym, ap, subst, ◌∙◌, ◌⊎◌, inl, inr, arith, length-append, length-set, get_or-set_other, get_or-set_same}
+use Rattle.std.proofs.Common.{◌≡◌, ◌≢◌, ◌<◌, ◌≤◌, ◌+◌, ◌++◌, ℕ, zero, suc, true, cond, is_some, Option, Some, None}
+use Rattle.std.proofs.Common.{List, [], ◌∷◌, length, set, replicate, refl, sym, ap, subst, ◌∙◌, ◌⊎◌, inl, inr, arith}
+use Rattle.std.proofs.Common.{length-append, length-set, get_or-set_other, get_or-set_same}
 use Rattle.std.proofs.lemmas.List.{length-replicate}
 use Rattle.std.proofs.lemmas.Bool.{false≢true}
 use Rattle.std.proofs.lemmas.Bool.Decides.{eqb_tells}
 use Rattle.grid.specs.declared.dir.Dir.{Dir}
-use Rattle.grid.specs.declared.dir.Dir.TheVariants.{D, L, R, U}
 use Rattle.grid.specs.Squares.{contains}
 use Rattle.grid.specs.Board.{Board, is_goal, next, dir_number}
 use Rattle.grid.proofs.lemmas.Steps.{inside_grid}
-use Rattle.doom.specs.inside.Pulling.{far_at, CanPull, Marks, Pulls, HasWay, IsKnownWithin, IsSpread, IsFilling, DueBut, IsDue, unknown}
-use Rattle.doom.proofs.Peeling.{contains-push_cases, contains-push_kept, contains-push_last}
+use Rattle.grid.proofs.lemmas.Directions.{dir_same, dir_number-lt}
+use Rattle.grid.proofs.lemmas.Squares.{contains-push_cases, contains-push_kept, contains-push_last}
+use Rattle.doom.specs.inside.Pulling.{far_at, CanPull, Marks, Pulls, HasWay, IsKnownWithin, IsSpread, IsFilling, DueBut}
+use Rattle.doom.specs.inside.Pulling.{IsDue, unknown}
 use Rattle.doom.proofs.Ways.{goal_floor, way_pulled, some_injective, none_not_some}
 
 -- ---- a square is marked
@@ -21,35 +23,59 @@ marks_split : (k q : ℕ) (far far' : List (Option ℕ)) (marked marked' : List 
     ((far_at far q ≡ None) × (far' ≡ set far q (Some k)) × (marked' ≡ marked ++ q ∷ []))
 marks_split k q far far' marked marked' (a, p) = by_entry (far_at far q) refl
   where
-    by_entry : (o : Option ℕ) → far_at far q ≡ o → ((n : ℕ) × (far_at far q ≡ Some n) × (far' ≡ far) × (marked' ≡ marked)) ⊎
+    by_entry : (o : Option ℕ) → far_at far q ≡ o
+        → ((n : ℕ) × (far_at far q ≡ Some n) × (far' ≡ far) × (marked' ≡ marked)) ⊎
         ((far_at far q ≡ None) × (far' ≡ set far q (Some k)) × (marked' ≡ marked ++ q ∷ []))
-    by_entry (Some n) at = inl (n, at, a ∙ ap (λ o. cond (is_some o) far (set far q (Some k))) at, p ∙ ap (λ o. cond (is_some o) marked (marked ++ q ∷ [])) at)
-    by_entry None at = inr (at, a ∙ ap (λ o. cond (is_some o) far (set far q (Some k))) at, p ∙ ap (λ o. cond (is_some o) marked (marked ++ q ∷ [])) at)
+    by_entry (Some n) at = inl (
+      n,
+      at,
+      a ∙ ap (λ o. cond (is_some o) far (set far q (Some k))) at,
+      p
+          ∙ ap (λ o. cond (is_some o) marked (marked ++ q ∷ [])) at,
+    )
+    by_entry None at = inr (
+      at,
+      a ∙ ap (λ o. cond (is_some o) far (set far q (Some k))) at,
+      p
+          ∙ ap (λ o. cond (is_some o) marked (marked ++ q ∷ [])) at,
+    )
 
 -- what a list reads where an entry was set
 set_here : (far : List (Option ℕ)) (q k : ℕ) → q < length far → far_at (set far q (Some k)) q ≡ Some k
 set_here far q k lt = get_or-set_same far q (Some k) None lt
 
-set_kept : (far : List (Option ℕ)) (q k x n : ℕ) → far_at far q ≡ None → far_at far x ≡ Some n → far_at (set far q (Some k)) x ≡ Some n
+set_kept : (far : List (Option ℕ)) (q k x n : ℕ) → far_at far q ≡ None → far_at far x ≡ Some n
+    → far_at (set far q (Some k)) x ≡ Some n
 set_kept far q k x n none at = elim (eqb_tells x q) [
   | inl same ↦ absurd (none_not_some far q n none (sym (ap (far_at far) same.1) ∙ at))
   | inr other ↦ get_or-set_other far q x (Some k) None other.1 ∙ at
 ]
 
-set_cases : (far : List (Option ℕ)) (q k x n : ℕ) → q < length far → far_at (set far q (Some k)) x ≡ Some n → ((x ≡ q) × (n ≡ k)) ⊎ (far_at far x ≡ Some n)
+set_cases : (far : List (Option ℕ)) (q k x n : ℕ) → q < length far → far_at (set far q (Some k)) x ≡ Some n
+    → ((x ≡ q) × (n ≡ k)) ⊎ (far_at far x ≡ Some n)
 set_cases far q k x n lt at = elim (eqb_tells x q) [
-  | inl same ↦ inl (same.1, some_injective (set far q (Some k)) q n k (sym (ap (far_at (set far q (Some k))) same.1) ∙ at) (set_here far q k lt))
+  | inl same ↦
+      inl (
+        same.1,
+        some_injective (set far q (Some k)) q n k (sym (ap (far_at (set far q (Some k))) same.1) ∙ at)
+            (set_here far q k lt),
+      )
   | inr other ↦ inr (sym (get_or-set_other far q x (Some k) None other.1) ∙ at)
 ]
 
 -- what is said of equal lists
-pub spread_along : (board : Board) (Asked : ℕ → Type 0) (Due : ℕ → Dir → Type 0) (k : ℕ) (far far' : List (Option ℕ)) (due marked marked' : List ℕ) →
-    far' ≡ far → marked' ≡ marked → IsSpread board Asked Due k far due marked → IsSpread board Asked Due k far' due marked'
+pub spread_along : (board : Board) (Asked : ℕ → Type 0) (Due : ℕ → Dir
+    → Type 0) (k : ℕ) (far far' : List (Option ℕ)) (due marked marked' : List ℕ)
+    → far' ≡ far → marked' ≡ marked → IsSpread board Asked Due k far due marked
+    → IsSpread board Asked Due k far' due marked'
 spread_along board Asked Due k far far' due marked marked' same still spread =
-    subst (λ ys. IsSpread board Asked Due k far' due ys) (sym still) (subst (λ fs. IsSpread board Asked Due k fs due marked) (sym same) spread)
+    subst (λ ys. IsSpread board Asked Due k far' due ys) (sym still)
+    (subst (λ fs. IsSpread board Asked Due k fs due marked) (sym same) spread)
 
-spread_set : (board : Board) (Asked : ℕ → Type 0) (Due : ℕ → Dir → Type 0) (k q : ℕ) (far : List (Option ℕ)) (due marked : List ℕ) → q < length far →
-    HasWay board q k → far_at far q ≡ None → IsSpread board Asked Due k far due marked → IsSpread board Asked Due k (set far q (Some k)) due (marked ++ q ∷ [])
+spread_set : (board : Board) (Asked : ℕ → Type 0) (Due : ℕ → Dir
+    → Type 0) (k q : ℕ) (far : List (Option ℕ)) (due marked : List ℕ) → q < length far
+    → HasWay board q k → far_at far q ≡ None → IsSpread board Asked Due k far due marked
+    → IsSpread board Asked Due k (set far q (Some k)) due (marked ++ q ∷ [])
 spread_set board Asked Due k q far due marked lt way none spread = record {
   size = length-set far q (Some k) ∙ spread.size;
   sound = λ x n at. elim (set_cases far q k x n lt at) [
@@ -67,11 +93,13 @@ spread_set board Asked Due k q far due marked lt way none spread = record {
     | inr same ↦ subst (λ y. far_at (set far q (Some k)) y ≡ Some k) same (set_here far q k lt)
   ];
   closed = λ x n at. elim (set_cases far q k x n lt at) [
-    | inl same ↦ inr (inl (subst (λ y. contains (marked ++ q ∷ []) y ≡ true) (sym same.0) (contains-push_last marked q)))
+    | inl same ↦
+        inr (inl (subst (λ y. contains (marked ++ q ∷ []) y ≡ true) (sym same.0) (contains-push_last marked q)))
     | inr old ↦ elim (spread.closed x n old) [
       | inl there ↦ inl there
       | inr (inl there) ↦ inr (inl (contains-push_kept marked q x there))
-      | inr (inr pulled) ↦ inr (inr (λ d asked pull. let (m, known, le) = pulled d asked pull in (m, kept (next board x d) m known, le)))
+      | inr (inr pulled) ↦ inr (inr (λ d asked pull. let (m, known, le) = pulled d asked pull in
+          (m, kept (next board x d) m known, le)))
     ]
   ];
 }
@@ -80,9 +108,10 @@ spread_set board Asked Due k q far due marked lt way none spread = record {
     kept x n at = set_kept far q k x n none at
 
 -- marking a square that has a way of k pushes keeps what a turn keeps
-pub spread_mark : (board : Board) (Asked : ℕ → Type 0) (Due : ℕ → Dir → Type 0) (k q : ℕ) (far far' : List (Option ℕ)) (due marked marked' : List ℕ) →
-    q < length far → HasWay board q k → Marks k q far marked far' marked' → IsSpread board Asked Due k far due marked →
-    IsSpread board Asked Due k far' due marked'
+pub spread_mark : (board : Board) (Asked : ℕ → Type 0) (Due : ℕ → Dir
+    → Type 0) (k q : ℕ) (far far' : List (Option ℕ)) (due marked marked' : List ℕ)
+    → q < length far → HasWay board q k → Marks k q far marked far' marked' → IsSpread board Asked Due k far due marked
+    → IsSpread board Asked Due k far' due marked'
 spread_mark board Asked Due k q far far' due marked marked' lt way marks spread =
     elim (marks_split k q far far' marked marked' marks) [
       | inl (n, at, same, still) ↦ spread_along board Asked Due k far far' due marked marked' same still spread
@@ -92,27 +121,32 @@ spread_mark board Asked Due k q far far' due marked marked' lt way marks spread 
     ]
 
 -- and the square is known then
-pub marks_here : (board : Board) (Asked : ℕ → Type 0) (Due : ℕ → Dir → Type 0) (k q : ℕ) (far far' : List (Option ℕ)) (due marked marked' : List ℕ) →
-    q < length far → Marks k q far marked far' marked' → IsSpread board Asked Due k far due marked → IsKnownWithin far' q k
+pub marks_here : (board : Board) (Asked : ℕ → Type 0) (Due : ℕ → Dir
+    → Type 0) (k q : ℕ) (far far' : List (Option ℕ)) (due marked marked' : List ℕ)
+    → q < length far → Marks k q far marked far' marked' → IsSpread board Asked Due k far due marked
+    → IsKnownWithin far' q k
 marks_here board Asked Due k q far far' due marked marked' lt marks spread =
     elim (marks_split k q far far' marked marked' marks) [
       | inl (n, at, same, still) ↦ (n, ap (λ fs. far_at fs q) same ∙ at, spread.most q n at)
       | inr (none, same, still) ↦ (k, ap (λ fs. far_at fs q) same ∙ set_here far q k lt, omega arith)
     ]
 
-unknown_less : (far : List (Option ℕ)) (q k : ℕ) → q < length far → far_at far q ≡ None → suc (unknown (set far q (Some k))) ≡ unknown far
+unknown_less : (far : List (Option ℕ)) (q k : ℕ) → q < length far → far_at far q ≡ None
+    → suc (unknown (set far q (Some k))) ≡ unknown far
 unknown_less [] q k lt none = absurd (omega arith)
 unknown_less (Some n ∷ far) zero k lt none = absurd (false≢true (ap is_some (sym none)))
 unknown_less (None ∷ far) zero k lt none = refl
 unknown_less (Some n ∷ far) (suc q) k lt none = unknown_less far q k (omega arith) none
 unknown_less (None ∷ far) (suc q) k lt none = ap suc (unknown_less far q k (omega arith) none)
 
-pub marks_count : (k q : ℕ) (far far' : List (Option ℕ)) (marked marked' : List ℕ) → q < length far → Marks k q far marked far' marked' →
-    length marked' + unknown far' ≤ length marked + unknown far
+pub marks_count : (k q : ℕ) (far far' : List (Option ℕ)) (marked marked' : List ℕ) → q < length far
+    → Marks k q far marked far' marked'
+    → length marked' + unknown far' ≤ length marked + unknown far
 marks_count k q far far' marked marked' lt marks =
     elim (marks_split k q far far' marked marked' marks) [
       | inl (n, at, same, still) ↦ rw (same, still) (omega arith)
-      | inr (none, same, still) ↦ rw (same, still) (omega (arith, unknown_less far q k lt none, length-append marked (q ∷ [])))
+      | inr (none, same, still) ↦ rw (same, still)
+          (omega (arith, unknown_less far q k lt none, length-append marked (q ∷ [])))
     ]
 
 -- ---- the goals
@@ -123,7 +157,8 @@ only_none P never None p = refl
 only_none P never (Some n) p = absurd (never n p)
 
 -- at the start nothing is known
-pub spread_none : (board : Board) → IsSpread board (λ q. q < 0) (λ _ _. Unit {0}) 0 (replicate (length board.cells) None) [] []
+pub spread_none : (board : Board)
+    → IsSpread board (λ q. q < 0) (λ _ _. Unit {0}) 0 (replicate (length board.cells) None) [] []
 spread_none board = record {
   size = length-replicate (length board.cells) None;
   sound = λ q n at. absurd (none (length board.cells) q n at);
@@ -143,13 +178,16 @@ below_last : (m n : ℕ) → m < n + 1 → m ≢ n → m < n
 below_last m n lt ne = omega arith
 
 -- one more square was asked for
-pub spread_more : (board : Board) (i : ℕ) (far : List (Option ℕ)) (marked : List ℕ) → (is_goal board i ≡ true → IsKnownWithin far i 0) →
-    IsSpread board (λ q. q < i) (λ _ _. Unit {0}) 0 far [] marked → IsSpread board (λ q. q < i + 1) (λ _ _. Unit {0}) 0 far [] marked
+pub spread_more : (board : Board) (i : ℕ) (far : List (Option ℕ)) (marked : List ℕ)
+    → (is_goal board i ≡ true → IsKnownWithin far i 0)
+    → IsSpread board (λ q. q < i) (λ _ _. Unit {0}) 0 far [] marked
+    → IsSpread board (λ q. q < i + 1) (λ _ _. Unit {0}) 0 far [] marked
 spread_more board i far marked here spread = record {
   size = spread.size;
   sound = spread.sound;
   goals = λ q asked goal. elim (eqb_tells q i) [
-    | inl same ↦ subst (λ y. far_at far y ≡ Some 0) (sym same.1) (nought (here (subst (λ y. is_goal board y ≡ true) same.1 goal)))
+    | inl same ↦ subst (λ y. far_at far y ≡ Some 0) (sym same.1)
+        (nought (here (subst (λ y. is_goal board y ≡ true) same.1 goal)))
     | inr other ↦ spread.goals q (below_last q i asked other.1) goal
   ];
   most = spread.most;
@@ -175,7 +213,8 @@ spread_goals board i far marked all spread = record {
 }
 
 -- with a goal marked, fewer squares are unknown than there are
-pub few_unknown : (board : Board) (far : List (Option ℕ)) (marked : List ℕ) → IsFilling board 0 far [] marked → unknown far ≤ length board.cells
+pub few_unknown : (board : Board) (far : List (Option ℕ)) (marked : List ℕ) → IsFilling board 0 far [] marked
+    → unknown far ≤ length board.cells
 few_unknown board far marked filling = subst (λ n. unknown far ≤ n) filling.size (at_most far)
   where
     at_most : (xs : List (Option ℕ)) → unknown xs ≤ length xs
@@ -186,7 +225,8 @@ few_unknown board far marked filling = subst (λ n. unknown far ≤ n) filling.s
 -- ---- a turn
 
 -- what was marked last is due in the next turn
-pub spread_turn : (board : Board) (k : ℕ) (far : List (Option ℕ)) (marked : List ℕ) → IsFilling board k far [] marked → IsFilling board (suc k) far marked []
+pub spread_turn : (board : Board) (k : ℕ) (far : List (Option ℕ)) (marked : List ℕ) → IsFilling board k far [] marked
+    → IsFilling board (suc k) far marked []
 spread_turn board k far marked spread = record {
   size = spread.size;
   sound = spread.sound;
@@ -201,19 +241,10 @@ spread_turn board k far marked spread = record {
   ];
 }
 
--- directions of one number are one
-same_dir : (d e : Dir) → dir_number d ≡ dir_number e → d ≡ e
-same_dir d e h = sym (numbered d) ∙ (ap (λ (i : ℕ). get_or (D ∷ L ∷ R ∷ U ∷ []) i D) h ∙ numbered e)
-  where
-    numbered : (x : Dir) → get_or (D ∷ L ∷ R ∷ U ∷ []) (dir_number x) D ≡ x
-    numbered D = refl
-    numbered L = refl
-    numbered R = refl
-    numbered U = refl
-
 -- a square that is due is taken up
-pub spread_pop : (board : Board) (k s : ℕ) (far : List (Option ℕ)) (due due' marked : List ℕ) → due ≡ due' ++ s ∷ [] → IsFilling board k far due marked →
-    IsDue board k s 0 far due' marked
+pub spread_pop : (board : Board) (k s : ℕ) (far : List (Option ℕ)) (due due' marked : List ℕ) → due ≡ due' ++ s ∷ []
+    → IsFilling board k far due marked
+    → IsDue board k s 0 far due' marked
 spread_pop board k s far due due' marked popped spread = record {
   here = spread.before s (ap (λ ys. contains ys s) popped ∙ contains-push_last due' s);
   spread = record {
@@ -236,7 +267,8 @@ spread_pop board k s far due due' marked popped spread = record {
 
 -- one direction more, where a box cannot be pulled or was
 spread_due : (board : Board) (k s i : ℕ) (d : Dir) (far : List (Option ℕ)) (due marked : List ℕ) → dir_number d ≡ i →
-    (CanPull board s d → IsKnownWithin far (next board s d) k) → IsDue board k s i far due marked → IsDue board k s (i + 1) far due marked
+    (CanPull board s d → IsKnownWithin far (next board s d) k) → IsDue board k s i far due marked
+    → IsDue board k s (i + 1) far due marked
 spread_due board k s i d far due marked number done before = record {
   here = before.here;
   spread = record {
@@ -252,10 +284,12 @@ spread_due board k s i d far due marked number done before = record {
       | inr (inr pulled) ↦ inr (inr (λ e due pull. elim (eqb_tells q s) [
         | inl same ↦ elim (eqb_tells (dir_number e) i) [
           | inl last ↦
-              let turned = same_dir e d (last.1 ∙ sym number) in
+              let turned = dir_same e d (last.1 ∙ sym number) in
               let known = done (subst (λ p. CanPull board s p) turned (subst (λ p. CanPull board p e) same.1 pull)) in
-              subst (λ p. IsKnownWithin far p (suc n)) (sym (ap (λ p. next board p e) same.1 ∙ ap (next board s) turned))
-              (subst (IsKnownWithin far (next board s d)) (steps n (subst (λ y. far_at far y ≡ Some n) same.1 at)) known)
+              subst (λ p. IsKnownWithin far p (suc n))
+              (sym (ap (λ p. next board p e) same.1 ∙ ap (next board s) turned))
+              (subst (IsKnownWithin far (next board s d))
+              (steps n (subst (λ y. far_at far y ≡ Some n) same.1 at)) known)
           | inr early ↦ pulled e (λ _. below_last (dir_number e) i (due same.1) early.1) pull
         ]
         | inr other ↦ pulled e (λ same. absurd (other.1 same)) pull
@@ -268,7 +302,8 @@ spread_due board k s i d far due marked number done before = record {
     steps n at = let (j, known, e) = before.here in sym e ∙ ap suc (some_injective far s j n known at)
 
 -- the square that is due keeps its distance where another is marked
-here_kept : (k q s : ℕ) (far far' : List (Option ℕ)) (marked marked' : List ℕ) → Marks k q far marked far' marked' → (n : ℕ) × (far_at far s ≡ Some n) ×
+here_kept : (k q s : ℕ) (far far' : List (Option ℕ)) (marked marked' : List ℕ) → Marks k q far marked far' marked'
+    → (n : ℕ) × (far_at far s ≡ Some n) ×
     (suc n ≡ k) → (n : ℕ) × (far_at far' s ≡ Some n) × (suc n ≡ k)
 here_kept k q s far far' marked marked' marks (n, at, e) =
     elim (marks_split k q far far' marked marked' marks) [
@@ -277,30 +312,40 @@ here_kept k q s far far' marked marked' marks (n, at, e) =
     ]
 
 -- a pull in the next direction
-pub spread_pull : (board : Board) (k s i : ℕ) (d : Dir) (far far' : List (Option ℕ)) (due marked marked' : List ℕ) → dir_number d ≡ i →
-    Pulls board k s d far marked far' marked' → IsDue board k s i far due marked → IsDue board k s (i + 1) far' due marked'
+pub spread_pull : (board : Board) (k s i : ℕ) (d : Dir) (far far' : List (Option ℕ)) (due marked marked' : List ℕ)
+    → dir_number d ≡ i
+    → Pulls board k s d far marked far' marked' → IsDue board k s i far due marked
+    → IsDue board k s (i + 1) far' due marked'
 spread_pull board k s i d far far' due marked marked' number (inl (pull, marks)) before =
-    let lt : next board s d < length far = subst (λ n. next board s d < n) (sym before.spread.size) (inside_grid board (next board s d) pull.0) in
+    let lt : next board s d < length far =
+    subst (λ n. next board s d < n) (sym before.spread.size) (inside_grid board (next board s d) pull.0) in
     let (n, at, e) = before.here in
-    let way : HasWay board (next board s d) k = subst (HasWay board (next board s d)) e (way_pulled board s n d (before.spread.sound s n at) pull) in
+    let way : HasWay board (next board s d) k =
+    subst (HasWay board (next board s d)) e (way_pulled board s n d (before.spread.sound s n at) pull) in
     spread_due board k s i d far' due marked' number
-    (λ _. marks_here board (λ _. Unit {0}) (DueBut s i) k (next board s d) far far' due marked marked' lt marks before.spread)
+    (λ _. marks_here board (λ _. Unit {0}) (DueBut s i) k
+    (next board s d) far far' due marked marked' lt marks before.spread)
     (record {
       here = here_kept k (next board s d) s far far' marked marked' marks before.here;
-      spread = spread_mark board (λ _. Unit {0}) (DueBut s i) k (next board s d) far far' due marked marked' lt way marks before.spread;
+      spread = spread_mark board (λ _. Unit {0}) (DueBut s i) k
+          (next board s d) far far' due marked marked' lt way marks before.spread;
     })
 spread_pull board k s i d far far' due marked marked' number (inr (stuck, same, still)) before =
     subst (λ ys. IsDue board k s (i + 1) far' due ys) (sym still)
-    (subst (λ fs. IsDue board k s (i + 1) fs due marked) (sym same) (spread_due board k s i d far due marked number (λ pull. absurd (stuck pull)) before))
+    (subst (λ fs. IsDue board k s (i + 1) fs due marked) (sym same)
+    (spread_due board k s i d far due marked number (λ pull. absurd (stuck pull)) before))
 
-pub pull_count : (board : Board) (k s : ℕ) (d : Dir) (far far' : List (Option ℕ)) (marked marked' : List ℕ) → length far ≡ length board.cells →
-    Pulls board k s d far marked far' marked' → length marked' + unknown far' ≤ length marked + unknown far
+pub pull_count : (board : Board) (k s : ℕ) (d : Dir) (far far' : List (Option ℕ)) (marked marked' : List ℕ)
+    → length far ≡ length board.cells
+    → Pulls board k s d far marked far' marked' → length marked' + unknown far' ≤ length marked + unknown far
 pull_count board k s d far far' marked marked' size (inl (pull, marks)) =
-    marks_count k (next board s d) far far' marked marked' (subst (λ n. next board s d < n) (sym size) (inside_grid board (next board s d) pull.0)) marks
+    marks_count k (next board s d) far far' marked marked'
+    (subst (λ n. next board s d < n) (sym size) (inside_grid board (next board s d) pull.0)) marks
 pull_count board k s d far far' marked marked' size (inr (stuck, same, still)) = rw (same, still) (omega arith)
 
 -- all directions were taken
-pub spread_all : (board : Board) (k s : ℕ) (far : List (Option ℕ)) (due marked : List ℕ) → IsDue board k s 4 far due marked → IsFilling board k far due marked
+pub spread_all : (board : Board) (k s : ℕ) (far : List (Option ℕ)) (due marked : List ℕ)
+    → IsDue board k s 4 far due marked → IsFilling board k far due marked
 spread_all board k s far due marked before = record {
   size = before.spread.size;
   sound = before.spread.sound;
@@ -311,20 +356,6 @@ spread_all board k s far due marked before = record {
   closed = λ q n at. elim (before.spread.closed q n at) [
     | inl there ↦ inl there
     | inr (inl there) ↦ inr (inl there)
-    | inr (inr pulled) ↦ inr (inr (λ d due pull. pulled d (λ _. four d) pull))
+    | inr (inr pulled) ↦ inr (inr (λ d due pull. pulled d (λ _. dir_number-lt d) pull))
   ];
 }
-  where
-    four : (d : Dir) → dir_number d < 4
-    four D = omega arith
-    four L = omega arith
-    four R = omega arith
-    four U = omega arith
-
--- the directions in order
-pub dir_at : (i : ℕ) → i < 4 → dir_number (get_or (D ∷ L ∷ R ∷ U ∷ []) i D) ≡ i
-dir_at zero lt = refl
-dir_at (suc zero) lt = refl
-dir_at (suc (suc zero)) lt = refl
-dir_at (suc (suc (suc zero))) lt = refl
-dir_at (suc (suc (suc (suc n)))) lt = absurd (omega arith)

@@ -1,7 +1,8 @@
 use Rattle.grid.specs.declared.dir.Dir.TheVariants.{D, L, R, U}
+use Rattle.grid.proofs.lemmas.Directions.{dir_at}
 use Rattle.std.proofs.Common.{get_or, ◌≡◌, [], ◌∷◌, ◌+◌, sym, ◌∙◌, subst, arith}
 use Rattle.doom.specs.inside.Pulling.{IsDue, Pulls}
-use Rattle.doom.proofs.Pulling.{dir_at, spread_pull, pull_count}
+use Rattle.doom.proofs.Pulling.{spread_pull, pull_count}
 use Rattle.doom.proofs.pulls.Found.pull_around.Goals as goal
 
 pub loop-dir-preserved : goal.loop-dir-preserved
@@ -22,7 +23,8 @@ loop-dir-preserved c =
     let still : due' ≡ c.loop-dir.self.due.items = c.pull.ensures.due in
     record {
       due = subst (λ ys. IsDue board k s (i + 1) far' ys marked') (sym still)
-          (spread_pull board k s i d far far' c.loop-dir.self.due.items marked marked' (dir_at i c.loop-dir-test.true) pulls before.due);
+          (spread_pull board k s i d far far' c.loop-dir.self.due.items marked marked'
+          (dir_at i c.loop-dir-test.true) pulls before.due);
       same = still ∙ before.same;
       count = omega (arith, less, before.count);
     }
