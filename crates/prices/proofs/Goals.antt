@@ -1,15 +1,13 @@
 -- Goals as they are gathered, one square after the other.
-use Rattle.std.proofs.Common.{◌≡◌, ◌==◌, ℕ, ◌+◌, ◌<◌, ◌⊎◌, Bool, true, false, eqb, eq-eqb, ◌||◌, List, [], ◌∷◌, ◌++◌, length, inl, inr, refl, sym, ap, subst}
-use Rattle.std.proofs.Common.{◌∙◌, arith}
-use Rattle.std.proofs.lemmas.Bool.{cases_lt, eqb-true, false≢true, or_left, or_right, true≢false}
-use Rattle.std.proofs.Math.Bool.{or-false}
+use Rattle.std.proofs.Common.{◌≡◌, ℕ, ◌+◌, ◌<◌, true, false, eqb, eq-eqb, List, [], ◌∷◌, ◌++◌, length, inl, inr, refl}
+use Rattle.std.proofs.Common.{sym, ap, subst, ◌∙◌, arith}
+use Rattle.std.proofs.lemmas.Bool.{cases_lt, false≢true, or_left, or_right, true≢false}
 use Rattle.std.proofs.lemmas.List.{get_or_past}
-use Rattle.std.proofs.lemmas.List.Folds.{list_any-append}
 use Rattle.grid.specs.declared.cell.Cell.TheVariants.{Wall}
-use Rattle.grid.specs.Squares.{Squares, contains}
+use Rattle.grid.specs.Squares.{contains}
 use Rattle.grid.specs.Rising.{is_rising}
 use Rattle.grid.specs.Board.{Board, is_goal, goal_cell}
-use Rattle.grid.proofs.lemmas.Squares.{is_rising-push, same_set_both}
+use Rattle.grid.proofs.lemmas.Squares.{is_rising-push, same_set_both, contains-push, contains-push_cases}
 use Rattle.prices.specs.Prices.{goals_of}
 use Rattle.prices.proofs.lemmas.Goals.{contains-goals, is_rising-goals}
 
@@ -20,17 +18,6 @@ pub record AreGoalsBelow (board : Board) (k : ℕ) (gs : List ℕ) : Type 0 wher
   pub goals : (q : ℕ) → contains gs q ≡ true → is_goal board q ≡ true
   pub all : (q : ℕ) → q < k → is_goal board q ≡ true → contains gs q ≡ true
 
-contains-push : (xs : Squares) (x q : ℕ) → contains (xs ++ x ∷ []) q ≡ (contains xs q || eqb x q)
-contains-push xs x q = list_any-append (λ y. y == q) xs (x ∷ []) ∙ ap (λ b. contains xs q || b) (or-false (eqb x q))
-
-push_cases : (xs : Squares) (x q : ℕ) → contains (xs ++ x ∷ []) q ≡ true → (contains xs q ≡ true) ⊎ (x ≡ q)
-push_cases xs x q there = cases (contains xs q) (eqb x q) refl (eqb-true x q) (sym (contains-push xs x q) ∙ there)
-  where
-    cases : (a e : Bool) → a ≡ contains xs q → (e ≡ true → x ≡ q) → (a || e) ≡ true → (contains xs q ≡ true) ⊎ (x ≡ q)
-    cases true e is same h = inl (sym is)
-    cases false true is same h = inr (same refl)
-    cases false false is same h = absurd (false≢true h)
-
 pub none_gathered : (board : Board) → AreGoalsBelow board 0 []
 none_gathered board = record {
   rising = refl;
@@ -39,14 +26,15 @@ none_gathered board = record {
   all = λ q lt goal. absurd (omega arith);
 }
 
-pub goal_gathered : (board : Board) (k : ℕ) (gs : List ℕ) → AreGoalsBelow board k gs → is_goal board k ≡ true → AreGoalsBelow board (k + 1) (gs ++ k ∷ [])
+pub goal_gathered : (board : Board) (k : ℕ) (gs : List ℕ) → AreGoalsBelow board k gs → is_goal board k ≡ true
+    → AreGoalsBelow board (k + 1) (gs ++ k ∷ [])
 goal_gathered board k gs are goal = record {
   rising = is_rising-push gs k are.rising are.below;
-  below = λ q there. elim (push_cases gs k q there) [
+  below = λ q there. elim (contains-push_cases gs k q there) [
     | inl here ↦ let lt = are.below q here in omega (arith, lt)
     | inr e ↦ omega (arith, e)
   ];
-  goals = λ q there. elim (push_cases gs k q there) [
+  goals = λ q there. elim (contains-push_cases gs k q there) [
     | inl here ↦ are.goals q here
     | inr e ↦ subst (λ (x : ℕ). is_goal board x ≡ true) e goal
   ];
@@ -56,14 +44,16 @@ goal_gathered board k gs are goal = record {
   ];
 }
 
-pub other_passed : (board : Board) (k : ℕ) (gs : List ℕ) → AreGoalsBelow board k gs → is_goal board k ≡ false → AreGoalsBelow board (k + 1) gs
+pub other_passed : (board : Board) (k : ℕ) (gs : List ℕ) → AreGoalsBelow board k gs → is_goal board k ≡ false
+    → AreGoalsBelow board (k + 1) gs
 other_passed board k gs are none = record {
   rising = are.rising;
   below = λ q there. (let lt = are.below q there in omega (arith, lt));
   goals = are.goals;
   all = λ q lt h. elim (cases_lt q k) [
     | inl less ↦ are.all q less h
-    | inr le ↦ let e : q ≡ k = omega (arith, lt, le) in absurd (true≢false (sym h ∙ (ap (λ (x : ℕ). is_goal board x) e ∙ none)))
+    | inr le ↦ let e : q ≡ k = omega (arith, lt, le) in
+        absurd (true≢false (sym h ∙ (ap (λ (x : ℕ). is_goal board x) e ∙ none)))
   ];
 }
 

@@ -1,6 +1,7 @@
 -- No play that ends solved has fewer pushes than the boxes need above the tolls of the goals.
-use Rattle.std.proofs.Common.{◌≡◌, ℕ, suc, ◌+◌, ◌≤◌, min, Bool, true, false, cond, nat_lt, eqb, ◌||◌, List, [], ◌∷◌, length, refl, sym, ap, subst, ◌∙◌, arith}
-use Rattle.std.proofs.lemmas.Bool.{false≢true, true≢false, eqb-true, or_parts, or_right}
+use Rattle.std.proofs.Common.{◌≡◌, ℕ, suc, ◌+◌, ◌≤◌, min, Bool, true, false, cond, nat_lt, eqb, ◌||◌, List, [], ◌∷◌}
+use Rattle.std.proofs.Common.{length, refl, sym, ap, subst, ◌∙◌, arith}
+use Rattle.std.proofs.lemmas.Bool.{false≢true, true≢false, eqb-true, or_parts}
 use Rattle.grid.specs.declared.dir.Dir.{Dir}
 use Rattle.grid.specs.declared.square.Push.{Push}
 use Rattle.grid.specs.Squares.{Squares, contains, insert, remove}
@@ -8,19 +9,20 @@ use Rattle.grid.specs.Rising.{rises_from, is_rising}
 use Rattle.grid.specs.Board.{Board, Scene, IsSolved, Walks, Pushes, next}
 use Rattle.grid.specs.States.{IsScene}
 use Rattle.grid.specs.Plays.{Play, Any, stay, walk, push}
-use Rattle.grid.proofs.lemmas.Squares.{contains_head, contains-remove_out, contains-remove_parts, contains-remove_other, contains-below, contains-from}
-use Rattle.grid.proofs.lemmas.Squares.{remove_out, rises_from-parts, is_rising-remove}
+use Rattle.grid.proofs.lemmas.Squares.{contains_head, contains-remove_out, contains-remove_parts, contains-remove_other}
+use Rattle.grid.proofs.lemmas.Squares.{contains-below, contains-from, remove_out, rises_from-parts, is_rising-remove}
+use Rattle.grid.proofs.lemmas.Squares.{contains_tail}
 use Rattle.grid.proofs.lemmas.Steps.{scene_after_walk, scene_after_push}
-use Rattle.prices.specs.Prices.{goals_of, sum_over, CanStand, IsNeed, total_need, NeedsHold, NeedsRefuse, least_of, TollsAreFree}
+use Rattle.prices.specs.Prices.{goals_of, sum_over, CanStand, IsNeed, total_need, NeedsHold, NeedsRefuse, least_of}
+use Rattle.prices.specs.Prices.{TollsAreFree}
 use Rattle.prices.proofs.lemmas.Goals.{contains-goals, is_rising-goals}
+pub use Rattle.grid.proofs.lemmas.Squares.{contains_tail as in_tail}
 
 -- ---- sums over squares
 
-pub in_tail : (x : ℕ) (xs : Squares) (q : ℕ) → contains xs q ≡ true → contains (x ∷ xs) q ≡ true
-in_tail x xs q there = or_right (eqb x q) (contains xs q) there
-
 -- one square more adds its number
-pub sum_inserted : (f : ℕ → ℕ) (xs : Squares) (r : ℕ) → contains xs r ≡ false → sum_over f (insert xs r) ≡ f r + sum_over f xs
+pub sum_inserted : (f : ℕ → ℕ) (xs : Squares) (r : ℕ) → contains xs r ≡ false
+    → sum_over f (insert xs r) ≡ f r + sum_over f xs
 sum_inserted f [] r out = refl
 sum_inserted f (x ∷ xs) r out =
     let parts = or_parts (eqb x r) (contains xs r) out in
@@ -33,15 +35,18 @@ sum_inserted f (x ∷ xs) r out =
     at_head tail false false apart = omega (arith, tail)
 
 -- one square less takes its number away
-pub sum_put_back : (f : ℕ → ℕ) (k : ℕ) (xs : Squares) (q : ℕ) → rises_from k xs ≡ true → contains xs q ≡ true → sum_over f xs ≡ f q + sum_over f (remove xs q)
+pub sum_put_back : (f : ℕ → ℕ) (k : ℕ) (xs : Squares) (q : ℕ) → rises_from k xs ≡ true → contains xs q ≡ true
+    → sum_over f xs ≡ f q + sum_over f (remove xs q)
 sum_put_back f k [] q rises here = absurd (false≢true here)
 sum_put_back f k (x ∷ xs) q rises here =
     let parts = rises_from-parts k x xs rises in
     at_head (λ there. sum_put_back f (suc x) xs q parts.1 there)
     (λ same. remove_out xs q (contains-below (suc x) xs q parts.1 (omega (arith, same)))) (eqb x q) (eqb-true x q) here
   where
-    at_head : (contains xs q ≡ true → sum_over f xs ≡ f q + sum_over f (remove xs q)) → (x ≡ q → remove xs q ≡ xs) → (eq : Bool) → (eq ≡ true → x ≡ q)
-        → (eq || contains xs q) ≡ true → f x + sum_over f xs ≡ f q + sum_over f (cond eq (remove xs q) (x ∷ remove xs q))
+    at_head : (contains xs q ≡ true → sum_over f xs ≡ f q + sum_over f (remove xs q)) → (x ≡ q → remove xs q ≡ xs)
+        → (eq : Bool) → (eq ≡ true → x ≡ q)
+        → (eq || contains xs q) ≡ true
+        → f x + sum_over f xs ≡ f q + sum_over f (cond eq (remove xs q) (x ∷ remove xs q))
     at_head tail gone true same there =
         let e = same refl in
         let a : f x ≡ f q = ap f e in
@@ -54,7 +59,7 @@ pub sum_le : (f g : ℕ → ℕ) (xs : Squares) → ((q : ℕ) → contains xs q
 sum_le f g [] le = omega arith
 sum_le f g (x ∷ xs) le =
     let here = le x (contains_head x xs) in
-    let rest = sum_le f g xs (λ q there. le q (in_tail x xs q there)) in
+    let rest = sum_le f g xs (λ q there. le q (contains_tail x xs q there)) in
     omega (arith, here, rest)
 
 -- and so have fewer squares
@@ -64,15 +69,17 @@ sum_within f k [] ys rises rising within = omega arith
 sum_within f k (x ∷ xs) ys rises rising within =
     let parts = rises_from-parts k x xs rises in
     let rest = sum_within f (suc x) xs (remove ys x) parts.1 (is_rising-remove ys x rising)
-    (λ q there. contains-remove_other ys x q (let ge = contains-from (suc x) xs q parts.1 there in λ e. omega (arith, e, ge)) ∙
-    within q (in_tail x xs q there)) in
+    (λ q there. contains-remove_other ys x q (let ge = contains-from (suc x) xs q parts.1 there in
+    λ e. omega (arith, e, ge)) ∙
+    within q (contains_tail x xs q there)) in
     let put = sum_put_back f 0 ys x rising (within x (contains_head x xs)) in
     omega (arith, rest, put)
 
 -- ---- a step, and a play
 
 -- a box and the player of a state stand on floor, apart
-pub can_stand : (board : Board) (s : Scene) (b : ℕ) → IsScene board s → contains s.boxes b ≡ true → CanStand board b s.player
+pub can_stand : (board : Board) (s : Scene) (b : ℕ) → IsScene board s → contains s.boxes b ≡ true
+    → CanStand board b s.player
 can_stand board s b scene there = record {
   floor = scene.boxes b there;
   player = scene.player.0;
@@ -80,7 +87,8 @@ can_stand board s b scene there = record {
 }
 
 module _ (board : Board) (toll : ℕ → ℕ) (need : ℕ → ℕ → ℕ) (is : IsNeed board toll need) where
-  need_after_walk : (s t : Scene) (d : Dir) → IsScene board s → Walks board s d t → total_need need s ≤ total_need need t
+  need_after_walk : (s t : Scene) (d : Dir) → IsScene board s → Walks board s d t
+      → total_need need s ≤ total_need need t
   need_after_walk s t d scene step =
       let q = next board s.player d in
       let here : Scene = record { boxes = s.boxes; player = q } in
@@ -89,7 +97,8 @@ module _ (board : Board) (toll : ℕ → ℕ) (need : ℕ → ℕ → ℕ) (is :
       (λ b there. is.walk b s.player d (can_stand board s b scene there) (can_stand board here b still there)) in
       subst (λ (x : Scene). total_need need s ≤ total_need need x) (sym step.1) le
 
-  need_after_push : (s t : Scene) (d : Dir) → IsScene board s → Pushes board s d t → total_need need s ≤ suc (total_need need t)
+  need_after_push : (s t : Scene) (d : Dir) → IsScene board s → Pushes board s d t
+      → total_need need s ≤ suc (total_need need t)
   need_after_push s t d scene step =
       let q = next board s.player d in
       let r = next board q d in
@@ -104,17 +113,22 @@ module _ (board : Board) (toll : ℕ → ℕ) (need : ℕ → ℕ → ℕ) (is :
       let moved = is.push s.player d (can_stand board s q scene step.0) ahead in
       let others = sum_le (λ b. need b s.player) (λ b. need b q) (remove s.boxes q) (λ b there. (
       let parts = contains-remove_parts s.boxes q b there in
-      is.walk b s.player d (can_stand board s b scene parts.1) (record { floor = scene.boxes b parts.1; player = floor; apart = parts.0 })
+      is.walk b s.player d (can_stand board s b scene parts.1)
+      (record { floor = scene.boxes b parts.1; player = floor; apart = parts.0 })
       )) in
-      subst (λ (x : Scene). total_need need s ≤ suc (total_need need x)) (sym step.2) (omega (arith, before, after, moved, others))
+      subst (λ (x : Scene). total_need need s ≤ suc (total_need need x)) (sym step.2)
+      (omega (arith, before, after, moved, others))
 
   need_solved : (s : Scene) → IsScene board s → IsSolved board s → total_need need s ≤ sum_over toll (goals_of board)
   need_solved s scene solved =
-      let pay = sum_le (λ b. need b s.player) toll s.boxes (λ b there. is.home b s.player (solved b there) (can_stand board s b scene there)) in
-      let within = sum_within toll 0 s.boxes (goals_of board) scene.rising (is_rising-goals board) (λ b there. contains-goals board b ∙ solved b there) in
+      let pay = sum_le (λ b. need b s.player) toll s.boxes
+      (λ b there. is.home b s.player (solved b there) (can_stand board s b scene there)) in
+      let within = sum_within toll 0 s.boxes (goals_of board) scene.rising (is_rising-goals board)
+      (λ b there. contains-goals board b ∙ solved b there) in
       omega (arith, pay, within)
 
-  need_played : (s t : Scene) (ds : List Dir) (ps : List Push) → IsScene board s → Play board Any s ds ps t → IsSolved board t
+  need_played : (s t : Scene) (ds : List Dir) (ps : List Push) → IsScene board s → Play board Any s ds ps t
+      → IsSolved board t
       → total_need need s ≤ length ps + sum_over toll (goals_of board)
   need_played s t ds ps scene (stay ok) solved = let e = need_solved s scene solved in omega (arith, e)
   need_played s t (d ∷ ds) ps scene (walk {m = m} ok step play) solved =
@@ -140,12 +154,14 @@ pub least_le : (cost : ℕ → ℕ) (cap : ℕ) (gs : List ℕ) (g : ℕ) → co
 least_le cost cap [] g there = absurd (false≢true there)
 least_le cost cap (x ∷ gs) g there = by_eq (eqb x g) (eqb-true x g) (least_le cost cap gs g) there
   where
-    by_eq : (b : Bool) → (b ≡ true → x ≡ g) → (contains gs g ≡ true → least_of cost cap gs ≤ cost g) → (b || contains gs g) ≡ true
+    by_eq : (b : Bool) → (b ≡ true → x ≡ g) → (contains gs g ≡ true → least_of cost cap gs ≤ cost g)
+        → (b || contains gs g) ≡ true
         → min (cost x) (least_of cost cap gs) ≤ cost g
     by_eq true same tail h = let e : cost x ≡ cost g = ap cost (same refl) in omega (arith, e)
     by_eq false same tail h = let le = tail h in omega (arith, le)
 
-least_less : (n : ℕ) (cost other : ℕ → ℕ) (cap : ℕ) (gs : List ℕ) → ((g : ℕ) → cost g ≤ n + other g) → least_of cost cap gs ≤ n + least_of other cap gs
+least_less : (n : ℕ) (cost other : ℕ → ℕ) (cap : ℕ) (gs : List ℕ) → ((g : ℕ) → cost g ≤ n + other g)
+    → least_of cost cap gs ≤ n + least_of other cap gs
 least_less n cost other cap [] le = omega arith
 least_less n cost other cap (x ∷ gs) le =
     let here = le x in

@@ -7,19 +7,13 @@ use Rattle.grid.specs.Squares.{Squares, contains}
 use Rattle.grid.specs.Board.{Board, Scene, IsFree, IsSolved, Pushes, next}
 use Rattle.grid.specs.States.{IsScene}
 use Rattle.grid.specs.Plays.{Play, Any, push_at}
-use Rattle.grid.proofs.lemmas.Plays.{play-append, walk_backwards, walk_keeps_boxes, play_scene, push_from, cut_first_push}
+use Rattle.grid.proofs.lemmas.Plays.{play-append, walk_backwards, walk_keeps_boxes, play_scene, push_from}
+use Rattle.grid.proofs.lemmas.Plays.{cut_first_push}
 use Rattle.area.specs.Area.{Area}
 use Rattle.area.specs.Pushes.{CanPush}
 use Rattle.area.proofs.lemmas.Norms.{walk_area, norm_walk}
-use Rattle.prices.specs.Solving.{SolvableWithin, NoneWithin, HasFirstPush, FirstPushLeads, NoneIsNotSolvable, WalksChangeNothing, NormsChangeNothing}
-
--- more pushes do no harm
-pub solvable_more : (board : Board) (m n : ℕ) (s : Scene) → m ≤ n → SolvableWithin board m s → SolvableWithin board n s
-solvable_more board m n s le (ds, ps, t, play, solved, few) = (ds, ps, t, play, solved, omega (arith, le, few))
-
--- no play with many pushes is none with fewer
-pub none_fewer : (board : Board) (m n : ℕ) (s : Scene) → m ≤ n → NoneWithin board n s → NoneWithin board m s
-none_fewer board m n s le none ds ps t play solved = let lt = none ds ps t play solved in omega (arith, le, lt)
+use Rattle.prices.specs.Solving.{SolvableWithin, HasFirstPush, FirstPushLeads, NoneIsNotSolvable, WalksChangeNothing}
+use Rattle.prices.specs.Solving.{NormsChangeNothing}
 
 -- that no play does is that the state is not solvable
 pub none_is_not_solvable : (board : Board) → NoneIsNotSolvable board
@@ -32,7 +26,8 @@ none_is_not_solvable board m s = (
 )
 
 -- a walk before does not count
-pub solvable_before : (board : Board) (m : ℕ) (s t : Scene) (ds : List Dir) → Play board Any s ds [] t → SolvableWithin board m t → SolvableWithin board m s
+pub solvable_before : (board : Board) (m : ℕ) (s t : Scene) (ds : List Dir) → Play board Any s ds [] t
+    → SolvableWithin board m t → SolvableWithin board m s
 solvable_before board m s t ds walked (es, ps, u, play, solved, few) = (_, ps, u, play-append walked play, solved, few)
 
 pub walks_change_nothing : (board : Board) → WalksChangeNothing board
@@ -49,7 +44,8 @@ pub solved_before : (board : Board) (s t : Scene) → t.boxes ≡ s.boxes → Is
 solved_before board s t same solved q there = solved q (ap (λ (xs : Squares). contains xs q) same ∙ there)
 
 -- a push after a walk is possible from where the walk began
-pub push_possible : (board : Board) (s b t : Scene) (ds : List Dir) (d : Dir) → IsScene board s → Play board Any s ds [] b → Pushes board b d t
+pub push_possible : (board : Board) (s b t : Scene) (ds : List Dir) (d : Dir) → IsScene board s
+    → Play board Any s ds [] b → Pushes board b d t
     → CanPush board s (push_at board b d)
 push_possible board s b t ds d scene walked pushed =
     let boxes : b.boxes ≡ s.boxes = walk_keeps_boxes walked in
@@ -60,9 +56,11 @@ push_possible board s b t ds d scene walked pushed =
       ahead = subst (λ (xs : Squares). IsFree board xs (next board (next board b.player d) d)) boxes pushed.1;
     }
 
-first_of : (board : Board) (m : ℕ) (s t : Scene) (ds : List Dir) (ps : List Push) → IsScene board s → ¬ (IsSolved board s) → Play board Any s ds ps t
+first_of : (board : Board) (m : ℕ) (s t : Scene) (ds : List Dir) (ps : List Push) → IsScene board s
+    → ¬ (IsSolved board s) → Play board Any s ds ps t
     → IsSolved board t → length ps ≤ m → HasFirstPush board m s
-first_of board m s t ds [] scene unsolved play solved few = absurd (unsolved (solved_before board s t (walk_keeps_boxes play) solved))
+first_of board m s t ds [] scene unsolved play solved few =
+    absurd (unsolved (solved_before board s t (walk_keeps_boxes play) solved))
 first_of board zero s t ds (p ∷ ps) scene unsolved play solved few = absurd (omega (arith, few))
 first_of board (suc m) s t ds (p ∷ ps) scene unsolved play solved few =
     let cut = cut_first_push p ps play in
@@ -79,4 +77,5 @@ first_of board (suc m) s t ds (p ∷ ps) scene unsolved play solved few =
     }
 
 pub first_push_leads : (board : Board) → FirstPushLeads board
-first_push_leads board m s scene unsolved (ds, ps, t, play, solved, few) = first_of board m s t ds ps scene unsolved play solved few
+first_push_leads board m s scene unsolved (ds, ps, t, play, solved, few) =
+    first_of board m s t ds ps scene unsolved play solved few
