@@ -1,10 +1,10 @@
 -- What the check of a corral tells.
-use Rattle.std.proofs.Common.{◌≡◌, ◌<◌, ◌≤◌, ◌+◌, ℕ, Some, arith, Bool, true, false, not, eqb, ◌&&◌, ◌||◌, [], ◌∷◌, ◌⊎◌, length, inl, inr, refl, sym, ap, subst}
-use Rattle.std.proofs.Common.{◌∙◌}
+use Rattle.std.proofs.Common.{◌≡◌, ◌<◌, ◌≤◌, ◌+◌, ℕ, Some, arith, Bool, true, false, not, eqb, ◌&&◌, ◌||◌, [], ◌∷◌, ◌⊎◌}
+use Rattle.std.proofs.Common.{length, inl, inr, refl, sym, ap, subst, ◌∙◌}
 use Rattle.std.specs.Prelude.{slice_get}
 use Rattle.std.specs.List.{list_all, list_any}
 use Rattle.std.proofs.lemmas.Option.{same_Some, slice_get_read}
-use Rattle.std.proofs.lemmas.Bool.{false≢true, and_parts, or_cases, or_right, eqb-true, cases_lt}
+use Rattle.std.proofs.lemmas.Bool.{false≢true, and_parts, or_cases, or_right, eqb-true, cases_lt, not-true}
 use Rattle.grid.specs.declared.dir.Dir.{Dir}
 use Rattle.grid.specs.declared.dir.Dir.TheVariants.{D, L, R, U}
 use Rattle.grid.specs.Squares.{Squares, contains}
@@ -22,26 +22,27 @@ all_pass test (x ∷ xs) q all here =
       | inr there ↦ all_pass test xs q parts.1 there
     ]
 
-some_passes : (test : ℕ → Bool) (xs : Squares) → list_any test xs ≡ true → (q : ℕ) × (contains xs q ≡ true) × (test q ≡ true)
+some_passes : (test : ℕ → Bool) (xs : Squares) → list_any test xs ≡ true
+    → (q : ℕ) × (contains xs q ≡ true) × (test q ≡ true)
 some_passes test [] h = absurd (false≢true h)
 some_passes test (x ∷ xs) h = by_head (or_cases (test x) (list_any test xs) h) (some_passes test xs)
   where
-    by_head : (test x ≡ true) ⊎ (list_any test xs ≡ true) → (list_any test xs ≡ true → (q : ℕ) × (contains xs q ≡ true) × (test q ≡ true))
+    by_head : (test x ≡ true) ⊎ (list_any test xs ≡ true)
+        → (list_any test xs ≡ true → (q : ℕ) × (contains xs q ≡ true) × (test q ≡ true))
         → (q : ℕ) × (contains (x ∷ xs) q ≡ true) × (test q ≡ true)
     by_head (inl e) rest = (x, contains_head x xs, e)
     by_head (inr h) rest = let (q, there, e) = rest h in (q, or_right (eqb x q) (contains xs q) there, e)
 
-not_told : (b : Bool) → not b ≡ true → b ≡ false
-not_told true e = absurd (false≢true e)
-not_told false e = refl
-
 in_each : (P : Dir → Bool) → (P D && (P L && (P R && P U))) ≡ true → (d : Dir) → P d ≡ true
 in_each P all D = (and_parts (P D) (P L && (P R && P U)) all).0
 in_each P all L = (and_parts (P L) (P R && P U) (and_parts (P D) (P L && (P R && P U)) all).1).0
-in_each P all R = (and_parts (P R) (P U) (and_parts (P L) (P R && P U) (and_parts (P D) (P L && (P R && P U)) all).1).1).0
-in_each P all U = (and_parts (P R) (P U) (and_parts (P L) (P R && P U) (and_parts (P D) (P L && (P R && P U)) all).1).1).1
+in_each P all R =
+    (and_parts (P R) (P U) (and_parts (P L) (P R && P U) (and_parts (P D) (P L && (P R && P U)) all).1).1).0
+in_each P all U =
+    (and_parts (P R) (P U) (and_parts (P L) (P R && P U) (and_parts (P D) (P L && (P R && P U)) all).1).1).1
 
-module _ (board : Board) (s : Scene) (held room : ℕ → Bool) (boxes squares : Squares) (held_are : (q : ℕ) → held q ≡ contains boxes q) (room_is : (q : ℕ) →
+module _ (board : Board) (s : Scene) (held room : ℕ → Bool) (boxes squares : Squares)
+    (held_are : (q : ℕ) → held q ≡ contains boxes q) (room_is : (q : ℕ) →
     room q ≡ contains squares q) where
   listed_box : (q : ℕ) → held q ≡ true → contains boxes q ≡ true
   listed_box q member = sym (held_are q) ∙ member
@@ -50,10 +51,12 @@ module _ (board : Board) (s : Scene) (held room : ℕ → Bool) (boxes squares :
   listed_square q inside = sym (room_is q) ∙ inside
 
   changes : has_to_change board boxes squares ≡ true → HasToChange board held room
-  changes h = elim (or_cases (list_any (λ q. not (is_goal board q)) boxes) (list_any (λ q. is_goal board q) squares) h) [
-    | inl off ↦ (let (q, there, e) = some_passes (λ q. not (is_goal board q)) boxes off in inl (q, held_are q ∙ there, not_told (is_goal board q) e))
-    | inr on ↦ (let (q, there, e) = some_passes (λ q. is_goal board q) squares on in inr (q, room_is q ∙ there, e))
-  ]
+  changes h = elim (or_cases (list_any (λ q. not (is_goal board q)) boxes)
+      (list_any (λ q. is_goal board q) squares) h) [
+        | inl off ↦ (let (q, there, e) = some_passes (λ q. not (is_goal board q)) boxes off in
+            inl (q, held_are q ∙ there, not-true (is_goal board q) e))
+        | inr on ↦ (let (q, there, e) = some_passes (λ q. is_goal board q) squares on in inr (q, room_is q ∙ there, e))
+      ]
 
   beside : (q : ℕ) (d : Dir) → shut_beside board held room q d ≡ true
       → (is_wall board (next board q d) ≡ true) ⊎ ((held (next board q d) ≡ true) ⊎ (room (next board q d) ≡ true))
@@ -65,17 +68,19 @@ module _ (board : Board) (s : Scene) (held room : ℕ → Bool) (boxes squares :
     ]
   ]
 
-  shut_at : (q : ℕ) → shut_round board s.boxes held room q ≡ true → (contains s.boxes q ≡ false) × ((d : Dir) → shut_beside board held room q d ≡ true)
+  shut_at : (q : ℕ) → shut_round board s.boxes held room q ≡ true
+      → (contains s.boxes q ≡ false) × ((d : Dir) → shut_beside board held room q d ≡ true)
   shut_at q e =
       let parts = and_parts _ _ (and_parts _ _ e).1 in
-      (not_told (contains s.boxes q) parts.0, in_each (λ d. shut_beside board held room q d) parts.1)
+      (not-true (contains s.boxes q) parts.0, in_each (λ d. shut_beside board held room q d) parts.1)
 
   pub closure_found : (m : ℕ) → room s.player ≡ false → has_to_change board boxes squares ≡ true
       → list_all (λ q. shut_round board s.boxes held room q) squares ≡ true
       → ((b : ℕ) → contains boxes b ≡ true → IsReadyBox board m held room s b)
       → IsClosure board m held room s
   closure_found m out change shut ready =
-      let at = λ (q : ℕ) (inside : room q ≡ true). shut_at q (all_pass (λ x. shut_round board s.boxes held room x) squares q shut (listed_square q inside)) in
+      let at = λ (q : ℕ) (inside : room q ≡ true). shut_at q
+      (all_pass (λ x. shut_round board s.boxes held room x) squares q shut (listed_square q inside)) in
       record {
         corral = record {
           stands = λ q member. (ready q (listed_box q member)).0;
@@ -87,27 +92,20 @@ module _ (board : Board) (s : Scene) (held room : ℕ → Bool) (boxes squares :
         ready = λ b d member. (ready b (listed_box b member)).1 d;
       }
 
--- what holds for each direction where the four tests say so
-pub each_way : (P : Dir → Type 0) (down left right up : Bool) → (down ≡ true → P D) → (left ≡ true → P L) → (right ≡ true → P R) → (up ≡ true → P U)
-    → (((down && left) && right) && up) ≡ true → (d : Dir) → P d
-each_way P down left right up in_d in_l in_r in_u all D =
-    in_d (and_parts down left (and_parts (down && left) right (and_parts ((down && left) && right) up all).0).0).0
-each_way P down left right up in_d in_l in_r in_u all L =
-    in_l (and_parts down left (and_parts (down && left) right (and_parts ((down && left) && right) up all).0).0).1
-each_way P down left right up in_d in_l in_r in_u all R = in_r (and_parts (down && left) right (and_parts ((down && left) && right) up all).0).1
-each_way P down left right up in_d in_l in_r in_u all U = in_u (and_parts ((down && left) && right) up all).1
-
 -- what holds at each place before the end holds of each member
-pub each_member : (P : ℕ → Type 0) (xs : Squares) (count : ℕ) → length xs ≤ count → ((i x : ℕ) → i < count → slice_get xs i ≡ Some x → P x)
+pub each_member : (P : ℕ → Type 0) (xs : Squares) (count : ℕ) → length xs ≤ count
+    → ((i x : ℕ) → i < count → slice_get xs i ≡ Some x → P x)
     → (q : ℕ) → contains xs q ≡ true → P q
 each_member P xs count whole before q there =
     let (i, lt, e) = place_of_member xs q q there in
     before i q (omega (arith, lt, whole)) (slice_get_read xs (length xs) i q refl lt (sym e))
 
 -- and where it held before a place and holds there, it holds up to it
-pub one_more : (P : ℕ → Type 0) (xs : Squares) (count y : ℕ) → ((i x : ℕ) → i < count → slice_get xs i ≡ Some x → P x) → slice_get xs count ≡ Some y → P y
+pub one_more : (P : ℕ → Type 0) (xs : Squares) (count y : ℕ) → ((i x : ℕ) → i < count → slice_get xs i ≡ Some x → P x)
+    → slice_get xs count ≡ Some y → P y
     → (i x : ℕ) → i < count + 1 → slice_get xs i ≡ Some x → P x
 one_more P xs count y before here holds i x lt at = elim (cases_lt i count) [
   | inl less ↦ before i x less at
-  | inr ge ↦ (let same : i ≡ count = omega (arith, lt, ge) in subst P (same_Some y x (sym here ∙ (ap (λ (j : ℕ). slice_get xs j) (sym same) ∙ at))) holds)
+  | inr ge ↦ (let same : i ≡ count = omega (arith, lt, ge) in
+      subst P (same_Some y x (sym here ∙ (ap (λ (j : ℕ). slice_get xs j) (sym same) ∙ at))) holds)
 ]

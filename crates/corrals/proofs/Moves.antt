@@ -3,8 +3,7 @@ use Rattle.std.proofs.Common.{◌≡◌, ◌≢◌, ℕ, Bool, true, false, not,
 use Rattle.std.proofs.lemmas.Bool.{true≢false, eqb-true}
 use Rattle.grid.specs.Squares.{Squares, contains, insert, remove}
 use Rattle.grid.specs.Rising.{is_rising}
-use Rattle.grid.proofs.lemmas.Squares.{contains-insert, contains-insert_other, contains-remove, contains-remove_other, is_rising-insert, is_rising-remove}
-use Rattle.grid.proofs.lemmas.Squares.{same_set}
+use Rattle.grid.proofs.lemmas.Squares.{contains-insert, contains-remove, is_rising-insert, is_rising-remove, same_set}
 
 -- whichever of two boxes moves first, the same set comes out
 bits : (c bz qz rz tz : Bool) → (qz ≡ true → tz ≡ true → ⊥) → (rz ≡ true → bz ≡ true → ⊥)
@@ -19,7 +18,8 @@ bits c true false false false apart other = refl
 bits c false true false false apart other = refl
 bits c false false false false apart other = refl
 
-moved_at : (xs : Squares) (b t z : ℕ) → contains (insert (remove xs b) t) z ≡ (eqb t z || (not (eqb b z) && contains xs z))
+moved_at : (xs : Squares) (b t z : ℕ)
+    → contains (insert (remove xs b) t) z ≡ (eqb t z || (not (eqb b z) && contains xs z))
 moved_at xs b t z = contains-insert (remove xs b) t z ∙ ap (λ (x : Bool). eqb t z || x) (contains-remove xs b z)
 
 rising_moved : (xs : Squares) (b t : ℕ) → is_rising xs ≡ true → is_rising (insert (remove xs b) t) ≡ true
@@ -33,7 +33,8 @@ two_moved xs b t q r rising apart other =
     same_set (insert (remove one b) t) (insert (remove two q) r) (rising_moved one b t (rising_moved xs q r rising))
     (rising_moved two q r (rising_moved xs b t rising)) each
   where
-    each : (z : ℕ) → contains (insert (remove (insert (remove xs q) r) b) t) z ≡ contains (insert (remove (insert (remove xs b) t) q) r) z
+    each : (z : ℕ) → contains (insert (remove (insert (remove xs q) r) b) t) z ≡ contains (insert
+        (remove (insert (remove xs b) t) q) r) z
     each z =
         let from_q = λ (e : eqb q z ≡ true) (f : eqb t z ≡ true). apart (eqb-true q z e ∙ sym (eqb-true t z f)) in
         let from_r = λ (e : eqb r z ≡ true) (f : eqb b z ≡ true). other (eqb-true r z e ∙ sym (eqb-true b z f)) in
@@ -42,10 +43,6 @@ two_moved xs b t q r rising apart other =
         ∙ (bits (contains xs z) (eqb b z) (eqb q z) (eqb r z) (eqb t z) from_q from_r
         ∙ (sym (ap (λ (x : Bool). eqb r z || (not (eqb q z) && x)) (moved_at xs b t z))
         ∙ sym (moved_at (insert (remove xs b) t) q r z))))
-
--- a box that moves leaves all other squares as they are
-pub other_kept : (xs : Squares) (b t z : ℕ) → b ≢ z → t ≢ z → contains (insert (remove xs b) t) z ≡ contains xs z
-other_kept xs b t z left arrived = contains-insert_other (remove xs b) t z arrived ∙ contains-remove_other xs b z left
 
 -- two squares of which one passes a test and the other does not are not the same
 pub differ : (test : ℕ → Bool) (x y : ℕ) → test x ≡ true → test y ≡ false → x ≢ y
