@@ -1,5 +1,6 @@
 -- What is brought to the front of a list, and the sums that come with it.
-use Rattle.std.proofs.Common.{◌≡◌, ℕ, zero, suc, ◌+◌, ◌<◌, ◌≤◌, List, [], ◌∷◌, ◌++◌, length, map, take, get_or, set, Some, inl, inr, refl, sym, ap, ◌∙◌, arith}
+use Rattle.std.proofs.Common.{◌≡◌, ℕ, zero, suc, ◌+◌, ◌<◌, ◌≤◌, List, [], ◌∷◌, ◌++◌, length, map, take, get_or, set}
+use Rattle.std.proofs.Common.{Some, inl, inr, refl, sym, ap, ◌∙◌, arith}
 use Rattle.std.proofs.lemmas.Bool.{cases_lt}
 use Rattle.std.proofs.lemmas.List.{take-set-le, take_more_set, length-set, map-append}
 use Rattle.std.proofs.lemmas.List.Edits.{swap_is}
@@ -8,7 +9,7 @@ use Rattle.std.specs.Prelude.{slice_get}
 use Rattle.std.specs.List.{swap}
 use Rattle.successors.specs.declared.parcel.Successor.{Successor}
 use Rattle.successors.specs.inside.Sums.{AreSums, scene_sum}
-use Rattle.successors.proofs.lemmas.Lists.{take_at}
+use Rattle.successors.proofs.lemmas.Lists.{take_at, at_take}
 
 at_set_later : {A : Type 0} (xs : List A) (i j : ℕ) (a : A) → i < j → slice_get (set xs i a) j ≡ slice_get xs j
 at_set_later [] i j a lt = refl
@@ -17,7 +18,8 @@ at_set_later (x ∷ xs) zero (suc j) a lt = refl
 at_set_later (x ∷ xs) (suc i) zero a lt = absurd (omega (arith, lt))
 at_set_later (x ∷ xs) (suc i) (suc j) a lt = at_set_later xs i j a (omega (arith, lt))
 
-module _ {A : Type 0} (now : List A) (front place : ℕ) (s : A) (order : front ≤ place) (here : slice_get now place ≡ Some s) where
+module _ {A : Type 0} (now : List A) (front place : ℕ) (s : A) (order : front ≤ place)
+    (here : slice_get now place ≡ Some s) where
   inside : place < length now
   inside = slice_get_within now place s here
 
@@ -46,23 +48,20 @@ module _ {A : Type 0} (now : List A) (front place : ℕ) (s : A) (order : front 
 
 -- ---- the sums
 
-map_at : (ss : List Successor) (i : ℕ) (s : Successor) → slice_get ss i ≡ Some s → slice_get (map (λ (t : Successor). scene_sum t.position) ss) i ≡
+map_at : (ss : List Successor) (i : ℕ) (s : Successor) → slice_get ss i ≡ Some s
+    → slice_get (map (λ (t : Successor). scene_sum t.position) ss) i ≡
     Some (scene_sum s.position)
 map_at [] i s at = cc
 map_at (t ∷ ss) zero s at = ap (λ (u : Successor). Some (scene_sum u.position)) (same_Some t s at)
 map_at (t ∷ ss) (suc i) s at = map_at ss i s at
 
-at_take : {A : Type 0} (xs : List A) (n i : ℕ) (a : A) → i < n → slice_get xs i ≡ Some a → slice_get (take n xs) i ≡ Some a
-at_take [] n i a lt at = cc
-at_take (x ∷ xs) zero i a lt at = absurd (omega (arith, lt))
-at_take (x ∷ xs) (suc n) zero a lt at = at
-at_take (x ∷ xs) (suc n) (suc i) a lt at = at_take xs n i a (omega (arith, lt)) at
-
 -- beside each of the first so many successors lies its sum
-pub sum_at : (count : ℕ) (ss : List Successor) (sums : List ℕ) → AreSums (take count ss) (take count sums) → (place : ℕ) (s : Successor) → place < count →
-    slice_get ss place ≡ Some s → slice_get sums place ≡ Some (scene_sum s.position)
+pub sum_at : (count : ℕ) (ss : List Successor) (sums : List ℕ) → AreSums (take count ss) (take count sums)
+    → (place : ℕ) (s : Successor) → place < count
+    → slice_get ss place ≡ Some s → slice_get sums place ≡ Some (scene_sum s.position)
 sum_at count ss sums told place s lt at =
-    (take_at sums count place (scene_sum s.position) (ap (λ xs. slice_get xs place) told ∙ map_at (take count ss) place s (at_take ss count place s lt at))).0
+    (take_at sums count place (scene_sum s.position) (ap (λ xs. slice_get xs place) told
+    ∙ map_at (take count ss) place s (at_take ss count place s lt at))).0
 
 -- the sums of those in front came with them; from a place on they are as they were
 pub record AreBrought (now : List Successor) (before sums : List ℕ) (front place : ℕ) : Type 0 where
@@ -78,7 +77,8 @@ no_sums (s ∷ ss) (x ∷ xs) = refl
 pub none_brought : (ss : List Successor) (sums : List ℕ) → AreBrought ss sums sums 0 0
 none_brought ss sums = record { told = no_sums ss sums; rest = λ i x le at. at }
 
-module _ (now : List Successor) (before sums : List ℕ) (front place : ℕ) (s : Successor) (order : front ≤ place) (there : slice_get now place ≡ Some s)
+module _ (now : List Successor) (before sums : List ℕ) (front place : ℕ) (s : Successor) (order : front ≤ place)
+    (there : slice_get now place ≡ Some s)
     (beside : slice_get before place ≡ Some (scene_sum s.position)) (are : AreBrought now before sums front place) where
   here_too : slice_get sums place ≡ Some (scene_sum s.position)
   here_too = are.rest place (scene_sum s.position) (omega arith) beside
@@ -92,7 +92,8 @@ module _ (now : List Successor) (before sums : List ℕ) (front place : ℕ) (s 
         ∙ ap (λ (xs : List ℕ). xs ++ scene_sum s.position ∷ []) are.told
         ∙ sym (map-append (λ (t : Successor). scene_sum t.position) (take front now) (s ∷ []))
         ∙ ap (map (λ (t : Successor). scene_sum t.position)) (sym (front_more now front place s order there));
-    rest = λ i x le at. later_same sums front place (scene_sum s.position) order here_too i (omega (arith, le)) ∙ are.rest i x (omega (arith, le)) at;
+    rest = λ i x le at. later_same sums front place (scene_sum s.position) order here_too i (omega (arith, le))
+        ∙ are.rest i x (omega (arith, le)) at;
   }
 
   pub one_passed : AreBrought now before sums front (place + 1)
