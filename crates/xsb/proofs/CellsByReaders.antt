@@ -1,8 +1,9 @@
 -- Writing: the cells of a level by its readers, and rows without floor at their ends.
-use Rattle.std.proofs.Common.{◌≡◌, ℕ, zero, suc, ◌+◌, ◌-◌, ◌*◌, ◌<◌, ◌≤◌, Bool, true, false, ◌==◌, List, [], ◌∷◌, ◌++◌, length, get_or, take, drop, flat_map}
-use Rattle.std.proofs.Common.{refl, sym, ap, ◌∙◌, arith, get_or-drop, length-drop, div-add-mod'}
+use Rattle.std.proofs.Common.{◌≡◌, ℕ, suc, ◌+◌, ◌-◌, ◌*◌, ◌<◌, ◌≤◌, Bool, true, false, ◌==◌, List, [], ◌∷◌, ◌++◌}
+use Rattle.std.proofs.Common.{length, get_or, take, drop, flat_map, refl, sym, ap, ◌∙◌, arith, get_or-drop, length-drop}
+use Rattle.std.proofs.Common.{div-add-mod'}
 use Rattle.std.proofs.lemmas.Bool.{false≢true, eq-eqb, ne_eqb}
-use Rattle.std.proofs.lemmas.List.{take_more, length-take-le}
+use Rattle.std.proofs.lemmas.List.{take_more, length-take-le, take-take, drop-drop}
 use Rattle.std.proofs.Math.Nat.{mul-le-mul_right}
 use Rattle.xsb.proofs.GapsAndBoards.{drop-zero}
 use Rattle.grid.specs.declared.cell.Cell.{Cell}
@@ -26,14 +27,18 @@ cell_with-cell BoxOnGoal = refl
 cell_with-cell Player = refl
 cell_with-cell PlayerOnGoal = refl
 
-player-test : (board : Board) (q : ℕ) (t : Bool) → player_count board ≡ 1 → player_cell (get_or board.cells q Wall) ≡ t → (start_player board == q) ≡ t
+player-test : (board : Board) (q : ℕ) (t : Bool) → player_count board ≡ 1 → player_cell (get_or board.cells q Wall) ≡ t
+    → (start_player board == q) ≡ t
 player-test board q true one here = eq-eqb (start_player board) q (start_player_is board q one here)
-player-test board q false one here = ne_eqb (start_player board) q (λ e. false≢true (sym here ∙ ap (λ p. player_cell (get_or board.cells p Wall)) (sym e) ∙
+player-test board q false one here =
+    ne_eqb (start_player board) q (λ e. false≢true (sym here ∙ ap (λ p. player_cell (get_or board.cells p Wall)) (sym e)
+    ∙
     player_at_start board one))
 
 -- the readers of a level tell its cell
-pub cell_with-level : (board : Board) (q : ℕ) (w b p g : Bool) → IsLevel board → w ≡ is_wall board q → b ≡ has_box board q → p ≡ (start_player board == q) →
-    g ≡ is_goal board q → cell_with w b p g ≡ get_or board.cells q Wall
+pub cell_with-level : (board : Board) (q : ℕ) (w b p g : Bool) → IsLevel board → w ≡ is_wall board q
+    → b ≡ has_box board q → p ≡ (start_player board == q)
+    → g ≡ is_goal board q → cell_with w b p g ≡ get_or board.cells q Wall
 unfolding is_wall has_box is_goal
 cell_with-level board q w b p g level wall boxed player goal =
     let one = (counts_of board level.lawful.cells).player in
@@ -47,24 +52,30 @@ pub row-more : (cells : List Cell) (start col : ℕ) → start + col < length ce
     take (col + 1) (drop start cells) ≡ take col (drop start cells) ++ get_or cells (start + col) Wall ∷ []
 row-more cells start col inside =
     let left = length-drop start cells in
-    take_more (drop start cells) col Wall (omega arith) ∙ ap (λ c. take col (drop start cells) ++ c ∷ []) (get_or-drop start cells col Wall)
+    take_more (drop start cells) col Wall (omega arith) ∙ ap (λ c. take col (drop start cells) ++ c ∷ [])
+    (get_or-drop start cells col Wall)
 
-pub kept-floor : (cells : List Cell) (start col kept : ℕ) → start + col < length cells → kept ≡ length (cut_row (take col (drop start cells))) →
-    is_floor (get_or cells (start + col) Wall) ≡ true → kept ≡ length (cut_row (take (col + 1) (drop start cells)))
+pub kept-floor : (cells : List Cell) (start col kept : ℕ) → start + col < length cells
+    → kept ≡ length (cut_row (take col (drop start cells)))
+    → is_floor (get_or cells (start + col) Wall) ≡ true → kept ≡ length (cut_row (take (col + 1) (drop start cells)))
 kept-floor cells start col kept inside e floor = e ∙
-    ap length (cut_end-last_blank is_floor (take (col + 1) (drop start cells)) (take col (drop start cells)) (get_or cells (start + col) Wall)
+    ap length (cut_end-last_blank is_floor (take (col + 1) (drop start cells)) (take col (drop start cells))
+    (get_or cells (start + col) Wall)
     (row-more cells start col inside) floor)
 
-pub kept-other : (cells : List Cell) (start col : ℕ) → start + col < length cells → is_floor (get_or cells (start + col) Wall) ≡ false →
-    col + 1 ≡ length (cut_row (take (col + 1) (drop start cells)))
+pub kept-other : (cells : List Cell) (start col : ℕ) → start + col < length cells
+    → is_floor (get_or cells (start + col) Wall) ≡ false
+    → col + 1 ≡ length (cut_row (take (col + 1) (drop start cells)))
 kept-other cells start col inside other =
     let left = length-drop start cells in
     let long = length-take-le (col + 1) (drop start cells) (omega arith) in
-    sym (ap length (cut_end-last_other is_floor (take (col + 1) (drop start cells)) (take col (drop start cells)) (get_or cells (start + col) Wall)
+    sym (ap length (cut_end-last_other is_floor (take (col + 1) (drop start cells)) (take col (drop start cells))
+    (get_or cells (start + col) Wall)
     (row-more cells start col inside) other) ∙ long)
 
 -- what is left is the front
-take-before : {A : Type 0} (t : Bool) (x : A) (ys xs : List A) → take (length ys) xs ≡ ys → take (length (before_rest t x ys)) (x ∷ xs) ≡ before_rest t x ys
+take-before : {A : Type 0} (t : Bool) (x : A) (ys xs : List A) → take (length ys) xs ≡ ys
+    → take (length (before_rest t x ys)) (x ∷ xs) ≡ before_rest t x ys
 take-before true x [] xs e = refl
 take-before true x (y ∷ ys) xs e = ap (λ l. x ∷ l) e
 take-before false x ys xs e = ap (λ l. x ∷ l) e
@@ -73,37 +84,27 @@ take-cut_end : {A : Type 0} (test : A → Bool) (xs : List A) → take (length (
 take-cut_end test [] = refl
 take-cut_end test (x ∷ xs) = take-before (test x) x (cut_end test xs) xs (take-cut_end test xs)
 
-take-take : {A : Type 0} (m n : ℕ) (xs : List A) → m ≤ n → take m (take n xs) ≡ take m xs
-take-take zero n xs le = refl
-take-take (suc m) zero xs le = absurd (omega arith)
-take-take (suc m) (suc n) [] le = refl
-take-take (suc m) (suc n) (x ∷ xs) le = ap (λ l. x ∷ l) (take-take m n xs (omega arith))
-
-pub kept-cells : (cells : List Cell) (start cols kept : ℕ) → kept ≡ length (cut_row (take cols (drop start cells))) → kept ≤ cols →
-    take kept (drop start cells) ≡ cut_row (take cols (drop start cells))
+pub kept-cells : (cells : List Cell) (start cols kept : ℕ) → kept ≡ length (cut_row (take cols (drop start cells)))
+    → kept ≤ cols
+    → take kept (drop start cells) ≡ cut_row (take cols (drop start cells))
 kept-cells cells start cols kept e le =
-    sym (take-take kept cols (drop start cells) le) ∙ ap (λ k. take k (take cols (drop start cells))) e ∙ take-cut_end is_floor (take cols (drop start cells))
+    sym (take-take kept cols (drop start cells) le) ∙ ap (λ k. take k (take cols (drop start cells))) e
+    ∙ take-cut_end is_floor (take cols (drop start cells))
 
 -- the rows of a level
 pub rows-whole : (board : Board) → IsLevel board → row_count board * board.cols ≡ length board.cells
-rows-whole board level = let a = level.whole in let b = level.columns in let c = div-add-mod' (length board.cells) board.cols in omega arith
+rows-whole board level = let a = level.whole in let b = level.columns in
+    let c = div-add-mod' (length board.cells) board.cols in omega arith
 
-pub row-inside : (board : Board) (row : ℕ) → IsLevel board → row < row_count board → row * board.cols + board.cols ≤ length board.cells
+pub row-inside : (board : Board) (row : ℕ) → IsLevel board → row < row_count board
+    → row * board.cols + board.cols ≤ length board.cells
 row-inside board row level less =
     let whole = rows-whole board level in let many = mul-le-mul_right board.cols less in omega arith
 
-drop-nil : {A : Type 0} (n : ℕ) → drop {A = A} n [] ≡ []
-drop-nil zero = refl
-drop-nil (suc n) = refl
-
-pub drop-drop : {A : Type 0} (m n : ℕ) (xs : List A) → drop m (drop n xs) ≡ drop (n + m) xs
-drop-drop m zero xs = ap (drop m) (drop-zero xs) ∙ ap (λ k. drop k xs) (let e : m ≡ 0 + m = omega arith in e)
-drop-drop m (suc n) [] = drop-nil m ∙ sym (drop-nil (suc n + m))
-drop-drop m (suc n) (x ∷ xs) = drop-drop m n xs ∙ ap (λ k. drop k (x ∷ xs)) (let e : suc (n + m) ≡ suc n + m = omega arith in e)
-
 -- what is still to be written from a row on
 abbrev pub left_from : Board → ℕ → List ℕ
-left_from board row = flat_map written_row (rows_from (row_count board - row) board.cols (drop (row * board.cols) board.cells))
+left_from board row = flat_map written_row
+    (rows_from (row_count board - row) board.cols (drop (row * board.cols) board.cells))
 
 pub left-none : (board : Board) → left_from board 0 ≡ written board
 unfolding written
@@ -114,13 +115,15 @@ left-none board =
     ∙ ap (λ cs. flat_map written_row (rows_from (row_count board) board.cols cs)) (drop-zero board.cells)
 
 pub left-more : (board : Board) (row : ℕ) → row < row_count board →
-    left_from board row ≡ written_row (take board.cols (drop (row * board.cols) board.cells)) ++ left_from board (row + 1)
+    left_from board row ≡ written_row (take board.cols
+    (drop (row * board.cols) board.cells)) ++ left_from board (row + 1)
 left-more board row less =
     let a : row_count board - row ≡ suc (row_count board - (row + 1)) = omega arith in
     let b : row * board.cols + board.cols ≡ (row + 1) * board.cols = omega arith in
     ap (λ n. flat_map written_row (rows_from n board.cols (drop (row * board.cols) board.cells))) a
     ∙ ap (λ cs. written_row (take board.cols (drop (row * board.cols) board.cells)) ++
-    flat_map written_row (rows_from (row_count board - (row + 1)) board.cols cs)) (drop-drop board.cols (row * board.cols) board.cells)
+    flat_map written_row (rows_from (row_count board - (row + 1)) board.cols cs))
+    (drop-drop board.cols (row * board.cols) board.cells)
     ∙ ap (λ k. written_row (take board.cols (drop (row * board.cols) board.cells)) ++
     flat_map written_row (rows_from (row_count board - (row + 1)) board.cols (drop k board.cells))) b
 

@@ -1,6 +1,6 @@
 -- The first item of a piece.
-use Rattle.std.proofs.Common.{◌≡◌, ℕ, Bool, true, false, List, [], ◌∷◌, ◌++◌, length, replicate, Some, None, refl, sym, ap, ◌∙◌, arith, append_assoc, take}
-use Rattle.std.proofs.Common.{drop, take-append-drop, subst}
+use Rattle.std.proofs.Common.{◌≡◌, ℕ, Bool, true, false, List, [], ◌∷◌, ◌++◌, length, replicate, Some, None, refl, sym}
+use Rattle.std.proofs.Common.{ap, ◌∙◌, arith, append_assoc, take, drop, take-append-drop, subst}
 use Rattle.std.specs.Char.{is_ascii_digit}
 use Rattle.std.specs.List.{prefix_len}
 use Rattle.std.proofs.lemmas.Bool.Decides.{nat_tests}
@@ -16,9 +16,6 @@ use Rattle.xsb.proofs.CellBytes.{cell_that_stands, stands_by_cell}
 -- a digit is no cell byte
 pub cell_of-digit : (b : ℕ) → is_ascii_digit b ≡ true → cell_of b ≡ None
 cell_of-digit b h = grind (arith, nat_tests)
-
-false≢true : false ≡ true → ⊥
-false≢true e = cc
 
 pub none≢some : {A : Type 0} {x : A} → None ≡ Some x → ⊥
 none≢some e = cc
@@ -54,14 +51,20 @@ shape-item (counted digits n b c means e) = record {
   cells_are = refl;
 }
 
-pub begins-with_item : (piece digits rest : List ℕ) (b n : ℕ) (c : Cell) → piece ≡ digits ++ b ∷ rest → Means digits n → cell_of b ≡ Some c →
-    BeginsWithItem piece (record { count = n; cell = c }) rest
-begins-with_item piece digits rest b n c e counts cell =
-    (digits ++ b ∷ [], counted digits n b c counts (stands_by_cell b c cell), e ∙ sym (append_assoc digits (b ∷ []) rest))
+pub begins-with_item : (piece digits rest : List ℕ) (b n : ℕ) (c : Cell) → piece ≡ digits ++ b ∷ rest → Means digits n
+    → cell_of b ≡ Some c
+    → BeginsWithItem piece (record { count = n; cell = c }) rest
+begins-with_item piece digits rest b n c e counts cell = (
+  digits ++ b ∷ [],
+  counted digits n b c counts (stands_by_cell b c cell),
+  e
+      ∙ sym (append_assoc digits (b ∷ []) rest),
+)
 
 -- where the bytes after the digits at its front don't end an item, a piece begins with none
-pub no-item : (piece digits rest : List ℕ) → piece ≡ digits ++ rest → AreDigits digits → begins_with_digit rest ≡ false →
-    ((b n : ℕ) (more : List ℕ) (c : Cell) → rest ≡ b ∷ more → cell_of b ≡ Some c → Means digits n → ⊥) → HasNoItem piece
+pub no-item : (piece digits rest : List ℕ) → piece ≡ digits ++ rest → AreDigits digits → begins_with_digit rest ≡ false
+    → ((b n : ℕ) (more : List ℕ) (c : Cell) → rest ≡ b ∷ more → cell_of b ≡ Some c → Means digits n → ⊥)
+    → HasNoItem piece
 no-item piece digits rest e are ends fault item after cells is at =
     let s = shape-item is in
     let front : digits ++ rest ≡ s.digits ++ s.byte ∷ after =
@@ -75,8 +78,9 @@ pub record IsCutAtDigits (piece digits rest : List ℕ) : Type 0 where
   pub decimal : AreDigits digits
   pub ends : begins_with_digit rest ≡ false
 
-pub cut-at_digits : (piece digits rest : List ℕ) (n : ℕ) → n ≡ prefix_len is_ascii_digit piece → digits ≡ take n piece → rest ≡ drop n piece →
-    IsCutAtDigits piece digits rest
+pub cut-at_digits : (piece digits rest : List ℕ) (n : ℕ) → n ≡ prefix_len is_ascii_digit piece → digits ≡ take n piece
+    → rest ≡ drop n piece
+    → IsCutAtDigits piece digits rest
 cut-at_digits piece digits rest n e f g = record {
   whole = rw (f, g) (sym (take-append-drop n piece));
   decimal = rw (f, e) (digits_in_front piece);
@@ -85,12 +89,15 @@ cut-at_digits piece digits rest n e f g = record {
 
 pub no-item_empty : {piece digits rest : List ℕ} → IsCutAtDigits piece digits rest → length rest ≡ 0 → HasNoItem piece
 no-item_empty {piece} {digits} {rest} is none =
-    no-item piece digits rest is.whole is.decimal is.ends (λ b n more c e. λ f g. absurd (let l = ap length e in omega arith))
+    no-item piece digits rest is.whole is.decimal is.ends (λ b n more c e. λ f g. absurd (let l = ap length e in
+    omega arith))
 
-pub no-item_cell : {piece digits rest : List ℕ} (b : ℕ) (after : List ℕ) → IsCutAtDigits piece digits rest → rest ≡ b ∷ after → cell_of b ≡ None →
-    HasNoItem piece
+pub no-item_cell : {piece digits rest : List ℕ} (b : ℕ) (after : List ℕ) → IsCutAtDigits piece digits rest
+    → rest ≡ b ∷ after → cell_of b ≡ None
+    → HasNoItem piece
 no-item_cell {piece} {digits} {rest} b after is at none =
-    no-item piece digits rest is.whole is.decimal is.ends (λ d n more c e f g. let same : d ≡ b = cc in none≢some (sym none ∙ ap cell_of (sym same) ∙ f))
+    no-item piece digits rest is.whole is.decimal is.ends (λ d n more c e f g. let same : d ≡ b = cc in
+    none≢some (sym none ∙ ap cell_of (sym same) ∙ f))
 
 pub no-item_count : {piece digits rest : List ℕ} → IsCutAtDigits piece digits rest → IsNoCount digits → HasNoItem piece
 no-item_count {piece} {digits} {rest} is bad =

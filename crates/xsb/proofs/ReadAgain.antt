@@ -1,16 +1,17 @@
 -- What is written is read again.
-use Rattle.std.proofs.Common.{◌≡◌, ℕ, zero, suc, ◌-◌, ◌*◌, ◌<◌, ◌≤◌, Bool, true, false, cond, ◌==◌, nat_eq, List, [], ◌∷◌, ◌++◌, length, get_or, take, drop}
-use Rattle.std.proofs.Common.{map, max, replicate, flat_map, Contains, Some, None, refl, sym, ap, ◌∙◌, arith, append_assoc, subst, inl, inr, ⊎_elim, take_all}
-use Rattle.std.proofs.Common.{length-drop, take-append-drop}
+use Rattle.std.proofs.Common.{◌≡◌, ℕ, zero, suc, ◌-◌, ◌*◌, ◌<◌, ◌≤◌, Bool, true, false, cond, ◌==◌, nat_eq, List, []}
+use Rattle.std.proofs.Common.{◌∷◌, ◌++◌, length, get_or, take, drop, map, max, replicate, flat_map, Contains, None}
+use Rattle.std.proofs.Common.{refl, sym, ap, ◌∙◌, arith, append_assoc, subst, inl, inr, ⊎_elim, take_all, length-drop}
+use Rattle.std.proofs.Common.{take-append-drop}
 use Rattle.std.specs.List.{AllZip, AllByRecursion, slice_split, starts_with}
 use Rattle.std.proofs.lemmas.Bool.{eqb-true, eqb-false, ne_eqb}
 use Rattle.xsb.proofs.FirstItem.{none≢some}
 use Rattle.xsb.proofs.LineFeeds.{split-cons}
-use Rattle.std.proofs.lemmas.List.{append-nil, length-take-le}
+use Rattle.std.proofs.lemmas.List.{append-nil, length-take-le, length-map}
 use Rattle.std.proofs.lemmas.List.Splits.{slice_split_none, slice_split_at}
 use Rattle.std.proofs.lemmas.List.Elements.{All-from_recursion, recursion_from_All}
 use Rattle.grid.specs.declared.cell.Cell.{Cell}
-use Rattle.grid.specs.declared.cell.Cell.TheVariants.{Wall, Floor, Goal, Box, BoxOnGoal, Player, PlayerOnGoal}
+use Rattle.grid.specs.declared.cell.Cell.TheVariants.{Wall, Floor}
 use Rattle.grid.specs.Board.{Board}
 use Rattle.grid.specs.Lawful.{IsLevel, row_count}
 use Rattle.xsb.specs.inside.Bytes.{bar, wall_byte, line_feed, carriage_return, cell_of, written_row}
@@ -43,20 +44,23 @@ no-cell b c true e none =
 other-byte : (b : ℕ) (c : Cell) → cell_of b ≡ None → (byte_of c == b) ≡ false
 other-byte b c none = no-cell b c (byte_of c == b) refl none
 
-other-bytes : (b : ℕ) (cells : List Cell) → cell_of b ≡ None → AllByRecursion (λ x. (x == b) ≡ false) (map byte_of cells)
+other-bytes : (b : ℕ) (cells : List Cell) → cell_of b ≡ None
+    → AllByRecursion (λ x. (x == b) ≡ false) (map byte_of cells)
 other-bytes b [] none = tt
 other-bytes b (c ∷ cells) none = (other-byte b c none, other-bytes b cells none)
 
 -- cells are read as they are written, one by one
 row-written : (cells : List Cell) → IsRow (map byte_of cells) cells
 row-written [] = done
-row-written (c ∷ cells) = more (byte_of c ∷ []) (map byte_of cells) (c ∷ []) cells (counted [] 1 (byte_of c) c (inl refl, refl) (inl refl)) (row-written cells)
+row-written (c ∷ cells) = more (byte_of c ∷ []) (map byte_of cells) (c ∷ []) cells
+    (counted [] 1 (byte_of c) c (inl refl, refl) (inl refl)) (row-written cells)
 
 -- ---- a written row is a row line
 
 contains-here : {A : Type 0} (w : A) (xs : List A) → Has w xs → Contains xs w
 contains-here w [] h = absurd h
-contains-here w (x ∷ xs) h = ⊎_elim (λ e. (0, omega arith, e)) (λ l. let c = contains-here w xs l in (suc c.0, (let a = c.1 in omega arith), c.2)) h
+contains-here w (x ∷ xs) h = ⊎_elim (λ e. (0, omega arith, e)) (λ l. let c = contains-here w xs l in
+    (suc c.0, (let a = c.1 in omega arith), c.2)) h
 
 has-map : (cells : List Cell) → Has Wall cells → Has wall_byte (map byte_of cells)
 has-map [] h = absurd h
@@ -73,13 +77,9 @@ has-cut (c ∷ row) h = ⊎_elim
     (λ e. subst (λ t. Has Wall (before_rest t c (cut_row row))) (sym (ap is_floor e)) (inl e))
     (λ l. has-before (is_floor c) c (cut_row row) (has-cut row l)) h
 
-length-map : {A B : Type 0} (f : A → B) (xs : List A) → length (map f xs) ≡ length xs
-length-map f [] = refl
-length-map f (x ∷ xs) = ap suc (length-map f xs)
-
 row_line : (row : List Cell) → Has Wall row → IsRowLine (line_of row) (cut_row row ∷ [])
 row_line row wall =
-    let some = cut-wall row wall in let long = length-map byte_of (cut_row row) in
+    let some = cut-wall row wall in let long = length-map (cut_row row) byte_of in
     let one : slice_split (λ b. b == bar) (line_of row) ≡ line_of row ∷ [] =
     slice_split_none (λ b. b == bar) (line_of row) (All-from_recursion _ _ (other-bytes bar (cut_row row) refl)) in
     let piece : some_of (slice_split (λ b. b == bar) (line_of row)) ≡ line_of row ∷ [] = ap some_of one ∙
@@ -91,21 +91,27 @@ row_line row wall =
 
 -- ---- the lines of what is written
 
-split-more : (bytes : List ℕ) → (part : List ℕ) × (parts : List (List ℕ)) × (slice_split (λ b. b == line_feed) bytes ≡ part ∷ parts)
+split-more : (bytes : List ℕ)
+    → (part : List ℕ) × (parts : List (List ℕ)) × (slice_split (λ b. b == line_feed) bytes ≡ part ∷ parts)
 split-more [] = ([], [], refl)
-split-more (b ∷ bytes) = let rest = split-more bytes in split-cons (b == line_feed) b (slice_split (λ b. b == line_feed) bytes) rest.0 rest.1 rest.2
+split-more (b ∷ bytes) = let rest = split-more bytes in
+    split-cons (b == line_feed) b (slice_split (λ b. b == line_feed) bytes) rest.0 rest.1 rest.2
 
-last_empty-cons : (part : List ℕ) (all : List (List ℕ)) → 0 < length all → without_last_empty (part ∷ all) ≡ part ∷ without_last_empty all
+last_empty-cons : (part : List ℕ) (all : List (List ℕ)) → 0 < length all
+    → without_last_empty (part ∷ all) ≡ part ∷ without_last_empty all
 last_empty-cons part [] some = absurd (omega arith)
 last_empty-cons [] (next ∷ all) some = refl
 last_empty-cons (b ∷ part) (next ∷ all) some = refl
 
-written-lines : (rows : List (List Cell)) → without_last_empty (slice_split (λ b. b == line_feed) (flat_map written_row rows)) ≡ map line_of rows
+written-lines : (rows : List (List Cell))
+    → without_last_empty (slice_split (λ b. b == line_feed) (flat_map written_row rows)) ≡ map line_of rows
 written-lines [] = refl
 written-lines (row ∷ rows) =
     let rest = split-more (flat_map written_row rows) in
-    let some : 0 < length (slice_split (λ b. b == line_feed) (flat_map written_row rows)) = let l = ap length rest.2 in omega arith in
-    ap (λ l. without_last_empty (slice_split (λ b. b == line_feed) l)) (append_assoc (line_of row) (line_feed ∷ []) (flat_map written_row rows))
+    let some : 0 < length (slice_split (λ b. b == line_feed) (flat_map written_row rows)) = let l = ap length rest.2 in
+    omega arith in
+    ap (λ l. without_last_empty (slice_split (λ b. b == line_feed) l))
+    (append_assoc (line_of row) (line_feed ∷ []) (flat_map written_row rows))
     ∙ ap without_last_empty (slice_split_at (λ b. b == line_feed) (line_of row) line_feed (flat_map written_row rows)
     (All-from_recursion _ _ (other-bytes line_feed (cut_row row) refl)) refl)
     ∙ last_empty-cons (line_of row) (slice_split (λ b. b == line_feed) (flat_map written_row rows)) some
@@ -120,16 +126,20 @@ lines-kept : (rows : List (List Cell)) → map (without_last carriage_return) (m
 lines-kept [] = refl
 lines-kept (row ∷ rows) =
     ap (λ l. l ∷ map (without_last carriage_return) (map line_of rows))
-    (kept-whole carriage_return (line_of row) (other-bytes carriage_return (cut_row row) refl)) ∙ ap (λ ls. line_of row ∷ ls) (lines-kept rows)
+    (kept-whole carriage_return (line_of row) (other-bytes carriage_return (cut_row row) refl))
+    ∙ ap (λ ls. line_of row ∷ ls) (lines-kept rows)
 
-starts-not : (b : ℕ) (bytes : List ℕ) → (b == 0xEF) ≡ false → starts_with nat_eq (b ∷ bytes) (0xEF ∷ 0xBB ∷ 0xBF ∷ []) ≡ false
-starts-not b bytes e = let other : nat_eq 0xEF b ≡ false = ne_eqb 0xEF b (λ s. eqb-false b 0xEF e (sym s)) in rw other refl
+starts-not : (b : ℕ) (bytes : List ℕ) → (b == 0xEF) ≡ false
+    → starts_with nat_eq (b ∷ bytes) (0xEF ∷ 0xBB ∷ 0xBF ∷ []) ≡ false
+starts-not b bytes e = let other : nat_eq 0xEF b ≡ false = ne_eqb 0xEF b (λ s. eqb-false b 0xEF e (sym s)) in
+    rw other refl
 
 -- a mark begins no written row
 no-mark : (b : ℕ) (bytes : List ℕ) → (b == 0xEF) ≡ false → without_mark (b ∷ bytes) ≡ b ∷ bytes
 no-mark b bytes e = ap (λ t. cond t (drop 3 (b ∷ bytes)) (b ∷ bytes)) (starts-not b bytes e)
 
-front-byte : (cells : List Cell) (rest : List ℕ) → 1 ≤ length cells → without_mark (map byte_of cells ++ rest) ≡ map byte_of cells ++ rest
+front-byte : (cells : List Cell) (rest : List ℕ) → 1 ≤ length cells
+    → without_mark (map byte_of cells ++ rest) ≡ map byte_of cells ++ rest
 front-byte [] rest some = absurd (omega arith)
 front-byte (c ∷ cells) rest some = no-mark (byte_of c) (map byte_of cells ++ rest) (other-byte 0xEF c refl)
 
@@ -150,7 +160,8 @@ cut-twice test (x ∷ xs) = before-cut test x (cut_end test xs) (test x) refl (c
 
 cols_of-cut : (rows : List (List Cell)) → cols_of (map (λ row. cut_row row) rows) ≡ cols_of rows
 cols_of-cut [] = refl
-cols_of-cut (row ∷ rows) = ap (λ n. max n (cols_of (map (λ row. cut_row row) rows))) (ap length (cut-twice is_floor row)) ∙
+cols_of-cut (row ∷ rows) = ap (λ n. max n (cols_of (map (λ row. cut_row row) rows)))
+    (ap length (cut-twice is_floor row)) ∙
     ap (λ n. max (length (cut_row row)) n) (cols_of-cut rows)
 
 -- all rows have a length
@@ -159,14 +170,17 @@ AllLong cols rows = AllByRecursion (λ row. length row ≡ cols) rows
 
 cols_of-most : (cols : ℕ) (rows : List (List Cell)) → AllLong cols rows → cols_of rows ≤ cols
 cols_of-most cols [] all = omega arith
-cols_of-most cols (row ∷ rows) all = let a = length-cut_end is_floor row in let b = all.0 in let c = cols_of-most cols rows all.1 in omega arith
+cols_of-most cols (row ∷ rows) all = let a = length-cut_end is_floor row in let b = all.0 in
+    let c = cols_of-most cols rows all.1 in omega arith
 
-cols_of-least : (rows : List (List Cell)) (row : List Cell) (k : ℕ) → k < length rows → get_or rows k row ≡ row → length (cut_row row) ≤ cols_of rows
+cols_of-least : (rows : List (List Cell)) (row : List Cell) (k : ℕ) → k < length rows → get_or rows k row ≡ row
+    → length (cut_row row) ≤ cols_of rows
 cols_of-least [] row k less e = absurd (omega arith)
 cols_of-least (r ∷ rows) row zero less e = let same = ap (λ x. length (cut_row x)) e in omega arith
 cols_of-least (r ∷ rows) row (suc k) less e = let more = cols_of-least rows row k (omega arith) e in omega arith
 
-all-at : (cols : ℕ) (rows : List (List Cell)) (row : List Cell) (k : ℕ) → AllLong cols rows → k < length rows → get_or rows k row ≡ row → length row ≡ cols
+all-at : (cols : ℕ) (rows : List (List Cell)) (row : List Cell) (k : ℕ) → AllLong cols rows → k < length rows
+    → get_or rows k row ≡ row → length row ≡ cols
 all-at cols [] row k all less e = absurd (omega arith)
 all-at cols (r ∷ rows) row zero all less e = ap length (sym e) ∙ all.0
 all-at cols (r ∷ rows) row (suc k) all less e = all-at cols rows row k all.1 (omega arith) e
@@ -174,13 +188,17 @@ all-at cols (r ∷ rows) row (suc k) all less e = all-at cols rows row k all.1 (
 padded-cut : (cols : ℕ) (row : List Cell) → length row ≡ cols → padded cols (cut_row row) ≡ row
 padded-cut cols row e =
     let short = length-cut_end is_floor row in
-    ap (λ c. c ++ replicate (cols - length c) Floor) (cut-twice is_floor row) ∙ sym (filled-padded cols row (omega arith))
-    ∙ ap (λ n. take cols row ++ replicate n Floor) (let none : cols - length row ≡ 0 = omega arith in none) ∙ append-nil (take cols row) ∙
+    ap (λ c. c ++ replicate (cols - length c) Floor) (cut-twice is_floor row)
+    ∙ sym (filled-padded cols row (omega arith))
+    ∙ ap (λ n. take cols row ++ replicate n Floor) (let none : cols - length row ≡ 0 = omega arith in none)
+    ∙ append-nil (take cols row) ∙
     take_all cols row (omega arith)
 
-padded-rows : (cols : ℕ) (rows : List (List Cell)) → AllLong cols rows → flat_map (padded cols) (map (λ row. cut_row row) rows) ≡ flat_map (λ row. row) rows
+padded-rows : (cols : ℕ) (rows : List (List Cell)) → AllLong cols rows
+    → flat_map (padded cols) (map (λ row. cut_row row) rows) ≡ flat_map (λ row. row) rows
 padded-rows cols [] all = refl
-padded-rows cols (row ∷ rows) all = ap (λ l. l ++ flat_map (padded cols) (map (λ row. cut_row row) rows)) (padded-cut cols row all.0) ∙
+padded-rows cols (row ∷ rows) all =
+    ap (λ l. l ++ flat_map (padded cols) (map (λ row. cut_row row) rows)) (padded-cut cols row all.0) ∙
     ap (λ l. row ++ l) (padded-rows cols rows all.1)
 
 -- the rows of a list of cells
@@ -190,14 +208,16 @@ rows_from-long (suc n) cols cells e =
     let left = length-drop cols cells in
     (length-take-le cols cells (omega arith), rows_from-long n cols (drop cols cells) (omega arith))
 
-rows_from-all : (n cols : ℕ) (cells : List Cell) → n * cols ≡ length cells → flat_map (λ row. row) (rows_from n cols cells) ≡ cells
+rows_from-all : (n cols : ℕ) (cells : List Cell) → n * cols ≡ length cells
+    → flat_map (λ row. row) (rows_from n cols cells) ≡ cells
 rows_from-all zero cols [] e = refl
 rows_from-all zero cols (c ∷ cells) e = absurd (omega arith)
 rows_from-all (suc n) cols cells e =
     let left = length-drop cols cells in
     ap (λ l. take cols cells ++ l) (rows_from-all n cols (drop cols cells) (omega arith)) ∙ take-append-drop cols cells
 
-board-again : (board : Board) → IsLevel board → HasFullRow board → board_of (map (λ row. cut_row row) (rows_of_board board)) ≡ board
+board-again : (board : Board) → IsLevel board → HasFullRow board
+    → board_of (map (λ row. cut_row row) (rows_of_board board)) ≡ board
 unfolding board_of
 board-again board level full =
     let rows = rows_of_board board in
@@ -207,23 +227,27 @@ board-again board level full =
     let least = cols_of-least rows full.1 full.0 full.2 full.3 in
     let size = all-at board.cols rows full.1 full.0 long full.2 full.3 in
     let kept = ap length full.4 in
-    let cols : cols_of (map (λ row. cut_row row) rows) ≡ board.cols = cols_of-cut rows ∙ (let e : cols_of rows ≡ board.cols = omega arith in e) in
+    let cols : cols_of (map (λ row. cut_row row) rows) ≡ board.cols =
+    cols_of-cut rows ∙ (let e : cols_of rows ≡ board.cols = omega arith in e) in
     ap (λ n. record { cols = n; cells = flat_map (padded n) (map (λ row. cut_row row) rows) }) cols
-    ∙ ap (λ cs. record { cols = board.cols; cells = cs }) (padded-rows board.cols rows long ∙ rows_from-all (row_count board) board.cols board.cells whole)
+    ∙ ap (λ cs. record { cols = board.cols; cells = cs }) (padded-rows board.cols rows long
+    ∙ rows_from-all (row_count board) board.cols board.cells whole)
 
 -- ---- a collection of one board
 
 all-lines : (rows : List (List Cell)) → AllByRecursion (λ row. Contains row Wall) rows →
     AllByRecursion (λ line. (of : List (List Cell)) × IsRowLine line of) (map line_of rows)
 all-lines [] walls = tt
-all-lines (row ∷ rows) walls = ((cut_row row ∷ [], row_line row (has-contains Wall row walls.0)), all-lines rows walls.1)
+all-lines (row ∷ rows) walls =
+    ((cut_row row ∷ [], row_line row (has-contains Wall row walls.0)), all-lines rows walls.1)
 
 each-line : (rows : List (List Cell)) → AllByRecursion (λ row. Contains row Wall) rows →
     AllZip IsRowLine (map line_of rows) (map (λ row. cut_row row ∷ []) rows)
 each-line [] walls = tt
 each-line (row ∷ rows) walls = (row_line row (has-contains Wall row walls.0), each-line rows walls.1)
 
-join-rows : (rows : List (List Cell)) → map (λ row. cut_row row) rows ≡ flat_map (λ r. r) (map (λ row. cut_row row ∷ []) rows)
+join-rows : (rows : List (List Cell))
+    → map (λ row. cut_row row) rows ≡ flat_map (λ r. r) (map (λ row. cut_row row ∷ []) rows)
 join-rows [] = refl
 join-rows (row ∷ rows) = ap (λ l. cut_row row ∷ l) (join-rows rows)
 
@@ -234,14 +258,10 @@ text-lines [] some walls = absurd (omega arith)
 text-lines (row ∷ rows) some walls =
     let whole = append_assoc (line_of row) (line_feed ∷ []) (flat_map written_row rows) in
     let mark : without_mark (flat_map written_row (row ∷ rows)) ≡ flat_map written_row (row ∷ rows) =
-    ap without_mark whole ∙ first-byte row (line_feed ∷ flat_map written_row rows) (has-contains Wall row walls.0) ∙ sym whole in
+    ap without_mark whole ∙ first-byte row (line_feed ∷ flat_map written_row rows) (has-contains Wall row walls.0)
+    ∙ sym whole in
     ap (λ t. map (without_last carriage_return) (without_last_empty (slice_split (λ b. b == line_feed) t))) mark
     ∙ ap (map (without_last carriage_return)) (written-lines (row ∷ rows)) ∙ lines-kept (row ∷ rows)
-
--- a level has a row
-length-rows_from : (n cols : ℕ) (cells : List Cell) → length (rows_from n cols cells) ≡ n
-length-rows_from zero cols cells = refl
-length-rows_from (suc n) cols cells = ap suc (length-rows_from n cols (drop cols cells))
 
 pub written-again : (board : Board) → IsLevel board → HasWallInEachRow board → HasFullRow board →
     IsCollection (written board) (record { name = []; first_line = 1; board = board } ∷ [])
@@ -252,7 +272,7 @@ written-again board level walls full =
     let some : 0 < length rows = let less = full.2 in omega arith in
     let lines = text-lines rows some each in
     let part : Part = record { board = map line_of rows; gap = [] } in
-    let count = length-map line_of rows in (
+    let count = length-map rows line_of in (
       [],
       part ∷ [],
       record {
