@@ -68,11 +68,10 @@ fn least_again(
     ensures kept { scratch.new ≡ scratch.old }
 {
     move_box(&scratch.boxes, square, ahead, &mut scratch.spare_boxes);
-    scratch.spare.copy_without(&scratch.reached, ahead);
+    scratch.spare.copy_if(joined, &scratch.reached, ahead);
     flood_round(
         level,
         position,
-        joined,
         &mut scratch.spare_boxes,
         &mut scratch.spare,
     );

@@ -1,4 +1,4 @@
-ghost use Rattle.std.specs.Prelude.{◌≡◌, ℕ, ◌+◌, ◌*◌, ◌<◌, ◌≤◌, ◌↔◌, true, IsTrue, length};
+ghost use Rattle.std.specs.Prelude.{◌≡◌, ℕ, ◌+◌, ◌*◌, ◌<◌, ◌≤◌, ◌↔◌, true, length};
 ghost use Rattle.grid.specs.Board.{Board};
 ghost use Rattle.grid.specs.States.{FitsLevel};
 ghost use Rattle.grid.specs.Masks.{AreMasks, has_bit, word_count};
@@ -65,26 +65,25 @@ pub(crate) fn flood_sets(
 {
     boxes.put_all(position.boxes());
     others.copy_from(boxes);
-    flood_round(level, position, false, others, reached);
+    reached.clear();
+    flood_round(level, position, others, reached);
 }
 
-// Finds the squares that the player reaches round a set of the boxes, which it overwrites. With `joined`, the player
-// reaches each square that `reached` contains before, and the flood begins with those.
+// Finds the squares that the player reaches round a set of the boxes, which it overwrites. The flood begins with the
+// squares of `reached`, all of which the player reaches.
 pub(crate) fn flood_round(
     level: &Level,
     position: &Position,
-    joined: bool,
     boxes: &mut SquareSet,
     reached: &mut SquareSet,
 )
     requires fits { FitsLevel level.now position.now }
     requires room { length reached.old ≡ word_count (length level.now.cells) }
     requires boxes { AreBoxes level.now position.now boxes.old }
-    requires known { IsTrue joined → (q : ℕ) → has_bit reached.old q ≡ true → Area level.now position.now q }
+    requires known { (q : ℕ) → has_bit reached.old q ≡ true → Area level.now position.now q }
     ensures reached { (q : ℕ) → (has_bit reached.new q ≡ true) ↔ Area level.now position.now q }
     ensures room { (length reached.new ≡ length reached.old) × (length boxes.new ≡ length boxes.old) }
 {
-    reached.keep_if(joined);
     reached.put(position.player());
     flood_from(level, position, boxes, reached);
 }

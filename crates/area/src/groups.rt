@@ -5,6 +5,7 @@ ghost use Rattle.grid.specs.Squares.{contains};
 ghost use Rattle.area.specs.Groups.{HangsWith};
 
 use crate::floods::grow;
+use crate::rooms::grow_in_room;
 use crate::set::SquareSet;
 use grid::{Level, Square};
 
@@ -29,5 +30,9 @@ pub(crate) fn group(
     others.turn_over();
     members.clear();
     members.put(square);
-    grow(level, others, members);
+    if level.in_room(square) {
+        grow_in_room(level, others, members);
+    } else {
+        grow(level, others, members);
+    }
 }

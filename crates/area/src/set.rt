@@ -117,14 +117,17 @@ impl SquareSet {
         self.take_out(but);
     }
 
-    // Removes all squares, unless `keep`.
+    // Makes the set equal to another of the same capacity, without one square, or empty if `keep` is `false`.
     #[inline(always)]
-    pub(crate) fn keep_if(&mut self, keep: bool)
-        ensures kept { (q : ℕ) → has_bit self.new q ≡ true → IsTrue keep × (has_bit self.old q ≡ true) }
+    pub(crate) fn copy_if(&mut self, keep: bool, other: &SquareSet, but: Square)
+        requires room { length self.old ≡ length other.now }
+        requires inside { but < WORD_BITS * length other.now }
+        ensures kept { (q : ℕ) → has_bit self.new q ≡ true →
+            IsTrue keep × ((has_bit other.now q && not (but == q)) ≡ true) }
         ensures size { length self.new ≡ length self.old }
     {
         if keep {
-            return;
+            return self.copy_without(other, but);
         }
         self.clear();
     }

@@ -19,7 +19,7 @@ least_of-requires-clause-some c =
 pub least_of-requires-clause-small : goal.least_of-requires-clause-small
 least_of-requires-clause-small c =
     words_few (length c.scratch.inside.marks.items) (length c.as_words.result.now) (ap length c.as_words.ensures ∙
-    (c.flood_round.ensures.room.0 ∙ (c.copy_without.ensures.size ∙ c.scratch.invariant.spare_words))) c.scratch.invariant.small
+    (c.flood_round.ensures.room.0 ∙ (c.copy_if.ensures.size ∙ c.scratch.invariant.spare_words))) c.scratch.invariant.small
 
 pub returns-clause-norm : goal.returns-clause-norm
 returns-clause-norm c =
@@ -44,15 +44,16 @@ flood_round-requires-clause-boxes c = record {
 }
 
 pub flood_round-requires-clause-known : goal.flood_round-requires-clause-known
-flood_round-requires-clause-known c = λ yes q there.
-    let p = and_parts (has_bit c.scratch.inside.reached q) (not (eqb c.args.ahead q)) (sym (c.copy_without.ensures.out q) ∙ there) in
-    c.requires.known yes q (listed c.scratch.inside.reached c.scratch.inside.reached c.args.scratch.now.reached q
+flood_round-requires-clause-known c = λ q there.
+    let k = c.copy_if.ensures.kept q there in
+    let p = and_parts (has_bit c.scratch.inside.reached q) (not (eqb c.args.ahead q)) k.1 in
+    c.requires.known k.0 q (listed c.scratch.inside.reached c.scratch.inside.reached c.args.scratch.now.reached q
     (ap (λ (r : Reach). r.reached) c.scratch.view_is) refl ∙ p.0) (λ e. true≢false (sym p.1 ∙ ap not (eq-eqb c.args.ahead q (sym e))))
 
 pub flood_round-requires-clause-room : goal.flood_round-requires-clause-room
 flood_round-requires-clause-room c =
-    c.copy_without.ensures.size ∙ (c.scratch.invariant.spare_words ∙ ap word_count (ap (λ (r : Reach). r.size) c.scratch.view_is ∙ c.requires.room))
+    c.copy_if.ensures.size ∙ (c.scratch.invariant.spare_words ∙ ap word_count (ap (λ (r : Reach). r.size) c.scratch.view_is ∙ c.requires.room))
 
-pub copy_without-requires-clause-inside : goal.copy_without-requires-clause-inside
-copy_without-requires-clause-inside c = words_enough (length c.args.level.now.cells) (length c.scratch.inside.reached) c.args.ahead
+pub copy_if-requires-clause-inside : goal.copy_if-requires-clause-inside
+copy_if-requires-clause-inside c = words_enough (length c.args.level.now.cells) (length c.scratch.inside.reached) c.args.ahead
     (c.scratch.invariant.reached_words ∙ ap word_count (ap (λ (r : Reach). r.size) c.scratch.view_is ∙ c.requires.room)) c.requires.moved.within

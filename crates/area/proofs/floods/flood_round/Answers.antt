@@ -10,20 +10,20 @@ use Rattle.area.proofs.floods.flood_round.Goals as goal
 
 pub put-requires : goal.put-requires
 put-requires c =
-    words_enough (length c.args.level.now.cells) (length c.keep_if.new.self) c.player.result (c.keep_if.ensures.size ∙
-    c.requires.room) (inside_grid c.args.level.now c.player.result (ap (is_wall c.args.level.now) c.player.ensures ∙ c.requires.fits.scene.player.0))
+    words_enough (length c.args.level.now.cells) (length c.args.reached.now) c.player.result c.requires.room
+    (inside_grid c.args.level.now c.player.result (ap (is_wall c.args.level.now) c.player.ensures ∙ c.requires.fits.scene.player.0))
 
 pub flood_from-requires-clause-reached : goal.flood_from-requires-clause-reached
 flood_from-requires-clause-reached c = record { begun = begun; within = within }
   where
     begun : has_bit c.put.new.self c.args.position.now.player ≡ true
     begun = c.put.ensures.put c.args.position.now.player ∙
-        or_right (has_bit c.keep_if.new.self c.args.position.now.player) (eqb c.player.result c.args.position.now.player)
+        or_right (has_bit c.args.reached.now c.args.position.now.player) (eqb c.player.result c.args.position.now.player)
         (eq-eqb c.player.result c.args.position.now.player c.player.ensures)
 
     within : (q : ℕ) → has_bit c.put.new.self q ≡ true → Area c.args.level.now c.args.position.now q
-    within q h = elim (or_cases (has_bit c.keep_if.new.self q) (eqb c.player.result q) (sym (c.put.ensures.put q) ∙ h)) [
-      | inl old ↦ (let k = c.keep_if.ensures.kept q old in c.requires.known k.0 q k.1)
+    within q h = elim (or_cases (has_bit c.args.reached.now q) (eqb c.player.result q) (sym (c.put.ensures.put q) ∙ h)) [
+      | inl old ↦ c.requires.known q old
       | inr own ↦
           subst (Area c.args.level.now c.args.position.now) (sym c.player.ensures ∙ eqb-true c.player.result q own)
           (area_here c.args.level.now c.args.position.now)

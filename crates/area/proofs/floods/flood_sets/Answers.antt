@@ -1,4 +1,4 @@
-use Rattle.std.proofs.Common.{◌≡◌, ℕ, true, List, length, ap, subst, ◌∙◌}
+use Rattle.std.proofs.Common.{◌≡◌, ℕ, true, List, length, sym, ap, subst, ◌∙◌}
 use Rattle.std.proofs.lemmas.Bool.{false≢true}
 use Rattle.grid.specs.Masks.{has_bit}
 use Rattle.grid.specs.Squares.{Squares, contains}
@@ -22,4 +22,4 @@ pub returns-clause-boxes : goal.returns-clause-boxes
 returns-clause-boxes c = λ q. c.put_all.ensures.put q ∙ ap (λ (b : Squares). contains b q) c.boxes.ensures.squares
 
 pub flood_round-requires-clause-known : goal.flood_round-requires-clause-known
-flood_round-requires-clause-known c = λ yes. absurd (false≢true yes)
+flood_round-requires-clause-known c = λ q there. absurd (false≢true (sym (c.clear.ensures.none q) ∙ there))
