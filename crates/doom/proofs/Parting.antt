@@ -8,7 +8,7 @@ use Rattle.grid.proofs.lemmas.Squares.{contains-insert_cases, contains-remove_pa
 use Rattle.grid.proofs.lemmas.Steps.{inside_grid, next_back}
 use Rattle.area.specs.Groups.{HangsWith, itself, onto}
 use Rattle.area.specs.Words.{passing_from}
-use Rattle.area.proofs.lemmas.Hanging.{hanging_box}
+use Rattle.area.proofs.lemmas.Hanging.{hanging_box, hangs_test}
 use Rattle.area.proofs.lemmas.WordSets.{passing_within, passing_past}
 use Rattle.doom.specs.Deadlocks.{Doomed, IsDead, IsFrozen, IsHeld}
 use Rattle.doom.specs.Pushed.{AreOthersFrozen, DoomedFrom, IsGroupFrozen}
@@ -63,13 +63,30 @@ module _ (board : Board) (boxes members : Squares) (clear : (q : ℕ) → contai
     blocked = λ x h d. (let (here, well) = cut_parts test x h in cut_held test on x d here well (frozen.blocked x here d));
   }
 
+  -- whether a box hangs together with another passes on from a member to the members beside it
+  hangs_beside : (test : ℕ → Bool) (square : ℕ) → ((q : ℕ) → (test q ≡ true) ↔ HangsWith board boxes square q) → PassesBeside test
+  hangs_beside test square tells x d member hangs beside =
+      (tells (next board x d)).1 (onto d ((tells x).0 hangs) (frozen.some (next board x d) beside))
+
+  -- those that hang together with a box are frozen where one of them is off goal
+  group_frozen : (test : ℕ → Bool) (square : ℕ) → ((q : ℕ) → (test q ≡ true) ↔ HangsWith board boxes square q) → (q : ℕ) → contains members q ≡ true →
+      test q ≡ true → is_goal board q ≡ false → IsGroupFrozen board boxes square
+  group_frozen test square tells q member hangs off =
+      (cut test, cut_frozen test (hangs_beside test square tells) q member hangs off, λ m h. (tells m).0 (cut_parts test m h).1)
+
+  -- so the group of a member off goal is frozen
+  pub frozen_with : (square : ℕ) → contains members square ≡ true → is_goal board square ≡ false → IsGroupFrozen board boxes square
+  frozen_with square member off =
+      let (test, tells) = hangs_test board boxes clear square (frozen.some square member) in
+      group_frozen test square tells square member ((tells square).1 (itself (frozen.some square member))) off
+
   -- of frozen boxes those that hang together with a box are frozen, or the others are
   pub parted : (test : ℕ → Bool) (square : ℕ) → ((q : ℕ) → (test q ≡ true) ↔ HangsWith board boxes square q) → IsGroupFrozen board boxes square ⊎
       AreOthersFrozen board boxes square
   parted test square tells =
       let (q, member, off) = frozen.off_goal in
       elim (cases_Bool (test q)) [
-        | inl hangs ↦ inl (cut test, cut_frozen test joined q member hangs off, λ m h. (tells m).0 (cut_parts test m h).1)
+        | inl hangs ↦ inl (group_frozen test square tells q member hangs off)
         | inr apart ↦ inr (
           cut (λ y. not (test y)),
           cut_frozen (λ y. not (test y)) parts q member (ap not apart) off,
@@ -78,9 +95,6 @@ module _ (board : Board) (boxes members : Squares) (clear : (q : ℕ) → contai
         )
       ]
     where
-      joined : PassesBeside test
-      joined x d member hangs beside = (tells (next board x d)).1 (onto d ((tells x).0 hangs) (frozen.some (next board x d) beside))
-
       parts : PassesBeside (λ y. not (test y))
       parts x d member apart beside = elim (cases_Bool (test (next board x d))) [
         | inl hangs ↦

@@ -7,9 +7,9 @@ ghost use Rattle.doom.specs.Deadlocks.{Doomed, IsDead, IsFrozen};
 ghost use Rattle.doom.specs.Pushed.{AreOthersFrozen, ComeUndoomed, DoomedFrom, IsGroupFrozen};
 
 use crate::dead::Dead;
-use crate::freeze::any_frozen;
-use crate::locked::any_locked_with;
+use crate::locked::{any_locked_with, has_locked};
 use area::Scratch;
+use area::bits::has;
 use grid::{Level, Position, Push, Square};
 
 /// Whether a push dooms the position that it leads to: the pushed box is on a dead square, or some boxes connected to
@@ -82,6 +82,16 @@ fn is_group_frozen(
         AreOthersFrozen level.now boxes.now square }
     ensures kept { scratch.new ≡ scratch.old }
 {
-    any_frozen(level, dead, boxes, scratch)
-        && any_locked_with(level, dead.holds(), boxes, square, scratch)
+    let holds = dead.holds();
+    let left = scratch.boxes_aside(boxes);
+    if !has_locked(holds, level.cols(), boxes, left) {
+        return false;
+    }
+    // a frozen box off goal freezes its group
+    let frozen = has(left, square);
+    let off = !level.is_goal(square);
+    if frozen & off {
+        return true;
+    }
+    any_locked_with(level, holds, boxes, square, scratch)
 }

@@ -8,7 +8,7 @@ ghost use Rattle.doom.specs.inside.Locking.{AreWithin, HaveRoom, IsGroup, IsHeld
 ghost use Rattle.doom.specs.inside.Locking.{TellsLocked};
 
 use crate::holds::Holds;
-use crate::small::has_locked_few;
+use crate::small::keep_held_few;
 use area::Scratch;
 use area::bits::{after, before, has};
 use grid::{Level, Square, WORD_BITS};
@@ -50,31 +50,14 @@ pub(crate) fn any_locked_with(
     has_locked(holds, level.cols(), boxes, members)
 }
 
-// Whether some squares of the set, all of which are boxes, are locked. The call may write the set.
-fn has_locked(holds: &Holds, cols: usize, boxes: &[Square], members: &mut [u64]) -> bool
+// Whether some squares of the set, all of which are boxes, are locked. Reduces the set to its largest subset each of
+// whose squares is held.
+pub(crate) fn has_locked(holds: &Holds, cols: usize, boxes: &[Square], members: &mut [u64]) -> bool
     requires holds { HaveRoom holds.now (length members.old) }
     requires among { AreWithin (squares_of members.old) boxes.now }
     requires inside { (q : ℕ) → contains boxes.now q ≡ true → q < WORD_BITS * length members.old }
-    ensures { TellsLocked holds.now cols (squares_of members.old) result }
-{
-    if cols >= WORD_BITS {
-        return has_locked_many(holds, cols, boxes, members);
-    }
-    match members.len() {
-        1 => has_locked_few::<1>(holds, cols, members),
-        2 => has_locked_few::<2>(holds, cols, members),
-        3 => has_locked_few::<3>(holds, cols, members),
-        4 => has_locked_few::<4>(holds, cols, members),
-        _ => has_locked_many(holds, cols, boxes, members),
-    }
-}
-
-// The same for any number of words. The set keeps its largest subset each of whose squares is held.
-fn has_locked_many(holds: &Holds, cols: usize, boxes: &[Square], members: &mut [u64]) -> bool
-    requires holds { HaveRoom holds.now (length members.old) }
-    requires among { AreWithin (squares_of members.old) boxes.now }
-    requires inside { (q : ℕ) → contains boxes.now q ≡ true → q < WORD_BITS * length members.old }
-    ensures { TellsLocked holds.now cols (squares_of members.old) result }
+    ensures locked { TellsLocked holds.now cols (squares_of members.old) result }
+    ensures left { IsLargest holds.now cols (squares_of members.old) (squares_of members.new) }
 {
     keep_held(holds, cols, boxes, members);
     has_other(boxes, members, holds.goals.as_words())
@@ -82,6 +65,25 @@ fn has_locked_many(holds: &Holds, cols: usize, boxes: &[Square], members: &mut [
 
 // Reduces the set to its largest subset each of whose squares is held.
 fn keep_held(holds: &Holds, cols: usize, boxes: &[Square], members: &mut [u64])
+    requires holds { HaveRoom holds.now (length members.old) }
+    requires among { AreWithin (squares_of members.old) boxes.now }
+    requires inside { (q : ℕ) → contains boxes.now q ≡ true → q < WORD_BITS * length members.old }
+    ensures { IsLargest holds.now cols (squares_of members.old) (squares_of members.new) }
+{
+    if cols >= WORD_BITS {
+        return keep_held_many(holds, cols, boxes, members);
+    }
+    match members.len() {
+        1 => keep_held_few::<1>(holds, cols, members),
+        2 => keep_held_few::<2>(holds, cols, members),
+        3 => keep_held_few::<3>(holds, cols, members),
+        4 => keep_held_few::<4>(holds, cols, members),
+        _ => keep_held_many(holds, cols, boxes, members),
+    }
+}
+
+// The same for any number of words.
+fn keep_held_many(holds: &Holds, cols: usize, boxes: &[Square], members: &mut [u64])
     requires holds { HaveRoom holds.now (length members.old) }
     requires among { AreWithin (squares_of members.old) boxes.now }
     requires inside { (q : ℕ) → contains boxes.now q ≡ true → q < WORD_BITS * length members.old }

@@ -1,29 +1,30 @@
 //! Locked boxes in grids of few words, where sets of squares fit in registers.
 ghost use Rattle.std.specs.Prelude.{◌≡◌, ◌<◌, ◌≤◌, length};
 ghost use Rattle.area.specs.Words.{squares_of};
-ghost use Rattle.doom.specs.inside.Locking.{HaveRoom, IsPass, TellsLocked};
+ghost use Rattle.doom.specs.inside.Locking.{HaveRoom, IsLargest, IsPass};
 
 use crate::holds::Holds;
-use crate::locked::{is_other_word, peel_word, peel_words};
+use crate::locked::{peel_word, peel_words};
 use grid::WORD_BITS;
 
 /// The greatest number of words of a small grid.
 pub(crate) const MOST_WORDS: usize = 4;
 
-/// Whether some squares of a set of `W` words are locked, in a grid with fewer than `WORD_BITS` columns.
+/// Reduces a set of `W` words to its largest subset each of whose squares is held, in a grid with fewer than
+/// `WORD_BITS` columns.
 #[inline(always)]
-pub(crate) fn has_locked_few<const W: usize>(holds: &Holds, cols: usize, members: &[u64]) -> bool
+pub(crate) fn keep_held_few<const W: usize>(holds: &Holds, cols: usize, members: &mut [u64])
     requires few { W ≤ MOST_WORDS }
     requires narrow { cols < WORD_BITS }
-    requires words { length members.now ≡ W }
+    requires words { length members.old ≡ W }
     requires holds { HaveRoom holds.now W }
-    ensures { TellsLocked holds.now cols (squares_of members.now) result }
+    ensures { IsLargest holds.now cols (squares_of members.old) (squares_of members.new) }
 {
     let mut left = [0; W];
     left.copy_from_slice(members);
     // the remainder shows the compiler that squares above and below are in the same word or the next one
     while peel_few(holds, cols % WORD_BITS, &mut left) {}
-    is_other_word(&left, holds.goals.as_words())
+    members.copy_from_slice(&left);
 }
 
 // Removes the squares that nothing holds, and returns whether it removed any. For one or two words there is no loop, so

@@ -17,4 +17,4 @@ has_locked-requires-clause-inside c = λ q there.
 pub returns-clause-locked : goal.returns-clause-locked
 returns-clause-locked c = subst (λ (n : ℕ). TellsLocked c.args.holds.now n c.args.boxes.now c.has_locked.result) c.cols.ensures
     (locked_of_words c.args.holds.now c.cols.result c.args.boxes.now c.boxes_aside.result.now c.has_locked.result c.boxes_aside.ensures.boxes
-    c.has_locked.ensures)
+    c.has_locked.ensures.locked)

@@ -23,5 +23,6 @@ returns-clause-locked c = (
     λ h. (c.group_aside-members.ensures.group q).0 (member_bit c.group_aside-members.result.now q h),
     λ hangs. bit_member c.group_aside-members.result.now q ((c.group_aside-members.ensures.group q).1 hangs),
   ),
-  subst (λ (n : ℕ). TellsLocked c.args.holds.now n (squares_of c.group_aside-members.result.now) c.has_locked.result) c.cols.ensures c.has_locked.ensures,
+  subst (λ (n : ℕ). TellsLocked c.args.holds.now n (squares_of c.group_aside-members.result.now) c.has_locked.result) c.cols.ensures
+      c.has_locked.ensures.locked,
 )

@@ -1,11 +1,10 @@
-use Rattle.std.proofs.Common.{◌≡◌, ◌↔◌, ◌<◌, ◌%◌, ℕ, Bool, List, IsTrue, true, false, sym, subst, arith}
-use Rattle.grid.specs.Masks.{has_bit}
+use Rattle.std.proofs.Common.{◌≡◌, ◌<◌, ◌%◌, ℕ, Bool, List, sym, subst, arith}
 use Rattle.grid.specs.declared.masks.TheConstants.{WORD_BITS}
 use Rattle.area.specs.Words.{squares_of}
 use Rattle.doom.specs.declared.holds.Holds.{Holds}
-use Rattle.doom.specs.inside.Locking.{IsPass}
-use Rattle.doom.proofs.Passes.{IsPeeling, locked_by_bits, peeling_none, peeling_pass, peeling_done}
-use Rattle.doom.proofs.small.has_locked_few.Goals as goal
+use Rattle.doom.specs.inside.Locking.{IsLargest, IsPass}
+use Rattle.doom.proofs.Passes.{IsPeeling, peeling_none, peeling_pass, peeling_done}
+use Rattle.doom.proofs.small.keep_held_few.Goals as goal
 
 -- a remainder by the bits of a word is the number, if that is less
 passes : (holds : Holds) (cols : ℕ) (old new : List ℕ) (went : Bool) → cols < WORD_BITS → IsPass holds (cols % WORD_BITS) old new went → IsPass holds cols old new went
@@ -23,9 +22,8 @@ loop-preserved g c =
 
 pub returns : goal.returns
 returns g c =
-    locked_by_bits c.args.holds.now c.args.cols (squares_of c.args.members.now) c.peel_few.new.members c.is_other_word.result
+    subst (λ (ws : List ℕ). IsLargest c.args.holds.now c.args.cols (squares_of c.args.members.now) (squares_of ws))
+    (sym c.copy_from_slice-2.ensures.after)
     (peeling_done c.args.holds.now c.args.cols
     (squares_of c.args.members.now) c.loop.left c.peel_few.new.members c.peel_few.result c.loop-test.false
     (passes c.args.holds.now c.args.cols c.loop.left c.peel_few.new.members c.peel_few.result c.requires.narrow c.peel_few.ensures) c.loop.invariant)
-    (subst (λ (goals : List ℕ). IsTrue c.is_other_word.result ↔
-    ((q : ℕ) × (has_bit c.peel_few.new.members q ≡ true) × (has_bit goals q ≡ false))) c.as_words.ensures c.is_other_word.ensures)

@@ -1,6 +1,6 @@
 use Rattle.area.specs.Words.{squares_of}
 use Rattle.doom.proofs.Passes.{peeling_none, peeling_pass, peeling_done}
-use Rattle.doom.proofs.locked.keep_held.Goals as goal
+use Rattle.doom.proofs.locked.keep_held_many.Goals as goal
 
 pub loop-init : goal.loop-init
 loop-init c = peeling_none c.args.holds.now c.args.cols (squares_of c.args.members.now)
