@@ -1,6 +1,6 @@
 -- Counts of events, and what the gate may have answered to them.
-use Rattle.std.proofs.Common.{◌≡◌, ℕ, zero, suc, ◌+◌, ◌-◌, ◌*◌, ◌^◌, ◌≤◌, min, Bool, true, false, [], ◌∷◌, ◌++◌, length, inl, inr, refl, sym, ap}
-use Rattle.std.proofs.Common.{subst, ◌∙◌, arith, length-append}
+use Rattle.std.proofs.Common.{◌≡◌, ℕ, zero, suc, ◌+◌, ◌-◌, ◌*◌, ◌^◌, ◌≤◌, min, Bool, true, false, length, inl, inr, refl, sym, ap}
+use Rattle.std.proofs.Common.{subst, ◌∙◌, arith}
 use Rattle.std.proofs.Math.Nat.{min-eq_left, min-eq_right}
 use Rattle.std.proofs.lemmas.Bool.{cases_lt}
 use Rattle.std.proofs.lemmas.Nat.{mul-le}
@@ -12,7 +12,7 @@ use Rattle.layers.specs.Books.{MayEnter}
 use Rattle.crew.specs.Work.{IsOwn, HandEnds, HandOverEnds, told, LetsGoOn, MayAnswerEach, WereAccepted, AsksTheGate}
 use Rattle.crew.specs.declared.end.End.{End}
 use Rattle.crew.specs.declared.end.End.TheVariants.{Drained, Refused, Stopped, Foreign, NoPlace}
-use Rattle.crew.specs.inside.Events.{counted, IsTold, GoesOn, EndsAtOnce, DrawsAtLast, GoesOnUntil, IsCutOff, Works, WorksUntil, HasLeft}
+use Rattle.crew.specs.inside.Events.{counted, IsTold, GoesOn, EndsAtOnce, DrawsAtLast, GoesOnUntil, IsCutOff, DrawsUntil, HasLeft}
 
 -- ---- one after the other
 
@@ -56,63 +56,16 @@ cut_off may j k most nth last after end few on more = record {
   until = goes_until may nth j more.events (j + more.events) last after end refl on more.until;
 }
 
--- ---- with the hand
-
--- nothing is drawn, and nothing handed back
-pub works_none : (may : ℕ → Bool → Bool) (hand later : Hand) (nth after : ℕ) → later.numbers ≡ hand.numbers → after ≡ nth → Works may 0 hand nth later after
-works_none may hand later nth after same still = record { drawn = 0; draws = let long = ap length same in omega (arith, long); on = still }
-
--- one rank is drawn
-pub works_drawn : (may : ℕ → Bool → Bool) (hand later : Hand) (nth after rank : ℕ) → later.numbers ≡ hand.numbers ++ rank ∷ [] → IsTold may nth true after →
-    Works may 0 hand nth later after
-works_drawn may hand later nth after rank drew it =
-    record { drawn = 1; draws = ap length drew ∙ length-append hand.numbers (rank ∷ []); on = (nth, refl, it) }
-
--- as many parcels are accepted as there are events
-pub works_accepted : (may : ℕ → Bool → Bool) (hand : Hand) (events nth after : ℕ) → GoesOn may nth events after → Works may events hand nth hand after
-works_accepted may hand events nth after on = record { drawn = 0; draws = omega arith; on = goes_twice may nth 0 events (0 + events) nth after refl refl on }
-
--- work, and further work
-pub works_twice : (may : ℕ → Bool → Bool) (j k all : ℕ) (hand mid later : Hand) (nth last after : ℕ) → all ≡ j + k → Works may j hand nth mid last →
-    Works may k mid last later after → Works may all hand nth later after
-works_twice may j k all hand mid later nth last after sum before more = record {
-  drawn = before.drawn + more.drawn;
-  draws = omega (arith, before.draws, more.draws);
-  on = goes_twice may nth (before.drawn + j) (more.drawn + k) (before.drawn + more.drawn + all) last after (omega (arith, sum)) before.on more.on;
-}
-
--- work, and further work that ends
-pub works_until : (may : ℕ → Bool → Bool) (j k most : ℕ) (hand mid later : Hand) (nth last after : ℕ) (end : End) → j + k ≤ most →
-    Works may j hand nth mid last → WorksUntil may k mid last later after end → WorksUntil may most hand nth later after end
-works_until may j k most hand mid later nth last after end few before more = record {
-  drawn = before.drawn + more.drawn;
-  accepted = j + more.accepted;
-  few = omega (arith, few, more.few);
-  draws = omega (arith, before.draws, more.draws);
-  until = goes_until may nth (before.drawn + j) (more.drawn + more.accepted) (before.drawn + more.drawn + (j + more.accepted)) last after end
-      (omega arith) before.on more.until;
-}
-
--- events of parcels alone, and then an end
-pub works_cut_off : (may : ℕ → Bool → Bool) (hand : Hand) (most nth after : ℕ) (end : End) → IsCutOff may most nth after end →
-    WorksUntil may most hand nth hand after end
-works_cut_off may hand most nth after end it = record {
-  drawn = 0;
-  accepted = it.events;
-  few = it.few;
-  draws = omega arith;
-  until = goes_until may nth 0 it.events (0 + it.events) nth after end refl refl it.until;
-}
-
--- a draw that ends a worker that is not drained
-pub works_drawn_until : (may : ℕ → Bool → Bool) (hand later : Hand) (nth after : ℕ) (end : End) → ¬ (end ≡ Drained) →
-    DrawsAtLast may hand nth later after end → WorksUntil may 0 hand nth later after end
-works_drawn_until may hand later nth after Stopped other it =
-    record { drawn = 1; accepted = 0; few = omega arith; draws = it.0; until = (0, nth, refl, refl, it.1) }
-works_drawn_until may hand later nth after Drained other it = absurd (other refl)
-works_drawn_until may hand later nth after (Refused refusal) other it = absurd it
-works_drawn_until may hand later nth after Foreign other it = absurd it
-works_drawn_until may hand later nth after NoPlace other it = absurd it
+-- ranks are drawn, and then a draw ends a worker that is not drained
+pub draws_until : (may : ℕ → Bool → Bool) (hand mid later : Hand) (drawn nth last after : ℕ) (end : End) → ¬ (end ≡ Drained) →
+    length mid.numbers ≡ length hand.numbers + drawn → GoesOn may nth drawn last → DrawsAtLast may mid last later after end →
+    DrawsUntil may hand nth later after end
+draws_until may hand mid later drawn nth last after Stopped other many on it =
+    record { drawn = suc drawn; draws = omega (arith, many, it.0); until = (drawn, last, refl, on, it.1) }
+draws_until may hand mid later drawn nth last after Drained other many on it = absurd (other refl)
+draws_until may hand mid later drawn nth last after (Refused refusal) other many on it = absurd it
+draws_until may hand mid later drawn nth last after Foreign other many on it = absurd it
+draws_until may hand mid later drawn nth last after NoPlace other many on it = absurd it
 
 -- ---- what the gate was told
 
@@ -182,27 +135,28 @@ pub has_none : (may : ℕ → Bool → Bool) (books : ℕ) (hand : Hand) → Has
 has_none may books hand = record {
   done = 0;
   all = omega arith;
-  works = record { drawn = 0; draws = omega arith; on = let e : 0 ≡ 0 + 0 * books = omega arith in subst (λ n. GoesOn may 0 n 0) e refl };
+  on = let e : 0 ≡ 0 + 0 + 0 * books = omega arith in subst (λ n. GoesOn may 0 n 0) e refl;
 }
 
--- more ranks are drawn
-pub has_drawn : (may : ℕ → Bool → Bool) (books left all nth after : ℕ) (hand mid later : Hand) → length later.numbers + left ≡ length mid.numbers + all
-    → HasLeft may books left hand mid nth → Works may 0 mid nth later after → HasLeft may books all hand later after
-has_drawn may books left all nth after hand mid later more has it = record {
+-- ranks are drawn
+pub has_drawn : (may : ℕ → Bool → Bool) (books drawn nth after : ℕ) (hand mid later : Hand) → length later.numbers ≡ length mid.numbers + drawn →
+    HasLeft may books 0 hand mid nth → GoesOn may nth drawn after → HasLeft may books drawn hand later after
+has_drawn may books drawn nth after hand mid later more has it = record {
   done = has.done;
   all = omega (arith, more, has.all);
-  works = works_twice may (has.done * books) 0 (has.done * books) hand mid later 0 nth after (omega arith) has.works it;
+  on =
+      goes_twice may 0 (has.done + 0 + has.done * books) drawn (has.done + drawn + has.done * books) nth after (omega arith) has.on it;
 }
 
--- those that are left are handed back, and others drawn
-pub has_handed : (may : ℕ → Bool → Bool) (books left many more nth after : ℕ) (hand mid later : Hand) → many ≡ books * left →
-    length later.numbers ≡ length mid.numbers + more
-    → HasLeft may books left hand mid nth → Works may many mid nth later after → HasLeft may books more hand later after
-has_handed may books left many more nth after hand mid later all drawn has it = record {
+-- those that are left are handed back
+pub has_handed : (may : ℕ → Bool → Bool) (books left many nth after : ℕ) (hand later : Hand) → many ≡ books * left →
+    HasLeft may books left hand later nth → GoesOn may nth many after → HasLeft may books 0 hand later after
+has_handed may books left many nth after hand later each has it = record {
   done = has.done + left;
-  all = omega (arith, drawn, has.all);
-  works = works_twice may (has.done * books) many ((has.done + left) * books) hand mid later 0 nth after (both_times has.done left books
-      ∙ ap (λ n. has.done * books + n) (sym all)) has.works it;
+  all = omega (arith, has.all);
+  on =
+      goes_twice may 0 (has.done + left + has.done * books) many (has.done + left + 0 + (has.done + left) * books) nth after
+      (omega (arith, each, both_times has.done left books)) has.on it;
 }
 
 -- none is left, and the worker is drained
@@ -214,44 +168,53 @@ asks_drained may books after hand later has = record {
   draws = omega (arith, has.all);
   parcels = refl;
   answers =
-      let e : has.works.drawn ≡ has.done = omega (arith, has.works.draws, has.all) in
-      (goes_told may (has.done + has.done * books) after (subst (λ n. GoesOn may 0 (n + has.done * books) after) e has.works.on)).1;
+      let e : has.done + 0 + has.done * books ≡ has.done + has.done * books = omega arith in
+      (goes_told may (has.done + has.done * books) after (subst (λ n. GoesOn may 0 n after) e has.on)).1;
 }
 
--- the worker ends, and is not drained
-pub asks_until : (may : ℕ → Bool → Bool) (books left most nth after : ℕ) (hand mid later : Hand) (end : End) → most ≤ books * left →
-    HasLeft may books left hand mid nth → WorksUntil may most mid nth later after end → AsksTheGate may books hand later end
-asks_until may books left most nth after hand mid later end within has more =
-    let both = works_until may (has.done * books) most (has.done * books + most) hand mid later 0 nth after end (omega arith) has.works more in
-    let many : has.done + left ≤ both.drawn = omega (arith, has.all, more.draws, both.draws) in
-    let sum = both_times has.done left books in
-    let few : both.accepted ≤ both.drawn * books = omega (arith, both.few, within, sum, mul-le (has.done + left) books both.drawn books many (omega arith)) in
-    record {
-      drawn = both.drawn;
-      accepted = both.accepted;
-      draws = both.draws;
-      parcels = accepted_until may 0 (both.drawn + both.accepted) after books both.drawn both.accepted end both.until few;
-      answers = answers_until may (both.drawn + both.accepted) after end both.until;
+-- the worker goes on, and then ends, and is not drained
+pub asks_until : (may : ℕ → Bool → Bool) (books left drawn accepted events nth after : ℕ) (hand mid later : Hand) (end : End) →
+    events ≡ drawn + accepted → accepted ≤ books * left → length later.numbers ≡ length mid.numbers + drawn → HasLeft may books left hand mid nth →
+    GoesOnUntil may nth events after end → AsksTheGate may books hand later end
+asks_until may books left drawn accepted events nth after hand mid later end sum few more has until =
+    let ranks = has.done + left + drawn in let parcels = has.done * books + accepted in
+    let within : parcels ≤ ranks * books = omega (arith, few, both_times has.done left books, mul-le (has.done + left) books ranks books (omega arith) (omega arith)) in
+    let all : GoesOnUntil may 0 (ranks + parcels) after end =
+    goes_until may 0 (has.done + left + has.done * books) events (ranks + parcels) nth after end (omega (arith, sum)) has.on until in record {
+      drawn = ranks;
+      accepted = parcels;
+      draws = omega (arith, more, has.all);
+      parcels = accepted_until may 0 (ranks + parcels) after books ranks parcels end all within;
+      answers = answers_until may (ranks + parcels) after end all;
     }
 
--- a draw ends the worker
-pub asks_drawn : (may : ℕ → Bool → Bool) (books nth after : ℕ) (hand mid later : Hand) (end : End) → HasLeft may books 0 hand mid nth
-    → DrawsAtLast may mid nth later after end → AsksTheGate may books hand later end
-asks_drawn may books nth after hand mid later Stopped has it =
-    asks_until may books 0 0 nth after hand mid later Stopped (omega arith) has (record {
-      drawn = 1;
-      accepted = 0;
-      few = omega arith;
-      draws = it.0;
-      until = (0, nth, refl, refl, it.1);
-    })
-asks_drawn may books nth after hand mid later Drained has it =
+-- while it draws
+pub asks_drawing : (may : ℕ → Bool → Bool) (books nth after : ℕ) (hand mid later : Hand) (end : End) → HasLeft may books 0 hand mid nth →
+    DrawsUntil may mid nth later after end → AsksTheGate may books hand later end
+asks_drawing may books nth after hand mid later end has it =
+    asks_until may books 0 it.drawn 0 it.drawn nth after hand mid later end (omega arith) (omega arith) it.draws has it.until
+
+-- while it hands back
+pub asks_handing : (may : ℕ → Bool → Bool) (books left many nth after : ℕ) (hand later : Hand) (end : End) → many ≡ books * left →
+    HasLeft may books left hand later nth → IsCutOff may many nth after end → AsksTheGate may books hand later end
+asks_handing may books left many nth after hand later end each has it =
+    asks_until may books left 0 it.events it.events nth after hand later later end (omega arith) (omega (arith, it.few, each)) (omega arith) has it.until
+
+stopped_undrained : ¬ (Stopped ≡ Drained)
+stopped_undrained same = cc
+
+-- at its first draw
+pub asks_drawn : (may : ℕ → Bool → Bool) (books after : ℕ) (hand later : Hand) (end : End) → DrawsAtLast may hand 0 later after end →
+    AsksTheGate may books hand later end
+asks_drawn may books after hand later Drained it =
     let same = ap length it.0 in
-    asks_drained may books after hand later (has_drawn may books 0 0 nth after hand mid later (omega (arith, same)) has
-    (works_none may mid later nth after it.0 it.1))
-asks_drawn may books nth after hand mid later (Refused refusal) has it = absurd it
-asks_drawn may books nth after hand mid later Foreign has it = absurd it
-asks_drawn may books nth after hand mid later NoPlace has it = absurd it
+    asks_drained may books after hand later (has_drawn may books 0 0 after hand hand later (omega (arith, same)) (has_none may books hand) it.1)
+asks_drawn may books after hand later Stopped it =
+    asks_drawing may books 0 after hand hand later Stopped (has_none may books hand)
+    (draws_until may hand hand later 0 0 0 after Stopped stopped_undrained (omega arith) refl it)
+asks_drawn may books after hand later (Refused refusal) it = absurd it
+asks_drawn may books after hand later Foreign it = absurd it
+asks_drawn may books after hand later NoPlace it = absurd it
 
 -- ---- under a book's lock
 

@@ -1,5 +1,5 @@
+pub mod Batches
 pub mod Dealing
-pub mod Drawing
 pub mod Events
 pub mod Lending
 pub mod Parts

@@ -1,12 +1,11 @@
--- What is compared when the books come back from workers.
+-- What the caller compares when the books come back from workers.
 use Rattle.std.specs.Prelude.{◌≡◌, ℕ, ◌+◌, List, length, slice_get, Some}
 use Rattle.layers.specs.LayerView.{LayerView}
 use Rattle.layers.specs.BookView.{BookView}
 use Rattle.solo.specs.inside.Turns.{IsDealt, IsWorkingOn}
 use Rattle.crew.specs.declared.config.Config.{Config}
 
--- the book is the share of a place, made by the configuration for the layer's level and cap, and it is at work on the
--- layer
+-- the book is that of a share, made by the configuration for the layer's level and cap, and it is at work on the layer
 abbrev pub ComesBack : Config → LayerView → ℕ → BookView → Type 0
 ComesBack config layer place book =
     IsDealt layer.level config.limit (config.workers + 1) config.locks place book × IsWorkingOn layer book

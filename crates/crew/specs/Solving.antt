@@ -1,4 +1,4 @@
--- What solving with workers answers.
+-- Why solving with workers fails.
 use Rattle.grid.specs.Board.{Board}
 use Rattle.solo.specs.Refusals.{SolveRefused as RefusedAlone}
 use Rattle.solo.specs.declared.answer.SolveFault.{SolveFault}
@@ -6,7 +6,7 @@ use Rattle.solo.specs.declared.answer.SolveFault.TheVariants.{TooManyBoxes, OutO
 use Rattle.crew.specs.Configured.{IsWithinLimits}
 use Rattle.crew.specs.declared.config.Config.{Config}
 
--- why a level is not solved at all: the configuration is outside its limits; and else as on one thread
+-- why a level is not solved: the configuration is outside its limits, or else as on one thread
 abbrev pub SolveRefused : Config → Board → SolveFault → Type 0
 SolveRefused config board BadConfig = ¬ (IsWithinLimits config)
 SolveRefused config board TooManyBoxes = IsWithinLimits config × RefusedAlone board TooManyBoxes

@@ -29,7 +29,7 @@ IsAtPlace ledger place drawer = (drawer.ledger ≡ ledger) × (drawer.hand.place
 abbrev pub HasSeenTaken : ℕ → Hand → Type 0
 HasSeenTaken place hand = Any (λ p. p ≡ place) hand.taken
 
--- the rank is one of the layer, and the drawer has drawn it
+-- the rank is one of the layer, and the drawer drew it
 pub record HasDrawn (layer : LayerView) (ledger : LedgerView) (before : Hand) (rank : ℕ) (after : Hand) : Type 0 where
   pub within : rank < length layer.places
   pub drew : Drew ledger.len before (Some rank) after
@@ -51,8 +51,8 @@ HandEnds layer workers worker book parcel Drained = ⊥
 HandEnds layer workers worker book parcel Stopped = ⊥
 HandEnds layer workers worker book parcel NoPlace = ⊥
 
--- how a hand back ends a worker that then asks the gate: the book answered so, or the gate did not let it go on,
--- where the book was its own and nothing stood in the parcel's way
+-- how a hand back and then the gate end a worker: the book answered so, or the gate did not let it go on, after a book
+-- of its own accepted the parcel
 abbrev pub HandOverEnds : LayerView → ℕ → ℕ → BookView → ParcelView → End → Type 0
 HandOverEnds layer workers worker book parcel Stopped = IsOwn layer workers worker book × MayEnter book parcel
 HandOverEnds layer workers worker book parcel Foreign = HandEnds layer workers worker book parcel Foreign
@@ -61,7 +61,7 @@ HandOverEnds layer workers worker book parcel (Refused refusal) =
 HandOverEnds layer workers worker book parcel Drained = ⊥
 HandOverEnds layer workers worker book parcel NoPlace = ⊥
 
--- the book after a hand back that ended a worker: over, where it passed its limit, and else as it was
+-- the book after a hand back that ended a worker: over, if it would pass its limit, and else unchanged
 abbrev pub after_end : BookView → End → BookView
 after_end book (Refused refusal) = after_refusal book refusal
 after_end book Drained = book
@@ -69,7 +69,7 @@ after_end book Stopped = book
 after_end book Foreign = book
 after_end book NoPlace = book
 
--- a worker ends as stopped only with a gate that may stop it
+-- a worker ends as stopped only if the gate may stop it
 abbrev pub MayEnd : Bool → End → Type 0
 MayEnd may_stop Stopped = may_stop ≡ true
 MayEnd may_stop Drained = Unit {0}
@@ -77,8 +77,8 @@ MayEnd may_stop (Refused refusal) = Unit {0}
 MayEnd may_stop Foreign = Unit {0}
 MayEnd may_stop NoPlace = Unit {0}
 
--- what its drawer is left with: a worker that is drained has the place of its number and is spent out, and one that
--- got no place has seen that place taken
+-- the hand that a worker leaves: a drained one has the place of its number and is spent out, and one that got no place
+-- has seen that place taken
 abbrev pub EndsWith : ℕ → Hand → End → Type 0
 EndsWith worker hand Drained = (hand.place ≡ Some worker) × (hand.spent ≡ true)
 EndsWith worker hand NoPlace = HasSeenTaken worker hand
@@ -86,8 +86,8 @@ EndsWith worker hand (Refused refusal) = Unit {0}
 EndsWith worker hand Stopped = Unit {0}
 EndsWith worker hand Foreign = Unit {0}
 
--- a worker ends as refused only where a lawful book of its own did not accept a parcel of the layer, and as foreign
--- only where the book was not its own
+-- a worker ends as refused only if a lawful book of its own did not accept a parcel of the layer, and as foreign only if
+-- a lawful book was not its own
 abbrev pub WasAnswered : LayerView → ℕ → ℕ → End → Type 0
 WasAnswered layer workers worker (Refused refusal) =
     (book : BookView) × (parcel : ParcelView) × IsLawfulBook book × IsOfLayer layer parcel
@@ -99,16 +99,16 @@ WasAnswered layer workers worker Stopped = Unit {0}
 
 -- ---- events and the gate
 
--- the number of an event as the gate is told it: it counts from 1, and at the greatest number it stays
+-- the number of an event that the gate gets: it counts from 1, and the greatest number stays
 abbrev pub told : ℕ → ℕ
 told n = min n (2 ^ 64 - 1)
 
--- the gate may have let the worker go on after each of its first so many events
+-- the gate may have let the worker go on after each of its first `events` events
 abbrev pub LetsGoOn : (ℕ → Bool → Bool) → ℕ → Type 0
 LetsGoOn may_answer events = (n : ℕ) → 1 ≤ n → n ≤ events → may_answer (told n) true ≡ true
 
--- what the gate may have answered to a worker that had so many events: that it goes on, each time; but where it ended
--- as stopped, that it does not, to the last one
+-- what the gate may have answered to a worker for its events: each time that it goes on; for the last event of a
+-- stopped worker that it does not
 abbrev pub MayAnswerEach : (ℕ → Bool → Bool) → ℕ → End → Type 0
 MayAnswerEach may_answer events Stopped =
     (before : ℕ) × (events ≡ suc before) × LetsGoOn may_answer before × (may_answer (told events) false ≡ true)
@@ -117,8 +117,8 @@ MayAnswerEach may_answer events (Refused refusal) = LetsGoOn may_answer events
 MayAnswerEach may_answer events Foreign = LetsGoOn may_answer events
 MayAnswerEach may_answer events NoPlace = LetsGoOn may_answer events
 
--- how many parcels of a worker that drew so many ranks were accepted: each of them by each book, where it is drained,
--- and else no more than these
+-- the number of times that a book accepted a parcel of a worker that drew `drawn` ranks: for a drained worker each book
+-- accepted each parcel; otherwise there are at most as many
 abbrev pub WereAccepted : ℕ → ℕ → ℕ → End → Type 0
 WereAccepted books drawn accepted Drained = accepted ≡ drawn * books
 WereAccepted books drawn accepted (Refused refusal) = accepted ≤ drawn * books
@@ -126,8 +126,8 @@ WereAccepted books drawn accepted Stopped = accepted ≤ drawn * books
 WereAccepted books drawn accepted Foreign = accepted ≤ drawn * books
 WereAccepted books drawn accepted NoPlace = accepted ≤ drawn * books
 
--- a worker's events are the ranks that its hand has drawn since, and the parcels that were accepted; of each the gate
--- was told
+-- a worker's events are the ranks that its hand has drawn since, and the parcels that books accepted; the gate was
+-- called for each
 pub record AsksTheGate (may_answer : ℕ → Bool → Bool) (books : ℕ) (before after : Hand) (end : End) : Type 0 where
   pub drawn : ℕ
   pub accepted : ℕ

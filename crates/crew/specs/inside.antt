@@ -1,9 +1,9 @@
--- What keeps the books of the code: what its loops keep, and what its functions say to each other.
+-- Definitions of the code's own state: what its loops keep, and what its functions state to each other.
+pub mod Batches
 pub mod Crews
 pub mod Desks
 pub mod Ends
 pub mod Events
-pub mod Lots
 pub mod Shifts
 pub mod Stretched
 pub mod Turning

@@ -1,4 +1,4 @@
-//! Books that close the next layer side by side.
+//! Closing the next layer in several books side by side.
 ghost use Rattle.std.specs.Prelude.{◌≡◌, ◌<◌, ◌≤◌, ℕ, IfOk, Some, length, slice_get};
 ghost use Rattle.layers.specs.BookView.{BookView};
 ghost use Rattle.solo.specs.inside.Rests.{MayBeClosed, MayBeClosedEach};
@@ -16,16 +16,16 @@ use spreading::for_each_spread;
 use std::alloc::AllocError;
 use std::thread::Threads;
 
-// The least number of positions of a layer after which the books close side by side. After fewer a close takes less
-// time than the start of a thread.
+// The least number of positions of a layer after which the books close side by side. After a smaller layer a close
+// takes less time than the start of a thread.
 const SIDE_BY_SIDE: u64 = 4096;
 
 // The greatest number of books that close side by side: each takes memory to sort what it closes.
 const MOST: u8 = 4;
 
-// Does, by the caller's own number, whatever is left of the layer in each of the books, and closes the next one
-// there; until one of them is over, or comes to be, or all of them hold more positions together than the limit. No
-// book closes before that is known. They may close side by side.
+// Does what is left of the layer in each of the books, under the caller's own number, and then closes the next layer in
+// each. If one book is over, or if all books hold more positions together than the limit, it closes none. Books may
+// close side by side.
 pub(crate) fn finish_all<R: Threads + Sync, G: Gate>(
     rt: &R,
     terms: &Terms<'_, G>,
@@ -51,19 +51,19 @@ pub(crate) fn finish_all<R: Threads + Sync, G: Gate>(
     Ok(worked)
 }
 
-// Where the layer is large, closes the next one in each of the books whose ranks are all done, as many of them side
-// by side as there are workers. A book that is refused memory stays as it was.
+// If the layer is large, closes the next one in each of the books whose ranks are all done, up to `workers` of them
+// side by side. A book that runs out of memory stays unchanged.
 fn close_side_by_side<R: Threads + Sync>(rt: &R, books: &mut [Book], layer: &Layer, workers: u8)
     ensures { MayBeClosedEach books.old books.new }
 {
     if books.len() < 2 || layer.len() < SIDE_BY_SIDE {
         return;
     }
-    close_in_turns(rt, books, workers.clamp(1, MOST) as usize);
+    close_in_rounds(rt, books, workers.clamp(1, MOST) as usize);
 }
 
-// Closes the next layer in each of the books whose ranks are all done, in so many of them side by side.
-fn close_in_turns<R: Threads + Sync>(rt: &R, books: &mut [Book], many: usize)
+// Closes the next layer in each of the books whose ranks are all done, `many` of them side by side.
+fn close_in_rounds<R: Threads + Sync>(rt: &R, books: &mut [Book], many: usize)
     requires { 1 ≤ many }
     ensures { MayBeClosedEach books.old books.new }
 {
@@ -72,11 +72,10 @@ fn close_in_turns<R: Threads + Sync>(rt: &R, books: &mut [Book], many: usize)
     }
     let (next, rest) = books.split_at_mut(many.min(books.len()));
     close_each(rt, next);
-    close_in_turns(rt, rest, many);
+    close_in_rounds(rt, rest, many);
 }
 
-// Closes the next layer in each of the books whose ranks are all done, each in a thread of its own where one can be
-// started.
+// Closes the next layer in each of the books whose ranks are all done, each in a thread of its own if one can start.
 fn close_each<R: Threads + Sync>(rt: &R, books: &mut [Book])
     ensures { MayBeClosedEach books.old books.new }
 {

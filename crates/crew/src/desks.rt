@@ -3,30 +3,28 @@ ghost use Rattle.std.specs.Prelude.{◌≡◌, ℕ, ◌+◌, ◌≤◌, Some, le
 ghost use Rattle.claims.specs.Hands.{newcomer};
 ghost use Rattle.crew.specs.inside.Desks.{AreRoomy, HaveDrawers};
 
+use crate::batch::most_of_one;
 use crate::gate::Gate;
-use crate::held::Within;
-use crate::lots::Lots;
 use crate::shift::Shift;
-use crate::terms::Terms;
 use crate::workers::work_all;
 use area::Scratch;
 use claims::{Drawer, Ledger, PLACES};
 use grid::Level;
-use layers::{Book, Layer, Problem};
+use layers::{Parcel, Problem};
 use std::alloc::{AllocError, Global};
 use std::marker::Model;
-use std::sync::atomic::AtomicU64;
-use std::sync::{Mutex, Wait};
+use std::sync::Wait;
 use std::thread::Threads;
 
-/// What a worker works with: a scratch and lots of ranks, which it keeps from layer to layer, and a drawer of the
-/// ledger of the layer at work.
+/// The memory of a worker: a scratch and parcels, which it keeps from layer to layer, and a drawer of the ledger of the
+/// current layer.
 #[derive(Drop)]
 pub(crate) struct Desk<'a> {
     pub(crate) scratch: Scratch,
-    pub(crate) lots: Lots<'a>,
+    // with capacity for the greatest batch
+    pub(crate) parcels: Vec<Parcel<'a>>,
     pub(crate) drawer: Option<Drawer>,
-    // keeps what the next worker writes off the lines of memory that this one reads
+    // keeps what the next worker writes off the cache lines that this one reads
     apart: [u64; 16],
 }
 
@@ -35,17 +33,6 @@ pub(crate) struct Desk<'a> {
 pub(crate) struct Desks<'a> {
     problem: &'a Problem,
     desks: Vec<Desk<'a>>,
-}
-
-/// What the workers of a layer borrow: the layer, its books, the ledger of its ranks, and the number of positions
-/// that the books hold together and may hold at most.
-#[derive(Drop)]
-pub(crate) struct Loan<'s> {
-    pub(crate) layer: &'s Layer,
-    pub(crate) books: &'s [Mutex<Book>],
-    pub(crate) ledger: &'s Ledger,
-    pub(crate) positions: u64,
-    pub(crate) limit: u32,
 }
 
 impl<'a> Model for Desks<'a> {
@@ -63,69 +50,56 @@ impl<'a> Model for Desks<'a> {
 }
 
 impl<'a> Desks<'a> {
-    /// Desks for so many workers over so many books, or for as many as memory can be had for.
-    pub(crate) fn of(alloc: Global, problem: &'a Problem, workers: u8, books: u8) -> Desks<'a>
+    /// Desks for `workers` workers, or for as many as there is memory for.
+    pub(crate) fn of(alloc: Global, problem: &'a Problem, workers: u8) -> Desks<'a>
         requires { workers ≤ PLACES }
         ensures { result ≡ problem.now }
     {
-        let desks = desks_of(alloc, problem.level(), workers, books);
+        let desks = desks_of(alloc, problem.level(), workers);
         Desks { problem, desks }
     }
 
-    /// Lends the layer with its books and its ledger to the workers at these desks, and waits until all of them have
-    /// ended, each at the latest soon after the books hold more than the limit.
+    /// The problem.
+    pub(crate) fn problem(&self) -> &'a Problem
+        ensures { result.now ≡ self.now }
+    {
+        self.problem
+    }
+
+    /// Lets the workers at these desks work on the shift, and waits until all of them have ended.
     pub(crate) fn work<R: Threads + Wait + Sync, G: Gate + Sync>(
         &mut self,
         rt: &R,
-        terms: &Terms<'_, G>,
-        loan: &Loan<'_>,
+        shift: &Shift<'_, 'a, G>,
         drawer: Drawer,
     )
-        requires problem { self.old ≡ loan.now.layer.now.level }
-        requires ranks { loan.now.ledger.now.len ≤ length loan.now.layer.now.places }
-        requires drawer { drawer ≡ newcomer loan.now.ledger.now }
+        requires problem { self.old ≡ shift.now.layer.level }
+        requires drawer { drawer ≡ newcomer shift.now.ledger }
         ensures { self.new ≡ self.old }
     {
-        let held = AtomicU64::new(loan.positions);
-        let within = Within {
-            gate: terms.gate,
-            held: &held,
-            limit: loan.limit,
-        };
-        let shift = Shift {
-            problem: self.problem,
-            layer: loan.layer,
-            books: loan.books,
-            ledger: loan.ledger,
-            gate: &within,
-            workers: terms.config.workers.saturating_add(1),
-            held: &held,
-        };
-        work_first(rt, self.desks.as_mut_slice(), &shift, drawer);
+        work_first(rt, self.desks.as_mut_slice(), shift, drawer);
     }
 }
 
-// Desks for so many workers over so many books, or for as many as memory can be had for.
-fn desks_of<'a>(alloc: Global, level: &Level, workers: u8, books: u8) -> Vec<Desk<'a>>
+// Desks for `workers` workers, or for as many as there is memory for.
+fn desks_of<'a>(alloc: Global, level: &Level, workers: u8) -> Vec<Desk<'a>>
     ensures many { length result.items ≤ workers }
     ensures room { AreRoomy (length level.now.cells) result.items }
 {
     let mut desks = Vec::new(alloc);
     for _ in 0..workers {
-        if append_desk(alloc, level, workers, books, &mut desks).is_err() {
+        if append_desk(alloc, level, workers, &mut desks).is_err() {
             return desks;
         }
     }
     desks
 }
 
-// Appends a desk for one of so many workers over so many books. The only error is that memory was refused, which
-// leaves the desks as they were.
+// Appends a desk for one of `workers` workers. Fails only if out of memory, and then leaves the desks unchanged.
 fn append_desk<'a>(
     alloc: Global,
     level: &Level,
     workers: u8,
-    books: u8,
     desks: &mut Vec<Desk<'a>>,
 ) -> Result<(), AllocError>
     ensures many { length desks.new.items ≤ length desks.old.items + 1 }
@@ -133,18 +107,18 @@ fn append_desk<'a>(
         AreRoomy (length level.now.cells) desks.new.items }
 {
     let scratch = Scratch::new(alloc, level)?;
-    let lots = Lots::of_one_of(alloc, books as usize, workers)?;
+    let parcels = Vec::with_capacity(alloc, most_of_one(workers))?;
     desks.push(Desk {
         scratch,
-        lots,
+        parcels,
         drawer: None,
         apart: [0; 16],
     })?;
     Ok(())
 }
 
-// Gives a drawer to as many of the workers at these desks as the layer has ranks, lets these work, and waits until
-// all of them have ended. One more would find no rank, and its thread would be started for nothing.
+// Gives drawers to at most as many workers as the layer has ranks, lets these work, and waits until all of them have
+// ended. One more would draw no rank, and its thread would start for nothing.
 fn work_first<'a, R: Threads + Wait + Sync, G: Gate + Sync>(
     rt: &R,
     desks: &mut [Desk<'a>],
@@ -162,7 +136,7 @@ fn work_first<'a, R: Threads + Wait + Sync, G: Gate + Sync>(
     work_all(rt, first, shift);
 }
 
-// How many of so many workers find a rank where there are so many.
+// The number of workers that can each draw one of the ranks.
 fn most_at_work(workers: usize, ranks: u64) -> usize
     ensures { result ≤ workers }
 {

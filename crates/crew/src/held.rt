@@ -1,15 +1,14 @@
-//! The shared number of positions of all books. No promise rests on it: it only ends the workers, and the caller then
-//! counts.
+//! The shared number of positions of all books. No contract depends on it: it only ends the workers, and the caller
+//! then counts.
 ghost use Rattle.std.specs.Prelude.{true};
 
 use crate::gate::Gate;
 use std::sync::atomic::{AtomicU64, Ordering};
 
-// The number is read after one event in this many, which is about the number of events of a lot.
+// A worker reads the number after one in this many events, which is about the number of events of a batch.
 const EVENTS: u64 = 16;
 
-/// A gate that stops a worker where another gate does, and once the books of a layer hold more positions together than
-/// the limit.
+/// A gate that stops a worker if another gate does, or if the books hold more positions together than the limit.
 #[derive(Drop)]
 pub(crate) struct Within<'s, G: Gate> {
     pub(crate) gate: &'s G,
@@ -28,7 +27,7 @@ impl<'s, G: Gate> Gate for Within<'s, G> {
     }
 }
 
-/// Tells the other workers that a book, which held so many positions before, holds so many.
+/// Adds the growth of a book, from `before` to `after` positions, to the shared number.
 pub(crate) fn tell_growth(held: &AtomicU64, before: u64, after: u64) {
     if before < after {
         held.fetch_add(after - before, Ordering::Relaxed);

@@ -17,16 +17,16 @@ const LEAST: usize = 4096;
 // The greatest number of stretches that are merged side by side: more threads take more memory.
 const MOST: u8 = 8;
 
-// A layer is merged in so many turns at most, of so many positions at least, so that the stretches of a turn, which
-// stand beside those that were joined before, are few beside the whole layer.
-const TURNS: usize = 16;
+// The greatest number of rounds in which a layer is merged. The stretches of one round take memory beside those that
+// were joined before, so they are few beside the whole layer.
+const ROUNDS: usize = 16;
 
-const LEAST_OF_A_TURN: usize = 65536;
+// The least number of positions of a round.
+const LEAST_OF_A_ROUND: usize = 65536;
 
-// The last layer that the books have closed, which are all the shares in order. Where it is large it is merged in as
-// many stretches as there are workers, each in a thread of its own where one can be started, and a very large one in
-// several turns. Its squares take the memory that those of the layer before took, as far as that goes. The only error
-// is that memory was refused.
+// The last layer that the books have closed, which are all the shares in order. A large layer is merged in as many
+// stretches as there are workers, each in a thread of its own if one can start, and a very large one in several rounds.
+// Its squares take the memory of those of the layer before, as far as it reaches. Fails only if out of memory.
 pub(crate) fn join_layer<R: Threads + Sync>(
     rt: &R,
     alloc: Global,
@@ -41,8 +41,8 @@ pub(crate) fn join_layer<R: Threads + Sync>(
         return last_layer(alloc, books, room);
     }
     let many = workers.min(MOST) as usize;
-    let turns = Stretch::parts(books, TURNS, LEAST_OF_A_TURN).max(1);
-    let most = turns.saturating_mul(many);
+    let rounds = Stretch::parts(books, ROUNDS, LEAST_OF_A_ROUND).max(1);
+    let most = rounds.saturating_mul(many);
     let Ok(mut stretches) = Stretch::all(alloc, books, most, LEAST, room) else {
         return last_layer(alloc, books, Vec::new(alloc));
     };
@@ -53,7 +53,7 @@ pub(crate) fn join_layer<R: Threads + Sync>(
     join_side_by_side(rt, alloc, books, stretches, many)
 }
 
-// The same, of stretches that are merged first, so many side by side.
+// The same from stretches, which are merged first, `many` of them side by side.
 fn join_side_by_side<R: Threads + Sync>(
     rt: &R,
     alloc: Global,
@@ -70,7 +70,7 @@ fn join_side_by_side<R: Threads + Sync>(
     merge_each(rt, alloc, books, first);
     let (whole, others) = first.split_at_mut(1);
     gather(books, whole, others);
-    append_in_turns(rt, alloc, books, whole, rest, many);
+    append_in_rounds(rt, alloc, books, whole, rest, many);
     match Layer::join_stretches(alloc, books, whole) {
         Ok(layer) => Ok(layer),
         Err(JoinFault::NotWhole) => unreachable!(),
@@ -78,8 +78,8 @@ fn join_side_by_side<R: Threads + Sync>(
     }
 }
 
-// Merges stretches, so many side by side, and appends these to the whole before the next ones are merged.
-fn append_in_turns<R: Threads + Sync>(
+// Merges stretches, `many` of them side by side, and appends these to the whole before it merges the next ones.
+fn append_in_rounds<R: Threads + Sync>(
     rt: &R,
     alloc: Global,
     books: &[Book],
@@ -98,10 +98,10 @@ fn append_in_turns<R: Threads + Sync>(
     let (next, rest) = stretches.split_at_mut(many.min(stretches.len()));
     merge_each(rt, alloc, books, next);
     gather(books, whole, next);
-    append_in_turns(rt, alloc, books, whole, rest, many);
+    append_in_rounds(rt, alloc, books, whole, rest, many);
 }
 
-// Appends to the one stretch that there is what others hold.
+// Appends other stretches to the first of `whole`.
 fn gather(books: &[Book], whole: &mut [Stretch], others: &mut [Stretch])
     requires one { 0 < length whole.old }
     requires whole { AreStretchesOf books.now whole.old }
@@ -111,7 +111,7 @@ fn gather(books: &[Book], whole: &mut [Stretch], others: &mut [Stretch])
     whole[0].append_all(books, others);
 }
 
-// Merges each of the stretches, in a thread of its own where one can be started.
+// Merges each of the stretches, in a thread of its own if one can start.
 fn merge_each<R: Threads + Sync>(rt: &R, alloc: Global, books: &[Book], stretches: &mut [Stretch])
     ensures { AreStretchesOf books.now stretches.new }
 {

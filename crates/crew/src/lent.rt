@@ -6,24 +6,27 @@ ghost use Rattle.crew.specs.Configured.{IsWithinLimits};
 ghost use Rattle.crew.specs.Lending.{ComesBack, ComeBack};
 
 use crate::config::Config;
-use crate::desks::{Desks, Loan};
+use crate::desks::Desks;
 use crate::gate::Gate;
+use crate::held::Within;
+use crate::shift::Shift;
 use crate::terms::Terms;
 use claims::{Drawer, Ledger};
 use layers::{Book, Layer};
 use std::alloc::{AllocError, Global};
+use std::sync::atomic::AtomicU64;
 use std::sync::{Mutex, Wait};
 use std::thread::Threads;
 
-// Lends the books, which hold so many positions together, to the workers at their desks for a layer, and gives what
-// is behind the locks once all of them have ended, each at the latest soon after the books hold more than the limit.
-// The only error is that memory was refused.
-pub(crate) fn lend<R: Threads + Wait + Sync, G: Gate + Sync>(
+// Lets the workers at the desks work on a layer with the books, which hold `positions` positions together, and returns
+// what is behind the locks once all workers have ended, each soon after the books hold more than the limit. Fails only
+// if out of memory.
+pub(crate) fn lend<'a, R: Threads + Wait + Sync, G: Gate + Sync>(
     rt: &R,
     terms: &Terms<'_, G>,
     books: Vec<Book>,
     layer: &Layer,
-    desks: &mut Desks<'_>,
+    desks: &mut Desks<'a>,
     positions: u64,
 ) -> Result<Vec<Book>, AllocError>
     requires few { length layer.now.places ≤ terms.now.config.limit }
@@ -34,19 +37,26 @@ pub(crate) fn lend<R: Threads + Wait + Sync, G: Gate + Sync>(
     let limit = terms.config.limit;
     let (ledger, drawer) = ledger_of(alloc, layer, limit)?;
     let locks = lock_each(alloc, books)?;
-    let loan = Loan {
+    let held = AtomicU64::new(positions);
+    let gate = Within {
+        gate: terms.gate,
+        held: &held,
+        limit,
+    };
+    let shift = Shift {
+        problem: desks.problem(),
         layer,
         books: locks.as_slice(),
         ledger: &ledger,
-        positions,
-        limit,
+        gate: &gate,
+        workers: terms.config.workers.saturating_add(1),
+        held: &held,
     };
-    desks.work(rt, terms, &loan, drawer);
+    desks.work(rt, &shift, drawer);
     unlock_each(alloc, locks)
 }
 
-// A ledger of the layer's ranks, of which there are no more than a limit, and a drawer without a place. The only
-// error is that memory was refused.
+// A ledger of the layer's ranks, which are at most `_limit`, and a drawer without a place. Fails only if out of memory.
 fn ledger_of(alloc: Global, layer: &Layer, _limit: u32) -> Result<(Ledger, Drawer), AllocError>
     requires { length layer.now.places ≤ _limit }
     ensures { IfOk result (λ made. (made.0.len ≡ length layer.now.places) × (made.1 ≡ newcomer made.0)) }
@@ -54,7 +64,7 @@ fn ledger_of(alloc: Global, layer: &Layer, _limit: u32) -> Result<(Ledger, Drawe
     Ledger::new(alloc, layer.len() as u32)
 }
 
-// Each of the books behind a lock of its own, in order. The only error is that memory was refused.
+// Each of the books behind a lock of its own, in order. Fails only if out of memory.
 fn lock_each(alloc: Global, books: Vec<Book>) -> Result<Vec<Mutex<Book>>, AllocError> {
     let mut locks = Vec::with_capacity(alloc, books.len())?;
     for book in books {
@@ -63,7 +73,7 @@ fn lock_each(alloc: Global, books: Vec<Book>) -> Result<Vec<Mutex<Book>>, AllocE
     Ok(locks)
 }
 
-// What is behind each of the locks, in order. The only error is that memory was refused.
+// The book behind each of the locks, in order. Fails only if out of memory.
 fn unlock_each(alloc: Global, locks: Vec<Mutex<Book>>) -> Result<Vec<Book>, AllocError> {
     let mut books = Vec::with_capacity(alloc, locks.len())?;
     for lock in locks {
@@ -72,8 +82,8 @@ fn unlock_each(alloc: Global, locks: Vec<Mutex<Book>>) -> Result<Vec<Book>, Allo
     Ok(books)
 }
 
-// Whether these may be the books that were lent: they are all the shares in order, made by the configuration for the
-// layer's level, and each is at work on the layer.
+// Whether these may be the books that were lent: all shares in order, made by the configuration for the layer's level,
+// and each at work on the layer.
 pub(crate) fn come_back(books: &[Book], config: Config, layer: &Layer) -> bool
     requires { IsWithinLimits config }
     ensures { MatchBool result (ComeBack config layer.now books.now) (¬ (ComeBack config layer.now books.now)) }
@@ -89,7 +99,7 @@ pub(crate) fn come_back(books: &[Book], config: Config, layer: &Layer) -> bool
     true
 }
 
-// Whether a book may be the one that was lent in a place.
+// Whether a book may be the one that was lent at an index.
 fn comes_back(book: &Book, place: usize, config: Config, layer: &Layer) -> bool
     requires { IsWithinLimits config }
     ensures { IsTrue result ↔ ComesBack config layer.now place book.now }

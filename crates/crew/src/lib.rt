@@ -20,6 +20,7 @@
 //! ```
 #![tactic(auto)]
 
+mod batch;
 mod closing;
 mod config;
 mod desks;
@@ -30,7 +31,6 @@ mod held;
 mod joining;
 mod lent;
 mod locking;
-mod lots;
 mod search;
 mod shift;
 mod terms;

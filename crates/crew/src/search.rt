@@ -56,8 +56,8 @@ pub fn solve<R: Threads + Wait + Sync, G: Gate + Sync>(
     }
 }
 
-// The answer that the layers of a level give; `None` where other books came back than were lent. The only error is that
-// memory was refused.
+// The answer that the layers of a level give. `None` if other books came back than those lent. Fails only if out of
+// memory.
 fn search<R: Threads + Wait + Sync, G: Gate + Sync>(
     rt: &R,
     alloc: Global,
@@ -75,7 +75,7 @@ fn search<R: Threads + Wait + Sync, G: Gate + Sync>(
     search_by(rt, alloc, &problem, config, gate)
 }
 
-// The same of a problem.
+// The same for a problem.
 fn search_by<R: Threads + Wait + Sync, G: Gate + Sync>(
     rt: &R,
     alloc: Global,
@@ -88,13 +88,13 @@ fn search_by<R: Threads + Wait + Sync, G: Gate + Sync>(
     ensures { IfOk result (λ found. IfSome found (λ answer. IsAnswer (arc_value problem.now) config.limit answer)) }
 {
     let mut scratch = Scratch::new(alloc, problem.level())?;
-    // the books are made for one worker more, whose number is the caller's own
+    // the caller hands back under a number of its own, so the books are made for one more worker
     let dealing = Dealing {
         workers: config.workers + 1,
         shares: config.locks,
     };
     let books = new_books(alloc, problem, config.limit, dealing, &mut scratch)?;
-    let desks = Desks::of(alloc, problem, config.workers, config.locks);
+    let desks = Desks::of(alloc, problem, config.workers);
     let mut crew = Crew { scratch, desks };
     let terms = Terms {
         alloc,
@@ -105,8 +105,8 @@ fn search_by<R: Threads + Wait + Sync, G: Gate + Sync>(
     all_turns(rt, &terms, books, &mut crew)
 }
 
-// Looks at layer after layer until there is an answer; `None` where other books came back than were lent. The only
-// error is that memory was refused.
+// Examines layer after layer until there is an answer. `None` if other books came back than those lent. Fails only if
+// out of memory.
 fn all_turns<R: Threads + Wait + Sync, G: Gate + Sync>(
     rt: &R,
     terms: &Terms<'_, G>,

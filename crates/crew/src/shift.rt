@@ -7,8 +7,8 @@ use std::sync::atomic::AtomicU64;
 use std::sync::{Mutex, Wait};
 
 /// The data that the workers of a layer share: the layer and its problem, the books, each behind a lock of its own, the
-/// ledger of the layer's ranks, the gate, the number of workers for which the books are made, and the number of their
-/// positions. Contracts see the layer, the ledger, the numbers of books and of their workers, and the gate.
+/// ledger of the layer's ranks, the gate, and the number of workers for which the books are made. Contracts see the
+/// layer, the ledger, the number of books, the number of workers, and the gate.
 #[derive(Drop)]
 pub(crate) struct Shift<'s, 'a, G: Gate> {
     pub(crate) problem: &'a Problem,
@@ -17,7 +17,7 @@ pub(crate) struct Shift<'s, 'a, G: Gate> {
     pub(crate) ledger: &'s Ledger,
     pub(crate) gate: &'s G,
     pub(crate) workers: u8,
-    // how many positions the books hold together, as the workers tell
+    // the number of positions of all books, as the workers add to it
     pub(crate) held: &'s AtomicU64,
 }
 
@@ -39,7 +39,7 @@ impl<'s, 'a, G: Gate> Model for Shift<'s, 'a, G> {
     ghost invariant = { λ a. AreOfOneLayer a.layer.now a.problem.now a.ledger.now };
 }
 
-/// Where a worker works: on which shift, and under which number. It may wait there.
+/// A worker of a shift: its number, and the handle with which it may block.
 #[derive(Drop)]
 pub(crate) struct Post<'r, 'p, 's, 'a, R: Wait, G: Gate> {
     pub(crate) rt: &'r R,

@@ -1,4 +1,4 @@
-//! The settings of a search, the layers that it has looked at, and its workers.
+//! The settings of a search, the layers that it has examined, and its workers.
 use crate::config::Config;
 use crate::desks::Desks;
 use crate::gate::Gate;
@@ -16,8 +16,8 @@ pub(crate) struct Terms<'s, G: Gate> {
     pub(crate) gate: &'s G,
 }
 
-/// The layers that were looked at: the parents of the positions of each, how many positions they have together, and
-/// the memory that the last one's squares took.
+/// The examined layers: the parents of each one's positions, the number of their positions together, and the memory of
+/// the last one's squares.
 #[derive(Drop)]
 pub(crate) struct History {
     pub(crate) trail: Vec<Parents>,
@@ -25,7 +25,7 @@ pub(crate) struct History {
     pub(crate) room: Vec<Square>,
 }
 
-/// Who works on the layers of a level: the caller in its scratch, and the workers at their desks.
+/// The memory of the caller and of its workers.
 #[derive(Drop)]
 pub(crate) struct Crew<'a> {
     pub(crate) scratch: Scratch,

@@ -1,4 +1,4 @@
-//! One turn of a search: its look at the next layer, and the workers' work on it.
+//! One iteration of a search: the caller examines a layer, and the workers make the next one.
 ghost use Rattle.std.specs.Prelude.{◌≡◌, ◌<◌, ◌≤◌, ℕ, IfOk, IfSome, IsSome, None, Ok, Some, length, slice_get};
 ghost use Rattle.layers.specs.BookView.{BookView};
 ghost use Rattle.layers.specs.Books.{MayBegin};
@@ -21,19 +21,19 @@ use std::mem::swap;
 use std::sync::Wait;
 use std::thread::Threads;
 
-// How a turn ended.
+// How an iteration ended.
 #[derive(Drop)]
 pub(crate) enum Turned {
     // The next layer is closed in these books.
     Onward(Vec<Book>),
     // There is an answer.
     Found(Answer),
-    // Other books came back than were lent.
+    // Other books came back than those lent.
     Foreign,
 }
 
-// Looks at the last layer that the books closed, and lets the workers work through it where it gives no answer. The
-// only error is that memory was refused.
+// Examines the last layer that the books closed, and lets the workers work through it if it gives no answer. Fails only
+// if out of memory.
 pub(crate) fn turn<R: Threads + Wait + Sync, G: Gate + Sync>(
     rt: &R,
     terms: &Terms<'_, G>,
@@ -68,8 +68,7 @@ pub(crate) fn turn<R: Threads + Wait + Sync, G: Gate + Sync>(
     go_on(rt, terms, books, layer, history, crew)
 }
 
-// Lets the workers work through the last layer that the books closed, which was looked at. The only error is that
-// memory was refused.
+// Lets the workers work through the examined layer. Fails only if out of memory.
 fn go_on<R: Threads + Wait + Sync, G: Gate + Sync>(
     rt: &R,
     terms: &Terms<'_, G>,
@@ -103,8 +102,8 @@ fn go_on<R: Threads + Wait + Sync, G: Gate + Sync>(
     }
 }
 
-// Lends the books, which have closed so many positions together, to the workers, and does book by book what they left
-// of the last closed layer; `None` where other books came back. The only error is that memory was refused.
+// Lends the books, which have closed `positions` positions together, to the workers, and then does what they left of
+// the layer, book by book. `None` if other books came back. Fails only if out of memory.
 fn work_through<R: Threads + Wait + Sync, G: Gate + Sync>(
     rt: &R,
     terms: &Terms<'_, G>,
@@ -125,8 +124,8 @@ fn work_through<R: Threads + Wait + Sync, G: Gate + Sync>(
     finish_lent(rt, terms, back, layer, &mut crew.scratch)
 }
 
-// Does book by book what is left of a layer in the books that came back; `None` exactly where they are others than
-// were lent. The only error is that memory was refused, and it never comes where they are others.
+// Does what is left of a layer in the books that came back, book by book. `None` exactly if they are other books than
+// those lent. Fails only if out of memory, and never with other books.
 fn finish_lent<R: Threads + Sync, G: Gate>(
     rt: &R,
     terms: &Terms<'_, G>,

@@ -1,30 +1,31 @@
-ghost use Rattle.std.specs.Prelude.{◌≡◌, ℕ, ◌<◌, ◌≤◌, [], ◌∷◌, ◌++◌, IsNone, true, IfErr, IfOk, OnErr, OnOk, length};
+ghost use Rattle.std.specs.Prelude.{◌≡◌, ℕ, ◌<◌, ◌≤◌, [], ◌∷◌, ◌++◌, IsNone, true, IfErr, IfOk, OnErr, OnOk};
+ghost use Rattle.std.specs.Prelude.{length, take};
 ghost use Rattle.claims.specs.declared.views.Hand.{Hand};
 ghost use Rattle.crew.specs.Work.{IsAtPlace, HasDrawn, DrawEnds, MayEnd, EndsWith, WasAnswered, AsksTheGate};
 ghost use Rattle.crew.specs.declared.end.End.TheVariants.{Stopped};
+ghost use Rattle.crew.specs.inside.Batches.{AreOfLayer};
 ghost use Rattle.crew.specs.inside.Ends.{HasEnded, IsReady};
-ghost use Rattle.crew.specs.inside.Events.{IsTold, EndsAtOnce, DrawsAtLast};
-ghost use Rattle.crew.specs.inside.Lots.{IfDrained};
+ghost use Rattle.crew.specs.inside.Events.{IsTold, EndsAtOnce, DrawsAtLast, HasLeft};
 ghost use Rattle.crew.specs.inside.Shifts.{answers_to};
 ghost use Rattle.layers.specs.LayerView.{LayerView};
 
+use crate::batch::{append_parcels, draw_batch, expand_each};
 use crate::end::End;
 use crate::gate::Gate;
-use crate::handing::{hand_back, hand_lot};
-use crate::lots::{Lot, Lots};
+use crate::handing::hand_batch;
 use crate::shift::{Post, Shift};
 use area::Scratch;
 use claims::{Drawer, Ledger, PLACES};
-use layers::{Book, Layer, expand_over, expand_over_into};
-use std::mem::swap;
+use layers::{Book, Layer, Parcel, expand_over};
+use std::slice;
 use std::sync::atomic::AtomicU64;
 use std::sync::{Mutex, Wait};
 
-/// Works on a layer as one worker: draws a batch of ranks, expands each of them without a lock, and hands the parcels
-/// back to each of the books in order, each under the lock of that book alone. A batch is one rank or a few, fewer in a
-/// small layer and toward the end of a large one. While another worker holds a book, it enters the pending successors
-/// of the book of its own number, and draws on the next batch. The worker's place in the ledger is its number. After
-/// each draw that gives a rank, and each parcel that a book accepted, it calls the gate without a lock.
+/// Works on a layer as one worker: draws a rank, expands it without a lock, and hands the parcel back to each of the
+/// books in order, each under the lock of that book alone. The workers of [`solve`](crate::solve) do the same with
+/// batches of ranks. While another worker holds a book, this one enters the pending successors of the book of its own
+/// number. The worker's place in the ledger is its number. After each draw that gives a rank, and each parcel that a
+/// book accepted, it calls the gate without a lock.
 ///
 /// Each of the books is made for `workers` workers. Any book may be behind a lock, so under the lock the worker
 /// compares level, layer and number of workers. It ends with [`End::Stopped`] only if the gate may stop a worker,
@@ -90,19 +91,17 @@ fn work_on<R: Wait, G: Gate>(
     ensures size { scratch.new.size ≡ scratch.old.size }
 {
     let post = Post { rt, shift, worker };
-    match Lots::of(scratch.allocator(), shift.books.len()) {
-        Ok(mut lots) => work_at(&post, drawer, scratch, &mut lots),
-        Err(_) => work_by_ones(&post, drawer, scratch),
-    }
+    let mut parcels = Vec::new(scratch.allocator());
+    work_at(&post, drawer, scratch, &mut parcels)
 }
 
-// Works on a layer as [`work`] does, with lots that are kept from layer to layer. They grow to the lots of the layer;
-// where that is refused they are as small as they were.
+// Works on a layer as [`work`] does, by batches of at most as many ranks as there is capacity for parcels. The parcels
+// are kept from layer to layer.
 pub(crate) fn work_at<'a, R: Wait, G: Gate>(
     post: &Post<'_, '_, '_, 'a, R, G>,
     drawer: &mut Drawer,
     scratch: &mut Scratch,
-    lots: &mut Lots<'a>,
+    parcels: &mut Vec<Parcel<'a>>,
 ) -> End
     requires room { scratch.old.size ≡ length post.now.shift.now.layer.level.board.cells }
     requires drawer { (drawer.old.ledger ≡ post.now.shift.now.ledger) × IsNone drawer.old.hand.place }
@@ -118,39 +117,15 @@ pub(crate) fn work_at<'a, R: Wait, G: Gate>(
     if !shift.ledger.enrol(drawer, post.worker) {
         return End::NoPlace;
     }
-    lots.have_room(shift.layer.len());
-    lots.next.clear();
-    by_lots(post, drawer, scratch, &mut lots.ready, &mut lots.next)
+    work_enrolled(post, drawer, scratch, parcels)
 }
 
-// Works on a layer as [`work`] does, without memory for lots: rank by rank.
-fn work_by_ones<R: Wait, G: Gate>(
-    post: &Post<'_, '_, '_, '_, R, G>,
+// The same once the drawer has its place. Without capacity for parcels the worker makes one on the stack.
+fn work_enrolled<'a, R: Wait, G: Gate>(
+    post: &Post<'_, '_, '_, 'a, R, G>,
     drawer: &mut Drawer,
     scratch: &mut Scratch,
-) -> End
-    requires room { scratch.old.size ≡ length post.now.shift.now.layer.level.board.cells }
-    requires drawer { (drawer.old.ledger ≡ post.now.shift.now.ledger) × IsNone drawer.old.hand.place }
-    requires place { post.now.worker < PLACES }
-    ensures ends { HasEnded G.may_stop post.now.shift.now.layer post.now.shift.now.workers post.now.worker
-        drawer.new.hand result }
-    ensures gate { AsksTheGate (answers_to G.may_answer post.now.shift.now post.now.worker) post.now.shift.now.books
-        drawer.old.hand drawer.new.hand result }
-    ensures ledger { drawer.new.ledger ≡ post.now.shift.now.ledger }
-    ensures size { scratch.new.size ≡ scratch.old.size }
-{
-    let shift = post.shift;
-    if !shift.ledger.enrol(drawer, post.worker) {
-        return End::NoPlace;
-    }
-    by_ones(post, drawer, scratch)
-}
-
-// Draws rank after rank, and hands the parcel of each back before it draws the next.
-fn by_ones<R: Wait, G: Gate>(
-    post: &Post<'_, '_, '_, '_, R, G>,
-    drawer: &mut Drawer,
-    scratch: &mut Scratch,
+    parcels: &mut Vec<Parcel<'a>>,
 ) -> End
     requires ready { IsReady post.now.shift.now post.now.worker scratch.old drawer.old }
     ensures ends { HasEnded G.may_stop post.now.shift.now.layer post.now.shift.now.workers post.now.worker
@@ -161,59 +136,52 @@ fn by_ones<R: Wait, G: Gate>(
     ensures size { scratch.new.size ≡ scratch.old.size }
 {
     let shift = post.shift;
-    let layer = shift.layer;
-    let problem = shift.problem;
     let mut nth = 0;
     let rank = match draw(post, drawer, &mut nth) {
         Ok(rank) => rank,
         Err(end) => return end,
     };
-    let mut parcel = expand_over(problem, layer, rank, scratch);
-    for _ in post.rt.forever() {
-        if let Err(end) = hand_back(post, &parcel, &mut nth) {
-            return end;
-        }
-        match draw(post, drawer, &mut nth) {
-            Ok(rank) => expand_over_into(problem, layer, rank, scratch, &mut parcel),
-            Err(end) => return end,
-        }
+    append_parcels(shift, rank, scratch, parcels);
+    if parcels.is_empty() {
+        let mut own = [expand_over(shift.problem, shift.layer, rank, scratch)];
+        return by_batches(post, drawer, scratch, &mut nth, &mut own);
     }
-    unreachable!()
+    let parcels = parcels.as_mut_slice();
+    expand_each(shift, slice::from_ref(&rank), scratch, parcels);
+    by_batches(post, drawer, scratch, &mut nth, parcels)
 }
 
-// Draws lot after lot, and hands the parcels of each back. Where a book is held by another worker meanwhile, the next
-// lot is drawn on.
-fn by_lots<'a, R: Wait, G: Gate>(
+// Hands back the first parcel, and then draws batch after batch and hands back the parcels of each.
+fn by_batches<'a, R: Wait, G: Gate>(
     post: &Post<'_, '_, '_, 'a, R, G>,
     drawer: &mut Drawer,
     scratch: &mut Scratch,
-    ready: &mut Lot<'a>,
-    next: &mut Lot<'a>,
+    nth: &mut u64,
+    parcels: &mut [Parcel<'a>],
 ) -> End
     requires ready { IsReady post.now.shift.now post.now.worker scratch.old drawer.old }
-    requires lot { next.old ≡ [] }
+    requires some { 0 < length parcels.old }
+    requires first { AreOfLayer post.now.shift.now.layer (take 1 parcels.old) }
     ensures ends { HasEnded G.may_stop post.now.shift.now.layer post.now.shift.now.workers post.now.worker
         drawer.new.hand result }
-    ensures gate { AsksTheGate (answers_to G.may_answer post.now.shift.now post.now.worker) post.now.shift.now.books
-        drawer.old.hand drawer.new.hand result }
+    ensures gate { (hand : Hand) → HasLeft (answers_to G.may_answer post.now.shift.now post.now.worker)
+        post.now.shift.now.books 1 hand drawer.old.hand nth.old →
+        AsksTheGate (answers_to G.may_answer post.now.shift.now post.now.worker) post.now.shift.now.books hand
+        drawer.new.hand result }
     ensures ledger { drawer.new.ledger ≡ post.now.shift.now.ledger }
     ensures size { scratch.new.size ≡ scratch.old.size }
 {
-    let mut nth = 0;
+    let mut filled = 1;
     for _ in post.rt.forever() {
-        match next.draw_more(post, drawer, scratch, &mut nth, 1) {
-            Ok(true) => continue,
-            Ok(false) => (),
+        if let Err(end) = hand_batch(post, &parcels[..filled], nth) {
+            return end;
+        }
+        match draw_batch(post, drawer, scratch, nth, parcels) {
+            Ok(count) => filled = count,
             Err(end) => return end,
         }
-        if next.is_empty() {
+        if filled == 0 {
             return End::Drained;
-        }
-        swap(ready, next);
-        next.clear();
-        let lot = ready.parcels();
-        if let Err(end) = hand_lot(post, drawer, scratch, &mut nth, lot, next) {
-            return end;
         }
     }
     unreachable!()
@@ -228,7 +196,6 @@ pub(crate) fn draw<R: Wait, G: Gate>(
     requires place { IsAtPlace post.now.shift.now.ledger post.now.worker drawer.old }
     ensures within { IfOk result (λ rank. rank < length post.now.shift.now.layer.places) }
     ensures drawn { IfOk result (λ rank. drawer.new.hand.numbers ≡ drawer.old.hand.numbers ++ rank ∷ []) }
-    ensures none { IfErr result (λ end. IfDrained end (drawer.new.hand.numbers ≡ drawer.old.hand.numbers)) }
     ensures ends { IfErr result
         (λ end. HasEnded G.may_stop post.now.shift.now.layer post.now.shift.now.workers post.now.worker
         drawer.new.hand end) }
@@ -259,7 +226,7 @@ fn draw_rank(layer: &Layer, ledger: &Ledger, drawer: &mut Drawer, worker: u8) ->
     }
 }
 
-// Counts one more event, and asks the gate.
+// Counts one more event, and calls the gate.
 pub(crate) fn pass<R: Wait, G: Gate>(
     post: &Post<'_, '_, '_, '_, R, G>,
     nth: &mut u64,

@@ -12,8 +12,8 @@ use spreading::for_each_spread;
 use std::sync::Wait;
 use std::thread::Threads;
 
-// Lets a worker at each of the desks work on the layer, each in a thread of its own where one can be started, and
-// waits until all of them have ended.
+// Lets a worker at each of the desks work on the layer, each in a thread of its own if one can start, and waits until
+// all of them have ended.
 pub(crate) fn work_all<'a, R: Threads + Wait + Sync, G: Gate + Sync>(
     rt: &R,
     desks: &mut [Desk<'a>],
@@ -45,6 +45,6 @@ fn help<'a, R: Wait, G: Gate>(rt: &R, desk: &mut Desk<'a>, shift: &Shift<'_, 'a,
 {
     if let Some(mut own) = desk.drawer.take() {
         let post = Post { rt, shift, worker };
-        work_at(&post, &mut own, &mut desk.scratch, &mut desk.lots);
+        work_at(&post, &mut own, &mut desk.scratch, &mut desk.parcels);
     }
 }

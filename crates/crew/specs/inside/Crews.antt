@@ -1,4 +1,4 @@
--- Who works on the layers of a level.
+-- The memory of the caller and of its workers.
 use Rattle.std.specs.Prelude.{◌≡◌, length}
 use Rattle.successors.specs.Tasks.{Task}
 use Rattle.crew.specs.declared.terms.Crew.{Crew}

@@ -14,7 +14,7 @@ pub record IsReady {G : Type 0} (shift : ShiftView G) (worker : ℕ) (scratch : 
     pub room : scratch.size ≡ length shift.layer.level.board.cells
     pub place : IsAtPlace shift.ledger worker drawer
 
--- the worker may end so, its drawer is left with what belongs to such an end, and a book answered so if one ended it
+-- the worker may end so, its drawer is as such an end leaves it, and if a book ended it, a lawful book may have
 pub record HasEnded (may_stop : Bool) (layer : LayerView) (workers worker : ℕ) (hand : Hand) (end : End) : Type 0 where
   pub may : MayEnd may_stop end
   pub left : EndsWith worker hand end

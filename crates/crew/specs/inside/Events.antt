@@ -4,22 +4,22 @@ use Rattle.claims.specs.declared.views.Hand.{Hand}
 use Rattle.crew.specs.declared.end.End.{End}
 use Rattle.crew.specs.declared.end.End.TheVariants.{Drained, Refused, Stopped, Foreign, NoPlace}
 
--- the count after one event more; at the greatest number it stays
+-- the count after one more event; the greatest number stays
 abbrev pub counted : ℕ → ℕ
 counted nth = min (nth + 1) (2 ^ 64 - 1)
 
--- one event more, which the gate is told of, and to which it may give this answer
+-- one more event, for which the gate was called, and to which it may give this answer
 pub record IsTold (may_answer : ℕ → Bool → Bool) (nth : ℕ) (answer : Bool) (after : ℕ) : Type 0 where
   pub count : after ≡ counted nth
   pub may : may_answer after answer ≡ true
 
--- so many events more, and after each the gate let the worker go on
+-- this number of events more, and after each the gate let the worker go on
 abbrev pub GoesOn : (ℕ → Bool → Bool) → ℕ → ℕ → ℕ → Type 0
 GoesOn may_answer nth zero after = after ≡ nth
 GoesOn may_answer nth (suc events) after =
     (last : ℕ) × GoesOn may_answer nth events last × IsTold may_answer last true after
 
--- how a worker that is not drained ends at once: the gate does not let it go on after one event more, or a book ends
+-- how a worker that is not drained ends at once: the gate does not let it go on after one more event, or a book ends
 -- it with no event
 abbrev pub EndsAtOnce : (ℕ → Bool → Bool) → ℕ → ℕ → End → Type 0
 EndsAtOnce may_answer nth after Stopped = IsTold may_answer nth false after
@@ -28,7 +28,7 @@ EndsAtOnce may_answer nth after Foreign = after ≡ nth
 EndsAtOnce may_answer nth after Drained = ⊥
 EndsAtOnce may_answer nth after NoPlace = ⊥
 
--- how a draw and then the gate end a worker: the gate does not let it go on after one rank more, or it is drained,
+-- how a draw and then the gate end a worker: the gate does not let it go on after one more rank, or it is drained,
 -- with no event
 abbrev pub DrawsAtLast : (ℕ → Bool → Bool) → Hand → ℕ → Hand → ℕ → End → Type 0
 DrawsAtLast may_answer hand nth later after Stopped =
@@ -38,8 +38,8 @@ DrawsAtLast may_answer hand nth later after (Refused refusal) = ⊥
 DrawsAtLast may_answer hand nth later after Foreign = ⊥
 DrawsAtLast may_answer hand nth later after NoPlace = ⊥
 
--- so many events more of a worker that then ended, and was not drained: after each the gate let it go on, but for the
--- last one where it is stopped
+-- this number of events more of a worker that then ended, and was not drained: after each the gate let it go on,
+-- except after the last one of a stopped worker
 abbrev pub GoesOnUntil : (ℕ → Bool → Bool) → ℕ → ℕ → ℕ → End → Type 0
 GoesOnUntil may_answer nth events after Stopped =
     (before : ℕ) × (last : ℕ) × (events ≡ suc before) × GoesOn may_answer nth before last ×
@@ -49,31 +49,22 @@ GoesOnUntil may_answer nth events after Foreign = GoesOn may_answer nth events a
 GoesOnUntil may_answer nth events after Drained = ⊥
 GoesOnUntil may_answer nth events after NoPlace = ⊥
 
--- no more events than so many, of a worker that then ended, and was not drained
+-- at most this number of events, of a worker that then ended, and was not drained
 pub record IsCutOff (may_answer : ℕ → Bool → Bool) (most nth after : ℕ) (end : End) : Type 0 where
   pub events : ℕ
   pub few : events ≤ most
   pub until : GoesOnUntil may_answer nth events after end
 
--- a worker goes on: its events are the ranks that its hand has drawn since, and so many parcels that a book accepted
-pub record Works (may_answer : ℕ → Bool → Bool) (accepted : ℕ) (hand : Hand) (nth : ℕ) (later : Hand) (after : ℕ) :
+-- a worker drew and then ended, and was not drained: its events are the ranks that its hand has drawn since
+pub record DrawsUntil (may_answer : ℕ → Bool → Bool) (hand : Hand) (nth : ℕ) (later : Hand) (after : ℕ) (end : End) :
     Type 0 where
   pub drawn : ℕ
   pub draws : length later.numbers ≡ length hand.numbers + drawn
-  pub on : GoesOn may_answer nth (drawn + accepted) after
+  pub until : GoesOnUntil may_answer nth drawn after end
 
--- a worker goes on and then ends, and is not drained: its events are the ranks that its hand has drawn since, and no
--- more parcels than so many
-pub record WorksUntil (may_answer : ℕ → Bool → Bool) (most : ℕ) (hand : Hand) (nth : ℕ) (later : Hand) (after : ℕ)
-    (end : End) : Type 0 where
-  pub drawn : ℕ
-  pub accepted : ℕ
-  pub few : accepted ≤ most
-  pub draws : length later.numbers ≡ length hand.numbers + drawn
-  pub until : GoesOnUntil may_answer nth (drawn + accepted) after end
-
--- a worker has handed back so many of the ranks that it drew to each book, and there are left so many more
+-- the ranks that a worker's hand has drawn since are some that it has handed back to each book, and this number that
+-- are left to hand back; its events are the draws of all of them, and for each of the former and each book one
 pub record HasLeft (may_answer : ℕ → Bool → Bool) (books left : ℕ) (hand later : Hand) (after : ℕ) : Type 0 where
   pub done : ℕ
   pub all : length later.numbers ≡ length hand.numbers + done + left
-  pub works : Works may_answer (done * books) hand 0 later after
+  pub on : GoesOn may_answer 0 (done + left + done * books) after

@@ -4,8 +4,7 @@ use Rattle.layers.specs.LayerView.{LayerView}
 use Rattle.successors.specs.Tasks.{Task}
 use Rattle.claims.specs.Hands.{LedgerView}
 
--- the layer that they work on, the ledger that they draw its ranks from, how many books there are, for how many
--- workers these are made, and the gate
+-- the layer, the ledger of its ranks, the number of books, the number of workers for which they are made, and the gate
 pub record ShiftView (G : Type 0) : Type 0 where
   pub layer : LayerView
   pub ledger : LedgerView
@@ -13,7 +12,7 @@ pub record ShiftView (G : Type 0) : Type 0 where
   pub workers : ℕ
   pub gate : G
 
--- which answers the gate may give a worker of the layer, where it is told of an event
+-- the answers that the gate may give a worker of the layer for an event
 abbrev pub answers_to : {G : Type 0} → (G → ℕ → ℕ → ℕ → Bool → Bool) → ShiftView G → ℕ → ℕ → Bool → Bool
 answers_to may_answer shift worker = may_answer shift.gate shift.layer.number worker
 

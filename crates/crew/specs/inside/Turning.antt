@@ -1,4 +1,4 @@
--- The books of a search with workers, and how a turn of it ends.
+-- The books of a search with workers, and how an iteration of it ends.
 use Rattle.std.specs.Prelude.{ℕ, ◌+◌, ◌<◌, List}
 use Rattle.grid.specs.declared.square.Push.{Push}
 use Rattle.successors.specs.Tasks.{Task}
@@ -20,7 +20,7 @@ abbrev pub ArePausedBy : Config → Task → List BookView → List (List (Origi
 ArePausedBy config task books trail positions =
     AreBetweenTurns task config.limit (config.workers + 1) config.locks books trail positions
 
--- they are, and their last closed layer was looked at and counted, after so many positions
+-- they are, and their last closed layer was examined and counted, after `before` positions
 pub record HasLooked (config : Config) (task : Task) (books : List BookView) (layer : LayerView)
     (trail : List (List (Origin Push)))
     (before positions : ℕ) : Type 0 where
@@ -35,8 +35,8 @@ AreWorkedBy config layer worked books =
     AreWorkingOn layer before
     × AreFinished config.limit before layer worked books
 
--- how a turn ends: the search goes on with books that have closed the next layer; or there is an answer; or other books
--- came back
+-- how an iteration ends: the search goes on with books that have closed the next layer; or there is an answer; or
+-- other books came back
 abbrev pub TurnAnswer : Config → Task → List (List (Origin Push)) → ℕ → ℕ → Turned → Type 0
 TurnAnswer config task trail before positions (Onward books) =
     ArePausedBy config task books.items trail positions × (before < positions)

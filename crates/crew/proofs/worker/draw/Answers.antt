@@ -1,6 +1,6 @@
-use Rattle.std.proofs.Common.{◌≡◌, rules}
+use Rattle.std.proofs.Common.{rules}
 use Rattle.crew.specs.inside.Ends.{HasEnded}
-use Rattle.crew.proofs.Drawing.{drawn_at_last, stopped_not_drained}
+use Rattle.crew.proofs.Batches.{drawn_at_last}
 use Rattle.crew.proofs.worker.draw.Goals as goal
 
 pub returns-in_err-pass-clause-ends : goal.returns-in_err-pass-clause-ends
@@ -14,7 +14,3 @@ pub returns-in_err-rank-clause-ends : goal.returns-in_err-rank-clause-ends
 returns-in_err-rank-clause-ends g c =
     let ended = drawn_at_last g.G.Gate.may_stop c.args.post.now.shift.now.layer c.args.post.now.shift.now.workers c.args.post.now.worker
     c.draw_rank.new.drawer.hand c.in_err-rank.field-0.0 c.in_err-rank.ensures.end in search (rules, ended)
-
-pub returns-in_err-pass-clause-none : goal.returns-in_err-pass-clause-none
-returns-in_err-pass-clause-none g c =
-    let none = stopped_not_drained (c.draw_rank.new.drawer.hand.numbers ≡ c.args.drawer.now.hand.numbers) _ c.in_err-pass.ensures.stops in search (rules, none)

@@ -1,6 +1,0 @@
-use Rattle.crew.specs.inside.Events.{GoesOn}
-use Rattle.crew.specs.inside.Shifts.{answers_to}
-use Rattle.crew.proofs.handing.hand_back.Given as goal
-
-abbrev pub invariant-loop-book : goal.invariant-loop-book
-invariant-loop-book g l = GoesOn (answers_to g.G.Gate.may_answer l.fn.post.shift.now l.fn.post.worker) l.fn.nth l.book-index l.nth

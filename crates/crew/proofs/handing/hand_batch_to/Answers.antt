@@ -1,0 +1,24 @@
+use Rattle.std.proofs.Common.{length, Some, sym, ap, ◌∙◌, rules, arith}
+use Rattle.std.proofs.lemmas.Option.{slice_get-get_or}
+use Rattle.successors.specs.ParcelView.{ParcelView}
+use Rattle.crew.specs.inside.Ends.{HasEnded}
+use Rattle.crew.proofs.Events.{cut_off, ends_at_once}
+use Rattle.crew.proofs.handing.hand_batch_to.Goals as goal
+
+pub hand_to-requires : goal.hand_to-requires
+hand_to-requires g c =
+    let batch = c.args.batch.now in let place = c.loop-parcel.parcel-index in let parcel = c.parcel-item.result in
+    c.requires place parcel (slice_get-get_or batch place parcel c.loop-parcel-test.true ∙ ap (λ (p : ParcelView). Some p) (sym c.parcel-item.is))
+
+pub returns-in_err-hand_to-clause-ends : goal.returns-in_err-hand_to-clause-ends
+returns-in_err-hand_to-clause-ends g c = λ hand. (
+    let is = c.in_err-hand_to.ensures in
+    let ended : HasEnded g.G.Gate.may_stop c.args.post.now.shift.now.layer c.args.post.now.shift.now.workers c.args.post.now.worker hand
+    c.in_err-hand_to.field-0.0 = record { may = is.end; left = is.hand hand; answered = is.answered } in search (rules, ended))
+
+pub returns-in_err-hand_to-clause-gate : goal.returns-in_err-hand_to-clause-gate
+returns-in_err-hand_to-clause-gate g c =
+    let may = g.G.Gate.may_answer c.args.post.now.shift.now.gate c.args.post.now.shift.now.layer.number c.args.post.now.worker in
+    let nth = c.loop-parcel.nth in let after = c.hand_to.new.nth in let end = c.in_err-hand_to.field-0.0 in
+    let ended = cut_off may c.loop-parcel.parcel-index 1 (length c.args.batch.now) c.args.nth.now nth after end (omega (arith, c.loop-parcel-test.true))
+    c.loop-parcel.invariant (ends_at_once may nth after end c.in_err-hand_to.ensures.gate) in search (rules, ended)
