@@ -1,9 +1,9 @@
 -- Definitions of the code's own state: what its loops keep, and what its functions state to each other.
 pub mod Batches
-pub mod Crews
 pub mod Desks
 pub mod Ends
 pub mod Events
 pub mod Shifts
+pub mod States
 pub mod Stretched
 pub mod Turning

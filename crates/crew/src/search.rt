@@ -5,13 +5,13 @@ ghost use Rattle.successors.specs.Capping.{capped};
 ghost use Rattle.solo.specs.Answers.{IsAnswer};
 ghost use Rattle.crew.specs.Configured.{IsWithinLimits};
 ghost use Rattle.crew.specs.Solving.{SolveRefused};
-ghost use Rattle.crew.specs.inside.Crews.{IsCrewOf};
+ghost use Rattle.crew.specs.inside.States.{IsStateOf};
 ghost use Rattle.crew.specs.inside.Turning.{ArePausedBy};
 
 use crate::config::Config;
 use crate::desks::Desks;
 use crate::gate::Gate;
-use crate::terms::{Crew, History, Terms};
+use crate::terms::{State, Terms};
 use crate::turns::{Turned, turn};
 use area::Scratch;
 use grid::{Level, MAX_BOXES};
@@ -95,14 +95,13 @@ fn search_by<R: Threads + Wait + Sync, G: Gate + Sync>(
     };
     let books = new_books(alloc, problem, config.limit, dealing, &mut scratch)?;
     let desks = Desks::of(alloc, problem, config.workers);
-    let mut crew = Crew { scratch, desks };
     let terms = Terms {
         alloc,
         problem: &**problem,
         config,
         gate,
     };
-    all_turns(rt, &terms, books, &mut crew)
+    all_turns(rt, &terms, books, scratch, desks)
 }
 
 // Examines layer after layer until there is an answer. `None` if other books came back than those lent. Fails only if
@@ -111,22 +110,26 @@ fn all_turns<R: Threads + Wait + Sync, G: Gate + Sync>(
     rt: &R,
     terms: &Terms<'_, G>,
     first: Vec<Book>,
-    crew: &mut Crew<'_>,
+    scratch: Scratch,
+    desks: Desks<'_>,
 ) -> Result<Option<Answer>, AllocError>
     requires limits { IsWithinLimits terms.now.config }
     requires first { ArePausedBy terms.now.config terms.now.problem.now first.items [] 0 }
-    requires crew { IsCrewOf terms.now.problem.now crew.old }
+    requires room { scratch.size ≡ length terms.now.problem.now.board.cells }
+    requires desks { desks ≡ terms.now.problem.now }
     ensures { IfOk result
         (λ found. IfSome found (λ answer. IsAnswer terms.now.problem.now terms.now.config.limit answer)) }
 {
-    let mut history = History {
+    let mut state = State {
         trail: Vec::new(terms.alloc),
         positions: 0,
         room: Vec::new(terms.alloc),
+        scratch,
+        desks,
     };
     let mut books = first;
     loop {
-        match turn(rt, terms, books, &mut history, crew)? {
+        match turn(rt, terms, books, &mut state)? {
             Turned::Onward(next) => books = next,
             Turned::Found(answer) => return Ok(Some(answer)),
             Turned::Foreign => return Ok(None),

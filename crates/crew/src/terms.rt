@@ -1,4 +1,4 @@
-//! The settings of a search, the layers that it has examined, and its workers.
+//! The settings and the state of a search.
 use crate::config::Config;
 use crate::desks::Desks;
 use crate::gate::Gate;
@@ -16,18 +16,13 @@ pub(crate) struct Terms<'s, G: Gate> {
     pub(crate) gate: &'s G,
 }
 
-/// The examined layers: the parents of each one's positions, the number of their positions together, and the memory of
-/// the last one's squares.
+/// The state of a search: the parents of the positions of each examined layer, the number of their positions together,
+/// the memory of the last one's squares, the caller's scratch, and the desks of its workers.
 #[derive(Drop)]
-pub(crate) struct History {
+pub(crate) struct State<'a> {
     pub(crate) trail: Vec<Parents>,
     pub(crate) positions: u64,
     pub(crate) room: Vec<Square>,
-}
-
-/// The memory of the caller and of its workers.
-#[derive(Drop)]
-pub(crate) struct Crew<'a> {
     pub(crate) scratch: Scratch,
     pub(crate) desks: Desks<'a>,
 }

@@ -4,14 +4,15 @@ ghost use Rattle.layers.specs.BookView.{BookView};
 ghost use Rattle.layers.specs.Books.{MayBegin};
 ghost use Rattle.crew.specs.Configured.{IsWithinLimits};
 ghost use Rattle.crew.specs.Lending.{ComeBack};
-ghost use Rattle.crew.specs.inside.Crews.{IsCrewOf};
+ghost use Rattle.crew.specs.inside.States.{IsStateOf};
 ghost use Rattle.crew.specs.inside.Turning.{ArePausedBy, AreWorkedBy, HasLooked, TurnAnswer};
 
 use crate::closing::finish_all;
+use crate::desks::Desks;
 use crate::gate::Gate;
 use crate::joining::join_layer;
 use crate::lent::{come_back, lend};
-use crate::terms::{Crew, History, Terms};
+use crate::terms::{State, Terms};
 use area::Scratch;
 use layers::{Book, Layer, Parents};
 use solo::Answer;
@@ -38,34 +39,33 @@ pub(crate) fn turn<R: Threads + Wait + Sync, G: Gate + Sync>(
     rt: &R,
     terms: &Terms<'_, G>,
     books: Vec<Book>,
-    history: &mut History,
-    crew: &mut Crew<'_>,
+    state: &mut State<'_>,
 ) -> Result<Turned, AllocError>
     requires limits { IsWithinLimits terms.now.config }
-    requires turn { ArePausedBy terms.now.config terms.now.problem.now books.items history.old.trail.items
-        history.old.positions }
-    requires crew { IsCrewOf terms.now.problem.now crew.old }
+    requires turn { ArePausedBy terms.now.config terms.now.problem.now books.items state.old.trail.items
+        state.old.positions }
+    requires state { IsStateOf terms.now.problem.now state.old }
     ensures turned { IfOk result
-        (λ turned. TurnAnswer terms.now.config terms.now.problem.now history.new.trail.items history.old.positions
-        history.new.positions turned) }
-    ensures crew { (crew.new.scratch.size ≡ crew.old.scratch.size) × (crew.new.desks ≡ crew.old.desks) }
+        (λ turned. TurnAnswer terms.now.config terms.now.problem.now state.new.trail.items state.old.positions
+        state.new.positions turned) }
+    ensures state { (state.new.scratch.size ≡ state.old.scratch.size) × (state.new.desks ≡ state.old.desks) }
 {
     let config = terms.config;
     let mut room = Vec::new(terms.alloc);
-    swap(&mut room, &mut history.room);
+    swap(&mut room, &mut state.room);
     let layer = join_layer(rt, terms.alloc, books.as_slice(), config.workers, room)?;
     let found = look(
         terms.alloc,
-        history.trail.as_slice(),
-        &mut history.positions,
+        state.trail.as_slice(),
+        &mut state.positions,
         &layer,
         config.limit,
-        &mut crew.scratch,
+        &mut state.scratch,
     )?;
     if let Some(answer) = found {
         return Ok(Turned::Found(answer));
     }
-    go_on(rt, terms, books, layer, history, crew)
+    go_on(rt, terms, books, layer, state)
 }
 
 // Lets the workers work through the examined layer. Fails only if out of memory.
@@ -74,28 +74,36 @@ fn go_on<R: Threads + Wait + Sync, G: Gate + Sync>(
     terms: &Terms<'_, G>,
     books: Vec<Book>,
     layer: Layer,
-    history: &mut History,
-    crew: &mut Crew<'_>,
+    state: &mut State<'_>,
 ) -> Result<Turned, AllocError>
     requires limits { IsWithinLimits terms.now.config }
     requires looked { (before : ℕ) ×
-        HasLooked terms.now.config terms.now.problem.now books.items layer history.old.trail.items before
-        history.old.positions }
-    requires crew { IsCrewOf terms.now.problem.now crew.old }
+        HasLooked terms.now.config terms.now.problem.now books.items layer state.old.trail.items before
+        state.old.positions }
+    requires state { IsStateOf terms.now.problem.now state.old }
     ensures turned { (before : ℕ) →
-        HasLooked terms.now.config terms.now.problem.now books.items layer history.old.trail.items before
-        history.old.positions →
-        IfOk result (λ turned. TurnAnswer terms.now.config terms.now.problem.now history.new.trail.items before
-        history.new.positions turned) }
-    ensures crew { (crew.new.scratch.size ≡ crew.old.scratch.size) × (crew.new.desks ≡ crew.old.desks) }
+        HasLooked terms.now.config terms.now.problem.now books.items layer state.old.trail.items before
+        state.old.positions →
+        IfOk result (λ turned. TurnAnswer terms.now.config terms.now.problem.now state.new.trail.items before
+        state.new.positions turned) }
+    ensures state { (state.new.scratch.size ≡ state.old.scratch.size) × (state.new.desks ≡ state.old.desks) }
 {
-    let back = work_through(rt, terms, books, &layer, history.positions, crew)?;
+    let positions = state.positions;
+    let back = work_through(
+        rt,
+        terms,
+        books,
+        &layer,
+        positions,
+        &mut state.scratch,
+        &mut state.desks,
+    )?;
     let Some((worked, after)) = back else {
         return Ok(Turned::Foreign);
     };
     let (parents, room) = Parents::of(layer);
-    history.trail.push(parents)?;
-    history.room = room;
+    state.trail.push(parents)?;
+    state.room = room;
     match worked {
         Worked::Over => Ok(Turned::Found(Answer::Limit)),
         Worked::Through => Ok(Turned::Onward(after)),
@@ -110,18 +118,21 @@ fn work_through<R: Threads + Wait + Sync, G: Gate + Sync>(
     mut books: Vec<Book>,
     layer: &Layer,
     positions: u64,
-    crew: &mut Crew<'_>,
+    scratch: &mut Scratch,
+    desks: &mut Desks<'_>,
 ) -> Result<Option<(Worked, Vec<Book>)>, AllocError>
     requires limits { IsWithinLimits terms.now.config }
     requires may { (i : ℕ) (v : BookView) → slice_get books.items i ≡ Some v → MayBegin v layer.now }
     requires few { length layer.now.places ≤ terms.now.config.limit }
-    requires crew { IsCrewOf layer.now.level crew.old }
+    requires room { scratch.old.size ≡ length layer.now.level.board.cells }
+    requires desks { desks.old ≡ layer.now.level }
     ensures worked { IfOk result (λ back. IfSome back (λ b. AreWorkedBy terms.now.config layer.now b.0 b.1.items)) }
-    ensures crew { (crew.new.scratch.size ≡ crew.old.scratch.size) × (crew.new.desks ≡ crew.old.desks) }
+    ensures size { scratch.new.size ≡ scratch.old.size }
+    ensures desks { desks.new ≡ desks.old }
 {
     begin_each(books.as_mut_slice(), layer)?;
-    let back = lend(rt, terms, books, layer, &mut crew.desks, positions)?;
-    finish_lent(rt, terms, back, layer, &mut crew.scratch)
+    let back = lend(rt, terms, books, layer, desks, positions)?;
+    finish_lent(rt, terms, back, layer, scratch)
 }
 
 // Does what is left of a layer in the books that came back, book by book. `None` exactly if they are other books than

@@ -1,6 +1,6 @@
-use Rattle.std.proofs.Common.{sym, subst, arith}
+use Rattle.std.proofs.Common.{length, sym, ap, subst, ◌∙◌, arith}
 use Rattle.std.specs.Prelude.{IfSome}
-use Rattle.crew.specs.inside.Crews.{IsCrewOf}
+use Rattle.successors.specs.Tasks.{Task}
 use Rattle.crew.specs.inside.Turning.{AreWorkedBy}
 use Rattle.crew.proofs.Turning.{begins, ends_over, goes_on, next_layer}
 use Rattle.crew.proofs.turns.go_on.Goals as goal
@@ -8,17 +8,23 @@ use Rattle.crew.proofs.turns.go_on.Goals as goal
 pub work_through-requires-clause-may : goal.work_through-requires-clause-may
 work_through-requires-clause-may g c κs within =
     let before = c.requires.looked.0 in let looked = c.requires.looked.1 in
-    begins c.args.terms.now.config c.args.terms.now.problem.now c.args.books.items c.args.history.now.trail.items before c.requires.limits looked.turn
+    begins c.args.terms.now.config c.args.terms.now.problem.now c.args.books.items c.args.state.now.trail.items before c.requires.limits looked.turn
     c.args.layer looked.join
 
 pub work_through-requires-clause-few : goal.work_through-requires-clause-few
 work_through-requires-clause-few g c κs within = c.requires.looked.1.counted.ranks.1
 
-pub work_through-requires-clause-crew : goal.work_through-requires-clause-crew
-work_through-requires-clause-crew g c κs within =
+pub work_through-requires-clause-room : goal.work_through-requires-clause-room
+work_through-requires-clause-room g c κs within =
     let before = c.requires.looked.0 in let looked = c.requires.looked.1 in
-    subst (λ task. IsCrewOf task c.args.crew.now) (sym (next_layer c.args.terms.now.config c.args.terms.now.problem.now c.args.books.items
-    c.args.history.now.trail.items before c.requires.limits looked.turn c.args.layer looked.join).0) c.requires.crew
+    c.requires.state.0 ∙ ap (λ (t : Task). length t.board.cells) (sym (next_layer c.args.terms.now.config c.args.terms.now.problem.now c.args.books.items
+    c.args.state.now.trail.items before c.requires.limits looked.turn c.args.layer looked.join).0)
+
+pub work_through-requires-clause-desks : goal.work_through-requires-clause-desks
+work_through-requires-clause-desks g c κs within =
+    let before = c.requires.looked.0 in let looked = c.requires.looked.1 in
+    c.requires.state.1 ∙ sym (next_layer c.args.terms.now.config c.args.terms.now.problem.now c.args.books.items c.args.state.now.trail.items before
+    c.requires.limits looked.turn c.args.layer looked.join).0
 
 pub returns-in-Over-clause-turned : goal.returns-in-Over-clause-turned
 returns-in-Over-clause-turned g c = λ before looked.
@@ -26,8 +32,8 @@ returns-in-Over-clause-turned g c = λ before looked.
     let worked = c.in-Some.worked in let after = c.in-Some.after in
     let work : AreWorkedBy config layer worked after.items = subst (λ back. IfSome back (λ b. AreWorkedBy config layer b.0 b.1.items)) c.in-Some.is
     c.in_ok-back.ensures.worked in
-    ends_over config c.args.terms.now.problem.now c.args.books.items c.args.history.now.trail.items before c.requires.limits looked.turn layer
-    c.args.history.now.positions after.items looked.join looked.counted.looked (subst (λ w. AreWorkedBy config layer w after.items) c.in-Over.is work)
+    ends_over config c.args.terms.now.problem.now c.args.books.items c.args.state.now.trail.items before c.requires.limits looked.turn layer
+    c.args.state.now.positions after.items looked.join looked.counted.looked (subst (λ w. AreWorkedBy config layer w after.items) c.in-Over.is work)
 
 pub returns-in-Through-clause-turned : goal.returns-in-Through-clause-turned
 returns-in-Through-clause-turned g c = λ before looked.
@@ -35,8 +41,8 @@ returns-in-Through-clause-turned g c = λ before looked.
     let worked = c.in-Some.worked in let after = c.in-Some.after in
     let work : AreWorkedBy config layer worked after.items = subst (λ back. IfSome back (λ b. AreWorkedBy config layer b.0 b.1.items)) c.in-Some.is
     c.in_ok-back.ensures.worked in (
-      goes_on config c.args.terms.now.problem.now c.args.books.items c.args.history.now.trail.items before c.requires.limits looked.turn layer
-          c.args.history.now.positions after.items c.push.new.self.items c.of-parents.result.0 looked.join looked.counted.looked
+      goes_on config c.args.terms.now.problem.now c.args.books.items c.args.state.now.trail.items before c.requires.limits looked.turn layer
+          c.args.state.now.positions after.items c.push.new.self.items c.of-parents.result.0 looked.join looked.counted.looked
           (subst (λ w. AreWorkedBy config layer w after.items) c.in-Through.is work) c.in_ok-push.ensures.items c.of-parents.ensures,
       omega (arith, looked.counted.ranks.0, looked.counted.count),
     )
