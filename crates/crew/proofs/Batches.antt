@@ -27,20 +27,6 @@ rank_more layer [] r of it (suc i) q at = absurd (none-some q at)
 rank_more layer (x ∷ xs) r of it zero q at = of 0 q at
 rank_more layer (x ∷ xs) r of it (suc i) q at = rank_more layer xs r (λ j s e. of (suc j) s e) it i q at
 
--- no parcel is one of the layer, and no rank
-pub none_of_layer : (layer : LayerView) → AreOfLayer layer []
-none_of_layer layer i parcel at = absurd (none-some parcel at)
-
-pub no_ranks : (layer : LayerView) → AreRanks layer []
-no_ranks layer i rank at = absurd (none-some rank at)
-
--- one parcel is, and one rank
-pub one_of_layer : (layer : LayerView) (p : ParcelView) → IsOfLayer layer p → AreOfLayer layer (p ∷ [])
-one_of_layer layer p it = of_more layer [] p (none_of_layer layer) it
-
-pub one_rank : (layer : LayerView) (r : ℕ) → r < length layer.places → AreRanks layer (r ∷ [])
-one_rank layer r it = rank_more layer [] r (no_ranks layer) it
-
 -- ---- ranks
 
 -- one more rank is drawn into the next place of a list
@@ -57,11 +43,6 @@ drawn_more layer before hand after place rank ranks so room within drew =
       drawn = drew ∙ ap (λ (ns : List ℕ). ns ++ rank ∷ []) so.drawn ∙ append_assoc before.numbers (take place ranks) (rank ∷ [])
           ∙ ap (λ (ns : List ℕ). before.numbers ++ ns) (sym is);
     }
-
--- none more is drawn
-pub drawn_same : (layer : LayerView) (before hand after : Hand) (place : ℕ) (ranks : List ℕ) → AreDrawn layer before place ranks hand →
-    after.numbers ≡ hand.numbers → AreDrawn layer before place ranks after
-drawn_same layer before hand after place ranks so same = record { few = so.few; within = so.within; drawn = same ∙ so.drawn }
 
 -- as many ranks are drawn
 pub drawn_long : (layer : LayerView) (before after : Hand) (count : ℕ) (ranks : List ℕ) → AreDrawn layer before count ranks after →

@@ -1,6 +1,6 @@
 pub mod Batches
 pub mod Dealing
 pub mod Events
+pub mod Iterations
 pub mod Lending
 pub mod Parts
-pub mod Turning

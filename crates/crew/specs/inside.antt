@@ -3,7 +3,7 @@ pub mod Batches
 pub mod Desks
 pub mod Ends
 pub mod Events
+pub mod Iterations
 pub mod Shifts
 pub mod States
 pub mod Stretched
-pub mod Turning

@@ -6,8 +6,7 @@ ghost use Rattle.successors.specs.declared.limits.TheConstants.{MAX_SHARES};
 ghost use Rattle.solo.specs.inside.Together.{AreFinished};
 ghost use Rattle.solo.specs.inside.Turns.{AreWorkingOn};
 
-use crate::gate::Gate;
-use crate::terms::Terms;
+use crate::config::Config;
 use area::Scratch;
 use layers::{Book, Layer};
 use solo::rest::do_rest;
@@ -26,23 +25,23 @@ const MOST: u8 = 4;
 // Does what is left of the layer in each of the books, under the caller's own number, and then closes the next layer in
 // each. If one book is over, or if all books hold more positions together than the limit, it closes none. Books may
 // close side by side.
-pub(crate) fn finish_all<R: Threads + Sync, G: Gate>(
+pub(crate) fn finish_all<R: Threads + Sync>(
     rt: &R,
-    terms: &Terms<'_, G>,
+    config: Config,
     books: &mut [Book],
     layer: &Layer,
     scratch: &mut Scratch,
 ) -> Result<Worked, AllocError>
     requires few { length books.old ≤ MAX_SHARES }
     requires working { AreWorkingOn layer.now books.old }
-    requires worker { (i : ℕ) (v : BookView) → slice_get books.old i ≡ Some v → terms.now.config.workers < v.workers }
+    requires worker { (i : ℕ) (v : BookView) → slice_get books.old i ≡ Some v → config.workers < v.workers }
     requires room { scratch.old.size ≡ length layer.now.level.board.cells }
-    ensures worked { IfOk result (λ worked. AreFinished terms.now.config.limit books.old layer.now worked books.new) }
+    ensures worked { IfOk result (λ worked. AreFinished config.limit books.old layer.now worked books.new) }
     ensures size { scratch.new.size ≡ scratch.old.size }
 {
     // the caller's own number is the last one
-    let own = terms.config.workers;
-    let within = do_rest(books, layer, scratch, own, terms.config.limit)?;
+    let own = config.workers;
+    let within = do_rest(books, layer, scratch, own, config.limit)?;
     if within.is_none() {
         return Ok(Worked::Over);
     }

@@ -28,13 +28,13 @@ mod end;
 mod gate;
 mod handing;
 mod held;
+mod iteration;
 mod joining;
 mod lent;
 mod locking;
 mod search;
 mod shift;
 mod terms;
-mod turns;
 mod worker;
 mod workers;
 

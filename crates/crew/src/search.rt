@@ -6,13 +6,13 @@ ghost use Rattle.solo.specs.Answers.{IsAnswer};
 ghost use Rattle.crew.specs.Configured.{IsWithinLimits};
 ghost use Rattle.crew.specs.Solving.{SolveRefused};
 ghost use Rattle.crew.specs.inside.States.{IsStateOf};
-ghost use Rattle.crew.specs.inside.Turning.{ArePausedBy};
+ghost use Rattle.crew.specs.inside.Iterations.{ArePausedBy};
 
 use crate::config::Config;
 use crate::desks::Desks;
 use crate::gate::Gate;
+use crate::iteration::{Outcome, iterate};
 use crate::terms::{State, Terms};
-use crate::turns::{Turned, turn};
 use area::Scratch;
 use grid::{Level, MAX_BOXES};
 use layers::{Book, Dealing, Problem};
@@ -101,12 +101,12 @@ fn search_by<R: Threads + Wait + Sync, G: Gate + Sync>(
         config,
         gate,
     };
-    all_turns(rt, &terms, books, scratch, desks)
+    iterate_all(rt, &terms, books, scratch, desks)
 }
 
 // Examines layer after layer until there is an answer. `None` if other books came back than those lent. Fails only if
 // out of memory.
-fn all_turns<R: Threads + Wait + Sync, G: Gate + Sync>(
+fn iterate_all<R: Threads + Wait + Sync, G: Gate + Sync>(
     rt: &R,
     terms: &Terms<'_, G>,
     first: Vec<Book>,
@@ -129,10 +129,10 @@ fn all_turns<R: Threads + Wait + Sync, G: Gate + Sync>(
     };
     let mut books = first;
     loop {
-        match turn(rt, terms, books, &mut state)? {
-            Turned::Onward(next) => books = next,
-            Turned::Found(answer) => return Ok(Some(answer)),
-            Turned::Foreign => return Ok(None),
+        match iterate(rt, terms, books, &mut state)? {
+            Outcome::Onward(next) => books = next,
+            Outcome::Found(answer) => return Ok(Some(answer)),
+            Outcome::Foreign => return Ok(None),
         }
     }
 }

@@ -70,16 +70,19 @@ pub fn work<R: Wait, G: Gate>(
         workers,
         held: &held,
     };
-    work_on(rt, &shift, drawer, worker, scratch)
+    let mut parcels = Vec::new(scratch.allocator());
+    work_at(rt, &shift, drawer, worker, scratch, &mut parcels)
 }
 
-// The same, on the shift of that layer.
-fn work_on<R: Wait, G: Gate>(
+// Works on the layer of a shift as [`work`] does, by batches of at most as many ranks as there is capacity for parcels.
+// The parcels are kept from layer to layer.
+pub(crate) fn work_at<'a, R: Wait, G: Gate>(
     rt: &R,
-    shift: &Shift<'_, '_, G>,
+    shift: &Shift<'_, 'a, G>,
     drawer: &mut Drawer,
     worker: u8,
     scratch: &mut Scratch,
+    parcels: &mut Vec<Parcel<'a>>,
 ) -> End
     requires room { scratch.old.size ≡ length shift.now.layer.level.board.cells }
     requires drawer { (drawer.old.ledger ≡ shift.now.ledger) × IsNone drawer.old.hand.place }
@@ -90,34 +93,11 @@ fn work_on<R: Wait, G: Gate>(
     ensures ledger { drawer.new.ledger ≡ shift.now.ledger }
     ensures size { scratch.new.size ≡ scratch.old.size }
 {
-    let post = Post { rt, shift, worker };
-    let mut parcels = Vec::new(scratch.allocator());
-    work_at(&post, drawer, scratch, &mut parcels)
-}
-
-// Works on a layer as [`work`] does, by batches of at most as many ranks as there is capacity for parcels. The parcels
-// are kept from layer to layer.
-pub(crate) fn work_at<'a, R: Wait, G: Gate>(
-    post: &Post<'_, '_, '_, 'a, R, G>,
-    drawer: &mut Drawer,
-    scratch: &mut Scratch,
-    parcels: &mut Vec<Parcel<'a>>,
-) -> End
-    requires room { scratch.old.size ≡ length post.now.shift.now.layer.level.board.cells }
-    requires drawer { (drawer.old.ledger ≡ post.now.shift.now.ledger) × IsNone drawer.old.hand.place }
-    requires place { post.now.worker < PLACES }
-    ensures ends { HasEnded G.may_stop post.now.shift.now.layer post.now.shift.now.workers post.now.worker
-        drawer.new.hand result }
-    ensures gate { AsksTheGate (answers_to G.may_answer post.now.shift.now post.now.worker) post.now.shift.now.books
-        drawer.old.hand drawer.new.hand result }
-    ensures ledger { drawer.new.ledger ≡ post.now.shift.now.ledger }
-    ensures size { scratch.new.size ≡ scratch.old.size }
-{
-    let shift = post.shift;
-    if !shift.ledger.enrol(drawer, post.worker) {
+    if !shift.ledger.enrol(drawer, worker) {
         return End::NoPlace;
     }
-    work_enrolled(post, drawer, scratch, parcels)
+    let post = Post { rt, shift, worker };
+    work_enrolled(&post, drawer, scratch, parcels)
 }
 
 // The same once the drawer has its place. Without capacity for parcels the worker makes one on the stack.

@@ -5,7 +5,7 @@ ghost use Rattle.crew.specs.inside.Desks.{AreRoomy, HaveDrawers};
 
 use crate::desks::Desk;
 use crate::gate::Gate;
-use crate::shift::{Post, Shift};
+use crate::shift::Shift;
 use crate::worker::work_at;
 use claims::PLACES;
 use spreading::for_each_spread;
@@ -44,7 +44,13 @@ fn help<'a, R: Wait, G: Gate>(rt: &R, desk: &mut Desk<'a>, shift: &Shift<'_, 'a,
     ensures room { desk.new.scratch.size ≡ desk.old.scratch.size }
 {
     if let Some(mut own) = desk.drawer.take() {
-        let post = Post { rt, shift, worker };
-        work_at(&post, &mut own, &mut desk.scratch, &mut desk.parcels);
+        work_at(
+            rt,
+            shift,
+            &mut own,
+            worker,
+            &mut desk.scratch,
+            &mut desk.parcels,
+        );
     }
 }

@@ -14,13 +14,13 @@ finish_rest-requires-clause-begun g c =
 pub finish_rest-requires-clause-worker : goal.finish_rest-requires-clause-worker
 finish_rest-requires-clause-worker g c =
     let layer = c.args.layer.now in let mid = c.do_rest.new.books in
-    rest_workers mid c.close_side_by_side.new.books c.args.terms.now.config.workers c.close_side_by_side.ensures
-    (still_workers layer c.args.books.now mid c.args.terms.now.config.workers c.do_rest.ensures.still c.requires.worker)
+    rest_workers mid c.close_side_by_side.new.books c.args.config.workers c.close_side_by_side.ensures
+    (still_workers layer c.args.books.now mid c.args.config.workers c.do_rest.ensures.still c.requires.worker)
 
 pub returns-clause-worked : goal.returns-clause-worked
 returns-clause-worked g c =
     let layer = c.args.layer.now in let mid = c.do_rest.new.books in let worked = c.in_ok-worked.worked in
     let still = c.do_rest.ensures.still in
-    still_worked c.args.terms.now.config.limit layer c.args.books.now mid c.finish_rest.new.books worked still
+    still_worked c.args.config.limit layer c.args.books.now mid c.finish_rest.new.books worked still
     (rest_worked layer mid c.close_side_by_side.new.books c.finish_rest.new.books worked
     (still_working layer c.args.books.now mid c.requires.working still) c.close_side_by_side.ensures c.in_ok-worked.ensures.worked)

@@ -12,10 +12,10 @@ use Rattle.solo.specs.inside.Together.{AreFinished}
 use Rattle.solo.specs.inside.Turns.{AreBetweenTurns, AreDealt, AreWorkingOn}
 use Rattle.solo.specs.declared.turn.Worked.{Worked}
 use Rattle.crew.specs.declared.config.Config.{Config}
-use Rattle.crew.specs.declared.turns.Turned.{Turned}
-use Rattle.crew.specs.declared.turns.Turned.TheVariants.{Onward, Found, Foreign}
+use Rattle.crew.specs.declared.iteration.Outcome.{Outcome}
+use Rattle.crew.specs.declared.iteration.Outcome.TheVariants.{Onward, Found, Foreign}
 
--- the books of a search by the configuration are between two turns
+-- the books of a search by the configuration are between two iterations
 abbrev pub ArePausedBy : Config → Task → List BookView → List (List (Origin Push)) → ℕ → Type 0
 ArePausedBy config task books trail positions =
     AreBetweenTurns task config.limit (config.workers + 1) config.locks books trail positions
@@ -24,7 +24,7 @@ ArePausedBy config task books trail positions =
 pub record HasLooked (config : Config) (task : Task) (books : List BookView) (layer : LayerView)
     (trail : List (List (Origin Push)))
     (before positions : ℕ) : Type 0 where
-  pub turn : ArePausedBy config task books trail before
+  pub paused : ArePausedBy config task books trail before
   pub join : IsJoinOf books layer
   pub counted : IsCounted config.limit trail layer before positions
 
@@ -37,8 +37,8 @@ AreWorkedBy config layer worked books =
 
 -- how an iteration ends: the search goes on with books that have closed the next layer; or there is an answer; or
 -- other books came back
-abbrev pub TurnAnswer : Config → Task → List (List (Origin Push)) → ℕ → ℕ → Turned → Type 0
-TurnAnswer config task trail before positions (Onward books) =
+abbrev pub IterationAnswer : Config → Task → List (List (Origin Push)) → ℕ → ℕ → Outcome → Type 0
+IterationAnswer config task trail before positions (Onward books) =
     ArePausedBy config task books.items trail positions × (before < positions)
-TurnAnswer config task trail before positions (Found answer) = IsAnswer task config.limit answer
-TurnAnswer config task trail before positions Foreign = Unit {0}
+IterationAnswer config task trail before positions (Found answer) = IsAnswer task config.limit answer
+IterationAnswer config task trail before positions Foreign = Unit {0}

@@ -5,9 +5,10 @@ ghost use Rattle.layers.specs.Books.{MayBegin};
 ghost use Rattle.crew.specs.Configured.{IsWithinLimits};
 ghost use Rattle.crew.specs.Lending.{ComeBack};
 ghost use Rattle.crew.specs.inside.States.{IsStateOf};
-ghost use Rattle.crew.specs.inside.Turning.{ArePausedBy, AreWorkedBy, HasLooked, TurnAnswer};
+ghost use Rattle.crew.specs.inside.Iterations.{ArePausedBy, AreWorkedBy, HasLooked, IterationAnswer};
 
 use crate::closing::finish_all;
+use crate::config::Config;
 use crate::desks::Desks;
 use crate::gate::Gate;
 use crate::joining::join_layer;
@@ -24,7 +25,7 @@ use std::thread::Threads;
 
 // How an iteration ended.
 #[derive(Drop)]
-pub(crate) enum Turned {
+pub(crate) enum Outcome {
     // The next layer is closed in these books.
     Onward(Vec<Book>),
     // There is an answer.
@@ -35,19 +36,19 @@ pub(crate) enum Turned {
 
 // Examines the last layer that the books closed, and lets the workers work through it if it gives no answer. Fails only
 // if out of memory.
-pub(crate) fn turn<R: Threads + Wait + Sync, G: Gate + Sync>(
+pub(crate) fn iterate<R: Threads + Wait + Sync, G: Gate + Sync>(
     rt: &R,
     terms: &Terms<'_, G>,
     books: Vec<Book>,
     state: &mut State<'_>,
-) -> Result<Turned, AllocError>
+) -> Result<Outcome, AllocError>
     requires limits { IsWithinLimits terms.now.config }
-    requires turn { ArePausedBy terms.now.config terms.now.problem.now books.items state.old.trail.items
+    requires paused { ArePausedBy terms.now.config terms.now.problem.now books.items state.old.trail.items
         state.old.positions }
     requires state { IsStateOf terms.now.problem.now state.old }
-    ensures turned { IfOk result
-        (λ turned. TurnAnswer terms.now.config terms.now.problem.now state.new.trail.items state.old.positions
-        state.new.positions turned) }
+    ensures outcome { IfOk result
+        (λ outcome. IterationAnswer terms.now.config terms.now.problem.now state.new.trail.items state.old.positions
+        state.new.positions outcome) }
     ensures state { (state.new.scratch.size ≡ state.old.scratch.size) × (state.new.desks ≡ state.old.desks) }
 {
     let config = terms.config;
@@ -63,7 +64,7 @@ pub(crate) fn turn<R: Threads + Wait + Sync, G: Gate + Sync>(
         &mut state.scratch,
     )?;
     if let Some(answer) = found {
-        return Ok(Turned::Found(answer));
+        return Ok(Outcome::Found(answer));
     }
     go_on(rt, terms, books, layer, state)
 }
@@ -75,17 +76,17 @@ fn go_on<R: Threads + Wait + Sync, G: Gate + Sync>(
     books: Vec<Book>,
     layer: Layer,
     state: &mut State<'_>,
-) -> Result<Turned, AllocError>
+) -> Result<Outcome, AllocError>
     requires limits { IsWithinLimits terms.now.config }
     requires looked { (before : ℕ) ×
         HasLooked terms.now.config terms.now.problem.now books.items layer state.old.trail.items before
         state.old.positions }
     requires state { IsStateOf terms.now.problem.now state.old }
-    ensures turned { (before : ℕ) →
+    ensures outcome { (before : ℕ) →
         HasLooked terms.now.config terms.now.problem.now books.items layer state.old.trail.items before
         state.old.positions →
-        IfOk result (λ turned. TurnAnswer terms.now.config terms.now.problem.now state.new.trail.items before
-        state.new.positions turned) }
+        IfOk result (λ outcome. IterationAnswer terms.now.config terms.now.problem.now state.new.trail.items before
+        state.new.positions outcome) }
     ensures state { (state.new.scratch.size ≡ state.old.scratch.size) × (state.new.desks ≡ state.old.desks) }
 {
     let positions = state.positions;
@@ -99,14 +100,14 @@ fn go_on<R: Threads + Wait + Sync, G: Gate + Sync>(
         &mut state.desks,
     )?;
     let Some((worked, after)) = back else {
-        return Ok(Turned::Foreign);
+        return Ok(Outcome::Foreign);
     };
     let (parents, room) = Parents::of(layer);
     state.trail.push(parents)?;
     state.room = room;
     match worked {
-        Worked::Over => Ok(Turned::Found(Answer::Limit)),
-        Worked::Through => Ok(Turned::Onward(after)),
+        Worked::Over => Ok(Outcome::Found(Answer::Limit)),
+        Worked::Through => Ok(Outcome::Onward(after)),
     }
 }
 
@@ -132,28 +133,28 @@ fn work_through<R: Threads + Wait + Sync, G: Gate + Sync>(
 {
     begin_each(books.as_mut_slice(), layer)?;
     let back = lend(rt, terms, books, layer, desks, positions)?;
-    finish_lent(rt, terms, back, layer, scratch)
+    finish_lent(rt, terms.config, back, layer, scratch)
 }
 
 // Does what is left of a layer in the books that came back, book by book. `None` exactly if they are other books than
 // those lent. Fails only if out of memory, and never with other books.
-fn finish_lent<R: Threads + Sync, G: Gate>(
+fn finish_lent<R: Threads + Sync>(
     rt: &R,
-    terms: &Terms<'_, G>,
+    config: Config,
     mut back: Vec<Book>,
     layer: &Layer,
     scratch: &mut Scratch,
 ) -> Result<Option<(Worked, Vec<Book>)>, AllocError>
-    requires limits { IsWithinLimits terms.now.config }
+    requires limits { IsWithinLimits config }
     requires room { scratch.old.size ≡ length layer.now.level.board.cells }
-    ensures others { ¬ (ComeBack terms.now.config layer.now back.items) → result ≡ Ok None }
-    ensures own { ComeBack terms.now.config layer.now back.items → IfOk result IsSome }
-    ensures worked { IfOk result (λ back. IfSome back (λ b. AreWorkedBy terms.now.config layer.now b.0 b.1.items)) }
+    ensures others { ¬ (ComeBack config layer.now back.items) → result ≡ Ok None }
+    ensures own { ComeBack config layer.now back.items → IfOk result IsSome }
+    ensures worked { IfOk result (λ back. IfSome back (λ b. AreWorkedBy config layer.now b.0 b.1.items)) }
     ensures size { scratch.new.size ≡ scratch.old.size }
 {
-    if !come_back(back.as_slice(), terms.config, layer) {
+    if !come_back(back.as_slice(), config, layer) {
         return Ok(None);
     }
-    let worked = finish_all(rt, terms, back.as_mut_slice(), layer, scratch)?;
+    let worked = finish_all(rt, config, back.as_mut_slice(), layer, scratch)?;
     Ok(Some((worked, back)))
 }

@@ -1,4 +1,4 @@
--- A turn of a search with workers.
+-- An iteration of a search with workers.
 use Rattle.std.proofs.Common.{◌≡◌, ℕ, ◌+◌, List, [], ◌∷◌, ◌++◌, length, Some, inl, inr, refl, sym, subst}
 use Rattle.std.specs.Prelude.{slice_get}
 use Rattle.grid.specs.declared.square.Push.{Push}
@@ -15,27 +15,27 @@ use Rattle.solo.proofs.lemmas.Together.{still_dealt, still_working, together_lim
 use Rattle.solo.proofs.lemmas.Turns.{all_shares, may_begin, next_of, trail_grown, turn_on, turn_over}
 use Rattle.crew.specs.Configured.{IsWithinLimits}
 use Rattle.crew.specs.declared.config.Config.{Config}
-use Rattle.crew.specs.inside.Turning.{ArePausedBy, AreWorkedBy}
+use Rattle.crew.specs.inside.Iterations.{ArePausedBy, AreWorkedBy}
 
 module _ (config : Config) (task : Task) (books : List BookView) (trail : List (List (Origin Push))) (positions : ℕ) (limits : IsWithinLimits config)
-    (turn : ArePausedBy config task books trail positions) where
+    (paused : ArePausedBy config task books trail positions) where
   -- the books can be joined
   pub joinable : AreAllShares books
-  joinable = all_shares task config.limit (config.workers + 1) config.locks books trail positions limits.locks.0 turn
+  joinable = all_shares task config.limit (config.workers + 1) config.locks books trail positions limits.locks.0 paused
 
   -- their last closed layer is the next one of the level
   pub next_layer : (layer : LayerView) → IsJoinOf books layer → (layer.level ≡ task) × (layer.number ≡ length trail)
-  next_layer layer join = next_of task config.limit (config.workers + 1) config.locks books trail positions layer limits.locks.0 turn join
+  next_layer layer join = next_of task config.limit (config.workers + 1) config.locks books trail positions layer limits.locks.0 paused join
 
   -- each of them may begin it
   pub begins : (layer : LayerView) → IsJoinOf books layer → (i : ℕ) (v : BookView) → slice_get books i ≡ Some v → MayBegin v layer
-  begins layer join = may_begin task config.limit (config.workers + 1) config.locks books trail positions layer turn (next_layer layer join)
+  begins layer join = may_begin task config.limit (config.workers + 1) config.locks books trail positions layer paused (next_layer layer join)
 
-  -- the layers before it were looked at
+  -- the layers before it were examined
   pub looked_before : (layer : LayerView) → IsJoinOf books layer → IsLookedAt layer.level config.limit trail positions
-  looked_before layer join = subst (λ b. IsLookedAt b config.limit trail positions) (sym (next_layer layer join).0) turn.looked
+  looked_before layer join = subst (λ b. IsLookedAt b config.limit trail positions) (sym (next_layer layer join).0) paused.looked
 
-  -- once it was looked at, and its ranks are done in books that came back, these are between two turns again
+  -- once it was examined, and its ranks are done in books that came back, these are between two iterations again
   pub goes_on : (layer : LayerView) (count : ℕ) (after : List BookView) (all : List (List (Origin Push))) (parents : List (Origin Push)) →
       IsJoinOf books layer → IsLookedAt layer.level config.limit (trail ++ layer.origins ∷ []) count → AreWorkedBy config layer Through after →
       all ≡ trail ++ parents ∷ [] → parents ≡ layer.origins → ArePausedBy config task after all count

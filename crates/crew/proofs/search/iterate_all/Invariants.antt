@@ -1,11 +1,11 @@
 use Rattle.std.proofs.Common.{◌-◌}
 use Rattle.crew.specs.inside.States.{IsStateOf}
-use Rattle.crew.specs.inside.Turning.{ArePausedBy}
-use Rattle.crew.proofs.search.all_turns.Given as goal
+use Rattle.crew.specs.inside.Iterations.{ArePausedBy}
+use Rattle.crew.proofs.search.iterate_all.Given as goal
 
 abbrev pub invariant-loop-state : goal.invariant-loop-state
 invariant-loop-state g l = record {
-  turn : ArePausedBy l.terms.config l.terms.problem.now l.books.items l.state.trail.items l.state.positions;
+  paused : ArePausedBy l.terms.config l.terms.problem.now l.books.items l.state.trail.items l.state.positions;
   own : IsStateOf l.terms.problem.now l.state;
 }
 
