@@ -5,7 +5,7 @@ ghost use Rattle.layers.specs.Books.{MayBegin};
 ghost use Rattle.crew.specs.Configured.{IsWithinLimits};
 ghost use Rattle.crew.specs.Lending.{ComeBack};
 ghost use Rattle.crew.specs.inside.States.{IsStateOf};
-ghost use Rattle.crew.specs.inside.Iterations.{ArePausedBy, AreWorkedBy, HasLooked, IterationAnswer};
+ghost use Rattle.crew.specs.inside.Iterations.{ArePausedBy, AreWorkedBy, HasLooked, IsOutcome};
 
 use crate::closing::finish_all;
 use crate::config::Config;
@@ -13,7 +13,7 @@ use crate::desks::Desks;
 use crate::gate::Gate;
 use crate::joining::join_layer;
 use crate::lent::{come_back, lend};
-use crate::terms::{State, Terms};
+use crate::settings::{Settings, State};
 use area::Scratch;
 use layers::{Book, Layer, Parents};
 use solo::Answer;
@@ -38,25 +38,25 @@ pub(crate) enum Outcome {
 // if out of memory.
 pub(crate) fn iterate<R: Threads + Wait + Sync, G: Gate + Sync>(
     rt: &R,
-    terms: &Terms<'_, G>,
+    settings: &Settings<'_, G>,
     books: Vec<Book>,
     state: &mut State<'_>,
 ) -> Result<Outcome, AllocError>
-    requires limits { IsWithinLimits terms.now.config }
-    requires paused { ArePausedBy terms.now.config terms.now.problem.now books.items state.old.trail.items
+    requires limits { IsWithinLimits settings.now.config }
+    requires paused { ArePausedBy settings.now.config settings.now.problem.now books.items state.old.trail.items
         state.old.positions }
-    requires state { IsStateOf terms.now.problem.now state.old }
+    requires state { IsStateOf settings.now.problem.now state.old }
     ensures outcome { IfOk result
-        (λ outcome. IterationAnswer terms.now.config terms.now.problem.now state.new.trail.items state.old.positions
+        (λ outcome. IsOutcome settings.now.config settings.now.problem.now state.new.trail.items state.old.positions
         state.new.positions outcome) }
     ensures state { (state.new.scratch.size ≡ state.old.scratch.size) × (state.new.desks ≡ state.old.desks) }
 {
-    let config = terms.config;
-    let mut room = Vec::new(terms.alloc);
+    let config = settings.config;
+    let mut room = Vec::new(settings.alloc);
     swap(&mut room, &mut state.room);
-    let layer = join_layer(rt, terms.alloc, books.as_slice(), config.workers, room)?;
+    let layer = join_layer(rt, settings.alloc, books.as_slice(), config.workers, room)?;
     let found = look(
-        terms.alloc,
+        settings.alloc,
         state.trail.as_slice(),
         &mut state.positions,
         &layer,
@@ -66,33 +66,33 @@ pub(crate) fn iterate<R: Threads + Wait + Sync, G: Gate + Sync>(
     if let Some(answer) = found {
         return Ok(Outcome::Found(answer));
     }
-    go_on(rt, terms, books, layer, state)
+    go_on(rt, settings, books, layer, state)
 }
 
 // Lets the workers work through the examined layer. Fails only if out of memory.
 fn go_on<R: Threads + Wait + Sync, G: Gate + Sync>(
     rt: &R,
-    terms: &Terms<'_, G>,
+    settings: &Settings<'_, G>,
     books: Vec<Book>,
     layer: Layer,
     state: &mut State<'_>,
 ) -> Result<Outcome, AllocError>
-    requires limits { IsWithinLimits terms.now.config }
+    requires limits { IsWithinLimits settings.now.config }
     requires looked { (before : ℕ) ×
-        HasLooked terms.now.config terms.now.problem.now books.items layer state.old.trail.items before
+        HasLooked settings.now.config settings.now.problem.now books.items layer state.old.trail.items before
         state.old.positions }
-    requires state { IsStateOf terms.now.problem.now state.old }
+    requires state { IsStateOf settings.now.problem.now state.old }
     ensures outcome { (before : ℕ) →
-        HasLooked terms.now.config terms.now.problem.now books.items layer state.old.trail.items before
+        HasLooked settings.now.config settings.now.problem.now books.items layer state.old.trail.items before
         state.old.positions →
-        IfOk result (λ outcome. IterationAnswer terms.now.config terms.now.problem.now state.new.trail.items before
+        IfOk result (λ outcome. IsOutcome settings.now.config settings.now.problem.now state.new.trail.items before
         state.new.positions outcome) }
     ensures state { (state.new.scratch.size ≡ state.old.scratch.size) × (state.new.desks ≡ state.old.desks) }
 {
     let positions = state.positions;
     let back = work_through(
         rt,
-        terms,
+        settings,
         books,
         &layer,
         positions,
@@ -115,25 +115,25 @@ fn go_on<R: Threads + Wait + Sync, G: Gate + Sync>(
 // the layer, book by book. `None` if other books came back. Fails only if out of memory.
 fn work_through<R: Threads + Wait + Sync, G: Gate + Sync>(
     rt: &R,
-    terms: &Terms<'_, G>,
+    settings: &Settings<'_, G>,
     mut books: Vec<Book>,
     layer: &Layer,
     positions: u64,
     scratch: &mut Scratch,
     desks: &mut Desks<'_>,
 ) -> Result<Option<(Worked, Vec<Book>)>, AllocError>
-    requires limits { IsWithinLimits terms.now.config }
+    requires limits { IsWithinLimits settings.now.config }
     requires may { (i : ℕ) (v : BookView) → slice_get books.items i ≡ Some v → MayBegin v layer.now }
-    requires few { length layer.now.places ≤ terms.now.config.limit }
+    requires few { length layer.now.places ≤ settings.now.config.limit }
     requires room { scratch.old.size ≡ length layer.now.level.board.cells }
     requires desks { desks.old ≡ layer.now.level }
-    ensures worked { IfOk result (λ back. IfSome back (λ b. AreWorkedBy terms.now.config layer.now b.0 b.1.items)) }
+    ensures worked { IfOk result (λ back. IfSome back (λ b. AreWorkedBy settings.now.config layer.now b.0 b.1.items)) }
     ensures size { scratch.new.size ≡ scratch.old.size }
     ensures desks { desks.new ≡ desks.old }
 {
     begin_each(books.as_mut_slice(), layer)?;
-    let back = lend(rt, terms, books, layer, desks, positions)?;
-    finish_lent(rt, terms.config, back, layer, scratch)
+    let back = lend(rt, settings, books, layer, desks, positions)?;
+    finish_lent(rt, settings.config, back, layer, scratch)
 }
 
 // Does what is left of a layer in the books that came back, book by book. `None` exactly if they are other books than

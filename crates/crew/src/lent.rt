@@ -9,8 +9,8 @@ use crate::config::Config;
 use crate::desks::Desks;
 use crate::gate::Gate;
 use crate::held::Within;
+use crate::settings::Settings;
 use crate::shift::Shift;
-use crate::terms::Terms;
 use claims::{Drawer, Ledger};
 use layers::{Book, Layer};
 use std::alloc::{AllocError, Global};
@@ -23,23 +23,23 @@ use std::thread::Threads;
 // if out of memory.
 pub(crate) fn lend<'a, R: Threads + Wait + Sync, G: Gate + Sync>(
     rt: &R,
-    terms: &Terms<'_, G>,
+    settings: &Settings<'_, G>,
     books: Vec<Book>,
     layer: &Layer,
     desks: &mut Desks<'a>,
     positions: u64,
 ) -> Result<Vec<Book>, AllocError>
-    requires few { length layer.now.places ≤ terms.now.config.limit }
+    requires few { length layer.now.places ≤ settings.now.config.limit }
     requires desks { desks.old ≡ layer.now.level }
     ensures desks { desks.new ≡ desks.old }
 {
-    let alloc = terms.alloc;
-    let limit = terms.config.limit;
+    let alloc = settings.alloc;
+    let limit = settings.config.limit;
     let (ledger, drawer) = ledger_of(alloc, layer, limit)?;
     let locks = lock_each(alloc, books)?;
     let held = AtomicU64::new(positions);
     let gate = Within {
-        gate: terms.gate,
+        gate: settings.gate,
         held: &held,
         limit,
     };
@@ -49,7 +49,7 @@ pub(crate) fn lend<'a, R: Threads + Wait + Sync, G: Gate + Sync>(
         books: locks.as_slice(),
         ledger: &ledger,
         gate: &gate,
-        workers: terms.config.workers.saturating_add(1),
+        workers: settings.config.workers.saturating_add(1),
         held: &held,
     };
     desks.work(rt, &shift, drawer);

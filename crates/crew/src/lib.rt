@@ -33,8 +33,8 @@ mod joining;
 mod lent;
 mod locking;
 mod search;
+mod settings;
 mod shift;
-mod terms;
 mod worker;
 mod workers;
 

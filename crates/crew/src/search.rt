@@ -12,7 +12,7 @@ use crate::config::Config;
 use crate::desks::Desks;
 use crate::gate::Gate;
 use crate::iteration::{Outcome, iterate};
-use crate::terms::{State, Terms};
+use crate::settings::{Settings, State};
 use area::Scratch;
 use grid::{Level, MAX_BOXES};
 use layers::{Book, Dealing, Problem};
@@ -95,41 +95,41 @@ fn search_by<R: Threads + Wait + Sync, G: Gate + Sync>(
     };
     let books = new_books(alloc, problem, config.limit, dealing, &mut scratch)?;
     let desks = Desks::of(alloc, problem, config.workers);
-    let terms = Terms {
+    let settings = Settings {
         alloc,
         problem: &**problem,
         config,
         gate,
     };
-    iterate_all(rt, &terms, books, scratch, desks)
+    iterate_all(rt, &settings, books, scratch, desks)
 }
 
 // Examines layer after layer until there is an answer. `None` if other books came back than those lent. Fails only if
 // out of memory.
 fn iterate_all<R: Threads + Wait + Sync, G: Gate + Sync>(
     rt: &R,
-    terms: &Terms<'_, G>,
+    settings: &Settings<'_, G>,
     first: Vec<Book>,
     scratch: Scratch,
     desks: Desks<'_>,
 ) -> Result<Option<Answer>, AllocError>
-    requires limits { IsWithinLimits terms.now.config }
-    requires first { ArePausedBy terms.now.config terms.now.problem.now first.items [] 0 }
-    requires room { scratch.size ≡ length terms.now.problem.now.board.cells }
-    requires desks { desks ≡ terms.now.problem.now }
+    requires limits { IsWithinLimits settings.now.config }
+    requires first { ArePausedBy settings.now.config settings.now.problem.now first.items [] 0 }
+    requires room { scratch.size ≡ length settings.now.problem.now.board.cells }
+    requires desks { desks ≡ settings.now.problem.now }
     ensures { IfOk result
-        (λ found. IfSome found (λ answer. IsAnswer terms.now.problem.now terms.now.config.limit answer)) }
+        (λ found. IfSome found (λ answer. IsAnswer settings.now.problem.now settings.now.config.limit answer)) }
 {
     let mut state = State {
-        trail: Vec::new(terms.alloc),
+        trail: Vec::new(settings.alloc),
         positions: 0,
-        room: Vec::new(terms.alloc),
+        room: Vec::new(settings.alloc),
         scratch,
         desks,
     };
     let mut books = first;
     loop {
-        match iterate(rt, terms, books, &mut state)? {
+        match iterate(rt, settings, books, &mut state)? {
             Outcome::Onward(next) => books = next,
             Outcome::Found(answer) => return Ok(Some(answer)),
             Outcome::Foreign => return Ok(None),

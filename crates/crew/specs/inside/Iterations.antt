@@ -35,10 +35,10 @@ AreWorkedBy config layer worked books =
     AreWorkingOn layer before
     × AreFinished config.limit before layer worked books
 
--- how an iteration ends: the search goes on with books that have closed the next layer; or there is an answer; or
+-- the outcome of an iteration: the search goes on with books that have closed the next layer; or there is an answer; or
 -- other books came back
-abbrev pub IterationAnswer : Config → Task → List (List (Origin Push)) → ℕ → ℕ → Outcome → Type 0
-IterationAnswer config task trail before positions (Onward books) =
+abbrev pub IsOutcome : Config → Task → List (List (Origin Push)) → ℕ → ℕ → Outcome → Type 0
+IsOutcome config task trail before positions (Onward books) =
     ArePausedBy config task books.items trail positions × (before < positions)
-IterationAnswer config task trail before positions (Found answer) = IsAnswer task config.limit answer
-IterationAnswer config task trail before positions Foreign = Unit {0}
+IsOutcome config task trail before positions (Found answer) = IsAnswer task config.limit answer
+IsOutcome config task trail before positions Foreign = Unit {0}

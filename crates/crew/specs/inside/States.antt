@@ -1,7 +1,7 @@
 -- The state of a search.
 use Rattle.std.specs.Prelude.{◌≡◌, length}
 use Rattle.successors.specs.Tasks.{Task}
-use Rattle.crew.specs.declared.terms.State.{State}
+use Rattle.crew.specs.declared.settings.State.{State}
 
 -- the caller's scratch is for the level, and the desks are over the problem
 abbrev pub IsStateOf : Task → State → Type 0

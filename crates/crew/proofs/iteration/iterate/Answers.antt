@@ -12,7 +12,7 @@ pub join_layer-requires : goal.join_layer-requires
 join_layer-requires g c = (
   search rules,
   subst AreAllShares (sym c.as_slice.ensures.value)
-      (joinable c.args.terms.now.config c.args.terms.now.problem.now c.args.books.items c.args.state.now.trail.items c.args.state.now.positions
+      (joinable c.args.settings.now.config c.args.settings.now.problem.now c.args.books.items c.args.state.now.trail.items c.args.state.now.positions
       c.requires.limits c.requires.paused),
 )
 
@@ -20,15 +20,15 @@ pub look-requires-clause-looked : goal.look-requires-clause-looked
 look-requires-clause-looked g c =
     let layer = c.in_ok-layer.layer in
     let join : IsJoinOf c.args.books.items layer = subst (λ bs. IsJoinOf bs layer) c.as_slice.ensures.value c.in_ok-layer.ensures in
-    subst (λ ls. IsLookedAt layer.level c.args.terms.now.config.limit ls c.args.state.now.positions) (sym c.as_slice-2.ensures.value)
-    (looked_before c.args.terms.now.config c.args.terms.now.problem.now c.args.books.items c.args.state.now.trail.items c.args.state.now.positions
+    subst (λ ls. IsLookedAt layer.level c.args.settings.now.config.limit ls c.args.state.now.positions) (sym c.as_slice-2.ensures.value)
+    (looked_before c.args.settings.now.config c.args.settings.now.problem.now c.args.books.items c.args.state.now.trail.items c.args.state.now.positions
     c.requires.limits c.requires.paused layer join)
 
 pub look-requires-clause-next : goal.look-requires-clause-next
 look-requires-clause-next g c =
     let layer = c.in_ok-layer.layer in
     let join : IsJoinOf c.args.books.items layer = subst (λ bs. IsJoinOf bs layer) c.as_slice.ensures.value c.in_ok-layer.ensures in
-    (next_layer c.args.terms.now.config c.args.terms.now.problem.now c.args.books.items c.args.state.now.trail.items c.args.state.now.positions
+    (next_layer c.args.settings.now.config c.args.settings.now.problem.now c.args.books.items c.args.state.now.trail.items c.args.state.now.positions
     c.requires.limits c.requires.paused layer join).1 ∙ ap length (sym c.as_slice-2.ensures.value)
 
 pub look-requires-clause-room : goal.look-requires-clause-room
@@ -36,25 +36,25 @@ look-requires-clause-room g c =
     let layer = c.in_ok-layer.layer in
     let join : IsJoinOf c.args.books.items layer = subst (λ bs. IsJoinOf bs layer) c.as_slice.ensures.value c.in_ok-layer.ensures in
     c.requires.state.0 ∙ ap (λ (t : Task). length t.board.cells)
-    (sym (next_layer c.args.terms.now.config c.args.terms.now.problem.now c.args.books.items c.args.state.now.trail.items c.args.state.now.positions
+    (sym (next_layer c.args.settings.now.config c.args.settings.now.problem.now c.args.books.items c.args.state.now.trail.items c.args.state.now.positions
     c.requires.limits c.requires.paused layer join).0)
 
 pub returns-in-Some-clause-outcome : goal.returns-in-Some-clause-outcome
 returns-in-Some-clause-outcome g c =
-    let layer = c.in_ok-layer.layer in let limit = c.args.terms.now.config.limit in
+    let layer = c.in_ok-layer.layer in let limit = c.args.settings.now.config.limit in
     let join : IsJoinOf c.args.books.items layer = subst (λ bs. IsJoinOf bs layer) c.as_slice.ensures.value c.in_ok-layer.ensures in
-    let next = next_layer c.args.terms.now.config c.args.terms.now.problem.now c.args.books.items c.args.state.now.trail.items c.args.state.now.positions
+    let next = next_layer c.args.settings.now.config c.args.settings.now.problem.now c.args.books.items c.args.state.now.trail.items c.args.state.now.positions
     c.requires.limits c.requires.paused layer join in
     subst (λ b. IsAnswer b limit c.in-Some.answer) next.0 (subst (λ found. IfSome found (λ answer. IsAnswer layer.level limit answer)) c.in-Some.is
     c.in_ok-found.ensures.answer)
 
 pub go_on-requires-clause-looked : goal.go_on-requires-clause-looked
 go_on-requires-clause-looked g c κs within =
-    let layer = c.in_ok-layer.layer in let config = c.args.terms.now.config in let trail = c.args.state.now.trail.items in
+    let layer = c.in_ok-layer.layer in let config = c.args.settings.now.config in let trail = c.args.state.now.trail.items in
     let join : IsJoinOf c.args.books.items layer = subst (λ bs. IsJoinOf bs layer) c.as_slice.ensures.value c.in_ok-layer.ensures in
     let counted = subst (λ found. IfNone found (IsCounted config.limit c.as_slice-2.result.now layer c.args.state.now.positions c.look.new.positions))
     c.in_default.is c.in_ok-found.ensures.onward in
-    let looked : HasLooked config c.args.terms.now.problem.now c.args.books.items layer trail c.args.state.now.positions c.look.new.positions = record {
+    let looked : HasLooked config c.args.settings.now.problem.now c.args.books.items layer trail c.args.state.now.positions c.look.new.positions = record {
       paused = c.requires.paused;
       join = join;
       counted = subst (λ ls. IsCounted config.limit ls layer c.args.state.now.positions c.look.new.positions) c.as_slice-2.ensures.value counted;
@@ -65,11 +65,11 @@ go_on-requires-clause-state g c κs within = (c.look.ensures.size ∙ c.requires
 
 pub returns-clause-outcome : goal.returns-clause-outcome
 returns-clause-outcome g c =
-    let layer = c.in_ok-layer.layer in let config = c.args.terms.now.config in let trail = c.args.state.now.trail.items in
+    let layer = c.in_ok-layer.layer in let config = c.args.settings.now.config in let trail = c.args.state.now.trail.items in
     let join : IsJoinOf c.args.books.items layer = subst (λ bs. IsJoinOf bs layer) c.as_slice.ensures.value c.in_ok-layer.ensures in
     let counted = subst (λ found. IfNone found (IsCounted config.limit c.as_slice-2.result.now layer c.args.state.now.positions c.look.new.positions))
     c.in_default.is c.in_ok-found.ensures.onward in
-    let looked : HasLooked config c.args.terms.now.problem.now c.args.books.items layer trail c.args.state.now.positions c.look.new.positions = record {
+    let looked : HasLooked config c.args.settings.now.problem.now c.args.books.items layer trail c.args.state.now.positions c.look.new.positions = record {
       paused = c.requires.paused;
       join = join;
       counted = subst (λ ls. IsCounted config.limit ls layer c.args.state.now.positions c.look.new.positions) c.as_slice-2.ensures.value counted;

@@ -5,9 +5,9 @@ use Rattle.crew.proofs.search.iterate_all.Given as goal
 
 abbrev pub invariant-loop-state : goal.invariant-loop-state
 invariant-loop-state g l = record {
-  paused : ArePausedBy l.terms.config l.terms.problem.now l.books.items l.state.trail.items l.state.positions;
-  own : IsStateOf l.terms.problem.now l.state;
+  paused : ArePausedBy l.settings.config l.settings.problem.now l.books.items l.state.trail.items l.state.positions;
+  own : IsStateOf l.settings.problem.now l.state;
 }
 
 abbrev pub decreases-loop-state : goal.decreases-loop-state
-decreases-loop-state g l = l.terms.config.limit - l.state.positions
+decreases-loop-state g l = l.settings.config.limit - l.state.positions

@@ -9,7 +9,7 @@ use std::alloc::Global;
 
 /// The settings of a search: the allocator, the problem, the configuration and the gate.
 #[derive(Drop)]
-pub(crate) struct Terms<'s, G: Gate> {
+pub(crate) struct Settings<'s, G: Gate> {
     pub(crate) alloc: Global,
     pub(crate) problem: &'s Problem,
     pub(crate) config: Config,
