@@ -58,12 +58,12 @@ in_range (x ∷ xs) (suc i) lt = in_range xs i (omega (arith, lt))
 
 -- ---- turns
 
-turns_added : (xs : List Entry) (y : Entry) → turns (xs ++ y ∷ []) ≡ turns xs + (2 * y.pushes + openness y.least)
+turns_added : (xs : List Entry) (y : Entry) → turns (xs ++ y ∷ []) ≡ turns xs + (4294967297 * y.pushes + openness y.least)
 turns_added [] y = omega arith
 turns_added (x ∷ xs) y = let e = turns_added xs y in omega (arith, e)
 
 pub turns_set : (xs : List Entry) (i : ℕ) (x y : Entry) → slice_get xs i ≡ Some x →
-    turns (set xs i y) + (2 * x.pushes + openness x.least) ≡ turns xs + (2 * y.pushes + openness y.least)
+    turns (set xs i y) + (4294967297 * x.pushes + openness x.least) ≡ turns xs + (4294967297 * y.pushes + openness y.least)
 turns_set [] i x y e = absurd (none-some x e)
 turns_set (z ∷ xs) zero x y e =
     let p = ap (λ (w : Entry). w.pushes) (same_Some z x e) in
@@ -71,7 +71,7 @@ turns_set (z ∷ xs) zero x y e =
     omega (arith, p, o)
 turns_set (z ∷ xs) (suc i) x y e = let f = turns_set xs i x y e in omega (arith, f)
 
-pub few_open : (o : Option ℕ) → openness o ≤ 1
+pub few_open : (o : Option ℕ) → openness o ≤ 4294967296
 few_open None = omega arith
 few_open (Some n) = omega arith
 
@@ -85,22 +85,22 @@ added_turns old y few =
       turns = λ limit le.
           (let sum = turns_added old y in
           let one = few_open y.least in
-          let step : (limit - length old) * (2 * limit + 2) ≡
-          (limit - length (old ++ y ∷ [])) * (2 * limit + 2) + (2 * limit + 2) =
+          let step : (limit - length old) * (4294967297 * limit + 4294967297) ≡
+          (limit - length (old ++ y ∷ [])) * (4294967297 * limit + 4294967297) + (4294967297 * limit + 4294967297) =
           one_less limit (length old) (length (old ++ y ∷ [])) (omega (arith, long)) le in
           omega (arith, sum, one, step, few, long, le));
     }
   where
-    one_less : (limit n m : ℕ) → m ≡ suc n → m ≤ limit → (limit - n) * (2 * limit + 2) ≡ (limit - m) * (2 * limit + 2) + (2 * limit + 2)
-    one_less limit n m e le = let f : limit - n ≡ suc (limit - m) = omega (arith, e, le) in ap (λ (k : ℕ). k * (2 * limit + 2)) f ∙ omega arith
+    one_less : (limit n m : ℕ) → m ≡ suc n → m ≤ limit → (limit - n) * (4294967297 * limit + 4294967297) ≡ (limit - m) * (4294967297 * limit + 4294967297) + (4294967297 * limit + 4294967297)
+    one_less limit n m e le = let f : limit - n ≡ suc (limit - m) = omega (arith, e, le) in ap (λ (k : ℕ). k * (4294967297 * limit + 4294967297)) f ∙ omega arith
 
 -- a write that lessens an entry lessens the turns
 pub fewer_turns : (old : List Entry) (i limit : ℕ) (x y : Entry) → slice_get old i ≡ Some x →
-    2 * y.pushes + openness y.least < 2 * x.pushes + openness x.least → turns_left limit (set old i y) < turns_left limit old
+    4294967297 * y.pushes + openness y.least < 4294967297 * x.pushes + openness x.least → turns_left limit (set old i y) < turns_left limit old
 fewer_turns old i limit x y at less =
     let sum = turns_set old i x y at in
     let long = length-set old i y in
-    let same : (limit - length (set old i y)) * (2 * limit + 2) ≡ (limit - length old) * (2 * limit + 2) = ap (λ (k : ℕ). (limit - k) * (2 * limit + 2)) long in
+    let same : (limit - length (set old i y)) * (4294967297 * limit + 4294967297) ≡ (limit - length old) * (4294967297 * limit + 4294967297) = ap (λ (k : ℕ). (limit - k) * (4294967297 * limit + 4294967297)) long in
     omega (arith, sum, same, less)
 
 -- ---- a position enters

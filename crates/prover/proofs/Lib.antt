@@ -3,6 +3,8 @@ pub mod Columns
 pub mod OnGoals
 pub mod Openings
 pub mod Entering
+pub mod Deferring
 pub mod Steps
+pub mod Endings
 pub mod Queues
 pub mod ReadingBack

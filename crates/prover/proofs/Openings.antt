@@ -11,13 +11,18 @@ use Rattle.successors.specs.Expansion.{after_push}
 use Rattle.grid.proofs.lemmas.Plays.{walk_keeps_boxes}
 use Rattle.prices.specs.Solving.{Allows, SolvableWithin}
 use Rattle.prices.proofs.lemmas.Solving.{solved_before, norms_change_nothing}
+use Rattle.prover.proofs.Deferring.{tightened}
 use Rattle.prover.proofs.OnGoals.{solved_or_not}
 use Rattle.prover.proofs.lemmas.Pruning.{keeps_so}
 use Rattle.store.specs.Visited.{Entry}
 use Rattle.prover.specs.Frontier.{IsFound, IsDoneFor, IsBefore, IsSettled, IsSound, AreSound, IsOnTheWay, IsBound, ComesFrom}
 use Rattle.prover.specs.Frontier.{NothingIsLost, LeastBounds, ClosedDecides}
-use Rattle.prover.specs.inside.Working.{KeepPlaces, Expands}
+use Rattle.prover.specs.inside.Working.{KeepPlaces, Expands, tighter}
 use Rattle.store.specs.declared.visited.Parent.{Parent}
+
+pub allows_fewer : (cap : Option ℕ) (m n : ℕ) → m ≤ n → Allows cap n → Allows cap m
+allows_fewer None m n le ok = tt
+allows_fewer (Some most) m n le ok = omega (arith, le, ok)
 
 -- within no push, only solved states are solvable
 none_solved : (board : Board) (s : Scene) → SolvableWithin board 0 s → IsSolved board s
@@ -138,10 +143,10 @@ settled_open board cap all x least open_ bound most allowed before = record {
     lt : most < least
     lt = subst (λ (o : Option ℕ). IsBefore o most) open_ before
 
--- a position whose expansion kept what it has to is settled as closed
-pub settled_closed : (board : Board) (cap : Option ℕ) (all : List Entry) (x : Entry) → ¬ (IsSolved board x.position) →
-    Expands board cap all x.pushes x.position → IsSettled board cap all x
-settled_closed board cap all x unsolved expands most allowed before = record {
+-- a position whose expansion kept what it has to, up to what is left for later, is settled up to there
+pub settled_expanded : (board : Board) (cap : Option ℕ) (all : List Entry) (x : Entry) (next : Option ℕ) → x.least ≡ next → ¬ (IsSolved board x.position) →
+    Expands board (tighter cap next) all x.pushes x.position → IsSettled board cap all x
+settled_expanded board cap all x next is unsolved expands most allowed before = record {
   unsolved = λ solved. absurd (unsolved solved);
-  keeps = expands most allowed;
+  keeps = expands most (tightened cap next most allowed (subst (λ (o : Option ℕ). IsBefore o most) is before));
 }

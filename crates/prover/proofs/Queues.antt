@@ -11,11 +11,11 @@ use Rattle.std.specs.List.{Contains}
 use Rattle.std.specs.List.Sorted.{IsPermutation}
 use Rattle.std.specs.Ordering.{is_lt, ordering_then}
 use Rattle.std.specs.Prelude.{slice_get}
-use Rattle.store.specs.Visited.{Entry, HasEntered, closed}
+use Rattle.store.specs.Visited.{Entry, HasEntered, with_least}
 use Rattle.prover.specs.declared.queue.Ticket.{Ticket}
 use Rattle.prover.specs.Frontier.{AreClosed}
 use Rattle.prover.specs.inside.Tickets.{ticket_cmp}
-use Rattle.prover.specs.inside.Working.{IsClosedAt, IsFirst, IsLeastOpen, IsQueued, Waits}
+use Rattle.prover.specs.inside.Working.{HasLeastAt, IsFirst, IsLeastOpen, IsQueued, Waits}
 use Rattle.prover.proofs.Entering.{either_at, set_either}
 
 -- ---- tickets
@@ -99,15 +99,16 @@ queued_more old new e place least before after is entered queued here others = b
           | inr (p, q) ↦ others n i (queued i x n q open_)
         ]
 
--- a position was closed
-pub queued_closed : (old new : List Entry) (x : Entry) (place : ℕ) (tickets : List Ticket) → slice_get old place ≡ Some x → IsClosedAt old place new →
-    IsQueued old tickets → IsQueued new tickets
-queued_closed old new x place tickets here has queued = subst (λ (xs : List Entry). IsQueued xs tickets) (sym (has x here)) after
+-- the least total of a position was set, and its ticket entered
+pub queued_set : (old new : List Entry) (x : Entry) (place : ℕ) (least : Option ℕ) (before after : List Ticket) → slice_get old place ≡ Some x →
+    HasLeastAt old place least new → IsQueued old before → ((n : ℕ) → least ≡ Some n → Waits after n place) →
+    ((n p : ℕ) → Waits before n p → Waits after n p) → IsQueued new after
+queued_set old new x place least before after here has queued waits others = subst (λ (xs : List Entry). IsQueued xs after) (sym (has x here)) shown
   where
-    after : IsQueued (slice_set old place (closed x)) tickets
-    after i z least at open_ = elim (set_either old place i x (closed x) z here at) [
-      | inl (p, q) ↦ absurd (none-some least (ap (λ (w : Entry). w.least) (sym q) ∙ open_))
-      | inr (p, q) ↦ queued i z least q open_
+    shown : IsQueued (slice_set old place (with_least least x)) after
+    shown i z n at open_ = elim (set_either old place i x (with_least least x) z here at) [
+      | inl (p, q) ↦ subst (λ (k : ℕ). Waits after n k) (sym p) (waits n (ap (λ (w : Entry). w.least) (sym q) ∙ open_))
+      | inr (p, q) ↦ others n i (queued i z n q open_)
     ]
 
 -- a ticket was taken out whose position is not open with its total

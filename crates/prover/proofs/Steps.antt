@@ -1,10 +1,10 @@
 -- Steps of a search, over plain lists of what was found.
-use Rattle.std.proofs.Common.{◌≡◌, ℕ, zero, suc, ◌+◌, ◌≤◌, ◌<◌, List, [], ◌∷◌, ◌++◌, length, map, Option, None, Some, inl, inr, refl, sym, ap, subst}
+use Rattle.std.proofs.Common.{◌≡◌, ℕ, suc, ◌+◌, ◌≤◌, ◌<◌, List, [], ◌∷◌, ◌++◌, length, Option, None, Some, inl, inr, refl, sym, ap, subst}
 use Rattle.std.proofs.Common.{◌∙◌, arith}
-use Rattle.std.proofs.Common.{Result, Ok, Err, OnOk, set, max, ◌*◌, Bool, true, false, IsTrue, cond, nat_lt, get_or}
+use Rattle.std.proofs.Common.{Result, Ok, Err, OnOk, set, Bool, true, false, IsTrue, cond, nat_lt, get_or}
 use Rattle.std.proofs.lemmas.Bool.{cases_lt, cases_eq, false≢true, ltb-true, ltb-false}
 use Rattle.std.proofs.lemmas.List.{length-set}
-use Rattle.std.proofs.lemmas.Option.{none-some, same_Some, slice_get_within, slice_get_read}
+use Rattle.std.proofs.lemmas.Option.{same_Some, slice_get_within, slice_get_read}
 use Rattle.std.specs.Prelude.{slice_get}
 use Rattle.grid.specs.declared.square.Push.{Push}
 use Rattle.grid.specs.Board.{Board, Scene, IsSolved, start}
@@ -26,20 +26,15 @@ use Rattle.corrals.specs.Trying.{Suffice}
 use Rattle.corrals.proofs.lemmas.Corrals.{corrals_suffice}
 use Rattle.successors.specs.Expansion.{after_push}
 use Rattle.prover.specs.declared.pushing.Expanded.{Expanded}
-use Rattle.prover.specs.Fewest.{NoneHasFewer, IsReachable, HasMore}
-use Rattle.successors.specs.Distances.{AreDistinct}
-use Rattle.store.specs.Visited.{Entry, VisitedView, closed}
-use Rattle.prover.specs.Frontier.{IsFound, IsSound, IsUnderWay, AreFrom, AreClosed, IsBound, IsTotal, ComesFrom}
-use Rattle.prover.specs.inside.Working.{IsClosedAt, KeepPlaces, Expands, IsTaken, AreTaken, IsChosen, Enters, AreLeading, IsAtPlace, StayBelow, IsExpanding}
-use Rattle.prover.specs.inside.Working.{IsSearched, Widens, GoesOn, IsLeastOpen, openness, turns_left}
-use Rattle.prover.specs.inside.Rounds.{NoneIsAllowed, IsLeastSolved}
+use Rattle.prover.specs.Fewest.{IsReachable}
+use Rattle.store.specs.Visited.{Entry, VisitedView, with_least}
+use Rattle.prover.specs.Frontier.{IsFound, IsSound, IsUnderWay, IsBound, IsTotal, IsLeast, IsSettled, ComesFrom, NoneGoesOn}
+use Rattle.prover.specs.inside.Working.{HasLeastAt, KeepPlaces, Expands, IsTaken, AreTaken, IsChosen, Enters, AreLeading, IsAtPlace, StayBelow, IsExpanding}
+use Rattle.prover.specs.inside.Working.{IsSearched, Widens, GoesOn, IsLater, lesser, openness, tighter, turns_left}
 use Rattle.prover.proofs.lemmas.Pruning.{after_scene, all_suffice, pushed_from, pushed_push}
-use Rattle.prover.proofs.Openings.{found_on, settled_open, settled_closed, sound_on, least_bounds, closed_decides}
+use Rattle.prover.proofs.Openings.{allows_fewer, found_on, settled_open, settled_expanded, sound_on}
+use Rattle.prover.proofs.Deferring.{lesser_below}
 use Rattle.prover.proofs.Entering.{set_here, set_there, set_either, same_turns, fewer_turns}
-
-pub allows_fewer : (cap : Option ℕ) (m n : ℕ) → m ≤ n → Allows cap n → Allows cap m
-allows_fewer None m n le ok = tt
-allows_fewer (Some most) m n le ok = omega (arith, le, ok)
 
 -- what follows from a good answer
 pub on_ok_so : {T E A B : Type 0} (r : Result T E) → (A → B) → OnOk r A → OnOk r B
@@ -59,21 +54,12 @@ pub taken_found : (board : Board) (cap : Option ℕ) (all : List Entry) (k : ℕ
 taken_found board cap all k s n p scene can norm found m allowed solvable =
     (n, found, (norms_change_nothing board (after_push board s p) n (after_scene board s p scene can) norm m).0 solvable)
 
-pub taken_lost : (board : Board) (cap : Option ℕ) (all : List Entry) (k : ℕ) (s : Scene) (p : Push) → IsLost board (after_push board s p) →
-    IsTaken board cap all k s p
-taken_lost board cap all k s p lost m allowed (ds, ps, t, play, solved, few) = absurd (lost t ds ps play solved)
-
--- what no play solves from the normal form, none solves from the state
-pub norm_lost : (board : Board) (s n : Scene) → IsNorm board s n → IsScene board s → IsLost board n → IsLost board s
-norm_lost board s n norm scene lost t ds ps play solved =
-    let (es, qs, u, more, end, few) = (norms_change_nothing board s n scene norm (length ps)).0 (ds, ps, t, play, solved, omega arith) in
-    lost u es qs more end
-
-pub taken_over : (board : Board) (cap : Option ℕ) (all : List Entry) (k least : ℕ) (s n : Scene) (p : Push) → IsScene board s → CanPush board s p →
-    IsNorm board (after_push board s p) n → IsBound board (suc k) n least → ¬ (Allows cap least) → IsTaken board cap all k s p
-taken_over board cap all k least s n p scene can norm bound over m allowed solvable =
-    let le = bound m ((norms_change_nothing board (after_push board s p) n (after_scene board s p scene can) norm m).0 solvable) in
-    absurd (over (allows_fewer cap least (k + suc m) (omega (arith, le)) allowed))
+-- so is one after which no play that the cap allows ends solved
+pub taken_none : (board : Board) (cap : Option ℕ) (all : List Entry) (k : ℕ) (s n : Scene) (p : Push) → IsScene board s → CanPush board s p →
+    IsNorm board (after_push board s p) n → NoneGoesOn board cap (suc k) n → IsTaken board cap all k s p
+taken_none board cap all k s n p scene can norm none m allowed solvable =
+    absurd (none m (allows_fewer cap (suc k + m) (k + suc m) (omega arith) allowed)
+    ((norms_change_nothing board (after_push board s p) n (after_scene board s p scene can) norm m).0 solvable))
 
 -- so is one that never helps, however many pushes of those that the cap allows are left
 pub taken_useless : (board : Board) (cap left : Option ℕ) (all : List Entry) (k : ℕ) (s : Scene) (p : Push) → IsScene board s → CanPush board s p →
@@ -82,6 +68,26 @@ pub taken_useless : (board : Board) (cap left : Option ℕ) (all : List Entry) (
 taken_useless board cap left all k s p scene can never within m allowed (ds, ps, t, play, solved, few) =
     absurd (let more = never_leads_on board m s (after_push board s p) p scene (never m (within m allowed))
     (record { there = can.there; behind = can.behind; ahead = can.ahead; after = refl }) ds ps t play solved in omega (arith, more, few))
+
+-- what is done with up to a number is done with up to a lesser one
+pub taken_less : (board : Board) (cap lower : Option ℕ) (all : List Entry) (k : ℕ) (s : Scene) (p : Push) → ((m : ℕ) → Allows lower m → Allows cap m) →
+    IsTaken board cap all k s p → IsTaken board lower all k s p
+taken_less board cap lower all k s p narrows taken m allowed = taken m (narrows (k + suc m) allowed)
+
+pub are_taken_less : (board : Board) (cap lower : Option ℕ) (all : List Entry) (Tried : Push → Type 0) (k : ℕ) (s : Scene) (pushes : List Push) (count : ℕ) →
+    ((m : ℕ) → Allows lower m → Allows cap m) → AreTaken board cap all Tried k s pushes count → AreTaken board lower all Tried k s pushes count
+are_taken_less board cap lower all Tried k s pushes count narrows taken i p lt there tried =
+    taken_less board cap lower all k s p narrows (taken i p lt there tried)
+
+-- a push is left for later
+pub taken_later : (board : Board) (cap : Option ℕ) (all : List Entry) (k total : ℕ) (s n : Scene) (p : Push) (next : Option ℕ) → IsScene board s →
+    CanPush board s p → IsNorm board (after_push board s p) n → IsBound board (suc k) n total →
+    IsTaken board (tighter cap (lesser next total)) all k s p
+taken_later board cap all k total s n p next scene can norm bound m allowed solvable = absurd (
+    let le = bound m ((norms_change_nothing board (after_push board s p) n (after_scene board s p scene can) norm m).0 solvable) in
+    let lt = lesser_below cap next total (k + suc m) (omega arith) allowed in
+    omega (arith, le, lt)
+    )
 
 -- one more push is done with, if it is to be tried
 pub taken_more : (board : Board) (cap : Option ℕ) (old new : List Entry) (Tried : Push → Type 0) (k : ℕ) (s : Scene) (pushes : List Push) (i : ℕ) (p : Push)
@@ -123,14 +129,6 @@ chosen_suffice board left s false held level fits closure m allowed n le unsolve
 pub read_push : (xs ys : List Push) (i : ℕ) (p : Push) → xs ≡ ys → i < length xs → p ≡ get_or xs i p → slice_get ys i ≡ Some p
 read_push xs ys i p same lt is = subst (λ (zs : List Push). slice_get zs i ≡ Some p) same (slice_get_read xs (length xs) i p refl lt is)
 
--- what bounds a position bounds what a push leads to from there
-pub bound_passes : (board : Board) (k least : ℕ) (s n : Scene) (p : Push) → IsScene board s → CanPush board s p → IsNorm board (after_push board s p) n →
-    IsBound board k s least → IsBound board (suc k) n least
-bound_passes board k least s n p scene can norm bound rest solvable =
-    let (ds, ps, t, play, solved, few) = (norms_change_nothing board (after_push board s p) n (after_scene board s p scene can) norm rest).1 solvable in
-    let le = bound (suc rest) (_, _, t, play-append can.behind.1 (push tt (pushed_from board s p scene can) play), solved, omega (arith, few)) in
-    omega (arith, le)
-
 -- each number of pushes below the low one solves nothing from the position
 pub bound_by : (board : Board) (k low total : ℕ) (s : Scene) → ((m : ℕ) → m < low → NoneWithin board m s) → total ≤ k + low → IsBound board k s total
 bound_by board k low total s none few rest (ds, ps, t, play, solved, le) = elim (cases_lt rest low) [
@@ -138,9 +136,13 @@ bound_by board k low total s none few rest (ds, ps, t, play, solved, le) = elim 
   | inr ge ↦ omega (arith, few, ge)
 ]
 
--- the greater of two bounds is one
-pub greater_bound : (board : Board) (k a b : ℕ) (s : Scene) → IsBound board k s a → IsBound board k s b → IsBound board k s (max a b)
-greater_bound board k a b s first second rest solvable = let p = first rest solvable in let q = second rest solvable in omega (arith, p, q)
+-- what none goes on from by a bound that the cap does not allow
+pub none_over : (board : Board) (cap : Option ℕ) (k total : ℕ) (s : Scene) → IsBound board k s total → ¬ (Allows cap total) → NoneGoesOn board cap k s
+none_over board cap k total s bound over rest allowed solvable = over (allows_fewer cap total (k + rest) (bound rest solvable) allowed)
+
+-- or where no play ends solved
+pub none_lost : (board : Board) (cap : Option ℕ) (k : ℕ) (s : Scene) → IsLost board s → NoneGoesOn board cap k s
+none_lost board cap k s lost rest allowed (ds, ps, t, play, solved, few) = lost t ds ps play solved
 
 -- ---- what leads to a position
 
@@ -184,27 +186,28 @@ under_way_entered board cap old new e least under enters fits reached few from i
       fits = fits;
       reached = reached;
       from = from;
-      total = λ n open_. subst (λ (m : ℕ). IsTotal board cap e.pushes e.position m) (same_Some least n (sym is ∙ open_)) total;
+      total = λ n open_. subst (λ (m : ℕ). IsLeast cap e.pushes m) (same_Some least n (sym is ∙ open_))
+          (record { near = total.near; allowed = total.allowed });
       settled = settled_open board cap new e least is total.bound;
     }
 
-pub under_way_closed : (board : Board) (cap : Option ℕ) (old new : List Entry) (place : ℕ) (x : Entry) → IsUnderWay board cap old →
-    slice_get old place ≡ Some x →
-    ¬ (IsSolved board x.position) → Expands board cap old x.pushes x.position → IsClosedAt old place new → IsUnderWay board cap new
-under_way_closed board cap old new place x under here unsolved expands has = subst (IsUnderWay board cap) (sym (has x here)) (record {
+pub under_way_set : (board : Board) (cap : Option ℕ) (old new : List Entry) (place : ℕ) (x : Entry) (least : Option ℕ) → IsUnderWay board cap old →
+    slice_get old place ≡ Some x → ((n : ℕ) → least ≡ Some n → IsLeast cap x.pushes n) →
+    IsSettled board cap old (with_least least x) → HasLeastAt old place least new → IsUnderWay board cap new
+under_way_set board cap old new place x least under here total settled has = subst (IsUnderWay board cap) (sym (has x here)) (record {
   begun = (under.begun.0, under.begun.1, found_on old after 0 under.begun.0 still under.begun.2);
   few = λ i z there. (let long = length-set old place y in elim (set_either old place i x y z here there) [
     | inl (p, q) ↦ (let same = ap (λ (w : Entry). w.pushes) q in let less = under.few place x here in omega (arith, same, less, long))
     | inr (p, q) ↦ (let less = under.few i z q in omega (arith, less, long))
   ]);
   sound = λ i z there. elim (set_either old place i x y z here there) [
-    | inl (p, q) ↦ subst (IsSound board cap after) (sym q) closed
+    | inl (p, q) ↦ subst (IsSound board cap after) (sym q) sound
     | inr (p, q) ↦ sound_on board cap old after z still (under.sound i z q)
   ];
 })
   where
     y : Entry
-    y = closed x
+    y = with_least least x
 
     after : List Entry
     after = set old place y
@@ -220,12 +223,20 @@ under_way_closed board cap old new place x under here unsolved expands has = sub
       | inr ne ↦ (z, set_there old place i y ne ∙ there, refl, omega arith)
     ]
 
-    closed : IsSound board cap after y
-    closed =
+    sound : IsSound board cap after y
+    sound =
         let was = under.sound place x here in
-        let now = settled_closed board cap old y unsolved expands in
         sound_on board cap old after y still
-        (record { fits = was.fits; reached = was.reached; from = was.from; total = λ n e. absurd (none-some n e); settled = now })
+        (record { fits = was.fits; reached = was.reached; from = was.from; total = total; settled = settled })
+
+-- the position that was expanded is closed, or has the least total of what was left for later
+pub under_way_expanded : (board : Board) (cap : Option ℕ) (old new : List Entry) (place reach : ℕ) (x : Entry) (next : Option ℕ) → IsUnderWay board cap old →
+    slice_get old place ≡ Some x → x.pushes ≤ reach → ¬ (IsSolved board x.position) → IsLater cap reach next →
+    Expands board (tighter cap next) old x.pushes x.position → HasLeastAt old place next new → IsUnderWay board cap new
+under_way_expanded board cap old new place reach x next under here near unsolved later expands =
+    under_way_set board cap old new place x next under here
+    (λ n e. (let (lt, allowed) = later n e in record { near = omega (arith, near, lt); allowed = allowed }))
+    (settled_expanded board cap old (with_least next x) next refl unsolved expands)
 
 -- what a push leads to has entered
 pub under_way_after : (board : Board) (cap : Option ℕ) (old new : List Entry) (place k least : ℕ) (s n : Scene) (p : Push) → IsUnderWay board cap old →
@@ -282,7 +293,6 @@ pub expanding_on : (board : Board) (cap : Option ℕ) (old new : VisitedView) (f
 expanding_on board cap old new from was widens = record {
   searched = widens.searched;
   at_place = place_kept from.pushes old.entries new.entries from.place from.position widens.below was.at_place;
-  bound = was.bound;
   few = was.few;
 }
 
@@ -305,9 +315,6 @@ under_way_first board cap old new n norm fits none enters = record {
     any None = tt
     any (Some most) = omega arith
 
-    total : IsTotal board cap 0 n 0
-    total = record { near = omega arith; allowed = any cap; bound = λ rest solvable. omega arith }
-
     e : Entry
     e = (record { position = n; pushes = 0; least = Some 0; parent = None })
 
@@ -316,24 +323,30 @@ under_way_first board cap old new n norm fits none enters = record {
       fits = fits;
       reached = ([], [], start board, stay tt, norm);
       from = norm;
-      total = λ m is. subst (λ (k : ℕ). IsTotal board cap 0 n k) (same_Some 0 m is) total;
-      settled = settled_open board cap new e 0 refl total.bound;
+      total = λ m is. subst (λ (k : ℕ). IsLeast cap 0 k) (same_Some 0 m is) (record { near = omega arith; allowed = any cap });
+      settled = settled_open board cap new e 0 refl (λ rest solvable. omega arith);
     }
 
 -- ---- turns
 
--- an expansion, and then the closing of its position
-pub turns_closed : (first second third : List Entry) (place least : ℕ) (x : Entry) → GoesOn first second → slice_get second place ≡ Some x →
-    x.least ≡ Some least → IsClosedAt second place third → (limit : ℕ) → length third ≤ limit → turns_left limit third < turns_left limit first
-turns_closed first second third place least x on at open_ has limit le =
-    let y = closed x in
+-- an expansion, and then the closing of its position, or its greater least total
+pub turns_expanded : (cap : Option ℕ) (first second third : List Entry) (place least reach : ℕ) (x : Entry) (next : Option ℕ) → reach < 4294967296 →
+    GoesOn first second → slice_get second place ≡ Some x → x.least ≡ Some least → least ≤ reach → IsLater cap reach next →
+    HasLeastAt second place next third → (limit : ℕ) → length third ≤ limit → turns_left limit third < turns_left limit first
+turns_expanded cap first second third place least reach x next range on at open_ near later has limit le =
+    let y = with_least next x in
     let is = has x at in
     let long = length-set second place y in
     let size = ap (λ (xs : List Entry). length xs) is in
-    let fewer = fewer_turns second place limit x y at (subst (λ (o : Option ℕ). 2 * x.pushes + 0 < 2 * x.pushes + openness o) (sym open_) (omega arith)) in
+    let less = subst (λ (o : Option ℕ). openness next < openness o) (sym open_) (by next later) in
+    let fewer = fewer_turns second place limit x y at (omega (arith, less)) in
     let before = on.turns limit (omega (arith, long, size, le)) in
     let same = ap (λ (xs : List Entry). turns_left limit xs) is in
     omega (arith, fewer, before, same)
+  where
+    by : (o : Option ℕ) → IsLater cap reach o → openness o < openness (Some least)
+    by None later = omega (arith, range, near)
+    by (Some n) later = let lt = (later n refl).0 in omega (arith, range, near, lt)
 
 -- what is left of a search's turns, as a number that lessens with each round
 pub rounds_lessen : (limit : ℕ) (old new : List Entry) → length old ≤ limit → (length new ≤ limit → turns_left limit new < turns_left limit old) →
@@ -345,60 +358,3 @@ rounds_lessen limit old new few less = by (nat_lt limit (length old)) (nat_lt li
     by true c e f = absurd (let lt = ltb-true limit (length old) e in omega (arith, few, lt))
     by false true e f = omega arith
     by false false e f = let lt = less (ltb-false limit (length new) f) in omega (arith, lt)
-
--- ---- what the end says
-
-pub none_has_fewer : (board : Board) (cap : Option ℕ) (all : List Entry) (least : ℕ) → IsLevel board → IsUnderWay board cap all → AreFrom least all →
-    Allows cap least →
-    NoneHasFewer board least
-none_has_fewer board None all least level under from allowed ds ps solution = least_bounds board level None all least under from ds ps solution tt
-none_has_fewer board (Some most) all least level under from allowed ds ps solution = elim (cases_lt most (length ps)) [
-  | inl more ↦ omega (arith, more, allowed)
-  | inr few ↦ least_bounds board level (Some most) all least under from ds ps solution few
-]
-
-pub none_is_allowed : (board : Board) (cap : Option ℕ) (all : List Entry) → IsLevel board → IsUnderWay board cap all → AreClosed all → NoneIsAllowed board cap
-none_is_allowed board None all level under closed = λ t ds ps play solved. closed_decides board level None all under closed ds ps (t, play, solved) tt
-none_is_allowed board (Some most) all level under closed = λ ds ps t play solved. elim (cases_lt most (length ps)) [
-  | inl more ↦ more
-  | inr few ↦ absurd (closed_decides board level (Some most) all under closed ds ps (t, play, solved) few)
-]
-
--- what a solved position of the least total says
-pub solved_told : (board : Board) (cap : Option ℕ) (all : List Entry) (place least : ℕ) → IsLevel board → IsUnderWay board cap all →
-    IsLeastOpen all place least → ((x : Entry) → slice_get all place ≡ Some x → IsSolved board x.position) → IsLeastSolved board cap all place
-solved_told board cap all place least level under (x, at, open_, from) solved =
-    let total = (under.sound place x at).total least open_ in
-    let bound = none_has_fewer board cap all least level under from total.allowed in record {
-      entry = x;
-      at = at;
-      solved = solved x at;
-      fewest = λ ds ps solution. (let le = bound ds ps solution in let near = total.near in omega (arith, le, near));
-      allowed = allows_fewer cap x.pushes least total.near total.allowed;
-    }
-
--- what the least total says
-pub least_told : (board : Board) (cap : Option ℕ) (all : List Entry) (place least : ℕ) → IsLevel board → IsUnderWay board cap all →
-    IsLeastOpen all place least → NoneHasFewer board least
-least_told board cap all place least level under (x, at, open_, from) =
-    none_has_fewer board cap all least level under from ((under.sound place x at).total least open_).allowed
-
-position_at : (all : List Entry) (i : ℕ) (s : Scene) → slice_get (map (λ (x : Entry). x.position) all) i ≡ Some s →
-    (x : Entry) × (slice_get all i ≡ Some x) × (x.position ≡ s)
-position_at [] i s e = absurd (none-some s e)
-position_at (x ∷ all) zero s e = (x, refl, same_Some x.position s e)
-position_at (x ∷ all) (suc i) s e = position_at all i s e
-
-same_length : (all : List Entry) → length (map (λ (x : Entry). x.position) all) ≡ length all
-same_length [] = refl
-same_length (x ∷ all) = ap suc (same_length all)
-
-pub has_more : (board : Board) (cap : Option ℕ) (all : List Entry) (limit : ℕ) → IsUnderWay board cap all → AreDistinct (map (λ (x : Entry). x.position) all) →
-    limit < length all →
-    HasMore board limit
-has_more board cap all limit under distinct many = record {
-  positions = map (λ (x : Entry). x.position) all;
-  many = (let e = same_length all in omega (arith, e, many));
-  different = distinct;
-  reached = λ i s p. (let (x, a, same) = position_at all i s p in subst (IsReachable board) same (under.sound i x a).reached);
-}

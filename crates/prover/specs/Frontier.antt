@@ -39,12 +39,20 @@ pub record IsDoneFor (board : Board) (most : ℕ) (all : List Entry) (x : Entry)
 abbrev pub IsBound : Board → ℕ → Scene → ℕ → Type 0
 IsBound board pushes s total = (rest : ℕ) → SolvableWithin board rest s → total ≤ pushes + rest
 
--- an open position's least total is one that the cap allows, and a play through the position to a solved one has at
--- least as many pushes
+-- a total that the cap allows: a play through the position to a solved one has at least as many pushes
 pub record IsTotal (board : Board) (cap : Option ℕ) (pushes : ℕ) (s : Scene) (least : ℕ) : Type 0 where
   pub near : pushes ≤ least
   pub allowed : Allows cap least
   pub bound : IsBound board pushes s least
+
+-- an open position's least total is no less than the pushes that led to it, and one that the cap allows
+pub record IsLeast (cap : Option ℕ) (pushes least : ℕ) : Type 0 where
+  pub near : pushes ≤ least
+  pub allowed : Allows cap least
+
+-- no play that the cap allows leads to the position with these pushes and goes on to a solved one
+abbrev pub NoneGoesOn : Board → Option ℕ → ℕ → Scene → Type 0
+NoneGoesOn board cap pushes s = (rest : ℕ) → Allows cap (pushes + rest) → ¬ (SolvableWithin board rest s)
 
 -- the number is less than an open position's least total; a closed one has none
 abbrev pub IsBefore : Option ℕ → ℕ → Type 0
@@ -66,7 +74,7 @@ pub record IsSound (board : Board) (cap : Option ℕ) (all : List Entry) (x : En
   pub fits : FitsLevel board x.position
   pub reached : IsReachable board x.position
   pub from : ComesFrom board all x x.parent
-  pub total : (least : ℕ) → x.least ≡ Some least → IsTotal board cap x.pushes x.position least
+  pub total : (least : ℕ) → x.least ≡ Some least → IsLeast cap x.pushes least
   pub settled : IsSettled board cap all x
 
 abbrev pub AreSound : Board → Option ℕ → List Entry → Type 0

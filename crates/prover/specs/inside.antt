@@ -1,4 +1,4 @@
--- What keeps the books of the code: what its calls ask for, how its loops end. No outcome rests on it.
+-- Definitions for the code's own state. No outcome depends on them.
 pub mod Tickets
 pub mod Working
 pub mod Rounds

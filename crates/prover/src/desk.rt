@@ -1,4 +1,4 @@
-//! What a search keeps from one position to the next.
+//! Memory that a search uses for one position after the other.
 ghost use Rattle.std.specs.Prelude.{◌≡◌, IfOk};
 
 use corrals::Corral;
@@ -7,16 +7,18 @@ use std::alloc::{AllocError, Global};
 use successors::{Expander, Problem};
 
 /// Memory to expand positions: for their pushes, for the matchings of a position and of one after it, and for a corral.
+/// `next` is the least total of the pushes that an expansion has left for later.
 #[derive(Debug, Drop)]
 pub(crate) struct Desk<'a> {
     pub(crate) expander: Expander<'a>,
     pub(crate) matching: Matching,
     pub(crate) next_matching: Matching,
     pub(crate) corral: Corral,
+    pub(crate) next: Option<u32>,
 }
 
 impl<'a> Desk<'a> {
-    /// A desk for a problem. The only error is running out of memory.
+    /// A desk for a problem. Fails only if out of memory.
     pub(crate) fn new(alloc: Global, problem: &'a Problem) -> Result<Desk<'a>, AllocError>
         ensures { IfOk result (λ desk. desk.expander.task ≡ problem.now) }
     {
@@ -25,6 +27,7 @@ impl<'a> Desk<'a> {
             matching: Matching::new(),
             next_matching: Matching::new(),
             corral: Corral::new(alloc, problem.level())?,
+            next: None,
         })
     }
 }

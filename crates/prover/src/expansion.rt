@@ -1,6 +1,8 @@
-//! Expansions: each opens the positions that the pushes of one position lead to, and leaves out what it may.
+//! Expansions: each opens the positions that the pushes of one position lead to. It leaves out pushes that no shortest
+//! solution needs, and leaves those with a greater total for later.
 ghost use Rattle.std.specs.Prelude.{◌≡◌, ℕ, ◌<◌, ◌≤◌, ◌^◌, OnOk, length};
-ghost use Rattle.prover.specs.inside.Working.{Expands, IsExpanding, IsSearched, IsUnsolvedOpen, Widens, turns_left};
+ghost use Rattle.prover.specs.inside.Working.{Expands, IsExpanding, IsLater, IsSearched, IsUnsolvedOpen};
+ghost use Rattle.prover.specs.inside.Working.{Widens, tighter, turns_left};
 
 use crate::desk::Desk;
 use crate::frontier::Frontier;
@@ -9,16 +11,17 @@ use crate::pushing::{Expanded, try_push};
 use prices::{Matching, Slack};
 use std::alloc::AllocError;
 
-/// Expands the open position at a place, with its least total, and closes it.
+/// Expands the open position at a place for totals up to `reach`. Its least total becomes the least of the totals that
+/// are left for later. It is closed if there is none.
 pub(crate) fn expand(
     pruner: &Pruner<'_>,
     frontier: &mut Frontier,
     place: usize,
-    least: u32,
+    reach: u32,
     desk: &mut Desk<'_>,
 ) -> Result<(), AllocError>
     requires searched { IsSearched pruner.now.board pruner.now.cap frontier.old }
-    requires waits { IsUnsolvedOpen pruner.now.board frontier.old.entries place least }
+    requires waits { IsUnsolvedOpen pruner.now.board frontier.old.entries place reach }
     requires few { length frontier.old.entries < 2 ^ 32 }
     requires task { desk.old.expander.task ≡ pruner.now }
     ensures searched { OnOk result (IsSearched pruner.now.board pruner.now.cap frontier.new) }
@@ -29,15 +32,14 @@ pub(crate) fn expand(
     let from = Expanded {
         position: frontier.position(place),
         pushes: frontier.pushes(place),
-        least,
+        reach,
         place: place as u32,
     };
     take_all(pruner, frontier, &from, desk)?;
-    frontier.close(place);
-    Ok(())
+    frontier.set_least(place, desk.next)
 }
 
-// Opens the positions that the pushes of a position lead to.
+// Opens the positions that the pushes of a position lead to, up to a total.
 #[tactic(auto, using(crate::proofs::Steps::widens_none))]
 fn take_all(
     pruner: &Pruner<'_>,
@@ -48,12 +50,14 @@ fn take_all(
     requires expanding { IsExpanding pruner.now.board pruner.now.cap frontier.old from.now }
     requires task { desk.old.expander.task ≡ pruner.now }
     ensures widens { OnOk result (Widens pruner.now.board pruner.now.cap from.now.pushes frontier.old frontier.new) }
-    ensures expands { OnOk result
-        (Expands pruner.now.board pruner.now.cap frontier.new.entries from.now.pushes from.now.position) }
+    ensures expands { OnOk result (Expands pruner.now.board (tighter pruner.now.cap desk.new.next) frontier.new.entries
+        from.now.pushes from.now.position) }
+    ensures later { OnOk result (IsLater pruner.now.cap from.now.reach desk.new.next) }
     ensures task { desk.new.expander.task ≡ desk.old.expander.task }
 {
     desk.expander.find_pushes(&from.position);
     pruner.level().tell();
+    desk.next = None;
     // a fresh matching, so that nothing depends on what was expanded before
     desk.matching = Matching::new();
     pruner.distances().meet(&from.position, &mut desk.matching);

@@ -6,7 +6,7 @@ ghost use Rattle.store.specs.FoundView.{FitsGrid};
 ghost use Rattle.store.specs.Visited.{Entry};
 ghost use Rattle.successors.specs.Distances.{AreDistinct};
 ghost use Rattle.prover.specs.Frontier.{AreClosed};
-ghost use Rattle.prover.specs.inside.Working.{Enters, IsClosedAt, IsLeastOpen, SameSize};
+ghost use Rattle.prover.specs.inside.Working.{Enters, HasLeastAt, IsLeastOpen, SameSize};
 
 use crate::queue::{Queue, Ticket};
 use grid::{Level, MAX_BOXES, Position};
@@ -78,8 +78,7 @@ impl Frontier {
         self.visited.label(place).parent
     }
 
-    /// Opens a position with a least total, unless it was found with as few pushes. The only error is that memory was
-    /// refused.
+    /// Opens a position with a least total, unless it was found with as few pushes. Fails only if out of memory.
     pub(crate) fn open_at(
         &mut self,
         position: &Position,
@@ -110,16 +109,27 @@ impl Frontier {
         Ok(())
     }
 
-    /// Closes the position at a place.
-    pub(crate) fn close(&mut self, place: usize)
-        requires { place < length self.old.entries }
-        ensures closed { IsClosedAt self.old.entries place self.new.entries }
+    /// Sets the least total of the position at a place. `None` closes it. Fails only if out of memory.
+    pub(crate) fn set_least(&mut self, place: usize, least: Option<u32>) -> Result<(), AllocError>
+        requires place { place < length self.old.entries }
+        ensures set { OnOk result (HasLeastAt self.old.entries place least self.new.entries) }
         ensures size { SameSize self.old self.new }
     {
-        self.visited.close(place);
+        self.queue.reserve()?;
+        let pushes = self.visited.label(place).pushes;
+        self.visited.set_least(place, least);
+        match least {
+            Some(least) => self.queue.insert(Ticket {
+                least: Reverse(least),
+                pushes,
+                place,
+            }),
+            None => {}
+        }
+        Ok(())
     }
 
-    /// The place of an open position with the least total, and that total; `None` where none is open.
+    /// The place of an open position with the least total, and that total. `None` if none is open.
     pub(crate) fn least_open(&mut self) -> Option<(usize, u32)>
         ensures some { IfSome result (λ found. IsLeastOpen self.new.entries found.0 found.1) }
         ensures none { IfNone result (AreClosed self.new.entries) }

@@ -2,8 +2,10 @@
 //!
 //! The total of a position is the pushes that led to it and a lower bound on those that it still needs. The search
 //! expands the open position of the least total first, so the first solved position that comes up has the fewest
-//! pushes. An expansion may leave pushes out. But if a position has a solution that the cap allows, some push that its
-//! expansion keeps leads on to a solution with as few pushes.
+//! pushes. An expansion opens the positions whose totals the search has reached. The expanded position stays open with
+//! the least of the greater totals, and is expanded again when that comes up. An expansion may leave pushes out. But if
+//! a position has a solution that the cap allows, some push that its expansions keep leads on to a solution with as few
+//! pushes.
 //!
 //! With the `level` of a room of three rows of three squares, the box in the middle, its goal at the top left and the
 //! player at the bottom right:

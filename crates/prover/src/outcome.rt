@@ -18,13 +18,13 @@ pub enum Outcome {
     Limit { at_least: u32 },
 }
 
-/// Why there was no search.
+/// Why a search failed.
 #[derive(Clone, Copy, PartialEq, Eq, Debug, Drop, Error)]
 pub enum SearchFault {
     /// The level has more boxes than [`MAX_BOXES`](grid::MAX_BOXES).
     #[error("more than {MAX_BOXES} boxes")]
     TooManyBoxes,
-    /// Memory was refused.
+    /// The search ran out of memory.
     #[error("out of memory")]
     OutOfMemory,
 }

@@ -3,7 +3,7 @@ ghost use Rattle.grid.specs.Lawful.{box_count};
 ghost use Rattle.grid.specs.States.{FitsLevel};
 ghost use Rattle.doom.specs.Lost.{IsLost};
 ghost use Rattle.prices.specs.Solving.{Allows};
-ghost use Rattle.prover.specs.Frontier.{IsBound};
+ghost use Rattle.prover.specs.Frontier.{IsBound, IsTotal, NoneGoesOn};
 
 use grid::{Level, MAX_BOXES, Position};
 use groups::Groups;
@@ -12,8 +12,7 @@ use std::alloc::{AllocError, Global};
 use std::marker::Model;
 use successors::Problem;
 
-/// What the search prunes by: a problem, and what its boxes and groups of them need. Contracts see the level with its
-/// cap.
+/// A problem with the lower bounds that the search prunes by. Contracts see the level with its cap.
 #[derive(Debug, Drop)]
 pub(crate) struct Pruner<'a> {
     problem: &'a Problem,
@@ -32,7 +31,7 @@ impl<'a> Model for Pruner<'a> {
 }
 
 impl<'a> Pruner<'a> {
-    /// The pruner of a problem, without what groups need. The only error is running out of memory.
+    /// The pruner of a problem, without tables of groups. Fails only if out of memory.
     pub(crate) fn of(alloc: Global, problem: &'a Problem) -> Result<Pruner<'a>, AllocError>
         requires { box_count problem.now.board ≤ MAX_BOXES }
         ensures { IfOk result (λ pruner. pruner ≡ problem.now) }
@@ -43,7 +42,7 @@ impl<'a> Pruner<'a> {
         })
     }
 
-    /// Finds what groups of up to `most` boxes need. The only error is running out of memory.
+    /// Makes the tables of groups of up to `most` boxes. Fails only if out of memory.
     pub(crate) fn make_tables(&mut self, alloc: Global, most: usize) -> Result<(), AllocError>
         ensures { self.new ≡ self.old }
     {
@@ -71,14 +70,9 @@ impl<'a> Pruner<'a> {
         self.groups.distances()
     }
 
-    /// A lower bound on the pushes of a play that leads to the position with `pushes` of them and goes on to a solved
-    /// one. `None` only where no play from the position ends solved.
-    pub(crate) fn total(
-        &self,
-        position: &Position,
-        pushes: u32,
-        matching: &mut Matching,
-    ) -> Option<u32>
+    // A lower bound on the pushes of a play that leads to the position with `pushes` of them and goes on to a solved
+    // one. `None` only if no play from the position ends solved.
+    fn total(&self, position: &Position, pushes: u32, matching: &mut Matching) -> Option<u32>
         requires { FitsLevel self.now.board position.now }
         ensures bound { IfSome result (λ total. (pushes ≤ total) × IsBound self.now.board pushes position.now total) }
         ensures lost { IfNone result (IsLost self.now.board position.now) }
@@ -97,8 +91,30 @@ impl<'a> Pruner<'a> {
         Some(pushes.saturating_add(u32::try_from(low).unwrap_or(u32::MAX)))
     }
 
-    /// Whether the cap allows this many pushes.
-    pub(crate) fn allows(&self, pushes: u32) -> bool
+    /// The total, if the cap allows it. `None` only if no play that the cap allows leads to the position with `pushes`
+    /// pushes and goes on to a solved one.
+    pub(crate) fn allowed_total(
+        &self,
+        position: &Position,
+        pushes: u32,
+        matching: &mut Matching,
+    ) -> Option<u32>
+        requires { FitsLevel self.now.board position.now }
+        ensures total { IfSome result (λ total. IsTotal self.now.board self.now.cap pushes position.now total) }
+        ensures none { IfNone result (NoneGoesOn self.now.board self.now.cap pushes position.now) }
+    {
+        let Some(total) = self.total(position, pushes, matching) else {
+            return None;
+        };
+        let allowed = self.allows(total);
+        if !allowed {
+            return None;
+        }
+        Some(total)
+    }
+
+    // Whether the cap allows this many pushes.
+    fn allows(&self, pushes: u32) -> bool
         ensures { IsTrue result ↔ Allows self.now.cap pushes }
     {
         match self.problem.cap() {

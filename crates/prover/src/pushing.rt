@@ -1,9 +1,9 @@
-//! What one push leads to.
+//! The position that a push leads to.
 ghost use Rattle.std.specs.Prelude.{◌≡◌, ◌+◌, ℕ, suc, OnOk};
 ghost use Rattle.area.specs.Pushes.{CanPush};
 ghost use Rattle.successors.specs.Expanding.{HasPushesOf};
 ghost use Rattle.prices.specs.Solving.{Allows};
-ghost use Rattle.prover.specs.inside.Working.{IsChosen, IsExpanding, IsTaken, Widens};
+ghost use Rattle.prover.specs.inside.Working.{Defers, IsChosen, IsExpanding, IsTaken, Widens, lesser, tighter};
 
 use crate::desk::Desk;
 use crate::frontier::Frontier;
@@ -13,18 +13,19 @@ use prices::Slack;
 use std::alloc::AllocError;
 use store::Parent;
 
-/// A position that is expanded, with the number of pushes that led to it, its least total, and its place.
+/// A position that is expanded, with the number of pushes that led to it, the greatest total that it is expanded for,
+/// and its place.
 #[derive(Debug, Drop)]
 pub(crate) struct Expanded {
     pub(crate) position: Position,
     pub(crate) pushes: u32,
-    pub(crate) least: u32,
+    pub(crate) reach: u32,
     pub(crate) place: u32,
 }
 
 /// Opens the position that a push leads to. With `only`, it leaves out a push of another box than the corral's. It also
 /// leaves out a push that costs more than is left.
-#[tactic(auto, using(crate::proofs::Steps::widens_none))]
+#[tactic(auto, using(crate::proofs::Steps::widens_none, crate::proofs::Deferring::defers_none))]
 pub(crate) fn try_push(
     pruner: &Pruner<'_>,
     frontier: &mut Frontier,
@@ -41,7 +42,9 @@ pub(crate) fn try_push(
     requires slack { (slack.now.board ≡ pruner.now.board) × (slack.now.scene ≡ from.now.position) }
     requires left { (m : ℕ) → Allows pruner.now.cap (from.now.pushes + suc m) → Allows slack.now.left m }
     ensures taken { OnOk result (IsChosen only desk.old.corral.held push →
-        IsTaken pruner.now.board pruner.now.cap frontier.new.entries from.now.pushes from.now.position push) }
+        IsTaken pruner.now.board (tighter pruner.now.cap desk.new.next) frontier.new.entries from.now.pushes
+        from.now.position push) }
+    ensures defers { OnOk result (Defers pruner.now.cap from.now.reach desk.old.next desk.new.next) }
     ensures widens { OnOk result (Widens pruner.now.board pruner.now.cap from.now.pushes frontier.old frontier.new) }
     ensures kept { (desk.new.expander ≡ desk.old.expander) × (desk.new.corral ≡ desk.old.corral) }
 {
@@ -57,8 +60,9 @@ pub(crate) fn try_push(
     take(pruner, frontier, from, Push { square, dir }, desk)
 }
 
-// Opens the position that a push leads to, unless no play that the cap allows goes on from there and ends solved.
-#[tactic(auto, using(crate::proofs::Steps::widens_none))]
+// Opens the position that a push leads to, unless no play that the cap allows goes on from there and ends solved. A
+// position with a total greater than `from.reach` is left for later.
+#[tactic(auto, using(crate::proofs::Steps::widens_none, crate::proofs::Deferring::defers_none))]
 fn take(
     pruner: &Pruner<'_>,
     frontier: &mut Frontier,
@@ -70,8 +74,9 @@ fn take(
     requires found { HasPushesOf desk.old.expander from.now.position }
     requires possible { CanPush pruner.now.board from.now.position push }
     requires expanding { IsExpanding pruner.now.board pruner.now.cap frontier.old from.now }
-    ensures taken { OnOk result
-        (IsTaken pruner.now.board pruner.now.cap frontier.new.entries from.now.pushes from.now.position push) }
+    ensures taken { OnOk result (IsTaken pruner.now.board (tighter pruner.now.cap desk.new.next) frontier.new.entries
+        from.now.pushes from.now.position push) }
+    ensures defers { OnOk result (Defers pruner.now.cap from.now.reach desk.old.next desk.new.next) }
     ensures widens { OnOk result (Widens pruner.now.board pruner.now.cap from.now.pushes frontier.old frontier.new) }
     ensures kept { (desk.new.expander ≡ desk.old.expander) × (desk.new.corral ≡ desk.old.corral) }
 {
@@ -81,17 +86,26 @@ fn take(
     };
     let pushes = from.pushes + 1;
     desk.next_matching.copy_from(&desk.matching);
-    let Some(total) = pruner.total(&after, pushes, &mut desk.next_matching) else {
+    let Some(total) = pruner.allowed_total(&after, pushes, &mut desk.next_matching) else {
         return Ok(());
     };
-    let least = total.max(from.least);
-    let allowed = pruner.allows(least);
-    if !allowed {
+    if total > from.reach {
+        desk.next = lesser(desk.next, total);
         return Ok(());
     }
     let parent = Parent {
         place: from.place,
         push: Push { square, dir },
     };
-    frontier.open_at(&after, pushes, least, Some(parent))
+    frontier.open_at(&after, pushes, total, Some(parent))
+}
+
+// The total, or the number, if it is less.
+fn lesser(next: Option<u32>, total: u32) -> Option<u32>
+    ensures { result ≡ lesser next total }
+{
+    match next {
+        None => Some(total),
+        Some(known) => Some(known.min(total)),
+    }
 }

@@ -18,7 +18,7 @@ pub(crate) struct Ticket {
     pub(crate) place: usize,
 }
 
-/// The tickets of the open positions, and some of positions that were closed since.
+/// The tickets of the open positions, and stale ones: of positions that were closed or got another least total.
 #[derive(Drop)]
 pub(crate) struct Queue {
     heap: BinaryHeap<Ticket>,
@@ -35,7 +35,7 @@ impl Queue {
         }
     }
 
-    /// Makes room for one ticket.
+    /// Reserves capacity for one ticket.
     pub(crate) fn reserve(&mut self) -> Result<(), AllocError>
         ensures same { heap_items self.new.heap ≡ heap_items self.old.heap }
         ensures room { OnOk result (heap_len self.new.heap < heap_capacity self.new.heap) }
@@ -43,7 +43,7 @@ impl Queue {
         self.heap.reserve(1)
     }
 
-    /// Enters a ticket, for which there is room.
+    /// Inserts a ticket. The queue must have capacity for it.
     pub(crate) fn insert(&mut self, ticket: Ticket)
         requires { heap_len self.old.heap < heap_capacity self.old.heap }
         ensures waits { Waits (heap_items self.new.heap) ticket.least.0 ticket.place }
@@ -64,7 +64,7 @@ impl Queue {
         self.heap.peek().copied()
     }
 
-    /// Takes the ticket with the least total out.
+    /// Removes the ticket with the least total.
     pub(crate) fn drop_first(&mut self)
         ensures { (first : Ticket) → slice_get (heap_items self.old.heap) 0 ≡ Some first →
             (length (heap_items self.new.heap) + 1 ≡ length (heap_items self.old.heap)) ×

@@ -1,11 +1,12 @@
-//! The search: the open position of the least total is expanded, until one is solved or none is open.
-ghost use Rattle.std.specs.Prelude.{◌≡◌, ◌⊎◌, ◌<◌, ◌≤◌, ℕ, List, Option, IfOk, IfErr, IsFalse, OnOk, length};
+//! The search: it expands the open position with the least total, until one is solved or none is open.
+ghost use Rattle.std.specs.Prelude.{◌≡◌, ◌⊎◌, ◌<◌, ◌≤◌, ℕ, List, Option, IfOk, IfErr, IfNone, IfSome, OnOk, length};
 ghost use Rattle.grid.specs.Board.{Board, start};
 ghost use Rattle.grid.specs.Lawful.{box_count};
 ghost use Rattle.grid.specs.States.{FitsLevel};
 ghost use Rattle.area.specs.Area.{IsNorm};
 ghost use Rattle.store.specs.Visited.{Entry};
 ghost use Rattle.successors.specs.Capping.{capped};
+ghost use Rattle.prover.specs.Fewest.{NoneHasFewer};
 ghost use Rattle.prover.specs.Outcomes.{IsOutcome};
 ghost use Rattle.prover.specs.inside.Rounds.{Tells, none_by};
 ghost use Rattle.prover.specs.inside.Working.{IsSearched};
@@ -23,15 +24,9 @@ use std::alloc::{AllocError, Global};
 use std::sync::Arc;
 use successors::Problem;
 
-/// From this many positions on the search asks groups of three boxes. To find what they need takes as long as so many
-/// positions do, and many searches end before.
-const FEW: u32 = 500;
-
-/// From this many positions on it asks groups of four boxes, which take longer to find.
-const SOME: u32 = 5_000;
-
-/// From this many positions on it asks groups of five boxes.
-const MANY: u32 = 50_000;
+/// The numbers of positions at which the search makes tables, each with the number of boxes of the largest groups.
+/// Making the tables takes about as long as finding that many positions, and many searches end before.
+const STAGES: [(u32, usize); 3] = [(500, 3), (5_000, 4), (50_000, 5)];
 
 /// How the rounds of a search end.
 #[derive(Clone, Copy, Debug)]
@@ -40,7 +35,7 @@ pub(crate) enum End {
     Closed,
     /// The position at this place is solved, and no solution has fewer pushes.
     Solved(usize),
-    /// More positions were found than the limit; every solution has at least this many pushes.
+    /// The search found more positions than the limit. Every solution has at least this many pushes.
     Limit(u32),
 }
 
@@ -70,7 +65,7 @@ pub fn search(
     Ok(search_from(alloc, level, &first, cap, limit)?)
 }
 
-// The search from the start.
+// Searches from the start.
 fn search_from(
     alloc: Global,
     level: &Level,
@@ -89,7 +84,7 @@ fn search_from(
     outcome_of(alloc, level, &frontier, cap, limit, end)
 }
 
-// The normal position.
+// The normal form of a position.
 fn normal_of(alloc: Global, level: &Level, position: &Position) -> Result<Position, AllocError>
     requires { FitsLevel level.now position.now }
     ensures { IfOk result (λ normal. IsNorm level.now position.now normal × FitsLevel level.now normal) }
@@ -98,7 +93,7 @@ fn normal_of(alloc: Global, level: &Level, position: &Position) -> Result<Positi
     Ok(area::normal(level, position, &mut scratch))
 }
 
-// A frontier with the start alone.
+// A frontier with the start only.
 fn begun(
     alloc: Global,
     level: &Level,
@@ -115,7 +110,7 @@ fn begun(
     Ok(frontier)
 }
 
-// Expands open positions until that decides, or the limit is passed.
+// Expands open positions until that decides the level, or the search has found more positions than the limit.
 fn run_on(
     alloc: Global,
     level: &Level,
@@ -140,7 +135,7 @@ fn problem_of(alloc: Global, level: &Level, cap: Option<u32>) -> Result<Problem,
     Problem::of(alloc, &shared, cap)
 }
 
-// Expands open positions of a problem until that decides, or the limit is passed.
+// The same for a problem.
 fn run_over(
     alloc: Global,
     problem: &Problem,
@@ -156,7 +151,7 @@ fn run_over(
     run_all(alloc, &mut pruner, limit, frontier)
 }
 
-// Expands open positions, asking larger groups of boxes the more positions it has found.
+// Expands open positions. Makes tables of larger groups of boxes the more positions it has found.
 fn run_all(
     alloc: Global,
     pruner: &mut Pruner<'_>,
@@ -167,81 +162,66 @@ fn run_all(
     ensures searched { OnOk result (IsSearched pruner.old.board pruner.old.cap frontier.new) }
     ensures tells { IfOk result (λ end. Tells pruner.old.board pruner.old.cap limit frontier.new.entries end) }
 {
-    let few = run_first(alloc, pruner, FEW.min(limit), limit, 3, frontier)?;
-    if !is_limit(few) {
-        return Ok(few);
-    }
-    let some = run_first(alloc, pruner, SOME.min(limit), limit, 4, frontier)?;
-    if !is_limit(some) {
-        return Ok(some);
-    }
-    let many = run_first(alloc, pruner, MANY.min(limit), limit, 5, frontier)?;
-    if !is_limit(many) {
-        return Ok(many);
-    }
-    run(alloc, pruner, limit, frontier)
-}
-
-// Expands open positions up to a first limit, and finds what groups of up to `most` boxes need if the limit is greater.
-fn run_first(
-    alloc: Global,
-    pruner: &mut Pruner<'_>,
-    first: u32,
-    limit: u32,
-    most: usize,
-    frontier: &mut Frontier,
-) -> Result<End, AllocError>
-    requires searched { IsSearched pruner.old.board pruner.old.cap frontier.old }
-    ensures searched { OnOk result (IsSearched pruner.old.board pruner.old.cap frontier.new) }
-    ensures tells { IfOk result (λ end. Tells pruner.old.board pruner.old.cap first frontier.new.entries end) }
-    ensures same { pruner.new ≡ pruner.old }
-{
-    let end = run(alloc, pruner, first, frontier)?;
-    if is_limit(end) && first < limit {
+    let mut reach = 0;
+    for (first, most) in STAGES {
+        if first >= limit {
+            break;
+        }
+        let end = run(alloc, pruner, reach, first, frontier)?;
+        let Some(least) = limit_of(end) else {
+            return Ok(end);
+        };
+        reach = least;
         pruner.make_tables(alloc, most)?;
     }
-    Ok(end)
+    run(alloc, pruner, reach, limit, frontier)
 }
 
-// Whether the limit was passed.
-fn is_limit(end: End) -> bool
-    ensures { (board : Board) (cap : Option ℕ) (few limit : ℕ) (all : List Entry) →
-        IsFalse result → Tells board cap few all end → Tells board cap limit all end }
+// The number of pushes that every solution has at least, if the limit was passed.
+fn limit_of(end: End) -> Option<u32>
+    ensures some { IfSome result (λ least. (board : Board) (cap : Option ℕ) (few : ℕ) (all : List Entry) →
+        Tells board cap few all end → NoneHasFewer board least) }
+    ensures none { IfNone result ((board : Board) (cap : Option ℕ) (few limit : ℕ) (all : List Entry) →
+        Tells board cap few all end → Tells board cap limit all end) }
 {
     match end {
-        End::Limit(_) => true,
-        _ => false,
+        End::Limit(least) => Some(least),
+        _ => None,
     }
 }
 
-// Expands one open position after the other.
+// Expands one open position after the other. `reach` is the greatest of the least totals that came up before.
 fn run(
     alloc: Global,
     pruner: &Pruner<'_>,
+    reach: u32,
     limit: u32,
     frontier: &mut Frontier,
 ) -> Result<End, AllocError>
     requires searched { IsSearched pruner.now.board pruner.now.cap frontier.old }
+    requires told { NoneHasFewer pruner.now.board reach }
     ensures searched { OnOk result (IsSearched pruner.now.board pruner.now.cap frontier.new) }
     ensures tells { IfOk result (λ end. Tells pruner.now.board pruner.now.cap limit frontier.new.entries end) }
 {
     let mut desk = Desk::new(alloc, pruner.problem())?;
     pruner.level().tell();
+    let mut reach = reach;
     while let Some((place, least)) = frontier.least_open() {
+        reach = least.max(reach);
         let solved = is_solved(pruner.level(), &frontier.position(place));
         if solved {
             return Ok(End::Solved(place));
         }
         if frontier.len() > limit as usize {
             frontier.tell();
-            return Ok(End::Limit(least));
+            return Ok(End::Limit(reach));
         }
-        expand(pruner, frontier, place, least, &mut desk)?;
+        expand(pruner, frontier, place, reach, &mut desk)?;
     }
     Ok(End::Closed)
 }
 
-// What the end of the rounds says of the level.
+// The outcome that the end of the rounds means.
 fn outcome_of(
     alloc: Global,
     level: &Level,
@@ -261,7 +241,7 @@ fn outcome_of(
     }
 }
 
-// The outcome where no play that the cap allows ends solved.
+// The outcome if no play that the cap allows ends solved.
 fn none_of(cap: Option<u32>) -> Outcome
     ensures { result ≡ none_by cap }
 {

@@ -1,11 +1,11 @@
-//! Positions whose boxes all stand on goals.
+//! Positions whose boxes are all on goals.
 ghost use Rattle.std.specs.Prelude.{◌≡◌, ◌↔◌, IsTrue};
 ghost use Rattle.std.specs.List.{list_all};
 ghost use Rattle.grid.specs.Board.{IsSolved, is_goal};
 
 use grid::{Level, Position, Square};
 
-/// Whether each box of a position stands on a goal.
+/// Whether each box of a position is on a goal.
 pub(crate) fn is_solved(level: &Level, position: &Position) -> bool
     ensures { IsTrue result ↔ IsSolved level.now position.now }
 {

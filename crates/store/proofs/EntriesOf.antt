@@ -1,5 +1,5 @@
--- What entering a position with its label, or closing it, does to the entries of a map.
-use Rattle.std.proofs.Common.{◌≡◌, ℕ, zero, suc, ◌+◌, ◌<◌, ◌≤◌, Bool, true, false, cond, not, List, [], ◌∷◌, ◌++◌, length, map, Some, None}
+-- What entering a position with its label, or setting its least total, does to the entries of a map.
+use Rattle.std.proofs.Common.{◌≡◌, ℕ, zero, suc, ◌+◌, ◌<◌, ◌≤◌, Bool, true, false, cond, not, List, [], ◌∷◌, ◌++◌, length, map, Option, Some, None}
 use Rattle.std.proofs.Common.{option_map, inl, inr, refl, sym, ap, subst, ◌∙◌, if◌then◌else◌, true≢false, arith}
 use Rattle.std.proofs.lemmas.Option.{same_Some, none-some, slice_get-map}
 use Rattle.std.proofs.lemmas.List.{length-map}
@@ -11,7 +11,7 @@ use Rattle.indexmap.specs.Layout.{set_value_at}
 use Rattle.grid.specs.Board.{Scene}
 use Rattle.successors.proofs.lemmas.Lists.{map-push}
 use Rattle.store.specs.Entries.{same_scene}
-use Rattle.store.specs.Visited.{Entry, HasEntered, IsNew, VisitedView, closed, entries_of, entry_of, visited_view}
+use Rattle.store.specs.Visited.{Entry, HasEntered, IsNew, VisitedView, entries_of, entry_of, visited_view, with_least}
 use Rattle.store.specs.declared.visited.Label.{Label}
 use Rattle.store.proofs.lemmas.Offers.{same_since, same_true}
 
@@ -126,7 +126,7 @@ gives_way m v w es after place found at few put =
       ap entries_of (put ∙ here.1 ∙ ap (λ k. slice_set es k (m, w)) (sym at)) ∙ set_shown es place (m, w),
     )
 
--- ---- a closed entry
+-- ---- an entry whose least total is set
 
 written : (es : List Labelled) (place : ℕ) (w : Label) (x : Entry) → slice_get (entries_of es) place ≡ Some x →
     entries_of (set_value_at es place w) ≡ slice_set (entries_of es) place (entry_of (x.position, w))
@@ -143,11 +143,12 @@ label_at (e ∷ es) zero label x is at =
 label_at (e ∷ es) (suc place) label x is at = label_at es place label x is at
 
 -- nothing else changes
-pub closed_at : (boxes squares : ℕ) (es : List Labelled) (place : ℕ) (label : Label) (v : VisitedView) → visited_view boxes squares es ≡ v →
+pub least_set : (boxes squares : ℕ) (es : List Labelled) (place : ℕ) (least : Option ℕ) (label : Label) (v : VisitedView) → visited_view boxes squares es ≡ v →
     slice_get (values_of es) place ≡ Some label → (x : Entry) → slice_get v.entries place ≡ Some x →
-    entries_of (set_value_at es place (record { pushes = label.pushes; least = None; parent = label.parent })) ≡ slice_set v.entries place (closed x)
-closed_at boxes squares es place label v view_is is x at =
+    entries_of (set_value_at es place (record { pushes = label.pushes; least = least; parent = label.parent })) ≡
+    slice_set v.entries place (with_least least x)
+least_set boxes squares es place least label v view_is is x at =
     let here : slice_get (entries_of es) place ≡ Some x = subst (λ (u : VisitedView). slice_get u.entries place ≡ Some x) (sym view_is) at in
     let same = label_at es place label x is here in
-    written es place (record { pushes = label.pushes; least = None; parent = label.parent }) x here
-    ∙ (λ i. slice_set ((view_is i).entries) place (closed (sym same i)))
+    written es place (record { pushes = label.pushes; least = least; parent = label.parent }) x here
+    ∙ (λ i. slice_set ((view_is i).entries) place (with_least least (sym same i)))

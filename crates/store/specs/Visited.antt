@@ -45,6 +45,6 @@ HasEntered old new e None =
     (new ≡ old) × ((i : ℕ) × (x : Entry) × (slice_get old i ≡ Some x) × (x.position ≡ e.position) ×
     (x.pushes ≤ e.pushes))
 
--- the entry once it is closed
-abbrev pub closed : Entry → Entry
-closed x = record { position = x.position; pushes = x.pushes; least = None; parent = x.parent }
+-- the entry with this least total; without one it is closed
+abbrev pub with_least : Option ℕ → Entry → Entry
+with_least least x = record { position = x.position; pushes = x.pushes; least = least; parent = x.parent }

@@ -1,7 +1,7 @@
 //! The positions that a search has visited, in keys of one width.
 ghost use Rattle.std.specs.Prelude.{◌≡◌, ◌+◌, ◌<◌, ◌≤◌, [], length, map, slice_get, slice_set, IfOk, OnErr, Some};
 ghost use Rattle.store.specs.FoundView.{FitsGrid};
-ghost use Rattle.store.specs.Visited.{Entry, HasEntered, closed, entries_of, entry_of};
+ghost use Rattle.store.specs.Visited.{Entry, HasEntered, entries_of, entry_of, with_least};
 ghost use Rattle.store.specs.inside.KeyRows.{SuitsLevel};
 ghost use Rattle.successors.specs.Distances.{AreDistinct};
 
@@ -103,15 +103,15 @@ impl<const N: usize, const M: usize> Labels<N, M> {
         enter(&mut self.map, Key::of(position), label)
     }
 
-    /// Closes the position at a place.
-    pub(crate) fn close(&mut self, place: usize)
+    /// Sets the least total of the position at a place. `None` closes it.
+    pub(crate) fn set_least(&mut self, place: usize, least: Option<u32>)
         requires { place < length self.old.entries }
         ensures boxes { self.new.boxes ≡ self.old.boxes }
         ensures squares { self.new.squares ≡ self.old.squares }
-        ensures closed { (x : Entry) → slice_get self.old.entries place ≡ Some x →
-            self.new.entries ≡ slice_set self.old.entries place (closed x) }
+        ensures set { (x : Entry) → slice_get self.old.entries place ≡ Some x →
+            self.new.entries ≡ slice_set self.old.entries place (with_least least x) }
     {
-        self.map[place].least = None;
+        self.map[place].least = least;
     }
 }
 

@@ -1,7 +1,7 @@
 //! The positions that a search has visited, with a label each.
 ghost use Rattle.std.specs.Prelude.{◌≡◌, ◌<◌, ◌≤◌, [], length, map, slice_get, slice_set, IfOk, OnErr, Some};
 ghost use Rattle.store.specs.FoundView.{FitsGrid};
-ghost use Rattle.store.specs.Visited.{Entry, HasEntered, closed, entry_of};
+ghost use Rattle.store.specs.Visited.{Entry, HasEntered, entry_of, with_least};
 ghost use Rattle.successors.specs.Distances.{AreDistinct};
 
 use crate::labels::Labels;
@@ -123,14 +123,14 @@ impl Visited {
         in_each!(AnyLabels, &mut self.labels, labels => labels.enter(position, label))
     }
 
-    /// Closes the position at a place below [`Visited::len`]: its least total becomes `None`.
-    pub fn close(&mut self, place: usize)
+    /// Sets the least total of the position at a place below [`Visited::len`]. `None` closes it.
+    pub fn set_least(&mut self, place: usize, least: Option<u32>)
         requires { place < length self.old.entries }
         ensures boxes { self.new.boxes ≡ self.old.boxes }
         ensures squares { self.new.squares ≡ self.old.squares }
-        ensures closed { (x : Entry) → slice_get self.old.entries place ≡ Some x →
-            self.new.entries ≡ slice_set self.old.entries place (closed x) }
+        ensures set { (x : Entry) → slice_get self.old.entries place ≡ Some x →
+            self.new.entries ≡ slice_set self.old.entries place (with_least least x) }
     {
-        in_each!(AnyLabels, &mut self.labels, labels => labels.close(place))
+        in_each!(AnyLabels, &mut self.labels, labels => labels.set_least(place, least))
     }
 }

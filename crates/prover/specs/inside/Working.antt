@@ -1,5 +1,5 @@
 -- What the calls of a search ask for and tell, each under one name.
-use Rattle.std.specs.Prelude.{◌≡◌, ℕ, zero, suc, ◌+◌, ◌*◌, ◌-◌, ◌≤◌, ◌<◌, ◌⊎◌, Bool, true, IsTrue, List, [], ◌∷◌, ◌++◌}
+use Rattle.std.specs.Prelude.{◌≡◌, ℕ, zero, suc, ◌+◌, ◌*◌, ◌-◌, ◌≤◌, ◌<◌, ◌⊎◌, min, Bool, true, IsTrue, List, [], ◌∷◌, ◌++◌}
 use Rattle.std.specs.Prelude.{length, slice_get, slice_set, ◌^◌}
 use Rattle.std.specs.Prelude.{Option, None, Some}
 use Rattle.std.specs.List.{Contains}
@@ -15,8 +15,8 @@ use Rattle.successors.specs.Expansion.{after_push}
 use Rattle.prices.specs.Solving.{Allows, SolvableWithin}
 use Rattle.prover.specs.declared.pushing.Expanded.{Expanded}
 use Rattle.prover.specs.declared.queue.Ticket.{Ticket}
-use Rattle.store.specs.Visited.{Entry, VisitedView, closed}
-use Rattle.prover.specs.Frontier.{IsFound, Keeps, AreFew, AreFrom, ComesFrom, IsBound, IsUnderWay}
+use Rattle.store.specs.Visited.{Entry, VisitedView, with_least}
+use Rattle.prover.specs.Frontier.{IsFound, Keeps, AreFew, AreFrom, ComesFrom, IsUnderWay}
 
 -- ---- the queue
 
@@ -55,20 +55,20 @@ KeepPlaces old new = (i : ℕ) (x : Entry) → slice_get old i ≡ Some x →
 abbrev pub StayBelow : ℕ → List Entry → List Entry → Type 0
 StayBelow k old new = (i : ℕ) (x : Entry) → slice_get old i ≡ Some x → x.pushes ≤ k → slice_get new i ≡ Some x
 
--- 1 while it is open
+-- how often its least total, a number of 32 bits, can still grow, and once more while it is open
 abbrev pub openness : Option ℕ → ℕ
 openness None = 0
-openness (Some least) = 1
+openness (Some least) = 4294967296 - least
 
--- how often the positions that were found can be opened and closed again at most, where each new opening is one with
--- fewer pushes
+-- how often the positions that were found can be expanded at most: each time an open one is closed or gets a greater
+-- least total, and one is opened anew only with fewer pushes
 abbrev pub turns : List Entry → ℕ
 turns [] = 0
-turns (x ∷ all) = 2 * x.pushes + openness x.least + turns all
+turns (x ∷ all) = 4294967297 * x.pushes + openness x.least + turns all
 
 -- how many more times a search of no more positions than the limit can turn
 abbrev pub turns_left : ℕ → List Entry → ℕ
-turns_left limit all = turns all + (limit - length all) * (2 * limit + 2)
+turns_left limit all = turns all + (limit - length all) * (4294967297 * limit + 4294967297)
 
 -- there are no fewer positions, and no more turns are left
 pub record GoesOn (old new : List Entry) : Type 0 where
@@ -92,22 +92,25 @@ IsLeastOpen all place least = (x : Entry) × (slice_get all place ≡ Some x) ×
 abbrev pub IsAtPlace : List Entry → ℕ → Scene → ℕ → Type 0
 IsAtPlace all place s k = (x : Entry) × (slice_get all place ≡ Some x) × (x.position ≡ s) × (x.pushes ≡ k)
 
--- the position at the place is open with this least total, and not solved
-abbrev pub IsUnsolvedOpen : Board → List Entry → ℕ → ℕ → Type 0
-IsUnsolvedOpen board all place least =
-    (x : Entry) × (slice_get all place ≡ Some x) × (x.least ≡ Some least) × ¬ (IsSolved board x.position)
+-- the position at the place is open with a least total of at most `reach`, and not solved
+pub record IsUnsolvedOpen (board : Board) (all : List Entry) (place reach : ℕ) : Type 0 where
+  pub entry : Entry
+  pub least : ℕ
+  pub at : slice_get all place ≡ Some entry
+  pub is_open : entry.least ≡ Some least
+  pub near : least ≤ reach
+  pub unsolved : ¬ (IsSolved board entry.position)
 
--- the position is closed at the place, and nothing else changes
-abbrev pub IsClosedAt : List Entry → ℕ → List Entry → Type 0
-IsClosedAt old place new = (x : Entry) → slice_get old place ≡ Some x → new ≡ slice_set old place (closed x)
+-- the position at the place gets this least total, and nothing else changes
+abbrev pub HasLeastAt : List Entry → ℕ → Option ℕ → List Entry → Type 0
+HasLeastAt old place least new = (x : Entry) → slice_get old place ≡ Some x → new ≡ slice_set old place (with_least least x)
 
 -- ---- expansions
 
--- the search has the position that is expanded at its place, and its total is a bound
+-- the search has the position that is expanded at its place
 pub record IsExpanding (board : Board) (cap : Option ℕ) (v : VisitedView) (from : Expanded) : Type 0 where
   pub searched : IsSearched board cap v
   pub at_place : IsAtPlace v.entries from.place from.position from.pushes
-  pub bound : IsBound board from.pushes from.position from.least
   pub few : suc from.pushes < 2 ^ 32
 
 -- an expansion of a position with k pushes has gone on: each position keeps its place, and only entries with more
@@ -117,6 +120,26 @@ pub record Widens (board : Board) (cap : Option ℕ) (k : ℕ) (old new : Visite
   pub still : KeepPlaces old.entries new.entries
   pub below : StayBelow (suc k) old.entries new.entries
   pub goes_on : GoesOn old.entries new.entries
+
+-- the lesser of a number, if there is one, and a total
+abbrev pub lesser : Option ℕ → ℕ → Option ℕ
+lesser None total = Some total
+lesser (Some next) total = Some (min next total)
+
+-- the cap that allows what the cap allows and what is less than `next`
+abbrev pub tighter : Option ℕ → Option ℕ → Option ℕ
+tighter cap None = cap
+tighter None (Some next) = Some (next - 1)
+tighter (Some most) (Some next) = Some (min most (next - 1))
+
+-- what is left for later has a total greater than `reach`, and one that the cap allows
+abbrev pub IsLater : Option ℕ → ℕ → Option ℕ → Type 0
+IsLater cap reach next = (total : ℕ) → next ≡ Some total → (reach < total) × Allows cap total
+
+-- more is left for later, if anything: the least total of that does not grow
+pub record Defers (cap : Option ℕ) (reach : ℕ) (old new : Option ℕ) : Type 0 where
+  pub narrows : (m : ℕ) → Allows (tighter cap new) m → Allows (tighter cap old) m
+  pub later : IsLater cap reach old → IsLater cap reach new
 
 -- what an expansion has to keep was found, for every number of pushes that the cap allows
 abbrev pub Expands : Board → Option ℕ → List Entry → ℕ → Scene → Type 0

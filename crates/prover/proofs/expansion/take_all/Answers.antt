@@ -10,8 +10,9 @@ use Rattle.corrals.specs.Corrals.{IsClosure}
 use Rattle.corrals.specs.Sets.{SetsView}
 use Rattle.prices.specs.Helping.{SlackView}
 use Rattle.prices.specs.Solving.{Allows}
-use Rattle.prover.specs.inside.Working.{AreTaken, IsChosen}
-use Rattle.prover.proofs.Steps.{chosen_suffice, expanding_on, expands_by, read_push, expanding_fits, taken_more, widens_then}
+use Rattle.prover.specs.inside.Working.{AreTaken, IsChosen, tighter}
+use Rattle.prover.proofs.Deferring.{loosened}
+use Rattle.prover.proofs.Steps.{are_taken_less, chosen_suffice, expanding_on, expands_by, read_push, expanding_fits, taken_more, widens_then}
 use Rattle.prover.proofs.expansion.take_all.Goals as goal
 
 pub find_pushes-requires : goal.find_pushes-requires
@@ -53,15 +54,20 @@ loop-index-preserved c =
     let here = read_push c.pushes.result.now ps c.loop-index.index p c.pushes.ensures
     (omega (arith, end, same, read, c.loop-index-test.true)) c.index-pushes-index.is in
     let held = c.loop-index.desk.corral.held in
-    let taken = taken_more board cap before after (IsChosen only held) k s ps c.loop-index.index p now.widens.still here was.taken now.taken in
+    let next = desk.next in
+    let lower = tighter cap next in
+    let narrowed = are_taken_less board (tighter cap c.loop-index.desk.next) lower before (IsChosen only held) k s ps c.loop-index.index
+    now.defers.narrows was.taken in
+    let taken = taken_more board lower before after (IsChosen only held) k s ps c.loop-index.index p now.widens.still here narrowed now.taken in
     record {
       task = ap (λ (v : ExpanderView). v.task) kept.0 ∙ was.task;
       found = subst (λ (v : ExpanderView). HasPushesOf v s) (sym kept.0) was.found;
       same = kept.0 ∙ was.same;
       corral = kept.1 ∙ was.corral;
       expanding = expanding_on board cap c.loop-index.frontier c.try_push.new.frontier c.args.from.now was.expanding now.widens;
-      taken = subst (λ (v : SetsView). AreTaken board cap after (IsChosen only v.held) k s desk.expander.pushes (c.loop-index.index + 1)) (sym kept.1)
-          (subst (λ (v : ExpanderView). AreTaken board cap after (IsChosen only held) k s v.pushes (c.loop-index.index + 1)) (sym kept.0) taken);
+      taken = subst (λ (v : SetsView). AreTaken board lower after (IsChosen only v.held) k s desk.expander.pushes (c.loop-index.index + 1)) (sym kept.1)
+          (subst (λ (v : ExpanderView). AreTaken board lower after (IsChosen only held) k s v.pushes (c.loop-index.index + 1)) (sym kept.0) taken);
+      later = now.defers.later was.later;
       widens = widens_then board cap k c.args.frontier.now c.loop-index.frontier c.try_push.new.frontier was.widens now.widens;
     }
 
@@ -88,5 +94,6 @@ returns-clause-expands c =
           (c.find-only.ensures told m (subst (λ (v : SlackView). Allows v.left m) (sym c.of-slack.ensures) allowed))),
     ) in
     let level : IsLevel board = subst (λ (b : Board). IsLevel b) c.level.ensures c.tell.ensures in
-    expands_by board cap c.loop-index.frontier.entries (IsChosen only held) k s ps c.loop-index.index fits.scene pushes over
-    (λ m allowed. chosen_suffice board left s only held level fits closure m (c.left-left.ensures m allowed)) was.taken
+    let next = c.loop-index.desk.next in
+    expands_by board (tighter cap next) c.loop-index.frontier.entries (IsChosen only held) k s ps c.loop-index.index fits.scene pushes over
+    (λ m allowed. chosen_suffice board left s only held level fits closure m (c.left-left.ensures m (loosened cap next (k + suc m) allowed))) was.taken

@@ -1,6 +1,6 @@
 use Rattle.std.proofs.Common.{◌≡◌}
 use Rattle.successors.specs.Expanding.{HasPushesOf}
-use Rattle.prover.specs.inside.Working.{AreTaken, IsChosen, IsExpanding, Widens}
+use Rattle.prover.specs.inside.Working.{AreTaken, IsChosen, IsExpanding, IsLater, Widens, tighter}
 use Rattle.prover.proofs.expansion.take_all.Given as goal
 
 abbrev pub invariant-loop-index : goal.invariant-loop-index
@@ -10,7 +10,8 @@ invariant-loop-index l = record {
   same : l.desk.expander ≡ l.initial.desk.expander;
   corral : l.desk.corral ≡ l.initial.desk.corral;
   expanding : IsExpanding l.pruner.board l.pruner.cap l.frontier l.from;
-  taken : AreTaken l.pruner.board l.pruner.cap l.frontier.entries (IsChosen l.only l.desk.corral.held) l.from.pushes l.from.position
+  taken : AreTaken l.pruner.board (tighter l.pruner.cap l.desk.next) l.frontier.entries (IsChosen l.only l.desk.corral.held) l.from.pushes l.from.position
       l.desk.expander.pushes l.index;
+  later : IsLater l.pruner.cap l.from.reach l.desk.next;
   widens : Widens l.pruner.board l.pruner.cap l.from.pushes l.fn.frontier l.frontier;
 }

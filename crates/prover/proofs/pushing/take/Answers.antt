@@ -1,32 +1,17 @@
-use Rattle.std.proofs.Common.{◌≡◌, ◌+◌, ◌∙◌, ℕ, suc, Some, sym, subst, arith}
-use Rattle.std.proofs.lemmas.Bool.{true≢false}
+use Rattle.std.proofs.Common.{◌≡◌, ◌+◌, ◌∙◌, ℕ, suc, Option, Some, sym, subst, arith}
 use Rattle.grid.specs.States.{FitsLevel}
 use Rattle.area.specs.Area.{IsNorm}
 use Rattle.successors.specs.Expansion.{after_push}
 use Rattle.successors.specs.Tasks.{Task}
 use Rattle.store.proofs.lemmas.Fitting.{level_fits}
-use Rattle.prover.specs.Frontier.{IsBound, IsFound, IsTotal}
-use Rattle.prover.specs.inside.Working.{Enters, StayBelow}
-use Rattle.prover.proofs.lemmas.Pruning.{after_scene}
-use Rattle.prover.proofs.Steps.{bound_passes, expanding_fits, greater_bound, norm_lost, on_ok_so, taken_found, taken_lost, taken_over, under_way_after}
+use Rattle.prover.specs.Frontier.{IsBound, IsFound, IsTotal, NoneGoesOn}
+use Rattle.prover.specs.inside.Working.{Enters, IsTaken, StayBelow, tighter}
+use Rattle.prover.proofs.Deferring.{defers_none, defers_one, loosened}
+use Rattle.prover.proofs.Steps.{expanding_fits, on_ok_so, taken_found, taken_later, taken_less, taken_none, under_way_after}
 use Rattle.prover.proofs.pushing.take.Goals as goal
 
-pub returns-in_default-total-clause-taken : goal.returns-in_default-total-clause-taken
-returns-in_default-total-clause-taken c =
-    let board = c.args.pruner.now.board in
-    let cap = c.args.pruner.now.cap in
-    let s = c.args.from.now.position in
-    let p = c.args.push in
-    let k = c.args.from.now.pushes in
-    let n = c.in-Some.after in
-    let scene = (expanding_fits board cap c.args.frontier.now c.args.from.now c.requires.expanding).scene in
-    let made : IsNorm board (after_push board s p) n × FitsLevel board n =
-    subst (λ (t : Task). IsNorm t.board (after_push t.board s p) n × FitsLevel t.board n) c.requires.task c.in-Some.ensures.made in
-    taken_lost board cap c.args.frontier.now.entries k s p
-    (norm_lost board (after_push board s p) n made.0 (after_scene board s p scene c.requires.possible) c.in_default-total.ensures.lost)
-
-pub returns-then-not-allowed-clause-taken : goal.returns-then-not-allowed-clause-taken
-returns-then-not-allowed-clause-taken c =
+pub returns-in_default-allowed_total-clause-taken : goal.returns-in_default-allowed_total-clause-taken
+returns-in_default-allowed_total-clause-taken c =
     let board = c.args.pruner.now.board in
     let cap = c.args.pruner.now.cap in
     let s = c.args.from.now.position in
@@ -37,12 +22,31 @@ returns-then-not-allowed-clause-taken c =
     let made : IsNorm board (after_push board s p) n × FitsLevel board n =
     subst (λ (t : Task). IsNorm t.board (after_push t.board s p) n × FitsLevel t.board n) c.requires.task c.in-Some.ensures.made in
     let one : k + 1 ≡ suc k = omega arith in
-    let bound : IsBound board (suc k) n c.max-least.result = subst (IsBound board (suc k) n) (sym c.max-least.ensures)
-    (greater_bound board (suc k) c.in-Some-total.total c.args.from.now.least n
-    (subst (λ (j : ℕ). IsBound board j n c.in-Some-total.total) one c.in-Some-total.ensures.bound.1)
-    (bound_passes board k c.args.from.now.least s n p scene c.requires.possible made.0 c.requires.expanding.bound)) in
-    taken_over board cap c.args.frontier.now.entries k c.max-least.result s n p scene c.requires.possible made.0 bound
-    (λ ok. true≢false (sym (c.allows-allowed.ensures.1 ok) ∙ c.if-not-allowed.true))
+    taken_less board cap (tighter cap c.args.desk.now.next) c.args.frontier.now.entries k s p (loosened cap c.args.desk.now.next)
+    (taken_none board cap c.args.frontier.now.entries k s n p scene c.requires.possible made.0
+    (subst (λ (j : ℕ). NoneGoesOn board cap j n) one c.in_default-allowed_total.ensures.none))
+
+pub returns-then-total-from-clause-taken : goal.returns-then-total-from-clause-taken
+returns-then-total-from-clause-taken c =
+    let board = c.args.pruner.now.board in
+    let cap = c.args.pruner.now.cap in
+    let s = c.args.from.now.position in
+    let p = c.args.push in
+    let k = c.args.from.now.pushes in
+    let n = c.in-Some.after in
+    let total = c.in-Some-allowed_total.total in
+    let scene = (expanding_fits board cap c.args.frontier.now c.args.from.now c.requires.expanding).scene in
+    let made : IsNorm board (after_push board s p) n × FitsLevel board n =
+    subst (λ (t : Task). IsNorm t.board (after_push t.board s p) n × FitsLevel t.board n) c.requires.task c.in-Some.ensures.made in
+    let one : k + 1 ≡ suc k = omega arith in
+    subst (λ (o : Option ℕ). IsTaken board (tighter cap o) c.args.frontier.now.entries k s p) (sym c.lesser-desk.ensures)
+    (taken_later board cap c.args.frontier.now.entries k total s n p c.args.desk.now.next scene c.requires.possible made.0
+    (subst (λ (j : ℕ). IsBound board j n total) one c.in-Some-allowed_total.ensures.total.bound))
+
+pub returns-then-total-from-clause-defers : goal.returns-then-total-from-clause-defers
+returns-then-total-from-clause-defers c =
+    defers_one c.args.pruner.now.cap c.args.from.now.reach c.args.desk.now.next c.lesser-desk.result c.in-Some-allowed_total.total c.lesser-desk.ensures
+    (omega (arith, c.if-total-from.true)) c.in-Some-allowed_total.ensures.total.allowed
 
 pub open_at-requires : goal.open_at-requires
 open_at-requires c =
@@ -65,8 +69,14 @@ returns-clause-taken c =
     subst (λ (t : Task). IsNorm t.board (after_push t.board s p) n × FitsLevel t.board n) c.requires.task c.in-Some.ensures.made in
     let one : k + 1 ≡ suc k = omega arith in
     let all = c.open_at.new.self.entries in
-    on_ok_so c.open_at.result (λ enters. taken_found board cap all k s n p scene c.requires.possible made.0
-    (subst (λ (j : ℕ). IsFound all j n) one enters.found)) c.open_at.ensures.enters
+    let next = c.args.desk.now.next in
+    on_ok_so c.open_at.result (λ enters. taken_less board cap (tighter cap next) all k s p (loosened cap next)
+    (taken_found board cap all k s n p scene c.requires.possible made.0
+    (subst (λ (j : ℕ). IsFound all j n) one enters.found))) c.open_at.ensures.enters
+
+pub returns-clause-defers : goal.returns-clause-defers
+returns-clause-defers c =
+    on_ok_so c.open_at.result (λ enters. defers_none c.args.pruner.now.cap c.args.from.now.reach c.args.desk.now.next) c.open_at.ensures.enters
 
 pub returns-clause-widens : goal.returns-clause-widens
 returns-clause-widens c =
@@ -78,7 +88,7 @@ returns-clause-widens c =
     let n = c.in-Some.after in
     let old = c.args.frontier.now.entries in
     let new = c.open_at.new.self.entries in
-    let least = c.max-least.result in
+    let total = c.in-Some-allowed_total.total in
     let place = c.args.from.now.place in
     let (x, at, same, count) = c.requires.expanding.at_place in
     let few = c.requires.expanding.searched.under_way.few place x at in
@@ -86,20 +96,12 @@ returns-clause-widens c =
     let made : IsNorm board (after_push board s p) n × FitsLevel board n =
     subst (λ (t : Task). IsNorm t.board (after_push t.board s p) n × FitsLevel t.board n) c.requires.task c.in-Some.ensures.made in
     let one : k + 1 ≡ suc k = omega arith in
-    let bound : IsBound board (suc k) n c.max-least.result = subst (IsBound board (suc k) n) (sym c.max-least.ensures)
-    (greater_bound board (suc k) c.in-Some-total.total c.args.from.now.least n
-    (subst (λ (j : ℕ). IsBound board j n c.in-Some-total.total) one c.in-Some-total.ensures.bound.1)
-    (bound_passes board k c.args.from.now.least s n p scene c.requires.possible made.0 c.requires.expanding.bound)) in
-    let total : IsTotal board cap (suc k) n least = record {
-      near = (let le = c.in-Some-total.ensures.bound.0 in let greater = c.max-least.ensures in omega (arith, le, greater));
-      allowed = c.allows-allowed.ensures.0 c.if-not-allowed.false;
-      bound = bound;
-    } in
+    let is : IsTotal board cap (suc k) n total = subst (λ (j : ℕ). IsTotal board cap j n total) one c.in-Some-allowed_total.ensures.total in
     on_ok_so c.open_at.result (λ enters. record {
       searched = record {
-        under_way = under_way_after board cap old new place k least s n p c.requires.expanding.searched.under_way c.requires.expanding.at_place
-            c.requires.possible made.0 made.1 total
-            (subst (λ (j : ℕ). Enters old new (record { position = n; pushes = j; least = Some least; parent = Some (record { place = place; push = p }) }))
+        under_way = under_way_after board cap old new place k total s n p c.requires.expanding.searched.under_way c.requires.expanding.at_place
+            c.requires.possible made.0 made.1 is
+            (subst (λ (j : ℕ). Enters old new (record { position = n; pushes = j; least = Some total; parent = Some (record { place = place; push = p }) }))
             one enters);
         boxes = c.open_at.ensures.size.0 ∙ c.requires.expanding.searched.boxes;
         squares = c.open_at.ensures.size.1 ∙ c.requires.expanding.searched.squares;

@@ -1,10 +1,10 @@
-use Rattle.std.proofs.Common.{rules, ◌<◌, ◌∙◌, length, sym, subst}
+use Rattle.std.proofs.Common.{rules, arith, ◌<◌, ◌∙◌, length, sym, subst}
 use Rattle.std.proofs.lemmas.Bool.{false≢true}
 use Rattle.grid.specs.Board.{Board, Scene, IsSolved}
 use Rattle.grid.specs.Lawful.{IsLevel}
 use Rattle.store.specs.Visited.{VisitedView}
 use Rattle.prover.specs.inside.Working.{IsSearched}
-use Rattle.prover.proofs.Steps.{has_more, least_told, none_is_allowed, solved_told}
+use Rattle.prover.proofs.Endings.{has_more, least_told, none_is_allowed, solved_told, told_more}
 use Rattle.prover.proofs.searching.run.Goals as goal
 
 pub returns-then-solved-clause-tells : goal.returns-then-solved-clause-tells
@@ -25,7 +25,8 @@ returns-then-len-limit-clause-tells c =
     let searched = subst (λ (v : VisitedView). IsSearched board cap v) (sym c.least_open.ensures.same) c.loop-place.invariant.searched in
     let level : IsLevel board = subst (λ (b : Board). IsLevel b) c.level.ensures c.tell.ensures in
     let many : c.args.limit < length all = search rules in (
-      least_told board cap all c.in-Some.place c.in-Some.least level searched.under_way c.in-Some.ensures.some,
+      told_more board c.in-Some.least c.loop-place.reach c.max-reach.result c.max-reach.ensures
+          (least_told board cap all c.in-Some.place c.in-Some.least level searched.under_way c.in-Some.ensures.some) c.loop-place.invariant.told,
       has_more board cap all c.args.limit searched.under_way c.tell-then-len-limit.ensures many,
     )
 
@@ -40,11 +41,29 @@ returns-clause-tells c =
 pub expand-requires-clause-waits : goal.expand-requires-clause-waits
 expand-requires-clause-waits c =
     let board = c.args.pruner.now.board in
-    let (x, at, open_, from) = c.in-Some.ensures.some in (
-      x,
-      at,
-      open_,
-      λ solved. false≢true (sym c.if-solved.false ∙ c.is_solved-solved.ensures.1
+    let (x, at, open_, from) = c.in-Some.ensures.some in
+    let greater = c.max-reach.ensures in
+    record {
+      entry = x;
+      least = c.in-Some.least;
+      at = at;
+      is_open = open_;
+      near = omega (arith, greater);
+      unsolved = λ solved. false≢true (sym c.if-solved.false ∙ c.is_solved-solved.ensures.1
           (subst (λ (b : Board). IsSolved b c.position.result) (sym c.level-in-Some.ensures)
-          (subst (λ (s : Scene). IsSolved board s) (sym (c.position.ensures x at)) solved))),
-    )
+          (subst (λ (s : Scene). IsSolved board s) (sym (c.position.ensures x at)) solved)));
+    }
+
+pub loop-place-preserved : goal.loop-place-preserved
+loop-place-preserved c =
+    let board = c.args.pruner.now.board in
+    let cap = c.args.pruner.now.cap in
+    let searched = subst (λ (v : VisitedView). IsSearched board cap v) (sym c.least_open.ensures.same) c.loop-place.invariant.searched in
+    let level : IsLevel board = subst (λ (b : Board). IsLevel b) c.level.ensures c.tell.ensures in
+    record {
+      searched = c.in_ok-expand.ensures.searched;
+      told = told_more board c.in-Some.least c.loop-place.reach c.max-reach.result c.max-reach.ensures
+          (least_told board cap c.least_open.new.self.entries c.in-Some.place c.in-Some.least level searched.under_way c.in-Some.ensures.some)
+          c.loop-place.invariant.told;
+      task = c.expand.ensures.task ∙ c.loop-place.invariant.task;
+    }

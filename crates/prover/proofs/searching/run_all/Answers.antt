@@ -1,16 +1,23 @@
-use Rattle.std.proofs.Common.{rules, ◌∙◌, subst}
+use Rattle.std.proofs.Common.{◌∙◌, refl, subst, sym, arith}
 use Rattle.successors.specs.Tasks.{Task}
+use Rattle.prover.specs.Fewest.{NoneHasFewer}
 use Rattle.prover.specs.inside.Rounds.{Tells}
+use Rattle.prover.specs.inside.Working.{IsSearched}
 use Rattle.prover.proofs.searching.run_all.Goals as goal
 
-pub returns-then-not-is_limit-2-clause-tells : goal.returns-then-not-is_limit-2-clause-tells
-returns-then-not-is_limit-2-clause-tells c =
-    subst (λ (v : Task). Tells v.board v.cap c.args.limit c.run_first-2.new.frontier.entries c.in_ok-some.some)
-    c.run_first.ensures.same
-    (c.is_limit-2.ensures _ _ c.min-2.result c.args.limit _ (search rules) c.in_ok-some.ensures.tells)
+pub loop-first-init : goal.loop-first-init
+loop-first-init c = record { same = refl; searched = c.requires.searched; told = λ ds ps solution. omega arith }
 
-pub returns-then-not-is_limit-3-clause-tells : goal.returns-then-not-is_limit-3-clause-tells
-returns-then-not-is_limit-3-clause-tells c =
-    subst (λ (v : Task). Tells v.board v.cap c.args.limit c.run_first-3.new.frontier.entries c.in_ok-many.many)
-    (c.run_first-2.ensures.same ∙ c.run_first.ensures.same)
-    (c.is_limit-3.ensures _ _ c.min-3.result c.args.limit _ (search rules) c.in_ok-many.ensures.tells)
+pub loop-first-preserved : goal.loop-first-preserved
+loop-first-preserved c =
+    let same = sym c.make_tables.ensures in
+    record {
+      same = c.make_tables.ensures ∙ c.loop-first.invariant.same;
+      searched = subst (λ (v : Task). IsSearched v.board v.cap c.run.new.frontier) same c.in_ok-end.ensures.searched;
+      told = subst (λ (v : Task). NoneHasFewer v.board c.in-Some.least) same (c.in-Some.ensures.some _ _ _ _ c.in_ok-end.ensures.tells);
+    }
+
+pub returns-in_default-clause-tells : goal.returns-in_default-clause-tells
+returns-in_default-clause-tells c =
+    subst (λ (v : Task). Tells v.board v.cap c.args.limit c.run.new.frontier.entries c.in_ok-end.end) c.loop-first.invariant.same
+    (c.in_default.ensures.none _ _ _ c.args.limit _ c.in_ok-end.ensures.tells)

@@ -1,0 +1,74 @@
+-- What the end of a search says, over plain lists of what was found.
+use Rattle.std.proofs.Common.{◌≡◌, ℕ, zero, suc, ◌<◌, List, [], ◌∷◌, length, map, Option, None, Some, inl, inr, refl, ap, subst, arith, max}
+use Rattle.std.proofs.lemmas.Bool.{cases_lt}
+use Rattle.std.proofs.lemmas.Option.{none-some, same_Some}
+use Rattle.std.specs.Prelude.{slice_get}
+use Rattle.grid.specs.Board.{Board, Scene, IsSolved}
+use Rattle.grid.specs.Lawful.{IsLevel}
+use Rattle.prices.specs.Solving.{Allows}
+use Rattle.successors.specs.Distances.{AreDistinct}
+use Rattle.store.specs.Visited.{Entry}
+use Rattle.prover.specs.Fewest.{NoneHasFewer, IsReachable, HasMore}
+use Rattle.prover.specs.Frontier.{IsUnderWay, AreFrom, AreClosed}
+use Rattle.prover.specs.inside.Working.{IsLeastOpen}
+use Rattle.prover.specs.inside.Rounds.{NoneIsAllowed, IsLeastSolved}
+use Rattle.prover.proofs.Openings.{allows_fewer, least_bounds, closed_decides}
+
+pub none_has_fewer : (board : Board) (cap : Option ℕ) (all : List Entry) (least : ℕ) → IsLevel board → IsUnderWay board cap all → AreFrom least all →
+    Allows cap least →
+    NoneHasFewer board least
+none_has_fewer board None all least level under from allowed ds ps solution = least_bounds board level None all least under from ds ps solution tt
+none_has_fewer board (Some most) all least level under from allowed ds ps solution = elim (cases_lt most (length ps)) [
+  | inl more ↦ omega (arith, more, allowed)
+  | inr few ↦ least_bounds board level (Some most) all least under from ds ps solution few
+]
+
+pub none_is_allowed : (board : Board) (cap : Option ℕ) (all : List Entry) → IsLevel board → IsUnderWay board cap all → AreClosed all → NoneIsAllowed board cap
+none_is_allowed board None all level under closed = λ t ds ps play solved. closed_decides board level None all under closed ds ps (t, play, solved) tt
+none_is_allowed board (Some most) all level under closed = λ ds ps t play solved. elim (cases_lt most (length ps)) [
+  | inl more ↦ more
+  | inr few ↦ absurd (closed_decides board level (Some most) all under closed ds ps (t, play, solved) few)
+]
+
+-- what a solved position of the least total says
+pub solved_told : (board : Board) (cap : Option ℕ) (all : List Entry) (place least : ℕ) → IsLevel board → IsUnderWay board cap all →
+    IsLeastOpen all place least → ((x : Entry) → slice_get all place ≡ Some x → IsSolved board x.position) → IsLeastSolved board cap all place
+solved_told board cap all place least level under (x, at, open_, from) solved =
+    let total = (under.sound place x at).total least open_ in
+    let bound = none_has_fewer board cap all least level under from total.allowed in record {
+      entry = x;
+      at = at;
+      solved = solved x at;
+      fewest = λ ds ps solution. (let le = bound ds ps solution in let near = total.near in omega (arith, le, near));
+      allowed = allows_fewer cap x.pushes least total.near total.allowed;
+    }
+
+-- what the least total says
+pub least_told : (board : Board) (cap : Option ℕ) (all : List Entry) (place least : ℕ) → IsLevel board → IsUnderWay board cap all →
+    IsLeastOpen all place least → NoneHasFewer board least
+least_told board cap all place least level under (x, at, open_, from) =
+    none_has_fewer board cap all least level under from ((under.sound place x at).total least open_).allowed
+
+-- and the greater one of two such numbers
+pub told_more : (board : Board) (a b n : ℕ) → n ≡ max a b → NoneHasFewer board a → NoneHasFewer board b → NoneHasFewer board n
+told_more board a b n is first second ds ps solution = let p = first ds ps solution in let q = second ds ps solution in omega (arith, is, p, q)
+
+position_at : (all : List Entry) (i : ℕ) (s : Scene) → slice_get (map (λ (x : Entry). x.position) all) i ≡ Some s →
+    (x : Entry) × (slice_get all i ≡ Some x) × (x.position ≡ s)
+position_at [] i s e = absurd (none-some s e)
+position_at (x ∷ all) zero s e = (x, refl, same_Some x.position s e)
+position_at (x ∷ all) (suc i) s e = position_at all i s e
+
+same_length : (all : List Entry) → length (map (λ (x : Entry). x.position) all) ≡ length all
+same_length [] = refl
+same_length (x ∷ all) = ap suc (same_length all)
+
+pub has_more : (board : Board) (cap : Option ℕ) (all : List Entry) (limit : ℕ) → IsUnderWay board cap all → AreDistinct (map (λ (x : Entry). x.position) all) →
+    limit < length all →
+    HasMore board limit
+has_more board cap all limit under distinct many = record {
+  positions = map (λ (x : Entry). x.position) all;
+  many = (let e = same_length all in omega (arith, e, many));
+  different = distinct;
+  reached = λ i s p. (let (x, a, same) = position_at all i s p in subst (IsReachable board) same (under.sound i x a).reached);
+}
