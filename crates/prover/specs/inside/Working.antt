@@ -1,5 +1,6 @@
 -- What the calls of a search ask for and tell, each under one name.
-use Rattle.std.specs.Prelude.{◌≡◌, ℕ, zero, suc, ◌+◌, ◌*◌, ◌-◌, ◌≤◌, ◌<◌, ◌⊎◌, min, Bool, true, IsTrue, List, [], ◌∷◌, ◌++◌}
+use Rattle.std.specs.Prelude.{◌≡◌, ℕ, zero, suc, ◌+◌, ◌*◌, ◌-◌, ◌≤◌, ◌<◌, ◌⊎◌, min, List, [], ◌∷◌, ◌++◌}
+use Rattle.std.specs.Prelude.{Bool, true, IsTrue}
 use Rattle.std.specs.Prelude.{length, slice_get, slice_set, ◌^◌}
 use Rattle.std.specs.Prelude.{Option, None, Some}
 use Rattle.std.specs.List.{Contains}
@@ -55,13 +56,13 @@ KeepPlaces old new = (i : ℕ) (x : Entry) → slice_get old i ≡ Some x →
 abbrev pub StayBelow : ℕ → List Entry → List Entry → Type 0
 StayBelow k old new = (i : ℕ) (x : Entry) → slice_get old i ≡ Some x → x.pushes ≤ k → slice_get new i ≡ Some x
 
--- how often its least total, a number of 32 bits, can still grow, and once more while it is open
+-- how often an open position's least total, which is less than 2^32, can still grow before it is closed; 0 once it is
 abbrev pub openness : Option ℕ → ℕ
 openness None = 0
 openness (Some least) = 4294967296 - least
 
--- how often the positions that were found can be expanded at most: each time an open one is closed or gets a greater
--- least total, and one is opened anew only with fewer pushes
+-- an upper bound on the expansions of the positions that were found: an expansion closes its position or makes the
+-- least total greater, and a closed position is opened again only with fewer pushes
 abbrev pub turns : List Entry → ℕ
 turns [] = 0
 turns (x ∷ all) = 4294967297 * x.pushes + openness x.least + turns all
@@ -101,9 +102,10 @@ pub record IsUnsolvedOpen (board : Board) (all : List Entry) (place reach : ℕ)
   pub near : least ≤ reach
   pub unsolved : ¬ (IsSolved board entry.position)
 
--- the position at the place gets this least total, and nothing else changes
+-- the new list has this least total at the place, and is the same elsewhere
 abbrev pub HasLeastAt : List Entry → ℕ → Option ℕ → List Entry → Type 0
-HasLeastAt old place least new = (x : Entry) → slice_get old place ≡ Some x → new ≡ slice_set old place (with_least least x)
+HasLeastAt old place least new =
+    (x : Entry) → slice_get old place ≡ Some x → new ≡ slice_set old place (with_least least x)
 
 -- ---- expansions
 
@@ -126,17 +128,18 @@ abbrev pub lesser : Option ℕ → ℕ → Option ℕ
 lesser None total = Some total
 lesser (Some next) total = Some (min next total)
 
--- the cap that allows what the cap allows and what is less than `next`
+-- a cap that allows exactly the numbers below `next` that the cap allows, where `next` is above 0
 abbrev pub tighter : Option ℕ → Option ℕ → Option ℕ
 tighter cap None = cap
 tighter None (Some next) = Some (next - 1)
 tighter (Some most) (Some next) = Some (min most (next - 1))
 
--- what is left for later has a total greater than `reach`, and one that the cap allows
+-- the least total of the pushes that were left for later, if there is one, is greater than `reach`, and the cap allows
+-- it
 abbrev pub IsLater : Option ℕ → ℕ → Option ℕ → Type 0
 IsLater cap reach next = (total : ℕ) → next ≡ Some total → (reach < total) × Allows cap total
 
--- more is left for later, if anything: the least total of that does not grow
+-- a push may have been left for later: the least total of those does not grow, and stays greater than `reach`
 pub record Defers (cap : Option ℕ) (reach : ℕ) (old new : Option ℕ) : Type 0 where
   pub narrows : (m : ℕ) → Allows (tighter cap new) m → Allows (tighter cap old) m
   pub later : IsLater cap reach old → IsLater cap reach new
