@@ -3,15 +3,13 @@ ghost use Rattle.std.specs.Prelude.{◌<◌};
 
 use crate::ground::{Ground, NONE, ground_at, ground_of, short};
 use crate::listing::{empty_table, list_dead_squares, list_groups};
+use crate::numbering::{FIRST, Group, LARGEST, Numbering, advance, moved};
 use crate::table::{Table, byte_at};
 use grid::{Dir, Level, Square};
 use prices::Distances;
 use std::alloc::{AllocError, Global};
 
-/// The greatest number of boxes of a group.
-pub(crate) const LARGEST: usize = 5;
-
-/// The greatest number of bytes for the excess of all groups of one size. To find that many takes a second or two.
+/// The greatest number of bytes for the excess of all groups of one size. Finding that many takes a second or two.
 const MOST: usize = 20_000_000;
 
 /// The excess that is not known yet, and that of groups that can never come to goals.
@@ -20,11 +18,12 @@ const UNKNOWN: u8 = u8::MAX;
 /// The end of a list of the queue.
 const END: u32 = u32::MAX;
 
-/// Boxes by their places, in rising order. Only the first ones count, as many as the size of the groups.
-pub(crate) type Group = [u16; LARGEST];
-
-/// The first group.
-pub(crate) const FIRST: Group = [0, 1, 2, 3, 4];
+/// A group, and the index at which its excess begins.
+#[derive(Clone, Copy, Debug)]
+struct Located {
+    group: Group,
+    start: usize,
+}
 
 /// A group and the player's square, and the next entry of the same excess.
 #[derive(Clone, Copy, Debug)]
@@ -43,7 +42,7 @@ pub(crate) struct Filling {
     pub(crate) excess: Vec<u8>,
     pub(crate) fewer: Vec<u8>,
     spots: Vec<u16>,
-    ways: Vec<u32>,
+    numbering: Numbering,
     heads: [u32; 256],
     entries: Vec<Entry>,
     stack: Vec<u16>,
@@ -77,14 +76,14 @@ pub(crate) fn table_of(
 fn begun(alloc: Global, level: &Level, distances: &Distances) -> Result<Filling, AllocError> {
     let ground = ground_of(alloc, level, distances)?;
     let spots = spots_of(alloc, ground.as_slice())?;
-    let ways = ways_of(alloc, spots.len())?;
+    let numbering = Numbering::new(alloc, spots.len())?;
     Ok(Filling {
         ground,
         size: 0,
         excess: Vec::new(alloc),
         fewer: Vec::new(alloc),
         spots,
-        ways,
+        numbering,
         heads: [END; 256],
         entries: Vec::new(alloc),
         stack: Vec::new(alloc),
@@ -108,67 +107,6 @@ fn spots_of(alloc: Global, ground: &[Ground]) -> Result<Vec<u16>, AllocError> {
     Ok(spots)
 }
 
-// For each place and each size, the number of groups of that size with lesser places only.
-fn ways_of(alloc: Global, places: usize) -> Result<Vec<u32>, AllocError> {
-    let mut ways = vec![in alloc; 0; LARGEST]?;
-    let mut row = [0_u32; LARGEST];
-    for _ in 0..places {
-        let mut before = 1;
-        for index in 0..LARGEST {
-            let now = row[index];
-            row[index] = now.saturating_add(before);
-            before = now;
-        }
-        for count in row {
-            ways.push(count)?;
-        }
-    }
-    Ok(ways)
-}
-
-/// Goes on to the next group of a size.
-pub(crate) fn advance(group: &mut Group, size: usize) {
-    let count = size.min(LARGEST);
-    for index in 0..count {
-        let next = group[index].saturating_add(1);
-        if index + 1 < count && next == group[index + 1] {
-            group[index] = short(index);
-        } else {
-            group[index] = next;
-            return;
-        }
-    }
-}
-
-// The group with a box at another place.
-fn moved(group: &Group, size: usize, index: usize, place: u16) -> Group {
-    let mut moved = *group;
-    if let Some(box_place) = moved.get_mut(index) {
-        *box_place = place;
-    }
-    let count = size.min(LARGEST);
-    for at in 1..count {
-        sort_two(&mut moved, at);
-    }
-    for back in 1..count {
-        sort_two(&mut moved, count - back);
-    }
-    moved
-}
-
-// Sorts a box and the one before it.
-#[inline(always)]
-fn sort_two(group: &mut Group, at: usize)
-    requires { at < LARGEST }
-{
-    if at == 0 {
-        return;
-    }
-    let (low, high) = (group[at - 1], group[at]);
-    group[at - 1] = low.min(high);
-    group[at] = low.max(high);
-}
-
 /// Sets the byte at an index, if there is one.
 pub(crate) fn set_byte(bytes: &mut [u8], at: usize, value: u8) {
     if let Some(byte) = bytes.get_mut(at) {
@@ -184,7 +122,7 @@ impl Filling {
 
     // The number of groups of a size.
     fn count(&self, size: usize) -> usize {
-        self.ways_below(short(self.spots.len()), size)
+        self.numbering.ways_below(short(self.spots.len()), size)
     }
 
     /// The number of groups of the present size.
@@ -192,24 +130,21 @@ impl Filling {
         self.count(self.size)
     }
 
-    // The number of groups of a size with only lesser places than this.
-    #[inline(always)]
-    fn ways_below(&self, place: u16, size: usize) -> usize {
-        let at = (place as usize * LARGEST).saturating_add(size);
-        match self.ways.get(at.saturating_sub(1)) {
-            Some(ways) => *ways as usize,
-            None => 0,
-        }
-    }
-
     /// The index at which the excess of a group begins.
     #[inline(always)]
     pub(crate) fn start(&self, group: &Group, size: usize) -> usize {
-        let mut number = 0_usize;
-        for index in 0..size.min(LARGEST) {
-            number = number.saturating_add(self.ways_below(group[index], index + 1));
+        self.numbering
+            .number(group, size)
+            .saturating_mul(self.ground.len())
+    }
+
+    // Finds where the excess of a group of the present size begins.
+    #[inline(always)]
+    fn located(&self, group: &Group) -> Located {
+        Located {
+            group: *group,
+            start: self.start(group, self.size),
         }
-        number.saturating_mul(self.ground.len())
     }
 
     /// The square of a place.
@@ -236,52 +171,38 @@ impl Filling {
         self.heads = [END; 256];
         self.entries.clear();
         let mut group = FIRST;
-        for number in 0..self.groups() {
-            self.begin_with(level, &group, number)?;
+        for _ in 0..self.groups() {
+            let it = self.located(&group);
+            self.begin_with(level, &it)?;
             advance(&mut group, self.size);
         }
         Ok(())
     }
 
     // Squares with a box get excess 0 as well, so that no walk goes there.
-    fn begin_with(
-        &mut self,
-        level: &Level,
-        group: &Group,
-        number: usize,
-    ) -> Result<(), AllocError> {
-        let start = number.saturating_mul(self.ground.len());
+    fn begin_with(&mut self, level: &Level, it: &Located) -> Result<(), AllocError> {
         let mut is_home = true;
         for index in 0..self.size.min(LARGEST) {
-            let at = self.spot(group[index]);
+            let at = self.spot(it.group[index]);
             set_byte(
                 self.excess.as_mut_slice(),
-                start.saturating_add(at as usize),
+                it.start.saturating_add(at as usize),
                 0,
             );
             is_home &= level.is_goal(Square(ground_at(self.ground.as_slice(), at).square));
         }
         if is_home {
             for player in 0..self.ground.len() {
-                self.note(group, start, short(player), 0)?;
+                self.note(it, short(player), 0)?;
             }
         }
         Ok(())
     }
 
     // Appends an excess to the queue, unless it is known.
-    fn note(
-        &mut self,
-        group: &Group,
-        start: usize,
-        player: u16,
-        excess: usize,
-    ) -> Result<(), AllocError> {
-        if byte_at(
-            self.excess.as_slice(),
-            start.saturating_add(player as usize),
-        ) != UNKNOWN
-        {
+    fn note(&mut self, it: &Located, player: u16, excess: usize) -> Result<(), AllocError> {
+        let at = it.start.saturating_add(player as usize);
+        if byte_at(self.excess.as_slice(), at) != UNKNOWN {
             return Ok(());
         }
         let excess = excess.min(254);
@@ -290,7 +211,7 @@ impl Filling {
             return Ok(());
         };
         self.entries.push(Entry {
-            group: *group,
+            group: it.group,
             player,
             next,
         })?;
@@ -319,22 +240,22 @@ impl Filling {
                 next,
             } = self.entries[head];
             self.heads[excess as usize] = next;
-            self.look_at(&group, player, excess)?;
+            let it = self.located(&group);
+            self.look_at(&it, player, excess)?;
         }
         Ok(())
     }
 
     // Marks the player's area with this excess, and appends what is one pull away.
-    fn look_at(&mut self, group: &Group, player: u16, excess: u8) -> Result<(), AllocError> {
-        let start = self.start(group, self.size);
-        let at = start.saturating_add(player as usize);
+    fn look_at(&mut self, it: &Located, player: u16, excess: u8) -> Result<(), AllocError> {
+        let at = it.start.saturating_add(player as usize);
         if byte_at(self.excess.as_slice(), at) != UNKNOWN {
             return Ok(());
         }
-        self.flood(start, player, excess)?;
+        self.flood(it.start, player, excess)?;
         for index in 0..self.size.min(LARGEST) {
             for dir in Dir::ALL {
-                self.pull(group, start, index, dir, excess)?;
+                self.pull(it, index, dir, excess)?;
             }
         }
         Ok(())
@@ -369,34 +290,30 @@ impl Filling {
     }
 
     // Pulls a box by one square, if the player has two free squares there and can be there.
-    fn pull(
-        &mut self,
-        group: &Group,
-        start: usize,
-        index: usize,
-        dir: Dir,
-        excess: u8,
-    ) -> Result<(), AllocError>
+    fn pull(&mut self, it: &Located, index: usize, dir: Dir, excess: u8) -> Result<(), AllocError>
         requires { index < LARGEST }
     {
-        let here = ground_at(self.ground.as_slice(), self.spot(group[index]));
+        let here = ground_at(self.ground.as_slice(), self.spot(it.group[index]));
         let from = here.beside[dir as usize];
-        if byte_at(self.excess.as_slice(), start.saturating_add(from as usize)) != excess {
+        if byte_at(
+            self.excess.as_slice(),
+            it.start.saturating_add(from as usize),
+        ) != excess
+        {
             return Ok(());
         }
         let there = ground_at(self.ground.as_slice(), from);
         let player = there.beside[dir as usize];
         if there.place == NONE
             || player == NONE
-            || self.is_taken(group, from)
-            || self.is_taken(group, player)
+            || self.is_taken(&it.group, from)
+            || self.is_taken(&it.group, player)
         {
             return Ok(());
         }
         let waste = here.waste[dir as usize];
-        let pulled = moved(group, self.size, index, there.place);
-        let to = self.start(&pulled, self.size);
-        self.note(&pulled, to, player, excess as usize + waste as usize)
+        let pulled = self.located(&moved(&it.group, self.size, index, there.place));
+        self.note(&pulled, player, excess as usize + waste as usize)
     }
 
     // Whether a box of the group is there.

@@ -28,6 +28,7 @@ mod filling;
 mod ground;
 pub mod laws;
 mod listing;
+mod numbering;
 mod packing;
 mod picks;
 mod table;

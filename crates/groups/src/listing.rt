@@ -1,8 +1,9 @@
 //! Lists groups in a table: those with more excess than the groups within them. It has no contract: the table is
 //! checked.
 
-use crate::filling::{FIRST, Filling, Group, LARGEST, advance, set_byte};
+use crate::filling::{Filling, set_byte};
 use crate::ground::{Ground, NONE, ground_at, short};
+use crate::numbering::{FIRST, Group, LARGEST, advance};
 use crate::packing::Index;
 use crate::table::{DEAD, Entry, ROWS, Table, byte_at};
 use grid::{Dir, Level, Square};
