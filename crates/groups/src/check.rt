@@ -22,7 +22,7 @@ pub(crate) fn is_sound(level: &Level, distances: &Distances, table: &Table) -> b
     wastes & pass
 }
 
-// Whether each push wastes at least what the table says.
+// Whether each push wastes at least what the table states.
 fn are_wastes(level: &Level, distances: &Distances, table: &Table) -> bool
     requires { level.now ≡ distances.now.level }
     ensures { IsTrue result → (q : ℕ) → q < length level.now.cells → (d : Dir)
@@ -37,7 +37,7 @@ fn are_wastes(level: &Level, distances: &Distances, table: &Table) -> bool
     true
 }
 
-// Whether each push of a box on the square does.
+// Whether each push of a box on the square wastes at least what the table states.
 fn are_wastes_of(level: &Level, distances: &Distances, table: &Table, square: Square) -> bool
     requires level { level.now ≡ distances.now.level }
     requires inside { square < length level.now.cells }
@@ -51,7 +51,7 @@ fn are_wastes_of(level: &Level, distances: &Distances, table: &Table, square: Sq
     down & left & right & up
 }
 
-// Whether a push does.
+// Whether a push of a box on the square wastes at least what the table states.
 fn is_waste(level: &Level, distances: &Distances, table: &Table, square: Square, dir: Dir) -> bool
     requires level { level.now ≡ distances.now.level }
     requires inside { square < length level.now.cells }
@@ -75,7 +75,7 @@ fn is_waste(level: &Level, distances: &Distances, table: &Table, square: Square,
     )
 }
 
-// Whether each of the first numbers below `NEVER`, plus the waste, is at most one more than the other.
+// Whether each of the first `count` numbers is `NEVER` or, with the waste added, at most one more than its other.
 fn are_within(numbers: &[u32], others: &[u32], count: usize, waste: u8) -> bool
     ensures { IsTrue result → AreWithin numbers.now others.now count waste }
 {
@@ -99,7 +99,7 @@ fn number_at(numbers: &[u32], at: usize) -> u32
     }
 }
 
-// Whether each listed group passes, if pushes waste what the table says.
+// Whether each listed group passes the check, if pushes waste what the table states.
 fn all_pass(level: &Level, table: &Table) -> bool
     ensures { IsTrue result → (i : ℕ) → i < length table.now.entries.items →
         GroupPasses level.now (listed_in table.now) (waste_in table.now) i }
@@ -112,7 +112,7 @@ fn all_pass(level: &Level, table: &Table) -> bool
     true
 }
 
-// Whether a group does.
+// Whether a group passes the check.
 fn passes(level: &Level, table: &Table, group: usize) -> bool
     ensures { IsTrue result → GroupPasses level.now (listed_in table.now) (waste_in table.now) group }
 {
@@ -154,7 +154,7 @@ fn walks_keep(level: &Level, table: &Table, row: u32, boxes: &[Square]) -> bool
     true
 }
 
-// Whether no walk from the player's square does.
+// Whether no step of the player from a square lessens the excess in the row.
 fn walks_keep_from(level: &Level, table: &Table, row: u32, boxes: &[Square], player: Square) -> bool
     requires { player < length level.now.cells }
     ensures { IsTrue result → WalksKeep level.now boxes.now (row_excess table.now row) player }
@@ -190,7 +190,7 @@ fn pushes_pay(level: &Level, table: &Table, group: usize, position: &Position) -
     true
 }
 
-// Whether each push of its box on the square does.
+// Whether each push of the group's box on the square leaves enough excess.
 fn pushes_pay_of(
     level: &Level,
     table: &Table,
@@ -212,7 +212,7 @@ fn pushes_pay_of(
     down & left & right & up
 }
 
-// Whether a push does.
+// Whether a push of the group's box on the square leaves enough excess.
 fn push_pays(
     level: &Level,
     table: &Table,

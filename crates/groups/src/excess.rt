@@ -49,7 +49,7 @@ impl Groups {
         })
     }
 
-    /// Makes the tables of groups of at most `most` boxes, 2 to 5. A size whose table would be too large is left out.
+    /// Makes the tables of groups of at most `most` boxes, 2 to 5. Leaves out each size whose table would be too large.
     /// Takes up to a second or two. Fails only if out of memory, and then leaves the groups unchanged.
     pub fn make_tables(
         &mut self,
@@ -114,7 +114,7 @@ fn above(distances: &Distances, table: &Table, position: &Position) -> u64
     above_by(distances, table, position, &picks.list)
 }
 
-// The same, by picked groups.
+// The pushes that picked groups of a position need above what each of their boxes needs alone.
 fn above_by(distances: &Distances, table: &Table, position: &Position, picks: &[u32]) -> u64
     requires sound { IsSound distances.now table.now }
     requires scene { IsScene distances.now.level position.now }

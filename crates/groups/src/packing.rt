@@ -10,10 +10,10 @@ pub(crate) const NO_GROUP: u32 = u32::MAX;
 /// No node.
 const NO_NODE: u32 = u32::MAX;
 
-/// The greatest number of groups that are weighed.
+/// The greatest number of groups that [`Table::picks`] weighs.
 const MOST: usize = 128;
 
-/// More than the greatest number of boxes of a group.
+/// More than [`LARGEST`](crate::numbering::LARGEST), the greatest number of boxes of a group.
 const DEEP: usize = 8;
 
 /// A node of the index: the first boxes of listed groups. It has the group of just these boxes, if it is listed, and

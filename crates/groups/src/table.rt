@@ -36,7 +36,7 @@ pub(crate) struct Table {
     pub(crate) entries: Vec<Entry>,
     pub(crate) squares: Vec<Square>,
     pub(crate) rows: Vec<u8>,
-    /// Where groups are found by their squares. Nothing is promised of it.
+    /// Finds groups by their squares. It has no contract.
     pub(crate) index: Index,
 }
 
