@@ -12,7 +12,7 @@ use crate::book::{Book, Claim, Closed};
 use crate::fault::{BeginFault, CloseFault, Refusal};
 use crate::layer::Layer;
 use crate::marks::Marks;
-use store::most_waiting;
+use store::most_pending;
 use successors::Parcel;
 
 impl Book {
@@ -95,7 +95,7 @@ impl Book {
             return Err(Refusal::Over);
         }
         // the last worker number belongs to the caller, who does what the others left
-        let most = most_waiting(worker, self.workers - 1, self.share, self.shares);
+        let most = most_pending(worker, self.workers - 1, self.share, self.shares);
         if self
             .found
             .enter_all(most, self.share, self.shares, parcel)

@@ -25,7 +25,7 @@ impl Book {
     pub fn enter_waiting(&mut self, least: usize) -> bool
         ensures { self.new ≡ self.old }
     {
-        self.found.enter_waiting(least)
+        self.found.enter_pending(least)
     }
 
     /// Whether the limit was passed.

@@ -12,7 +12,7 @@ use crate::book::{Book, last_start};
 use grid::{MAX_BOXES, Square};
 use std::alloc::{AllocError, Global};
 use std::marker::Model;
-use store::{Found, Origin, room_in};
+use store::{Found, Origin, recycled};
 
 /// What is left of a book's last closed list while it is merged.
 #[derive(Drop)]
@@ -99,7 +99,7 @@ pub(crate) fn merge(
 {
     let mut rests = rests_of(alloc, books, &[])?;
     let count = count_all(rests.as_slice());
-    let mut squares = room_in(alloc, room, count.saturating_mul(boxes + 1))?;
+    let mut squares = recycled(alloc, room, count.saturating_mul(boxes + 1))?;
     let mut origins = Vec::with_capacity(alloc, count)?;
     while let Some(place) = least_of(rests.as_slice()) {
         rests[place].take(&mut squares, &mut origins)?;

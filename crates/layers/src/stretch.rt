@@ -13,7 +13,7 @@ use crate::merging::{count_all, is_none_left, next_of, rests_of};
 use grid::Square;
 use std::alloc::{AllocError, Global};
 use std::mem::swap;
-use store::{Origin, room_in};
+use store::{Origin, recycled};
 
 /// How often a list is halved at most until one place is left.
 const HALVINGS: u32 = 64;
@@ -167,7 +167,7 @@ fn merge_upto(
         Some(book) => book.boxes().saturating_add(1),
         None => 1,
     };
-    let mut squares = room_in(alloc, lent, room.saturating_mul(row))?;
+    let mut squares = recycled(alloc, lent, room.saturating_mul(row))?;
     let mut origins = Vec::with_capacity(alloc, room)?;
     while let Some(place) = next_of(rests.as_slice(), &bound) {
         rests[place].take(&mut squares, &mut origins)?;

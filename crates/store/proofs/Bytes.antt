@@ -72,9 +72,9 @@ back : (n k : ℕ) (m : Scene) → Suits n k m →
     take (length (key_squares m)) (joined_bytes (padded n (low_bytes (key_squares m))) (padded k (high_bytes (key_squares m)))) ≡ key_squares m
 back n k m suits = elim suits.bytes [
   | inl same ↦ ap (λ j. take (length (key_squares m)) (joined_bytes (padded n (low_bytes (key_squares m))) (padded j (high_bytes (key_squares m))))) same ∙
-      both_back n (key_squares m) (omega (arith, suits.room))
+      both_back n (key_squares m) (omega (arith, suits.capacity))
   | inr small ↦ ap (λ j. take (length (key_squares m)) (joined_bytes (padded n (low_bytes (key_squares m))) (padded j (high_bytes (key_squares m))))) small.0 ∙
-      low_back n (key_squares m) (omega (arith, suits.room)) small.1
+      low_back n (key_squares m) (omega (arith, suits.capacity)) small.1
 ]
 
 in_row : (row : List ℕ) (m : Scene) → take (length (key_squares m)) row ≡ key_squares m → scene_in (length m.boxes) row ≡ m
@@ -93,7 +93,7 @@ pub is_key : (n k count : ℕ) (low high : List ℕ) (m : Scene) → Suits n k m
 is_key n k count low high m suits rising count_is low_is high_is =
     let view : key_scene count low high ≡ m = (λ i. key_scene (count_is i) (low_is i) (high_is i)) ∙ shown n k m suits in (
       record {
-        room = omega (arith, suits.room, count_is);
+        capacity = omega (arith, suits.capacity, count_is);
         counted = count_is ∙ ap (λ (s : Scene). length s.boxes) (sym view);
         rising = ap (λ (s : Scene). is_rising s.boxes) view ∙ rising;
         low_is = low_is ∙ ap (λ (s : Scene). padded n (low_bytes (key_squares s))) (sym view);
@@ -242,14 +242,14 @@ below_more n k (x ∷ xs) le below = (omega (arith, below.0), below_more n k xs 
 -- keys that suit a level suit its positions
 pub suits : (n k boxes squares : ℕ) (m : Scene) → SuitsLevel n k boxes squares → FitsGrid boxes squares m → Suits n k m
 suits n k boxes squares m level fits = record {
-  room = omega (arith, level.room, fits.few);
+  capacity = omega (arith, level.capacity, fits.few);
   bytes = elim level.bytes [ inl same ↦ inl same | inr small ↦ inr (small.0, below_more squares 256 (key_squares m) small.1 fits.below) ];
 }
 
 -- so they suit what fits what is found
-pub found_suit : (n k boxes squares start : ℕ) (es : List Closed) (inbox : List (Entry Scene Push)) (v : FoundView) (ss : List Successor) →
-    SuitsLevel n k boxes squares → found_view boxes squares start es inbox ≡ v → AllFit v ss → AllSuit n k ss
-found_suit n k boxes squares start es inbox v ss level view fit = λ i s at.
+pub found_suit : (n k boxes squares start : ℕ) (es : List Closed) (pending : List (Entry Scene Push)) (v : FoundView) (ss : List Successor) →
+    SuitsLevel n k boxes squares → found_view boxes squares start es pending ≡ v → AllFit v ss → AllSuit n k ss
+found_suit n k boxes squares start es pending v ss level view fit = λ i s at.
     suits n k v.boxes v.squares s.position (subst (λ (u : FoundView). SuitsLevel n k u.boxes u.squares) view level) (fit.each i s at)
 
 pub carried : (v w : FoundView) (ss : List Successor) → v ≡ w → AllFit w ss → AllFit v ss

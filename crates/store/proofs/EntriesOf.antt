@@ -76,8 +76,8 @@ comes_last m w es after place none at put = inl (
 -- ---- a position that an entry has
 
 -- where it stands, and what is put there
-abbrev StandsAt : Scene → Label → Label → Labelled → List Labelled → Bool → ℕ → Type 0
-StandsAt m v w x es here place = (slice_get (x ∷ es) place ≡ Some (m, v)) ×
+abbrev HasKeyAt : Scene → Label → Label → Labelled → List Labelled → Bool → ℕ → Type 0
+HasKeyAt m v w x es here place = (slice_get (x ∷ es) place ≡ Some (m, v)) ×
     ((if here then (x.0, w) ∷ es else x ∷ insert_entry same_scene es m w) ≡ slice_set (x ∷ es) place (m, w))
 
 stands : (m : Scene) (v w : Label) (es : List Labelled) → lookup (same_scene m) es ≡ Some v →
@@ -89,7 +89,7 @@ stands m v w (x ∷ es) found = by (same_scene m x.0) refl found (stands m v w e
     by : (b : Bool) → same_scene m x.0 ≡ b → cond b (Some x.1) (lookup (same_scene m) es) ≡ Some v →
         (lookup (same_scene m) es ≡ Some v → (slice_get es (position_or_len (same_scene m) (keys_of es)) ≡ Some (m, v)) ×
         (insert_entry same_scene es m w ≡ slice_set es (position_or_len (same_scene m) (keys_of es)) (m, w))) →
-        StandsAt m v w x es b (cond (not b) (1 + position_or_len (same_scene m) (keys_of es)) 0)
+        HasKeyAt m v w x es b (cond (not b) (1 + position_or_len (same_scene m) (keys_of es)) 0)
     by true same found rest =
         let key : m ≡ x.0 = same_true m x.0 same in
         let value : x.1 ≡ v = same_Some x.1 v found in
@@ -97,7 +97,7 @@ stands m v w (x ∷ es) found = by (same_scene m x.0) refl found (stands m v w e
     by false other found rest =
         let more = rest found in
         let next : suc (position_or_len (same_scene m) (keys_of es)) ≡ 1 + position_or_len (same_scene m) (keys_of es) = omega arith in
-        subst (StandsAt m v w x es false) next (more.0, ap (λ ys. x ∷ ys) more.1)
+        subst (HasKeyAt m v w x es false) next (more.0, ap (λ ys. x ∷ ys) more.1)
 
 -- with no more pushes than are offered
 pub is_known : (m : Scene) (v w : Label) (es after : List Labelled) → lookup (same_scene m) es ≡ Some v → v.pushes ≤ w.pushes → after ≡ es →

@@ -1,4 +1,4 @@
--- What stands open is brought into the order of its origins, by exchanges of two.
+-- The open entries are brought into the order of its origins, by exchanges of two.
 use Rattle.std.proofs.Common.{◌≡◌, ◌≢◌, ℕ, zero, suc, ◌+◌, ◌-◌, ◌<◌, ◌≤◌, add-one, List, [], ◌∷◌, ◌++◌, length, map, take, drop, replicate, set, get_or}
 use Rattle.std.proofs.Common.{IsPermutation, Some, refl, sym, ap, subst, ◌∙◌, inl, inr, arith}
 use Rattle.std.proofs.lemmas.Bool.{cases_eq, cases_lt}
@@ -315,7 +315,7 @@ all_targets rows place targets have are end = (
       (v.1, ap (slice_get rows) (sym same) ∙ v.3, v.4 ∙ w.3)),
 )
 
--- what stands open, its rows and the targets are as many
+-- there are as many rows and targets as open entries
 pub counted : (start : ℕ) (es : List Closed) (rows : List Row) (targets : List ℕ) → IsFound start es → IsPermutation (rows_of 0 (open_of start es)) rows →
     AreTargets rows targets → length es ≡ start + length targets
 counted start es rows targets found same are = omega

@@ -1,4 +1,4 @@
--- The last of the origins of what stands open, and what it tells of an offer.
+-- The last of the origins of the open entries, and what follows for an offer.
 use Rattle.std.proofs.Common.{◌≡◌, ℕ, zero, suc, ◌+◌, ◌<◌, ◌≤◌, Bool, true, false, cond, ◌||◌, not, is_some, List, [], ◌∷◌, length, position}
 use Rattle.std.proofs.Common.{ltb, Option, Some, None, refl, sym, ap, subst, ◌∙◌, if◌then◌else◌, arith}
 use Rattle.std.proofs.lemmas.Bool.Decides.{nat_tests}
@@ -154,13 +154,13 @@ let_in_last seen ws m o last next none later late = go (is_some (lookup (same_sc
     go false = exceed_offered ws m o next all late
 
 -- what the entries hold once an offer that changes something was put among them
-pub put_parts : (start : ℕ) (es new : List Closed) (m : Scene) (o : Origin Push) → IsFound start es →
+pub inserted_parts : (start : ℕ) (es new : List Closed) (m : Scene) (o : Origin Push) → IsFound start es →
     false ≡ keeps (seen_of start es) (open_of start es) m o → new ≡ insert_entry same_scene es m (Some o) →
     (seen_of start new ≡ seen_of start es) × (open_of start new ≡ let_in (seen_of start es) (open_of start es) (m, o)) × IsFound start new
-put_parts start es new m o found changes put =
+inserted_parts start es new m o found changes put =
     joined start es new (let_in (seen_of start es) (open_of start es) (m, o)) found.within (let_in_put start es new m o found changes put)
 
--- where nothing stands open each origin is the last one
+-- where nothing is open each origin is the last one
 pub none_open : (start : ℕ) (es : List Closed) (o : Origin Push) → length es ≤ start → NoneExceed (open_of start es) o
 none_open zero [] o le i x at = cc
 none_open zero (e ∷ es) o le i x at = absurd (omega (arith, le))

@@ -2,12 +2,12 @@ pub mod lemmas
 pub mod Packing
 pub mod Tails
 pub mod RisingOrigins
-pub mod Inboxes
+pub mod PendingOffers
 pub mod Strays
 pub mod Exchanging
 pub mod DealtOffers
 pub mod Bytes
 pub mod Lasts
 pub mod Digests
-pub mod Standing
+pub mod Indices
 pub mod EntriesOf

@@ -1,4 +1,4 @@
--- One list of entries: the closed ones, and behind them those that stand open.
+-- One list of entries: the closed ones, and behind them those that are open.
 use Rattle.std.proofs.Common.{◌≡◌, ℕ, zero, suc, ◌+◌, ◌<◌, ◌≤◌, Bool, true, false, cond, ◌&&◌, ◌||◌, ◌==◌, not, is_some, ltb, List, [], ◌∷◌, ◌++◌, length}
 use Rattle.std.proofs.Common.{map, take, drop, position, Option, Some, None, refl, sym, ap, subst, ◌∙◌, if◌then◌else◌, arith}
 use Rattle.std.proofs.lemmas.Bool.Decides.{nat_tests}
@@ -26,7 +26,7 @@ pub open_closed : (ws : List (Entry Scene Push)) → map open_entry (map closed_
 open_closed [] = refl
 open_closed (w ∷ ws) = ap (λ xs. w ∷ xs) (open_closed ws)
 
--- the entries are the closed ones and those that stand open
+-- the entries are the closed ones and those that are open
 pub split : (start : ℕ) (es : List Closed) → IsFound start es → es ≡ seen_of start es ++ map closed_entry (open_of start es)
 split start es found = sym (take-append-drop start es) ∙ ap (λ xs. take start es ++ xs) (sym found.opened)
 
@@ -45,9 +45,9 @@ length_seen (suc start) [] le = absurd (omega arith)
 length_seen (suc start) (e ∷ es) le = ap suc (length_seen start es (omega arith))
 
 -- there are as many closed entries as the place says
-pub seen_long : (boxes squares start : ℕ) (es : List Closed) (inbox : List (Entry Scene Push)) (v : FoundView) → IsFound start es →
-    found_view boxes squares start es inbox ≡ v → length v.seen ≡ start
-seen_long boxes squares start es inbox v found e = ap (λ (u : FoundView). length u.seen) (sym e) ∙ length_seen start es found.within
+pub seen_long : (boxes squares start : ℕ) (es : List Closed) (pending : List (Entry Scene Push)) (v : FoundView) → IsFound start es →
+    found_view boxes squares start es pending ≡ v → length v.seen ≡ start
+seen_long boxes squares start es pending v found e = ap (λ (u : FoundView). length u.seen) (sym e) ∙ length_seen start es found.within
 
 -- an entry stands at each place
 pub entry_at : {A : Type 0} (xs : List A) (i : ℕ) → i < length xs → (x : A) × (slice_get xs i ≡ Some x)
@@ -108,12 +108,12 @@ look_front {X} m (x ∷ xs) ys v e = go (same_scene m x.0) e (look_front m xs ys
     go true f t = f
     go false f t = t f
 
--- the origin of a closed entry that stood open
+-- the origin of a closed entry that was open
 abbrev pub as_closed : Option (Origin Push) → Option (Option (Origin Push))
 as_closed None = None
 as_closed (Some o) = Some (Some o)
 
--- an entry that stands open is found with its origin
+-- an entry that is open is found with its origin
 look_open : (m : Scene) (ws : List (Entry Scene Push)) → lookup (same_scene m) (map closed_entry ws) ≡ as_closed (origin_of ws m)
 look_open m [] = refl
 look_open m (w ∷ ws) = go (same_scene m w.0) (look_open m ws)
@@ -160,7 +160,7 @@ pub no_some : {X : Type 0} (o : Option X) → is_some o ≡ false → o ≡ None
 no_some None e = refl
 no_some (Some x) e = cc
 
--- what is looked up among all and is not closed is looked up among those that stand open
+-- what is looked up among all and is not closed is looked up among those that are open
 pub look_rest : (m : Scene) (start : ℕ) (es : List Closed) → IsFound start es → lookup (same_scene m) (seen_of start es) ≡ None →
     lookup (same_scene m) es ≡ as_closed (origin_of (open_of start es) m)
 look_rest m start es found none =
@@ -200,7 +200,7 @@ there_kept m o start es found i v less at is lesser = go (ltb i start) (placed m
         let same : v ≡ Some p = sym (same_Some (Some p) v (sym (rest ∙ ap as_closed g) ∙ is)) in
         ap not (lesser p same) ∙ (λ j. sym e j || is_least (sym g j) o)
 
--- what is among all is closed or stands open
+-- what is among all is closed or is open
 any_of : (m : Scene) (start : ℕ) (es : List Closed) → IsFound start es →
     is_some (lookup (same_scene m) es) ≡ (is_some (lookup (same_scene m) (seen_of start es)) || is_some (origin_of (open_of start es) m))
 any_of m start es found = go (lookup (same_scene m) (seen_of start es)) refl (origin_of (open_of start es) m) refl
@@ -235,7 +235,7 @@ other_number x y e = grind (arith, nat_tests)
 
 -- ---- entering
 
--- an offer that changes nothing leaves what stands open as it is
+-- an offer that changes nothing leaves the open entries unchanged
 pub let_in_kept : (seen : List Closed) (ws : List (Entry Scene Push)) (m : Scene) (o : Origin Push) → true ≡ keeps seen ws m o → ws ≡ let_in seen ws (m, o)
 let_in_kept seen ws m o e = go (is_some (lookup (same_scene m) seen)) e (origin_of ws m) refl
   where
@@ -299,7 +299,7 @@ let_in_put start es new m o found changes put = go (is_some (lookup (same_scene 
     go false e t (Some p) g = wanted e (all (no_some (lookup (same_scene m) (seen_of start es)) e)
         (offered-less (open_of start es) m o p g (not_false (is_lt (origin_cmp push_cmp o p)) (t ∙ ap (λ x. is_least x o) g))))
 
--- ---- the keys of those that stand open
+-- ---- the keys of those that are open
 
 keys_open : (es : List Closed) → map (λ (e : Entry Scene Push). e.0) (map open_entry es) ≡ keys_of es
 keys_open [] = refl
@@ -313,7 +313,7 @@ open_distinct zero (e ∷ es) distinct = subst (IsDistinct same_scene) (sym (key
 open_distinct (suc start) [] distinct = distinct
 open_distinct (suc start) (e ∷ es) distinct = open_distinct start es (IsDistinct-tail same_scene e.0 (keys_of es) distinct)
 
--- one more entry that stands open
+-- one more entry that is open
 pub open_more : (start place : ℕ) (es : List Closed) (e : Closed) → start ≤ place → slice_get es place ≡ Some e →
     open_of start (take (suc place) es) ≡ open_of start (take place es) ++ open_entry e ∷ []
 open_more start place es e le at = ap (map open_entry) (copied_more es start place e le at) ∙ map-push open_entry (drop start (take place es)) e

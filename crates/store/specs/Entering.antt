@@ -1,4 +1,4 @@
--- What stands open once positions are offered, and what is closed of it.
+-- The open positions after offers, and how a close appends them to the closed ones.
 use Rattle.std.specs.Prelude.{◌≡◌, ℕ, ◌<◌, Bool, true, false, ◌==◌, ◌&&◌, not, List, [], ◌∷◌, ◌++◌, length, map}
 use Rattle.std.specs.Prelude.{slice_get, Some, is_some, if◌then◌else◌}
 use Rattle.std.specs.Map.{lookup}
@@ -10,38 +10,38 @@ use Rattle.store.specs.Entries.{Origin, origin_cmp, Entry, lesser, same_scene, C
 use Rattle.successors.specs.Distances.{AreDistinct}
 use Rattle.successors.specs.Shares.{share_of}
 
--- a position is offered with an origin: one that stands open keeps the lesser of its origins, and a new one comes last
+-- a position is offered with an origin: an open one keeps the lesser of its two origins, and a new one is appended
 abbrev pub offered : List (Entry Scene Push) → Scene → Origin Push → List (Entry Scene Push)
 offered [] m o = (m, o) ∷ []
 offered (e ∷ es) m o = if same_scene m e.0 then (e.0, lesser push_cmp e.1 o) ∷ es else e ∷ offered es m o
 
--- the position is of the share and among no closed positions
+-- the position is of the share and not closed
 abbrev pub is_wanted_in : List Closed → ℕ → ℕ → Scene → Bool
 is_wanted_in seen shares share m = (share_of shares m == share) && not (is_some (lookup (same_scene m) seen))
 
--- each position that stands open is wanted
+-- each open position is wanted
 abbrev pub AreWanted : (Scene → Bool) → List (Entry Scene Push) → Type 0
 AreWanted wanted waiting = (m : Scene) → is_some (origin_of waiting m) ≡ true → wanted m ≡ true
 
--- one successor of a rank enters, if its position is wanted
+-- a successor of a rank enters if its position is wanted
 abbrev pub entered : (Scene → Bool) → ℕ → List (Entry Scene Push) → Successor → List (Entry Scene Push)
 entered wanted rank waiting s = if wanted s.position then offered waiting s.position (rank, s.push) else waiting
 
--- an entry as it stands in a closed list
+-- an open entry as an entry of a closed list
 abbrev pub closed_entry : Entry Scene Push → Closed
 closed_entry y = (y.0, Some y.1)
 
--- no entry has a lesser origin than one before it
+-- the origins never fall along the list
 abbrev pub RiseByOrigin : List (Entry Scene Push) → Type 0
 RiseByOrigin es = (i j : ℕ) (x y : Entry Scene Push) → i < j → slice_get es i ≡ Some x → slice_get es j ≡ Some y →
     is_gt (origin_cmp push_cmp x.1 y.1) ≡ false
 
--- the same entries, perhaps in another order: as many, each position found as before, and none twice
+-- the same entries, perhaps in another order: the same number, each position with the same origin, and none twice
 abbrev pub AreReordered : List (Entry Scene Push) → List (Entry Scene Push) → Type 0
 AreReordered before after = (length after ≡ length before) × ((m : Scene) → origin_of after m ≡ origin_of before m) ×
     AreDistinct (map (λ e. e.0) after)
 
--- what stood open is appended to what was seen, in the order of the origins
+-- the open entries are appended to the closed ones, in the order of their origins
 abbrev pub IsSortedAppend : List Closed → List (Entry Scene Push) → List Closed → Type 0
 IsSortedAppend seen waiting after =
     (es : List (Entry Scene Push)) × AreReordered waiting es × RiseByOrigin es × (after ≡ seen ++ map closed_entry es)

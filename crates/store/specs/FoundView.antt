@@ -12,24 +12,24 @@ use Rattle.store.specs.Entries.{Origin, Entry, origin_cmp, same_scene, Closed, o
 use Rattle.successors.specs.Shares.{share_of}
 use Rattle.store.specs.Entering.{closed_entry, is_wanted_in, entered, offered}
 
--- how many boxes each has at most, how many squares the grid has, the closed positions in their order, and those that
--- stand open
+-- the greatest number of boxes of a position, the number of squares of the grid, the closed entries in order, and the
+-- open ones, with the pending offers entered
 pub record FoundView : Type 0 where
   pub boxes : ℕ
   pub squares : ℕ
   pub seen : List Closed
   pub waiting : List (Entry Scene Push)
 
--- the origin of an entry that stands open; each of those has one
+-- the origin of an open entry; each open entry has one
 abbrev pub origin_in : Option (Origin Push) → Origin Push
 origin_in None = (0, record { square = 0; dir = D })
 origin_in (Some o) = o
 
--- an entry as it stands open
+-- an entry of the map as an open one
 abbrev pub open_entry : Closed → Entry Scene Push
 open_entry e = (e.0, origin_in e.1)
 
--- the entries before a place are closed, and those from it on stand open
+-- the entries before an index are closed, and those from it on are open
 abbrev pub seen_of : ℕ → List Closed → List Closed
 seen_of start es = take start es
 
@@ -40,26 +40,26 @@ open_of start es = map open_entry (drop start es)
 abbrev pub let_in : List Closed → List (Entry Scene Push) → Entry Scene Push → List (Entry Scene Push)
 let_in seen waiting e = if is_some (lookup (same_scene e.0) seen) then waiting else offered waiting e.0 e.1
 
--- what stands open once the offers have entered, one after the other
+-- the open entries after offers have entered in order
 abbrev pub all_let_in : List Closed → List (Entry Scene Push) → List (Entry Scene Push) → List (Entry Scene Push)
 all_let_in seen waiting offers = fold (let_in seen) waiting offers
 
--- what is found: of the entries those before a place are closed, and with those from it on stands open what the inbox
--- has
+-- what is found: the entries of the map before an index are closed, and those from it on are open, once the pending
+-- offers have entered
 abbrev pub found_view : ℕ → ℕ → ℕ → List Closed → List (Entry Scene Push) → FoundView
-found_view boxes squares start es inbox = record {
+found_view boxes squares start es pending = record {
   boxes = boxes;
   squares = squares;
   seen = seen_of start es;
-  waiting = all_let_in (seen_of start es) (open_of start es) inbox;
+  waiting = all_let_in (seen_of start es) (open_of start es) pending;
 }
 
--- it is the same with these entries and that inbox, and with others and another one
+-- what is found is the same for both maps, each with its pending offers
 abbrev pub StaysFound : ℕ → List Closed → List (Entry Scene Push) → List Closed → List (Entry Scene Push) → Type 0
-StaysFound start es inbox others other =
-    (boxes squares : ℕ) → found_view boxes squares start others other ≡ found_view boxes squares start es inbox
+StaysFound start es pending others other =
+    (boxes squares : ℕ) → found_view boxes squares start others other ≡ found_view boxes squares start es pending
 
--- what is found once the wanted successors of a rank have entered
+-- what is found after the wanted successors of a rank have entered
 abbrev pub with_entered : FoundView → ℕ → ℕ → ℕ → List Successor → FoundView
 with_entered v shares share rank ss = record {
   boxes = v.boxes;
@@ -77,39 +77,39 @@ abbrev pub offers_of : ℕ → ℕ → ℕ → List Successor → List (Entry Sc
 offers_of shares share rank [] = []
 offers_of shares share rank (s ∷ ss) = offer_of shares share rank s ++ offers_of shares share rank ss
 
--- the place lies within the entries, and each from it on has an origin
+-- the index is within the entries, and each entry from it on has an origin
 pub record IsFound (start : ℕ) (es : List Closed) : Type 0 where
   pub within : start ≤ length es
   pub opened : map closed_entry (open_of start es) ≡ drop start es
 
--- the origin is no greater than one that is offered
+-- the entry has an origin that is no greater than the offered one
 abbrev pub is_least : Option (Origin Push) → Origin Push → Bool
 is_least None o = false
 is_least (Some p) o = not (is_lt (origin_cmp push_cmp o p))
 
--- an offer of a position changes nothing: it is closed, or stands open with an origin that is no greater
+-- an offer of a position changes nothing: it is closed, or open with an origin that is no greater
 abbrev pub keeps : List Closed → List (Entry Scene Push) → Scene → Origin Push → Bool
 keeps seen waiting m o = is_some (lookup (same_scene m) seen) || is_least (origin_of waiting m) o
 
--- each of the squares is less than so many
+-- each of the squares is less than n
 abbrev pub AreBelow : ℕ → List ℕ → Type 0
 AreBelow n [] = ⊤
 AreBelow n (x ∷ xs) = (x < n) × AreBelow n xs
 
--- a position of at most so many boxes on a grid of so many squares
+-- a position with at most boxes boxes on a grid of squares squares
 pub record FitsGrid (boxes squares : ℕ) (m : Scene) : Type 0 where
   pub few : length m.boxes ≤ boxes
   pub below : AreBelow squares (m.player ∷ m.boxes)
 
--- each successor's position is such a one, for the boxes and the squares of what is found
+-- each successor's position fits the boxes and the squares of what is found
 pub record AllFit (v : FoundView) (ss : List Successor) : Type 0 where
   pub each : (i : ℕ) (s : Successor) → slice_get ss i ≡ Some s → FitsGrid v.boxes v.squares s.position
 
--- no origin of those that stand open comes after this one
+-- no origin of an open entry comes after o
 abbrev pub NoneExceed : List (Entry Scene Push) → Origin Push → Type 0
 NoneExceed ws o = (i : ℕ) (x : Entry Scene Push) → slice_get ws i ≡ Some x → is_gt (origin_cmp push_cmp x.1 o) ≡ false
 
--- what is closed at first: a position with no origin, or nothing
+-- the closed entries at first: a position without an origin, or none
 abbrev pub first_entries : Option Scene → List Closed
 first_entries None = []
 first_entries (Some m) = (m, None) ∷ []

@@ -1,4 +1,4 @@
--- What contracts see of what is found, and of what is visited, whatever the width of the keys.
+-- What contracts see of found and visited positions, for each width of keys.
 use Rattle.store.specs.declared.found.Tables.{Tables}
 use Rattle.store.specs.declared.found.Tables.TheVariants.{NarrowLow, MiddleLow, HalfLow, WideLow, BroadLow, WidestLow}
 use Rattle.store.specs.declared.found.Tables.TheVariants.{Narrow, Middle, Half, Wide, Broad}

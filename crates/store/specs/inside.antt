@@ -1,8 +1,8 @@
--- What keeps the books of the code: what its loops keep, what fields hold, why it ends. No report rests on it.
+-- Definitions about the code's own state: loop invariants, fields, measures. No report depends on them.
 pub mod Packed
 pub mod Placing
 pub mod Offers
 pub mod Copies
 pub mod KeyRows
 pub mod FoundUpTo
-pub mod Standing
+pub mod Indices

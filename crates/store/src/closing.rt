@@ -1,4 +1,4 @@
-//! The open positions become a closed layer, in the map that holds them behind the closed ones.
+//! Closes the open positions of a map, which follow the closed ones: sorts them by their origins.
 ghost use Rattle.std.specs.Prelude.{◌≡◌, ◌+◌, ◌<◌, ◌≤◌, length, map, true, slice_get, Some, OnOk, OnErr, IfOk};
 ghost use Rattle.std.specs.Prelude.{IsPermutation};
 ghost use Rattle.std.specs.List.{IsDistinct};
@@ -15,8 +15,8 @@ use indexmap::IndexMap;
 use std::alloc::{AllocError, Global};
 use std::cmp::Ordering;
 
-/// Sorts the open positions, from the start on, by their origins. The only error is running out of memory. Then
-/// nothing changes.
+/// Sorts the open positions, which are those from `start` on, by their origins. Fails only if out of memory, and then
+/// changes nothing.
 pub(crate) fn arrange<const N: usize, const M: usize>(
     table: &mut IndexMap<Key<N, M>, ClosedOrigin>,
     start: usize,
@@ -37,7 +37,7 @@ pub(crate) fn arrange<const N: usize, const M: usize>(
     Ok(())
 }
 
-// Whether the origins of the open positions rise already, as they do if the ranks were handed back in their order.
+// Whether the open positions are sorted already, as they are if workers handed the ranks back in order.
 fn do_rise<const N: usize, const M: usize>(
     table: &IndexMap<Key<N, M>, ClosedOrigin>,
     start: usize,
@@ -48,8 +48,8 @@ fn do_rise<const N: usize, const M: usize>(
     ensures distinct { IsDistinct same_scene (map (λ e. e.0) table.now.entries) }
 {
     let mut last = ClosedOrigin::of(None).opened();
-    for place in start..table.len() {
-        let origin = origin_at(table, place);
+    for index in start..table.len() {
+        let origin = origin_at(table, index);
         if origin.is_before(last) {
             return false;
         }
@@ -58,22 +58,22 @@ fn do_rise<const N: usize, const M: usize>(
     true
 }
 
-// The origin of the open position at a place.
+// The origin of the open position at an index of the map.
 fn origin_at<const N: usize, const M: usize>(
     table: &IndexMap<Key<N, M>, ClosedOrigin>,
-    place: usize,
+    index: usize,
 ) -> Origin
     requires width { (N ≤ MAX_BOXES + 1) × (M ≤ MAX_BOXES + 1) }
-    requires within { place < length table.now.entries }
-    ensures { (e : Closed) → slice_get table.now.entries place ≡ Some e → result ≡ origin_in e.1 }
+    requires within { index < length table.now.entries }
+    ensures { (e : Closed) → slice_get table.now.entries index ≡ Some e → result ≡ origin_in e.1 }
 {
-    let Some((_, closed)) = table.get_index(place) else {
+    let Some((_, closed)) = table.get_index(index) else {
         unreachable!()
     };
     closed.opened()
 }
 
-// The rows of the open positions: the origin of each, and its place among them.
+// A row for each open position: its origin, and its index among the open positions.
 fn rows_from<const N: usize, const M: usize>(
     table: &IndexMap<Key<N, M>, ClosedOrigin>,
     start: usize,
@@ -83,8 +83,8 @@ fn rows_from<const N: usize, const M: usize>(
     ensures { IfOk result (λ rows. rows.items ≡ rows_of 0 (open_of start table.now.entries)) }
 {
     let mut rows = Vec::with_capacity(*table.allocator(), table.len() - start)?;
-    for place in start..table.len() {
-        rows.push((origin_at(table, place), place - start))?;
+    for index in start..table.len() {
+        rows.push((origin_at(table, index), index - start))?;
     }
     Ok(rows)
 }
@@ -101,20 +101,20 @@ fn sort_rows(rows: &mut Vec<(Origin, usize)>)
     );
 }
 
-// For each place the index of its row, which is its target.
+// The target of each index: the index of its row.
 fn targets_of(alloc: Global, rows: &[(Origin, usize)]) -> Result<Vec<usize>, AllocError>
     requires { HaveAllPlaces rows.now }
     ensures { IfOk result (λ targets. AreTargets rows.now targets.items) }
 {
     let mut targets = vec![in alloc; 0; rows.len()]?;
     for target in 0..rows.len() {
-        let (_, place) = rows[target];
-        targets[place] = target;
+        let (_, index) = rows[target];
+        targets[index] = target;
     }
     Ok(targets)
 }
 
-// Moves each entry from the start on to its target by swaps.
+// Moves each entry from `start` on to its target by swaps.
 fn exchange<const N: usize, const M: usize>(
     table: &mut IndexMap<Key<N, M>, ClosedOrigin>,
     start: usize,
@@ -127,14 +127,14 @@ fn exchange<const N: usize, const M: usize>(
 {
     let open = table.len() - start;
     let mut targets = targets;
-    let mut place = 0;
-    while place < open {
-        let target = targets[place];
-        if target == place {
-            place += 1;
+    let mut index = 0;
+    while index < open {
+        let target = targets[index];
+        if target == index {
+            index += 1;
         } else {
-            table.swap_indices(start + place, start + target);
-            targets.swap(place, target);
+            table.swap_indices(start + index, start + target);
+            targets.swap(index, target);
         }
     }
 }

@@ -9,7 +9,7 @@ use grid::{MAX_BOXES, Square};
 use indexmap::IndexMap;
 use std::alloc::{AllocError, Global};
 
-/// Appends the squares of a position, and its origin if it has one. The only error is running out of memory.
+/// Appends the squares of a position, and its origin if it has one. Fails only if out of memory.
 pub(crate) fn copy_entry<const N: usize, const M: usize>(
     key: &Key<N, M>,
     origin: ClosedOrigin,
@@ -29,29 +29,33 @@ pub(crate) fn copy_entry<const N: usize, const M: usize>(
     Ok(())
 }
 
-/// An empty list with room for `squares` squares. It takes over the memory of `room`, unless that is more than twice
-/// as much. The only error is running out of memory.
-pub fn room_in(alloc: Global, room: Vec<Square>, squares: usize) -> Result<Vec<Square>, AllocError>
+/// An empty list with capacity for `squares` squares. It reuses `memory`, unless that has more than twice the capacity.
+/// Fails only if out of memory.
+pub fn recycled(
+    alloc: Global,
+    memory: Vec<Square>,
+    squares: usize,
+) -> Result<Vec<Square>, AllocError>
     ensures { IfOk result (λ list. list.items ≡ []) }
 {
-    if room.capacity() / 2 > squares {
+    if memory.capacity() / 2 > squares {
         return Vec::with_capacity(alloc, squares);
     }
-    let mut list = room;
+    let mut list = memory;
     list.clear();
     list.reserve_exact(squares)?;
     Ok(list)
 }
 
-/// The squares of a map's positions from one place up to another, in the memory of another list, and the origins of
-/// those that have one. The positions have at most `boxes` boxes. The only error is running out of memory.
+/// Copies the squares of a map's positions from index `from` up to `to`, in `memory` as [`recycled`] does, and the
+/// origins of those that have one. The positions have at most `boxes` boxes. Fails only if out of memory.
 pub(crate) fn copy_from<const N: usize, const M: usize>(
     alloc: Global,
     table: &IndexMap<Key<N, M>, ClosedOrigin>,
     boxes: usize,
     from: usize,
     to: usize,
-    room: Vec<Square>,
+    memory: Vec<Square>,
 ) -> Result<(Vec<Square>, Vec<Origin>), AllocError>
     requires width { (N ≤ MAX_BOXES + 1) × (M ≤ MAX_BOXES + 1) }
     requires order { from ≤ to }
@@ -62,10 +66,10 @@ pub(crate) fn copy_from<const N: usize, const M: usize>(
     ensures origins { IfOk result (λ r. r.1.items ≡ origins_of (drop from (take to table.now.entries))) }
 {
     let count = to - from;
-    let mut squares = room_in(alloc, room, count.saturating_mul(boxes + 1))?;
+    let mut squares = recycled(alloc, memory, count.saturating_mul(boxes + 1))?;
     let mut origins = Vec::with_capacity(alloc, count)?;
-    for place in from..to {
-        if let Some((key, origin)) = table.get_index(place) {
+    for index in from..to {
+        if let Some((key, origin)) = table.get_index(index) {
             copy_entry(key, *origin, &mut squares, &mut origins)?;
         }
     }

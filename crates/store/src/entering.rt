@@ -1,4 +1,4 @@
-//! Offers that enter the open positions, which the map holds behind the closed ones.
+//! Enters offers into the open positions of a map, which follow the closed ones.
 ghost use Rattle.std.specs.Prelude.{◌≡◌, ℕ, ◌+◌, ◌<◌, ◌≤◌, ◌&&◌, ◌||◌, [], IsTrue, Some, false, not, is_some, length};
 ghost use Rattle.std.specs.Prelude.{fold};
 ghost use Rattle.indexmap.specs.IndexMap.{insert_entry, spare};
@@ -10,17 +10,17 @@ ghost use Rattle.store.specs.inside.KeyRows.{AllSuit, Suits};
 ghost use Rattle.store.specs.inside.FoundUpTo.{IsFoundUpTo};
 ghost use Rattle.store.specs.FoundView.{IsFound, StaysFound, all_let_in, keeps, let_in, open_of, seen_of};
 
+use crate::batches::enter_in_batches;
 use crate::key::Key;
 use crate::origin::{ClosedOrigin, Origin};
-use crate::parts::enter_by_parts;
 use grid::{MAX_BOXES, Position};
 use indexmap::IndexMap;
 use indexmap::map::Entry;
 use successors::{Successor, share_of};
 
-// Puts an offer into the map by one look-up, unless it changes nothing, and says whether it does. It changes nothing
-// if the position is closed, which places before the start are, or is open with an origin that is no greater. No
-// origin of an open position comes after the last one, so most look-ups read no origin.
+// Inserts an offer into the map by one look-up, and returns whether it changes nothing. It changes nothing if the
+// position is closed, that is, before `start`, or is open with an origin that is no greater. No origin of an open
+// position comes after `last`, so most look-ups read no origin.
 #[inline(always)]
 fn is_kept<const N: usize, const M: usize>(
     table: &mut IndexMap<Key<N, M>, ClosedOrigin>,
@@ -30,12 +30,12 @@ fn is_kept<const N: usize, const M: usize>(
     origin: Origin,
 ) -> bool
     requires width { (N ≤ MAX_BOXES + 1) × (M ≤ MAX_BOXES + 1) }
-    requires room { 0 < spare table.old }
+    requires capacity { 0 < spare table.old }
     requires found { IsFoundUpTo start table.old.entries last }
     ensures kept { result ≡ keeps (seen_of start table.old.entries) (open_of start table.old.entries) key.now origin }
     ensures same { IsTrue result → table.new.entries ≡ table.old.entries }
-    ensures put { result ≡ false → table.new.entries ≡ insert_entry same_scene table.old.entries key.now (Some origin) }
-    ensures room { spare table.old ≤ spare table.new + 1 }
+    ensures inserted { result ≡ false → table.new.entries ≡ insert_entry same_scene table.old.entries key.now (Some origin) }
+    ensures capacity { spare table.old ≤ spare table.new + 1 }
 {
     match table.entry(key.copy()) {
         Ok(Entry::Vacant(entry)) => {
@@ -61,7 +61,7 @@ fn is_kept<const N: usize, const M: usize>(
     }
 }
 
-/// Enters an offer: an open position keeps the lesser origin, and a new one comes last.
+/// Enters an offer: an open position keeps the lesser origin, and a new one is appended.
 #[inline(always)]
 pub(crate) fn enter<const N: usize, const M: usize>(
     table: &mut IndexMap<Key<N, M>, ClosedOrigin>,
@@ -71,13 +71,13 @@ pub(crate) fn enter<const N: usize, const M: usize>(
     origin: Origin,
 )
     requires width { (N ≤ MAX_BOXES + 1) × (M ≤ MAX_BOXES + 1) }
-    requires room { 0 < spare table.old }
+    requires capacity { 0 < spare table.old }
     requires found { IsFoundUpTo start table.old.entries last.old }
     ensures found { IsFoundUpTo start table.new.entries last.new }
     ensures seen { seen_of start table.new.entries ≡ seen_of start table.old.entries }
     ensures waiting { open_of start table.new.entries ≡
         let_in (seen_of start table.old.entries) (open_of start table.old.entries) (key.now, origin) }
-    ensures room { spare table.old ≤ spare table.new + 1 }
+    ensures capacity { spare table.old ≤ spare table.new + 1 }
 {
     if is_kept(table, start, *last, key, origin) {
         return;
@@ -85,25 +85,26 @@ pub(crate) fn enter<const N: usize, const M: usize>(
     *last = last.later(origin);
 }
 
-/// Enters all offers of an inbox and empties it. The positions found, waiting ones included, stay the same.
+/// Enters all pending offers into the map. Contracts show pending offers as entered, so the positions found stay the
+/// same.
 pub(crate) fn enter_all<const N: usize, const M: usize>(
     table: &mut IndexMap<Key<N, M>, ClosedOrigin>,
     start: usize,
     last: &mut Origin,
-    inbox: &mut Vec<(Key<N, M>, Origin)>,
+    pending: &mut Vec<(Key<N, M>, Origin)>,
 )
     requires width { (N ≤ MAX_BOXES + 1) × (M ≤ MAX_BOXES + 1) }
-    requires room { length inbox.old.items ≤ spare table.old }
+    requires capacity { length pending.old.items ≤ spare table.old }
     requires found { IsFoundUpTo start table.old.entries last.old }
     ensures found { IsFoundUpTo start table.new.entries last.new }
-    ensures same { StaysFound start table.old.entries inbox.old.items table.new.entries [] }
-    ensures empty { inbox.new.items ≡ [] }
+    ensures same { StaysFound start table.old.entries pending.old.items table.new.entries [] }
+    ensures empty { pending.new.items ≡ [] }
 {
-    enter_by_parts(table, start, last, inbox.as_slice());
-    inbox.clear();
+    enter_in_batches(table, start, last, pending.as_slice());
+    pending.clear();
 }
 
-/// How many positions would open if the successors of the share entered.
+/// The number of positions that would open if the successors of the share entered.
 pub(crate) fn count_new<const N: usize, const M: usize>(
     table: &IndexMap<Key<N, M>, ClosedOrigin>,
     start: usize,
@@ -121,13 +122,13 @@ pub(crate) fn count_new<const N: usize, const M: usize>(
         length (open_of start table.now.entries) + result }
 {
     let mut count = 0;
-    for (place, successor) in successors.iter().enumerate() {
+    for (index, successor) in successors.iter().enumerate() {
         if is_new(
             table,
             start,
             share,
             shares,
-            &successors[..place],
+            &successors[..index],
             &successor.position,
         ) {
             count += 1;

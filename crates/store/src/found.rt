@@ -14,7 +14,7 @@ use std::alloc::{AllocError, Global};
 use std::marker::Model;
 use successors::{Parcel, Successor};
 
-// The positions found, in keys of one of the widths.
+// The positions found, in keys of one width.
 #[derive(Debug, Drop)]
 pub(crate) enum Tables {
     NarrowLow(Table<4, 0>),
@@ -31,7 +31,8 @@ pub(crate) enum Tables {
     Widest(Table<65, 65>),
 }
 
-/// The positions that a book has found: the closed ones at fixed places, and the open ones, each with an origin.
+/// The positions that a book has found: the closed ones at fixed indices, and the open ones, each with an origin.
+/// Offers may be pending: accepted, and entered later with others. Contracts show them as entered.
 #[derive(Debug, Drop)]
 pub struct Found {
     tables: Tables,
@@ -47,8 +48,8 @@ impl Model for Found {
 }
 
 impl Found {
-    /// At first one closed position without an origin, or none. The positions have at most `boxes` boxes and stand on
-    /// a grid of `squares` squares. The only error is running out of memory.
+    /// Starts with one closed position without an origin, or with none. Positions have at most `boxes` boxes, on a grid
+    /// of `squares` squares. Fails only if out of memory.
     pub fn of(
         alloc: Global,
         boxes: usize,
@@ -78,52 +79,51 @@ impl Found {
         in_each!(Tables, &self.tables, table => table.closed_len())
     }
 
-    /// The closed position at a place. `None` exactly if the place is not below [`Found::closed_len`].
-    pub fn closed_at(&self, place: usize) -> Option<Position>
-        ensures { result ≡ option_map (λ e. e.0) (slice_get self.now.seen place) }
+    /// The closed position at an index; `None` exactly if the index is not below [`Found::closed_len`].
+    pub fn closed_at(&self, index: usize) -> Option<Position>
+        ensures { result ≡ option_map (λ e. e.0) (slice_get self.now.seen index) }
     {
-        in_each!(Tables, &self.tables, table => table.closed_at(place))
+        in_each!(Tables, &self.tables, table => table.closed_at(index))
     }
 
-    /// The origin of the closed position at a place. `None` exactly if the place is not below [`Found::closed_len`].
-    pub fn origin_at(&self, place: usize) -> Option<Origin>
-        ensures { result ≡ option_map (λ e. origin_in e.1) (slice_get self.now.seen place) }
+    /// The origin of the closed position at an index; `None` exactly if the index is not below [`Found::closed_len`].
+    pub fn origin_at(&self, index: usize) -> Option<Origin>
+        ensures { result ≡ option_map (λ e. origin_in e.1) (slice_get self.now.seen index) }
     {
-        in_each!(Tables, &self.tables, table => table.origin_at(place))
+        in_each!(Tables, &self.tables, table => table.origin_at(index))
     }
 
-    /// Appends the squares of the closed position at a place, and its origin if it has one. The only error is running
-    /// out of memory.
+    /// Appends the squares of the closed position at an index, and its origin if it has one. Fails only if out of
+    /// memory.
     pub fn copy_at(
         &self,
-        place: usize,
+        index: usize,
         squares: &mut Vec<Square>,
         origins: &mut Vec<Origin>,
     ) -> Result<(), AllocError>
-        requires { place < length self.now.seen }
-        ensures { OnOk result ((e : Closed) → slice_get self.now.seen place ≡ Some e →
+        requires { index < length self.now.seen }
+        ensures { OnOk result ((e : Closed) → slice_get self.now.seen index ≡ Some e →
             IsCopied e squares.old.items squares.new.items origins.old.items origins.new.items) }
     {
-        in_each!(Tables, &self.tables, table => table.copy_at(place, squares, origins))
+        in_each!(Tables, &self.tables, table => table.copy_at(index, squares, origins))
     }
 
-    /// The squares of the closed positions from a place on, one position after the other, and the origins of those
-    /// that have one. The squares reuse the memory of `room` as [`room_in`] does. The only error is running out of
-    /// memory.
+    /// Copies the squares of the closed positions from an index on, in `memory` as [`recycled`] does, and the origins
+    /// of those that have one. Fails only if out of memory.
     pub fn closed_from(
         &self,
         alloc: Global,
         from: usize,
-        room: Vec<Square>,
+        memory: Vec<Square>,
     ) -> Result<(Vec<Square>, Vec<Origin>), AllocError>
         requires { from ≤ length self.now.seen }
         ensures squares { IfOk result (λ r. r.0.items ≡ squares_of (map (λ e. e.0) (drop from self.now.seen))) }
         ensures origins { IfOk result (λ r. r.1.items ≡ origins_of (drop from self.now.seen)) }
     {
-        in_each!(Tables, &self.tables, table => table.closed_from(alloc, from, room))
+        in_each!(Tables, &self.tables, table => table.closed_from(alloc, from, memory))
     }
 
-    /// Whether the closed and the open positions would be more than `limit` if the successors of the share entered.
+    /// Whether there would be more than `limit` closed and open positions if the successors of the share entered.
     #[tactic(auto, using(crate::proofs::Bytes::carried))]
     pub fn passes(&mut self, limit: usize, share: u8, shares: u8, successors: &[Successor]) -> bool
         requires shares { 0 < shares }
@@ -137,10 +137,9 @@ impl Found {
         in_each!(Tables, &mut self.tables, table => table.passes(limit, share, shares, successors))
     }
 
-    /// Offers the parcel's successors of the share, one after the other: a new position opens with the parcel's rank
-    /// and its push for an origin, and an open one keeps its least origin. Up to `most` offers wait in the inbox
-    /// before they are looked up; contracts see them entered at once. The only error is running out of memory. Then
-    /// nothing changes.
+    /// Offers the parcel's successors of the share in order. A new position opens with the parcel's rank and its push
+    /// as its origin, and an open one keeps its least origin. Up to `most` offers stay pending. Fails only if out of
+    /// memory, and then changes nothing.
     #[tactic(auto, using(crate::proofs::Bytes::carried))]
     pub fn enter_all(
         &mut self,
@@ -158,7 +157,7 @@ impl Found {
         in_each!(Tables, &mut self.tables, table => table.enter_all(most, share, shares, parcel))
     }
 
-    /// The number of closed and open positions. Looks up the waiting offers first.
+    /// The number of closed and open positions. Enters the pending offers first.
     pub fn count(&mut self) -> usize
         ensures count { result ≡ length self.old.seen + length self.old.waiting }
         ensures same { self.new ≡ self.old }
@@ -166,22 +165,21 @@ impl Found {
         in_each!(Tables, &mut self.tables, table => table.count())
     }
 
-    /// Looks up the waiting offers if they are `least` or more, and says whether they were.
-    pub fn enter_waiting(&mut self, least: usize) -> bool
+    /// Enters the pending offers if there are at least `least`, and returns whether it did.
+    pub fn enter_pending(&mut self, least: usize) -> bool
         ensures { self.new ≡ self.old }
     {
-        in_each!(Tables, &mut self.tables, table => table.enter_waiting(least))
+        in_each!(Tables, &mut self.tables, table => table.enter_pending(least))
     }
 
-    /// The number of closed and open positions without those of waiting offers.
+    /// The number of closed and open positions without those of pending offers.
     pub fn count_entered(&self) -> usize
         ensures { result ≤ length self.now.seen + length self.now.waiting }
     {
         in_each!(Tables, &self.tables, table => table.count_entered())
     }
 
-    /// Closes the open positions in the order of their origins. The only error is running out of memory. Then nothing
-    /// changes.
+    /// Closes the open positions in the order of their origins. Fails only if out of memory, and then changes nothing.
     pub fn close(&mut self) -> Result<(), AllocError>
         ensures boxes { self.new.boxes ≡ self.old.boxes }
         ensures squares { self.new.squares ≡ self.old.squares }

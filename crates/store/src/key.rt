@@ -1,4 +1,4 @@
-//! Positions in as few bytes as their boxes and their grid want: the keys of maps.
+//! Positions in as few bytes as their boxes and their grid need: the keys of maps.
 ghost use Rattle.std.specs.Prelude.{◌≡◌, ◌+◌, ◌-◌, ◌*◌, ◌/◌, ◌%◌, ◌<◌, ◌≤◌, ◌==◌, ◌&&◌, ◌∷◌, [], ◌++◌};
 ghost use Rattle.std.specs.Prelude.{Some, drop, length, nat_eq, replicate, slice_get, take, true};
 ghost use Rattle.grid.specs.Rising.{is_rising};
@@ -17,8 +17,8 @@ pub(crate) const BYTE_SQUARES: usize = 256;
 /// The length of a short row.
 const SHORT: usize = 4;
 
-/// A position of fewer than `N` boxes: the low bytes of the player's square and of the boxes' squares, in rising
-/// order, and as many high bytes, or none if they are all 0. Zeros fill the rows.
+/// A position of fewer than `N` boxes. One row has the low bytes of the player's square and of the boxes' squares, in
+/// rising order. The other has their high bytes, or is empty if they are all 0. Zeros fill the rows.
 #[derive(Debug, Drop)]
 pub(crate) struct Key<const N: usize, const M: usize> {
     pub(crate) boxes: u8,
@@ -71,8 +71,8 @@ impl<const N: usize, const M: usize> Key<N, M> {
         }
     }
 
-    /// The number that the key feeds to a hasher. It writes whole rows, since a hasher's work grows with the number
-    /// of writes.
+    /// The number that the key passes to a hasher: a hash of its whole rows, since a hasher's work grows with the
+    /// number of writes.
     #[inline(always)]
     pub(crate) fn digest(&self) -> u64
         ensures { result ≡ key_digest N M self.now }
@@ -92,8 +92,8 @@ impl<const N: usize, const M: usize> Key<N, M> {
         ensures { result ≡ self.now }
     {
         let mut boxes: ArrayVec<Square, MAX_BOXES> = ArrayVec::new();
-        for place in 0..self.len() {
-            boxes.push(self.box_at(place));
+        for index in 0..self.len() {
+            boxes.push(self.box_at(index));
         }
         Position::of_rising(boxes.as_slice(), self.player())
     }
@@ -107,21 +107,21 @@ impl<const N: usize, const M: usize> Key<N, M> {
         self.boxes as usize
     }
 
-    /// The square of the box with `place` boxes before it in the rising order.
-    pub(crate) fn box_at(&self, place: usize) -> Square
-        requires { place < length self.now.boxes }
-        ensures { slice_get self.now.boxes place ≡ Some result }
+    /// The square of the box with an index in rising order.
+    pub(crate) fn box_at(&self, index: usize) -> Square
+        requires { index < length self.now.boxes }
+        ensures { slice_get self.now.boxes index ≡ Some result }
     {
-        square_at(&self.low, &self.high, place + 1)
+        square_at(&self.low, &self.high, index + 1)
     }
 
-    /// Writes the squares of the boxes and then the player's square to a row of `N` places, and returns their number.
-    /// It writes the whole row however few the boxes are, so that the compiler makes several squares at once.
+    /// Writes the squares of the boxes and then the player's square to a row of length `N`, and returns their number.
+    /// It writes the whole row, so that the compiler can vectorize the loop.
     #[inline(always)]
     pub(crate) fn write_squares(&self, row: &mut [Square]) -> usize
         requires { length row.old ≡ N }
         ensures squares { take result row.new ≡ self.now.boxes ++ self.now.player ∷ [] }
-        ensures room { (result ≤ N) × (length row.new ≡ N) }
+        ensures capacity { (result ≤ N) × (length row.new ≡ N) }
     {
         let count = self.len();
         write_boxes(row, &self.low, &self.high);
@@ -138,13 +138,13 @@ impl<const N: usize, const M: usize> Key<N, M> {
     }
 }
 
-// Writes the low bytes of squares to the beginning of a row of zeros, and the high bytes to another one, if there is
-// one.
+// Writes the low bytes of squares to the beginning of a row of zeros, and the high bytes to that of another one, unless
+// it is empty.
 #[inline(always)]
 fn write_rows(low: &mut [u8], high: &mut [u8], boxes: &[Square], player: Square)
     requires low { low.old ≡ replicate (length low.old) 0 }
     requires high { high.old ≡ replicate (length high.old) 0 }
-    requires room { length boxes.now < length low.old }
+    requires capacity { length boxes.now < length low.old }
     requires high_room { 0 < length high.old → length boxes.now < length high.old }
     ensures low { low.new ≡ padded (length low.old) (low_bytes (player ∷ boxes.now)) }
     ensures high { high.new ≡ padded (length high.old) (high_bytes (player ∷ boxes.now)) }
@@ -157,13 +157,13 @@ fn write_rows(low: &mut [u8], high: &mut [u8], boxes: &[Square], player: Square)
     write_high(high, boxes, player);
 }
 
-// The same for two short rows. The loop's bound repeats that the squares are few, so that the compiler makes no loop
-// over many bytes at once.
+// The same for two rows of length `SHORT`. The loop's bound repeats this length, so that the compiler does not
+// vectorize the loop.
 #[inline(always)]
 fn write_short(low: &mut [u8], high: &mut [u8], boxes: &[Square], player: Square)
     requires low { low.old ≡ padded SHORT [] }
     requires high { high.old ≡ padded SHORT [] }
-    requires room { length boxes.now < SHORT }
+    requires capacity { length boxes.now < SHORT }
     ensures low { low.new ≡ padded SHORT (low_bytes (player ∷ boxes.now)) }
     ensures high { high.new ≡ padded SHORT (high_bytes (player ∷ boxes.now)) }
 {
@@ -171,12 +171,12 @@ fn write_short(low: &mut [u8], high: &mut [u8], boxes: &[Square], player: Square
     let first_high = high_byte(player);
     low[0] = first;
     high[0] = first_high;
-    for place in 0..boxes.len().min(SHORT - 1) {
-        let square = boxes[place];
+    for index in 0..boxes.len().min(SHORT - 1) {
+        let square = boxes[index];
         let byte = low_byte(square);
         let most = high_byte(square);
-        low[place + 1] = byte;
-        high[place + 1] = most;
+        low[index + 1] = byte;
+        high[index + 1] = most;
     }
 }
 
@@ -184,22 +184,22 @@ fn write_short(low: &mut [u8], high: &mut [u8], boxes: &[Square], player: Square
 #[inline(always)]
 fn write_low(row: &mut [u8], boxes: &[Square], player: Square)
     requires zeros { row.old ≡ replicate (length row.old) 0 }
-    requires room { length boxes.now < length row.old }
+    requires capacity { length boxes.now < length row.old }
     ensures { row.new ≡ padded (length row.old) (low_bytes (player ∷ boxes.now)) }
 {
     let first = low_byte(player);
     row[0] = first;
-    for (place, square) in boxes.iter().enumerate() {
+    for (index, square) in boxes.iter().enumerate() {
         let byte = low_byte(*square);
-        row[place + 1] = byte;
+        row[index + 1] = byte;
     }
 }
 
-// Writes the high bytes of squares to the beginning of a row of zeros, if there is such a row.
+// Writes the high bytes of squares to the beginning of a row of zeros, unless it is empty.
 #[inline(always)]
 fn write_high(row: &mut [u8], boxes: &[Square], player: Square)
     requires zeros { row.old ≡ replicate (length row.old) 0 }
-    requires room { 0 < length row.old → length boxes.now < length row.old }
+    requires capacity { 0 < length row.old → length boxes.now < length row.old }
     ensures { row.new ≡ padded (length row.old) (high_bytes (player ∷ boxes.now)) }
 {
     if row.len() <= boxes.len() {
@@ -207,46 +207,46 @@ fn write_high(row: &mut [u8], boxes: &[Square], player: Square)
     }
     let first = high_byte(player);
     row[0] = first;
-    for (place, square) in boxes.iter().enumerate() {
+    for (index, square) in boxes.iter().enumerate() {
         let byte = high_byte(*square);
-        row[place + 1] = byte;
+        row[index + 1] = byte;
     }
 }
 
-// Writes the squares of two rows of bytes to another row, except the first one, which is the player's.
+// Writes the squares of two rows of bytes to a row of squares, except the first one, which is the player's.
 #[inline(always)]
 fn write_boxes(row: &mut [Square], low: &[u8], high: &[u8])
     requires some { 0 < length low.now }
-    requires room { length row.old ≡ length low.now }
+    requires capacity { length row.old ≡ length low.now }
     ensures squares { take (length low.now - 1) row.new ≡
         take (length low.now - 1) (drop 1 (joined_bytes low.now high.now)) }
-    ensures room { length row.new ≡ length row.old }
+    ensures capacity { length row.new ≡ length row.old }
 {
-    for place in 0..low.len() - 1 {
-        let square = square_at(low, high, place + 1);
-        row[place] = square;
+    for index in 0..low.len() - 1 {
+        let square = square_at(low, high, index + 1);
+        row[index] = square;
     }
 }
 
-// The square at a place of the rows.
+// The square at an index of the rows.
 #[inline(always)]
-fn square_at(low: &[u8], high: &[u8], place: usize) -> Square
-    requires { place < length low.now }
-    ensures { slice_get (joined_bytes low.now high.now) place ≡ Some result }
+fn square_at(low: &[u8], high: &[u8], index: usize) -> Square
+    requires { index < length low.now }
+    ensures { slice_get (joined_bytes low.now high.now) index ≡ Some result }
 {
-    let least = byte_at(low, place);
-    if place >= high.len() {
+    let least = byte_at(low, index);
+    if index >= high.len() {
         return square_of(least, 0);
     }
-    let most = byte_at(high, place);
+    let most = byte_at(high, index);
     square_of(least, most)
 }
 
-fn byte_at(bytes: &[u8], place: usize) -> u8
-    requires { place < length bytes.now }
-    ensures { slice_get bytes.now place ≡ Some result }
+fn byte_at(bytes: &[u8], index: usize) -> u8
+    requires { index < length bytes.now }
+    ensures { slice_get bytes.now index ≡ Some result }
 {
-    bytes[place]
+    bytes[index]
 }
 
 fn low_byte(square: Square) -> u8
@@ -277,7 +277,7 @@ impl<const N: usize, const M: usize> PartialEq for Key<N, M> {
 
     ghost laws = { Prim.search (comparing, rules) };
 
-    /// Whether the keys are of one position.
+    /// Whether the keys are those of one position.
     #[inline(always)]
     fn eq(&self, other: &Key<N, M>) -> bool
         ensures { result ≡ same_scene self.now other.now }
@@ -318,8 +318,8 @@ pub(crate) fn same_rows(
     (boxes == others) & same_low & same_high
 }
 
-// Whether the bytes are the same. A map compares keys with equal hashes, and most of those are equal. So it reads all
-// bytes, several at once.
+// Whether two rows are equal. A map compares keys only if their hashes are equal, and then most keys are. So this reads
+// all bytes in a loop that the compiler can vectorize.
 #[inline(always)]
 fn same_bytes(bytes: &[u8], others: &[u8]) -> bool
     ensures { result ≡ pointwise nat_eq bytes.now others.now }
@@ -328,8 +328,8 @@ fn same_bytes(bytes: &[u8], others: &[u8]) -> bool
         return false;
     }
     let mut same = true;
-    for (place, byte) in bytes.iter().enumerate() {
-        same &= *byte == others[place];
+    for (index, byte) in bytes.iter().enumerate() {
+        same &= *byte == others[index];
     }
     same
 }
@@ -341,7 +341,7 @@ impl<const N: usize, const M: usize> Hash for Key<N, M> {
 
     ghost respects_eq = { keys_alike N M };
 
-    // A hasher sees the digest alone, so that it can be made before the look-up.
+    // A hasher gets only the digest, so that it can be made before the look-up.
     #[inline(always)]
     fn hash<H: Hasher>(&self, state: &mut H) {
         state.write_u64(self.digest());

@@ -1,8 +1,8 @@
-//! The positions that a search has found, in as few bytes as their boxes and their grid want.
+//! The positions that a search has found, in as few bytes as their boxes and their grid need.
 //!
-//! [`Found`] holds the positions of a share: the closed ones, and the open ones, each with the least origin that it
-//! was offered with. A book of `layers` keeps one. [`Visited`] holds positions at fixed places, each with a label,
-//! for a search that expands a position with the least total first.
+//! [`Found`] holds the positions of a share: the closed ones, and the open ones, each with the least origin offered so
+//! far. A book of `layers` has one. [`Visited`] holds positions at fixed places, each with a label, for a best-first
+//! search.
 //!
 //! With a `level` of one box:
 //!
@@ -14,22 +14,22 @@
 //! ```
 #![tactic(auto)]
 
+mod batches;
 mod closing;
 mod copying;
 mod entering;
 mod found;
-mod inbox;
 mod key;
 mod labels;
 mod origin;
-mod parts;
+mod pending;
 mod probe;
 mod table;
 mod visited;
 mod widths;
 
-pub use copying::room_in;
+pub use copying::recycled;
 pub use found::Found;
-pub use inbox::most_waiting;
 pub use origin::{MOST_RANKS, Origin};
+pub use pending::most_pending;
 pub use visited::{Label, Parent, Visited};

@@ -1,4 +1,4 @@
-//! Origins of positions, each in one word, which keeps books and layers small.
+//! Origins of positions in one word each, which keeps books and layers small.
 ghost use Rattle.std.specs.Prelude.{◌≡◌, ◌<◌, None, Some, false};
 ghost use Rattle.std.specs.Ordering.{is_gt, is_lt};
 ghost use Rattle.grid.specs.Board.{push_cmp, dir_number};
@@ -14,17 +14,17 @@ use std::marker::Model;
 /// The number of directions.
 const DIRECTIONS: u64 = 4;
 
-/// How many values a square's number has.
+/// The number of values of a square's number.
 const SQUARES: u64 = u16::MAX as u64 + 1;
 
-/// A rank below this fits into a word with a push, and that word is not `NO_ORIGIN`.
+/// An origin's rank is below this number. So rank and push fit into a word, and that word is not `NO_ORIGIN`.
 pub const MOST_RANKS: u64 = u64::MAX / (SQUARES * DIRECTIONS);
 
 /// The word of a closed position that has no origin.
 const NO_ORIGIN: u64 = u64::MAX;
 
-/// A parent's rank and a push in one word: the rank, then the square, then the direction. So origins compare as their
-/// words do.
+/// A parent's rank and a push in one word: the rank, then the square, then the direction. So the order of words is that
+/// of origins.
 #[derive(Clone, Copy, Debug)]
 pub struct Origin(u64);
 
@@ -90,14 +90,14 @@ impl Origin {
         self.0.cmp(&other.0)
     }
 
-    /// Whether it comes before another origin.
+    /// Whether this origin comes before another one.
     pub fn is_before(self, other: Origin) -> bool
         ensures { result ≡ is_lt (origin_cmp push_cmp self other) }
     {
         self.0 < other.0
     }
 
-    /// The later one of two origins.
+    /// The later of two origins.
     #[tactic(auto, using(crate::proofs::Lasts::itself, crate::proofs::Lasts::less_least, crate::proofs::Lasts::other_least))]
     pub(crate) fn later(self, other: Origin) -> Origin
         ensures this { is_gt (origin_cmp push_cmp self result) ≡ false }
@@ -110,7 +110,7 @@ impl Origin {
     }
 }
 
-/// The origin of a closed position, or none, in one word.
+/// The origin of a closed position, if it has one, in one word.
 #[derive(Clone, Copy, Debug)]
 pub(crate) struct ClosedOrigin(u64);
 
@@ -162,7 +162,7 @@ impl ClosedOrigin {
         }
     }
 
-    /// Whether an origin comes before this one. If there is none here, the answer may be either.
+    /// Whether an origin comes before this one. If there is none here, the result has no meaning.
     pub(crate) fn exceeds(self, origin: Origin) -> bool
         ensures { (known : Parted Push) → self ≡ Some known → result ≡ is_lt (origin_cmp push_cmp origin known) }
     {
@@ -173,7 +173,7 @@ impl ClosedOrigin {
     }
 }
 
-// The place of a direction among the four.
+// The number of a direction, in the order `d`, `l`, `r`, `u`.
 fn number_of(dir: Dir) -> u64
     ensures { result ≡ dir_number dir }
 {
@@ -185,7 +185,7 @@ fn number_of(dir: Dir) -> u64
     }
 }
 
-// The direction with a place among the four.
+// The direction with a number in this order.
 fn dir_of(number: u64) -> Dir
     ensures { result ≡ dir_at number }
 {

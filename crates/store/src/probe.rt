@@ -1,4 +1,4 @@
-//! Keys that are looked up by digests made beforehand.
+//! Keys for look-ups with a digest made beforehand.
 ghost use Rattle.std.specs.Prelude.{◌≡◌};
 ghost use Rattle.store.specs.inside.KeyRows.{key_digest};
 
@@ -7,7 +7,7 @@ use indexmap::Equivalent;
 use std::hash::{Hash, Hasher};
 use std::marker::Model;
 
-/// The borrowed fields of a key, with its digest, so that a look-up does not wait for that to be made.
+/// The borrowed fields of a key with its digest, so that a look-up does not compute it.
 #[derive(Debug, Drop)]
 pub(crate) struct Probe<'k, const N: usize, const M: usize> {
     boxes: u8,

@@ -1,5 +1,5 @@
-//! The positions that a book has found, in keys of one width. A map holds the closed positions and behind them the
-//! open ones. An inbox holds the offers that are not looked up yet.
+//! The positions that a book has found, in keys of one width. A map holds the closed positions, followed by the open
+//! ones. A list holds the pending offers, which are not in the map yet.
 ghost use Rattle.std.specs.Prelude.{◌≡◌, ℕ, ◌+◌, ◌<◌, ◌≤◌, [], length, map, drop, nat_lt, option_map, slice_get, IfOk};
 ghost use Rattle.std.specs.Prelude.{IfSome, OnOk, OnErr, Some};
 ghost use Rattle.store.specs.Entries.{Closed, origins_of};
@@ -11,9 +11,9 @@ ghost use Rattle.store.specs.inside.KeyRows.{SuitsLevel};
 use crate::closing::arrange;
 use crate::copying::{copy_entry, copy_from};
 use crate::entering::{count_new, enter_all};
-use crate::inbox::{append_parcel, make_room};
 use crate::key::Key;
 use crate::origin::{ClosedOrigin, MOST_RANKS, Origin};
+use crate::pending::{append_parcel, reserve};
 use grid::{MAX_BOXES, Position, Square};
 use indexmap::IndexMap;
 use std::alloc::{AllocError, Global};
@@ -23,10 +23,10 @@ use successors::{Parcel, Successor};
 /// The positions that a book has found, in keys with `N` low bytes and `M` high ones.
 #[derive(Debug, Drop)]
 pub(crate) struct Table<const N: usize, const M: usize> {
-    // the offers that are not looked up yet; the map has room for them
-    inbox: Vec<(Key<N, M>, Origin)>,
+    // the map has capacity for the pending offers
+    pending: Vec<(Key<N, M>, Origin)>,
     table: IndexMap<Key<N, M>, ClosedOrigin>,
-    // the first place of an open position
+    // the index of the first open position
     start: usize,
     // no origin of an open position comes after this one
     last: Origin,
@@ -43,18 +43,18 @@ impl<const N: usize, const M: usize> Model for Table<N, M> {
 
     ghost Value = { FoundView };
 
-    ghost view = { λ a. found_view a.boxes a.squares a.start a.table.entries a.inbox.items };
+    ghost view = { λ a. found_view a.boxes a.squares a.start a.table.entries a.pending.items };
 
     ghost use Rattle.grid.specs.declared.limits.TheConstants.{MAX_BOXES};
 
     ghost invariant = { λ a. ((N ≤ MAX_BOXES + 1) × (M ≤ MAX_BOXES + 1))
         × SuitsLevel N M a.boxes a.squares
         × IsFoundUpTo a.start a.table.entries a.last
-        × (length a.inbox.items ≤ spare a.table) };
+        × (length a.pending.items ≤ spare a.table) };
 }
 
 impl<const N: usize, const M: usize> Table<N, M> {
-    /// At first one closed position or none. The only error is running out of memory.
+    /// Starts with one closed position or none. Fails only if out of memory.
     #[tactic(auto, using(crate::proofs::Lasts::none_open, crate::proofs::Bytes::suits))]
     pub(crate) fn of(
         alloc: Global,
@@ -86,7 +86,7 @@ impl<const N: usize, const M: usize> Table<N, M> {
             table,
             start,
             last: Origin::lowest(),
-            inbox: Vec::new(alloc),
+            pending: Vec::new(alloc),
         })
     }
 
@@ -97,62 +97,62 @@ impl<const N: usize, const M: usize> Table<N, M> {
         self.start
     }
 
-    /// The closed position at a place. `None` exactly if the place is not below [`Table::closed_len`].
-    pub(crate) fn closed_at(&self, place: usize) -> Option<Position>
-        ensures { result ≡ option_map (λ e. e.0) (slice_get self.now.seen place) }
+    /// The closed position at an index; `None` exactly if the index is not below [`Table::closed_len`].
+    pub(crate) fn closed_at(&self, index: usize) -> Option<Position>
+        ensures { result ≡ option_map (λ e. e.0) (slice_get self.now.seen index) }
     {
-        if place >= self.start {
+        if index >= self.start {
             return None;
         }
-        let (key, _) = self.table.get_index(place)?;
+        let (key, _) = self.table.get_index(index)?;
         Some(key.position())
     }
 
-    /// The origin of the closed position at a place. `None` exactly if the place is not below [`Table::closed_len`].
-    pub(crate) fn origin_at(&self, place: usize) -> Option<Origin>
-        ensures { result ≡ option_map (λ e. origin_in e.1) (slice_get self.now.seen place) }
+    /// The origin of the closed position at an index; `None` exactly if the index is not below [`Table::closed_len`].
+    pub(crate) fn origin_at(&self, index: usize) -> Option<Origin>
+        ensures { result ≡ option_map (λ e. origin_in e.1) (slice_get self.now.seen index) }
     {
-        if place >= self.start {
+        if index >= self.start {
             return None;
         }
-        let (_, origin) = self.table.get_index(place)?;
+        let (_, origin) = self.table.get_index(index)?;
         Some(origin.opened())
     }
 
-    /// Appends the squares of the closed position at a place, and its origin if it has one. The only error is running
-    /// out of memory.
+    /// Appends the squares of the closed position at an index, and its origin if it has one. Fails only if out of
+    /// memory.
     pub(crate) fn copy_at(
         &self,
-        place: usize,
+        index: usize,
         squares: &mut Vec<Square>,
         origins: &mut Vec<Origin>,
     ) -> Result<(), AllocError>
-        requires { place < length self.now.seen }
-        ensures { OnOk result ((e : Closed) → slice_get self.now.seen place ≡ Some e →
+        requires { index < length self.now.seen }
+        ensures { OnOk result ((e : Closed) → slice_get self.now.seen index ≡ Some e →
             IsCopied e squares.old.items squares.new.items origins.old.items origins.new.items) }
     {
-        let Some((key, origin)) = self.table.get_index(place) else {
+        let Some((key, origin)) = self.table.get_index(index) else {
             unreachable!()
         };
         copy_entry(key, *origin, squares, origins)
     }
 
-    /// The squares of the closed positions from a place on, in the memory of another list, and the origins of those
-    /// that have one. The only error is running out of memory.
+    /// Copies the squares of the closed positions from an index on, in `memory` as [`recycled`](crate::recycled) does,
+    /// and the origins of those that have one. Fails only if out of memory.
     pub(crate) fn closed_from(
         &self,
         alloc: Global,
         from: usize,
-        room: Vec<Square>,
+        memory: Vec<Square>,
     ) -> Result<(Vec<Square>, Vec<Origin>), AllocError>
         requires { from ≤ length self.now.seen }
         ensures squares { IfOk result (λ r. r.0.items ≡ squares_of (map (λ e. e.0) (drop from self.now.seen))) }
         ensures origins { IfOk result (λ r. r.1.items ≡ origins_of (drop from self.now.seen)) }
     {
-        copy_from(alloc, &self.table, self.boxes, from, self.start, room)
+        copy_from(alloc, &self.table, self.boxes, from, self.start, memory)
     }
 
-    /// Whether the positions would be more than a limit if the successors of the share entered.
+    /// Whether there would be more than `limit` positions if the successors of the share entered.
     pub(crate) fn passes(
         &mut self,
         limit: usize,
@@ -168,18 +168,18 @@ impl<const N: usize, const M: usize> Table<N, M> {
             (length self.old.seen + length (with_entered self.old shares share rank successors.now).waiting) }
         ensures same { self.new ≡ self.old }
     {
-        let room = limit - self.table.len();
-        if self.inbox.len() + successors.len() <= room {
+        let left = limit - self.table.len();
+        if self.pending.len() + successors.len() <= left {
             return false;
         }
         let last = &mut self.last;
-        enter_all(&mut self.table, self.start, last, &mut self.inbox);
-        let room = limit - self.table.len();
-        count_new(&self.table, self.start, share, shares, successors) > room
+        enter_all(&mut self.table, self.start, last, &mut self.pending);
+        let left = limit - self.table.len();
+        count_new(&self.table, self.start, share, shares, successors) > left
     }
 
-    /// Offers the parcel's successors of the share, one after the other. Up to `most` offers wait in the inbox. The
-    /// only error is running out of memory. Then nothing changes.
+    /// Offers the parcel's successors of the share in order. Up to `most` offers stay pending. Fails only if out of
+    /// memory, and then changes nothing.
     pub(crate) fn enter_all(
         &mut self,
         most: usize,
@@ -194,49 +194,48 @@ impl<const N: usize, const M: usize> Table<N, M> {
         ensures err { OnErr result (self.new ≡ self.old) }
     {
         let successors = parcel.successors();
-        make_room(
+        reserve(
             &mut self.table,
             self.start,
             &mut self.last,
-            &mut self.inbox,
+            &mut self.pending,
             most,
             successors,
         )?;
-        append_parcel(&mut self.inbox, share, shares, parcel);
+        append_parcel(&mut self.pending, share, shares, parcel);
         Ok(())
     }
 
-    /// The number of positions. Looks up the waiting offers first.
+    /// The number of positions. Enters the pending offers first.
     pub(crate) fn count(&mut self) -> usize
         ensures count { result ≡ length self.old.seen + length self.old.waiting }
         ensures same { self.new ≡ self.old }
     {
-        let inbox = &mut self.inbox;
-        enter_all(&mut self.table, self.start, &mut self.last, inbox);
+        let pending = &mut self.pending;
+        enter_all(&mut self.table, self.start, &mut self.last, pending);
         self.table.len()
     }
 
-    /// Looks up the waiting offers if they are `least` or more, and says whether they were.
-    pub(crate) fn enter_waiting(&mut self, least: usize) -> bool
+    /// Enters the pending offers if there are at least `least`, and returns whether it did.
+    pub(crate) fn enter_pending(&mut self, least: usize) -> bool
         ensures { self.new ≡ self.old }
     {
-        if self.inbox.len() < least {
+        if self.pending.len() < least {
             return false;
         }
-        let inbox = &mut self.inbox;
-        enter_all(&mut self.table, self.start, &mut self.last, inbox);
+        let pending = &mut self.pending;
+        enter_all(&mut self.table, self.start, &mut self.last, pending);
         true
     }
 
-    /// The number of positions without those of waiting offers.
+    /// The number of positions without those of pending offers.
     pub(crate) fn count_entered(&self) -> usize
         ensures { result ≤ length self.now.seen + length self.now.waiting }
     {
         self.table.len()
     }
 
-    /// Closes the open positions in the order of their origins. The only error is running out of memory. Then nothing
-    /// changes.
+    /// Closes the open positions in the order of their origins. Fails only if out of memory, and then changes nothing.
     #[tactic(auto, using(crate::proofs::Lasts::none_open))]
     pub(crate) fn close(&mut self) -> Result<(), AllocError>
         ensures boxes { self.new.boxes ≡ self.old.boxes }
@@ -246,7 +245,7 @@ impl<const N: usize, const M: usize> Table<N, M> {
         ensures err { OnErr result (self.new ≡ self.old) }
     {
         let start = self.start;
-        enter_all(&mut self.table, start, &mut self.last, &mut self.inbox);
+        enter_all(&mut self.table, start, &mut self.last, &mut self.pending);
         arrange(&mut self.table, start)?;
         self.start = self.table.len();
         self.last = Origin::lowest();

@@ -1,7 +1,7 @@
-//! The widths of keys. An enum of tables has two variants for each number of boxes here and for more boxes: one whose
-//! keys have a low byte for each square, and one whose keys have two bytes.
+//! The widths of keys. An enum of tables has two variants for each of these greatest numbers of boxes, and two for more
+//! boxes: one with one byte a square (`Low`), and one with two.
 
-// The greatest number of boxes of each width except the widest.
+// The greatest numbers of boxes of the widths, except of the widest one.
 pub(crate) const NARROW: usize = 3;
 
 pub(crate) const MIDDLE: usize = 11;
@@ -34,7 +34,7 @@ macro_rules! in_each {
 
 pub(crate) use in_each;
 
-// The table of the width for positions with at most that many boxes on a grid of that many squares.
+// The table for positions with at most `$boxes` boxes on a grid of `$squares` squares.
 macro_rules! of_width {
     ($tables:ident, $boxes:expr, $squares:expr, $table:expr) => {
         if $squares <= $crate::key::BYTE_SQUARES {

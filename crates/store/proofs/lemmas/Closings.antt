@@ -1,4 +1,4 @@
--- What stands open, sorted and appended to what was seen.
+-- The open entries, sorted and appended to the closed ones.
 use Rattle.std.proofs.Common.{◌≡◌, ℕ, ◌<◌, false, List, Option, Some, None, refl, sym, ap, ◌∙◌, inl, inr, arith}
 use Rattle.std.proofs.lemmas.Bool.{cases_lt}
 use Rattle.std.proofs.lemmas.List.Sorted.{sorted_far, ranks_by, length_permutation, IsPermutation-map, IsPermutation-sym, Contains-permutation}

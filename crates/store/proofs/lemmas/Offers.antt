@@ -1,4 +1,4 @@
--- Positions that are offered to what stands open, one after the other.
+-- Positions that are offered to the open entries, one after the other.
 use Rattle.std.proofs.Common.{◌≡◌, ℕ, zero, suc, ◌+◌, Bool, true, false, cond, ◌&&◌, ◌||◌, fold, nat_eq, ◌==◌, List, [], ◌∷◌, ◌++◌, length, map, Option, Some}
 use Rattle.std.proofs.Common.{None, is_some, Result, Ok, Err, IsOk, not, refl, sym, ap, subst, ◌∙◌, if◌then◌else◌, arith}
 use Rattle.std.proofs.lemmas.Option.{same_Some, none-some}
@@ -48,7 +48,7 @@ same_flipped m n = go (same_scene m n) refl (same_scene n m) refl
     go false e true f = same_since m n (sym (same_true n m f)) ∙ sym f
     go false e false f = e ∙ sym f
 
--- what an offered position stands open with
+-- what an offered position is open with
 pub origin_of-offered : (es : List (Entry Scene Push)) (m : Scene) (o : Origin Push) → origin_of (offered es m o) m ≡ Some (best push_cmp (origin_of es m) o)
 origin_of-offered [] m o = ap (λ b. cond b (Some o) None) (same_itself m)
 origin_of-offered (e ∷ es) m o = go (same_scene m e.0) refl (origin_of-offered es m o)
@@ -58,7 +58,7 @@ origin_of-offered (e ∷ es) m o = go (same_scene m e.0) refl (origin_of-offered
     go true f t = ap (λ b. cond b (Some (lesser push_cmp e.1 o)) (origin_of es m)) f
     go false f t = ap (λ b. cond b (Some e.1) (origin_of (offered es m o) m)) f ∙ t
 
--- each other position stands open as before
+-- each other position is open as before
 pub origin_of-other : (es : List (Entry Scene Push)) (m n : Scene) (o : Origin Push) → same_scene n m ≡ false → origin_of (offered es m o) n ≡ origin_of es n
 origin_of-other [] m n o other = ap (λ b. cond b (Some o) None) other
 origin_of-other (e ∷ es) m n o other = go (same_scene m e.0) refl (same_scene n e.0) refl (origin_of-other es m n o other)
@@ -69,11 +69,11 @@ origin_of-other (e ∷ es) m n o other = go (same_scene m e.0) refl (same_scene 
     go true f false g t = ap (λ b. cond b (Some (lesser push_cmp e.1 o)) (origin_of es n)) g ∙ ap (λ b. cond b (Some e.1) (origin_of es n)) (sym g)
     go false f c g t = ap (λ x. cond (same_scene n e.0) (Some e.1) x) t
 
--- the places of what stands open
+-- the positions of the open entries
 abbrev pub open_places : List (Entry Scene Push) → List Scene
 open_places es = map (λ e. e.0) es
 
--- a position that stands open has a place among them, and one that stands there has its origin
+-- an open position has an index among them, and the entry there has its origin
 pub origin-listed : (es : List (Entry Scene Push)) (m : Scene) (o : Origin Push) → origin_of es m ≡ Some o → (i : ℕ) × (slice_get es i ≡ Some (m, o))
 origin-listed [] m o e = cc
 origin-listed (x ∷ es) m o e = go (same_scene m x.0) refl e (origin-listed es m o)
@@ -83,7 +83,7 @@ origin-listed (x ∷ es) m o e = go (same_scene m x.0) refl e (origin-listed es 
     go true f g t = (zero, let h = sym (same_true m x.0 f) in let k = same_Some x.1 o g in λ i. Some (h i, k i))
     go false f g t = let w = t g in (suc w.0, w.1)
 
--- one that does not stand open is not among them
+-- a position that is not open is not among them
 pub unlisted : (es : List (Entry Scene Push)) (m : Scene) → origin_of es m ≡ None → ¬ (IsIn (open_places es) m)
 unlisted [] m e w = none-some m w.1
 unlisted (x ∷ es) m e (zero, at) = let h = same_since m x.0 (sym (same_Some x.0 m at)) in none-some x.1 (sym e ∙ ap (λ b. cond b (Some x.1) (origin_of es m)) h)
@@ -212,7 +212,7 @@ length-offered es m o = go (origin_of es m) refl
       ap length (offered-present es m o p e),
     )
 
--- a wanted position stands open after a successor has entered if it did before or is the successor's
+-- a wanted position is open after a successor has entered if it was before or is the successor's
 open-entered : (wanted : Scene → Bool) (rank : ℕ) (es : List (Entry Scene Push)) (s : Successor) (m : Scene) → wanted m ≡ true →
     is_some (origin_of (entered wanted rank es s) m) ≡ (is_some (origin_of es m) || same_scene s.position m)
 open-entered wanted rank es s m want = go (same_scene s.position m) refl
@@ -243,7 +243,7 @@ open-entered wanted rank es s m want = go (same_scene s.position m) refl
     go true e = there (same_true s.position m e) ∙ sym (or_true (is_some (origin_of es m)))
     go false e = other (apart (same_scene m s.position) refl e) (wanted s.position) ∙ sym (or_false (is_some (origin_of es m)))
 
--- what stands open is wanted after a successor has entered, if it was before
+-- open entries are wanted after a successor has entered, if they were before
 pub entered_wanted : (wanted : Scene → Bool) (rank : ℕ) (es : List (Entry Scene Push)) (s : Successor) → AreWanted wanted es →
     AreWanted wanted (entered wanted rank es s)
 entered_wanted wanted rank es s are m there = go (wanted s.position) refl (same_scene m s.position) refl there
@@ -254,7 +254,7 @@ entered_wanted wanted rank es s are m there = go (wanted s.position) refl (same_
     go true want false e f = are m (ap is_some (sym (origin_of-other es s.position m (rank, s.push) e)) ∙ f)
     go false want b e f = are m f
 
--- after some have entered, if it did before or is one of theirs
+-- after some have entered, if it was before or is one of theirs
 pub open-after : (wanted : Scene → Bool) (rank : ℕ) (ss : List Successor) (es : List (Entry Scene Push)) (m : Scene) → wanted m ≡ true →
     is_some (origin_of (fold (entered wanted rank) es ss) m) ≡ (is_some (origin_of es m) || list_any (λ s. same_scene s.position m) ss)
 open-after wanted rank [] es m want = or_false (is_some (origin_of es m))
@@ -277,7 +277,7 @@ pub entered_more : (wanted : Scene → Bool) (rank : ℕ) (ss : List Successor) 
 entered_more wanted rank [] es s = refl
 entered_more wanted rank (t ∷ ss) es s = entered_more wanted rank ss (entered wanted rank es t) s
 
--- so one more successor makes one position more if it is wanted, did not stand open and is no earlier one's
+-- so one more successor makes one position more if it is wanted, was not open and is no earlier one's
 pub length-entered : (wanted : Scene → Bool) (rank : ℕ) (ss : List Successor) (es : List (Entry Scene Push)) (s : Successor) →
     length (fold (entered wanted rank) es (ss ++ s ∷ [])) ≡ length (fold (entered wanted rank) es ss) + cond (wanted s.position &&
     not (is_some (origin_of es s.position) || list_any (λ t. same_scene t.position s.position) ss)) 1 0

@@ -1,4 +1,4 @@
--- The bytes of a key: the low ones of its squares in one row, and the high ones in another where there are any.
+-- The bytes of a key: the low bytes of its squares in one row, and the high bytes in another one, which may be empty.
 use Rattle.std.specs.Prelude.{◌≡◌, ℕ, zero, suc, ◌+◌, ◌*◌, ◌/◌, ◌%◌, ◌<◌, ◌≤◌, ◌==◌, ◌⊎◌, IsTrue, true, List, [], ◌∷◌}
 use Rattle.std.specs.Prelude.{map, nat_eq, take, length}
 use Rattle.std.specs.Prelude.{slice_get, slice_index_or, Some, fold}
@@ -13,7 +13,7 @@ use Rattle.store.specs.Entries.{Entry, same_scene}
 use Rattle.successors.specs.declared.parcel.Successor.{Successor}
 use Rattle.store.specs.FoundView.{AreBelow}
 
--- so many bytes: these, and zeros after them
+-- n bytes: the first of xs, and then zeros
 abbrev pub padded : ℕ → List ℕ → List ℕ
 padded zero xs = []
 padded (suc n) [] = 0 ∷ padded n []
@@ -25,49 +25,49 @@ low_bytes xs = map (λ x. x % 256) xs
 abbrev pub high_bytes : List ℕ → List ℕ
 high_bytes xs = map (λ x. x / 256) xs
 
--- squares from their low bytes and their high ones, which are 0 beyond the end of their row
+-- squares from their low and high bytes; high bytes beyond the end of their row are 0
 abbrev pub joined_bytes : List ℕ → List ℕ → List ℕ
 joined_bytes [] hs = []
 joined_bytes (l ∷ ls) [] = l ∷ joined_bytes ls []
 joined_bytes (l ∷ ls) (h ∷ hs) = (l + 256 * h) ∷ joined_bytes ls hs
 
--- a position's squares in the order of a key: the player's, and then those of the boxes
+-- a position's squares in the order of a key: the player's, then those of the boxes
 abbrev pub key_squares : Scene → List ℕ
 key_squares m = m.player ∷ m.boxes
 
--- the position of so many boxes that squares in this order show
+-- the position of count boxes that squares in this order give
 abbrev pub scene_in : ℕ → List ℕ → Scene
 scene_in count [] = record { boxes = []; player = 0 }
 scene_in count (x ∷ xs) = record { boxes = take count xs; player = x }
 
--- what the fields of a key show
+-- the position that the fields of a key give
 abbrev pub key_scene : ℕ → List ℕ → List ℕ → Scene
 key_scene count low high = scene_in count (joined_bytes low high)
 
--- the fields of a key with rows of so many low and high bytes: they are those of the position that they show
+-- the fields of a key with n low and k high bytes: they are those of the position that they give
 pub record IsKey (n k count : ℕ) (low high : List ℕ) : Type 0 where
-  pub room : count < n
+  pub capacity : count < n
   pub counted : count ≡ length (key_scene count low high).boxes
   pub rising : is_rising (key_scene count low high).boxes ≡ true
   pub low_is : low ≡ padded n (low_bytes (key_squares (key_scene count low high)))
   pub high_is : high ≡ padded k (high_bytes (key_squares (key_scene count low high)))
 
--- a position has a key with rows of so many bytes: it has fewer boxes, and where there are no high bytes its squares
--- need none
+-- a position has a key with n low and k high bytes: it has fewer than n boxes, and without high bytes its squares are
+-- below 256
 pub record Suits (n k : ℕ) (m : Scene) : Type 0 where
-  pub room : length m.boxes < n
+  pub capacity : length m.boxes < n
   pub bytes : (k ≡ n) ⊎ ((k ≡ 0) × AreBelow 256 (key_squares m))
 
--- the position of each successor has one
+-- the position of each successor has such a key
 abbrev pub AllSuit : ℕ → ℕ → List Successor → Type 0
 AllSuit n k ss = (i : ℕ) (s : Successor) → slice_get ss i ≡ Some s → Suits n k s.position
 
--- keys with rows of so many bytes suit all positions of at most so many boxes on a grid of so many squares
+-- keys with n low and k high bytes suit all positions with at most boxes boxes on a grid of squares squares
 pub record SuitsLevel (n k boxes squares : ℕ) : Type 0 where
-  pub room : boxes < n
+  pub capacity : boxes < n
   pub bytes : (k ≡ n) ⊎ ((k ≡ 0) × (squares ≤ 256))
 
--- the rows of a key, without one that has no bytes
+-- the rows of a key, without an empty one
 abbrev pub high_writes : ℕ → Scene → fed.HashWrites
 high_writes zero m = []
 high_writes (suc k) m = padded (suc k) (high_bytes (key_squares m)) ∷ []
@@ -75,16 +75,16 @@ high_writes (suc k) m = padded (suc k) (high_bytes (key_squares m)) ∷ []
 abbrev pub key_writes : ℕ → ℕ → Scene → fed.HashWrites
 key_writes n k m = padded n (low_bytes (key_squares m)) ∷ high_writes k m
 
--- the number that stands for a key where it is hashed: the hash of its rows
+-- the number that a key passes to a hasher: the hash of its rows
 unfoldable pub key_digest : ℕ → ℕ → Scene → ℕ
 key_digest n k m = folding.finish (fold folding.write folding.initial (key_writes n k m))
 
--- the numbers of the keys of offers
+-- the digests of the keys of offers
 abbrev pub AreDigests : ℕ → ℕ → List (Entry Scene Push) → List ℕ → Type 0
 AreDigests n k offers digests =
     (i : ℕ) (o : Entry Scene Push) → slice_get offers i ≡ Some o → slice_index_or digests i 0 ≡ key_digest n k o.0
 
--- equal positions have equal numbers
+-- equal positions have equal digests
 pub digests_alike : (n k : ℕ) (s t : Scene) → IsTrue (same_scene s t) → key_digest n k s ≡ key_digest n k t
 digests_alike n k s t same =
     let boxes = (bytes_decides s.boxes t.boxes).0
@@ -93,15 +93,15 @@ digests_alike n k s t same =
     (second_so (pointwise nat_eq s.boxes t.boxes) (s.player == t.player) same) in
     λ i. key_digest n k (record { boxes = boxes i; player = player i })
 
--- what a key feeds a hasher: its number
+-- what a key passes to a hasher: its digest
 abbrev pub key_input : ℕ → ℕ → Scene → fed.HashWrites
 key_input n k m = fed.u64 (key_digest n k m)
 
--- equal positions feed the same
+-- equal positions pass the same to a hasher
 pub keys_alike : (n k : ℕ) (s t : Scene) → IsTrue (same_scene s t) → key_input n k s ≡ key_input n k t
 keys_alike n k s t same = λ i. fed.u64 (digests_alike n k s t same i)
 
--- what is equal to a position is equal to the same ones
+-- equal positions are equal to the same positions
 pub same_alike : (q x y : Scene) → IsTrue (same_scene q x) → same_scene q y ≡ same_scene x y
 same_alike q x y same =
     let boxes = (bytes_decides q.boxes x.boxes).0

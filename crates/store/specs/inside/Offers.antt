@@ -1,4 +1,4 @@
--- The offers of successors that stand at places.
+-- The offers of successors at indices.
 use Rattle.std.specs.Prelude.{ℕ, List, [], ◌∷◌, ◌++◌, slice_get, Option, Some, None}
 use Rattle.grid.specs.declared.square.Push.{Push}
 use Rattle.grid.specs.Board.{Scene}
@@ -10,7 +10,7 @@ abbrev pub offer_in : ℕ → Option Successor → List (Entry Scene Push)
 offer_in rank None = []
 offer_in rank (Some s) = (s.position, (rank, s.push)) ∷ []
 
--- the offers of a rank's successors at these places
+-- the offers of a rank's successors at these indices
 abbrev pub offers_at : ℕ → List Successor → List ℕ → List (Entry Scene Push)
 offers_at rank ss [] = []
 offers_at rank ss (p ∷ ps) = offer_in rank (slice_get ss p) ++ offers_at rank ss ps

@@ -9,7 +9,7 @@ use Rattle.grid.specs.Board.{dir_number}
 use Rattle.store.specs.Entries.{Origin}
 use Rattle.store.specs.declared.origin.TheConstants.{DIRECTIONS, SQUARES, NO_ORIGIN}
 
--- the direction with a place in the order d, l, r, u
+-- the direction with a number in the order d, l, r, u
 abbrev pub dir_at : ℕ → Dir
 dir_at zero = D
 dir_at (suc zero) = L
@@ -24,7 +24,7 @@ packed o = (o.0 * SQUARES + o.1.square) * DIRECTIONS + dir_number o.1.dir
 abbrev pub parted : ℕ → Origin Push
 parted n = (n / DIRECTIONS / SQUARES, record { square = n / DIRECTIONS % SQUARES; dir = dir_at (n % DIRECTIONS) })
 
--- the word of an origin or of none
+-- the word of an origin, or the word for none
 abbrev pub closed_packed : Option (Origin Push) → ℕ
 closed_packed None = NO_ORIGIN
 closed_packed (Some o) = packed o
@@ -33,18 +33,18 @@ closed_packed (Some o) = packed o
 abbrev pub closed_parted : ℕ → Option (Origin Push)
 closed_parted n = if n == NO_ORIGIN then None else Some (parted n)
 
--- the place of the direction with a place is that place
+-- the number of the direction with a number is that number
 pub number_at : (n : ℕ) → n < DIRECTIONS → dir_number (dir_at n) ≡ n
 number_at zero lt = refl
 number_at (suc zero) lt = refl
 number_at (suc (suc zero)) lt = refl
 number_at (suc (suc (suc n))) lt = omega arith
 
--- a word is that of its origin
+-- each word is that of its origin
 pub packed_parted : (n : ℕ) → packed (parted n) ≡ n
 packed_parted n = let e = number_at (n % DIRECTIONS) (omega arith) in omega (arith, e)
 
--- and that of its origin or of none
+-- each word is that of its origin, or of none
 pub closed_packed_parted : (n : ℕ) → closed_packed (closed_parted n) ≡ n
 closed_packed_parted n = go (n == NO_ORIGIN) refl
   where

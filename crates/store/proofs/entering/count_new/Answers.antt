@@ -9,18 +9,18 @@ use Rattle.successors.proofs.lemmas.Lists.{take_short}
 use Rattle.store.proofs.entering.count_new.Goals.{then-is_new, else-is_new}
 use Rattle.store.proofs.entering.count_new.Goals as goal
 
-pub loop-place-preserved : goal.loop-place-preserved
-loop-place-preserved g c =
-    let ss = c.args.successors.now in let place = c.loop-place.place in
+pub loop-index-preserved : goal.loop-index-preserved
+loop-index-preserved g c =
+    let ss = c.args.successors.now in let index = c.loop-index.index in
     let ws = open_of c.args.start c.args.table.now.entries in
     let wanted = is_wanted_in (seen_of c.args.start c.args.table.now.entries) c.args.shares c.args.share in
-    let s : Successor = c.index-successors-place.result in
-    let e : take (place + 1) ss ≡ take place ss ++ s ∷ [] = take_more ss place s c.loop-place-test.true ∙
-    ap (λ (x : Successor). take place ss ++ x ∷ []) (sym c.index-successors-place.is) in
-    let step : (rank : ℕ) → length (fold (entered wanted rank) ws (take (place + 1) ss)) ≡ length ws + c.loop-place.count + cond c.is_new.result 1 0 =
-    λ rank. ap (λ ts. length (fold (entered wanted rank) ws ts)) e ∙ length-entered wanted rank (take place ss) ws s
-    ∙ ap {B = ℕ} (λ b. length (fold (entered wanted rank) ws (take place ss)) + cond b 1 0) (sym c.is_new.ensures)
-    ∙ ap (λ n. n + cond c.is_new.result 1 0) (c.loop-place.invariant.0 rank) in
+    let s : Successor = c.index-successors-index.result in
+    let e : take (index + 1) ss ≡ take index ss ++ s ∷ [] = take_more ss index s c.loop-index-test.true ∙
+    ap (λ (x : Successor). take index ss ++ x ∷ []) (sym c.index-successors-index.is) in
+    let step : (rank : ℕ) → length (fold (entered wanted rank) ws (take (index + 1) ss)) ≡ length ws + c.loop-index.count + cond c.is_new.result 1 0 =
+    λ rank. ap (λ ts. length (fold (entered wanted rank) ws ts)) e ∙ length-entered wanted rank (take index ss) ws s
+    ∙ ap {B = ℕ} (λ b. length (fold (entered wanted rank) ws (take index ss)) + cond b 1 0) (sym c.is_new.ensures)
+    ∙ ap (λ n. n + cond c.is_new.result 1 0) (c.loop-index.invariant.0 rank) in
     elim c.if-is_new.branch [
       | then-is_new w ↦ (λ rank. omega (arith, step rank, ap {B = ℕ} (λ b. cond b 1 0) w.if-is_new.true), omega arith)
       | else-is_new w ↦ (λ rank. omega (arith, step rank, ap {B = ℕ} (λ b. cond b 1 0) w.if-is_new.false), omega arith)
@@ -28,15 +28,15 @@ loop-place-preserved g c =
 
 pub is_new-requires : goal.is_new-requires
 is_new-requires g c =
-    let ss = c.args.successors.now in let place = c.loop-place.place in let s : Successor = c.index-successors-place.result in (
+    let ss = c.args.successors.now in let index = c.loop-index.index in let s : Successor = c.index-successors-index.result in (
       search rules,
       (
         c.requires.width,
         (
           c.requires.shares,
           (
-            c.requires.few place s (slice_get-get_or ss place s c.loop-place-test.true ∙
-                ap (λ (x : Successor). Some x) (sym c.index-successors-place.is)),
+            c.requires.few index s (slice_get-get_or ss index s c.loop-index-test.true ∙
+                ap (λ (x : Successor). Some x) (sym c.index-successors-index.is)),
             c.requires.found,
           ),
         ),
@@ -48,5 +48,5 @@ returns g c = λ rank.
     let ws = open_of c.args.start c.args.table.now.entries in
     let wanted = is_wanted_in (seen_of c.args.start c.args.table.now.entries) c.args.shares c.args.share in
     ap (λ ts. length (fold (entered wanted rank) ws ts))
-    (sym (take_short c.args.successors.now c.loop-place.place (omega (arith, c.loop-place-test.false, c.loop-place.auto.place-end)))) ∙
-    c.loop-place.invariant.0 rank
+    (sym (take_short c.args.successors.now c.loop-index.index (omega (arith, c.loop-index-test.false, c.loop-index.auto.index-end)))) ∙
+    c.loop-index.invariant.0 rank

@@ -3,8 +3,8 @@ use Rattle.store.specs.Entering.{is_wanted_in, entered}
 use Rattle.store.specs.FoundView.{seen_of, open_of}
 use Rattle.store.proofs.entering.count_new.Given as goal
 
-abbrev pub invariant-loop-place : goal.invariant-loop-place
-invariant-loop-place g l =
+abbrev pub invariant-loop-index : goal.invariant-loop-index
+invariant-loop-index g l =
     ((rank : ℕ) → length (fold (entered (is_wanted_in (seen_of l.start l.table.entries) l.shares l.share) rank) (open_of l.start l.table.entries)
-    (take l.place l.successors)) ≡ length (open_of l.start l.table.entries) + l.count)
-    × (l.count ≤ l.place)
+    (take l.index l.successors)) ≡ length (open_of l.start l.table.entries) + l.count)
+    × (l.count ≤ l.index)

@@ -1,6 +1,6 @@
 use Rattle.std.proofs.Common.{refl, sym, ap, subst, ◌∙◌}
 use Rattle.store.specs.FoundView.{NoneExceed, seen_of, open_of}
-use Rattle.store.proofs.Lasts.{let_in_last, put_parts}
+use Rattle.store.proofs.Lasts.{let_in_last, inserted_parts}
 use Rattle.store.proofs.Tails.{let_in_kept}
 use Rattle.store.proofs.entering.enter.Goals as goal
 
@@ -13,8 +13,8 @@ returns-then-is_kept-clause-waiting g c =
 pub returns-clause-found : goal.returns-clause-found
 returns-clause-found g c =
     let start = c.args.start in let es = c.args.table.now.entries in
-    let parts = put_parts start es c.is_kept.new.table.entries c.args.key.now c.args.origin c.requires.found.found c.if-is_kept.ensures.kept
-    (c.if-is_kept.ensures.put refl) in
+    let parts = inserted_parts start es c.is_kept.new.table.entries c.args.key.now c.args.origin c.requires.found.found c.if-is_kept.ensures.kept
+    (c.if-is_kept.ensures.inserted refl) in
     record {
       found = parts.2;
       last = subst (λ ws. NoneExceed ws c.later.result) (sym parts.1)
@@ -23,9 +23,9 @@ returns-clause-found g c =
     }
 
 pub returns-clause-seen : goal.returns-clause-seen
-returns-clause-seen g c = (put_parts c.args.start c.args.table.now.entries c.is_kept.new.table.entries c.args.key.now c.args.origin c.requires.found.found
-    c.if-is_kept.ensures.kept (c.if-is_kept.ensures.put refl)).0
+returns-clause-seen g c = (inserted_parts c.args.start c.args.table.now.entries c.is_kept.new.table.entries c.args.key.now c.args.origin c.requires.found.found
+    c.if-is_kept.ensures.kept (c.if-is_kept.ensures.inserted refl)).0
 
 pub returns-clause-waiting : goal.returns-clause-waiting
-returns-clause-waiting g c = (put_parts c.args.start c.args.table.now.entries c.is_kept.new.table.entries c.args.key.now c.args.origin c.requires.found.found
-    c.if-is_kept.ensures.kept (c.if-is_kept.ensures.put refl)).1
+returns-clause-waiting g c = (inserted_parts c.args.start c.args.table.now.entries c.is_kept.new.table.entries c.args.key.now c.args.origin c.requires.found.found
+    c.if-is_kept.ensures.kept (c.if-is_kept.ensures.inserted refl)).1

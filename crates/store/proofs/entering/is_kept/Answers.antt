@@ -20,9 +20,9 @@ returns-then-index-start-clause-kept g c =
     let read = c.get-known.ensures in
     let there : lookup (same_scene c.copy.result) es ≡ Some c.get-known.result.now = search (rules, value, read) in
     let here = ap (λ k. lookup (same_scene k) es) (sym c.copy.ensures) ∙ there in
-    let place = c.in-Ok-Occupied.ensures.index in
+    let index = c.in-Ok-Occupied.ensures.index in
     let told = c.index-index.ensures in
-    let stood : c.index-index.result ≡ position_or_len (same_scene c.copy.result) (keys_of es) = search (rules, place, told) in
+    let stood : c.index-index.result ≡ position_or_len (same_scene c.copy.result) (keys_of es) = search (rules, index, told) in
     let at = stood ∙ ap (λ k. position_or_len (same_scene k) (keys_of es)) c.copy.ensures in
     closed_kept c.args.key.now c.args.origin c.args.start es c.index-index.result
     (stands c.args.key.now c.get-known.result.now es c.index-index.result here at) c.if-index-start.true
@@ -44,9 +44,9 @@ returns-then-not-exceeds-clause-kept g c =
     let read = c.get-known.ensures in
     let there : lookup (same_scene c.copy.result) es ≡ Some c.get-known.result.now = search (rules, value, read) in
     let here = ap (λ k. lookup (same_scene k) es) (sym c.copy.ensures) ∙ there in
-    let place = c.in-Ok-Occupied.ensures.index in
+    let index = c.in-Ok-Occupied.ensures.index in
     let told = c.index-index.ensures in
-    let stood : c.index-index.result ≡ position_or_len (same_scene c.copy.result) (keys_of es) = search (rules, place, told) in
+    let stood : c.index-index.result ≡ position_or_len (same_scene c.copy.result) (keys_of es) = search (rules, index, told) in
     let at = stood ∙ ap (λ k. position_or_len (same_scene k) (keys_of es)) c.copy.ensures in
     ap not (sym c.if-not-exceeds.true) ∙ ap (λ b. b || not c.exceeds.result) (sym (not_below c.index-index.result c.args.start c.if-index-start.false)) ∙
     there_kept c.args.key.now c.args.origin c.args.start es c.requires.found.found c.index-index.result c.get-known.result.now c.exceeds.result
@@ -59,9 +59,9 @@ returns-else-not-exceeds-clause-kept g c =
     let read = c.get-known.ensures in
     let there : lookup (same_scene c.copy.result) es ≡ Some c.get-known.result.now = search (rules, value, read) in
     let here = ap (λ k. lookup (same_scene k) es) (sym c.copy.ensures) ∙ there in
-    let place = c.in-Ok-Occupied.ensures.index in
+    let index = c.in-Ok-Occupied.ensures.index in
     let told = c.index-index.ensures in
-    let stood : c.index-index.result ≡ position_or_len (same_scene c.copy.result) (keys_of es) = search (rules, place, told) in
+    let stood : c.index-index.result ≡ position_or_len (same_scene c.copy.result) (keys_of es) = search (rules, index, told) in
     let at = stood ∙ ap (λ k. position_or_len (same_scene k) (keys_of es)) c.copy.ensures in
     ap not (sym c.if-not-exceeds.false) ∙ ap (λ b. b || not c.exceeds.result) (sym (not_below c.index-index.result c.args.start c.if-index-start.false)) ∙
     there_kept c.args.key.now c.args.origin c.args.start es c.requires.found.found c.index-index.result c.get-known.result.now c.exceeds.result

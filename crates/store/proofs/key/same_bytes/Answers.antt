@@ -8,10 +8,10 @@ pub returns : goal.returns
 returns c =
     let xs = c.args.bytes.now in
     let ys = c.args.others.now in
-    let known = c.loop-place.invariant in
-    let reached = c.loop-place-test.false in
-    let at_end = c.loop-place.auto.place-end in
-    same_from_decides c.loop-place.same (pointwise nat_eq xs ys) (
+    let known = c.loop-index.invariant in
+    let reached = c.loop-index-test.false in
+    let at_end = c.loop-index.auto.index-end in
+    same_from_decides c.loop-index.same (pointwise nat_eq xs ys) (
       λ same. ext_get_or 0 xs ys known.0 (λ i inside. known.1.0 same i (omega (arith, inside, reached, at_end))),
       λ e. known.1.1 (λ i inside. ap (λ zs. get_or zs i 0) e),
     )

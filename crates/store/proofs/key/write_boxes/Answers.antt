@@ -4,11 +4,11 @@ use Rattle.store.specs.inside.KeyRows.{joined_bytes}
 use Rattle.store.proofs.Bytes.{behind_first, one_written}
 use Rattle.store.proofs.key.write_boxes.Goals as goal
 
-pub loop-place-preserved : goal.loop-place-preserved
-loop-place-preserved c =
-    let row = c.loop-place.row in let place = c.loop-place.place in let x = c.square_at-square.result in
+pub loop-index-preserved : goal.loop-index-preserved
+loop-index-preserved c =
+    let row = c.loop-index.row in let index = c.loop-index.index in let x = c.square_at-square.result in
     let all = joined_bytes c.args.low.now c.args.high.now in (
-      one_written row (drop 1 all) place x c.loop-place.invariant.0 (behind_first all place x c.square_at-square.ensures)
-          (omega (arith, c.loop-place.invariant.1, c.requires.room, c.loop-place-test.true, c.loop-place.auto.place-end)),
-      length-set row place x ∙ c.loop-place.invariant.1,
+      one_written row (drop 1 all) index x c.loop-index.invariant.0 (behind_first all index x c.square_at-square.ensures)
+          (omega (arith, c.loop-index.invariant.1, c.requires.capacity, c.loop-index-test.true, c.loop-index.auto.index-end)),
+      length-set row index x ∙ c.loop-index.invariant.1,
     )

@@ -6,31 +6,31 @@ use Rattle.store.specs.inside.KeyRows.{high_bytes, low_bytes, padded}
 use Rattle.store.proofs.Bytes.{first_written, more_written}
 use Rattle.store.proofs.key.write_short.Goals as goal
 
-pub loop-place-init : goal.loop-place-init
-loop-place-init c = (
+pub loop-index-init : goal.loop-index-init
+loop-index-init c = (
   (λ i. set (c.requires.low i) 0 (c.low_byte-first.ensures i)) ∙ first_written SHORT (c.args.player % 256) (omega arith),
   (λ i. set (c.requires.high i) 0 (c.high_byte-first_high.ensures i)) ∙ first_written SHORT (c.args.player / 256) (omega arith),
 )
 
-pub loop-place-preserved : goal.loop-place-preserved
-loop-place-preserved c =
-    let place = c.loop-place.place in let boxes = c.args.boxes.now in let x = c.index-boxes-place.result in
-    let test = c.loop-place-test.true in let end = c.min-place-end.ensures in let room = c.requires.room in
-    let inside : place < length boxes = omega (arith, test, end, room) in
-    let more : take (place + 1) boxes ≡ take place boxes ++ x ∷ [] = take_more boxes place x inside ∙
-    ap (λ y. take place boxes ++ y ∷ []) (sym c.index-boxes-place.is) in (
-      (λ i. set c.loop-place.low (place + 1) (c.low_byte-byte.ensures i))
-          ∙ more_written (λ y. y % 256) SHORT place c.args.player x boxes c.loop-place.low c.loop-place.invariant.0 more inside (omega (arith, inside, room)),
-      (λ i. set c.loop-place.high (place + 1) (c.high_byte-most.ensures i))
-          ∙ more_written (λ y. y / 256) SHORT place c.args.player x boxes c.loop-place.high c.loop-place.invariant.1 more inside (omega (arith, inside, room)),
+pub loop-index-preserved : goal.loop-index-preserved
+loop-index-preserved c =
+    let index = c.loop-index.index in let boxes = c.args.boxes.now in let x = c.index-boxes-index.result in
+    let test = c.loop-index-test.true in let end = c.min-index-end.ensures in let room = c.requires.capacity in
+    let inside : index < length boxes = omega (arith, test, end, room) in
+    let more : take (index + 1) boxes ≡ take index boxes ++ x ∷ [] = take_more boxes index x inside ∙
+    ap (λ y. take index boxes ++ y ∷ []) (sym c.index-boxes-index.is) in (
+      (λ i. set c.loop-index.low (index + 1) (c.low_byte-byte.ensures i))
+          ∙ more_written (λ y. y % 256) SHORT index c.args.player x boxes c.loop-index.low c.loop-index.invariant.0 more inside (omega (arith, inside, room)),
+      (λ i. set c.loop-index.high (index + 1) (c.high_byte-most.ensures i))
+          ∙ more_written (λ y. y / 256) SHORT index c.args.player x boxes c.loop-index.high c.loop-index.invariant.1 more inside (omega (arith, inside, room)),
     )
 
 pub returns-clause-low : goal.returns-clause-low
 returns-clause-low c =
-    c.loop-place.invariant.0 ∙ ap (λ xs. padded SHORT (low_bytes (c.args.player ∷ xs)))
-    (take_short c.args.boxes.now c.loop-place.place (omega (arith, c.loop-place-test.false, c.min-place-end.ensures, c.requires.room)))
+    c.loop-index.invariant.0 ∙ ap (λ xs. padded SHORT (low_bytes (c.args.player ∷ xs)))
+    (take_short c.args.boxes.now c.loop-index.index (omega (arith, c.loop-index-test.false, c.min-index-end.ensures, c.requires.capacity)))
 
 pub returns-clause-high : goal.returns-clause-high
 returns-clause-high c =
-    c.loop-place.invariant.1 ∙ ap (λ xs. padded SHORT (high_bytes (c.args.player ∷ xs)))
-    (take_short c.args.boxes.now c.loop-place.place (omega (arith, c.loop-place-test.false, c.min-place-end.ensures, c.requires.room)))
+    c.loop-index.invariant.1 ∙ ap (λ xs. padded SHORT (high_bytes (c.args.player ∷ xs)))
+    (take_short c.args.boxes.now c.loop-index.index (omega (arith, c.loop-index-test.false, c.min-index-end.ensures, c.requires.capacity)))

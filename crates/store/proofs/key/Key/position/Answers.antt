@@ -5,6 +5,6 @@ use Rattle.store.proofs.key.Key.position.Goals as goal
 
 pub of_rising-requires-clause-rising : goal.of_rising-requires-clause-rising
 of_rising-requires-clause-rising g c =
-    ap is_rising (c.as_slice.ensures.value ∙ c.loop-place.invariant.0 ∙
-    take_short c.args.self.now.boxes c.loop-place.place (omega (arith, c.loop-place-test.false, c.loop-place.invariant.1, c.loop-place.auto.place-end))) ∙
-    c.len-place-end.ensures.rising
+    ap is_rising (c.as_slice.ensures.value ∙ c.loop-index.invariant.0 ∙
+    take_short c.args.self.now.boxes c.loop-index.index (omega (arith, c.loop-index-test.false, c.loop-index.invariant.1, c.loop-index.auto.index-end))) ∙
+    c.len-index-end.ensures.rising

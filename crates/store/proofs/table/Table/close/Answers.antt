@@ -1,6 +1,6 @@
 use Rattle.std.proofs.Common.{◌∙◌}
 use Rattle.store.specs.FoundView.{found_view}
-use Rattle.store.proofs.Inboxes.{all_closed, on_err}
+use Rattle.store.proofs.PendingOffers.{all_closed, on_err}
 use Rattle.store.proofs.table.Table.close.Goals as goal
 
 pub returns-in_err-arrange-clause-err : goal.returns-in_err-arrange-clause-err

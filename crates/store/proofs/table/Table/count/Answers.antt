@@ -1,6 +1,6 @@
 use Rattle.std.proofs.Common.{[], ap, ◌∙◌, arith}
 use Rattle.store.specs.FoundView.{found_view}
-use Rattle.store.proofs.Inboxes.{length-found}
+use Rattle.store.proofs.PendingOffers.{length-found}
 use Rattle.store.proofs.table.Table.count.Goals as goal
 
 pub returns-clause-count : goal.returns-clause-count

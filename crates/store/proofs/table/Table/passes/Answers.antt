@@ -1,6 +1,6 @@
 use Rattle.std.proofs.Common.{rules, [], ap, ◌∙◌, arith}
 use Rattle.store.specs.FoundView.{found_view}
-use Rattle.store.proofs.Inboxes.{length-found, within_limit, counted_limit}
+use Rattle.store.proofs.PendingOffers.{length-found, within_limit, counted_limit}
 use Rattle.store.proofs.Bytes.{found_suit}
 use Rattle.store.proofs.table.Table.passes.Goals as goal
 use Rattle.std.proofs.Common.{[], ap, ◌∙◌, arith}
@@ -14,7 +14,7 @@ count_new-requires g c =
         (
           c.requires.shares,
           (
-            found_suit g.row.N g.row.M a.boxes a.squares a.start a.table.entries a.inbox.items c.args.self.now c.args.successors.now c.self.invariant.1
+            found_suit g.row.N g.row.M a.boxes a.squares a.start a.table.entries a.pending.items c.args.self.now c.args.successors.now c.self.invariant.1
                 c.self.view_is c.requires.few,
             c.enter_all.ensures.found.found,
           ),
@@ -22,22 +22,22 @@ count_new-requires g c =
       ),
     )
 
-pub overflow_sub-room : goal.overflow_sub-room
-overflow_sub-room g c =
+pub overflow_sub-left : goal.overflow_sub-left
+overflow_sub-left g c =
     let a = c.self.inside in
-    let n = length-found a.boxes a.squares a.start a.table.entries a.inbox.items c.args.self.now c.self.invariant.2.found c.self.view_is in
+    let n = length-found a.boxes a.squares a.start a.table.entries a.pending.items c.args.self.now c.self.invariant.2.found c.self.view_is in
     omega (arith, n.0, c.len.ensures.len, c.requires.within)
 
 pub returns-then-len-successors-clause-passed : goal.returns-then-len-successors-clause-passed
 returns-then-len-successors-clause-passed g c = λ rank.
     let a = c.self.inside in
-    let n = length-found a.boxes a.squares a.start a.table.entries a.inbox.items c.args.self.now c.self.invariant.2.found c.self.view_is in
+    let n = length-found a.boxes a.squares a.start a.table.entries a.pending.items c.args.self.now c.self.invariant.2.found c.self.view_is in
     within_limit c.args.limit c.args.shares c.args.share rank c.len.result c.len-2.result c.args.successors.now c.args.self.now
     (omega (arith, n.1, c.len.ensures.len, c.len-2.ensures))
     (omega (arith, n.0, c.len.ensures.len, c.requires.within)) (omega (arith, c.if-len-successors.true))
 
-pub overflow_sub-room-2 : goal.overflow_sub-room-2
-overflow_sub-room-2 g c =
+pub overflow_sub-left-2 : goal.overflow_sub-left-2
+overflow_sub-left-2 g c =
     let a = c.self.inside in
     let n = length-found a.boxes a.squares a.start c.enter_all.new.table.entries [] c.args.self.now c.enter_all.ensures.found.found
     (c.enter_all.ensures.same a.boxes a.squares ∙ c.self.view_is) in
