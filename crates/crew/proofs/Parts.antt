@@ -1,4 +1,4 @@
--- Lists in two parts: books of which some close the next layer before the others, and stretches of which some are merged before
+-- Lists in two parts: books of which some close the next layer before the others, and segments of which some are merged before
 -- the others.
 use Rattle.std.proofs.Common.{◌≡◌, ℕ, ◌<◌, zero, suc, List, [], ◌∷◌, ◌++◌, length, get_or, set, Some, inl, inr, refl, sym, ap, subst, ◌∙◌, arith}
 use Rattle.std.proofs.lemmas.Option.{same_Some, slice_get-get_or}

@@ -6,4 +6,4 @@ pub mod Events
 pub mod Iterations
 pub mod Shifts
 pub mod States
-pub mod Stretched
+pub mod Segmented

@@ -1,23 +1,23 @@
-//! Joining a layer from its books in stretches, side by side.
+//! Joining a layer from its books in segments, side by side.
 ghost use Rattle.std.specs.Prelude.{◌<◌, ◌≤◌, IfOk, length};
 ghost use Rattle.layers.specs.Books.{AreAllShares, IsJoinOf};
-ghost use Rattle.layers.specs.inside.Merging.{IsStretchOf};
-ghost use Rattle.crew.specs.inside.Stretched.{AreStretchesOf};
+ghost use Rattle.layers.specs.inside.Merging.{IsSegmentOf};
+ghost use Rattle.crew.specs.inside.Segmented.{AreSegmentsOf};
 
 use grid::Square;
-use layers::{Book, JoinFault, Layer, Stretch};
+use layers::{Book, JoinFault, Layer, Segment};
 use solo::turn::last_layer;
 use spreading::for_each_spread;
 use std::alloc::{AllocError, Global};
 use std::thread::Threads;
 
-// The least number of positions of a stretch. Fewer are merged in less time than a thread takes to start.
+// The least number of positions of a segment. Fewer are merged in less time than a thread takes to start.
 const LEAST: usize = 4096;
 
-// The greatest number of stretches that are merged side by side: more threads take more memory.
+// The greatest number of segments that are merged side by side: more threads take more memory.
 const MOST: u8 = 8;
 
-// The greatest number of rounds in which a layer is merged. The stretches of one round take memory beside those that
+// The greatest number of rounds in which a layer is merged. The segments of one round take memory beside those that
 // were joined before, so they are few beside the whole layer.
 const ROUNDS: usize = 16;
 
@@ -25,7 +25,7 @@ const ROUNDS: usize = 16;
 const LEAST_OF_A_ROUND: usize = 65536;
 
 // The last layer that the books have closed, which are all the shares in order. A large layer is merged in as many
-// stretches as there are workers, each in a thread of its own if one can start, and a very large one in several rounds.
+// segments as there are workers, each in a thread of its own if one can start, and a very large one in several rounds.
 // Its squares take the memory of those of the layer before, as far as it reaches. Fails only if out of memory.
 pub(crate) fn join_layer<R: Threads + Sync>(
     rt: &R,
@@ -41,85 +41,85 @@ pub(crate) fn join_layer<R: Threads + Sync>(
         return last_layer(alloc, books, room);
     }
     let many = workers.min(MOST) as usize;
-    let rounds = Stretch::parts(books, ROUNDS, LEAST_OF_A_ROUND).max(1);
+    let rounds = Segment::parts(books, ROUNDS, LEAST_OF_A_ROUND).max(1);
     let most = rounds.saturating_mul(many);
-    let Ok(mut stretches) = Stretch::all(alloc, books, most, LEAST, room) else {
+    let Ok(mut segments) = Segment::all(alloc, books, most, LEAST, room) else {
         return last_layer(alloc, books, Vec::new(alloc));
     };
-    let stretches = stretches.as_mut_slice();
-    if stretches.is_empty() {
+    let segments = segments.as_mut_slice();
+    if segments.is_empty() {
         return last_layer(alloc, books, Vec::new(alloc));
     }
-    join_side_by_side(rt, alloc, books, stretches, many)
+    join_side_by_side(rt, alloc, books, segments, many)
 }
 
-// The same from stretches, which are merged first, `many` of them side by side.
+// The same from segments, which are merged first, `many` of them side by side.
 fn join_side_by_side<R: Threads + Sync>(
     rt: &R,
     alloc: Global,
     books: &[Book],
-    stretches: &mut [Stretch],
+    segments: &mut [Segment],
     many: usize,
 ) -> Result<Layer, AllocError>
     requires all { AreAllShares books.now }
-    requires some { 0 < length stretches.old }
+    requires some { 0 < length segments.old }
     requires many { 1 ≤ many }
     ensures { IfOk result (λ layer. IsJoinOf books.now layer) }
 {
-    let (first, rest) = stretches.split_at_mut(many.min(stretches.len()));
+    let (first, rest) = segments.split_at_mut(many.min(segments.len()));
     merge_each(rt, alloc, books, first);
     let (whole, others) = first.split_at_mut(1);
     gather(books, whole, others);
     append_in_rounds(rt, alloc, books, whole, rest, many);
-    match Layer::join_stretches(alloc, books, whole) {
+    match Layer::join_segments(alloc, books, whole) {
         Ok(layer) => Ok(layer),
         Err(JoinFault::NotWhole) => unreachable!(),
         Err(JoinFault::OutOfMemory) => Err(AllocError),
     }
 }
 
-// Merges stretches, `many` of them side by side, and appends these to the whole before it merges the next ones.
+// Merges segments, `many` of them side by side, and appends these to the whole before it merges the next ones.
 fn append_in_rounds<R: Threads + Sync>(
     rt: &R,
     alloc: Global,
     books: &[Book],
-    whole: &mut [Stretch],
-    stretches: &mut [Stretch],
+    whole: &mut [Segment],
+    segments: &mut [Segment],
     many: usize,
 )
     requires one { 0 < length whole.old }
-    requires whole { AreStretchesOf books.now whole.old }
+    requires whole { AreSegmentsOf books.now whole.old }
     requires many { 1 ≤ many }
-    ensures { AreStretchesOf books.now whole.new }
+    ensures { AreSegmentsOf books.now whole.new }
 {
-    if stretches.is_empty() {
+    if segments.is_empty() {
         return;
     }
-    let (next, rest) = stretches.split_at_mut(many.min(stretches.len()));
+    let (next, rest) = segments.split_at_mut(many.min(segments.len()));
     merge_each(rt, alloc, books, next);
     gather(books, whole, next);
     append_in_rounds(rt, alloc, books, whole, rest, many);
 }
 
-// Appends other stretches to the first of `whole`.
-fn gather(books: &[Book], whole: &mut [Stretch], others: &mut [Stretch])
+// Appends other segments to the first of `whole`.
+fn gather(books: &[Book], whole: &mut [Segment], others: &mut [Segment])
     requires one { 0 < length whole.old }
-    requires whole { AreStretchesOf books.now whole.old }
-    requires others { AreStretchesOf books.now others.old }
-    ensures { AreStretchesOf books.now whole.new }
+    requires whole { AreSegmentsOf books.now whole.old }
+    requires others { AreSegmentsOf books.now others.old }
+    ensures { AreSegmentsOf books.now whole.new }
 {
     whole[0].append_all(books, others);
 }
 
-// Merges each of the stretches, in a thread of its own if one can start.
-fn merge_each<R: Threads + Sync>(rt: &R, alloc: Global, books: &[Book], stretches: &mut [Stretch])
-    ensures { AreStretchesOf books.now stretches.new }
+// Merges each of the segments, in a thread of its own if one can start.
+fn merge_each<R: Threads + Sync>(rt: &R, alloc: Global, books: &[Book], segments: &mut [Segment])
+    ensures { AreSegmentsOf books.now segments.new }
 {
     for_each_spread(
         rt,
-        stretches,
-        &|_, stretch: &mut Stretch|
-            ensures { IsStretchOf books.entry.now stretch.exit.now }
-        { stretch.merge(alloc, books) },
+        segments,
+        &|_, segment: &mut Segment|
+            ensures { IsSegmentOf books.entry.now segment.exit.now }
+        { segment.merge(alloc, books) },
     );
 }

@@ -56,7 +56,7 @@ fn enter_into(book: &mut Book, held: &AtomicU64) -> bool
     ensures { book.new ≡ book.old }
 {
     let before = book.positions_at_least();
-    let entered = book.enter_waiting(LEAST);
+    let entered = book.enter_pending(LEAST);
     tell_growth(held, before, book.positions_at_least());
     entered
 }

@@ -1,4 +1,4 @@
--- What a result says of its call.
+-- What a result shows of its call.
 use Rattle.std.proofs.Common.{◌≡◌, true, false, Result, Ok, Err, is_err}
 use Rattle.std.specs.Prelude.{OnOk, OnErr}
 

@@ -10,6 +10,6 @@ pub mod Histories
 pub mod Ordered
 pub mod Merged
 pub mod Joined
-pub mod Stretches
+pub mod Segments
 pub mod Expanded
 pub mod Marking

@@ -1,4 +1,4 @@
--- What stands open while a layer is made: one offered origin more, and all of them.
+-- The open positions while a layer is made: one offered origin more, and all of them.
 use Rattle.std.proofs.Common.{◌≡◌, ℕ, ◌<◌, ◌≤◌, false, List, Option, Some, None, ◌⊎◌, inl, inr, refl, sym, ap, subst, ◌∙◌, if◌then◌else◌}
 use Rattle.std.proofs.lemmas.Cmp.{upto, tied_itself}
 use Rattle.std.proofs.lemmas.Option.{same_Some, none-some}
@@ -152,7 +152,7 @@ module _ {N P : Type 0} {cmp : P → P → Ordering} {Edge : N → P → N → T
           upto (origin_total total) (best cmp (look m₀) (r₀, p₀)) a (s, q) (best_old total (look m₀) a (r₀, p₀) e)
           (o.least m₀ a.0 a.1 e s q n given at_s edge_s)
 
--- what stands open once every origin was offered, in the order of the origins, is the next layer's entries
+-- the open positions after every origin was offered, in the order of their origins, are the next layer
 pub closed_next : {N P : Type 0} {cmp : P → P → Ordering} {Edge : N → P → N → Type 0} {Kept : N → Type 0} {layer : ℕ → List N} {k : ℕ} {Offered : ℕ → P →
     Type 0} {look : N → Option (Origin P)} → IsOpen cmp Edge Kept layer k Offered look →
     ((r : ℕ) (n : N) (p : P) → slice_get (layer k) r ≡ Some n → Offered r p) → (ys : List (Entry N P)) →

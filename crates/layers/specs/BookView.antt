@@ -1,4 +1,4 @@
--- What contracts see of a book, and what is true of each: a book is lawful.
+-- What contracts see of a book, and the invariant of each: a book is lawful.
 use Rattle.std.specs.Prelude.{◌≡◌, ℕ, zero, suc, ◌+◌, ◌-◌, ◌^◌, ◌<◌, ◌≤◌, Bool, true, false, List, [], length, map, sum}
 use Rattle.std.specs.Prelude.{take, count_by, slice_get}
 use Rattle.std.specs.Prelude.{slice_index_or, Option, None, Some}
@@ -20,7 +20,7 @@ use Rattle.layers.specs.Origins.{HasOrigin}
 use Rattle.successors.specs.Shares.{share_of}
 
 -- a book: what it was made with, the level with its cap first; its closed layers, layer 0 first; whether the last one
--- has begun, and then marks over its ranks; the positions that stand open, each with its least origin; for each
+-- has begun, and then marks over its ranks; the open positions, each with its least origin; for each
 -- worker the number of ranks that it handed back; and whether the limit was passed
 pub record BookView : Type 0 where
   pub level : Task
@@ -75,7 +75,7 @@ pub record AreSharesOfLayer (task : Task) (shares k : ℕ) (lists : List (List C
 abbrev pub IsDone : BookView → ℕ → Type 0
 IsDone v r = slice_index_or v.done r false ≡ true
 
--- so many positions of the share lie in the layer after the last closed one that the limit is passed
+-- with those of the next layer, the book's share has more positions than the limit
 pub record IsPassed (v : BookView) : Type 0 where
   pub places : List Scene
   pub distinct : AreDistinct places

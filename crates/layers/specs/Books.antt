@@ -1,4 +1,4 @@
--- The events of a book: each gives the book after it as a function of the book before, and says what it leaves.
+-- The events of a book. Each defines the book after it as a function of the book before.
 use Rattle.std.specs.Prelude.{◌≡◌, ◌≢◌, ℕ, suc, ◌+◌, ◌<◌, ◌≤◌, Bool, true, false, ◌==◌, ◌&&◌, not, List, [], ◌∷◌, ◌++◌}
 use Rattle.std.specs.Prelude.{length, fold, replicate, slice_get}
 use Rattle.std.specs.Prelude.{slice_index_or, slice_set, Option, None, Some, ◌⊎◌}
@@ -44,7 +44,7 @@ pub record IsNew (task : Task) (limit workers share shares : ℕ) (v : BookView)
   pub tallies : v.tallies ≡ replicate workers 0
   pub over : v.over ≡ false
 
--- each of the books is new, and is the share of its place in the list
+-- each of the books is new, and is the share of its index in the list
 abbrev pub AreNewInOrder : Task → ℕ → ℕ → ℕ → List BookView → Type 0
 AreNewInOrder task limit workers shares books =
     (i : ℕ) (v : BookView) → slice_get books i ≡ Some v → IsNew task limit workers i shares v
@@ -53,12 +53,12 @@ AreNewInOrder task limit workers shares books =
 abbrev pub AreNewShares : Task → ℕ → ℕ → ℕ → List BookView → Type 0
 AreNewShares task limit workers shares books = (length books ≡ shares) × AreNewInOrder task limit workers shares books
 
--- why no book is made
+-- why a book is not made
 abbrev pub BookRefused : Board → BookFault → Type 0
 BookRefused board TooManyBoxes = MAX_BOXES < box_count board
 BookRefused board BookOutOfMemory = box_count board ≤ MAX_BOXES
 
--- the position at a place of a closed layer's list
+-- the position at an index of a closed layer's list
 abbrev pub closed_place : List (List Closed) → ℕ → ℕ → Option Scene
 closed_place lists k i = slice_get (places_of (slice_index_or lists k [])) i
 
@@ -72,12 +72,12 @@ MayBegin v layer = (layer.level ≡ v.level) × (layer.number ≡ last_layer v) 
 abbrev pub HasBegun : BookView → LayerView → Type 0
 HasBegun v layer = (layer.level ≡ v.level) × (layer.number ≡ last_layer v) × (v.begun ≡ true)
 
--- after a begin all ranks of the layer are free, and nothing stands open
+-- after a begin all ranks of the layer are free, and no position is open
 abbrev pub with_begun : BookView → ℕ → BookView
 with_begun v ranks =
     record v { begun = true; claimed = replicate ranks false; done = replicate ranks false; waiting = [] }
 
--- why a begin is refused; of two reasons the first in this order
+-- why a begin is refused; if two reasons apply, the first in this order
 abbrev pub BeginRefused : BookView → LayerView → BeginFault → Type 0
 BeginRefused v layer BeginOtherLevel = ¬ (layer.level ≡ v.level)
 BeginRefused v layer BeginOtherLayer = (layer.level ≡ v.level) × ((layer.number ≢ last_layer v) ⊎ (v.begun ≡ true))
@@ -93,8 +93,8 @@ IsTaken v r = (slice_index_or v.claimed r false ≡ true) ⊎ (slice_index_or v.
 abbrev pub IsFreeRank : BookView → ℕ → Type 0
 IsFreeRank v r = (slice_get v.claimed r ≡ Some false) × (slice_get v.done r ≡ Some false)
 
--- a claim answers the least rank that is neither claimed nor done, and then that rank is claimed; or nothing, where
--- each rank is taken, and so where nothing has begun
+-- a claim gives the least rank that is neither claimed nor done, and marks it claimed; or nothing, if each rank is
+-- taken, and so if nothing has begun
 abbrev pub ClaimAnswer : BookView → Option Claim → BookView → Type 0
 ClaimAnswer v None after = ((r : ℕ) → r < length v.done → IsTaken v r) × (after ≡ v)
 ClaimAnswer v (Some claim) after =
@@ -113,7 +113,7 @@ is_closed lists m = list_any (λ es. list_any (λ e. same_scene m e.0) es) lists
 abbrev pub is_wanted : BookView → Scene → Bool
 is_wanted v m = (share_of v.shares m == v.share) && not (is_closed v.closed m)
 
--- what stands open once the successors of a rank have entered
+-- the open positions after the successors of a rank have entered
 abbrev pub all_entered : BookView → ℕ → List Successor → List (Entry Scene Push)
 all_entered v rank ss = fold (entered (is_wanted v) rank) v.waiting ss
 
@@ -134,12 +134,12 @@ abbrev pub PassesLimit : BookView → ParcelView → Type 0
 PassesLimit v parcel =
     (v.over ≡ true) ⊎ (v.limit < total v.closed + length (all_entered v parcel.rank parcel.successors))
 
--- nothing but want of memory stands in the parcel's way
+-- only running out of memory can refuse the parcel
 abbrev pub MayEnter : BookView → ParcelView → Type 0
 MayEnter v parcel = IsAtWork v parcel × (slice_get v.done parcel.rank ≡ Some false) × (v.over ≡ false)
     × (total v.closed + length (all_entered v parcel.rank parcel.successors) ≤ v.limit)
 
--- why a parcel is refused; of several reasons the first in this order
+-- why a parcel is refused; if several reasons apply, the first in this order
 abbrev pub HandBackRefused : BookView → ParcelView → Refusal → Type 0
 HandBackRefused v parcel OtherLevel = ¬ (parcel.level ≡ v.level)
 HandBackRefused v parcel OtherLayer = (parcel.level ≡ v.level) × (parcel.layer ≢ last_layer v)
@@ -149,7 +149,7 @@ HandBackRefused v parcel Double = IsAtWork v parcel × (slice_get v.done parcel.
 HandBackRefused v parcel Over = IsAtWork v parcel × (slice_get v.done parcel.rank ≡ Some false) × PassesLimit v parcel
 HandBackRefused v parcel OutOfMemory = MayEnter v parcel
 
--- a refused parcel changes nothing, but Over marks the book over
+-- a refused parcel changes nothing, except that Over marks the book over
 abbrev pub after_refusal : BookView → Refusal → BookView
 after_refusal v OtherLevel = v
 after_refusal v OtherLayer = v
@@ -170,11 +170,11 @@ with_reopened v = record v { claimed = v.done }
 abbrev pub AllDone : BookView → Type 0
 AllDone v = (v.begun ≡ true) × ((r : ℕ) → r < length v.done → IsDone v r)
 
--- the book after a close: what stood open is the next closed list, by rank and push; nothing has begun
+-- the book after a close: the open positions are the next closed list, by rank and push; nothing has begun
 abbrev pub with_closed : BookView → List Closed → BookView
 with_closed v es = record v { closed = v.closed ++ es ∷ []; begun = false; claimed = []; done = []; waiting = [] }
 
--- es is what stood open, in the order of the origins
+-- es is the open positions in the order of their origins
 pub record IsSortedOpen (v : BookView) (es : List Closed) : Type 0 where
   pub from : (i : ℕ) (m : Scene) (o : Option (Origin Push)) → slice_get es i ≡ Some (m, o) →
       (p : Origin Push) × (o ≡ Some p) × (lookup (same_scene m) v.waiting ≡ Some p)

@@ -1,4 +1,4 @@
--- What may happen to a book, in any order: its events, each with its answer, and lists of them.
+-- The events of a book, each with its result, and lists of them in any order.
 use Rattle.std.specs.Prelude.{◌≡◌, ℕ, ◌<◌, List, [], ◌∷◌, length, slice_get, Option, Some}
 use Rattle.layers.specs.declared.book.Claim.{Claim}
 use Rattle.layers.specs.declared.book.Closed.{Closed as Report}
@@ -40,7 +40,7 @@ Happens v reopens after = after ≡ with_reopened v
 Happens v (closes report) after = IsClosedBy v report after
 Happens v (close_refused fault) after = CloseRefused v fault × (after ≡ v)
 
--- the events happen one after the other, the first to the book before, and leave the book after
+-- the events happen in order, the first to the book before, and the last leaves the book after
 pub data History : BookView → List Event → BookView → Type 0 where
   nothing : {v : BookView} → History v [] v
   event : {v m w : BookView} {e : Event} {es : List Event} → Happens v e m → History m es w → History v (e ∷ es) w
@@ -50,7 +50,7 @@ abbrev pub AreMadeAlike : BookView → BookView → Type 0
 AreMadeAlike v w =
     (v.level ≡ w.level) × (v.limit ≡ w.limit) × (v.workers ≡ w.workers) × (v.share ≡ w.share) × (v.shares ≡ w.shares)
 
--- each list that v has closed stands in the same place in w
+-- each list that v has closed has the same index in w
 abbrev pub KeepsClosed : BookView → BookView → Type 0
 KeepsClosed v w = (k : ℕ) (es : List Closed) → slice_get v.closed k ≡ Some es → slice_get w.closed k ≡ Some es
 

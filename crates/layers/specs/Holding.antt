@@ -1,4 +1,4 @@
--- How many positions books hold.
+-- The number of positions that books hold.
 use Rattle.std.specs.Prelude.{◌≡◌, ℕ, ◌+◌, List, length, sum_by}
 use Rattle.grid.specs.Board.{Scene}
 use Rattle.successors.specs.Layered.{IsIn}
@@ -7,15 +7,15 @@ use Rattle.successors.specs.Reaching.{total}
 use Rattle.successors.specs.Distances.{AreDistinct, IsAtDistance}
 use Rattle.layers.specs.BookView.{BookView}
 
--- how many positions a book holds: those that are closed and those that stand open
+-- the number of positions of a book: closed and open ones
 abbrev pub held : BookView → ℕ
 held v = total v.closed + length v.waiting
 
--- how many the books hold, each by itself
+-- the sum over books
 abbrev pub all_held : List BookView → ℕ
 all_held books = sum_by held books
 
--- so many different positions of layer k are known
+-- layer k has at least many different positions
 pub record AreManyIn (task : Task) (k many : ℕ) : Type 0 where
   pub places : List Scene
   pub distinct : AreDistinct places

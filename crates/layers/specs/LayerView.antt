@@ -1,4 +1,4 @@
--- What contracts see of a layer, and what is true of each.
+-- What contracts see of a layer, and the invariant of each.
 use Rattle.std.specs.Prelude.{◌≡◌, ℕ, suc, ◌+◌, ◌≤◌, List, [], length, slice_get, Some}
 use Rattle.grid.specs.declared.square.Push.{Push}
 use Rattle.grid.specs.Board.{Scene}

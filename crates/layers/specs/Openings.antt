@@ -1,5 +1,5 @@
--- What stands open while a layer is made, and what the next one is. Over any places N and pushes P, so that nothing
--- here speaks of a board: Edge n p m says that the push p leads from n to m.
+-- The open positions while a search makes a layer, and the next layer. The definitions hold for any positions N and
+-- pushes P: Edge n p m says that the push p leads from n to m.
 use Rattle.std.specs.Prelude.{◌≡◌, ℕ, suc, ◌<◌, ◌≤◌, false, List, length, slice_get, Option, Some, ◌⊎◌, [], ◌∷◌, ◌++◌}
 use Rattle.std.specs.declared.cmp.Ordering.{Ordering}
 use Rattle.std.specs.declared.cmp.Ordering.TheVariants.{Less, Equal}
@@ -24,8 +24,8 @@ pub record IsNext {N P : Type 0} (cmp : P → P → Ordering) (Edge : N → P �
   pub whole : (r : ℕ) (n : N) (p : P) (m : N) → slice_get (layer k) r ≡ Some n → Edge n p m → Kept m →
       ((j : ℕ) × (j ≤ k) × IsIn (layer j) m) ⊎ ((i : ℕ) × (o : Origin P) × (slice_get ys i ≡ Some (m, o)))
 
--- what stands open once some origins were offered: the kept successors that come from them and are in no layer up
--- to k, each with its least origin among them.  look m is the origin that m has, if m stands open.
+-- the open positions after some origins were offered: the kept successors with these origins that are in no layer up to
+-- k, each with its least origin.  look m is the origin of m, if m is open.
 pub record IsOpen {N P : Type 0} (cmp : P → P → Ordering) (Edge : N → P → N → Type 0) (Kept : N → Type 0)
     (layer : ℕ → List N) (k : ℕ) (Offered : ℕ → P →
     Type 0) (look : N → Option (Origin P)) : Type 0 where

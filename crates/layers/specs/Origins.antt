@@ -1,4 +1,4 @@
--- Successors, where a position's lead comes from, and shares.
+-- The origin of a position's lead.
 use Rattle.std.specs.Prelude.{◌≡◌, ℕ, List, [], ◌∷◌, ◌++◌, slice_get, Some}
 use Rattle.grid.specs.declared.square.Push.{Push}
 use Rattle.grid.specs.Board.{Scene}
@@ -7,7 +7,7 @@ use Rattle.successors.specs.Tasks.{Task}
 use Rattle.successors.specs.Reaching.{IsLayerOf}
 use Rattle.layers.specs.Leads.{IsLeadOf}
 
--- m is come to from the rank o.0 of layer k by the push o.1, and so is its lead
+-- the push o.1 leads from rank o.0 of layer k to m, and so does the lead of m
 abbrev pub HasOrigin : Task → ℕ → Scene → Origin Push → Type 0
 HasOrigin task k m o = (xs : List Scene) → IsLayerOf task k xs →
     (n : Scene) × (slice_get xs o.0 ≡ Some n) ×

@@ -12,8 +12,8 @@ use std::sync::Arc;
 use store::Found;
 use successors::Problem;
 
-// This many words are two cache lines, which processors fetch together. Data of two workers that are this far apart
-// share no cache line.
+// The length in words of two cache lines, which processors fetch together. Data of two workers at this distance share
+// no cache line.
 pub(crate) const APART: usize = 16;
 
 /// A rank of a layer that a worker has claimed to expand.
@@ -30,8 +30,8 @@ pub struct Closed {
     pub count: u64,
 }
 
-/// One share of the layers of a problem: the closed layers, marks for the ranks of the last one while its successors
-/// are entered, and the open positions, which will be the next layer.
+/// One share of the layers of a problem: the closed layers, marks for the ranks of the last one while their successors
+/// enter, and the open positions, which become the next layer.
 #[derive(Debug, Drop)]
 pub struct Book {
     pub(crate) problem: Arc<Problem>,
@@ -39,7 +39,7 @@ pub struct Book {
     pub(crate) workers: u8,
     pub(crate) share: u8,
     pub(crate) shares: u8,
-    // the fields that each parcel needs are together, so that few cache lines move between processors
+    // fields that each parcel reads or writes are together, so that few cache lines move between processors
     pub(crate) begun: bool,
     pub(crate) over: bool,
     pub(crate) done: Marks,
@@ -68,7 +68,7 @@ impl Model for Book {
 }
 
 impl Book {
-    /// A lemma: what is true of every book. It does nothing.
+    /// A lemma: the invariant of every book. It does nothing.
     pub fn tell(&self)
         ensures { IsLawfulBook self.now }
     {
@@ -82,14 +82,14 @@ impl Book {
         self.problem.level()
     }
 
-    /// The greatest number of pushes of a solution; `None` if no cap is set.
+    /// The cap: the greatest number of pushes of a solution; `None` if no cap is set.
     pub fn cap(&self) -> Option<u32>
         ensures { result ≡ self.now.level.cap }
     {
         self.problem.cap()
     }
 
-    /// Whether the book has a layer's level and cap.
+    /// Whether the book and a layer have the same level and cap.
     pub fn is_of_layer(&self, layer: &Layer) -> bool
         ensures { IsTrue result ↔ (self.now.level ≡ layer.now.level) }
     {
@@ -147,18 +147,18 @@ impl Book {
     }
 
     /// The position at an index of a closed layer's list; `None` beyond the closed lists.
-    pub fn closed_at(&self, layer: u64, place: u64) -> Option<Position>
-        ensures { result ≡ closed_place self.now.closed layer place }
+    pub fn closed_at(&self, layer: u64, index: u64) -> Option<Position>
+        ensures { result ≡ closed_place self.now.closed layer index }
     {
         let (from, to) = piece_of(self.starts.as_slice(), self.found.closed_len(), layer)?;
-        if place >= (to - from) as u64 {
+        if index >= (to - from) as u64 {
             return None;
         }
-        self.found.closed_at(from + place as usize)
+        self.found.closed_at(from + index as usize)
     }
 }
 
-// The bounds of a piece of a list that is cut at these places; `None` beyond the pieces.
+// The bounds of a piece of a list that is cut at the indices `starts`; `None` beyond the pieces.
 pub(crate) fn piece_of(starts: &[usize], len: usize, piece: u64) -> Option<(usize, usize)>
     requires { AreCuts starts.now len }
     ensures piece { MatchOption result (length starts.now ≤ piece) (λ r. IsPiece starts.now len piece r.0 r.1) }
@@ -171,7 +171,7 @@ pub(crate) fn piece_of(starts: &[usize], len: usize, piece: u64) -> Option<(usiz
     }
 }
 
-// The beginning of the last piece of a list that is cut at these places.
+// The first index of the last piece of a list that is cut at the indices `starts`.
 pub(crate) fn last_start(starts: &[usize]) -> usize
     requires { 0 < length starts.now }
     ensures { slice_get starts.now (length starts.now - 1) ≡ Some result }

@@ -62,10 +62,10 @@ impl Book {
         None
     }
 
-    /// Accepts the successors of a rank, which need not have been claimed. The rank is then done, the worker's tally is
-    /// one more, and the successors of the book's share that are in no closed layer are open, each with the least rank
-    /// and push that has come. If the book would hold more positions than its limit, the error is `Over` from then on,
-    /// and the book is marked over. Every other error leaves it unchanged.
+    /// Accepts the successors of a rank, whether or not a worker claimed it. It marks the rank done and adds one to the
+    /// worker's tally. The successors of the book's share that are in no closed layer are then open, each with the
+    /// least rank and push so far. If the book would hold more positions than its limit, this marks it over, and the
+    /// error is `Over` from then on. Every other error leaves the book unchanged.
     pub fn hand_back(&mut self, worker: u8, parcel: &Parcel<'_>) -> Result<(), Refusal>
         requires { worker < self.old.workers }
         ensures may { OnOk result (MayEnter self.old parcel.now) }
@@ -94,7 +94,7 @@ impl Book {
             self.over = true;
             return Err(Refusal::Over);
         }
-        // the last worker number belongs to the caller, who does what the others left
+        // the last worker number belongs to the caller, which does the ranks that the workers left
         let most = most_pending(worker, self.workers - 1, self.share, self.shares);
         if self
             .found
@@ -107,7 +107,7 @@ impl Book {
         Ok(())
     }
 
-    // Why the book refuses a parcel, whatever it holds: it is of no free rank of the layer at work.
+    // The reason to refuse a parcel without a look at its successors: its rank is not one that is still to be done.
     fn refusal_of(&self, parcel: &Parcel<'_>) -> Option<Refusal>
         ensures none { IfNone result (IsAtWork self.now parcel.now ×
             (slice_get self.now.done parcel.now.rank ≡ Some false)) }
@@ -135,7 +135,7 @@ impl Book {
         self.next = 0;
     }
 
-    /// Closes the next layer, once each rank of the layer at work is done: the open positions become its list, in the
+    /// Closes the next layer, if each rank of the layer at work is done: the open positions become its list, in the
     /// order of ranks and pushes. An error leaves the book unchanged.
     pub fn close(&mut self) -> Result<Closed, CloseFault>
         ensures ok { IfOk result (λ closed. IsClosedBy self.old closed self.new) }
@@ -167,14 +167,14 @@ impl Book {
 }
 
 // Appends an index to a list that has capacity for it.
-fn push_within(places: &mut Vec<usize>, place: usize)
-    requires { vec_len places.old < vec_capacity places.old }
-    ensures { places.new.items ≡ places.old.items ++ place ∷ [] }
+fn push_within(indices: &mut Vec<usize>, index: usize)
+    requires { vec_len indices.old < vec_capacity indices.old }
+    ensures { indices.new.items ≡ indices.old.items ++ index ∷ [] }
 {
-    let _ = places.push(place);
+    let _ = indices.push(index);
 }
 
-// Whether none of a parcel's successors is of the share, if they are dealt to that number of shares.
+// Whether no successor of a parcel is of the share. Returns `false` if the parcel is not dealt to `shares` shares.
 fn brings_nothing(parcel: &Parcel<'_>, share: u8, shares: u8) -> bool
     requires { share < shares }
     ensures { result ≡ true → successor_places shares share parcel.now.successors ≡ [] }
@@ -185,7 +185,7 @@ fn brings_nothing(parcel: &Parcel<'_>, share: u8, shares: u8) -> bool
     }
 }
 
-// Marks a rank done, and adds one to the worker's tally.
+// Marks a rank done and adds one to the worker's tally.
 #[inline(always)]
 fn mark(done: &mut Marks, tallies: &mut Vec<u64>, worker: u8, rank: usize)
     requires rank { slice_get done.old rank ≡ Some false }

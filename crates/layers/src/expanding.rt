@@ -9,8 +9,8 @@ use area::Scratch;
 use doom::{Bound, Dead};
 use successors::{Parcel, Problem, Source};
 
-/// The undoomed successors of the position with a rank of the layer, in the order of their pushes; where a cap is set,
-/// those alone from which the level may be solved within it, by the bound. Takes no memory.
+/// The undoomed successors of the position with a rank of the layer, in the order of their pushes. Under a cap it
+/// leaves out those from which, by the bound, no solution keeps the cap. Takes no memory.
 pub fn expand<'a>(
     layer: &'a Layer,
     dead: &Dead,
@@ -31,8 +31,8 @@ pub fn expand<'a>(
     Parcel::of(layer.level(), &source, dead, Some(bound), scratch)
 }
 
-/// The parcel that [`expand`] gives, with the dead squares and the bound of the layer's problem. The problem is passed
-/// by itself so that the parcel may outlive the layer. Takes no memory.
+/// The parcel that [`expand`] gives, with the dead squares and the bound of the layer's problem. The problem is a
+/// parameter so that the parcel may outlive the layer. Takes no memory.
 pub fn expand_over<'a>(
     problem: &'a Problem,
     layer: &Layer,
@@ -57,7 +57,7 @@ pub fn expand_over<'a>(
     )
 }
 
-/// Makes an existing parcel, of whichever layer, the one that [`expand_over`] gives. Takes no memory.
+/// Overwrites a parcel, of any layer, with the one that [`expand_over`] gives. Takes no memory.
 pub fn expand_over_into<'a>(
     problem: &'a Problem,
     layer: &Layer,
@@ -78,7 +78,7 @@ pub fn expand_over_into<'a>(
     parcel.fill(problem, &source, scratch);
 }
 
-// The position with a rank of the layer, and where it stands.
+// The position with a rank of the layer, with its layer and rank.
 fn source_of(layer: &Layer, rank: u64) -> Source
     requires { rank < length layer.now.places }
     ensures source { IsSource layer.now.level.board result }

@@ -4,13 +4,13 @@ use grid::MAX_BOXES;
 use std::alloc::AllocError;
 use thiserror::Error;
 
-/// Why no book was made.
+/// Why a book was not made.
 #[derive(Clone, Copy, PartialEq, Eq, Debug, Drop, Error)]
 pub enum BookFault {
     /// The level has more boxes than [`MAX_BOXES`](grid::MAX_BOXES).
     #[error("more than {MAX_BOXES} boxes")]
     TooManyBoxes,
-    /// Memory was refused.
+    /// Out of memory.
     #[error("out of memory")]
     OutOfMemory,
 }
@@ -25,16 +25,16 @@ impl From<AllocError> for BookFault {
     }
 }
 
-/// Why a layer was not begun. Of several reasons the first in this order is the one that is answered.
+/// Why a layer was not begun. If several reasons apply, the first in this order is reported.
 #[derive(Clone, Copy, PartialEq, Eq, Debug, Drop, Error)]
 pub enum BeginFault {
-    /// The layer is of another level, or of another cap of pushes.
+    /// The layer is of another level or cap.
     #[error("the layer is of another level")]
     OtherLevel,
     /// The layer is not the last closed one, or it has begun.
     #[error("the layer is not the last closed one, or has begun")]
     OtherLayer,
-    /// Memory was refused.
+    /// Out of memory.
     #[error("out of memory")]
     OutOfMemory,
 }
@@ -49,10 +49,10 @@ impl From<AllocError> for BeginFault {
     }
 }
 
-/// Why a parcel was not accepted. Of several reasons the first in this order is the one that is answered.
+/// Why a parcel was not accepted. If several reasons apply, the first in this order is reported.
 #[derive(Clone, Copy, PartialEq, Eq, Debug, Drop, Error)]
 pub enum Refusal {
-    /// The parcel is of another level, or of another cap of pushes.
+    /// The parcel is of another level or cap.
     #[error("the parcel is of another level")]
     OtherLevel,
     /// The parcel is not of the last closed layer.
@@ -67,7 +67,7 @@ pub enum Refusal {
     /// The book would hold more positions than its limit, or has been over before.
     #[error("more positions than the limit")]
     Over,
-    /// Memory was refused.
+    /// Out of memory.
     #[error("out of memory")]
     OutOfMemory,
 }
@@ -82,13 +82,13 @@ impl From<AllocError> for Refusal {
     }
 }
 
-/// Why a layer was not closed. Of several reasons the first in this order is the one that is answered.
+/// Why a layer was not closed. If several reasons apply, the first in this order is reported.
 #[derive(Clone, Copy, PartialEq, Eq, Debug, Drop, Error)]
 pub enum CloseFault {
     /// A rank is not done, or nothing has begun.
     #[error("a rank is not done")]
     NotAll,
-    /// Memory was refused.
+    /// Out of memory.
     #[error("out of memory")]
     OutOfMemory,
 }
@@ -103,14 +103,14 @@ impl From<AllocError> for CloseFault {
     }
 }
 
-/// Why books were not joined. Of several reasons the first in this order is the one that is answered.
+/// Why books were not joined. If several reasons apply, the first in this order is reported.
 #[derive(Clone, Copy, PartialEq, Eq, Debug, Drop, Error)]
 pub enum JoinFault {
     /// The books are not all the shares, in order, of one level, cap, limit and number of shares, at the same last
     /// closed layer.
     #[error("not all the shares of one book")]
     NotWhole,
-    /// Memory was refused.
+    /// Out of memory.
     #[error("out of memory")]
     OutOfMemory,
 }

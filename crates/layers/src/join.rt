@@ -6,13 +6,13 @@ ghost use Rattle.successors.specs.Reaching.{total};
 ghost use Rattle.std.specs.Bool.{MatchBool};
 ghost use Rattle.layers.specs.BookView.{AreLawfulBooks, last_layer, last_list};
 ghost use Rattle.layers.specs.Books.{AreAllShares, IsJoinOf, IsShareBeside, JoinRefused};
-ghost use Rattle.layers.specs.inside.Merging.{AreKeptOrTaken, AreMerged, IsStretchOf};
+ghost use Rattle.layers.specs.inside.Merging.{AreKeptOrTaken, AreMerged, IsSegmentOf};
 
 use crate::book::{Book, last_start};
 use crate::fault::JoinFault;
 use crate::layer::Layer;
 use crate::merging::merge;
-use crate::stretch::{Stretch, put_together};
+use crate::segment::{Segment, concatenate};
 use grid::{MAX_BOXES, Square};
 use std::alloc::{AllocError, Global};
 use std::sync::Arc;
@@ -27,44 +27,44 @@ impl Layer {
         Layer::join_in(alloc, books, Vec::new(alloc))
     }
 
-    /// The same in the memory of an earlier layer ([`Parents::of`](crate::Parents::of)), so that a search does not
-    /// allocate for each layer.
-    pub fn join_in(alloc: Global, books: &[Book], room: Vec<Square>) -> Result<Layer, JoinFault>
+    /// The same; the squares reuse the memory of an earlier layer ([`Parents::of`](crate::Parents::of)), so that a
+    /// search does not allocate for each layer.
+    pub fn join_in(alloc: Global, books: &[Book], memory: Vec<Square>) -> Result<Layer, JoinFault>
         ensures { MatchResult result (λ layer. IsJoinOf books.now layer) (λ fault. JoinRefused books.now fault) }
     {
         let Some(first) = first_of_all(books) else {
             return Err(JoinFault::NotWhole);
         };
-        match join_all(alloc, books, first, room) {
+        match join_all(alloc, books, first, memory) {
             Ok(layer) => Ok(layer),
             Err(_) => Err(JoinFault::OutOfMemory),
         }
     }
 
-    /// The layer that [`Layer::join`] gives, made of stretches of it if these hold all of it, and otherwise of the
-    /// books. The errors are those of [`Layer::join`]. [`JoinFault::NotWhole`] leaves the stretches unchanged;
+    /// The layer that [`Layer::join`] gives. It is made of its segments if these are merged and complete, and otherwise
+    /// of the books. The errors are those of [`Layer::join`]. [`JoinFault::NotWhole`] leaves the segments unchanged;
     /// otherwise each of them is unchanged or empty.
-    pub fn join_stretches(
+    pub fn join_segments(
         alloc: Global,
         books: &[Book],
-        stretches: &mut [Stretch],
+        segments: &mut [Segment],
     ) -> Result<Layer, JoinFault>
-        requires { (i : ℕ) (s : Stretch) → slice_get stretches.old i ≡ Some s → IsStretchOf books.now s }
+        requires { (i : ℕ) (s : Segment) → slice_get segments.old i ≡ Some s → IsSegmentOf books.now s }
         ensures layer { MatchResult result (λ layer. IsJoinOf books.now layer) (λ fault. JoinRefused books.now fault) }
-        ensures stretches { AreKeptOrTaken stretches.old stretches.new }
-        ensures not_whole { ¬ (AreAllShares books.now) → stretches.new ≡ stretches.old }
+        ensures segments { AreKeptOrTaken segments.old segments.new }
+        ensures not_whole { ¬ (AreAllShares books.now) → segments.new ≡ segments.old }
     {
         let Some(first) = first_of_all(books) else {
             return Err(JoinFault::NotWhole);
         };
-        match join_merged(alloc, books, first, stretches) {
+        match join_merged(alloc, books, first, segments) {
             Ok(Some(layer)) => Ok(layer),
             _ => Layer::join(alloc, books),
         }
     }
 }
 
-// The first of the books, if they are all the shares, in order.
+// The first of the books, if they are all the shares in order.
 fn first_of_all(books: &[Book]) -> Option<&Book>
     ensures { MatchOption result (¬ (AreAllShares books.now)) (λ first. (slice_get books.now 0 ≡ Some first.now) ×
         AreAllShares books.now) }
@@ -76,7 +76,7 @@ fn first_of_all(books: &[Book]) -> Option<&Book>
     Some(first)
 }
 
-// Whether the books, the first of which is given, are all the shares, in order.
+// Whether the books, of which `first` is the first, are all the shares in order.
 fn are_all_shares(books: &[Book], first: &Book) -> bool
     requires { slice_get books.now 0 ≡ Some first.now }
     ensures { MatchBool result (AreAllShares books.now) (¬ (AreAllShares books.now)) }
@@ -84,20 +84,20 @@ fn are_all_shares(books: &[Book], first: &Book) -> bool
     if books.len() != first.shares() as usize {
         return false;
     }
-    for place in 0..books.len() {
-        if !books[place].is_share_beside(first, place) {
+    for index in 0..books.len() {
+        if !books[index].is_share_beside(first, index) {
             return false;
         }
     }
     true
 }
 
-// The last closed layer of all the shares, the first of which is given.
+// The last closed layer of all the shares, of which `first` is the first.
 fn join_all(
     alloc: Global,
     books: &[Book],
     first: &Book,
-    room: Vec<Square>,
+    memory: Vec<Square>,
 ) -> Result<Layer, AllocError>
     requires first { slice_get books.now 0 ≡ Some first.now }
     requires all { AreAllShares books.now }
@@ -105,31 +105,32 @@ fn join_all(
 {
     tell_all(books);
     let boxes = first.boxes();
-    let rows = merged_rows(alloc, books, boxes, room)?;
+    let rows = merged_rows(alloc, books, boxes, memory)?;
     layer_of(books, first, rows)
 }
 
-// The same of the stretches, where all of it was merged in them.
+// The same from segments, if these are merged and complete.
 fn join_merged(
     alloc: Global,
     books: &[Book],
     first: &Book,
-    stretches: &mut [Stretch],
+    segments: &mut [Segment],
 ) -> Result<Option<Layer>, AllocError>
     requires first { slice_get books.now 0 ≡ Some first.now }
     requires all { AreAllShares books.now }
-    requires stretches { (i : ℕ) (s : Stretch) → slice_get stretches.old i ≡ Some s → IsStretchOf books.now s }
+    requires segments { (i : ℕ) (s : Segment) → slice_get segments.old i ≡ Some s → IsSegmentOf books.now s }
     ensures layer { IfOk result (λ found. IfSome found (λ layer. IsJoinOf books.now layer)) }
-    ensures stretches { AreKeptOrTaken stretches.old stretches.new }
+    ensures segments { AreKeptOrTaken segments.old segments.new }
 {
     tell_all(books);
-    match put_together(alloc, books, stretches)? {
+    match concatenate(alloc, books, segments)? {
         Some(rows) => Ok(Some(layer_of(books, first, rows)?)),
         None => Ok(None),
     }
 }
 
-// The last closed layer of all the shares, the first of which is given, of its positions' squares and origins.
+// The last closed layer of all the shares, of which `first` is the first, from the number of its positions, their
+// squares and their origins.
 fn layer_of(
     books: &[Book],
     first: &Book,
@@ -153,30 +154,30 @@ fn layer_of(
     })
 }
 
-// How many positions the last closed lists of the books have, their squares, in the memory of another list, and their
-// origins, merged by the origins.
+// Merges the last closed lists of the books by their origins: the number of positions, their squares, in `memory`, and
+// their origins.
 fn merged_rows(
     alloc: Global,
     books: &[Book],
     boxes: usize,
-    room: Vec<Square>,
+    memory: Vec<Square>,
 ) -> Result<(usize, Vec<Square>, Vec<Origin>), AllocError>
     requires boxes { boxes ≤ MAX_BOXES }
     requires few { total (map last_list books.now) ≤ MOST_POSITIONS }
     ensures { IfOk result (λ r. AreMerged (map last_list books.now) r.0 r.1.items r.2.items) }
 {
     match books {
-        [book] => book.last_rows(alloc, room),
-        _ => merge(alloc, books, boxes, room),
+        [book] => book.last_rows(alloc, memory),
+        _ => merge(alloc, books, boxes, memory),
     }
 }
 
-// Tells what is true of every book.
+// A lemma: the invariant of each book. It does nothing.
 pub(crate) fn tell_all(books: &[Book])
     ensures { AreLawfulBooks books.now }
 {
-    for place in 0..books.len() {
-        books[place].tell();
+    for index in 0..books.len() {
+        books[index].tell();
     }
 }
 
@@ -189,11 +190,11 @@ impl Book {
         self.problem.boxes()
     }
 
-    // Whether the book is the share with a number beside another book.
-    fn is_share_beside(&self, first: &Book, place: usize) -> bool
-        ensures { IsTrue result ↔ IsShareBeside first.now place self.now }
+    // Whether the book is the share with number `index` of the same books as `first`.
+    fn is_share_beside(&self, first: &Book, index: usize) -> bool
+        ensures { IsTrue result ↔ IsShareBeside first.now index self.now }
     {
-        if self.share as usize != place || !self.problem.is(&first.problem) {
+        if self.share as usize != index || !self.problem.is(&first.problem) {
             return false;
         }
         if self.limit != first.limit || self.shares != first.shares {
@@ -202,18 +203,17 @@ impl Book {
         self.starts.len() == first.starts.len()
     }
 
-    // The squares of the positions of the last closed list, in the memory of another list, and their origins, and how
-    // many they are.
+    // The number of positions of the last closed list, their squares, in `memory`, and their origins.
     fn last_rows(
         &self,
         alloc: Global,
-        room: Vec<Square>,
+        memory: Vec<Square>,
     ) -> Result<(usize, Vec<Square>, Vec<Origin>), AllocError>
         ensures { IfOk result (λ r. AreMerged (last_list self.now ∷ []) r.0 r.1.items r.2.items) }
     {
         let from = last_start(self.starts.as_slice());
         let count = self.found.closed_len() - from;
-        let (squares, origins) = self.found.closed_from(alloc, from, room)?;
+        let (squares, origins) = self.found.closed_from(alloc, from, memory)?;
         Ok((count, squares, origins))
     }
 }

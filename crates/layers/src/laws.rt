@@ -1,5 +1,5 @@
-//! Laws of books that callers may rely on. Each is the contract of a function that does nothing: call it in a proof to
-//! use the law.
+//! Laws of books that callers may rely on. Each is the contract of a function that does nothing; call it to use the law
+//! in a proof.
 ghost use Rattle.std.specs.Prelude.{◌≡◌, ℕ, ◌+◌, ◌<◌, ◌≤◌, List, length, map, sum_by};
 ghost use Rattle.grid.specs.Board.{Scene};
 ghost use Rattle.successors.specs.Tasks.{Task};
@@ -13,10 +13,9 @@ ghost use Rattle.layers.specs.Books.{AreAllShares, HasBegun, IsNew};
 ghost use Rattle.layers.specs.Holding.{AreManyIn, all_held};
 ghost use Rattle.layers.specs.Events.{Event, History, AreMadeAlike, KeepsClosed, CloseAlike};
 
-/// After any list of begins, claims, hand backs, reopens and closes, each with any of its answers, a book that was
-/// lawful is lawful, it has the level and the numbers that it was made with, and each list that was closed stands
-/// where it stood. A parcel that comes twice, too late or from elsewhere is an event that is refused; a claim that
-/// never comes back is one that no hand back follows.
+/// A lawful book stays lawful under any list of begins, claims, hand backs, reopens and closes, each with any of its
+/// results. Its level and numbers stay the same, and each closed list keeps its index. A parcel that comes twice, too
+/// late or from elsewhere is a refused event. A claim whose parcel never comes has no hand back after it.
 pub fn a_book_stays_lawful()
     ensures lawful { (before after : BookView) (events : List Event) → IsLawfulBook before →
         History before events after → IsLawfulBook after }
@@ -26,29 +25,28 @@ pub fn a_book_stays_lawful()
         KeepsClosed before after }
 {}
 
-/// A new book of a lawful level is lawful, and so by [`a_book_stays_lawful`] it is after any list of events.
+/// A new book of a lawful level is lawful, and by [`a_book_stays_lawful`] it stays so under any list of events.
 pub fn a_new_book_is_lawful()
     ensures { (task : Task) (limit workers share shares : ℕ) (book : BookView) → IsLevel task.board →
         AreBounds limit workers share shares →
         IsNew task limit workers share shares book → IsLawfulBook book }
 {}
 
-/// Lawful books of one share of one level and cap have closed the same lists, as far as both have come: in whatever
-/// order the parcels came to each, from whichever workers, however often, and whatever was refused.
+/// Two lawful books of one share of one level and cap have the same list for each layer that both have closed. The
+/// order of parcels, their workers, repetitions and refusals do not matter.
 pub fn the_order_of_events_leaves_no_trace()
     ensures { (one other : BookView) → IsLawfulBook one → IsLawfulBook other → one.level ≡ other.level →
         one.share ≡ other.share → one.shares ≡ other.shares →
         CloseAlike one other }
 {}
 
-/// A lawful book that has begun has marks for exactly the ranks of its last closed layer, whichever worker made or
-/// left them.
+/// A lawful book that has begun has marks for exactly the ranks of its last closed layer, whichever workers set them.
 pub fn a_begun_book_has_the_ranks_of_its_layer()
     ensures { (book : BookView) (layer : LayerView) → IsLawfulBook book → IsWhole layer → HasBegun book layer →
         length book.done ≡ length layer.places }
 {}
 
-/// A layer has as many positions as all its shares together, and one share has no more than the layer.
+/// The positions of all shares of a layer add up to those of the layer, and one share has no more than the layer.
 pub fn the_shares_make_up_the_layer()
     ensures sum { (task : Task) (shares k : ℕ) (lists : List (List Closed)) (layer : List Scene) →
         IsLevel task.board → 0 < shares →
@@ -57,8 +55,8 @@ pub fn the_shares_make_up_the_layer()
         IsShareOfLayer task shares share k list → IsLayerOf task k layer → length list ≤ length layer }
 {}
 
-/// Lawful books that are all the shares hold all the shares of their last closed layer, and together they have closed
-/// as many positions as lie in the layers up to it.
+/// Lawful books that are all the shares hold all the shares of their last closed layer. Their closed positions add up
+/// to those of the layers up to it.
 pub fn the_books_of_all_shares_hold_the_layers()
     ensures last { (books : List BookView) (all : AreAllShares books) → AreLawfulBooks books →
         AreSharesOfLayer all.first.level all.first.shares (last_layer all.first) (map last_list books) }
@@ -71,9 +69,8 @@ pub fn the_books_of_all_shares_hold_the_layers()
         total book.closed ≤ total layers }
 {}
 
-/// What lawful books that are all the shares hold together is the layers that they have closed, and so many different
-/// positions of the next one. So where that is more than a limit, the positions of these layers together with some of
-/// the next one are more.
+/// Lawful books that are all the shares hold together the positions of the layers that they have closed, and `many`
+/// different positions of the next one. So if they hold more than a limit, these layers and the next one have more.
 pub fn the_books_of_all_shares_hold_the_layers_and_some_of_the_next()
     ensures { (books : List BookView) (all : AreAllShares books) → AreLawfulBooks books →
         (layers : List (List Scene)) → AreLayersOf all.first.level layers →

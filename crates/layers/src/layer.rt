@@ -14,13 +14,13 @@ use store::Origin;
 use successors::Problem;
 
 /// A whole layer of a problem: the normal positions whose least push lists through undoomed positions have the layer's
-/// number of pushes, in the order of those lists. Under a cap it has only the positions from which the pushes that lone
-/// boxes need keep the cap. A position's rank is its index in the list, from 0.
+/// number of pushes, in the order of those lists. Under a cap it has only the positions whose lone boxes can still
+/// reach goals within the cap. A position's rank is its index in the list, from 0.
 #[derive(Debug, Drop)]
 pub struct Layer {
     pub(crate) problem: Arc<Problem>,
     pub(crate) number: u64,
-    // the number of positions, and the squares of one after the other: its boxes, and then its player
+    // the number of positions, and their squares: for each position its boxes, then its player
     pub(crate) count: usize,
     pub(crate) squares: Vec<Square>,
     pub(crate) origins: Vec<Origin>,
@@ -39,7 +39,7 @@ impl Model for Layer {
 }
 
 impl Layer {
-    /// A lemma: what is true of every layer. It does nothing.
+    /// A lemma: the invariant of every layer. It does nothing.
     pub fn tell(&self)
         ensures { IsWhole self.now }
     {
@@ -53,14 +53,14 @@ impl Layer {
         self.problem.level()
     }
 
-    /// The greatest number of pushes of a solution; `None` if no cap is set.
+    /// The cap: the greatest number of pushes of a solution; `None` if no cap is set.
     pub fn cap(&self) -> Option<u32>
         ensures { result ≡ self.now.level.cap }
     {
         self.problem.cap()
     }
 
-    /// The problem: the level with its cap, and what follows from both.
+    /// The problem: the level with its cap, its dead squares and, under a cap, its bound.
     pub fn problem(&self) -> &Problem
         ensures { result.now ≡ self.now.level }
     {
@@ -122,7 +122,7 @@ impl Layer {
         self.problem.boxes()
     }
 
-    // The position with a rank of the layer, made of its squares.
+    // The position with a rank of the layer, read from its squares.
     pub(crate) fn place(&self, rank: u64) -> Position
         requires { rank < length self.now.places }
         ensures place { slice_get self.now.places rank ≡ Some result }
@@ -133,7 +133,7 @@ impl Layer {
     }
 }
 
-// The position with a rank among those of so many boxes whose squares stand one after the other.
+// The position with a rank in a list of squares: for each position its `boxes` boxes, then its player.
 fn read_position(squares: &[Square], rank: usize, boxes: usize) -> Position
     requires inside { rank * (boxes + 1) + (boxes + 1) ≤ length squares.now }
     requires rising { is_rising (take boxes (drop (rank * (boxes + 1)) squares.now)) ≡ true }
@@ -148,7 +148,7 @@ fn read_position(squares: &[Square], rank: usize, boxes: usize) -> Position
     Position::of_rising(front, row[boxes])
 }
 
-// The box squares of the position with a rank among those of so many boxes whose squares stand one after the other.
+// The box squares of the position with a rank in such a list.
 fn read_boxes(squares: &[Square], rank: usize, boxes: usize) -> &[Square]
     requires { rank * (boxes + 1) + (boxes + 1) ≤ length squares.now }
     ensures { result.now ≡ take boxes (drop (rank * (boxes + 1)) squares.now) }

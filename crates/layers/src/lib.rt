@@ -1,5 +1,5 @@
-//! Layers of normal positions, in the order of the least push lists that lead there, and the books in which a search
-//! enters the successors of a layer until the next layer closes.
+//! Layers of normal positions, in the order of the least push lists that lead there. A search enters the successors of
+//! a layer in books, which close the next layer.
 //!
 //! Use it to write a layer search with your own workers: make books for all shares ([`Book::of_all_shares`]), expand
 //! each rank of a layer once ([`expand`]), hand the parcel to each book ([`Book::hand_back`]), close the books
@@ -29,7 +29,7 @@ mod making;
 mod marks;
 mod merging;
 mod parents;
-mod stretch;
+mod segment;
 
 pub use book::{Book, Claim, Closed};
 pub use expanding::{expand, expand_over, expand_over_into};
@@ -38,5 +38,5 @@ pub use layer::Layer;
 pub use limits::{MAX_WORKERS, MOST_POSITIONS};
 pub use making::Dealing;
 pub use parents::Parents;
-pub use stretch::Stretch;
+pub use segment::Segment;
 pub use successors::{MAX_SHARES, MAX_SUCCESSORS, Parcel, Problem, Successor};

@@ -1,4 +1,4 @@
-//! New books: that of one share of a level's positions, and those of all shares.
+//! New books: the book of one share of a level's positions, and the books of all shares.
 ghost use Rattle.std.specs.Prelude.{◌≡◌, ◌+◌, ◌*◌, ◌<◌, ◌≤◌, IfOk, IfSome, MatchResult, [], length, replicate};
 ghost use Rattle.grid.specs.Board.{start};
 ghost use Rattle.grid.specs.Lawful.{box_count};
@@ -22,7 +22,7 @@ use std::sync::Arc;
 use store::Found;
 use successors::{MAX_SHARES, Problem, share_of};
 
-/// The number of workers, and of shares to which the positions of a level are dealt.
+/// The number of workers, and the number of shares to which the positions of a level are dealt.
 #[derive(Clone, Copy, PartialEq, Eq, Debug)]
 pub struct Dealing {
     pub workers: u8,
@@ -30,8 +30,8 @@ pub struct Dealing {
 }
 
 impl Book {
-    /// A book of a share of the level's positions, with layer 0 closed. That layer is empty if the start is doomed,
-    /// if its lone boxes need more pushes than the cap, or if it is of another share. Fails with
+    /// A book of a share of the level's positions, with layer 0 closed. That layer is empty if the start is doomed, if
+    /// its lone boxes need more pushes than the cap, or if it is of another share. Fails with
     /// [`BookFault::TooManyBoxes`] if the level has more than [`MAX_BOXES`](grid::MAX_BOXES) boxes, and with
     /// [`BookFault::OutOfMemory`].
     pub fn of(
@@ -96,8 +96,7 @@ impl Book {
         }
     }
 
-    // A book of a share of the level's positions, given the start, with a problem of its own. Fails only if out of
-    // memory.
+    // A book of a share of the level's positions from its start, with a new problem. Fails only if out of memory.
     fn of_share(
         alloc: Global,
         level: &Arc<Level>,
@@ -121,7 +120,8 @@ impl Book {
         Book::with_first(alloc, problem, &first, limit, dealing, share)
     }
 
-    // A book whose layer 0 is the first position of the problem, if there is one and it is of the share.
+    // A book whose layer 0 has the first position of the problem, if there is one and it is of the share. Fails only if
+    // out of memory.
     fn with_first(
         alloc: Global,
         problem: Arc<Problem>,
@@ -159,7 +159,7 @@ impl Book {
     }
 }
 
-// The books of all shares, share 0 first, given the first position of the problem.
+// The books of all shares, share 0 first, from the first position of the problem. Fails only if out of memory.
 fn all_with_first(
     alloc: Global,
     problem: &Arc<Problem>,
@@ -203,8 +203,8 @@ fn first_position(problem: &Problem, position: &Position, scratch: &mut Scratch)
     Some(normal)
 }
 
-// The tallies of so many workers, who have handed nothing back. They take more room than they have words, so that the
-// tallies of the next book are not on their lines of memory.
+// The tallies of new workers, all 0. They reserve `APART` more words, so that the tallies of the next book are on other
+// cache lines.
 fn first_tallies(alloc: Global, workers: u8) -> Result<Vec<u64>, AllocError>
     ensures { IfOk result (λ tallies. tallies.items ≡ replicate workers 0) }
 {
@@ -213,7 +213,7 @@ fn first_tallies(alloc: Global, workers: u8) -> Result<Vec<u64>, AllocError>
     Ok(tallies)
 }
 
-// What a book of the share has found at first: the first position, if there is one and it is of the share.
+// The positions that a new book of the share has found: the first position, if there is one and it is of the share.
 fn found_of_share(
     alloc: Global,
     problem: &Problem,

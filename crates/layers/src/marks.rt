@@ -8,11 +8,11 @@ use grid::WORD_BITS;
 use std::alloc::{AllocError, Global};
 use std::marker::Model;
 
-/// Marks over ranks, each of them set or not.
+/// A mark for each rank, set or not.
 #[derive(Debug, Drop)]
 pub(crate) struct Marks {
     words: Vec<u64>,
-    // how many marks there are, and how many of them are set
+    // the number of marks, and the number of set ones
     len: usize,
     set: usize,
 }
@@ -40,7 +40,7 @@ impl Marks {
         }
     }
 
-    /// Makes them so many, none of which is set. The only error is that memory was refused, which leaves none.
+    /// Makes `ranks` marks, none of them set. Fails only if out of memory, and then leaves no marks.
     pub(crate) fn begin(&mut self, ranks: usize) -> Result<(), AllocError>
         ensures ok { OnOk result (self.new ≡ replicate ranks false) }
         ensures err { OnErr result (self.new ≡ []) }
@@ -53,7 +53,7 @@ impl Marks {
         Ok(())
     }
 
-    /// How many marks there are.
+    /// The number of marks.
     pub(crate) fn len(&self) -> usize
         ensures { result ≡ length self.now }
     {
@@ -95,7 +95,7 @@ impl Marks {
         self.set += 1;
     }
 
-    /// Makes the marks the same as others, of which there are as many.
+    /// Copies the marks of another list of the same length.
     pub(crate) fn copy_from(&mut self, other: &Marks)
         requires { length self.old ≡ length other.now }
         ensures { self.new ≡ other.now }
@@ -104,7 +104,7 @@ impl Marks {
         self.set = other.set;
     }
 
-    /// Takes all marks away.
+    /// Removes all marks.
     pub(crate) fn clear(&mut self)
         ensures { self.new ≡ [] }
     {

@@ -1,4 +1,4 @@
-//! The last closed lists of the books of several shares, merged into one by their origins.
+//! Merges the last closed lists of the books of several shares into one, by their origins.
 ghost use Rattle.std.specs.Prelude.{◌≡◌, ◌<◌, ◌≤◌, ◌∷◌, List, IfOk, IfSome, MatchOption, OnOk, drop, length, map};
 ghost use Rattle.std.specs.Prelude.{slice_index_or, true};
 ghost use Rattle.layers.specs.declared.limits.TheConstants.{MOST_POSITIONS};
@@ -14,12 +14,12 @@ use std::alloc::{AllocError, Global};
 use std::marker::Model;
 use store::{Found, Origin, recycled};
 
-/// What is left of a book's last closed list while it is merged.
+/// The rest of a book's last closed list during a merge.
 #[derive(Drop)]
 pub(crate) struct Rest<'a> {
     found: &'a Found,
-    // the place of the first position that is left, where the list ends, and the first one's origin
-    place: usize,
+    // the index of the first position of the rest, the end of the list, and the first one's origin
+    index: usize,
     end: usize,
     first: Option<Origin>,
 }
@@ -32,43 +32,43 @@ impl<'a> Model for Rest<'a> {
 
     ghost Value = { List Closed };
 
-    ghost view = { λ a. drop a.place a.found.now.seen };
+    ghost view = { λ a. drop a.index a.found.now.seen };
 
-    ghost invariant = { λ a. (a.place ≤ a.end) × (a.end ≡ length a.found.now.seen) ×
-        (a.first ≡ first_origin (drop a.place a.found.now.seen)) };
+    ghost invariant = { λ a. (a.index ≤ a.end) × (a.end ≡ length a.found.now.seen) ×
+        (a.first ≡ first_origin (drop a.index a.found.now.seen)) };
 }
 
 impl<'a> Rest<'a> {
-    // What is left of the last closed list once so many of its positions were taken.
+    // The rest of the last closed list without its first `taken` positions.
     fn of(book: &'a Book, taken: usize) -> Rest<'a>
         ensures { result ≡ drop taken (last_list book.now) }
     {
         let from = last_start(book.starts.as_slice());
         let end = book.found.closed_len();
-        let place = from + taken.min(end - from);
+        let index = from + taken.min(end - from);
         Rest {
             found: &book.found,
-            place,
+            index,
             end,
-            first: book.found.origin_at(place),
+            first: book.found.origin_at(index),
         }
     }
 
-    // How many positions are left.
+    // The number of positions.
     fn len(&self) -> usize
         ensures { result ≡ length self.now }
     {
-        self.end - self.place
+        self.end - self.index
     }
 
-    // The origin of the first position that is left.
+    // The origin of the first position.
     fn first(&self) -> Option<Origin>
         ensures { result ≡ first_origin self.now }
     {
         self.first
     }
 
-    // Copies the first position that is left, which is left no more.
+    // Copies the first position and removes it from the rest. Fails only if out of memory.
     pub(crate) fn take(
         &mut self,
         squares: &mut Vec<Square>,
@@ -78,20 +78,20 @@ impl<'a> Rest<'a> {
         ensures { OnOk result ((e : Closed) (rest : List Closed) → self.old ≡ e ∷ rest →
             (self.new ≡ rest) × IsCopied e squares.old.items squares.new.items origins.old.items origins.new.items) }
     {
-        self.found.copy_at(self.place, squares, origins)?;
-        self.place += 1;
-        self.first = self.found.origin_at(self.place);
+        self.found.copy_at(self.index, squares, origins)?;
+        self.index += 1;
+        self.first = self.found.origin_at(self.index);
         Ok(())
     }
 }
 
-/// The squares of the positions of all the books' last closed lists, in the memory of another list, and their
-/// origins, merged by the origins, and how many they are. The only error is that memory was refused.
+/// Merges the last closed lists of the books by their origins: the number of positions, their squares, in `memory`, and
+/// their origins. Fails only if out of memory.
 pub(crate) fn merge(
     alloc: Global,
     books: &[Book],
     boxes: usize,
-    room: Vec<Square>,
+    memory: Vec<Square>,
 ) -> Result<(usize, Vec<Square>, Vec<Origin>), AllocError>
     requires boxes { boxes ≤ MAX_BOXES }
     requires few { total (map last_list books.now) ≤ MOST_POSITIONS }
@@ -99,16 +99,16 @@ pub(crate) fn merge(
 {
     let mut rests = rests_of(alloc, books, &[])?;
     let count = count_all(rests.as_slice());
-    let mut squares = recycled(alloc, room, count.saturating_mul(boxes + 1))?;
+    let mut squares = recycled(alloc, memory, count.saturating_mul(boxes + 1))?;
     let mut origins = Vec::with_capacity(alloc, count)?;
-    while let Some(place) = least_of(rests.as_slice()) {
-        rests[place].take(&mut squares, &mut origins)?;
+    while let Some(index) = least_of(rests.as_slice()) {
+        rests[index].take(&mut squares, &mut origins)?;
     }
     Ok((count, squares, origins))
 }
 
-// What is left of the last closed list of each book once so many positions of each were taken, or none where no
-// number is given.
+// The rest of the last closed list of each book without its first `taken` positions; all of it if there is no number
+// for the book. Fails only if out of memory.
 pub(crate) fn rests_of<'a>(
     alloc: Global,
     books: &'a [Book],
@@ -117,51 +117,51 @@ pub(crate) fn rests_of<'a>(
     ensures { IfOk result (λ rests. rests.items ≡ left_of books.now taken.now) }
 {
     let mut rests = Vec::with_capacity(alloc, books.len())?;
-    for place in 0..books.len() {
-        rests.push(Rest::of(&books[place], taken_at(taken, place)))?;
+    for index in 0..books.len() {
+        rests.push(Rest::of(&books[index], taken_at(taken, index)))?;
     }
     Ok(rests)
 }
 
-// The number at a place, or none where there is no such place.
-fn taken_at(taken: &[usize], place: usize) -> usize
-    ensures { result ≡ slice_index_or taken.now place 0 }
+// The number at an index, or 0 beyond the numbers.
+fn taken_at(taken: &[usize], index: usize) -> usize
+    ensures { result ≡ slice_index_or taken.now index 0 }
 {
-    match taken.get(place) {
+    match taken.get(index) {
         Some(number) => *number,
         None => 0,
     }
 }
 
-// How many positions are left of all.
+// The number of positions of all rests.
 pub(crate) fn count_all(rests: &[Rest<'_>]) -> usize
     requires { total rests.now ≤ MOST_POSITIONS }
     ensures { result ≡ total rests.now }
 {
     let mut count = 0;
-    for place in 0..rests.len() {
-        count += rests[place].len();
+    for index in 0..rests.len() {
+        count += rests[index].len();
     }
     count
 }
 
-// Whether nothing is left of any.
+// Whether all rests are empty.
 pub(crate) fn is_none_left(rests: &[Rest<'_>]) -> bool
     ensures { result ≡ true → total rests.now ≡ 0 }
 {
     least_of(rests).is_none()
 }
 
-// The place of a list whose first position has the least origin; `None` exactly where nothing is left.
+// The index of a rest whose first position has the least origin; `None` exactly if all rests are empty.
 fn least_of(rests: &[Rest<'_>]) -> Option<usize>
     ensures { MatchOption result (total rests.now ≡ 0) (λ s. HasLeastFirst rests.now s) }
 {
     let mut least = None;
     let mut bound = Origin::lowest();
-    for place in 0..rests.len() {
-        if let Some(origin) = rests[place].first() {
+    for index in 0..rests.len() {
+        if let Some(origin) = rests[index].first() {
             if least.is_none() || origin.is_before(bound) {
-                least = Some(place);
+                least = Some(index);
                 bound = origin;
             }
         }
@@ -169,17 +169,17 @@ fn least_of(rests: &[Rest<'_>]) -> Option<usize>
     least
 }
 
-// The same, where its origin comes before a bound, if there is one.
+// The same, or `None` if that origin does not come before the bound.
 pub(crate) fn next_of(rests: &[Rest<'_>], bound: &Option<Origin>) -> Option<usize>
     ensures { IfSome result (λ s. HasLeastFirst rests.now s) }
 {
-    let place = least_of(rests)?;
+    let index = least_of(rests)?;
     if let Some(bound) = bound {
-        if let Some(origin) = rests[place].first() {
+        if let Some(origin) = rests[index].first() {
             if !origin.is_before(*bound) {
                 return None;
             }
         }
     }
-    Some(place)
+    Some(index)
 }

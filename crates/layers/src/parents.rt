@@ -1,4 +1,4 @@
-//! The parents of a layer's positions: all that a search keeps of a layer whose ranks are done.
+//! The parents of a layer's positions. A search keeps nothing else of a layer whose ranks are done.
 ghost use Rattle.std.specs.Prelude.{◌≡◌, slice_get};
 
 use crate::layer::Layer;
@@ -6,7 +6,7 @@ use grid::{Push, Square};
 use std::marker::Model;
 use store::Origin;
 
-/// The parents of a layer's positions, by rank: one word a position, enough to retrace a solution.
+/// The parents of a layer's positions by rank, in one word each: enough to retrace a solution.
 #[derive(Debug, Drop)]
 pub struct Parents {
     origins: Vec<Origin>,
@@ -23,7 +23,7 @@ impl Model for Parents {
 }
 
 impl Parents {
-    /// The parents of a layer, which it consumes, and the memory of its positions' squares, for another layer
+    /// Takes a layer apart: its parents, and the memory of its squares, which another layer can reuse
     /// ([`Layer::join_in`]).
     pub fn of(layer: Layer) -> (Parents, Vec<Square>)
         ensures { result.0 ≡ layer.origins }

@@ -146,7 +146,7 @@ parcel-place v book begun parcel is work =
           (subst (λ b. AreSuccessors b parcel.layer is.place.0 parcel.successors) work.0 is.place.2),
     )
 
--- what stands open once the parcel's successors have entered
+-- the open positions after the parcel's successors have entered
 pub parcel_open : (v : BookView) (book : IsLawfulBook v) (begun : v.begun ≡ true) (parcel : ParcelView) → IsParcel parcel → IsAtWork v parcel →
     IsOpen push_cmp (IsSuccessor v.level.board) (IsKept v) (whole_layer v book begun) (last_layer v)
     (λ r p. get_or (set v.done parcel.rank true) r false ≡ true) (origin_of (all_entered v parcel.rank parcel.successors))
@@ -316,7 +316,7 @@ module _ (v : BookView) (book : IsLawfulBook v) (all : AllDone v) (ys : List (En
       (λ r n p at. all.1 r (let b = (book.begun all.0).2 in let w = slice_get_within (whole_layer v book all.0 (last_layer v)) r n at in omega arith))
       ys listed (λ m o e. origin-listed ys m o (same m ∙ e)) sorted_rise
 
-  -- what stood open, by rank and push, is the share of the next layer
+  -- the open positions, by rank and push, are the share of the next layer
   pub sorted_closed : IsSortedOpen v (map closed_entry ys)
   sorted_closed = record {
     from = λ i m o at. (let x = at_map closed_entry ys i (m, o) at in

@@ -1,4 +1,4 @@
--- What a lawful book holds: the whole layers behind its lists, what stands open, its marks and its tallies.
+-- What a lawful book holds: the whole layers behind its lists, the open positions, its marks and its tallies.
 use Rattle.std.proofs.Common.{◌≡◌, ℕ, zero, suc, ◌+◌, ◌<◌, ◌≤◌, Bool, true, false, cond, ◌&&◌, ◌==◌, not, List, [], ◌∷◌, ◌++◌, length, fold, sum, take}
 use Rattle.std.proofs.Common.{replicate, count_by, get_or, set, Some, ◌⊎◌, inl, inr, refl, sym, ap, subst, ◌∙◌, if◌then◌else◌, arith}
 use Rattle.std.proofs.lemmas.Bool.{cases_lt}
@@ -90,7 +90,7 @@ module _ (v : BookView) (book : IsLawfulBook v) (begun : v.begun ≡ true) where
       any-here (λ es. list_any (λ e. same_scene m e.0) es) v.closed j (get_or v.closed j []) at
       (any-here (λ e. same_scene m e.0) (get_or v.closed j []) w.0 x.0 x.1 (same_since m x.0.0 (sym x.2)))
 
-  -- an origin of a rank is offered: what stands open is so for the origins offered before and that one
+  -- an origin of a rank is offered: the open positions are those of the origins offered before and that one
   module _ (rank : ℕ) (n : Scene) (at : slice_get (whole_layer (last_layer v)) rank ≡ Some n) where
     entered_open : {Offered : ℕ → Push → Type 0} (waiting : List (Entry Scene Push)) (s : Successor) →
         IsSuccessorIn v.level (last_layer v) n s.push s.position →
@@ -160,7 +160,7 @@ module _ (v : BookView) (book : IsLawfulBook v) (begun : v.begun ≡ true) where
         ])
         next
 
-  -- the places that stand open stay distinct
+  -- the open positions stay distinct
   pub all_distinct : (rank : ℕ) (ss : List Successor) (waiting : List (Entry Scene Push)) → Distinct (open_places waiting) →
       Distinct (open_places (fold (entered (is_wanted v) rank) waiting ss))
   all_distinct rank [] waiting distinct = distinct

@@ -16,7 +16,7 @@ use Rattle.layers.proofs.lemmas.Counting.{flat, length-flat, of_flat, flat_disti
 use Rattle.successors.proofs.lemmas.Lists.{at_map, sum_by_first}
 use Rattle.layers.proofs.lemmas.Shares.{books_total}
 
--- the positions that stand open in a book
+-- the open positions of a book
 abbrev open_in : BookView → List Scene
 open_in v = map (λ e. e.0) v.waiting
 
@@ -28,7 +28,7 @@ open_away v book m i = go v.begun refl
     go true e = open-distance v book e v.waiting (book.waiting e) book.distinct m i
     go false e = absurd (none-some m (ap (λ ws. slice_get (map (λ e. e.0) ws) i.0) (sym (book.not_begun e).3) ∙ i.1))
 
--- what each of them holds is what it has closed and what stands open there
+-- each of them holds the positions that it has closed and its open positions
 held_parts : (books : List BookView) → all_held books ≡ sum_by (λ (v : BookView). total v.closed) books + sum_by (λ (v : BookView). length v.waiting) books
 held_parts [] = refl
 held_parts (v ∷ books) = omega (
@@ -43,7 +43,7 @@ module _ (books : List BookView) (all : AreAllShares books) (lawful : AreLawfulB
   abbrev all_open : List (List Scene)
   all_open = map open_in books
 
-  -- what stands open in the book of a share is of that share, and at the distance of the next layer
+  -- the open positions of a share's book are of that share, and at the distance of the next layer
   away : (t : ℕ) (ms : List Scene) → slice_get all_open t ≡ Some ms → (m : Scene) → IsIn ms m →
       (share_of all.first.shares m ≡ t) × IsAtDistance all.first.level m (length all.first.closed)
   away t ms at m i =
@@ -55,7 +55,7 @@ module _ (books : List BookView) (all : AreAllShares books) (lawful : AreLawfulB
         subst (λ k. IsAtDistance all.first.level m k) e.4 (subst (λ b. IsAtDistance b m (length v.closed)) e.1 w.1),
       )
 
-  -- what stands open in all of them are different positions of the next layer
+  -- the open positions of all of them are different positions of the next layer
   pub open_many : AreManyIn all.first.level (length all.first.closed) (sum_by (λ (v : BookView). length v.waiting) books)
   open_many = record {
     places = flat all_open;

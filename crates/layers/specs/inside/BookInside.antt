@@ -14,7 +14,7 @@ use Rattle.successors.specs.Capping.{Admits}
 use Rattle.layers.specs.BookView.{BookView, IsLawfulBook}
 use Rattle.layers.specs.Books.{IsTaken}
 
--- a list cut into pieces, the first at the first place, each up to where the next one begins, the last up to the end
+-- a list cut into pieces at these indices: each piece ends where the next one begins, and the last one at the end
 abbrev pub cut_at : {A : Type 0} → List ℕ → List A → List (List A)
 cut_at [] xs = []
 cut_at (i ∷ []) xs = drop i xs ∷ []
@@ -36,25 +36,25 @@ book_view a = record {
   over = a.over;
 }
 
--- the first position of a level: the start's normal position, or none where the start is doomed or not admitted
+-- the first position of a level: the start's normal position, or none if the start is doomed or not admitted
 abbrev pub IsFirst : Task → Option Scene → Type 0
 IsFirst task None = Doomed task.board (start task.board).boxes ⊎ ¬ (Admits task 0 (start task.board))
 IsFirst task (Some m) = Undoomed task.board (start task.board) × IsNorm task.board (start task.board) m ×
     FitsLevel task.board m × Admits task 0 m
 
--- the places at which a list is cut: the first one is its beginning, and they do not fall
+-- the indices at which a list is cut: the first one is 0, and they do not fall
 pub record AreCuts (starts : List ℕ) (len : ℕ) : Type 0 where
   pub first : slice_get starts 0 ≡ Some 0
   pub rise : (j p q : ℕ) → slice_get starts j ≡ Some p → slice_get starts (suc j) ≡ Some q → p ≤ q
   pub within : (j p : ℕ) → slice_get starts j ≡ Some p → p ≤ len
 
--- the piece k begins at p and goes up to q, where the next one begins or the list ends
+-- piece k begins at p and ends before q, where the next one begins or the list ends
 abbrev pub IsPiece : List ℕ → ℕ → ℕ → ℕ → ℕ → Type 0
 IsPiece starts len k p q = (slice_get starts k ≡ Some p) ×
     ((slice_get starts (suc k) ≡ Some q) ⊎ ((slice_get starts (suc k) ≡ None) × (q ≡ len)))
 
--- a book's fields show a lawful book, of as many boxes as there may be; keys are made for its boxes and its squares;
--- each closed layer is a piece of what was seen, and all ranks before the next one to look at are taken
+-- a book's fields are those of a lawful book with at most MAX_BOXES boxes; its keys suit its boxes and squares; each
+-- closed layer is a piece of the closed entries, and all ranks below next are taken
 pub record IsSoundBook (a : Inside) : Type 0 where
   pub lawful : IsLawfulBook (book_view a)
   pub few : box_count (arc_value a.problem).board ≤ MAX_BOXES

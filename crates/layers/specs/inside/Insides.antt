@@ -7,7 +7,7 @@ use Rattle.grid.specs.declared.limits.TheConstants.{MAX_BOXES}
 use Rattle.layers.specs.declared.layer.Layer.TheInside.{Inside as LayerInside}
 use Rattle.layers.specs.LayerView.{LayerView, IsWhole}
 
--- so many positions of so many boxes, read from their squares
+-- count positions with boxes boxes each, read from their squares
 abbrev pub scenes_of : ℕ → ℕ → List ℕ → List Scene
 scenes_of boxes zero xs = []
 scenes_of boxes (suc count) xs =
@@ -21,7 +21,7 @@ layer_view a = record {
   origins = a.origins.items;
 }
 
--- the fields show a whole layer, of as many boxes as there may be; and there are as many squares as its positions have
+-- the fields are those of a whole layer with at most MAX_BOXES boxes, and each of its positions has its squares
 pub record IsSoundLayer (a : LayerInside) : Type 0 where
   pub whole : IsWhole (layer_view a)
   pub few : box_count (arc_value a.problem).board ≤ MAX_BOXES

@@ -1,13 +1,13 @@
 //! Books of several shares: each closes its own positions, and all of them are joined into the whole layers.
 ghost use Rattle.std.specs.Prelude.{◌≡◌, ℕ, Some, slice_get};
-ghost use Rattle.layers.specs.inside.Merging.{IsStretchOf};
+ghost use Rattle.layers.specs.inside.Merging.{IsSegmentOf};
 
 use super::traces::{
     CORNER_LAYERS, HALL_LAYERS, ONE_LAYERS, THERE_AND_BACK_LAYERS, TWO_ENDS_LAYERS,
 };
 use super::{AMPLE, Place, check_places, level_of, work_through};
 use crate::boards::{CORNER, HALL, ONE, THERE_AND_BACK, TWO_ENDS};
-use layers::{Book, JoinFault, Layer, Parents, Stretch};
+use layers::{Book, JoinFault, Layer, Parents, Segment};
 use std::alloc::Global;
 use std::process::Abort;
 
@@ -113,14 +113,14 @@ fn layers_are_those_worked_by_hand(rt: HostRuntime) {
 }
 
 #[test]
-fn layers_are_joined_in_room_and_in_stretches(rt: HostRuntime) {
+fn layers_are_joined_in_memory_and_in_segments(rt: HostRuntime) {
     let mut books = shares_of(&rt, rt.alloc(), CORNER, 3);
     let start = joined(&rt, rt.alloc(), books.as_slice());
     close_all(&rt, rt.alloc(), books.as_mut_slice(), &start, false);
     check_joins(&rt, rt.alloc(), books.as_slice(), start);
 }
 
-// Checks layer 1 of the corner, joined in the room that layer 0 left, and in stretches of a position or more.
+// Checks layer 1 of the corner, joined in the room that layer 0 left, and in segments of a position or more.
 fn check_joins(rt: &impl Abort, alloc: Global, books: &[Book], start: Layer) {
     let [_, places, _] = CORNER_LAYERS else {
         panic!(rt; "three layers");
@@ -128,25 +128,25 @@ fn check_joins(rt: &impl Abort, alloc: Global, books: &[Book], start: Layer) {
     let (_, room) = Parents::of(start);
     let layer = Layer::join_in(alloc, books, room).expect(rt, "a layer");
     check_places(rt, &layer, places);
-    let layer = stretched(alloc, books).expect(rt, "a layer");
+    let layer = joined_by_segments(alloc, books).expect(rt, "a layer");
     check_places(rt, &layer, places);
 }
 
-// The layer that the books closed last, joined in stretches of a position or more.
-fn stretched(alloc: Global, books: &[Book]) -> Result<Layer, JoinFault> {
-    let Ok(mut stretches) = Stretch::all(alloc, books, 3, 1, Vec::new(alloc)) else {
+// The layer that the books closed last, joined in segments of a position or more.
+fn joined_by_segments(alloc: Global, books: &[Book]) -> Result<Layer, JoinFault> {
+    let Ok(mut segments) = Segment::all(alloc, books, 3, 1, Vec::new(alloc)) else {
         return Err(JoinFault::OutOfMemory);
     };
-    merge_each(alloc, books, stretches.as_mut_slice());
-    Layer::join_stretches(alloc, books, stretches.as_mut_slice())
+    merge_each(alloc, books, segments.as_mut_slice());
+    Layer::join_segments(alloc, books, segments.as_mut_slice())
 }
 
-// Merges each of the stretches.
-fn merge_each(alloc: Global, books: &[Book], stretches: &mut [Stretch])
-    ensures { (i : ℕ) (s : Stretch) → slice_get stretches.new i ≡ Some s → IsStretchOf books.now s }
+// Merges each of the segments.
+fn merge_each(alloc: Global, books: &[Book], segments: &mut [Segment])
+    ensures { (i : ℕ) (s : Segment) → slice_get segments.new i ≡ Some s → IsSegmentOf books.now s }
 {
-    for place in 0..stretches.len() {
-        stretches[place].merge(alloc, books);
+    for place in 0..segments.len() {
+        segments[place].merge(alloc, books);
     }
 }
 

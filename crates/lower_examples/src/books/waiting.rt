@@ -22,8 +22,8 @@ fn begin_and_hand_back(rt: &impl Abort, alloc: Global, book: &mut Book) {
 
 // Checks that the position and its two successors have entered a book where that was asked for.
 fn check_waiting(rt: &impl Abort, book: &mut Book) {
-    let _ = book.enter_waiting(1);
+    let _ = book.enter_pending(1);
     assert_eq!(rt; book.positions_at_least(), 3);
-    assert!(rt; !book.enter_waiting(1));
+    assert!(rt; !book.enter_pending(1));
     assert_eq!(rt; book.positions(), 3);
 }

@@ -4,5 +4,5 @@ use Rattle.layers.specs.BookView.{BookView}
 use Rattle.layers.specs.Books.{IsShareBeside}
 use Rattle.layers.proofs.join.are_all_shares.Given as goal
 
-abbrev pub invariant-loop-place : goal.invariant-loop-place
-invariant-loop-place l = (i : ℕ) (v : BookView) → i < l.place → slice_get l.books i ≡ Some v → IsShareBeside l.first i v
+abbrev pub invariant-loop-index : goal.invariant-loop-index
+invariant-loop-index l = (i : ℕ) (v : BookView) → i < l.index → slice_get l.books i ≡ Some v → IsShareBeside l.first i v

@@ -1,5 +1,5 @@
 use Rattle.layers.proofs.Rests.{IsLeastSoFar}
 use Rattle.layers.proofs.merging.least_of.Given as goal
 
-abbrev pub invariant-loop-place : goal.invariant-loop-place
-invariant-loop-place l = IsLeastSoFar l.rests l.place l.least l.bound
+abbrev pub invariant-loop-index : goal.invariant-loop-index
+invariant-loop-index l = IsLeastSoFar l.rests l.index l.least l.bound

@@ -6,10 +6,10 @@ use Rattle.store.specs.inside.Copies.{squares_of}
 use Rattle.layers.specs.inside.Merging.{Takes}
 use Rattle.layers.proofs.merging.merge.Given as goal
 
-abbrev pub invariant-loop-place : goal.invariant-loop-place
-invariant-loop-place l =
+abbrev pub invariant-loop-index : goal.invariant-loop-index
+invariant-loop-index l =
     (taken : List Closed) × Takes (map last_list l.books) taken l.rests.items × (l.squares.items ≡ squares_of (places_of taken))
     × (l.origins.items ≡ origins_of taken)
 
-abbrev pub decreases-loop-place : goal.decreases-loop-place
-decreases-loop-place l = total l.rests.items
+abbrev pub decreases-loop-index : goal.decreases-loop-index
+decreases-loop-index l = total l.rests.items

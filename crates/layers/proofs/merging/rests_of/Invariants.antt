@@ -2,5 +2,5 @@ use Rattle.std.proofs.Common.{◌≡◌, take}
 use Rattle.layers.specs.inside.Merging.{left_of}
 use Rattle.layers.proofs.merging.rests_of.Given as goal
 
-abbrev pub invariant-loop-place : goal.invariant-loop-place
-invariant-loop-place l = l.rests.items ≡ left_of (take l.place l.books) l.taken
+abbrev pub invariant-loop-index : goal.invariant-loop-index
+invariant-loop-index l = l.rests.items ≡ left_of (take l.index l.books) l.taken

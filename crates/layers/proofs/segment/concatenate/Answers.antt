@@ -3,8 +3,8 @@ use Rattle.layers.specs.declared.limits.TheConstants.{MOST_POSITIONS}
 use Rattle.successors.specs.Reaching.{total}
 use Rattle.layers.specs.BookView.{last_list}
 use Rattle.layers.specs.inside.Merging.{AreMerged, AreTaken, left_of}
-use Rattle.layers.proofs.Stretches.{all_kept, all_taken, left_all, none_taken}
-use Rattle.layers.proofs.stretch.put_together.Goals as goal
+use Rattle.layers.proofs.Segments.{all_kept, all_taken, left_all, none_taken}
+use Rattle.layers.proofs.segment.concatenate.Goals as goal
 
 pub count_all-count-requires : goal.count_all-count-requires
 count_all-count-requires c = subst (λ xs. total xs ≤ MOST_POSITIONS) (sym (c.as_slice.ensures.value ∙ c.in_ok-whole.ensures ∙ left_all c.args.books.now))
@@ -22,8 +22,8 @@ returns-clause-merged c =
     subst (λ n. AreMerged (map last_list books) n m.squares.items m.origins.items) (sym count)
     (all_taken books m.ends.items m.squares.items m.origins.items all none)
 
-pub returns-in_err-whole-clause-stretches : goal.returns-in_err-whole-clause-stretches
-returns-in_err-whole-clause-stretches c = all_kept c.args.stretches.now
+pub returns-in_err-whole-clause-segments : goal.returns-in_err-whole-clause-segments
+returns-in_err-whole-clause-segments c = all_kept c.args.segments.now
 
-pub returns-in_err-vec-clause-stretches : goal.returns-in_err-vec-clause-stretches
-returns-in_err-vec-clause-stretches c = all_kept c.args.stretches.now
+pub returns-in_err-vec-clause-segments : goal.returns-in_err-vec-clause-segments
+returns-in_err-vec-clause-segments c = all_kept c.args.segments.now

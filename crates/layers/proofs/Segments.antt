@@ -1,4 +1,4 @@
--- What is left of the books' last closed lists once so many entries of each were taken.
+-- The books' last closed lists without entries that were taken from them.
 use Rattle.std.proofs.Common.{◌≡◌, ℕ, zero, suc, ◌+◌, ◌^◌, ◌<◌, List, [], ◌∷◌, ◌++◌, length, map, take, drop, get_or, set, replicate, Some, None, refl, sym, ap}
 use Rattle.std.proofs.Common.{inl, inr, subst, ◌∙◌, arith}
 use Rattle.std.proofs.lemmas.List.{append-nil, append_assoc, length-set}
@@ -10,7 +10,7 @@ use Rattle.store.specs.Entries.{Origin, Closed, places_of, origins_of}
 use Rattle.successors.specs.Reaching.{total}
 use Rattle.layers.specs.BookView.{BookView, last_layer, last_list, AreLawfulBooks}
 use Rattle.store.specs.inside.Copies.{squares_of}
-use Rattle.layers.specs.declared.stretch.Stretch.{Stretch}
+use Rattle.layers.specs.declared.segment.Segment.{Segment}
 use Rattle.layers.specs.inside.Merging.{AreKeptOrTaken, AreMerged, AreTaken, IsKeptOrTaken, Takes, left_of}
 use Rattle.layers.specs.inside.Merging.Takes.{nothing, one}
 use Rattle.layers.proofs.Rests.{drop_first, first_left, taken_counted}
@@ -68,7 +68,7 @@ left_small vs lawful ns s n e rest at at_n =
     let book = lawful s w.0 w.1 in
     omega (arith, w.2, one_of_all w.0.closed (last_layer w.0), book.within, book.bounds.limits.1)
 
--- ---- one stretch after the other
+-- ---- segments in order
 
 left_zeros : (vs : List BookView) (n : ℕ) → left_of vs [] ≡ left_of vs (replicate n 0)
 left_zeros [] n = refl
@@ -134,19 +134,19 @@ all_taken books ends squares origins all none =
       origins_are = all.origins_are;
     }
 
--- ---- what stretches hold after they were appended
+-- ---- segments after they were appended
 
 -- none was appended yet
-pub all_kept : (ss : List Stretch) → AreKeptOrTaken ss ss
+pub all_kept : (ss : List Segment) → AreKeptOrTaken ss ss
 all_kept ss = (refl, λ i s at. (s, at, inl refl))
 
-kept_on : (a b c : Stretch) → IsKeptOrTaken a b → IsKeptOrTaken b c → IsKeptOrTaken a c
+kept_on : (a b c : Segment) → IsKeptOrTaken a b → IsKeptOrTaken b c → IsKeptOrTaken a c
 kept_on a b c (inl same) next = subst (λ x. IsKeptOrTaken x c) same next
 kept_on a b c (inr taken) (inl same) = inr (same ∙ taken)
-kept_on a b c (inr taken) (inr again) = inr (again ∙ ap (λ (x : Stretch). record x { merged = None }) taken)
+kept_on a b c (inr taken) (inr again) = inr (again ∙ ap (λ (x : Segment). record x { merged = None }) taken)
 
-one_set : (now : List Stretch) (place i : ℕ) (s t u : Stretch) → slice_get now place ≡ Some s → IsKeptOrTaken s t → slice_get now i ≡ Some u →
-    (w : Stretch) × (slice_get (set now place t) i ≡ Some w) × IsKeptOrTaken u w
+one_set : (now : List Segment) (place i : ℕ) (s t u : Segment) → slice_get now place ≡ Some s → IsKeptOrTaken s t → slice_get now i ≡ Some u →
+    (w : Segment) × (slice_get (set now place t) i ≡ Some w) × IsKeptOrTaken u w
 one_set [] place i s t u at so here = absurd (none-some u here)
 one_set (x ∷ now) zero zero s t u at so here = (t, refl, subst (λ v. IsKeptOrTaken v t) (same_Some s u (sym at ∙ here)) so)
 one_set (x ∷ now) zero (suc i) s t u at so here = (u, here, inl refl)
@@ -154,7 +154,7 @@ one_set (x ∷ now) (suc place) zero s t u at so here = (u, here, inl refl)
 one_set (x ∷ now) (suc place) (suc i) s t u at so here = one_set now place i s t u at so here
 
 -- one more is appended, or is not
-pub kept_set : (before now : List Stretch) (place : ℕ) (s t : Stretch) → AreKeptOrTaken before now → slice_get now place ≡ Some s → IsKeptOrTaken s t →
+pub kept_set : (before now : List Segment) (place : ℕ) (s t : Segment) → AreKeptOrTaken before now → slice_get now place ≡ Some s → IsKeptOrTaken s t →
     AreKeptOrTaken before (set now place t)
 kept_set before now place s t (same, each) at so = (
   length-set now place t ∙ same,
