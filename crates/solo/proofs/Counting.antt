@@ -1,11 +1,11 @@
--- What books hold is counted one place after the other, and books are still at work one place after the other.
-use Rattle.std.proofs.Common.{◌≡◌, ℕ, zero, suc, ◌+◌, ◌<◌, ◌≤◌, List, [], ◌∷◌, length, set, take, Option}
+-- Loops over books that count positions, and books that are still at work.
+use Rattle.std.proofs.Common.{◌≡◌, ℕ, zero, suc, ◌+◌, ◌<◌, ◌≤◌, List, [], ◌∷◌, length, get_or, set, take, Option}
 use Rattle.std.proofs.Common.{None, Some, IfSome, inl, inr, refl, sym, ap, subst, ◌∙◌, arith}
 use Rattle.std.specs.Prelude.{slice_get}
 use Rattle.std.proofs.lemmas.Bool.{cases_lt}
 use Rattle.std.proofs.lemmas.List.{length-set}
 use Rattle.std.proofs.lemmas.List.Sums.{sum_by_push}
-use Rattle.std.proofs.lemmas.Option.{none-some, same_Some, slice_get_within}
+use Rattle.std.proofs.lemmas.Option.{none-some, same_Some, slice_get-get_or, slice_get_within}
 use Rattle.layers.specs.LayerView.{LayerView}
 use Rattle.layers.specs.BookView.{AreLawfulBooks, BookView, IsLawfulBook}
 use Rattle.layers.specs.Books.{AllDone, HasBegun}
@@ -40,7 +40,7 @@ still_twice : (layer : LayerView) (v u w : BookView) → IsStill layer v u → I
 still_twice layer v u w (a, closed, begun) (b, more, still) = ((a.0 ∙ b.0, a.1 ∙ b.1, a.2 ∙ b.2, a.3 ∙ b.3, a.4 ∙ b.4), more ∙ closed, still)
 
 -- and so is each where one of them works on
-pub still_set : (layer : LayerView) (before books : List BookView) (place : ℕ) (u w : BookView) → AreStill layer before books →
+still_set : (layer : LayerView) (before books : List BookView) (place : ℕ) (u w : BookView) → AreStill layer before books →
     slice_get books place ≡ Some u → IsStill layer u w → AreStill layer before (set books place w)
 still_set layer before books place u w (same, each) at still = (length-set books place w ∙ same, λ i v at_v. one i v at_v)
   where
@@ -60,12 +60,19 @@ still_set layer before books place u w (same, each) at still = (length-set books
           ]
         ]
 
+-- so in a loop over them, where what was called before left them the same
+pub still_next : (layer : LayerView) (before now books : List BookView) (place : ℕ) (d w : BookView) → books ≡ now → AreStill layer before now →
+    place < length before → IsStill layer (get_or books place d) w → AreStill layer before (set books place w)
+still_next layer before now books place d w same still lt on =
+    let here : AreStill layer before books = subst (AreStill layer before) (sym same) still in
+    still_set layer before books place (get_or books place d) w here (slice_get-get_or books place d (omega (arith, lt, here.0))) on
+
 -- and is at work on the layer
 pub still_begun : (layer : LayerView) (before after : List BookView) → AreStill layer before after → (i : ℕ) (u : BookView) → slice_get after i ≡ Some u →
     HasBegun u layer
 still_begun layer before after still i u at = (back_to layer before after still i u at).2.2
 
--- the first so many of no more are all
+-- the first n of at most n are all
 pub take_whole : {A : Type 0} (xs : List A) (n : ℕ) → length xs ≤ n → take n xs ≡ xs
 take_whole [] zero le = refl
 take_whole [] (suc n) le = refl
@@ -95,7 +102,7 @@ lawful_set (b ∷ books) zero w all new (suc i) v at = all (suc i) v at
 lawful_set (b ∷ books) (suc place) w all new zero v at = all zero v at
 lawful_set (b ∷ books) (suc place) w all new (suc i) v at = lawful_set books place w (λ j. all (suc j)) new i v at
 
--- the first so many have done all their ranks, and one more
+-- one more of the books has done all its ranks
 pub done_set : (books : List BookView) (place : ℕ) (w : BookView) → place < length books →
     ((i : ℕ) (v : BookView) → i < place → slice_get books i ≡ Some v → AllDone v) → AllDone w →
     (i : ℕ) (v : BookView) → i < place + 1 → slice_get (set books place w) i ≡ Some v → AllDone v

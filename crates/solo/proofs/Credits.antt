@@ -1,4 +1,4 @@
--- Whom the ranks are credited to that are done.
+-- Which worker gets credit for the ranks that are done.
 use Rattle.std.proofs.Common.{◌≡◌, ℕ, zero, suc, ◌+◌, ◌<◌, Bool, true, false, not, cond, List, [], ◌∷◌, length, count_by, get_or, set, Some, refl, sym, ap}
 use Rattle.std.proofs.Common.{subst, ◌∙◌, arith}
 use Rattle.std.specs.Prelude.{slice_get}
@@ -9,7 +9,7 @@ use Rattle.layers.specs.BookView.{BookView}
 use Rattle.store.specs.Entries.{Closed}
 use Rattle.layers.specs.Books.{AllDone, with_closed, with_parcel}
 use Rattle.solo.specs.inside.Turns.{AreDoneBy, IsDoneBy}
-use Rattle.solo.proofs.Each.{HaveChangedUpTo, one_changed, some_changed}
+use Rattle.solo.proofs.Each.{HaveChangedUpTo, next_kept, one_changed, some_changed}
 
 -- ---- numbers and marks
 
@@ -74,8 +74,11 @@ are_done_by worker before place books so = (
   λ i v at. some_changed (IsDoneBy worker) before place books (λ x. by_nobody worker x x refl refl) so i v at,
 )
 
--- and the next one
-pub are_done_by_now : (worker : ℕ) (before : List BookView) (place : ℕ) (books : List BookView) (v w : BookView) →
-    HaveChangedUpTo (IsDoneBy worker) before place books → slice_get before place ≡ Some v → IsDoneBy worker v w → AreDoneBy worker before (set books place w)
-are_done_by_now worker before place books v w so at by = are_done_by worker before (place + 1) (set books place w)
-    (one_changed (IsDoneBy worker) before place books v w so at by)
+-- and the next one of a loop over them, where what was called before left them the same
+pub done_by_next : (worker : ℕ) (before now books : List BookView) (place : ℕ) (d w : BookView) → books ≡ now →
+    HaveChangedUpTo (IsDoneBy worker) before place now → place < length before → IsDoneBy worker (get_or books place d) w →
+    AreDoneBy worker before (set books place w)
+done_by_next worker before now books place d w same so lt by =
+    let here : HaveChangedUpTo (IsDoneBy worker) before place books = subst (HaveChangedUpTo (IsDoneBy worker) before place) (sym same) so in
+    are_done_by worker before (place + 1) (set books place w)
+    (one_changed (IsDoneBy worker) before place books (get_or books place d) w here (next_kept (IsDoneBy worker) before place books d lt here) by)

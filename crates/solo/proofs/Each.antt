@@ -1,4 +1,4 @@
--- Loops over the books of a search, one place after the other.
+-- Loops over the books of a search.
 use Rattle.std.proofs.Common.{◌≡◌, ◌≢◌, ◌⊎◌, ℕ, zero, suc, ◌+◌, ◌<◌, ◌≤◌, List, [], ◌∷◌, length, get_or, set, Result, Ok, Err, OnErr, Some, inl, inr, refl, sym}
 use Rattle.std.proofs.Common.{ap, subst, ◌∙◌, arith}
 use Rattle.std.specs.Prelude.{slice_get}
@@ -94,11 +94,11 @@ some_changed After before place books kept so i v at =
 
 -- ---- begin
 
--- the book has begun so many ranks
+-- the book has begun, with this number of ranks
 abbrev pub HasBegunWith : ℕ → BookView → BookView → Type 0
 HasBegunWith ranks v w = w ≡ with_begun v ranks
 
--- the book is as it was, or has begun so many ranks
+-- the book is unchanged, or has begun
 abbrev MayBegunWith : ℕ → BookView → BookView → Type 0
 MayBegunWith ranks v w = (w ≡ v) ⊎ (w ≡ with_begun v ranks)
 

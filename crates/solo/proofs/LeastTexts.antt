@@ -1,4 +1,4 @@
--- That there is a least text among those of some sort: it cannot fail to be.
+-- There is a least text among those with a property.
 use Rattle.std.proofs.Common.{◌≡◌, ℕ, zero, suc, ◌<◌, ◌≤◌, false, List, [], ◌∷◌, length, inl, inr, refl, sym, ap, subst, ◌∙◌, arith}
 use Rattle.std.proofs.lemmas.Bool.{cases_lt}
 use Rattle.std.specs.Ordering.{is_gt, ordering_then}

@@ -1,4 +1,4 @@
--- The answer is the limit exactly where the positions that are needed are more.
+-- The answer is Limit exactly if more positions are needed.
 use Rattle.std.proofs.Common.{◌≡◌, ℕ, suc, ◌-◌, ◌<◌, ◌≤◌, ◌↔◌, List, [], length, take, get_or, sym, ap, subst, arith}
 use Rattle.std.proofs.lemmas.List.{length-take-le}
 use Rattle.std.proofs.lemmas.Option.{slice_get_within}

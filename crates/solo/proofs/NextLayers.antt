@@ -215,7 +215,7 @@ module _ {N P : Type 0} (cmp : P → P → Ordering) (Edge : N → P → N → T
 
 -- ---- the numbers of origins
 
--- so many blocks of one size
+-- blocks of one size
 abbrev block : ℕ → ℕ → ℕ
 block size zero = 0
 block size (suc r) = block size r + size

@@ -163,7 +163,7 @@ read_done task layers trail trailed asked k rank late none r =
     layer_0 = subst (λ (n : ℕ). IsLayerOf task n r.layer.places) (here.1 ∙ none)
         (subst (λ (b : Task). IsLayerOf b r.layer.number r.layer.places) here.0 here.2.layer)
 
--- whoever tells the origins, what they are at a place
+-- the origins at an index, for each type that has them
 told_at : {P : Type 0} (origins : P → List (Origin Push)) (trail : List P) (k : ℕ) (p : P) → k < length trail → p ≡ slice_index_or trail k p →
     slice_get (map origins trail) k ≡ Some (origins p)
 told_at origins trail k p lt is =
@@ -229,7 +229,7 @@ own_trail layers first whole = record {
   shown = refl;
 }
 
--- what tells each thing as it is tells a list as it is
+-- a function that is the identity on each element is so on a list
 pub told_same : {A : Type 0} (f : A → A) → ((a : A) → f a ≡ a) → (xs : List A) → map f xs ≡ xs
 told_same f same [] = refl
 told_same f same (x ∷ xs) = λ i. same x i ∷ told_same f same xs i

@@ -1,4 +1,4 @@
--- Books some of which closed the next layer ahead, one place after the other.
+-- Loops over books of which some closed the next layer ahead.
 use Rattle.std.proofs.Common.{◌≡◌, ℕ, ◌+◌, ◌≤◌, Bool, true, false, List, [], ◌∷◌, length, set, Result, Ok, Err, IfOk, Some, inl, inr, refl, sym, subst, arith}
 use Rattle.std.specs.Bool.{MatchBool}
 use Rattle.std.specs.Prelude.{slice_get}

@@ -1,4 +1,4 @@
--- When every box is on a goal, as a test of the list of boxes, and the first place that passes it.
+-- Whether every box is on a goal, as a test of the list of boxes, and the first position that passes it.
 use Rattle.std.proofs.Common.{◌≡◌, ℕ, ◌+◌, ◌<◌, ◌≤◌, Bool, true, false, eqb, ◌||◌, List, [], ◌∷◌, length, Some, inl, inr, refl, sym, subst, arith}
 use Rattle.std.proofs.lemmas.Bool.{cases_lt, true≢false, and_parts, eq-eqb, eqb-true}
 use Rattle.std.proofs.lemmas.Option.{slice_get_within}

@@ -12,7 +12,7 @@ use Rattle.successors.specs.Distances.{AreDistinct, IsAtDistance}
 use Rattle.solo.specs.declared.answer.Answer.{Answer}
 use Rattle.solo.specs.declared.answer.Answer.TheVariants.{Solved, Unsolvable, NoneWithin, Limit}
 
--- the letters write the least solution, which has so many pushes
+-- the letters write the least solution, and pushes is its number of pushes
 pub record WritesLeastSolution (board : Board) (letters : List Letter) (pushes : ℕ) : Type 0 where
   pub list : List Push
   pub end : Scene
@@ -22,7 +22,7 @@ pub record WritesLeastSolution (board : Board) (letters : List Letter) (pushes :
   pub least : IsLeastSolution board (dirs_of letters) list
   pub count : length list ≡ pushes
 
--- so many pushes are within the cap, if one is set
+-- the number of pushes is within the cap, if one is set
 abbrev pub KeepsCap : Option ℕ → ℕ → Type 0
 KeepsCap None pushes = Unit {0}
 KeepsCap (Some most) pushes = pushes ≤ most
@@ -31,7 +31,7 @@ KeepsCap (Some most) pushes = pushes ≤ most
 abbrev pub IsSolutionOf : Task → List Dir → List Push → Type 0
 IsSolutionOf task ds ps = IsSolution task.board ds ps × KeepsCap task.cap (length ps)
 
--- the first n layers of the level under its cap have so many positions together
+-- positions is the number of positions of the first n layers of the level under its cap
 abbrev pub HaveTotal : Task → ℕ → ℕ → Type 0
 HaveTotal task n positions =
     (layers : List (List Scene)) × AreLayersOf task layers × (length layers ≡ n) × (total layers ≡ positions)

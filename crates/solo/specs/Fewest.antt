@@ -1,4 +1,4 @@
--- The fewest pushes of a solution, and that there is none: what laws of answers speak of.
+-- The fewest pushes of a solution, and levels without a solution.
 use Rattle.std.specs.Prelude.{◌≡◌, ℕ, ◌≤◌, List, length}
 use Rattle.grid.specs.declared.dir.Dir.{Dir}
 use Rattle.grid.specs.declared.square.Push.{Push}

@@ -8,27 +8,27 @@ use thiserror::Error;
 /// The result of a search for the solution with the fewest pushes.
 #[derive(Debug, Drop)]
 pub enum Answer {
-    /// The least solution: the fewest pushes, of those the least push list, of those the fewest moves, of those the
-    /// least text in the order `d`, `l`, `r`, `u`. `positions` counts the positions that so many pushes or fewer lead
-    /// to through undoomed positions; where a cap is set, those of them that it admits: the fewest pushes that lead
-    /// there, and what lone boxes need from there, are together no more than the cap.
+    /// The least solution: the fewest pushes, then the least push list, then the fewest moves, then the least text in
+    /// the order `d`, `l`, `r`, `u`. `positions` counts the positions that `pushes` pushes or fewer reach through
+    /// undoomed positions. Under a cap it counts only those that the cap admits: the fewest pushes that lead there, and
+    /// the pushes that lone boxes need from there, are together no more than the cap.
     Solved {
         moves: Moves,
         pushes: u64,
         positions: u64,
     },
-    /// No play at all ends with every box on a goal; answered only where no cap is set. `positions` counts all
-    /// positions that pushes lead to through undoomed positions.
+    /// No play ends with every box on a goal. This answer comes only without a cap. `positions` counts all positions
+    /// that pushes reach through undoomed positions.
     Unsolvable {
         positions: u64,
     },
-    /// No play within the cap of pushes ends with every box on a goal; replaces
-    /// [`Unsolvable`](Answer::Unsolvable) exactly if a cap is set. `positions` counts all positions that pushes lead
-    /// to through undoomed positions and that the cap admits.
+    /// No play within the cap of pushes ends with every box on a goal. This replaces
+    /// [`Unsolvable`](Answer::Unsolvable) exactly if a cap is set. `positions` counts all positions that pushes reach
+    /// through undoomed positions and that the cap admits.
     NoneWithin {
         positions: u64,
     },
-    /// More positions than the limit are needed for one of the other answers; the level stays undecided.
+    /// Each other answer needs more positions than the limit; the level stays undecided.
     Limit,
 }
 
@@ -43,7 +43,7 @@ pub enum SolveFault {
     #[error("out of memory")]
     OutOfMemory,
     /// A number of the configuration is outside its limits. [`solve_alone`](crate::solve_alone), which takes no
-    /// configuration, never answers it.
+    /// configuration, never reports it.
     #[error("a number of the configuration is outside its limits")]
     BadConfig,
 }

@@ -21,38 +21,38 @@ pub fn first_solved(layer: &Layer) -> Option<u64>
     None
 }
 
-// Whether each box of a position is on a goal. It keeps the index of a box that is not, to look at it first next time:
-// positions of near ranks have most of their boxes in common.
+// Whether each box of a position is on a goal. It keeps the index of a box that is not in `likely` and looks there
+// first next time: positions of near ranks have most of their boxes in common.
 fn is_solved(level: &Level, boxes: &[Square], likely: &mut usize) -> bool
     ensures { (n : Scene) → boxes.now ≡ n.boxes → IsTrue result ↔ IsSolved level.now n }
 {
     are_goals(boxes, level, likely)
 }
 
-// Whether each square has a goal. It looks at the likely index first.
+// Whether each square has a goal. It looks at the index `likely` first.
 fn are_goals(squares: &[Square], level: &Level, likely: &mut usize) -> bool
     ensures { result ≡ list_all (is_goal level.now) squares.now }
 {
     if is_off_goal(squares, level, *likely) {
         return false;
     }
-    for place in 0..squares.len() {
-        if is_off_goal(squares, level, place) {
-            *likely = place;
+    for index in 0..squares.len() {
+        if is_off_goal(squares, level, index) {
+            *likely = index;
             return false;
         }
     }
     true
 }
 
-// Whether there is a square at an index, and it has no goal.
-fn is_off_goal(squares: &[Square], level: &Level, place: usize) -> bool
-    ensures off { result ≡ true → (place < length squares.now) ×
-        (is_goal level.now (slice_index_or squares.now place 0) ≡ false) }
-    ensures on { result ≡ false → place < length squares.now →
-        is_goal level.now (slice_index_or squares.now place 0) ≡ true }
+// Whether there is a square at an index and it has no goal.
+fn is_off_goal(squares: &[Square], level: &Level, index: usize) -> bool
+    ensures off { result ≡ true → (index < length squares.now) ×
+        (is_goal level.now (slice_index_or squares.now index 0) ≡ false) }
+    ensures on { result ≡ false → index < length squares.now →
+        is_goal level.now (slice_index_or squares.now index 0) ≡ true }
 {
-    match squares.get(place) {
+    match squares.get(index) {
         Some(square) => !level.is_goal(*square),
         None => false,
     }

@@ -1,5 +1,5 @@
-//! Laws of answers that callers may rely on. Each is the contract of a function that does nothing: call it in a proof
-//! to use the law.
+//! Laws of answers that callers may rely on. Each is the contract of a function that does nothing; call it to use the
+//! law in a proof.
 ghost use Rattle.std.specs.Prelude.{◌≡◌, ℕ, suc, ◌<◌, ◌≤◌, ◌↔◌, true, List, [], length};
 ghost use Rattle.grid.specs.Board.{Scene};
 ghost use Rattle.successors.specs.Tasks.{Task};
@@ -24,16 +24,15 @@ pub fn an_answer_is_the_only_one()
         IsAnswer task limit b → a ≡ b }
 {}
 
-/// A level with its cap and a limit always has an answer: that none fits is a contradiction. This is a law of the
-/// definitions; memory plays no part in it.
+/// A level with its cap and a limit always has an answer: it is a contradiction that none fits. This is a law of the
+/// definitions, without regard to memory.
 pub fn an_answer_is_never_missing()
     ensures { (task : Task) (limit : ℕ) → IsLevel task.board → ((answer : Answer) → ¬ (IsAnswer task limit answer)) →
         ⊥ }
 {}
 
-/// The answer is `Limit` exactly where the positions that are needed are more than the limit: for a level that is
-/// solved, those of the layers up to the least number of pushes of a solution; for one that is not, those of all
-/// layers.
+/// The answer is `Limit` exactly if more positions than the limit are needed. A solvable level needs those of the
+/// layers up to the fewest pushes of a solution, an unsolvable one those of all layers.
 pub fn the_limit_is_passed_by_the_positions_needed()
     ensures solved { (task : Task) (limit pushes positions : ℕ) → IsLevel task.board → IsFewest task pushes →
         HaveTotal task (suc pushes) positions →
@@ -43,14 +42,14 @@ pub fn the_limit_is_passed_by_the_positions_needed()
         IsAnswer task limit Limit ↔ (limit < positions) }
 {}
 
-/// Beyond a layer without positions there is nothing.
+/// All layers after an empty layer are empty.
 pub fn an_empty_layer_is_the_last()
     ensures { (task : Task) (empty later : ℕ) (places : List Scene) → IsLevel task.board → IsLayerOf task empty [] →
         empty ≤ later →
         IsLayerOf task later places → places ≡ [] }
 {}
 
-/// Where a book of whatever share is over, and the layers that it has closed were looked at, the answer is `Limit`.
+/// If a book of any share is over, and the search looked at the layers that the book has closed, the answer is `Limit`.
 pub fn a_book_that_is_over_passes_the_limit()
     ensures { (task : Task) (limit positions : ℕ) (trail : List (List (Origin Push))) (book : BookView) →
         IsLookedAt task limit trail positions →
@@ -58,8 +57,8 @@ pub fn a_book_that_is_over_passes_the_limit()
         length book.closed ≡ length trail → IsAnswer task limit Limit }
 {}
 
-/// Where the books of all shares hold more positions together than the limit, and the layers that they have closed
-/// were looked at, the answer is `Limit`, whichever ranks are done in which of them.
+/// If the books of all shares together hold more positions than the limit, and the search looked at the layers that
+/// they have closed, the answer is `Limit`, whichever ranks are done in each book.
 pub fn books_that_hold_more_together_pass_the_limit()
     ensures { (task : Task) (limit positions : ℕ) (trail : List (List (Origin Push))) (books : List BookView)
         (all : AreAllShares books) →

@@ -15,9 +15,9 @@ use layers::{Layer, Parents};
 use std::alloc::{AllocError, Global};
 use successors::play_pushes;
 
-/// The play that leads to the position with a rank of the last layer: its pushes are the least push list that leads
-/// there, and of the plays with these pushes it has the fewest moves, and of those the least text in the order `d`,
-/// `l`, `r`, `u`. The layers are layers 0 to k of one level. The only error is that memory was refused.
+/// The play that leads to the position with a rank of the last layer. Its pushes are the least push list that leads
+/// there. Among the plays with these pushes it has the fewest moves, then the least text in the order `d`, `l`, `r`,
+/// `u`. The layers are layers 0 to k of one level. Fails only if out of memory.
 pub fn moves_to(
     alloc: Global,
     layers: &[Layer],
@@ -36,7 +36,7 @@ pub fn moves_to(
     play_pushes(alloc, layers[0].level(), pushes.as_slice(), scratch)
 }
 
-// The same for a layer, if of earlier layers only the parents of their positions are kept.
+// The same for a layer, from the parents of earlier layers. Fails only if out of memory.
 pub(crate) fn moves_back(
     alloc: Global,
     trail: &[Parents],
@@ -55,7 +55,7 @@ pub(crate) fn moves_back(
     play_pushes(alloc, layer.level(), pushes.as_slice(), scratch)
 }
 
-// Tells what is true of every layer, of each of these.
+// A lemma: the invariant of each layer. It does nothing.
 fn tell_each(layers: &[Layer])
     ensures { (j : ℕ) (layer : LayerView) → slice_get layers.now j ≡ Some layer → IsWhole layer }
 {
@@ -64,7 +64,7 @@ fn tell_each(layers: &[Layer])
     }
 }
 
-// What tells the parents of a layer's positions.
+// A type that has the parents of a layer's positions.
 trait HasParents {
     // the origins of the positions, by rank
     ghost origins: { Self → List (Origin Made) };
@@ -90,7 +90,7 @@ impl HasParents for Parents {
     }
 }
 
-// The lead of the position with a rank of a layer, if of earlier layers only the parents are kept.
+// The lead of the position with a rank of a layer, from the parents of earlier layers. Fails only if out of memory.
 fn lead_back(
     alloc: Global,
     trail: &[Parents],
@@ -110,7 +110,8 @@ fn lead_back(
     Ok(pushes)
 }
 
-// The lead of the position with a rank of the last of the first layers, retraced through the parents.
+// The lead of the position with rank `asked` of the last layer, retraced through the parents of all layers. Fails only
+// if out of memory.
 fn lead_of<P: HasParents>(alloc: Global, trail: &[P], asked: u64) -> Result<Vec<Push>, AllocError>
     ensures { IfOk result (λ pushes. (task : Task) (layers : List LayerView) →
         AreTrailed task layers (map P.origins trail.now) →

@@ -1,5 +1,5 @@
 //! The search for the least solution of a level on one thread ([`solve_alone`]), and its parts for solvers with
-//! workers: the turns of a search ([`turn`], [`rest`]), and plays that are retraced through layers ([`moves_to`]).
+//! workers: the iterations of a search ([`turn`], [`rest`]), and the play that leads to a position ([`moves_to`]).
 //!
 //! Time and memory grow with the positions: some 50 to 150 bytes and 1 to 5 microseconds each.
 //!

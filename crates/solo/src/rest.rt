@@ -1,4 +1,4 @@
-//! The rest of a layer in books that several workers shared, within the limit over all of them.
+//! The ranks that several workers left in books, within the limit over all books together.
 ghost use Rattle.std.specs.Prelude.{◌≡◌, ◌+◌, ◌<◌, ◌≤◌, ℕ, Some, true, IfNone, IfOk, IfSome, MatchBool, OnOk, length};
 ghost use Rattle.std.specs.Prelude.{slice_get};
 ghost use Rattle.successors.specs.declared.limits.TheConstants.{MAX_SHARES};
@@ -13,11 +13,11 @@ use area::Scratch;
 use layers::{Book, Layer};
 use std::alloc::AllocError;
 
-/// Does, as one of the workers, the ranks of the last closed layer that are left in each of the books, one book after
-/// the other, and closes none. It stops when the limit is passed: one of the books is over, or all together hold more
-/// positions. Returns what the limit leaves once each rank is done, or `None` if the limit is passed. After an error
-/// each book is still at work on that layer, perhaps with more of its ranks done. Only that worker gets credit for the
-/// ranks that are done here.
+/// Does, as worker `worker`, the ranks of the last closed layer that are left in each book, one book after the other,
+/// and closes none. It stops and returns `None` if the limit is passed: one of the books is over, or all together hold
+/// more positions. Otherwise each rank is done, and it returns the number of positions left up to the limit. After an
+/// error each book is still at work on that layer, perhaps with more of its ranks done. Only that worker gets credit
+/// for the ranks that are done here.
 pub fn do_rest(
     books: &mut [Book],
     layer: &Layer,
@@ -35,19 +35,19 @@ pub fn do_rest(
     ensures passed { IfOk result (λ left. IfNone left (PassTogether limit books.new)) }
     ensures size { scratch.new.size ≡ scratch.old.size }
 {
-    for place in 0..books.len() {
+    for index in 0..books.len() {
         let Some(left) = left_of(books, limit) else {
             return Ok(None);
         };
-        if !do_rest_of(&mut books[place], layer, scratch, worker, left)? {
+        if !do_rest_of(&mut books[index], layer, scratch, worker, left)? {
             return Ok(None);
         }
     }
     Ok(left_of(books, limit))
 }
 
-// Does the ranks of the last closed layer that are left in one of the books, until the book is over or holds more than
-// `left` positions more; then it returns `false`.
+// Does the ranks of the last closed layer that are left in one of the books. Returns `false` if the book is over or
+// gained more than `left` positions.
 fn do_rest_of(
     book: &mut Book,
     layer: &Layer,
@@ -75,7 +75,8 @@ fn do_rest_of(
     Ok(within)
 }
 
-// What the limit leaves over all books; `None` if one of them is over, or all together hold more positions.
+// The number of positions left up to the limit over all books; `None` if one of them is over, or all together hold
+// more.
 fn left_of(books: &mut [Book], limit: u32) -> Option<u64>
     requires few { length books.old ≤ MAX_SHARES }
     ensures left { IfSome result (λ left. left + all_held books.new ≡ limit) }
@@ -97,8 +98,8 @@ fn left_of(books: &mut [Book], limit: u32) -> Option<u64>
 fn is_one_over(books: &[Book]) -> bool
     ensures { result ≡ true → IsOneOver books.now }
 {
-    for place in 0..books.len() {
-        if books[place].is_over() {
+    for index in 0..books.len() {
+        if books[index].is_over() {
             return true;
         }
     }
@@ -113,9 +114,9 @@ fn count_all(books: &mut [Book]) -> u64
     ensures same { books.new ≡ books.old }
 {
     let mut all = 0;
-    for place in 0..books.len() {
-        books[place].tell();
-        all += books[place].positions();
+    for index in 0..books.len() {
+        books[index].tell();
+        all += books[index].positions();
     }
     all
 }

@@ -16,7 +16,7 @@ use std::alloc::{AllocError, Global};
 use std::sync::Arc;
 
 /// Searches for the solution of the level with the fewest pushes, within a cap of pushes if one is set. The answer is
-/// that solution, or that there is none, or that more than `limit` positions are needed to decide.
+/// that solution, or that there is none, or that a decision needs more than `limit` positions.
 ///
 /// The solution is the least one: the fewest pushes, then the least push list, then the fewest moves, then the least
 /// text. Fails with [`SolveFault::TooManyBoxes`] if the level has more than [`MAX_BOXES`](grid::MAX_BOXES) boxes, and
@@ -57,7 +57,7 @@ fn search(
     search_by(alloc, &problem, limit)
 }
 
-// The same of a problem.
+// The same for a problem. Fails only if out of memory.
 fn search_by(alloc: Global, problem: &Arc<Problem>, limit: u32) -> Result<Answer, AllocError>
     requires limit { 1 ≤ limit }
     requires boxes { box_count (arc_value problem.now).board ≤ MAX_BOXES }
@@ -74,10 +74,10 @@ fn search_by(alloc: Global, problem: &Arc<Problem>, limit: u32) -> Result<Answer
         problem: &**problem,
         limit,
     };
-    all_turns(&terms, books.as_mut_slice(), &mut scratch)
+    iterate(&terms, books.as_mut_slice(), &mut scratch)
 }
 
-// What a search goes by: the allocator, what is searched, and the limit of positions.
+// The parameters of a search: the allocator, the problem, and the limit of positions.
 #[derive(Drop)]
 struct Terms<'s> {
     alloc: Global,
@@ -85,8 +85,8 @@ struct Terms<'s> {
     limit: u32,
 }
 
-// Makes turn after turn until there is an answer. The only error is that memory was refused.
-fn all_turns(
+// Iterates until there is an answer. Fails only if out of memory.
+fn iterate(
     terms: &Terms<'_>,
     books: &mut [Book],
     scratch: &mut Scratch,
@@ -98,23 +98,23 @@ fn all_turns(
     let mut trail = Vec::new(terms.alloc);
     let mut positions = 0;
     loop {
-        let found = turn(terms, books, &mut trail, &mut positions, scratch)?;
+        let found = iteration(terms, books, &mut trail, &mut positions, scratch)?;
         if let Some(answer) = found {
             return Ok(answer);
         }
     }
 }
 
-// Looks at the last layer that the books closed, and does its ranks as their one worker where it gives no answer. The
-// only error is that memory was refused.
-fn turn(
+// Looks at the last layer that the books closed, and if it gives no answer, does its ranks as the only worker. Fails
+// only if out of memory.
+fn iteration(
     terms: &Terms<'_>,
     books: &mut [Book],
     trail: &mut Vec<Parents>,
     positions: &mut u64,
     scratch: &mut Scratch,
 ) -> Result<Option<Answer>, AllocError>
-    requires turn { AreBetweenTurns terms.now.problem.now terms.now.limit 1 1 books.old trail.old.items positions.old }
+    requires between { AreBetweenTurns terms.now.problem.now terms.now.limit 1 1 books.old trail.old.items positions.old }
     requires room { scratch.old.size ≡ length terms.now.problem.now.board.cells }
     ensures answer { IfOk result
         (λ found. IfSome found (λ answer. IsAnswer terms.now.problem.now terms.now.limit answer)) }

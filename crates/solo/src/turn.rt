@@ -1,5 +1,5 @@
-//! The turns of a search, for one worker and for several: each looks at the next layer, and if that gives no answer,
-//! does its ranks until the layer after it is closed. These functions fail only if out of memory.
+//! The iterations of a search, for one worker and for several: each looks at the next layer and, if that gives no
+//! answer, does its ranks and closes the layer after it. These functions fail only if out of memory.
 ghost use Rattle.std.specs.Prelude.{◌≡◌, ◌≢◌, ◌+◌, ◌-◌, ◌<◌, ◌≤◌, ◌↔◌, ℕ, List, [], ◌∷◌, ◌++◌, Some, true, false};
 ghost use Rattle.std.specs.Prelude.{length, slice_get};
 ghost use Rattle.std.specs.Prelude.{IfNone, IfOk, IfSome, MatchBool, MatchResult, OnErr, OnOk};
@@ -34,7 +34,7 @@ use layers::{
 use std::alloc::{AllocError, Global};
 use std::sync::Arc;
 
-/// How the last ranks of a layer ended.
+/// The result of the last ranks of a layer.
 #[derive(Clone, Copy, PartialEq, Eq, Debug)]
 pub enum Worked {
     /// Each rank is done, and the next layer is closed.
@@ -43,8 +43,8 @@ pub enum Worked {
     Over,
 }
 
-/// The new books of all shares of a problem's positions, share 0 first, for the workers of `dealing`. The level has at
-/// most [`MAX_BOXES`](grid::MAX_BOXES) boxes.
+/// New books of all shares of a problem's positions, share 0 first, for the workers of `dealing`. The level has at most
+/// [`MAX_BOXES`](grid::MAX_BOXES) boxes.
 pub fn new_books(
     alloc: Global,
     problem: &Arc<Problem>,
@@ -68,12 +68,12 @@ pub fn new_books(
     }
 }
 
-/// Looks at the next layer of a level, after those whose parents are kept. Returns the answer, if the layer gives one;
-/// otherwise it adds its positions to the count.
+/// Looks at the next layer of a level, after those whose parents are in `trail`. Returns the answer, if the layer gives
+/// one; otherwise it adds the layer's positions to the count `positions`.
 ///
-/// The answer is `Limit` if this layer and those before it have more positions than the limit, `Solved` if it has a
-/// solved position, and `Unsolvable`, or `NoneWithin` under a cap, if it has no positions. An answer and an error leave
-/// the count unchanged.
+/// The answer is `Limit` if this layer and those before it have more positions than the limit. It is `Solved` if the
+/// layer has a solved position. It is `Unsolvable`, or `NoneWithin` under a cap, if the layer is empty. An answer and
+/// an error leave the count unchanged.
 pub fn look(
     alloc: Global,
     trail: &[Parents],
@@ -120,7 +120,7 @@ fn none_of(layer: &Layer, positions: u64) -> Answer
     }
 }
 
-// The answer if the position with a rank is the first solved one of the layer after those of the trail.
+// The answer if the position with rank `rank` is the first solved one of the layer.
 fn solved(
     alloc: Global,
     trail: &[Parents],
@@ -146,27 +146,27 @@ fn solved(
     })
 }
 
-/// The last closed layer of the books, which are all the shares in order. It reuses the memory of an earlier layer.
-pub fn last_layer(alloc: Global, books: &[Book], room: Vec<Square>) -> Result<Layer, AllocError>
+/// The last closed layer of the books, which are all the shares in order. Its squares reuse `memory`.
+pub fn last_layer(alloc: Global, books: &[Book], memory: Vec<Square>) -> Result<Layer, AllocError>
     requires { AreAllShares books.now }
     ensures { IfOk result (λ layer. IsJoinOf books.now layer) }
 {
-    match Layer::join_in(alloc, books, room) {
+    match Layer::join_in(alloc, books, memory) {
         Ok(layer) => Ok(layer),
         Err(JoinFault::NotWhole) => unreachable!(),
         Err(JoinFault::OutOfMemory) => Err(AllocError),
     }
 }
 
-/// Opens the ranks of the last closed layer in each of the books. After an error some of them have begun, and the
-/// others are unchanged.
+/// Opens the ranks of the last closed layer in each book. After an error some books have begun, and the others are
+/// unchanged.
 pub fn begin_each(books: &mut [Book], layer: &Layer) -> Result<(), AllocError>
     requires { (i : ℕ) (v : BookView) → slice_get books.old i ≡ Some v → MayBegin v layer.now }
     ensures ok { OnOk result (HaveBegun books.old (length layer.now.places) books.new) }
     ensures err { OnErr result (MayHaveBegun books.old (length layer.now.places) books.new) }
 {
-    for place in 0..books.len() {
-        begin(&mut books[place], layer)?;
+    for index in 0..books.len() {
+        begin(&mut books[index], layer)?;
     }
     Ok(())
 }
@@ -184,9 +184,8 @@ pub fn begin(book: &mut Book, layer: &Layer) -> Result<(), AllocError>
     }
 }
 
-/// Does, as one of the workers, what is left of the last closed layer in each of the books, one after the other, and
-/// closes the next layer there. It stops when a book is over. After an error each book is unchanged, or still at work
-/// on that layer, perhaps with more of its ranks done, or has closed the next one.
+/// Does what [`finish`] does in each book, one after the other. It stops when a book is over. After an error each book
+/// is unchanged, or still at work on that layer, perhaps with more of its ranks done, or has closed the next one.
 pub fn finish_each(
     books: &mut [Book],
     layer: &Layer,
@@ -204,8 +203,7 @@ pub fn finish_each(
     finish_rest(books, layer, scratch, worker)
 }
 
-/// Does what [`finish`] does in each of the books that has not closed the next layer, one after the other. It stops
-/// when a book is over. After an error each book is as after one of [`finish_each`].
+/// Does what [`finish_each`] does, except in books that have closed the next layer already.
 pub fn finish_rest(
     books: &mut [Book],
     layer: &Layer,
@@ -220,9 +218,9 @@ pub fn finish_rest(
     ensures credited { AreDoneBy worker books.old books.new }
     ensures size { scratch.new.size ≡ scratch.old.size }
 {
-    for place in 0..books.len() {
-        let worked = finish_begun(&mut books[place], layer, scratch, worker)?;
-        books[place].tell();
+    for index in 0..books.len() {
+        let worked = finish_begun(&mut books[index], layer, scratch, worker)?;
+        books[index].tell();
         match worked {
             Worked::Through => (),
             Worked::Over => return Ok(Worked::Over),
@@ -252,9 +250,9 @@ fn finish_begun(
     finish(book, layer, scratch, worker)
 }
 
-/// Does, as one of the workers, what is left of the last closed layer, whoever claimed it, and closes the next one,
-/// unless the book is over. After an error the book is still at work on that layer, perhaps with more of its ranks
-/// done. Only that worker gets credit for the ranks that are done here.
+/// Does, as worker `worker`, all ranks of the last closed layer that are left, even claimed ones, and closes the next
+/// layer, unless the book is over. After an error the book is still at work on the last layer, perhaps with more of its
+/// ranks done. Only that worker gets credit for the ranks that are done here.
 pub fn finish(
     book: &mut Book,
     layer: &Layer,
@@ -281,8 +279,8 @@ pub fn finish(
     Ok(Worked::Through)
 }
 
-// Does each rank that is not done, if no other worker has claimed one. Returns `false` if the book is over or holds
-// more than `most` positions.
+// Does each rank that is not done; none of these is claimed. Returns `false` if the book is over or holds more than
+// `most` positions.
 pub(crate) fn do_ranks(
     book: &mut Book,
     layer: &Layer,
@@ -317,7 +315,7 @@ pub(crate) fn do_ranks(
     }
 }
 
-// Enters the successors of a rank. Returns `false` if the book would hold more positions than its limit; it is then
+// Enters the successors of a rank. Returns `false` if the book would hold more positions than its limit; this marks it
 // over.
 fn enter(book: &mut Book, worker: u8, parcel: &Parcel<'_>) -> Result<bool, AllocError>
     requires work { IsAtWork book.old parcel.now }
@@ -337,14 +335,14 @@ fn enter(book: &mut Book, worker: u8, parcel: &Parcel<'_>) -> Result<bool, Alloc
 }
 
 /// Closes the next layer before [`finish`] does, if each rank is done. Otherwise, or if out of memory, the book stays
-/// unchanged.
+/// unchanged, and [`finish`] closes it.
 pub fn close_ahead(book: &mut Book)
     ensures { MayBeClosed book.old book.new }
 {
     let _ = book.close();
 }
 
-// Closes the next layer, once each rank is done.
+// Closes the next layer; each rank is done.
 fn close(book: &mut Book) -> Result<(), AllocError>
     requires { AllDone book.old }
     ensures ok { OnOk result ((es : List Closed) × (book.new ≡ with_closed book.old es)) }

@@ -1,4 +1,4 @@
--- From one turn of a search to the next, and what a book that is over says.
+-- From one iteration of a search to the next, and what follows from a book that is over.
 use Rattle.std.proofs.Common.{◌≡◌, ℕ, suc, ◌≤◌, true, false, List, [], ◌∷◌, ◌++◌, length, get_or, Some, refl, sym, ap, subst, ◌∙◌, arith}
 use Rattle.std.specs.Prelude.{slice_get}
 use Rattle.std.proofs.lemmas.List.{length-append, length-map}
@@ -101,7 +101,7 @@ at_work task limit workers shares books after trail positions ranks layer turn n
       omega (arith, next.1, (turn.paused i v at).1),
     )
 
--- once the next layer was looked at and its ranks are done, the books are between two turns again
+-- after a look at the next layer, and once its ranks are done, the books are between two iterations again
 pub turn_on : (task : Task) (limit workers shares : ℕ) (after : List BookView) (trail : List (List (Origin Push))) (count : ℕ) (layer : LayerView) →
     (layer.level ≡ task) × (layer.number ≡ length trail) → IsLookedAt layer.level limit (trail ++ layer.origins ∷ []) count →
     AreWorked task limit workers shares layer Through after → AreBetweenTurns task limit workers shares after (trail ++ layer.origins ∷ []) count

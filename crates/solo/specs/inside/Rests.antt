@@ -1,4 +1,4 @@
--- Books some of which have closed the next layer ahead of the others.
+-- Books of which some have closed the next layer ahead of the others.
 use Rattle.std.specs.Prelude.{◌≡◌, ℕ, ◌⊎◌, List, length, slice_get, Some}
 use Rattle.std.specs.Bool.{MatchBool}
 use Rattle.layers.specs.BookView.{BookView, IsLawfulBook}
@@ -6,28 +6,28 @@ use Rattle.solo.specs.inside.Turns.{WorkAnswer}
 use Rattle.solo.specs.declared.turn.Worked.{Worked}
 use Rattle.solo.specs.declared.turn.Worked.TheVariants.{Through, Over}
 
--- the book is as it was, or has closed the next layer
+-- the book is unchanged, or has closed the next layer
 abbrev pub MayBeClosed : BookView → BookView → Type 0
 MayBeClosed before after = (after ≡ before) ⊎ WorkAnswer before Through after
 
--- so is each of several books
+-- each of several books is unchanged, or has closed the next layer
 abbrev pub MayBeClosedEach : List BookView → List BookView → Type 0
 MayBeClosedEach before after =
     (length after ≡ length before) ×
     ((i : ℕ) (v : BookView) → slice_get before i ≡ Some v → (w : BookView) × (slice_get after i ≡ Some w) ×
     MayBeClosed v w)
 
--- how the last ranks of a layer leave a book that may have closed the next one ahead: if it has, as it was
+-- a book after the last ranks of a layer; it is unchanged if it had closed the next layer ahead
 abbrev pub RestAnswer : BookView → Worked → BookView → Type 0
 RestAnswer before worked after =
     MatchBool before.begun (WorkAnswer before worked after) ((worked ≡ Through) × (after ≡ before))
 
--- the book at a place was left so
+-- so is the book at index i after them, and lawful
 abbrev pub IsRestLeft : List BookView → Worked → List BookView → ℕ → BookView → Type 0
 IsRestLeft before worked after i v =
     (w : BookView) × (slice_get after i ≡ Some w) × RestAnswer v worked w × IsLawfulBook w
 
--- how they leave several such books
+-- several such books after the last ranks of a layer
 abbrev pub RestAnswers : List BookView → Worked → List BookView → Type 0
 RestAnswers before Through after =
     (length after ≡ length before) ×

@@ -1,5 +1,4 @@
--- What a search has looked at: the layers behind it and the count of their positions.  Nothing here speaks of a book,
--- of workers or of shares.
+-- The layers that a search has looked at, and the count of their positions, without regard to books, workers or shares.
 use Rattle.std.specs.Prelude.{◌≡◌, ℕ, ◌+◌, ◌<◌, ◌≤◌, List, [], ◌∷◌, ◌++◌, length, map, slice_get, Some}
 use Rattle.grid.specs.declared.square.Push.{Push}
 use Rattle.grid.specs.Board.{Scene}
@@ -31,15 +30,15 @@ pub record IsNextOf (trail : List (List (Origin Push))) (layer : LayerView) : Ty
   pub trailed : AreTrailed layer.level layers trail
   pub number : layer.number ≡ length trail
 
--- with so many positions of the next layer there are so many in it and in the searched layers before it
+-- positions is the number of positions of the searched layers and of the next one, which has ranks positions
 pub record HaveBefore (task : Task) (trail : List (List (Origin Push))) (ranks positions : ℕ) : Type 0 where
   pub layers : List LayerView
   pub trailed : AreTrailed task layers trail
   pub searched : AreSearched task (places_of layers)
   pub count : positions ≡ total (places_of layers) + ranks
 
--- the layers whose origins are kept were looked at: the first ones of the level, none of them empty, none with a solved
--- position; and so many positions, no more than the limit, are in them together
+-- the search has looked at the layers whose origins are kept: the first ones of the level, none of them empty, none
+-- with a solved position; positions is their number of positions, no more than the limit
 pub record IsLookedAt (task : Task) (limit : ℕ) (trail : List (List (Origin Push))) (positions : ℕ) : Type 0 where
   pub layers : List LayerView
   pub trailed : AreTrailed task layers trail
@@ -47,8 +46,8 @@ pub record IsLookedAt (task : Task) (limit : ℕ) (trail : List (List (Origin Pu
   pub count : positions ≡ total (places_of layers)
   pub within : positions ≤ limit
 
--- the layer was looked at after those whose origins are kept: it is not empty, no longer than the limit, and its
--- positions are counted
+-- the search has looked at the layer after those whose origins are kept: it is not empty, no longer than the limit, and
+-- its positions are counted
 pub record IsCounted (limit : ℕ) (trail : List (List (Origin Push))) (layer : LayerView) (before positions : ℕ) : Type
     0 where
   pub looked : IsLookedAt layer.level limit (trail ++ layer.origins ∷ []) positions

@@ -9,7 +9,7 @@ use Rattle.solo.specs.inside.Turns.{WorkAnswers}
 use Rattle.solo.specs.declared.turn.Worked.{Worked}
 use Rattle.solo.specs.declared.turn.Worked.TheVariants.{Through, Over}
 
--- the book is over, or holds more than so many positions
+-- the book is over, or holds more than most positions
 abbrev pub IsFull : ℕ → BookView → Type 0
 IsFull most book = (book.over ≡ true) ⊎ (most < held book)
 
@@ -17,15 +17,15 @@ IsFull most book = (book.over ≡ true) ⊎ (most < held book)
 abbrev pub IsOneOver : List BookView → Type 0
 IsOneOver books = (i : ℕ) × (v : BookView) × (slice_get books i ≡ Some v) × (v.over ≡ true)
 
--- the books pass the limit: one of them is over, or all of them together hold more positions
+-- the books pass the limit: one is over, or all together hold more positions
 abbrev pub PassTogether : ℕ → List BookView → Type 0
 PassTogether limit books = AreLawfulBooks books × (IsOneOver books ⊎ (limit < all_held books))
 
--- the book is at work on the layer, and was made as it was before, with the same closed layers
+-- the book is at work on the layer, with the same level, numbers and closed layers as before
 abbrev pub IsStill : LayerView → BookView → BookView → Type 0
 IsStill layer before after = AreMadeAlike before after × (after.closed ≡ before.closed) × HasBegun after layer
 
--- so is each of several books
+-- each of several books is so
 abbrev pub AreStill : LayerView → List BookView → List BookView → Type 0
 AreStill layer before after =
     (length after ≡ length before) ×

@@ -8,11 +8,11 @@ use Rattle.solo.specs.inside.Turns.{IsDoneBy}
 use Rattle.solo.proofs.Each.{HaveChangedUpTo}
 use Rattle.solo.proofs.rest.do_rest.Given as goal
 
-abbrev pub invariant-loop-place : goal.invariant-loop-place
-invariant-loop-place l = record {
+abbrev pub invariant-loop-index : goal.invariant-loop-index
+invariant-loop-index l = record {
   still : AreStill l.layer l.fn.books l.books;
-  credited : HaveChangedUpTo (IsDoneBy l.worker) l.fn.books l.place l.books;
-  done : (i : ℕ) (v : BookView) → i < l.place → slice_get l.books i ≡ Some v → AllDone v;
+  credited : HaveChangedUpTo (IsDoneBy l.worker) l.fn.books l.index l.books;
+  done : (i : ℕ) (v : BookView) → i < l.index → slice_get l.books i ≡ Some v → AllDone v;
   few : length l.books ≤ MAX_SHARES;
   size : l.scratch.size ≡ l.fn.scratch.size;
 }

@@ -1,10 +1,10 @@
 use Rattle.std.proofs.Common.{◌≡◌, ◌-◌}
 use Rattle.solo.specs.inside.Turns.{AreBetweenTurns}
-use Rattle.solo.proofs.search.all_turns.Given as goal
+use Rattle.solo.proofs.search.iterate.Given as goal
 
 abbrev pub invariant-loop-trail : goal.invariant-loop-trail
 invariant-loop-trail l = record {
-  turn : AreBetweenTurns l.terms.problem.now l.terms.limit 1 1 l.books l.trail.items l.positions;
+  between : AreBetweenTurns l.terms.problem.now l.terms.limit 1 1 l.books l.trail.items l.positions;
   size : l.scratch.size ≡ l.fn.scratch.size;
 }
 
