@@ -35,10 +35,7 @@ impl Layer {
         let Some(first) = first_of_all(books) else {
             return Err(JoinFault::NotWhole);
         };
-        match join_all(alloc, books, first, memory) {
-            Ok(layer) => Ok(layer),
-            Err(_) => Err(JoinFault::OutOfMemory),
-        }
+        Ok(join_all(alloc, books, first, memory)?)
     }
 
     /// The layer that [`Layer::join`] gives. It is made of its segments if these are merged and complete, and otherwise

@@ -57,10 +57,7 @@ impl Book {
             return Err(BookFault::TooManyBoxes);
         };
         let dealing = Dealing { workers, shares };
-        match Book::of_share(alloc, &level, cap, &start, limit, dealing, share) {
-            Ok(book) => Ok(book),
-            Err(_) => Err(BookFault::OutOfMemory),
-        }
+        Ok(Book::of_share(alloc, &level, cap, &start, limit, dealing, share)?)
     }
 
     /// The books of all shares of the positions of a problem, share 0 first, each as [`Book::of`] makes it. They
@@ -90,10 +87,7 @@ impl Book {
             return Err(BookFault::TooManyBoxes);
         };
         let first = first_position(problem, &start, scratch);
-        match all_with_first(alloc, problem, &first, limit, dealing) {
-            Ok(books) => Ok(books),
-            Err(_) => Err(BookFault::OutOfMemory),
-        }
+        Ok(all_with_first(alloc, problem, &first, limit, dealing)?)
     }
 
     // A book of a share of the level's positions from its start, with a new problem. Fails only if out of memory.

@@ -35,10 +35,7 @@ pub fn solve_alone(
     if level.boxes() > MAX_BOXES {
         return Err(SolveFault::TooManyBoxes);
     }
-    match search(alloc, level, cap, limit) {
-        Ok(answer) => Ok(answer),
-        Err(_) => Err(SolveFault::OutOfMemory),
-    }
+    Ok(search(alloc, level, cap, limit)?)
 }
 
 // The answer that the layers of a level give. Fails only if out of memory.
