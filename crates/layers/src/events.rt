@@ -30,9 +30,7 @@ impl Book {
             return Err(BeginFault::OtherLayer);
         }
         let ranks = layer.len() as usize;
-        if self.claimed.begin(ranks).is_err() {
-            return Err(BeginFault::OutOfMemory);
-        }
+        self.claimed.begin(ranks)?;
         if self.done.begin(ranks).is_err() {
             self.claimed.clear();
             return Err(BeginFault::OutOfMemory);
@@ -96,13 +94,7 @@ impl Book {
         }
         // the last worker number belongs to the caller, which does the ranks that the workers left
         let most = most_pending(worker, self.workers - 1, self.share, self.shares);
-        if self
-            .found
-            .enter_all(most, self.share, self.shares, parcel)
-            .is_err()
-        {
-            return Err(Refusal::OutOfMemory);
-        }
+        self.found.enter_all(most, self.share, self.shares, parcel)?;
         mark(&mut self.done, &mut self.tallies, worker, rank);
         Ok(())
     }
@@ -147,12 +139,8 @@ impl Book {
         }
         let layer = self.starts.len() as u64;
         let start = self.found.closed_len();
-        if self.starts.reserve(1).is_err() {
-            return Err(CloseFault::OutOfMemory);
-        }
-        if self.found.close().is_err() {
-            return Err(CloseFault::OutOfMemory);
-        }
+        self.starts.reserve(1)?;
+        self.found.close()?;
         let count = self.found.closed_len() - start;
         push_within(&mut self.starts, start);
         self.claimed.clear();

@@ -13,9 +13,9 @@ invariant_of-self-2 c =
     let may : MayBegin v c.args.layer.now = (search rules, search rules, search rules) in
     let not = c.self.invariant.lawful.not_begun may.2 in
     let ranks : c.len-ranks.result ≡ n = c.len-ranks.ensures in
-    let claimed : c.begin.new.self ≡ replicate n false = ok_is c.begin.result c.if-is_err.ensures.value c.begin.ensures.ok
+    let claimed : c.begin.new.self ≡ replicate n false = c.in_ok-begin.ensures.ok
     ∙ ap (λ k. replicate k false) ranks in
-    let done : c.begin-2.new.self ≡ replicate n false = ok_is c.begin-2.result c.if-is_err-2.ensures.value c.begin-2.ensures.ok
+    let done : c.begin-2.new.self ≡ replicate n false = ok_is c.begin-2.result c.if-is_err.ensures.value c.begin-2.ensures.ok
     ∙ ap (λ k. replicate k false) ranks in let book = lawful_begin v c.args.layer.now c.self.invariant.lawful c.tell.ensures may in record {
       lawful = subst (λ bs. IsLawfulBook (record v { begun = true; claimed = bs; done = c.begin-2.new.self })) (sym claimed)
           (subst (λ bs. IsLawfulBook (record v { begun = true; claimed = replicate n false; done = bs })) (sym done)

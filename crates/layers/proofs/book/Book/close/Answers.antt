@@ -1,5 +1,6 @@
 use Rattle.std.proofs.Common.{◌≡◌, ◌++◌, ◌∷◌, [], ℕ, ◌-◌, List, length, map, inl, inr, sym, ap, subst, ◌∙◌, arith}
 use Rattle.std.proofs.lemmas.List.{length-append, length-map}
+use Rattle.std.proofs.lemmas.Result.{err_from_is_err_and}
 use Rattle.store.specs.FoundView.{FoundView}
 use Rattle.layers.specs.inside.BookInside.{book_view, cut_at, AreCuts, IsSoundBook}
 use Rattle.layers.specs.BookView.{IsLawfulBook}
@@ -7,7 +8,6 @@ use Rattle.layers.specs.Books.{AllDone, CloseRefused}
 use Rattle.store.specs.Entering.{AreReordered, RiseByOrigin, closed_entry}
 use Rattle.layers.specs.declared.fault.CloseFault.TheVariants.{NotAll}
 use Rattle.layers.proofs.lemmas.BookFields.{closed_lawful, closed_cuts, closed_by}
-use Rattle.layers.proofs.Answered.{ok_is, err_is}
 use Rattle.layers.proofs.book.Book.close.Goals.{then-not-self-via-then-not-self, then-not-self-via-else-not-self+then-not-are_all_set}
 use Rattle.layers.proofs.book.Book.close.Goals as goal
 
@@ -19,11 +19,11 @@ returns-then-not-self-clause-fault c =
       | then-not-self-via-else-not-self+then-not-are_all_set w ↦ inr w.if-not-are_all_set.ensures
     ])
 
-pub invariant_of-self-then-is_err-2 : goal.invariant_of-self-then-is_err-2
-invariant_of-self-then-is_err-2 c =
+pub invariant_of-self-in_err-close : goal.invariant_of-self-in_err-close
+invariant_of-self-in_err-close c =
     let a = c.self.inside in
     let starts : c.reserve.new.self.items ≡ a.starts.items = c.reserve.ensures.items in
-    let kept : c.close.new.self ≡ a.found = err_is c.close.result c.if-is_err-2.ensures.value c.close.ensures.err in
+    let kept : c.close.new.self ≡ a.found = c.in_err-close.ensures.err in
     subst (λ (f : FoundView). IsSoundBook (record a { found = f; starts = c.reserve.new.self })) (sym kept) (record {
       lawful = subst (λ s. IsLawfulBook (record (book_view a) { closed = cut_at s a.found.seen })) (sym starts) c.self.invariant.lawful;
       few = c.self.invariant.few;
@@ -32,18 +32,19 @@ invariant_of-self-then-is_err-2 c =
       taken = c.self.invariant.taken;
     })
 
-pub returns-then-is_err-2-clause-err : goal.returns-then-is_err-2-clause-err
-returns-then-is_err-2-clause-err c =
+pub returns-in_err-close-clause-err : goal.returns-in_err-close-clause-err
+returns-in_err-close-clause-err c =
+    let given = err_from_is_err_and c.from_residual-in_err-close.result c.from_residual-in_err-close.ensures.1 in
     let a = c.self.inside in
     let starts : c.reserve.new.self.items ≡ a.starts.items = c.reserve.ensures.items in
-    let kept : c.close.new.self ≡ a.found = err_is c.close.result c.if-is_err-2.ensures.value c.close.ensures.err in
-    (λ i. record (book_view a) { closed = cut_at (starts i) ((kept i).seen); waiting = (kept i).waiting }) ∙ c.self.view_is
+    let kept : c.close.new.self ≡ a.found = c.in_err-close.ensures.err in
+    rw given.1 ((λ i. record (book_view a) { closed = cut_at (starts i) ((kept i).seen); waiting = (kept i).waiting }) ∙ c.self.view_is)
 
 pub invariant_of-self-2 : goal.invariant_of-self-2
 invariant_of-self-2 c =
     let a = c.self.inside in
-    let done = ok_is c.close.result c.if-is_err-2.ensures.value c.close.ensures.seen in
-    let waits = ok_is c.close.result c.if-is_err-2.ensures.value c.close.ensures.waiting in
+    let done = c.in_ok-close.ensures.seen in
+    let waits = c.in_ok-close.ensures.waiting in
     let ys = done.0 in
     let all : AllDone (book_view a) = (c.if-not-self.false, c.if-not-are_all_set.ensures) in
     let same : AreReordered a.found.waiting ys = done.1 in
@@ -66,8 +67,8 @@ invariant_of-self-2 c =
 pub returns-clause-ok : goal.returns-clause-ok
 returns-clause-ok c =
     let a = c.self.inside in
-    let done = ok_is c.close.result c.if-is_err-2.ensures.value c.close.ensures.seen in
-    let waits = ok_is c.close.result c.if-is_err-2.ensures.value c.close.ensures.waiting in
+    let done = c.in_ok-close.ensures.seen in
+    let waits = c.in_ok-close.ensures.waiting in
     let ys = done.0 in
     let all : AllDone (book_view a) = (c.if-not-self.false, c.if-not-are_all_set.ensures) in
     let same : AreReordered a.found.waiting ys = done.1 in

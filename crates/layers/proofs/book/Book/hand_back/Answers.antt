@@ -1,4 +1,5 @@
 use Rattle.std.proofs.Common.{◌≡◌, ◌<◌, Bool, List, length, fold, slice_get, true, false, Some, refl, ap, sym, subst, ◌∙◌, arith}
+use Rattle.std.proofs.lemmas.Result.{err_from_is_err_and}
 use Rattle.grid.specs.Lawful.{box_count}
 use Rattle.layers.specs.BookView.{BookView}
 use Rattle.store.specs.Entries.{Closed}
@@ -9,7 +10,6 @@ use Rattle.store.specs.Entering.{is_wanted_in, entered}
 use Rattle.layers.proofs.Cuts.{total-cuts}
 use Rattle.layers.proofs.lemmas.Books.{begun-since, few_ranks, tally_bound}
 use Rattle.layers.proofs.lemmas.BookFields.{handed_all, limit_same, none_entered, nothing_passes, may_enter, over_limit, over_lawful, taken_done, fits_few}
-use Rattle.layers.proofs.Answered.{ok_is, err_is}
 use Rattle.layers.proofs.book.Book.hand_back.Goals as goal
 
 pub passes-requires-clause-few : goal.passes-requires-clause-few
@@ -39,12 +39,13 @@ returns-then-passes-clause-refusal c =
     let passed = limit_same a c.self.invariant.cuts now c.self.view_is p.rank c.successors-successors.result.now p.successors c.successors-successors.ensures
     true (c.if-passes.ensures.passed p.rank) in (found.0, found.1, over_limit now p passed)
 
-pub returns-then-is_err-clause-refusal : goal.returns-then-is_err-clause-refusal
-returns-then-is_err-clause-refusal c =
+pub returns-in_err-enter_all-clause-refusal : goal.returns-in_err-enter_all-clause-refusal
+returns-in_err-enter_all-clause-refusal c =
+    let given = err_from_is_err_and c.from_residual.result c.from_residual.ensures.1 in
     let a = c.self.inside in let p = c.args.parcel.now in let now = c.args.self.now in
     let within = limit_same a c.self.invariant.cuts now c.self.view_is p.rank c.successors-successors.result.now p.successors c.successors-successors.ensures
     false (c.if-passes.ensures.passed p.rank) in
-    may_enter now p c.in_default.ensures.none (ap (λ (v : BookView). v.over) (sym c.self.view_is) ∙ c.if-self.false) within
+    rw (given.1, given.2) (may_enter now p c.in_default.ensures.none (ap (λ (v : BookView). v.over) (sym c.self.view_is) ∙ c.if-self.false) within)
 
 pub returns-clause-may : goal.returns-clause-may
 returns-clause-may c =
@@ -83,9 +84,9 @@ enter_all-requires-clause-few c =
     ∙ c.self.invariant.boxes.1 ∙ ap (λ (v : BookView). length v.level.board.cells) c.self.view_is in
     fits_few c.args.parcel.now c.tell.ensures c.args.self.now.level found.0.0 c.passes.new.self boxes squares c.args.parcel.now.successors refl
 
-pub invariant_of-self-then-is_err : goal.invariant_of-self-then-is_err
-invariant_of-self-then-is_err c =
-    let kept : c.enter_all.new.self ≡ c.self.inside.found = err_is c.enter_all.result c.if-is_err.ensures.value c.enter_all.ensures.err
+pub invariant_of-self-in_err-enter_all : goal.invariant_of-self-in_err-enter_all
+invariant_of-self-in_err-enter_all c =
+    let kept : c.enter_all.new.self ≡ c.self.inside.found = c.in_err-enter_all.ensures.err
     ∙ c.passes.ensures.same in subst (λ (f : FoundView). IsSoundBook (record c.self.inside { found = f })) (sym kept) c.self.invariant
 
 pub mark-requires-clause-few : goal.mark-requires-clause-few
@@ -135,7 +136,7 @@ pub invariant_of-self-2 : goal.invariant_of-self-2
 invariant_of-self-2 c =
     let a = c.self.inside in let p = c.args.parcel.now in let now = c.args.self.now in
     let found : IsAtWork now p × (slice_get now.done p.rank ≡ Some false) = c.in_default.ensures.none in
-    let put = ok_is c.enter_all.result c.if-is_err.ensures.value c.enter_all.ensures.ok
+    let put = c.in_ok-enter_all.ensures.ok
     ∙ ap (λ (f : FoundView). with_entered f a.shares a.share p.rank p.successors) c.passes.ensures.same in
     let seen : c.enter_all.new.self.seen ≡ a.found.seen = ap (λ (f : FoundView). f.seen) put in
     let waits : c.enter_all.new.self.waiting ≡ fold (entered (is_wanted_in a.found.seen a.shares a.share) p.rank) a.found.waiting p.successors =
@@ -154,16 +155,17 @@ invariant_of-self-2 c =
           (taken_done (book_view a) c.rank-rank.result r (c.self.invariant.taken r lt));
     }
 
-pub returns-then-is_err-clause-err : goal.returns-then-is_err-clause-err
-returns-then-is_err-clause-err c =
-    let kept : c.enter_all.new.self ≡ c.self.inside.found = err_is c.enter_all.result c.if-is_err.ensures.value
-    c.enter_all.ensures.err ∙ c.passes.ensures.same in ap (λ (f : FoundView). book_view (record c.self.inside { found = f })) kept ∙ c.self.view_is
+pub returns-in_err-enter_all-clause-err : goal.returns-in_err-enter_all-clause-err
+returns-in_err-enter_all-clause-err c =
+    let given = err_from_is_err_and c.from_residual.result c.from_residual.ensures.1 in
+    let kept : c.enter_all.new.self ≡ c.self.inside.found = c.in_err-enter_all.ensures.err ∙ c.passes.ensures.same in
+    rw (given.1, given.2) (ap (λ (f : FoundView). book_view (record c.self.inside { found = f })) kept ∙ c.self.view_is)
 
 pub returns-clause-ok : goal.returns-clause-ok
 returns-clause-ok c =
     let a = c.self.inside in let p = c.args.parcel.now in let now = c.args.self.now in
     let found : IsAtWork now p × (slice_get now.done p.rank ≡ Some false) = c.in_default.ensures.none in
-    let put = ok_is c.enter_all.result c.if-is_err.ensures.value c.enter_all.ensures.ok ∙ ap
+    let put = c.in_ok-enter_all.ensures.ok ∙ ap
     (λ (f : FoundView). with_entered f a.shares a.share p.rank p.successors) c.passes.ensures.same in
     let seen : c.enter_all.new.self.seen ≡ a.found.seen = ap (λ (f : FoundView). f.seen) put in
     let waits : c.enter_all.new.self.waiting ≡ fold (entered (is_wanted_in a.found.seen a.shares a.share) p.rank) a.found.waiting p.successors =
