@@ -1,23 +1,23 @@
-"""What the tests load before the C library to take memory, threads or bytes away from a program, and how to start
-such runs."""
+"""Builds the libraries that tests load before the C library to take memory, threads or bytes away from a program,
+and runs programs with them."""
 import os
 import shutil
 import subprocess
 import sys
 
 TESTS = os.path.dirname(os.path.abspath(__file__))
-# after so long a run hangs
+# seconds after which a run counts as hanging
 SECONDS = 600
 
 
 def compiler():
-    """A C compiler; without one the tests end, and have failed."""
+    """A C compiler; without one the tests fail."""
     return shutil.which("cc") or shutil.which("gcc") or shutil.which("clang") or sys.exit(
         "no C compiler: no command cc, gcc or clang on PATH")
 
 
 def build(source, folder):
-    """The library made of a C file below tests/, in the folder."""
+    """The library built in the folder from a C file below tests/."""
     shim = os.path.join(folder, os.path.basename(source)[:-2] + ".so")
     subprocess.run(
         [compiler(), "-O1", "-shared", "-fPIC", "-fno-builtin", "-o", shim,
@@ -27,32 +27,36 @@ def build(source, folder):
 
 
 def counts(path, many):
-    """The numbers, of 8 bytes each, that a library left in a file."""
+    """The first `many` numbers of a file that a library wrote, of 8 bytes each."""
     with open(path, "rb") as file:
         return [int.from_bytes(file.read(8), sys.byteorder) for _ in range(many)]
 
 
 def ran(words, env=None, fed=None, **more):
-    """The status of a run, its standard output and its standard error; bytes that are fed come by a pipe as
-    standard input."""
+    """The status of a run, its standard output and its standard error. The bytes `fed` are its standard input, by a
+    pipe."""
     source = {"stdin": subprocess.DEVNULL} if fed is None else {"input": fed}
     done = subprocess.run(words, env=env or {}, capture_output=True, timeout=SECONDS, **source, **more)
     return done.returncode, done.stdout, done.stderr
 
 
-def refusals(words, folder, shim, rest):
-    """Runs the words with each request for memory refused in turn, alone or (rest) with all later ones. Yields the
-    request's number, the status, the output and the error of each run that met a refusal. Where threads ask, no
-    run asks as often as another, so it ends at the third run in a row that met none."""
-    count, missed, at = os.path.join(folder, "requests"), 0, 0
+def refusals(start, count, shim, rest):
+    """Starts runs in which each request for memory fails in turn, alone or (rest) with all later ones: `start` runs
+    the program in an environment, and the file `count` has the number of requests. Yields the request's number and the
+    result of each run in which a request failed. With threads the number of requests differs from run to run, so the
+    third run in a row without a failure is the last."""
+    missed, at = 0, 0
     while missed < 3:
         at += 1
-        env = {
-            "LD_PRELOAD": shim, "REFUSE_AT": str(at), "REFUSE_COUNT": count, **({"REFUSE_REST": "1"} if rest else {})
-        }
-        got = ran(words, env, cwd=folder)
+        env = {"LD_PRELOAD": shim, "REFUSE_AT": str(at), "REFUSE_COUNT": count}
+        got = start({**env, "REFUSE_REST": "1"} if rest else env)
         if counts(count, 1)[0] >= at:
             missed = 0
             yield at, got
         else:
             missed += 1
+
+
+def refusals_of(words, folder, shim, rest):
+    """The refusals of a command line in a folder: numbers, each with a status, an output and an error."""
+    return refusals(lambda env: ran(words, env, cwd=folder), os.path.join(folder, "requests"), shim, rest)

@@ -1,29 +1,14 @@
-/* Loaded before the C library (LD_PRELOAD), it counts the bytes that a program holds. The file ASKED_MOST, 8 bytes, holds
-   the most at one time. It is mapped, so that it is right however the process ends. */
-#include <errno.h>
-#include <fcntl.h>
+/* Loaded before the C library (LD_PRELOAD), it counts the bytes that a program holds. The file ASKED_MOST holds the
+   most at one time. */
+#include "../shims.h"
 #include <malloc.h>
-#include <stddef.h>
-#include <stdlib.h>
-#include <sys/mman.h>
-#include <unistd.h>
 
-extern void *__libc_malloc(size_t size);
-extern void *__libc_calloc(size_t count, size_t size);
-extern void *__libc_realloc(void *old, size_t size);
-extern void *__libc_memalign(size_t align, size_t size);
 extern void __libc_free(void *block);
 
 static unsigned long held, *most;
 
 __attribute__((constructor)) static void begin(void) {
-    const char *path = getenv("ASKED_MOST");
-    int fd = path ? open(path, O_RDWR | O_CREAT | O_TRUNC, 0600) : -1;
-    if (fd < 0 || ftruncate(fd, sizeof *most) != 0) _exit(99);
-    void *place = mmap(NULL, sizeof *most, PROT_READ | PROT_WRITE, MAP_SHARED, fd, 0);
-    if (place == MAP_FAILED) _exit(99);
-    close(fd);
-    most = place;
+    most = map_numbers(getenv("ASKED_MOST"), 1);
 }
 
 /* The sizes of blocks are counted as the C library rounds them. While a block moves, both its places count. */

@@ -1,16 +1,12 @@
-/* Loaded before the C library (LD_PRELOAD), it makes reads and writes of a program fail or stop short. Reads of any file
-   except standard input give at most READ_MOST bytes, and read number READ_FAILS, counted from 1, fails. Before read
-   number CUT_AT the file CUT_FILE is cut to CUT_TO bytes. Writes to standard output take at most WRITE_MOST bytes, and
-   write number WRITE_FAILS fails. With INTERRUPTED each read and each write of any file is first interrupted that many
-   times; interruptions do not count. The file ENDS_COUNT, 3 numbers of 8 bytes, holds the number of reads, writes and
-   bytes read. It is mapped, so that it is right however the process ends. */
+/* Loaded before the C library (LD_PRELOAD), it makes reads and writes of a program fail or stop short. Reads of any
+   file except standard input give at most READ_MOST bytes, and read number READ_FAILS, counted from 1, fails. Before
+   read number CUT_AT the file CUT_FILE is cut to CUT_TO bytes. Writes to standard output take at most WRITE_MOST bytes,
+   and write number WRITE_FAILS fails. With INTERRUPTED each read and each write of any file is first interrupted that
+   many times; interruptions do not count. The file ENDS_COUNT holds the number of reads, of writes and of bytes
+   read. */
 #define _GNU_SOURCE
+#include "../shims.h"
 #include <dlfcn.h>
-#include <errno.h>
-#include <fcntl.h>
-#include <stdlib.h>
-#include <sys/mman.h>
-#include <unistd.h>
 
 typedef ssize_t (*Read)(int, void *, size_t);
 typedef ssize_t (*Write)(int, const void *, size_t);
@@ -26,22 +22,16 @@ static unsigned long number(const char *name, unsigned long other) {
 }
 
 __attribute__((constructor)) static void begin(void) {
-    const char *path = getenv("ENDS_COUNT");
-    int fd = path ? open(path, O_RDWR | O_CREAT | O_TRUNC, 0600) : -1;
-    if (fd < 0 || ftruncate(fd, 3 * sizeof *seen) != 0) _exit(99);
-    void *place = mmap(NULL, 3 * sizeof *seen, PROT_READ | PROT_WRITE, MAP_SHARED, fd, 0);
-    if (place == MAP_FAILED) _exit(99);
-    close(fd);
     next_read = (Read)dlsym(RTLD_NEXT, "read");
     next_write = (Write)dlsym(RTLD_NEXT, "write");
     read_most = number("READ_MOST", -1UL), read_fails = number("READ_FAILS", 0);
     cut_at = number("CUT_AT", 0), cut_to = number("CUT_TO", 0);
     write_most = number("WRITE_MOST", -1UL), write_fails = number("WRITE_FAILS", 0);
     interrupted = number("INTERRUPTED", 0), reads_left = writes_left = interrupted;
-    seen = place;
+    seen = map_numbers(getenv("ENDS_COUNT"), 3);
 }
 
-/* Whether a call is interrupted: as many times in a row as was asked for, and then not. */
+/* Whether a call is interrupted: INTERRUPTED times in a row, and then not. */
 static int is_interrupted(unsigned long *left) {
     if (*left == 0) {
         *left = interrupted;

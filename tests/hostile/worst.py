@@ -1,7 +1,8 @@
 """Files that make the program take much memory for each byte, and how much it may take (docs/FORMATS.md has the
 table)."""
 
-# bytes that a run of any command but `solve` takes at most: so many, and so many for each byte of its files
+# the bytes that a run of any command except `solve`, `best` and `prove` takes at most: FIXED, and A_BYTE for each byte
+# of its files
 FIXED = 8 << 20
 A_BYTE = 20
 
