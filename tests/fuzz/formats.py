@@ -1,4 +1,5 @@
-"""An independent reading of the formats of docs/FORMATS.md: what each command but `solve` writes, and its status.
+"""An independent reading of the formats of docs/FORMATS.md: what each command except `solve`, `best` and `prove`
+writes, and its status.
 
 It shares nothing with the program. It is slow and plain, and made for small inputs."""
 import functools
@@ -71,7 +72,7 @@ class Board:
 
     @functools.cached_property
     def places(self):
-        """The squares on which each kind of cell stands."""
+        """The squares of each kind of cell."""
         found = {cell: set() for cell in b"#@+$*. "}
         for r, row in enumerate(self.rows):
             for c, cell in enumerate(row):

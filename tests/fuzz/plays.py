@@ -24,7 +24,7 @@ def steps(board, boxes, player):
             yield letter, boxes - {ahead} | {beyond}, ahead, ahead
 
 
-# what the search answers beyond as many states as it was asked for
+# what the search answers if it finds more states than its limit
 TOO_MANY = "too many states"
 
 

@@ -10,7 +10,7 @@ import search
 HERE = os.path.dirname(os.path.abspath(__file__))
 ROUNDS = 8
 PLENTY = 1_000_000
-# so many caps of pushes, from 0 on, are set on a level that has no solution
+# a level without a solution is tried under this many caps of pushes, from 0 on
 CAPS = 7
 
 # the width and the height of a room, the number of its boxes, and that of its inner walls
