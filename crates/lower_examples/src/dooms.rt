@@ -1,14 +1,14 @@
-//! Dead squares, the bound of lone squares, and the freeze tests.
-ghost use Rattle.std.specs.Prelude.{◌≡◌, length};
-ghost use Rattle.grid.specs.States.{FitsLevel};
+//! Dead squares, the bound of lone squares, and positions that are doomed.
+mod compared;
+mod pushes;
 
-use crate::boards::{Text, level_below, level_of};
+use crate::boards::{Text, level_of};
 use area::Scratch;
 use doom::laws::{
     a_loose_box_dooms_nothing, a_push_lessens_the_bound_by_one, doomed_are_lost, solution_is_safe,
 };
-use doom::{Bound, Dangers, Dead, doomed, doomed_after};
-use grid::{Dir, Level, Position, Push, Square};
+use doom::{Bound, Dead, doomed};
+use grid::{Level, Position, Square};
 use std::alloc::Global;
 use std::process::Abort;
 
@@ -81,6 +81,7 @@ fn live_squares_are_those_that_reach_a_goal(rt: HostRuntime) {
     }
 }
 
+// Checks which of squares 0 to 63 are dead.
 fn check_live(rt: &impl Abort, dead: &Dead, live: &[u16]) {
     for index in 0..64 {
         assert_eq!(rt;
@@ -109,7 +110,7 @@ fn boxes_need_the_sum_of_their_pushes(rt: HostRuntime) {
     }
 }
 
-// What the bound says of boxes on squares of a board, while the player stands on another.
+// The bound of a board's boxes on these squares.
 fn needed(
     rt: &impl Abort,
     alloc: Global,
@@ -156,331 +157,6 @@ fn is_doomed(rt: &impl Abort, alloc: Global, level: &Level) -> bool {
     let position = Position::start(level).expect(rt, "few boxes");
     assert!(rt; position.fits(level));
     doomed(level, &dead, &position, &mut scratch)
-}
-
-// What the freeze tests say of the start of a level where a push from square 17 leads: of the pushed box's group, and
-// of all boxes.
-fn told(rt: &impl Abort, alloc: Global, level: &Level, dir: Dir) -> (bool, bool) {
-    let dead = Dead::of(alloc, level).expect(rt, "memory");
-    let mut scratch = Scratch::new(alloc, level).expect(rt, "memory");
-    let position = Position::start(level).expect(rt, "few boxes");
-    asked(rt, level, &dead, &position, dir, &mut scratch)
-}
-
-fn asked(
-    rt: &impl Abort,
-    level: &Level,
-    dead: &Dead,
-    position: &Position,
-    dir: Dir,
-    scratch: &mut Scratch,
-) -> (bool, bool)
-    requires dead_of_level { dead.now ≡ level.now }
-    requires room { scratch.old.size ≡ length level.now.cells }
-{
-    let square = Square(17);
-    assert!(rt; position.fits(level));
-    assert!(rt; 17 < level.squares());
-    assert!(rt; position.contains(level.next(square, dir)));
-    let group = doomed_after(level, dead, position, Push { square, dir }, scratch);
-    (group, doomed(level, dead, position, scratch))
-}
-
-#[test]
-fn the_group_of_a_pushed_box_freezes_or_any_box_is_doomed(rt: HostRuntime) {
-    let rows = [
-        (THREE_FROZEN, Dir::L, (true, true)),
-        (THREE_FREE, Dir::R, (false, false)),
-        (DEAD_ELSEWHERE, Dir::R, (false, true)),
-    ];
-    for (row, (board, dir, want)) in rows.into_iter().enumerate() {
-        let level = level_of(&rt, rt.alloc(), board);
-        assert_eq!(&rt; told(&rt, rt.alloc(), &level, dir), want, "row {row}");
-    }
-}
-
-// Whether a push from the start of a level dooms the position after it.
-fn dooms(rt: &impl Abort, alloc: Global, level: &Level, square: Square, dir: Dir) -> bool {
-    let dead = Dead::of(alloc, level).expect(rt, "memory");
-    let start = Position::start(level).expect(rt, "few boxes");
-    told_after(rt, alloc, level, &dead, &start, Push { square, dir })
-}
-
-// The position after a push.
-fn pushed(rt: &impl Abort, before: &Position, square: Square, ahead: Square) -> Position {
-    assert!(rt; before.contains(square));
-    assert!(rt; !before.contains(ahead));
-    let mut after = before.copy();
-    after.push(square, ahead);
-    after
-}
-
-// What `doomed_after` says of a push from a position.
-fn told_after(
-    rt: &impl Abort,
-    alloc: Global,
-    level: &Level,
-    dead: &Dead,
-    before: &Position,
-    push: Push,
-) -> bool
-    requires dead_of_level { dead.now ≡ level.now }
-{
-    let Push { square, dir } = push;
-    assert!(rt; usize::from(square.0) < level.squares());
-    let ahead = level.next(square, dir);
-    let after = pushed(rt, before, square, ahead);
-    assert!(rt; after.fits(level));
-    assert!(rt; after.contains(ahead));
-    let mut scratch = Scratch::new(alloc, level).expect(rt, "memory");
-    doomed_after(level, dead, &after, Push { square, dir }, &mut scratch)
-}
-
-// Whether `Dangers` spares a push from a position.
-fn is_spared(
-    rt: &impl Abort,
-    alloc: Global,
-    level: &Level,
-    dead: &Dead,
-    before: &Position,
-    push: Push,
-) -> bool
-    requires dead_of_level { dead.now ≡ level.now }
-{
-    let Push { square, dir } = push;
-    assert!(rt; before.fits(level));
-    assert!(rt; usize::from(square.0) < level.squares());
-    let mut scratch = Scratch::new(alloc, level).expect(rt, "memory");
-    area::flood(level, before, &mut scratch);
-    let mut dangers = Dangers::unknown();
-    dangers.find(level, dead, &scratch);
-    dangers.spare(level.next(square, dir), dir)
-}
-
-#[test]
-fn a_push_freezes_three_boxes_or_none(rt: HostRuntime) {
-    let level = level_of(&rt, rt.alloc(), THREE_BEFORE);
-    assert!(&rt; dooms(&rt, rt.alloc(), &level, Square(17), Dir::L));
-    assert!(&rt; !dooms(&rt, rt.alloc(), &level, Square(17), Dir::R));
-}
-
-#[test]
-fn pushed_boxes_are_spared_or_not(rt: HostRuntime) {
-    let rows = [
-        (TWO_ENDS, 9, Dir::L, false),
-        (COLUMN_AT_WALL, 11, Dir::R, true),
-        (BESIDE_A_FREE_BOX, 17, Dir::D, true),
-        (BESIDE_A_FREE_BOX, 18, Dir::R, false),
-        (ABOVE_A_FREE_BOX, 17, Dir::U, true),
-        (ABOVE_A_FREE_BOX, 22, Dir::D, false),
-        (THERE_AND_BACK, 19, Dir::R, true),
-    ];
-    for (row, (board, square, dir, want)) in rows.into_iter().enumerate() {
-        let level = level_of(&rt, rt.alloc(), board);
-        let dead = Dead::of(rt.alloc(), &level).expect(&rt, "memory");
-        let start = Position::start(&level).expect(&rt, "few boxes");
-        let push = Push {
-            square: Square(square),
-            dir,
-        };
-        let spared = is_spared(&rt, rt.alloc(), &level, &dead, &start, push);
-        assert_eq!(&rt; spared, want, "row {row}");
-    }
-}
-
-// The square beside one, or the square itself outside the grid.
-fn beside(level: &Level, square: Square, dir: Dir) -> Square {
-    if usize::from(square.0) < level.squares() {
-        level.next(square, dir)
-    } else {
-        square
-    }
-}
-
-// Whether a wall, a member or two dead squares hold a box on the axis of the direction.
-fn is_held(level: &Level, dead: &Dead, members: &[Square], square: Square, dir: Dir) -> bool {
-    let ahead = beside(level, square, dir);
-    let behind = beside(level, square, dir.opposite());
-    level.is_wall(ahead)
-        || level.is_wall(behind)
-        || members.contains(&ahead)
-        || members.contains(&behind)
-        || (dead.is_dead(ahead) && dead.is_dead(behind))
-}
-
-fn is_held_twice(level: &Level, dead: &Dead, members: &[Square], square: Square) -> bool {
-    is_held(level, dead, members, square, Dir::R) && is_held(level, dead, members, square, Dir::D)
-}
-
-// The members that are held on both axes.
-fn held_among(
-    rt: &impl Abort,
-    alloc: Global,
-    level: &Level,
-    dead: &Dead,
-    members: &[Square],
-) -> Vec<Square> {
-    let mut held = Vec::new(alloc);
-    for square in members {
-        if is_held_twice(level, dead, members, *square) {
-            held.push(*square).expect(rt, "memory");
-        }
-    }
-    held
-}
-
-// The boxes that are in a group or beside one of its boxes.
-fn joined(
-    rt: &impl Abort,
-    alloc: Global,
-    level: &Level,
-    boxes: &[Square],
-    group: &[Square],
-) -> Vec<Square> {
-    let mut joined = Vec::new(alloc);
-    for square in boxes {
-        let mut is_joined = group.contains(square);
-        for dir in Dir::ALL {
-            is_joined |= group.contains(&beside(level, *square, dir));
-        }
-        if is_joined {
-            joined.push(*square).expect(rt, "memory");
-        }
-    }
-    joined
-}
-
-// By the definition: whether some boxes connected to the one on the square, at least one of them off goal, are frozen.
-fn is_group_frozen(
-    rt: &impl Abort,
-    alloc: Global,
-    level: &Level,
-    dead: &Dead,
-    boxes: &[Square],
-    square: Square,
-) -> bool {
-    let mut members = joined(rt, alloc, level, boxes, &[square]);
-    for _ in boxes {
-        members = joined(rt, alloc, level, boxes, members.as_slice());
-    }
-    for _ in boxes {
-        members = held_among(rt, alloc, level, dead, members.as_slice());
-    }
-    !members
-        .as_slice()
-        .iter()
-        .all(|member| level.is_goal(*member))
-}
-
-// The position before a push, with the player behind the box; none if the push is not possible.
-fn before_push(level: &Level, boxes: &[Square], push: Push) -> Option<Position> {
-    let Push { square, dir } = push;
-    let ahead = beside(level, square, dir);
-    if level.is_wall(ahead) || boxes.contains(&ahead) {
-        return None;
-    }
-    let before = Position::of(boxes, beside(level, square, dir.opposite()))?;
-    if before.fits(level) {
-        Some(before)
-    } else {
-        None
-    }
-}
-
-// Compares what is said of a push with the definitions, if the push is possible.
-fn compare_push(
-    rt: &impl Abort,
-    alloc: Global,
-    level: &Level,
-    dead: &Dead,
-    boxes: &[Square],
-    push: Push,
-)
-    requires dead_of_level { dead.now ≡ level.now }
-{
-    let Push { square, dir } = push;
-    let Some(before) = before_push(level, boxes, Push { square, dir }) else {
-        return;
-    };
-    let ahead = beside(level, square, dir);
-    let after = pushed(rt, &before, square, ahead);
-    let is_dead = dead.is_dead(ahead);
-    let slow = is_dead || is_group_frozen(rt, alloc, level, dead, after.boxes(), ahead);
-    let fast = told_after(rt, alloc, level, dead, &before, Push { square, dir });
-    let from = square.0;
-    assert_eq!(rt; fast, slow, "a push from {from}");
-    if !is_dead {
-        let is_loose = !is_held_twice(level, dead, after.boxes(), ahead);
-        let spared = is_spared(rt, alloc, level, dead, &before, Push { square, dir });
-        assert_eq!(rt; spared, ahead.0 < 256 && is_loose, "a push from {from}");
-    }
-}
-
-fn compare_boxes(rt: &impl Abort, alloc: Global, level: &Level, dead: &Dead, boxes: &[Square])
-    requires dead_of_level { dead.now ≡ level.now }
-{
-    for square in boxes {
-        for dir in Dir::ALL {
-            let square = *square;
-            compare_push(rt, alloc, level, dead, boxes, Push { square, dir });
-        }
-    }
-}
-
-// Compares all pushes of a level with at most three boxes, from any squares of these.
-fn compare_level(rt: &impl Abort, alloc: Global, level: &Level, dead: &Dead, floor: &[Square])
-    requires dead_of_level { dead.now ≡ level.now }
-{
-    for first in floor {
-        if level.boxes() == 1 {
-            compare_boxes(rt, alloc, level, dead, &[*first]);
-            continue;
-        }
-        for second in floor {
-            if level.boxes() == 2 {
-                compare_boxes(rt, alloc, level, dead, &[*first, *second]);
-                continue;
-            }
-            for third in floor {
-                compare_boxes(rt, alloc, level, dead, &[*first, *second, *third]);
-            }
-        }
-    }
-}
-
-// The squares of a level that are no walls.
-fn floor_of(rt: &impl Abort, alloc: Global, level: &Level) -> Vec<Square> {
-    let mut floor = Vec::new(alloc);
-    let last = u16::try_from(level.squares()).unwrap_or(u16::MAX);
-    for index in 0..last {
-        if !level.is_wall(Square(index)) {
-            floor.push(Square(index)).expect(rt, "memory");
-        }
-    }
-    floor
-}
-
-// Each board has one to seven words, by the rows above it.
-#[test]
-fn each_push_is_told_as_the_definitions_say(rt: HostRuntime) {
-    let boards = [
-        THREE_BEFORE,
-        TWO_ENDS,
-        COLUMN_AT_WALL,
-        BESIDE_A_FREE_BOX,
-        ABOVE_A_FREE_BOX,
-        THERE_AND_BACK,
-        BETWEEN_DEAD,
-        DEAD_ROWS,
-    ];
-    for board in boards {
-        for rows in [0, 8, 17, 26, 35, 44] {
-            let level = level_below(&rt, rt.alloc(), board, rows);
-            let dead = Dead::of(rt.alloc(), &level).expect(&rt, "memory");
-            let floor = floor_of(&rt, rt.alloc(), &level);
-            compare_level(&rt, rt.alloc(), &level, &dead, floor.as_slice());
-        }
-    }
 }
 
 #[test]
