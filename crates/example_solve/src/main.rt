@@ -29,7 +29,7 @@ fn read_input<R: Input>(rt: &R, alloc: Global) -> io::Result<Vec<u8>> {
     Ok(bytes)
 }
 
-/// The answer for a level. The contract of `solve_alone` says which one that is; a level has one at most.
+/// The answer for a level, by the contract of `solve_alone`.
 fn answer_of(alloc: Global, level: &Arc<Level>) -> Result<Answer, SolveFault>
     ensures { IfOk result (λ answer. IsAnswer (capped (arc_value level.now) None) LIMIT answer) }
 {
@@ -45,13 +45,13 @@ fn print_answer<R: Print>(rt: &R, alloc: Global, answer: &Answer) -> anyhow::Res
             println!(rt; "{pushes} pushes: {}", String::from_utf8(text)?)?;
         }
         Answer::Limit => println!(rt; "more than {LIMIT} positions")?,
-        // no cap is set, so that it is unsolvable whatever the number of pushes
+        // without a cap, no number of pushes suffices
         Answer::Unsolvable { .. } | Answer::NoneWithin { .. } => println!(rt; "unsolvable")?,
     }
     Ok(())
 }
 
-/// Solves the level of an entry, or tells the first fault of its board.
+/// Solves the level of an entry, or prints the first fault of its board.
 fn solve_entry<R: Print>(rt: &R, alloc: Global, entry: Entry) -> anyhow::Result<()> {
     let Entry { board, .. } = entry;
     let level = match board {

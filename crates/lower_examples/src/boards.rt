@@ -1,9 +1,9 @@
-//! Levels of boards that are written out.
+//! Levels of boards that are written as bytes.
 use grid::{Cell, Level};
 use std::alloc::Global;
 use std::process::Abort;
 
-/// A board: how many columns it has, and its rows one after the other.
+/// A board: its number of columns, and its rows one after the other.
 pub(crate) type Text = (usize, &'static [u8]);
 
 fn cell_of(byte: u8) -> Cell {
@@ -36,7 +36,7 @@ pub(crate) fn level_of(rt: &impl Abort, alloc: Global, board: Text) -> Level {
     Level::from_cells(alloc, cols, cells).expect(rt, "a level")
 }
 
-/// The level of a board below rows of walls, so that its squares have greater numbers.
+/// The level of a board below `rows` rows of walls, so that its squares have greater numbers.
 pub(crate) fn level_below(rt: &impl Abort, alloc: Global, board: Text, rows: usize) -> Level {
     let (cols, bytes) = board;
     let mut cells = Vec::new(alloc);

@@ -16,11 +16,11 @@ use std::slice;
 use std::sync::Arc;
 use xsb::Entry;
 
-/// A position of a layer: the squares of its boxes, its player's square, and where it is no position of layer 0 its
-/// parent's rank and the square and direction of its push.
+/// A position of a layer: the squares of its boxes, its player's square, and except in layer 0 its parent's rank and
+/// the square and direction of its push.
 pub(crate) type Place = (&'static [u16], u16, Option<(u64, u16, Dir)>);
 
-/// A limit that no worked example comes near.
+/// A limit far above the positions of each worked example.
 pub(crate) const AMPLE: u32 = 1_000_000;
 
 /// The level of a collection of one board.
@@ -37,7 +37,7 @@ fn board_of(rt: &impl Abort, alloc: Global, entry: Entry) -> Arc<Level> {
     Arc::new(alloc, level).expect(rt, "memory")
 }
 
-/// A book of a level with three workers, which holds all positions.
+/// A book of all positions of a level, with three workers.
 pub(crate) fn book_of(rt: &impl Abort, alloc: Global, text: &[u8], limit: u32) -> Book {
     assert!(rt; limit >= 1);
     Book::of(alloc, level_of(rt, alloc, text), None, limit, 3, 0, 1).expect(rt, "a book")
@@ -68,7 +68,7 @@ pub(crate) fn parcel_of<'a>(
     expanded(rt, alloc, layer, rank, &mut scratch)
 }
 
-// The parcel of a rank of a layer, by this scratch.
+// The parcel of a rank of a layer, made with this scratch.
 fn expanded<'a>(
     rt: &impl Abort,
     alloc: Global,
@@ -84,7 +84,7 @@ fn expanded<'a>(
     expand(layer, &dead, &bound, rank, scratch)
 }
 
-/// What a book answers where a worker hands back the parcel of a rank of a layer.
+/// The result of handing back the parcel of a rank of a layer to a book.
 pub(crate) fn hand_back(
     rt: &impl Abort,
     alloc: Global,
@@ -97,14 +97,14 @@ pub(crate) fn hand_back(
     book.hand_back(worker, &parcel_of(rt, alloc, layer, rank))
 }
 
-/// How many ranks a worker has handed back.
+/// The number of ranks that a worker has handed back.
 pub(crate) fn tally(rt: &impl Abort, book: &Book, worker: u8) -> u64 {
     assert!(rt; worker < book.workers());
     book.tally(worker)
 }
 
-/// How many positions a book closes once each rank of its last layer was handed back to it, from the last one if
-/// turned.
+/// Hands back all ranks of a layer to its book, in falling order if `turned`, and closes the next layer. Returns the
+/// number of positions of that layer.
 pub(crate) fn work_through(
     rt: &impl Abort,
     alloc: Global,

@@ -1,4 +1,4 @@
-//! The bound by the player's side and a matching of boxes with goals, held to a slow search.
+//! The bound by the player's side and a matching of boxes with goals, compared with a slow search.
 ghost use Rattle.std.specs.Prelude.{◌≡◌};
 ghost use Rattle.grid.specs.States.{FitsLevel};
 
@@ -13,13 +13,13 @@ use std::process::Abort;
 /// No play ends solved.
 const LOST: u64 = u64::MAX;
 
-// the player cannot come to the other side of the box
+// the player cannot reach the other side of the box
 const WRONG_SIDE: Text = (6, b"#######.@$ #######");
 
 // the same with a way round
 const WAY_ROUND: Text = (6, b"#######    ##.@$ ##    #######");
 
-// each box reaches the goal on the left alone
+// each box reaches only the goal on the left
 const ONE_GOAL_FOR_TWO: Text = (9, b"##########.$ $@ .##########");
 
 const TWO_ROOMS: Text = (8, b"#########. @ $.####  $##########");
@@ -98,7 +98,7 @@ fn add_players(rt: &impl Abort, level: &Level, boxes: &[Square], found: &mut Vec
     }
 }
 
-// Where a step in a direction leads by the rules, and whether it pushes; none where it is not possible.
+// The position after a step in a direction by the rules, and whether it pushes; `None` if the step is not possible.
 fn stepped(
     rt: &impl Abort,
     level: &Level,
@@ -124,7 +124,7 @@ fn stepped(
     Some((after, true))
 }
 
-// The steps that each position allows: the place of the position that each leads to, and its pushes.
+// The steps that each position allows: the index of the position that each leads to, and its pushes.
 fn steps_of(
     rt: &impl Abort,
     alloc: Global,
@@ -148,8 +148,8 @@ fn is_solved(level: &Level, position: &Position) -> bool {
     position.boxes().iter().all(|square| level.is_goal(*square))
 }
 
-// Lowers what each step leads from to what it leads to and its pushes, where that is less, and says whether any was
-// lowered.
+// Lowers the value of each position to the least sum of the pushes of a step and the value of the position that it
+// leads to. Returns whether a value changed.
 fn lower_each(rt: &impl Abort, steps: &[(usize, usize, u64)], least: &mut [u64]) -> bool {
     let mut changed = false;
     for (from, to, pushes) in steps {
@@ -198,8 +198,8 @@ fn the_bound_is_between_that_of_lone_squares_and_the_fewest_pushes(rt: HostRunti
     }
 }
 
-// Holds the bound of each position of a level to the slow search and to the bound of `doom`. One matching serves them
-// all.
+// Compares the bound of each position of a level with the slow search and with the bound of `doom`. All share one
+// matching.
 fn compare_all(rt: &impl Abort, alloc: Global, level: &Level, row: usize) {
     let positions = all_positions(rt, alloc, level);
     let least = least_pushes(rt, alloc, level, positions.as_slice());
@@ -235,7 +235,7 @@ fn of_one_box_the_bound_is_the_fewest_pushes(rt: HostRuntime) {
     }
 }
 
-// Holds the bound of each position of a level with one box to the slow search.
+// Compares the bound of each position of a level with one box with the slow search.
 fn compare_one(rt: &impl Abort, alloc: Global, level: &Level, row: usize) {
     let positions = all_positions(rt, alloc, level);
     let least = least_pushes(rt, alloc, level, positions.as_slice());

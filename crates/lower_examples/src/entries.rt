@@ -1,4 +1,4 @@
-//! Collections: their boards, the faults of these, their names, and how a level is written.
+//! Collections: boards, their faults and names, and the text of a level.
 use grid::{Level, LevelFault, MAX_COLS, MAX_ROWS, Square};
 use std::alloc::Global;
 use std::process::Abort;
@@ -126,7 +126,7 @@ fn each_cell_is_read_and_written(rt: HostRuntime) {
     );
 }
 
-// Checks the cells of the row `#+ $$.-_*#` after a row of ten walls: whether a wall, a box and a goal is there.
+// Checks which cells of the row `#+ $$.-_*#`, after a row of ten walls, are walls, boxes and goals.
 fn check_cells(rt: &impl Abort, level: &Level) {
     assert_eq!(rt; level.player(), Square(11));
     let cells = [

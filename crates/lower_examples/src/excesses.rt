@@ -1,7 +1,7 @@
-//! What groups of boxes need above what each box needs by itself.
+//! The pushes that groups of boxes need beyond what each box needs alone.
 //!
-//! The numbers of rooms with three boxes and more come from slow searches by the rules: over all positions of the
-//! room for its fewest pushes, and over all positions of each group alone in the room for what the group needs.
+//! For rooms with three boxes or more the numbers come from slow searches by the rules: over all positions of the room
+//! for its fewest pushes, and over all positions of each group alone in the room for the pushes that the group needs.
 ghost use Rattle.std.specs.Prelude.{◌≡◌};
 
 use crate::boards::{Text, level_of};
@@ -66,7 +66,7 @@ fn groups_of(rt: &impl Abort, alloc: Global, level: &Level, most: usize) -> Grou
     groups
 }
 
-// How many pushes groups of up to `most` boxes say that the start of a level needs.
+// The lower bound of groups of up to `most` boxes for the start of a level.
 fn lower_of(rt: &impl Abort, alloc: Global, board: Text, most: usize) -> u64 {
     let level = level_of(rt, alloc, board);
     let groups = groups_of(rt, alloc, &level, most);

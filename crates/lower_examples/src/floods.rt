@@ -1,4 +1,4 @@
-//! What the player reaches, normal positions, walks and possible pushes.
+//! Squares that the player reaches, normal positions, walks and possible pushes.
 ghost use Rattle.std.specs.Prelude.{◌≡◌, length};
 ghost use Rattle.grid.specs.States.{FitsLevel, IsScene};
 
@@ -67,7 +67,7 @@ fn stands(position: &Position, box_square: u16, player: u16) -> bool {
     position.boxes() == [Square(box_square)].as_slice() && position.player() == Square(player)
 }
 
-// The normal position after a push from somewhere in the area, by a flood of the position before it; none where the
+// The normal position after a push from somewhere in the area, by a flood of the position before it; `None` if the
 // push is not possible.
 fn pushed(level: &Level, position: &Position, push: Push, scratch: &mut Scratch) -> Option<Position>
     requires fits { FitsLevel level.now position.now }
@@ -108,7 +108,7 @@ fn after_a_push_the_normal_position_is_that_of_a_flood(rt: HostRuntime) {
     }
 }
 
-// The normal position after a push that is possible.
+// The normal position after a possible push.
 fn pushed_from(
     rt: &impl Abort,
     alloc: Global,

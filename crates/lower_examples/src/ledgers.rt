@@ -7,7 +7,7 @@ use claims::{Drawer, Ledger, PLACES};
 use std::alloc::Global;
 use std::process::Abort;
 
-// A ledger of three numbers, and three drawers, of which the first two are at places 0 and 1.
+// A ledger of three numbers, and three drawers; the first two have places 0 and 1.
 fn with_three<R: Abort>(rt: &R, alloc: Global) -> (Ledger, Drawer, Drawer, Drawer)
     ensures first { result.1.ledger ≡ result.0 }
     ensures others { (result.2.ledger ≡ result.0) × (result.3.ledger ≡ result.0) }
@@ -83,7 +83,7 @@ fn listed<R: Abort>(
     drawers
 }
 
-// What an audit of three drawers tells.
+// The audit of three drawers.
 fn audit_three<R: Abort>(
     rt: &R,
     alloc: Global,

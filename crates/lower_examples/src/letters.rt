@@ -1,4 +1,4 @@
-//! Solutions: what a text of letters is, what a play of it comes to, and how it is written.
+//! Solutions: their texts, and the verdicts of replays.
 use crate::boards::{Text, level_of};
 use lurd::{LurdFault, Verdict, parse, replay, write};
 use std::alloc::Global;
@@ -8,7 +8,7 @@ use std::test::Fail;
 // A player, a box and a goal in a row between walls.
 const CORRIDOR: Text = (5, b"######@$.######");
 
-// The verdict on a text, played in the corridor.
+// The verdict on a text, replayed in the corridor.
 fn judged(rt: &impl Abort, alloc: Global, text: &[u8]) -> Result<Verdict, Fail> {
     let moves = parse(alloc, text)?;
     Ok(replay(alloc, &level_of(rt, alloc, CORRIDOR), &moves)?)
@@ -48,7 +48,7 @@ fn faults(rt: HostRuntime) {
     }
 }
 
-// A text of so many items of 9,999 letters, and then another.
+// A text of `times` items of 9,999 letters, and then `last`.
 fn repeated(alloc: Global, times: usize, last: &[u8]) -> Result<Vec<u8>, Fail> {
     let mut text = Vec::new(alloc);
     for _ in 0..times {

@@ -1,7 +1,7 @@
-//! Worked examples of the crates below `crew`, each over public calls, run over memory.
+//! Worked examples of the public calls of the crates below `crew`.
 //!
-//! Who owns a book moves it on or drops it by name. At the end of a block the proof of the function would take it
-//! apart field by field, which takes most of a minute for each such end.
+//! A function that owns a book moves it on or drops it by name. Otherwise its proof would take the book apart field by
+//! field at the end of the block, which takes most of a minute.
 #![tactic(auto)]
 
 #[cfg(test)]

@@ -1,5 +1,5 @@
-//! Calls that are made once more where memory was refused: what they borrowed is unchanged then, and they give the
-//! right result. `tests/refusals` runs each test with each request for memory refused in turn.
+//! Calls that are repeated after running out of memory: their arguments are unchanged, and the second call gives the
+//! right result. `tests/refusals` runs each test again for each request for memory, which fails.
 ghost use Rattle.std.specs.Prelude.{◌≡◌, length};
 ghost use Rattle.grid.specs.States.{IsScene};
 
@@ -18,7 +18,7 @@ use xsb::Collection;
 /// Two boards with names, one of which has a fault.
 const BOARDS: &[u8] = b"; one\n5#|#@$.#|5#\n\n####\n#@$.\n####\nTitle: two\n";
 
-/// What stands in a text before something is appended.
+/// The text before a call appends to it.
 const BEFORE: &[u8] = b"before";
 
 #[test]
@@ -50,7 +50,7 @@ fn boards_are_asked_for_again(rt: HostRuntime) {
     }
 }
 
-// The first line of the next board, which is asked for once more where memory was refused.
+// The first line of the next board. Out of memory, the call is repeated.
 fn next_line(rt: &impl Abort, alloc: Global, boards: &mut Collection<'_>) -> Option<u32> {
     let mut answer = boards.next_board(alloc);
     if answer.is_err() {
@@ -98,7 +98,7 @@ fn a_walk_is_appended_again(rt: HostRuntime) {
     check_walk(&rt, rt.alloc(), &level, &state);
 }
 
-// Checks a walk to the upper left of the hall, behind a letter.
+// Checks a walk to the upper left of HALL, appended to a letter.
 fn check_walk(rt: &impl Abort, alloc: Global, level: &Level, state: &State)
     requires { IsScene level.now state.now }
 {
@@ -126,8 +126,7 @@ fn layers_are_made_again(rt: HostRuntime) {
     drop(book);
 }
 
-// Checks the layer that a book closed last, and closes the next one. Each call is made once more where memory was
-// refused.
+// Checks the last closed layer of a book, and closes the next one. Out of memory, each call is repeated.
 fn next_layer(rt: &impl Abort, alloc: Global, book: &mut Book, places: &[Place]) {
     let layer = join_again(rt, alloc, book);
     check_places(rt, &layer, places);

@@ -1,5 +1,4 @@
-//! The examples on the pages of the crates below `crew`, at the head of each `lib.rt`. `tests/cited` holds each page
-//! to the text here.
+//! The examples at the head of `lib.rt` of the crates below `crew`. `tests/cited` compares them with the text here.
 ghost use Rattle.std.specs.Prelude.{◌≡◌, length};
 ghost use Rattle.grid.specs.Board.{start};
 ghost use Rattle.grid.specs.States.{FitsLevel};
@@ -132,7 +131,7 @@ fn finds_corral(
     corrals::find(level, dead, start, scratch, &slack, corral)
 }
 
-/// Checks that a corral is found that holds the box.
+/// Checks that a corral is found, and that it holds the box.
 fn check_corral(
     rt: &impl Abort,
     alloc: Global,
@@ -193,7 +192,7 @@ fn page_of_successors(rt: HostRuntime) {
     assert_eq!(&rt; share_of(&start, 4), 2);
 }
 
-/// Checks that of this level the start alone is found at first.
+/// Checks that only the start of this level is found at first.
 fn check_found(rt: &impl Abort, alloc: Global, level: &Level)
     requires { FitsLevel level.now (start level.now) }
 {

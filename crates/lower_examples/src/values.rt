@@ -1,4 +1,4 @@
-//! Readers and small values of the lowest crates, and laws.
+//! Readers, small values and laws of the lowest crates.
 use crate::boards::{Text, level_of};
 use area::SquareSet;
 use area::bits::{has, put, take_out};

@@ -12,8 +12,8 @@ pub(crate) const TWO_ENDS: &[u8] = b"#######\n#.$@$.#\n#######\n";
 /// A box that comes back to its first square, with the player on its other side.
 pub(crate) const THERE_AND_BACK: &[u8] = b"8#|4#3-#|#.@$3-#|4#3-#|8#\n";
 
-/// A room with three boxes. A search of its own, in another language, counted its layers: 1, 9, 34, 87, 162, 221,
-/// 233, 187 and 119 positions, of which one of the last is solved.
+/// A room with three boxes. An independent search, in another language, counted its layers: 1, 9, 34, 87, 162, 221,
+/// 233, 187 and 119 positions. One position of the last layer is solved.
 pub(crate) const ROOM: &[u8] =
     b"#########\n#@      #\n# $ $ $ #\n#       #\n#.  .  .#\n#########\n";
 

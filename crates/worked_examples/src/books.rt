@@ -1,4 +1,4 @@
-//! Books and layers that workers are tried on.
+//! Books and layers for workers.
 
 use area::Scratch;
 use grid::Level;
@@ -9,7 +9,7 @@ use std::slice;
 use std::sync::Arc;
 use xsb::Entry;
 
-/// A limit that no worked example comes near.
+/// A limit far above the positions of each worked example.
 pub(crate) const AMPLE: u32 = 1_000_000;
 
 /// The level of a collection of one board.
@@ -26,7 +26,7 @@ fn board_of(rt: &impl Abort, alloc: Global, entry: Entry) -> Arc<Level> {
     Arc::new(alloc, level).expect(rt, "memory")
 }
 
-/// A book of a level with three workers, which holds all positions.
+/// A book of all positions of a level, with three workers.
 pub(crate) fn book_of(rt: &impl Abort, alloc: Global, text: &[u8], limit: u32) -> Book {
     assert!(rt; limit >= 1);
     Book::of(alloc, level_of(rt, alloc, text), None, limit, 3, 0, 1).expect(rt, "a book")

@@ -18,16 +18,16 @@ use std::sync::{Arc, Wait};
 use std::thread;
 use std::thread::Threads;
 
-/// How often a worker that is held looks for the one that frees it.
+/// The number of times that a held worker looks whether another one has freed it.
 const TURNS: u32 = 1_000_000;
 
 /// The layer in which a worker is held.
 const HELD_LAYER: u64 = 1;
 
-/// The number of no worker.
+/// Not the number of a worker.
 const NOBODY: u64 = u64::MAX;
 
-/// The event after which a gate holds the worker whose event of that kind comes first.
+/// The kind of event after which a gate holds a worker: the one whose event of this kind comes first.
 #[derive(Clone, Copy, PartialEq, Eq)]
 enum After {
     Draw,
@@ -58,14 +58,14 @@ impl Holding {
         }
     }
 
-    /// Whether this worker's event comes first.
+    /// Whether this worker's event is the first one.
     fn is_first(&self, me: u64) -> bool {
         self.held
             .compare_exchange(NOBODY, me, Ordering::SeqCst, Ordering::SeqCst)
             .is_ok()
     }
 
-    /// Lets the worker go that is held, if it is another one than this.
+    /// Frees the held worker, unless it is this one.
     fn let_go(&self, me: u64) {
         let held = self.held.load(Ordering::SeqCst);
         if held != NOBODY && held != me {
@@ -73,7 +73,7 @@ impl Holding {
         }
     }
 
-    /// Waits, for as many turns as there are at most, until the worker is let go.
+    /// Waits until the worker is freed, for at most TURNS turns.
     fn hold(&self) {
         for _ in 0..TURNS {
             if self.freed.load(Ordering::SeqCst) == 1 {
@@ -94,7 +94,7 @@ impl Gate for Holding {
         if layer != HELD_LAYER {
             return true;
         }
-        // each draw of a worker is followed by a parcel that each of the books accepted
+        // after each draw of a worker, each of the books accepts a parcel
         let me = worker as u64;
         let event = if nth % (self.locks as u64 + 1) == 1 {
             After::Draw
@@ -110,7 +110,7 @@ impl Gate for Holding {
     }
 }
 
-/// The level of three rows in which so many boxes stand on goals beside the player.
+/// The level of three rows with the player and `boxes` boxes on goals in the middle row.
 fn home_of(rt: &impl Abort, alloc: Global, boxes: usize) -> Arc<Level> {
     let mut cells = Vec::new(alloc);
     let cols = boxes.saturating_add(3);
@@ -130,7 +130,7 @@ fn home_of(rt: &impl Abort, alloc: Global, boxes: usize) -> Arc<Level> {
     Arc::new(alloc, level).expect(rt, "memory")
 }
 
-/// What two workers answer to the level over so many locks, and how often each layer's gate was asked.
+/// The answer of two workers over `locks` locks, and the number of calls of the gate in each layer.
 fn held<R: Threads + Wait + Sync + Abort>(
     rt: &R,
     alloc: Global,
@@ -166,7 +166,7 @@ fn held<R: Threads + Wait + Sync + Abort>(
     (answer, calls)
 }
 
-/// Checks the answer and the events of two workers over so many locks.
+/// Checks the answer and the events of two workers over `locks` locks.
 fn check_held<R: Threads + Wait + Sync + Abort>(
     rt: &R,
     alloc: Global,
@@ -202,7 +202,7 @@ fn no_lock_is_held_while_a_gate_is_asked(rt: HostRuntime) {
 
 #[test]
 fn the_limit_is_counted_over_all_books(rt: HostRuntime) {
-    // the layers hold 4 positions, each of the two books 2, and both accept each parcel
+    // the layers have 4 positions, each of the two books has 2, and both accept each parcel
     let (answer, calls) = held(&rt, rt.alloc(), 2, 3, After::Draw);
     assert!(&rt; matches!(&answer, Ok(Answer::Limit)));
     assert_eq!(&rt; calls, [3, 6, 0]);

@@ -1,4 +1,4 @@
-//! A reader and a writer over memory that move few bytes at a time, and fail when they are told to.
+//! A reader and a writer over memory that move few bytes at a time, and fail at a chosen call.
 use std::alloc::Global;
 use std::io;
 use std::io::{ErrorKind, Read, Write};
@@ -9,12 +9,12 @@ pub struct Pieces<'a> {
     rest: &'a [u8],
     most: usize,
     fails_at: usize,
-    /// How many reads there were.
+    /// The number of reads.
     pub reads: usize,
 }
 
 impl<'a> Pieces<'a> {
-    /// A reader that gives at most `most` bytes a read, and fails at the read of this number, from 1; never for 0.
+    /// A reader that gives at most `most` bytes a read. The read of this number, from 1, fails; none if it is 0.
     pub fn new(bytes: &'a [u8], most: usize, fails_at: usize) -> Pieces<'a> {
         Pieces {
             rest: bytes,
@@ -39,19 +39,19 @@ impl Read for Pieces<'_> {
     }
 }
 
-/// A writer that keeps what it takes.
+/// A writer that keeps the bytes that it takes.
 #[derive(Drop)]
 pub struct Paper {
-    /// What it took.
+    /// The bytes that it has taken.
     pub text: Vec<u8>,
     most: usize,
     fails_at: usize,
-    /// How many writes there were.
+    /// The number of writes.
     pub writes: usize,
 }
 
 impl Paper {
-    /// A writer that takes at most `most` bytes a write, and fails at the write of this number, from 1; never for 0.
+    /// A writer that takes at most `most` bytes a write. The write of this number, from 1, fails; none if it is 0.
     pub fn new(alloc: Global, most: usize, fails_at: usize) -> Paper {
         Paper {
             text: Vec::new(alloc),

@@ -1,5 +1,4 @@
-//! The examples on the pages of `crew` and `sokopar`, at the head of each `lib.rt`. `tests/cited` holds each page to
-//! the text here.
+//! The examples at the head of `lib.rt` of `crew` and `sokopar`. `tests/cited` compares them with the text here.
 use crate::boards::CORNER;
 use crate::books::level_of;
 use crew::{Config, Free};

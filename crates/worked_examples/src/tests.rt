@@ -16,7 +16,7 @@ use std::process::Abort;
 use std::sync::Wait;
 use std::thread::Threads;
 
-/// What a run answered and wrote, and how often it read and wrote.
+/// The result of a run, its report, and the numbers of its reads and writes.
 #[derive(Drop)]
 pub(crate) struct Outcome {
     pub(crate) answer: Result<u8, RunFault>,
@@ -26,7 +26,7 @@ pub(crate) struct Outcome {
     pub(crate) writes: usize,
 }
 
-/// How a run's ends behave: the bytes moved at a time, and the number of the read or write that fails, if not 0.
+/// The ends of a run: the bytes moved at a time, and the number of the read or write that fails, if not 0.
 #[derive(Clone, Copy)]
 pub(crate) struct Ends {
     pub(crate) read_most: usize,
@@ -36,7 +36,7 @@ pub(crate) struct Ends {
     pub(crate) write_fails: usize,
 }
 
-/// Ends that move all that is wanted and never fail.
+/// Ends that move all bytes at once and never fail.
 pub(crate) const WELL: Ends = Ends {
     read_most: usize::MAX,
     write_most: usize::MAX,
@@ -45,22 +45,22 @@ pub(crate) const WELL: Ends = Ends {
     write_fails: 0,
 };
 
-/// The limit of positions that the program takes where none is given.
+/// The default limit of positions of the program.
 pub(crate) const DEFAULT_LIMIT: u32 = 1_000_000;
 
-/// What is asked of a collection.
+/// A command on a collection.
 #[derive(Clone, Copy)]
 pub(crate) enum Command<'a> {
     Check,
     Show(u32),
     Dead(u32),
     Replay(u32, &'a [u8]),
-    /// The number of a level, and of both workers and locks.
+    /// The number of a level, and the numbers of workers and locks, which are equal.
     Solve(u32, u8),
 }
 
-/// Runs the engine of a command. Numbers of levels, of workers and of locks outside their ranges are taken for the
-/// nearest within.
+/// Runs the engine of a command. It replaces numbers of levels, workers and locks that are out of range by the nearest
+/// ones in range.
 fn perform<R: Threads + Wait + Sync, S: Source, T: Source, K: Sink>(
     rt: &R,
     alloc: Global,
@@ -86,7 +86,7 @@ fn perform<R: Threads + Wait + Sync, S: Source, T: Source, K: Sink>(
     }
 }
 
-/// Runs a command on a collection over these ends.
+/// Runs a command on a collection with these ends.
 pub(crate) fn run<R: Threads + Wait + Sync>(
     rt: &R,
     alloc: Global,
@@ -119,13 +119,13 @@ pub(crate) fn run<R: Threads + Wait + Sync>(
 }
 
 impl Outcome {
-    /// Checks that the run wrote this report and answered this status.
+    /// Checks that the run wrote this report and returned this status.
     pub(crate) fn is(&self, rt: &impl Abort, report: &[u8], status: u8) {
         assert_eq!(rt; self.answer, Ok(status));
         assert_eq!(rt; self.text.as_slice(), report);
     }
 
-    /// Checks that the run answered this fault and wrote nothing.
+    /// Checks that the run returned this fault and wrote nothing.
     pub(crate) fn is_fault(&self, rt: &impl Abort, fault: RunFault) {
         assert_eq!(rt; self.answer, Err(fault));
         assert!(rt; self.text.is_empty());

@@ -10,7 +10,7 @@ use std::fmt::Display;
 use std::process::Abort;
 use xsb::ReadFault;
 
-// Asserts what an error displays.
+// Checks the text of an error.
 fn shows<R: Abort, E: Display + Drop>(rt: &R, alloc: Global, error: E, text: &str) {
     let shown = error.to_string(alloc).expect(rt, "memory");
     assert_eq!(rt; shown.as_str(), text);

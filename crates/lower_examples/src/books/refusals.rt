@@ -1,11 +1,11 @@
-//! What a book answers to doubled, late, foreign and unclaimed parcels, and at its limit.
+//! The errors of a book for doubled, late, foreign and unclaimed parcels, and at its limit.
 use super::{AMPLE, book_of, hand_back, joined, start_of, tally, work_through};
 use crate::boards::{ONE, TWO_ENDS};
 use layers::{BeginFault, Book, Claim, CloseFault, Closed, Layer, Refusal};
 use std::alloc::Global;
 use std::process::Abort;
 
-/// Where a parcel is from: the layer that the book has closed last, layer 0, or layer 0 of another level.
+/// The layer of a parcel: the last one that the book has closed, layer 0, or layer 0 of another level.
 #[derive(Clone, Copy)]
 enum Origin {
     Last,
@@ -13,24 +13,24 @@ enum Origin {
     Foreign,
 }
 
-/// What is done with a book, and what it answers.
+/// A call of a book, with its result.
 #[derive(Clone, Copy)]
 enum Event {
-    /// Its last layer is begun.
+    /// Begins its last layer.
     Begins(Result<(), BeginFault>),
-    /// A rank is claimed.
+    /// Claims a rank.
     Claims(Option<Claim>),
-    /// A worker hands back the parcel of a rank.
+    /// Hands back the parcel of a rank, for a worker.
     Takes(Origin, u8, u64, Result<(), Refusal>),
-    /// Claims are freed.
+    /// Frees all claims.
     Reopens,
-    /// The next layer is closed.
+    /// Closes the next layer.
     Closes(Result<Closed, CloseFault>),
-    /// It is asked for its last layer, whether it has begun, and how many ranks its workers have handed back.
+    /// Reads its last layer, whether it has begun, and the number of ranks that each worker has handed back.
     Tells(u64, bool, [u64; 3]),
 }
 
-/// A parcel comes twice, and then one of another level.
+/// A parcel twice, and then one of another level.
 const ONCE: &[Event] = &[
     Event::Begins(Ok(())),
     Event::Takes(Origin::Last, 1, 0, Ok(())),
@@ -43,7 +43,7 @@ const ONCE: &[Event] = &[
     Event::Tells(1, false, [0, 1, 0]),
 ];
 
-/// A claim never comes back.
+/// A claim that never comes back.
 const CLAIMED: &[Event] = &[
     Event::Claims(None),
     Event::Begins(Ok(())),
@@ -54,8 +54,8 @@ const CLAIMED: &[Event] = &[
     Event::Claims(Some(Claim { layer: 0, rank: 0 })),
 ];
 
-/// Parcels come before the layer has begun, of another layer, unclaimed, twice, and of another level; a layer is
-/// begun twice, and closed too early.
+/// Parcels before the layer has begun, of another layer, unclaimed, twice, and of another level; a layer that begins
+/// twice, and one that closes too early.
 const STRANGE: &[Event] = &[
     Event::Takes(Origin::Last, 0, 0, Err(Refusal::NoSuchRank)),
     Event::Takes(Origin::First, 0, 0, Err(Refusal::OtherLayer)),
@@ -73,7 +73,7 @@ const STRANGE: &[Event] = &[
     Event::Closes(Ok(Closed { layer: 2, count: 1 })),
 ];
 
-/// A parcel brings the book over its limit.
+/// A parcel that brings the book over its limit.
 const OVER: &[Event] = &[
     Event::Begins(Ok(())),
     Event::Takes(Origin::Last, 0, 0, Err(Refusal::Over)),
@@ -98,7 +98,7 @@ fn a_book_that_has_closed_layer_1_answers(rt: HostRuntime) {
     }
 }
 
-// Checks the book of the level with boxes at two ends, after it has closed layer 1 if told so.
+// Checks the calls of a book of TWO_ENDS, after it has closed layer 1 if `goes_on`.
 fn check_book(
     rt: &impl Abort,
     alloc: Global,
@@ -112,7 +112,7 @@ fn check_book(
     drop(book);
 }
 
-// Checks a book that has closed layer 0, after it has closed layer 1 if told so.
+// Checks the calls of a book that has closed layer 0, after it has closed layer 1 if `goes_on`.
 fn check_answers(
     rt: &impl Abort,
     alloc: Global,
@@ -129,7 +129,7 @@ fn check_answers(
     }
 }
 
-// Checks a book after it has closed layer 1.
+// Checks the calls of a book after it has closed layer 1.
 fn check_next(
     rt: &impl Abort,
     alloc: Global,
@@ -143,8 +143,7 @@ fn check_next(
     check_events(rt, alloc, book, [&last, first, foreign], events);
 }
 
-// Checks what a book answers to each of these events in turn: its last layer, layer 0, and that of another level are
-// given.
+// Checks these calls of a book in turn, given its last layer, layer 0, and that of another level.
 fn check_events(
     rt: &impl Abort,
     alloc: Global,
@@ -157,7 +156,7 @@ fn check_events(
     }
 }
 
-// Checks what a book answers to an event.
+// Checks a call of a book.
 fn check_event(rt: &impl Abort, alloc: Global, book: &mut Book, layers: [&Layer; 3], event: Event) {
     let [last, first, foreign] = layers;
     match event {
@@ -178,7 +177,7 @@ fn check_event(rt: &impl Abort, alloc: Global, book: &mut Book, layers: [&Layer;
     }
 }
 
-// Checks what a book answers where a worker hands back a rank of a layer.
+// Checks the result of handing back a rank of a layer, for a worker.
 fn check_parcel(
     rt: &impl Abort,
     alloc: Global,
@@ -191,7 +190,7 @@ fn check_parcel(
     assert_eq!(rt; hand_back(rt, alloc, book, worker, layer, rank), answer);
 }
 
-// Checks what a book tells of itself.
+// Checks the readers of a book.
 fn check_told(rt: &impl Abort, book: &Book, layer: u64, begun: bool, tallies: [u64; 3]) {
     assert_eq!(rt; (book.layer(), book.has_begun()), (layer, begun));
     let told = [tally(rt, book, 0), tally(rt, book, 1), tally(rt, book, 2)];

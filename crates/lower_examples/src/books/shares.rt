@@ -1,4 +1,4 @@
-//! Books of several shares: each closes its own positions, and all of them are joined into the whole layers.
+//! Books of several shares: each closes its own positions, and joining all of them gives the whole layers.
 ghost use Rattle.std.specs.Prelude.{◌≡◌, ℕ, Some, slice_get};
 ghost use Rattle.layers.specs.inside.Merging.{IsSegmentOf};
 
@@ -38,7 +38,7 @@ fn shares_of(rt: &impl Abort, alloc: Global, text: &[u8], shares: u8) -> Vec<Boo
     books
 }
 
-// How many positions the books close together once each rank of the layer was handed back to them.
+// Hands back each rank of a layer to all its books, and closes the next layer. Returns its number of positions.
 fn close_all(
     rt: &impl Abort,
     alloc: Global,
@@ -59,8 +59,8 @@ fn joined(rt: &impl Abort, alloc: Global, books: &[Book]) -> Layer {
     Layer::join(alloc, books).expect(rt, "a layer")
 }
 
-// A way to come to the layers of a level: the number of shares that its positions are dealt to, and whether parcels
-// come from the last rank on.
+// A way to find the layers of a level: the number of shares of its positions, and whether parcels come in falling
+// order of ranks.
 type Way = (u8, bool);
 
 // Checks the layers of a level.
@@ -120,7 +120,7 @@ fn layers_are_joined_in_memory_and_in_segments(rt: HostRuntime) {
     check_joins(&rt, rt.alloc(), books.as_slice(), start);
 }
 
-// Checks layer 1 of the corner, joined in the room that layer 0 left, and in segments of a position or more.
+// Checks layer 1 of CORNER, joined in the memory of layer 0, and in segments of a position or more.
 fn check_joins(rt: &impl Abort, alloc: Global, books: &[Book], start: Layer) {
     let [_, places, _] = CORNER_LAYERS else {
         panic!(rt; "three layers");
@@ -157,7 +157,7 @@ fn only_all_shares_in_order_are_joined(rt: HostRuntime) {
     check_turned(&rt, rt.alloc(), books.as_mut_slice());
 }
 
-// Checks that none of two books alone, and no empty list, is joined.
+// Checks that neither one of two books nor an empty list is joined.
 fn check_parts(rt: &impl Abort, alloc: Global, books: &[Book]) {
     assert!(rt; books.len() == 2);
     check_not_whole(rt, alloc, &books[..1]);
@@ -172,7 +172,7 @@ fn check_turned(rt: &impl Abort, alloc: Global, books: &mut [Book]) {
     check_not_whole(rt, alloc, books);
 }
 
-// Checks that books are not joined since they are not all the shares in order.
+// Checks that books are not joined because they are not all the shares in order.
 fn check_not_whole(rt: &impl Abort, alloc: Global, books: &[Book]) {
     assert_eq!(rt; Layer::join(alloc, books).err(), Some(JoinFault::NotWhole));
 }

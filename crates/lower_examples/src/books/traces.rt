@@ -60,7 +60,7 @@ fn expand_gives_the_successors_and_no_other(rt: HostRuntime) {
     check_parcel(&rt, &parcel_of(&rt, rt.alloc(), &layer, 0));
 }
 
-// Checks the parcel of the corner's first position: two successors.
+// Checks the parcel of the start of CORNER: two successors.
 fn check_parcel(rt: &impl Abort, parcel: &Parcel<'_>) {
     assert_eq!(rt; (parcel.layer(), parcel.rank()), (0, 0));
     let [left, up] = parcel.successors() else {

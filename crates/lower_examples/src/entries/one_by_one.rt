@@ -1,4 +1,4 @@
-//! Collections that are read board by board, and levels that are made of boards.
+//! Collections, read board by board, and levels made of boards.
 use super::{Shape, shape};
 use crate::boards::cells_of;
 use grid::{Board, Level, LevelFault, Square};

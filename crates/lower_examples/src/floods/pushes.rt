@@ -10,13 +10,13 @@ use grid::{Dir, Level, Position, Square};
 use std::alloc::Global;
 use std::process::Abort;
 
-// A field that begins anew on a second word of squares, with two boxes.
+// A field of two words of squares, with two boxes.
 const FIELD: Text = (
     10,
     b"###########@$.     ##  $.    ##        ##        ##        ##        ##        ###########",
 );
 
-// Whether the position allows just these pushes, in this order.
+// Whether the position allows exactly these pushes, in this order.
 fn allows(
     level: &Level,
     position: &Position,

@@ -9,12 +9,12 @@ use std::process::Abort;
 use std::sync::Arc;
 use std::thread::{Threads, join};
 
-// a number more than the ledger has
+// one more than the numbers of the ledger
 const DRAWS: usize = 1001;
 
 const RACES: usize = 10_000;
 
-// A drawer, and the numbers that it drew until none was left.
+// A drawer, and the numbers that it has drawn until none was left.
 fn drained<R: Abort>(rt: &R, alloc: Global, ledger: &Ledger, drawer: Drawer) -> (Drawer, Vec<u32>)
     requires { drawer.ledger ≡ ledger.now }
     ensures { result.0.ledger ≡ ledger.now }
@@ -176,7 +176,7 @@ fn rivals<R: Abort>(rt: &R, alloc: Global) -> (Racer, Racer) {
     )
 }
 
-// Which of the racers got the place.
+// The racers that got the place.
 fn race<R: Abort>(rt: &R, alloc: Global, racers: Vec<Racer>) -> Vec<bool> {
     let mut won = Vec::new(alloc);
     for mut racer in racers {

@@ -1,4 +1,4 @@
-//! One worker over a ledger.
+//! One worker with a ledger.
 ghost use Rattle.std.specs.Prelude.{◌≡◌};
 ghost use Rattle.claims.specs.Hands.{newcomer};
 
@@ -13,13 +13,13 @@ use std::process::Abort;
 use std::slice;
 use std::sync::{Mutex, Wait};
 
-/// For how many workers the books are made.
+/// The number of workers of the books.
 pub(super) const WORKERS: u8 = 3;
 
 /// The claim of the first rank.
 pub(super) const FIRST: Claim = Claim { layer: 0, rank: 0 };
 
-/// A book at work on layer 0, and that layer, which has one position.
+/// A book that has begun layer 0, and that layer, which has one position.
 pub(super) fn begun(rt: &impl Abort, alloc: Global) -> (Book, Layer) {
     let level = level_of(rt, alloc, TWO_ENDS);
     let mut book = Book::of(alloc, level, None, 1_000_000, WORKERS, 0, 1).expect(rt, "a book");
@@ -38,7 +38,7 @@ pub(super) fn one_number(rt: &impl Abort, alloc: Global) -> (Ledger, Drawer, Dra
     (ledger, first, second)
 }
 
-/// How a worker ends that works over a ledger of so many numbers, and the book after it.
+/// The end of a worker with a ledger of `count` numbers, and the book after it.
 pub(super) fn worked<R: Wait + Abort, G: Gate>(
     rt: &R,
     alloc: Global,
@@ -59,7 +59,7 @@ pub(super) fn worked<R: Wait + Abort, G: Gate>(
     (end, lock.into_inner())
 }
 
-/// The same over several books.
+/// The same with several books.
 pub(super) fn worked_over<R: Wait + Abort, G: Gate>(
     rt: &R,
     alloc: Global,
@@ -91,7 +91,7 @@ pub(super) fn worked_over<R: Wait + Abort, G: Gate>(
     )
 }
 
-/// What the book answers where the parcel of the first rank is handed back.
+/// The result of handing back the parcel of the first rank.
 pub(super) fn again(
     rt: &impl Abort,
     alloc: Global,
@@ -131,7 +131,7 @@ fn a_worker_does_what_it_drew(rt: HostRuntime) {
     drop(book);
 }
 
-/// Checks that a worker that draws one of two ranks leaves the other one to be claimed.
+/// Checks that a worker that draws one of two ranks leaves the other one unclaimed.
 fn check_two(rt: &(impl Wait + Abort), alloc: Global, layer: &Layer, book: Book) {
     let (ledger, _, own) = one_number(rt, alloc);
     let (end, mut book) = worked(rt, alloc, layer, book, &ledger, own, 1, 0, &Free);
@@ -155,7 +155,7 @@ fn a_worker_claims_no_rank_of_a_book(rt: HostRuntime) {
     check_two(&rt, alloc, &layer, book);
 }
 
-/// How a worker ends that is alone with a layer, and the book after it.
+/// The end of a worker that is alone with a layer, and the book after it.
 fn alone<R: Wait + Abort>(rt: &R, alloc: Global, layer: &Layer, book: Book) -> (End, Book) {
     assert!(rt; layer.len() <= 1000);
     let count = layer.len() as u32;
@@ -172,7 +172,7 @@ fn room_book(rt: &impl Abort, alloc: Global) -> Book {
     book
 }
 
-/// Checks that one worker alone hands back all of layer 3 of the room to its book, from which layer 4 comes.
+/// Checks that a single worker hands back all of layer 3 of the room to its book, which then closes layer 4.
 fn check_room(rt: &(impl Wait + Abort), alloc: Global, layer: &Layer, book: Book) {
     let (end, mut book) = alone(rt, alloc, layer, book);
     assert!(rt; end == End::Drained);

@@ -1,4 +1,4 @@
-//! How a worker ends where its gate says no, and where a book is not its own or refuses its parcel.
+//! The end of a worker whose gate stops it, or whose book is foreign or refuses its parcel.
 ghost use Rattle.std.specs.Prelude.{◌≡◌, true};
 ghost use Rattle.claims.specs.Hands.{newcomer};
 
@@ -12,7 +12,7 @@ use std::process::Abort;
 use std::slice;
 use std::sync::{Mutex, Wait};
 
-/// A gate that says no to an event of this number.
+/// A gate that stops a worker at its event of this number.
 #[derive(Drop)]
 struct Closed {
     nth: u64,
@@ -26,7 +26,7 @@ impl Gate for Closed {
     }
 }
 
-/// A book of one share of a level, made for so many workers and with this limit, at work on its layer 0.
+/// A book of one share of a level, with these workers and this limit, that has begun layer 0.
 fn book_for(rt: &impl Abort, alloc: Global, text: &[u8], limit: u32, workers: u8) -> Book {
     assert!(rt; limit >= 1);
     assert!(rt; workers >= 1 && workers <= 16);
@@ -37,7 +37,7 @@ fn book_for(rt: &impl Abort, alloc: Global, text: &[u8], limit: u32, workers: u8
     book
 }
 
-/// How a worker of this number ends that works on a layer of one position with this book, and the book after it.
+/// The end of the worker of this number on a layer of one position with this book, and the book after it.
 fn over_one<R: Wait + Abort, G: Gate>(
     rt: &R,
     alloc: Global,
@@ -50,8 +50,7 @@ fn over_one<R: Wait + Abort, G: Gate>(
     worked(rt, alloc, layer, book, &ledger, own, 1, worker, gate)
 }
 
-/// How a worker of this number ends that works on layer 0 of two ends with this book, and whether the book is as it
-/// was.
+/// The end of the worker of this number on layer 0 of TWO_ENDS with this book, and whether the book is unchanged.
 fn ended<R: Wait + Abort>(rt: &R, alloc: Global, book: Book, worker: u8) -> (End, bool) {
     let layer = start_of(rt, alloc, TWO_ENDS);
     let (end, mut book) = over_one(rt, alloc, &layer, book, worker, &Free);
@@ -119,7 +118,7 @@ fn a_book_without_the_worker_is_foreign(rt: HostRuntime) {
 #[test]
 fn a_book_at_its_limit_refuses(rt: HostRuntime) {
     let alloc = rt.alloc();
-    // layer 0 has one position, and two come from it
+    // layer 0 has one position, which has two successors
     let book = book_for(&rt, alloc, TWO_ENDS, 2, WORKERS);
     let (end, _) = ended(&rt, alloc, book, 0);
     assert!(rt; end == End::Refused(Refusal::Over));
@@ -136,8 +135,8 @@ fn a_rank_that_was_handed_back_is_refused(rt: HostRuntime) {
     assert!(rt; end == End::Refused(Refusal::Double));
 }
 
-/// Share 0 of two of two ends, at work on layer 0 and at its limit: the start is of this share, and so is one of the
-/// two positions that come from it.
+/// The book of share 0 of 2 of TWO_ENDS, which has begun layer 0 and is at its limit: the start and one of its two
+/// successors are of this share.
 fn full_share(rt: &impl Abort, alloc: Global) -> Book {
     let level = level_of(rt, alloc, TWO_ENDS);
     let mut book = Book::of(alloc, level, None, 1, WORKERS, 0, 2).expect(rt, "a book");
@@ -146,7 +145,7 @@ fn full_share(rt: &impl Abort, alloc: Global) -> Book {
     book
 }
 
-/// How a worker ends that works on layer 0 of two ends with two books, in this order.
+/// The end of a worker on layer 0 of TWO_ENDS with two books, in this order.
 fn ended_over<R: Wait + Abort>(rt: &R, alloc: Global, first: Book, second: Book) -> End {
     let layer = start_of(rt, alloc, TWO_ENDS);
     let (ledger, _, own) = one_number(rt, alloc);

@@ -1,4 +1,4 @@
-//! The events of each worker in a layer of some hundred ranks, and of some thousand.
+//! The events of each worker in a layer of some hundred ranks, and in one of some thousand.
 ghost use Rattle.std.specs.Prelude.{◌≡◌, false};
 
 use crate::boards::ROOM;
@@ -12,7 +12,7 @@ use std::sync::atomic::{AtomicU64, Ordering};
 use std::thread;
 use std::thread::Threads;
 
-/// A level, the layer whose events are counted, how many ranks that layer has, and what is needed to know the answer.
+/// A level, the layer whose events are counted, the number of its ranks, and the answer.
 #[derive(Clone, Copy)]
 struct Counted {
     text: &'static [u8],
@@ -31,8 +31,8 @@ const SMALL: Counted = Counted {
     positions: 1053,
 };
 
-/// A room with five boxes. The search that counted the layers of the other room counted here 1, 18, 141, 670, 2219
-/// and 5533 positions, of which one of the last is solved.
+/// A room with five boxes. An independent search counted its layers: 1, 18, 141, 670, 2219 and 5533 positions. One
+/// position of the last layer is solved.
 const LARGE: Counted = Counted {
     text: b"##########\n#@ .     #\n#  * $ * #\n#    .$  #\n# $      #\n# .      #\n##########\n",
     layer: 4,
@@ -41,12 +41,12 @@ const LARGE: Counted = Counted {
     positions: 8582,
 };
 
-/// How often a worker that is held looks whether it may go on.
+/// The number of times that a held worker looks whether it may go on.
 const TURNS: u32 = 20_000_000;
 
 /// A gate that counts the events of each worker in one layer. There it holds each worker at its first event until all
-/// of them have had one, and one of them, whose turn it is, until more events came than the layer has ranks: so
-/// another one has handed a parcel back meanwhile.
+/// of them have had one. It holds the worker whose turn it is until there are more events than the layer has ranks, so
+/// that another worker has handed back a parcel.
 #[derive(Drop)]
 struct Meeting {
     layer: u64,
@@ -81,7 +81,7 @@ impl Meeting {
         }
     }
 
-    /// Waits until the counter has come so far or another wait was in vain, for as many turns as there are at most.
+    /// Waits until the counter has reached `least` or another wait has failed, for at most TURNS turns.
     fn hold(&self, counter: &AtomicU64, least: u64) {
         for _ in 0..TURNS {
             if counter.load(Ordering::SeqCst) >= least || self.ran_out.load(Ordering::SeqCst) == 1 {
@@ -92,7 +92,7 @@ impl Meeting {
         self.ran_out.store(1, Ordering::SeqCst);
     }
 
-    /// Keeps the number of a worker's event. It is to be one more than the one before, from 1 on.
+    /// Keeps the number of a worker's event, which must be one more than the number before, from 1 on.
     fn note(&self, worker: u8, nth: u64) {
         let place = worker as usize;
         if place >= self.last.len() {
@@ -127,7 +127,7 @@ impl Gate for Meeting {
     }
 }
 
-/// Checks the events of a run in which it is the turn of one worker to be held.
+/// Checks the events of a run in which the gate holds one worker.
 fn check<R: Threads + Wait + Sync + Abort>(
     rt: &R,
     alloc: Global,
@@ -170,8 +170,8 @@ fn check_answer<R: Threads + Wait + Sync + Abort>(
     }
 }
 
-/// Checks that no worker waited in vain, that each of them had events, which rise from 1, and that there are as many
-/// as ranks are drawn once and handed back once to each book.
+/// Checks that no wait has failed, that each worker had events, numbered from 1, and that their number is that of the
+/// ranks, each drawn once and handed back once to each book.
 fn check_gate(rt: &impl Abort, gate: &Meeting, locks: u8) {
     let workers = gate.workers;
     assert_eq!(rt;

@@ -1,4 +1,4 @@
-//! Ends that fail, at each read and each write in turn.
+//! Ends that fail at each read and each write in turn.
 use super::{Command, Ends, WELL, run};
 use crate::boards::{ONE, TWO};
 use sokopar::RunFault;
@@ -17,7 +17,7 @@ const DRIPPING: Ends = Ends {
 /// A command with a solution text.
 const REPLAY: Command<'static> = Command::Replay(1, b"RlR");
 
-/// A command of each engine, with what it writes of the two boards.
+/// A command of each engine, with its report on the two boards.
 const COMMANDS: [(Command<'static>, &[u8], u8); 5] = [
     (
         Command::Check,
@@ -67,7 +67,7 @@ fn fails_at_each_read_of_a_solution(rt: HostRuntime) {
     }
 }
 
-// Checks a command one of whose reads fails, after so many reads of the collection and of the solution: it reads no
+// Checks a command whose read fails after these numbers of reads of the collection and of the solution: it reads no
 // more.
 fn check_fault(
     rt: &(impl Abort + Threads + Wait + Sync),
@@ -90,7 +90,7 @@ fn fails_at_each_write(rt: HostRuntime) {
     }
 }
 
-// Checks a command whose write after so many bytes fails: it has written these, a beginning of its report.
+// Checks a command whose write fails after `written` bytes: it has written these, a beginning of its report.
 fn check_write(
     rt: &(impl Abort + Threads + Wait + Sync),
     alloc: Global,

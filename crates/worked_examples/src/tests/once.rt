@@ -1,5 +1,5 @@
-//! One call of a source or a sink asks std's end once, and tells what it answered: an end in the midst of the bytes,
-//! and failures of each kind. The ends would go on if they were asked once more.
+//! One call of a source or a sink calls std's reader or writer once, and reports its result: an end of file in the
+//! midst of the bytes, and failures of each kind. The reader or writer would go on if it were called again.
 use super::Outcome;
 use crate::Paper;
 use crate::boards::ONE;
@@ -9,7 +9,7 @@ use std::io;
 use std::io::{ErrorKind, Read, Write};
 use std::process::Abort;
 
-/// Kinds of failures, that of an interruption among them.
+/// Kinds of failures, among them an interruption.
 const KINDS: [ErrorKind; 5] = [
     ErrorKind::Interrupted,
     ErrorKind::WouldBlock,
@@ -18,7 +18,7 @@ const KINDS: [ErrorKind; 5] = [
     ErrorKind::Other,
 ];
 
-/// A reader that gives some bytes at each read but the second, at which it fails, or else is at an end.
+/// A reader that gives some bytes at each read except the second, which fails or gives none.
 #[derive(Drop)]
 struct Broken<'a> {
     bytes: &'a [u8],
@@ -41,7 +41,7 @@ impl Read for Broken<'_> {
     }
 }
 
-/// A writer that fails at its first write, or else takes nothing there, and takes all at the later ones.
+/// A writer whose first write fails or takes nothing, and whose later writes take all bytes.
 #[derive(Drop)]
 struct Stuck {
     fails: Option<ErrorKind>,
@@ -67,7 +67,7 @@ impl Write for Stuck {
     }
 }
 
-/// What checking a level tells whose second read fails so, or is at an end.
+/// The result of checking a level whose second read fails with this kind, or gives no bytes.
 fn read_once(alloc: Global, fails: Option<ErrorKind>) -> Outcome {
     let mut source = Broken {
         bytes: ONE,
@@ -105,7 +105,7 @@ fn a_read_that_fails_is_made_once(rt: HostRuntime) {
     }
 }
 
-/// Checks that a write which fails so, or takes nothing, is a failure and the only write.
+/// Checks that a write that fails with this kind, or takes nothing, is a failure and the only write.
 fn write_once(rt: &impl Abort, alloc: Global, fails: Option<ErrorKind>) {
     let mut sink = Stuck {
         fails,

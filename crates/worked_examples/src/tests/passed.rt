@@ -1,4 +1,4 @@
-//! The engine hands on how many workers and locks it was given: a gate counts the ranks and the parcels of each layer.
+//! The engine uses its numbers of workers and locks: a gate counts the ranks and the parcels of each layer.
 ghost use Rattle.std.specs.Prelude.{◌≡◌, false};
 
 use super::DEFAULT_LIMIT;
@@ -28,7 +28,7 @@ impl Gate for Counting {
     }
 }
 
-/// The events of each layer where two workers over a number of locks solve the level.
+/// The events of each layer if two workers over `locks` locks solve the level.
 fn passed<R: Threads + Wait + Sync + Abort>(rt: &R, alloc: Global, locks: u8) -> [u64; 3] {
     let gate = Counting {
         passed: [AtomicU64::new(0), AtomicU64::new(0), AtomicU64::new(0)],
@@ -41,7 +41,7 @@ fn passed<R: Threads + Wait + Sync + Abort>(rt: &R, alloc: Global, locks: u8) ->
     ]
 }
 
-/// Checks the report where two workers over a number of locks solve the level past this gate.
+/// Checks the report of two workers over `locks` locks with this gate.
 fn check_report<R: Threads + Wait + Sync + Abort>(
     rt: &R,
     alloc: Global,
@@ -70,8 +70,8 @@ fn check_report<R: Threads + Wait + Sync + Abort>(
     );
 }
 
-// The first layer has one position and the second two. Each is drawn once, and handed back once to each of the books,
-// of which there are as many as locks.
+// The first layer has one position and the second two. Each is drawn once, and handed back once to each of `locks`
+// books.
 #[test]
 fn each_rank_is_drawn_once_and_handed_to_a_book_for_each_lock(rt: HostRuntime) {
     assert_eq!(&rt; passed(&rt, rt.alloc(), 1), [2, 4, 0]);

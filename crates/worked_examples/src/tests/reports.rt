@@ -1,4 +1,4 @@
-//! What the engines write.
+//! The reports of the engines.
 use super::{Command, Ends, WELL, run};
 use crate::boards::{ONE, THERE_AND_BACK, TWO};
 use std::alloc::Global;
@@ -68,7 +68,7 @@ fn reads_a_solution_only_for_a_lawful_level(rt: HostRuntime) {
     }
 }
 
-// Checks a level that is faulty or missing, and a solution whose first read would fail: it is not read.
+// Checks a level that is faulty or missing, with a solution whose first read would fail: the engine does not read it.
 fn check_unread(
     rt: &(impl Abort + Threads + Wait + Sync),
     alloc: Global,

@@ -1,4 +1,4 @@
-//! Workers that a gate stops change no answer.
+//! Workers that a gate stops do not change the answer.
 ghost use Rattle.std.specs.Prelude.{◌≡◌, true};
 
 use super::DEFAULT_LIMIT;
@@ -23,10 +23,10 @@ const LEVELS: [Worked; 3] = [
 
 const WORKERS: u8 = 2;
 
-/// Numbers of locks that are tried. Each position is drawn once and handed back once to each of so many books.
+/// The numbers of locks. Each position is drawn once and handed back once to each of the books, one for each lock.
 const LOCKS: [u8; 3] = [1, 2, 4];
 
-/// When workers are stopped: always, all but one, and at some event of one.
+/// Always, all workers except one, and one worker at one of its events.
 const STOPS: [Stops; 8] = [
     Stops::Always,
     Stops::Others(0),
@@ -45,7 +45,7 @@ enum Stops {
     At(u64, u8, u64),
     /// Always.
     Always,
-    /// Always, but for one worker.
+    /// Always, except for one worker.
     Others(u8),
 }
 
@@ -71,7 +71,7 @@ fn stopped_workers_change_no_answer(rt: HostRuntime) {
     }
 }
 
-// Checks the answer under a gate, with each number of locks: pushes, positions and moves.
+// Checks the answer with a gate and each number of locks: pushes, positions and moves.
 fn check_answer(
     rt: &(impl Abort + Threads + Wait + Sync),
     alloc: Global,
@@ -84,7 +84,7 @@ fn check_answer(
     }
 }
 
-// Checks the answer under a gate with so many locks.
+// Checks the answer with a gate and `locks` locks.
 fn check_locks(
     rt: &(impl Abort + Threads + Wait + Sync),
     alloc: Global,
@@ -103,7 +103,7 @@ fn check_locks(
     assert!(rt; is_solution(rt, alloc, &found, answer));
 }
 
-// Whether an answer is the solution with so many pushes and positions and these moves.
+// Whether an answer is the solution with these pushes, positions and moves.
 fn is_solution(
     rt: &impl Abort,
     alloc: Global,
@@ -120,7 +120,7 @@ fn is_solution(
     }
 }
 
-// Whether moves are written so.
+// Whether moves have this text.
 fn is_text(rt: &impl Abort, alloc: Global, moves: &Moves, text: &[u8]) -> bool {
     let mut out = Vec::new(alloc);
     lurd::write(moves, &mut out).expect(rt, "memory");
