@@ -1,6 +1,8 @@
 //! Worked examples of layers and books.
 ghost use Rattle.std.specs.Prelude.{◌≡◌, ◌<◌, length};
 
+mod leads;
+mod readers;
 mod refusals;
 mod shares;
 pub(crate) mod traces;

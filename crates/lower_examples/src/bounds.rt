@@ -5,7 +5,7 @@ ghost use Rattle.grid.specs.States.{FitsLevel};
 use crate::boards::{Text, level_of};
 use doom::Bound;
 use grid::{Dir, Level, Position, Square};
-use prices::laws::{a_first_push_leads_on, needs_are_bounds};
+use prices::laws::{a_first_push_leads_on, costs_tell_what_never_helps, needs_are_bounds};
 use prices::{Distances, Matching, NEVER};
 use std::alloc::Global;
 use std::process::Abort;
@@ -255,4 +255,8 @@ fn laws_can_be_called(rt: HostRuntime) {
     let level = level_of(&rt, rt.alloc(), WAY_ROUND);
     a_first_push_leads_on(&level);
     needs_are_bounds(&level);
+    costs_tell_what_never_helps(&level);
+    corrals::laws::corrals_suffice(&level);
+    prover::laws::open_positions_tell(&level);
+    prover::laws::solutions_are_alike(&level);
 }

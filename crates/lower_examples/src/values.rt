@@ -77,6 +77,13 @@ fn laws_can_be_called() {
     lurd::laws::written_text();
     lurd::laws::one_verdict();
     lurd::laws::solved_is_solution();
+    layers::laws::a_book_stays_lawful();
+    layers::laws::a_new_book_is_lawful();
+    layers::laws::the_order_of_events_leaves_no_trace();
+    layers::laws::a_begun_book_has_the_ranks_of_its_layer();
+    layers::laws::the_shares_make_up_the_layer();
+    layers::laws::the_books_of_all_shares_hold_the_layers();
+    layers::laws::the_books_of_all_shares_hold_the_layers_and_some_of_the_next();
     solo::laws::an_answer_is_the_only_one();
     solo::laws::an_answer_is_never_missing();
     solo::laws::the_limit_is_passed_by_the_positions_needed();
