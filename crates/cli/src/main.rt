@@ -6,9 +6,11 @@ ghost use Rattle.cli.specs.Requests.{Performs};
 mod arguments;
 mod commands;
 mod help;
+mod numbers;
 mod request;
 mod stack;
 mod steady;
+mod subcommands;
 mod trouble;
 
 use clap::error::ErrorKind;
