@@ -4,6 +4,6 @@ pub mod Desks
 pub mod Ends
 pub mod Events
 pub mod Iterations
-pub mod Shifts
+pub mod Sharing
 pub mod States
 pub mod Segmented

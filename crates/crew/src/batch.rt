@@ -5,11 +5,11 @@ ghost use Rattle.crew.specs.declared.end.End.TheVariants.{Drained};
 ghost use Rattle.crew.specs.inside.Batches.{AreDrawn, AreExpanded, AreRanks, IsBatch, IsOfRank};
 ghost use Rattle.crew.specs.inside.Ends.{HasEnded, IsReady};
 ghost use Rattle.crew.specs.inside.Events.{DrawsUntil, GoesOn};
-ghost use Rattle.crew.specs.inside.Shifts.{answers_to};
+ghost use Rattle.crew.specs.inside.Sharing.{answers_to};
 
 use crate::end::End;
 use crate::gate::Gate;
-use crate::shift::{Post, Shift};
+use crate::shared::{Shared, Worker};
 use crate::worker::draw;
 use area::Scratch;
 use claims::Drawer;
@@ -56,18 +56,18 @@ fn batch_size(left: u64, parcels: usize) -> usize
 /// value, which takes a large stack frame.
 #[inline(never)]
 pub(crate) fn append_parcels<'a, G: Gate>(
-    shift: &Shift<'_, 'a, G>,
+    shared: &Shared<'_, 'a, G>,
     rank: u64,
     scratch: &mut Scratch,
     parcels: &mut Vec<Parcel<'a>>,
 )
-    requires within { rank < length shift.now.layer.places }
-    requires room { scratch.old.size ≡ length shift.now.layer.level.board.cells }
+    requires within { rank < length shared.now.layer.places }
+    requires room { scratch.old.size ≡ length shared.now.layer.level.board.cells }
     ensures size { scratch.new.size ≡ scratch.old.size }
 {
-    let paying = (shift.layer.len() / RANKS_OF_A_PARCEL).clamp(1, MOST) as usize;
+    let paying = (shared.layer.len() / RANKS_OF_A_PARCEL).clamp(1, MOST) as usize;
     for _ in parcels.len()..paying.min(parcels.capacity()) {
-        let parcel = expand_over(shift.problem, shift.layer, rank, scratch);
+        let parcel = expand_over(shared.problem, shared.layer, rank, scratch);
         if parcels.push(parcel).is_err() {
             return;
         }
@@ -78,58 +78,58 @@ pub(crate) fn append_parcels<'a, G: Gate>(
 /// number, which is 0 only if no rank is left. It draws first, so that the word from which all workers draw changes
 /// processors once for the batch.
 pub(crate) fn draw_batch<'a, R: Wait, G: Gate>(
-    post: &Post<'_, '_, '_, 'a, R, G>,
+    worker: &Worker<'_, '_, '_, 'a, R, G>,
     drawer: &mut Drawer,
     scratch: &mut Scratch,
     nth: &mut u64,
     parcels: &mut [Parcel<'a>],
 ) -> Result<usize, End>
-    requires ready { IsReady post.now.shift.now post.now.worker scratch.old drawer.old }
+    requires ready { IsReady worker.now.shared.now worker.now.number scratch.old drawer.old }
     requires some { 0 < length parcels.old }
     ensures batch { IfOk result
-        (λ count. IsBatch post.now.shift.now.layer drawer.old.hand (take count parcels.new) drawer.new.hand) }
+        (λ count. IsBatch worker.now.shared.now.layer drawer.old.hand (take count parcels.new) drawer.new.hand) }
     ensures fits { IfOk result (λ count. count ≤ length parcels.new) }
-    ensures none { IfOk result (λ count. count ≡ 0 → EndsWith post.now.worker drawer.new.hand Drained) }
+    ensures none { IfOk result (λ count. count ≡ 0 → EndsWith worker.now.number drawer.new.hand Drained) }
     ensures goes_on { IfOk result
-        (λ count. GoesOn (answers_to G.may_answer post.now.shift.now post.now.worker) nth.old count nth.new) }
+        (λ count. GoesOn (answers_to G.may_answer worker.now.shared.now worker.now.number) nth.old count nth.new) }
     ensures ends { IfErr result
-        (λ end. HasEnded G.may_stop post.now.shift.now.layer post.now.shift.now.workers post.now.worker
+        (λ end. HasEnded G.may_stop worker.now.shared.now.layer worker.now.shared.now.workers worker.now.number
         drawer.new.hand end) }
-    ensures gate { IfErr result (λ end. DrawsUntil (answers_to G.may_answer post.now.shift.now post.now.worker)
+    ensures gate { IfErr result (λ end. DrawsUntil (answers_to G.may_answer worker.now.shared.now worker.now.number)
         drawer.old.hand nth.old drawer.new.hand nth.new end) }
-    ensures ready { IsReady post.now.shift.now post.now.worker scratch.new drawer.new }
+    ensures ready { IsReady worker.now.shared.now worker.now.number scratch.new drawer.new }
 {
-    let shift = post.shift;
-    let left = shift.layer.len().saturating_sub(parcels[0].rank());
+    let shared = worker.shared;
+    let left = shared.layer.len().saturating_sub(parcels[0].rank());
     let size = batch_size(left, parcels.len());
     let mut ranks = [0; MOST as usize];
-    let count = draw_ranks(post, drawer, nth, &mut ranks[..size])?;
-    expand_each(shift, &ranks[..count], scratch, parcels);
+    let count = draw_ranks(worker, drawer, nth, &mut ranks[..size])?;
+    expand_each(shared, &ranks[..count], scratch, parcels);
     Ok(count)
 }
 
 // Draws ranks into a slice until it is full or no rank is left. It returns their number.
 fn draw_ranks<R: Wait, G: Gate>(
-    post: &Post<'_, '_, '_, '_, R, G>,
+    worker: &Worker<'_, '_, '_, '_, R, G>,
     drawer: &mut Drawer,
     nth: &mut u64,
     ranks: &mut [u64],
 ) -> Result<usize, End>
-    requires place { IsAtPlace post.now.shift.now.ledger post.now.worker drawer.old }
+    requires place { IsAtPlace worker.now.shared.now.ledger worker.now.number drawer.old }
     ensures drawn { IfOk result
-        (λ count. AreDrawn post.now.shift.now.layer drawer.old.hand count ranks.new drawer.new.hand) }
-    ensures all { IfOk result (λ count. count < length ranks.new → EndsWith post.now.worker drawer.new.hand Drained) }
+        (λ count. AreDrawn worker.now.shared.now.layer drawer.old.hand count ranks.new drawer.new.hand) }
+    ensures all { IfOk result (λ count. count < length ranks.new → EndsWith worker.now.number drawer.new.hand Drained) }
     ensures goes_on { IfOk result
-        (λ count. GoesOn (answers_to G.may_answer post.now.shift.now post.now.worker) nth.old count nth.new) }
+        (λ count. GoesOn (answers_to G.may_answer worker.now.shared.now worker.now.number) nth.old count nth.new) }
     ensures ends { IfErr result
-        (λ end. HasEnded G.may_stop post.now.shift.now.layer post.now.shift.now.workers post.now.worker
+        (λ end. HasEnded G.may_stop worker.now.shared.now.layer worker.now.shared.now.workers worker.now.number
         drawer.new.hand end) }
-    ensures gate { IfErr result (λ end. DrawsUntil (answers_to G.may_answer post.now.shift.now post.now.worker)
+    ensures gate { IfErr result (λ end. DrawsUntil (answers_to G.may_answer worker.now.shared.now worker.now.number)
         drawer.old.hand nth.old drawer.new.hand nth.new end) }
-    ensures place { IsAtPlace post.now.shift.now.ledger post.now.worker drawer.new }
+    ensures place { IsAtPlace worker.now.shared.now.ledger worker.now.number drawer.new }
 {
     for place in 0..ranks.len() {
-        match draw(post, drawer, nth) {
+        match draw(worker, drawer, nth) {
             Ok(rank) => ranks[place] = rank,
             Err(End::Drained) => return Ok(place),
             Err(other) => return Err(other),
@@ -140,39 +140,39 @@ fn draw_ranks<R: Wait, G: Gate>(
 
 /// Makes the first parcels those of the ranks, in order.
 pub(crate) fn expand_each<'a, G: Gate>(
-    shift: &Shift<'_, 'a, G>,
+    shared: &Shared<'_, 'a, G>,
     ranks: &[u64],
     scratch: &mut Scratch,
     parcels: &mut [Parcel<'a>],
 )
-    requires within { AreRanks shift.now.layer ranks.now }
-    requires room { scratch.old.size ≡ length shift.now.layer.level.board.cells }
+    requires within { AreRanks shared.now.layer ranks.now }
+    requires room { scratch.old.size ≡ length shared.now.layer.level.board.cells }
     requires fits { length ranks.now ≤ length parcels.old }
-    ensures expanded { AreExpanded shift.now.layer ranks.now (length ranks.now) parcels.new }
+    ensures expanded { AreExpanded shared.now.layer ranks.now (length ranks.now) parcels.new }
     ensures size { scratch.new.size ≡ scratch.old.size }
 {
     for (place, rank) in ranks.iter().enumerate() {
-        expand_into(shift, *rank, scratch, &mut parcels[place]);
+        expand_into(shared, *rank, scratch, &mut parcels[place]);
     }
 }
 
 // Makes a parcel that of a rank, and deals its successors to the shares of the books.
 fn expand_into<'a, G: Gate>(
-    shift: &Shift<'_, 'a, G>,
+    shared: &Shared<'_, 'a, G>,
     rank: u64,
     scratch: &mut Scratch,
     parcel: &mut Parcel<'a>,
 )
-    requires within { rank < length shift.now.layer.places }
-    requires room { scratch.old.size ≡ length shift.now.layer.level.board.cells }
-    ensures of { IsOfRank shift.now.layer rank parcel.new }
+    requires within { rank < length shared.now.layer.places }
+    requires room { scratch.old.size ≡ length shared.now.layer.level.board.cells }
+    ensures of { IsOfRank shared.now.layer rank parcel.new }
     ensures size { scratch.new.size ≡ scratch.old.size }
 {
-    expand_over_into(shift.problem, shift.layer, rank, scratch, parcel);
-    parcel.deal(shares_of(shift.books.len()));
+    expand_over_into(shared.problem, shared.layer, rank, scratch, parcel);
+    parcel.deal(shares_of(shared.books.len()));
 }
 
-// The number of shares of so many books, or 0 if they are too many.
+// The number of shares for a number of books: the same, or 0 if that is too many.
 fn shares_of(books: usize) -> u8 {
     if books <= MAX_SHARES as usize {
         books as u8

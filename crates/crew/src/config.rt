@@ -16,7 +16,7 @@ pub struct Config {
 impl Config {
     /// Whether there are 1 to [`MAX_WORKERS`](layers::MAX_WORKERS) workers and 1 to
     /// [`MAX_SHARES`](layers::MAX_SHARES) locks, and the limit is at least 1.
-    pub fn is_within_limits(&self) -> bool
+    pub(crate) fn is_within_limits(&self) -> bool
         ensures { IsTrue result ↔ IsWithinLimits self.now }
     {
         1 <= self.workers

@@ -5,7 +5,7 @@ ghost use Rattle.crew.specs.inside.Desks.{AreRoomy, HaveDrawers};
 
 use crate::batch::most_of_one;
 use crate::gate::Gate;
-use crate::shift::Shift;
+use crate::shared::Shared;
 use crate::workers::work_all;
 use area::Scratch;
 use claims::{Drawer, Ledger, PLACES};
@@ -50,7 +50,7 @@ impl<'a> Model for Desks<'a> {
 }
 
 impl<'a> Desks<'a> {
-    /// Desks for `workers` workers, or for as many as there is memory for.
+    /// Desks for `workers` workers, or for fewer if memory runs out.
     pub(crate) fn of(alloc: Global, problem: &'a Problem, workers: u8) -> Desks<'a>
         requires { workers ≤ PLACES }
         ensures { result ≡ problem.now }
@@ -66,22 +66,22 @@ impl<'a> Desks<'a> {
         self.problem
     }
 
-    /// Lets the workers at these desks work on the shift, and waits until all of them have ended.
+    /// Lets the workers at these desks work on a layer, and waits until all of them have ended.
     pub(crate) fn work<R: Threads + Wait + Sync, G: Gate + Sync>(
         &mut self,
         rt: &R,
-        shift: &Shift<'_, 'a, G>,
+        shared: &Shared<'_, 'a, G>,
         drawer: Drawer,
     )
-        requires problem { self.old ≡ shift.now.layer.level }
-        requires drawer { drawer ≡ newcomer shift.now.ledger }
+        requires problem { self.old ≡ shared.now.layer.level }
+        requires drawer { drawer ≡ newcomer shared.now.ledger }
         ensures { self.new ≡ self.old }
     {
-        work_first(rt, self.desks.as_mut_slice(), shift, drawer);
+        work_first(rt, self.desks.as_mut_slice(), shared, drawer);
     }
 }
 
-// Desks for `workers` workers, or for as many as there is memory for.
+// Desks for `workers` workers, or for fewer if memory runs out.
 fn desks_of<'a>(alloc: Global, level: &Level, workers: u8) -> Vec<Desk<'a>>
     ensures many { length result.items ≤ workers }
     ensures room { AreRoomy (length level.now.cells) result.items }
@@ -122,18 +122,18 @@ fn append_desk<'a>(
 fn work_first<'a, R: Threads + Wait + Sync, G: Gate + Sync>(
     rt: &R,
     desks: &mut [Desk<'a>],
-    shift: &Shift<'_, 'a, G>,
+    shared: &Shared<'_, 'a, G>,
     drawer: Drawer,
 )
     requires places { length desks.old ≤ PLACES }
-    requires room { AreRoomy (length shift.now.layer.level.board.cells) desks.old }
-    requires drawer { drawer ≡ newcomer shift.now.ledger }
-    ensures room { AreRoomy (length shift.now.layer.level.board.cells) desks.new }
+    requires room { AreRoomy (length shared.now.layer.level.board.cells) desks.old }
+    requires drawer { drawer ≡ newcomer shared.now.ledger }
+    ensures room { AreRoomy (length shared.now.layer.level.board.cells) desks.new }
 {
-    let many = most_at_work(desks.len(), shift.layer.len());
+    let many = most_at_work(desks.len(), shared.layer.len());
     let first = &mut desks[..many];
-    deal(shift.ledger, drawer, first);
-    work_all(rt, first, shift);
+    deal(shared.ledger, drawer, first);
+    work_all(rt, first, shared);
 }
 
 // The number of workers that can each draw one of the ranks.

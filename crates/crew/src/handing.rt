@@ -7,13 +7,13 @@ ghost use Rattle.crew.specs.Work.{IsOwn, IsOfLayer, HandEnds, HandOverEnds, afte
 ghost use Rattle.crew.specs.inside.Batches.{AreOfLayer};
 ghost use Rattle.crew.specs.inside.Ends.{HasEnded};
 ghost use Rattle.crew.specs.inside.Events.{IsTold, GoesOn, EndsAtOnce, IsCutOff};
-ghost use Rattle.crew.specs.inside.Shifts.{answers_to};
+ghost use Rattle.crew.specs.inside.Sharing.{answers_to};
 
 use crate::end::End;
 use crate::gate::Gate;
 use crate::held::tell_growth;
 use crate::locking::lock_book;
-use crate::shift::Post;
+use crate::shared::Worker;
 use crate::worker::pass;
 use layers::{Book, Layer, Parcel, Refusal};
 use std::sync::atomic::AtomicU64;
@@ -21,82 +21,84 @@ use std::sync::{Mutex, MutexGuard, Wait};
 
 // Hands the parcels of a batch back to each of the books in order.
 pub(crate) fn hand_batch<R: Wait, G: Gate>(
-    post: &Post<'_, '_, '_, '_, R, G>,
+    worker: &Worker<'_, '_, '_, '_, R, G>,
     batch: &[Parcel<'_>],
     nth: &mut u64,
 ) -> Result<(), End>
-    requires { AreOfLayer post.now.shift.now.layer batch.now }
+    requires { AreOfLayer worker.now.shared.now.layer batch.now }
     ensures ends { (hand : Hand) → IfErr result
-        (λ end. HasEnded G.may_stop post.now.shift.now.layer post.now.shift.now.workers post.now.worker hand end) }
-    ensures goes_on { OnOk result (GoesOn (answers_to G.may_answer post.now.shift.now post.now.worker) nth.old
-        (post.now.shift.now.books * length batch.now) nth.new) }
-    ensures gate { IfErr result (λ end. IsCutOff (answers_to G.may_answer post.now.shift.now post.now.worker)
-        (post.now.shift.now.books * length batch.now) nth.old nth.new end) }
+        (λ end. HasEnded G.may_stop worker.now.shared.now.layer worker.now.shared.now.workers worker.now.number hand
+        end) }
+    ensures goes_on { OnOk result (GoesOn (answers_to G.may_answer worker.now.shared.now worker.now.number) nth.old
+        (worker.now.shared.now.books * length batch.now) nth.new) }
+    ensures gate { IfErr result (λ end. IsCutOff (answers_to G.may_answer worker.now.shared.now worker.now.number)
+        (worker.now.shared.now.books * length batch.now) nth.old nth.new end) }
 {
-    let shift = post.shift;
-    for book in shift.books {
-        hand_batch_to(post, book, batch, nth)?;
+    let shared = worker.shared;
+    for book in shared.books {
+        hand_batch_to(worker, book, batch, nth)?;
     }
     Ok(())
 }
 
 // Hands the parcels of a batch back to one book, in order.
 fn hand_batch_to<R: Wait, G: Gate>(
-    post: &Post<'_, '_, '_, '_, R, G>,
+    worker: &Worker<'_, '_, '_, '_, R, G>,
     book: &Mutex<Book>,
     batch: &[Parcel<'_>],
     nth: &mut u64,
 ) -> Result<(), End>
-    requires { AreOfLayer post.now.shift.now.layer batch.now }
+    requires { AreOfLayer worker.now.shared.now.layer batch.now }
     ensures ends { (hand : Hand) → IfErr result
-        (λ end. HasEnded G.may_stop post.now.shift.now.layer post.now.shift.now.workers post.now.worker hand end) }
-    ensures goes_on { OnOk result (GoesOn (answers_to G.may_answer post.now.shift.now post.now.worker) nth.old
+        (λ end. HasEnded G.may_stop worker.now.shared.now.layer worker.now.shared.now.workers worker.now.number hand
+        end) }
+    ensures goes_on { OnOk result (GoesOn (answers_to G.may_answer worker.now.shared.now worker.now.number) nth.old
         (length batch.now) nth.new) }
-    ensures gate { IfErr result (λ end. IsCutOff (answers_to G.may_answer post.now.shift.now post.now.worker)
+    ensures gate { IfErr result (λ end. IsCutOff (answers_to G.may_answer worker.now.shared.now worker.now.number)
         (length batch.now) nth.old nth.new end) }
 {
     for parcel in batch {
-        hand_to(post, lock_book(post, book), parcel, nth)?;
+        hand_to(worker, lock_book(worker, book), parcel, nth)?;
     }
     Ok(())
 }
 
 // Hands a parcel back to a book whose lock is held, releases the lock, and then passes the gate.
 fn hand_to<R: Wait, G: Gate>(
-    post: &Post<'_, '_, '_, '_, R, G>,
+    worker: &Worker<'_, '_, '_, '_, R, G>,
     guard: MutexGuard<'_, Book>,
     parcel: &Parcel<'_>,
     nth: &mut u64,
 ) -> Result<(), End>
-    requires { IsOfLayer post.now.shift.now.layer parcel.now }
+    requires { IsOfLayer worker.now.shared.now.layer parcel.now }
     ensures end { IfErr result (λ end. MayEnd G.may_stop end) }
-    ensures hand { (hand : Hand) → IfErr result (λ end. EndsWith post.now.worker hand end) }
+    ensures hand { (hand : Hand) → IfErr result (λ end. EndsWith worker.now.number hand end) }
     ensures answered { IfErr result
-        (λ end. WasAnswered post.now.shift.now.layer post.now.shift.now.workers post.now.worker end) }
+        (λ end. WasAnswered worker.now.shared.now.layer worker.now.shared.now.workers worker.now.number end) }
     ensures ok { OnOk result
-        (IsOwn post.now.shift.now.layer post.now.shift.now.workers post.now.worker (mutex_guard_value guard.entry)
-        × MayEnter (mutex_guard_value guard.entry) parcel.now) }
+        (IsOwn worker.now.shared.now.layer worker.now.shared.now.workers worker.now.number
+        (mutex_guard_value guard.entry) × MayEnter (mutex_guard_value guard.entry) parcel.now) }
     ensures refused { IfErr result
-        (λ end. HandOverEnds post.now.shift.now.layer post.now.shift.now.workers post.now.worker
+        (λ end. HandOverEnds worker.now.shared.now.layer worker.now.shared.now.workers worker.now.number
         (mutex_guard_value guard.entry) parcel.now end) }
     ensures goes_on { OnOk result
-        (IsTold (answers_to G.may_answer post.now.shift.now post.now.worker) nth.old true nth.new) }
+        (IsTold (answers_to G.may_answer worker.now.shared.now worker.now.number) nth.old true nth.new) }
     ensures gate { IfErr result
-        (λ end. EndsAtOnce (answers_to G.may_answer post.now.shift.now post.now.worker) nth.old nth.new end) }
+        (λ end. EndsAtOnce (answers_to G.may_answer worker.now.shared.now worker.now.number) nth.old nth.new end) }
 {
-    let shift = post.shift;
+    let shared = worker.shared;
     let mut guard = guard;
     let handed = hand_in(
         &mut *guard,
-        shift.layer,
-        shift.workers,
-        shift.held,
-        post.worker,
+        shared.layer,
+        shared.workers,
+        shared.held,
+        worker.number,
         parcel,
     );
     drop(guard);
     handed?;
-    pass(post, nth)
+    pass(worker, nth)
 }
 
 // Hands a parcel of the layer back to a book whose lock is held, and adds the book's growth to the shared number of

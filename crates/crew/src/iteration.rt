@@ -5,7 +5,7 @@ ghost use Rattle.layers.specs.Books.{MayBegin};
 ghost use Rattle.crew.specs.Configured.{IsWithinLimits};
 ghost use Rattle.crew.specs.Lending.{ComeBack};
 ghost use Rattle.crew.specs.inside.States.{IsStateOf};
-ghost use Rattle.crew.specs.inside.Iterations.{ArePausedBy, AreWorkedBy, HasLooked, IsOutcome};
+ghost use Rattle.crew.specs.inside.Iterations.{ArePausedBy, AreWorkedBy, HasLooked, IsIterationEnd};
 
 use crate::closing::finish_all;
 use crate::config::Config;
@@ -13,7 +13,7 @@ use crate::desks::Desks;
 use crate::gate::Gate;
 use crate::joining::join_layer;
 use crate::lent::{come_back, lend};
-use crate::settings::{Settings, State};
+use crate::settings::{SearchState, Settings};
 use area::Scratch;
 use layers::{Book, Layer, Parents};
 use solo::Answer;
@@ -25,7 +25,7 @@ use std::thread::Threads;
 
 // How an iteration ended.
 #[derive(Drop)]
-pub(crate) enum Outcome {
+pub(crate) enum IterationEnd {
     // The next layer is closed in these books.
     Onward(Vec<Book>),
     // There is an answer.
@@ -40,14 +40,15 @@ pub(crate) fn iterate<R: Threads + Wait + Sync, G: Gate + Sync>(
     rt: &R,
     settings: &Settings<'_, G>,
     books: Vec<Book>,
-    state: &mut State<'_>,
-) -> Result<Outcome, AllocError>
+    state: &mut SearchState<'_>,
+) -> Result<IterationEnd, AllocError>
     requires limits { IsWithinLimits settings.now.config }
     requires paused { ArePausedBy settings.now.config settings.now.problem.now books.items state.old.trail.items
         state.old.positions }
     requires state { IsStateOf settings.now.problem.now state.old }
     ensures outcome { IfOk result
-        (λ outcome. IsOutcome settings.now.config settings.now.problem.now state.new.trail.items state.old.positions
+        (λ outcome. IsIterationEnd settings.now.config settings.now.problem.now state.new.trail.items
+        state.old.positions
         state.new.positions outcome) }
     ensures state { (state.new.scratch.size ≡ state.old.scratch.size) × (state.new.desks ≡ state.old.desks) }
 {
@@ -64,7 +65,7 @@ pub(crate) fn iterate<R: Threads + Wait + Sync, G: Gate + Sync>(
         &mut state.scratch,
     )?;
     if let Some(answer) = found {
-        return Ok(Outcome::Found(answer));
+        return Ok(IterationEnd::Found(answer));
     }
     go_on(rt, settings, books, layer, state)
 }
@@ -75,8 +76,8 @@ fn go_on<R: Threads + Wait + Sync, G: Gate + Sync>(
     settings: &Settings<'_, G>,
     books: Vec<Book>,
     layer: Layer,
-    state: &mut State<'_>,
-) -> Result<Outcome, AllocError>
+    state: &mut SearchState<'_>,
+) -> Result<IterationEnd, AllocError>
     requires limits { IsWithinLimits settings.now.config }
     requires looked { (before : ℕ) ×
         HasLooked settings.now.config settings.now.problem.now books.items layer state.old.trail.items before
@@ -85,7 +86,7 @@ fn go_on<R: Threads + Wait + Sync, G: Gate + Sync>(
     ensures outcome { (before : ℕ) →
         HasLooked settings.now.config settings.now.problem.now books.items layer state.old.trail.items before
         state.old.positions →
-        IfOk result (λ outcome. IsOutcome settings.now.config settings.now.problem.now state.new.trail.items before
+        IfOk result (λ outcome. IsIterationEnd settings.now.config settings.now.problem.now state.new.trail.items before
         state.new.positions outcome) }
     ensures state { (state.new.scratch.size ≡ state.old.scratch.size) × (state.new.desks ≡ state.old.desks) }
 {
@@ -100,14 +101,14 @@ fn go_on<R: Threads + Wait + Sync, G: Gate + Sync>(
         &mut state.desks,
     )?;
     let Some((worked, after)) = back else {
-        return Ok(Outcome::Foreign);
+        return Ok(IterationEnd::Foreign);
     };
     let (parents, room) = Parents::of(layer);
     state.trail.push(parents)?;
     state.room = room;
     match worked {
-        Worked::Over => Ok(Outcome::Found(Answer::Limit)),
-        Worked::Through => Ok(Outcome::Onward(after)),
+        Worked::Over => Ok(IterationEnd::Found(Answer::Limit)),
+        Worked::Through => Ok(IterationEnd::Onward(after)),
     }
 }
 

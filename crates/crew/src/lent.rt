@@ -10,7 +10,7 @@ use crate::desks::Desks;
 use crate::gate::Gate;
 use crate::held::Within;
 use crate::settings::Settings;
-use crate::shift::Shift;
+use crate::shared::Shared;
 use claims::{Drawer, Ledger};
 use layers::{Book, Layer};
 use std::alloc::{AllocError, Global};
@@ -43,7 +43,7 @@ pub(crate) fn lend<'a, R: Threads + Wait + Sync, G: Gate + Sync>(
         held: &held,
         limit,
     };
-    let shift = Shift {
+    let shared = Shared {
         problem: desks.problem(),
         layer,
         books: locks.as_slice(),
@@ -52,7 +52,7 @@ pub(crate) fn lend<'a, R: Threads + Wait + Sync, G: Gate + Sync>(
         workers: settings.config.workers.saturating_add(1),
         held: &held,
     };
-    desks.work(rt, &shift, drawer);
+    desks.work(rt, &shared, drawer);
     unlock_each(alloc, locks)
 }
 
@@ -99,7 +99,7 @@ pub(crate) fn come_back(books: &[Book], config: Config, layer: &Layer) -> bool
     true
 }
 
-// Whether a book may be the one that was lent at an index.
+// Whether a book is, for all that it tells, the one that was lent at an index.
 fn comes_back(book: &Book, place: usize, config: Config, layer: &Layer) -> bool
     requires { IsWithinLimits config }
     ensures { IsTrue result ↔ ComesBack config layer.now place book.now }

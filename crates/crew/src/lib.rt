@@ -34,7 +34,7 @@ mod lent;
 mod locking;
 mod search;
 mod settings;
-mod shift;
+mod shared;
 mod worker;
 mod workers;
 

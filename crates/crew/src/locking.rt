@@ -3,7 +3,7 @@ ghost use Rattle.std.specs.Prelude.{◌≡◌};
 
 use crate::gate::Gate;
 use crate::held::tell_growth;
-use crate::shift::Post;
+use crate::shared::Worker;
 use layers::Book;
 use std::sync::atomic::AtomicU64;
 use std::sync::{Mutex, MutexGuard, Wait};
@@ -23,31 +23,31 @@ const LEAST: usize = 16;
 // Takes a book's lock as `lock` does, after some tries. While another worker holds it, this one enters the pending
 // successors of its own book.
 pub(crate) fn lock_book<'b, R: Wait, G: Gate>(
-    post: &Post<'_, '_, '_, '_, R, G>,
+    worker: &Worker<'_, '_, '_, '_, R, G>,
     book: &'b Mutex<Book>,
 ) -> MutexGuard<'b, Book> {
     for _ in 0..TRIES {
         if let Some(guard) = book.try_lock() {
             return guard;
         }
-        if !enter_own(post) {
+        if !enter_own(worker) {
             pause();
         }
     }
-    book.lock(post.rt)
+    book.lock(worker.rt)
 }
 
 // Enters the pending successors of the worker's own book, and returns `true`. It returns `false` if they are fewer than
 // `LEAST`, or if another worker holds the book.
-fn enter_own<R: Wait, G: Gate>(post: &Post<'_, '_, '_, '_, R, G>) -> bool {
-    let shift = post.shift;
-    let Some(book) = shift.books.get(post.worker as usize) else {
+fn enter_own<R: Wait, G: Gate>(worker: &Worker<'_, '_, '_, '_, R, G>) -> bool {
+    let shared = worker.shared;
+    let Some(book) = shared.books.get(worker.number as usize) else {
         return false;
     };
     let Some(mut guard) = book.try_lock() else {
         return false;
     };
-    enter_into(&mut *guard, shift.held)
+    enter_into(&mut *guard, shared.held)
 }
 
 // Enters the pending successors of a book whose lock is held, unless they are fewer than `LEAST`, and adds the growth

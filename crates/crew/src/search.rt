@@ -11,8 +11,8 @@ ghost use Rattle.crew.specs.inside.Iterations.{ArePausedBy};
 use crate::config::Config;
 use crate::desks::Desks;
 use crate::gate::Gate;
-use crate::iteration::{Outcome, iterate};
-use crate::settings::{Settings, State};
+use crate::iteration::{IterationEnd, iterate};
+use crate::settings::{SearchState, Settings};
 use area::Scratch;
 use grid::{Level, MAX_BOXES};
 use layers::{Book, Dealing, Problem};
@@ -120,7 +120,7 @@ fn iterate_all<R: Threads + Wait + Sync, G: Gate + Sync>(
     ensures { IfOk result
         (λ found. IfSome found (λ answer. IsAnswer settings.now.problem.now settings.now.config.limit answer)) }
 {
-    let mut state = State {
+    let mut state = SearchState {
         trail: Vec::new(settings.alloc),
         positions: 0,
         room: Vec::new(settings.alloc),
@@ -130,9 +130,9 @@ fn iterate_all<R: Threads + Wait + Sync, G: Gate + Sync>(
     let mut books = first;
     loop {
         match iterate(rt, settings, books, &mut state)? {
-            Outcome::Onward(next) => books = next,
-            Outcome::Found(answer) => return Ok(Some(answer)),
-            Outcome::Foreign => return Ok(None),
+            IterationEnd::Onward(next) => books = next,
+            IterationEnd::Found(answer) => return Ok(Some(answer)),
+            IterationEnd::Foreign => return Ok(None),
         }
     }
 }

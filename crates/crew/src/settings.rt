@@ -19,7 +19,7 @@ pub(crate) struct Settings<'s, G: Gate> {
 /// The state of a search: the parents of the positions of each examined layer, the number of their positions together,
 /// the memory of the last one's squares, the caller's scratch, and the desks of its workers.
 #[derive(Drop)]
-pub(crate) struct State<'a> {
+pub(crate) struct SearchState<'a> {
     pub(crate) trail: Vec<Parents>,
     pub(crate) positions: u64,
     pub(crate) room: Vec<Square>,

@@ -6,14 +6,14 @@ ghost use Rattle.crew.specs.declared.end.End.TheVariants.{Stopped};
 ghost use Rattle.crew.specs.inside.Batches.{AreOfLayer};
 ghost use Rattle.crew.specs.inside.Ends.{HasEnded, IsReady};
 ghost use Rattle.crew.specs.inside.Events.{IsTold, EndsAtOnce, DrawsAtLast, HasLeft};
-ghost use Rattle.crew.specs.inside.Shifts.{answers_to};
+ghost use Rattle.crew.specs.inside.Sharing.{answers_to};
 ghost use Rattle.layers.specs.LayerView.{LayerView};
 
 use crate::batch::{append_parcels, draw_batch, expand_each};
 use crate::end::End;
 use crate::gate::Gate;
 use crate::handing::hand_batch;
-use crate::shift::{Post, Shift};
+use crate::shared::{Shared, Worker};
 use area::Scratch;
 use claims::{Drawer, Ledger, PLACES};
 use layers::{Book, Layer, Parcel, expand_over};
@@ -61,7 +61,7 @@ pub fn work<R: Wait, G: Gate>(
     ensures size { scratch.new.size ≡ scratch.old.size }
 {
     let held = AtomicU64::new(0);
-    let shift = Shift {
+    let shared = Shared {
         problem: layer.problem(),
         layer,
         books,
@@ -71,92 +71,96 @@ pub fn work<R: Wait, G: Gate>(
         held: &held,
     };
     let mut parcels = Vec::new(scratch.allocator());
-    work_at(rt, &shift, drawer, worker, scratch, &mut parcels)
+    work_at(rt, &shared, drawer, worker, scratch, &mut parcels)
 }
 
-// Works on the layer of a shift as [`work`] does, by batches of at most as many ranks as there is capacity for parcels.
+// Works on a layer as [`work`] does, by batches of at most as many ranks as there is capacity for parcels.
 // The parcels are kept from layer to layer.
 pub(crate) fn work_at<'a, R: Wait, G: Gate>(
     rt: &R,
-    shift: &Shift<'_, 'a, G>,
+    shared: &Shared<'_, 'a, G>,
     drawer: &mut Drawer,
     worker: u8,
     scratch: &mut Scratch,
     parcels: &mut Vec<Parcel<'a>>,
 ) -> End
-    requires room { scratch.old.size ≡ length shift.now.layer.level.board.cells }
-    requires drawer { (drawer.old.ledger ≡ shift.now.ledger) × IsNone drawer.old.hand.place }
+    requires room { scratch.old.size ≡ length shared.now.layer.level.board.cells }
+    requires drawer { (drawer.old.ledger ≡ shared.now.ledger) × IsNone drawer.old.hand.place }
     requires place { worker < PLACES }
-    ensures ends { HasEnded G.may_stop shift.now.layer shift.now.workers worker drawer.new.hand result }
-    ensures gate { AsksTheGate (answers_to G.may_answer shift.now worker) shift.now.books drawer.old.hand
+    ensures ends { HasEnded G.may_stop shared.now.layer shared.now.workers worker drawer.new.hand result }
+    ensures gate { AsksTheGate (answers_to G.may_answer shared.now worker) shared.now.books drawer.old.hand
         drawer.new.hand result }
-    ensures ledger { drawer.new.ledger ≡ shift.now.ledger }
+    ensures ledger { drawer.new.ledger ≡ shared.now.ledger }
     ensures size { scratch.new.size ≡ scratch.old.size }
 {
-    if !shift.ledger.enrol(drawer, worker) {
+    if !shared.ledger.enrol(drawer, worker) {
         return End::NoPlace;
     }
-    let post = Post { rt, shift, worker };
-    work_enrolled(&post, drawer, scratch, parcels)
+    let own = Worker {
+        rt,
+        shared,
+        number: worker,
+    };
+    work_enrolled(&own, drawer, scratch, parcels)
 }
 
 // The same once the drawer has its place. Without capacity for parcels the worker makes one on the stack.
 fn work_enrolled<'a, R: Wait, G: Gate>(
-    post: &Post<'_, '_, '_, 'a, R, G>,
+    worker: &Worker<'_, '_, '_, 'a, R, G>,
     drawer: &mut Drawer,
     scratch: &mut Scratch,
     parcels: &mut Vec<Parcel<'a>>,
 ) -> End
-    requires ready { IsReady post.now.shift.now post.now.worker scratch.old drawer.old }
-    ensures ends { HasEnded G.may_stop post.now.shift.now.layer post.now.shift.now.workers post.now.worker
+    requires ready { IsReady worker.now.shared.now worker.now.number scratch.old drawer.old }
+    ensures ends { HasEnded G.may_stop worker.now.shared.now.layer worker.now.shared.now.workers worker.now.number
         drawer.new.hand result }
-    ensures gate { AsksTheGate (answers_to G.may_answer post.now.shift.now post.now.worker) post.now.shift.now.books
-        drawer.old.hand drawer.new.hand result }
-    ensures ledger { drawer.new.ledger ≡ post.now.shift.now.ledger }
+    ensures gate { AsksTheGate (answers_to G.may_answer worker.now.shared.now worker.now.number)
+        worker.now.shared.now.books drawer.old.hand drawer.new.hand result }
+    ensures ledger { drawer.new.ledger ≡ worker.now.shared.now.ledger }
     ensures size { scratch.new.size ≡ scratch.old.size }
 {
-    let shift = post.shift;
+    let shared = worker.shared;
     let mut nth = 0;
-    let rank = match draw(post, drawer, &mut nth) {
+    let rank = match draw(worker, drawer, &mut nth) {
         Ok(rank) => rank,
         Err(end) => return end,
     };
-    append_parcels(shift, rank, scratch, parcels);
+    append_parcels(shared, rank, scratch, parcels);
     if parcels.is_empty() {
-        let mut own = [expand_over(shift.problem, shift.layer, rank, scratch)];
-        return by_batches(post, drawer, scratch, &mut nth, &mut own);
+        let mut own = [expand_over(shared.problem, shared.layer, rank, scratch)];
+        return by_batches(worker, drawer, scratch, &mut nth, &mut own);
     }
     let parcels = parcels.as_mut_slice();
-    expand_each(shift, slice::from_ref(&rank), scratch, parcels);
-    by_batches(post, drawer, scratch, &mut nth, parcels)
+    expand_each(shared, slice::from_ref(&rank), scratch, parcels);
+    by_batches(worker, drawer, scratch, &mut nth, parcels)
 }
 
 // Hands back the first parcel, and then draws batch after batch and hands back the parcels of each.
 fn by_batches<'a, R: Wait, G: Gate>(
-    post: &Post<'_, '_, '_, 'a, R, G>,
+    worker: &Worker<'_, '_, '_, 'a, R, G>,
     drawer: &mut Drawer,
     scratch: &mut Scratch,
     nth: &mut u64,
     parcels: &mut [Parcel<'a>],
 ) -> End
-    requires ready { IsReady post.now.shift.now post.now.worker scratch.old drawer.old }
+    requires ready { IsReady worker.now.shared.now worker.now.number scratch.old drawer.old }
     requires some { 0 < length parcels.old }
-    requires first { AreOfLayer post.now.shift.now.layer (take 1 parcels.old) }
-    ensures ends { HasEnded G.may_stop post.now.shift.now.layer post.now.shift.now.workers post.now.worker
+    requires first { AreOfLayer worker.now.shared.now.layer (take 1 parcels.old) }
+    ensures ends { HasEnded G.may_stop worker.now.shared.now.layer worker.now.shared.now.workers worker.now.number
         drawer.new.hand result }
-    ensures gate { (hand : Hand) → HasLeft (answers_to G.may_answer post.now.shift.now post.now.worker)
-        post.now.shift.now.books 1 hand drawer.old.hand nth.old →
-        AsksTheGate (answers_to G.may_answer post.now.shift.now post.now.worker) post.now.shift.now.books hand
+    ensures gate { (hand : Hand) → HasLeft (answers_to G.may_answer worker.now.shared.now worker.now.number)
+        worker.now.shared.now.books 1 hand drawer.old.hand nth.old →
+        AsksTheGate (answers_to G.may_answer worker.now.shared.now worker.now.number) worker.now.shared.now.books hand
         drawer.new.hand result }
-    ensures ledger { drawer.new.ledger ≡ post.now.shift.now.ledger }
+    ensures ledger { drawer.new.ledger ≡ worker.now.shared.now.ledger }
     ensures size { scratch.new.size ≡ scratch.old.size }
 {
     let mut filled = 1;
-    for _ in post.rt.forever() {
-        if let Err(end) = hand_batch(post, &parcels[..filled], nth) {
+    for _ in worker.rt.forever() {
+        if let Err(end) = hand_batch(worker, &parcels[..filled], nth) {
             return end;
         }
-        match draw_batch(post, drawer, scratch, nth, parcels) {
+        match draw_batch(worker, drawer, scratch, nth, parcels) {
             Ok(count) => filled = count,
             Err(end) => return end,
         }
@@ -169,25 +173,25 @@ fn by_batches<'a, R: Wait, G: Gate>(
 
 // Draws a rank of the layer, and then passes the gate.
 pub(crate) fn draw<R: Wait, G: Gate>(
-    post: &Post<'_, '_, '_, '_, R, G>,
+    worker: &Worker<'_, '_, '_, '_, R, G>,
     drawer: &mut Drawer,
     nth: &mut u64,
 ) -> Result<u64, End>
-    requires place { IsAtPlace post.now.shift.now.ledger post.now.worker drawer.old }
-    ensures within { IfOk result (λ rank. rank < length post.now.shift.now.layer.places) }
+    requires place { IsAtPlace worker.now.shared.now.ledger worker.now.number drawer.old }
+    ensures within { IfOk result (λ rank. rank < length worker.now.shared.now.layer.places) }
     ensures drawn { IfOk result (λ rank. drawer.new.hand.numbers ≡ drawer.old.hand.numbers ++ rank ∷ []) }
     ensures ends { IfErr result
-        (λ end. HasEnded G.may_stop post.now.shift.now.layer post.now.shift.now.workers post.now.worker
+        (λ end. HasEnded G.may_stop worker.now.shared.now.layer worker.now.shared.now.workers worker.now.number
         drawer.new.hand end) }
     ensures goes_on { OnOk result
-        (IsTold (answers_to G.may_answer post.now.shift.now post.now.worker) nth.old true nth.new) }
-    ensures gate { IfErr result (λ end. DrawsAtLast (answers_to G.may_answer post.now.shift.now post.now.worker)
+        (IsTold (answers_to G.may_answer worker.now.shared.now worker.now.number) nth.old true nth.new) }
+    ensures gate { IfErr result (λ end. DrawsAtLast (answers_to G.may_answer worker.now.shared.now worker.now.number)
         drawer.old.hand nth.old drawer.new.hand nth.new end) }
-    ensures place { IsAtPlace post.now.shift.now.ledger post.now.worker drawer.new }
+    ensures place { IsAtPlace worker.now.shared.now.ledger worker.now.number drawer.new }
 {
-    let shift = post.shift;
-    let rank = draw_rank(shift.layer, shift.ledger, drawer, post.worker)?;
-    pass(post, nth)?;
+    let shared = worker.shared;
+    let rank = draw_rank(shared.layer, shared.ledger, drawer, worker.number)?;
+    pass(worker, nth)?;
     Ok(rank)
 }
 
@@ -208,22 +212,22 @@ fn draw_rank(layer: &Layer, ledger: &Ledger, drawer: &mut Drawer, worker: u8) ->
 
 // Counts one more event, and calls the gate.
 pub(crate) fn pass<R: Wait, G: Gate>(
-    post: &Post<'_, '_, '_, '_, R, G>,
+    worker: &Worker<'_, '_, '_, '_, R, G>,
     nth: &mut u64,
 ) -> Result<(), End>
     ensures stops { IfErr result (λ end. end ≡ Stopped) }
     ensures end { IfErr result (λ end. MayEnd G.may_stop end) }
-    ensures hand { (hand : Hand) → IfErr result (λ end. EndsWith post.now.worker hand end) }
+    ensures hand { (hand : Hand) → IfErr result (λ end. EndsWith worker.now.number hand end) }
     ensures answered { (layer : LayerView) (workers : ℕ) →
-        IfErr result (λ end. WasAnswered layer workers post.now.worker end) }
+        IfErr result (λ end. WasAnswered layer workers worker.now.number end) }
     ensures goes_on { OnOk result
-        (IsTold (answers_to G.may_answer post.now.shift.now post.now.worker) nth.old true nth.new) }
+        (IsTold (answers_to G.may_answer worker.now.shared.now worker.now.number) nth.old true nth.new) }
     ensures gate { IfErr result
-        (λ end. EndsAtOnce (answers_to G.may_answer post.now.shift.now post.now.worker) nth.old nth.new end) }
+        (λ end. EndsAtOnce (answers_to G.may_answer worker.now.shared.now worker.now.number) nth.old nth.new end) }
 {
-    let shift = post.shift;
+    let shared = worker.shared;
     *nth = nth.saturating_add(1);
-    if shift.gate.pass(shift.layer.number(), post.worker, *nth) {
+    if shared.gate.pass(shared.layer.number(), worker.number, *nth) {
         Ok(())
     } else {
         Err(End::Stopped)

@@ -5,7 +5,7 @@ ghost use Rattle.crew.specs.inside.Desks.{AreRoomy, HaveDrawers};
 
 use crate::desks::Desk;
 use crate::gate::Gate;
-use crate::shift::Shift;
+use crate::shared::Shared;
 use crate::worker::work_at;
 use claims::PLACES;
 use spreading::for_each_spread;
@@ -17,36 +17,36 @@ use std::thread::Threads;
 pub(crate) fn work_all<'a, R: Threads + Wait + Sync, G: Gate + Sync>(
     rt: &R,
     desks: &mut [Desk<'a>],
-    shift: &Shift<'_, 'a, G>,
+    shared: &Shared<'_, 'a, G>,
 )
     requires places { length desks.old ≤ PLACES }
-    requires drawers { HaveDrawers shift.now.ledger (length desks.old) desks.old }
-    requires room { AreRoomy (length shift.now.layer.level.board.cells) desks.old }
-    ensures room { AreRoomy (length shift.now.layer.level.board.cells) desks.new }
+    requires drawers { HaveDrawers shared.now.ledger (length desks.old) desks.old }
+    requires room { AreRoomy (length shared.now.layer.level.board.cells) desks.old }
+    ensures room { AreRoomy (length shared.now.layer.level.board.cells) desks.new }
 {
     for_each_spread(
         rt,
         desks,
         &|place, desk: &mut Desk<'_>|
             requires place { place < PLACES }
-            requires drawer { desk.now.drawer ≡ Some (newcomer shift.now.ledger) }
-            requires room { desk.now.scratch.size ≡ length shift.now.layer.level.board.cells }
+            requires drawer { desk.now.drawer ≡ Some (newcomer shared.now.ledger) }
+            requires room { desk.now.scratch.size ≡ length shared.now.layer.level.board.cells }
             ensures { desk.exit.now.scratch.size ≡ desk.entry.now.scratch.size }
-        { help(rt, desk, shift, place as u8) },
+        { help(rt, desk, shared, place as u8) },
     );
 }
 
 // Works on the layer as one worker, with the memory of the desk. Its result is ignored.
-fn help<'a, R: Wait, G: Gate>(rt: &R, desk: &mut Desk<'a>, shift: &Shift<'_, 'a, G>, worker: u8)
+fn help<'a, R: Wait, G: Gate>(rt: &R, desk: &mut Desk<'a>, shared: &Shared<'_, 'a, G>, worker: u8)
     requires place { worker < PLACES }
-    requires drawer { desk.old.drawer ≡ Some (newcomer shift.now.ledger) }
-    requires room { desk.old.scratch.size ≡ length shift.now.layer.level.board.cells }
+    requires drawer { desk.old.drawer ≡ Some (newcomer shared.now.ledger) }
+    requires room { desk.old.scratch.size ≡ length shared.now.layer.level.board.cells }
     ensures room { desk.new.scratch.size ≡ desk.old.scratch.size }
 {
     if let Some(mut own) = desk.drawer.take() {
         work_at(
             rt,
-            shift,
+            shared,
             &mut own,
             worker,
             &mut desk.scratch,

@@ -23,7 +23,7 @@ pub(crate) fn live_flags(alloc: Global, level: &Level) -> Result<Vec<bool>, Allo
 pub(crate) fn distances(alloc: Global, level: &Level) -> Result<Vec<Option<u16>>, AllocError>
     ensures { IfOk result (λ far. AreDistances level.now far.items) }
 {
-    let mut found = Found::goals(alloc, level)?;
+    let mut found = PullSearch::goals(alloc, level)?;
     level.tell();
     let mut steps = 0;
     while !found.marked.is_empty() {
@@ -37,21 +37,21 @@ pub(crate) fn distances(alloc: Global, level: &Level) -> Result<Vec<Option<u16>>
 /// The distances found so far; the squares of the round before that boxes are still to be pulled from; and the squares
 /// found in this round.
 #[derive(Drop)]
-struct Found {
+struct PullSearch {
     far: Vec<Option<u16>>,
     due: Vec<Square>,
     marked: Vec<Square>,
 }
 
-impl Found {
+impl PullSearch {
     /// Starts with the goals, which need no push.
-    fn goals(alloc: Global, level: &Level) -> Result<Found, AllocError>
+    fn goals(alloc: Global, level: &Level) -> Result<PullSearch, AllocError>
         ensures filling { IfOk result (λ found. IsFilling level.now 0 found.far.items [] found.marked.items) }
         ensures due { IfOk result (λ found. found.due.items ≡ []) }
     {
         level.tell();
         let squares = level.squares();
-        let mut found = Found {
+        let mut found = PullSearch {
             far: vec![in alloc; None; squares]?,
             due: Vec::with_capacity(alloc, squares)?,
             marked: Vec::with_capacity(alloc, squares)?,

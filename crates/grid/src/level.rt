@@ -1,5 +1,6 @@
 ghost use Rattle.std.specs.Prelude.{◌≡◌, ◌%◌, ◌<◌, ◌≤◌, ◌⊎◌, ◌↔◌, IsTrue, IfOk, IfErr, length, if◌then◌else◌};
-ghost use Rattle.grid.specs.Board.{is_wall, is_goal, next, start, start_player};
+ghost use Rattle.grid.specs.Board.{Scene, IsSolved, is_wall, is_goal, next, start, start_player};
+ghost use Rattle.std.specs.List.{list_all};
 ghost use Rattle.grid.specs.Lawful.{row_count, box_count, HasFault, InRoom, IsLevel};
 ghost use Rattle.grid.specs.States.{FitsLevel, has_box};
 ghost use Rattle.grid.specs.inside.AroundView.{around_of, ways_of};
@@ -125,6 +126,13 @@ impl Level {
         ensures { result ≡ is_goal self.now square }
     {
         self.board.is_goal(square)
+    }
+
+    /// Whether each of these boxes is on a goal, as at the end of a solution.
+    pub fn are_on_goals(&self, boxes: &[Square]) -> bool
+        ensures { (s : Scene) → boxes.now ≡ s.boxes → IsTrue result ↔ IsSolved self.now s }
+    {
+        are_goals(boxes, self)
     }
 
     /// Whether a box is on the square at the start.
@@ -267,4 +275,11 @@ fn are_same(cells: &[Cell], others: &[Cell]) -> bool
         same &= *cell == others[place];
     }
     same
+}
+
+// Whether each square has a goal.
+fn are_goals(squares: &[Square], level: &Level) -> bool
+    ensures { result ≡ list_all (is_goal level.now) squares.now }
+{
+    squares.iter().all(|square| level.is_goal(*square))
 }

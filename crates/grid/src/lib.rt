@@ -36,7 +36,6 @@ pub use board::Board;
 pub use cell::Cell;
 pub use dir::Dir;
 pub use fault::LevelFault;
-pub use hashing::hash_squares;
 pub use level::Level;
 pub use limits::{MAX_BOXES, MAX_COLS, MAX_ROWS, MAX_SQUARES};
 pub use masks::{StepMasks, WORD_BITS};

@@ -11,10 +11,10 @@ use Rattle.prices.specs.Prices.{goals_of}
 use Rattle.prices.specs.inside.Tables.{far_in, place_in, row_in as far_row}
 use Rattle.prices.specs.inside.Views.{DistancesView}
 use Rattle.prices.specs.declared.pulls.TheConstants.{NEVER}
-use Rattle.prices.specs.declared.table.Table.{Table as Distances}
+use Rattle.prices.specs.declared.table.DistanceTable.{DistanceTable as Distances}
 use Rattle.prices.proofs.lemmas.Goals.{contains-goals}
 use Rattle.prices.proofs.lemmas.Tables.{place_inside}
-use Rattle.groups.specs.declared.table.Table.{Table}
+use Rattle.groups.specs.declared.table.GroupTable.{GroupTable}
 use Rattle.groups.specs.Groups.{alone}
 use Rattle.groups.specs.Tables.{Listed, Passes, excess_by}
 use Rattle.groups.specs.inside.Tables.{IsSound, boxes_in, entry_of, excess_in, listed_in, row_excess, waste_in}
@@ -44,7 +44,7 @@ is_waste_by board other t q p r waste w count d xs ys same goals counted behind 
     waste_for board t q (next board q (opposite d)) (next board q d) q waste all rows g goal near
 
 -- a row of a lesser number says the same wherever the player is
-pub even_keeps : (board : Board) (t : Table) (boxes : Squares) (row p : ℕ) → nat_lt row 256 ≡ true → WalksKeep board boxes (row_excess t row) p
+pub even_keeps : (board : Board) (t : GroupTable) (boxes : Squares) (row p : ℕ) → nat_lt row 256 ≡ true → WalksKeep board boxes (row_excess t row) p
 even_keeps board t boxes row p less here d there =
     let at : (x : ℕ) → row_excess t row x ≡ row =
     λ x. ap (λ (b : Bool). cond b row (get_or t.rows.items (row + get_or t.places.items x 0) 0)) less in
@@ -58,7 +58,7 @@ of_each P xs all q there =
     let at = place_of_member xs q 0 there in
     subst P at.2 (all at.0 at.1)
 
-pub group_passes : (board : Board) (t : Table) (i row : ℕ) (xs ys zs : Squares) (away : Bool) → xs ≡ boxes_in t i → ys ≡ boxes_in t i → zs ≡ boxes_in t i
+pub group_passes : (board : Board) (t : GroupTable) (i row : ℕ) (xs ys zs : Squares) (away : Bool) → xs ≡ boxes_in t i → ys ≡ boxes_in t i → zs ≡ boxes_in t i
     → row ≡ (entry_of t.entries.items i).row → is_rising xs ≡ true
     → (((q : ℕ) → contains xs q ≡ true → is_goal board q ≡ true) → away ≡ true) → not away ≡ true
     → ((p : ℕ) → p < length board.cells → WalksKeep board ys (row_excess t row) p)
@@ -115,7 +115,7 @@ passes board far t waste i wastes is = record {
         subst (λ (x : ℕ). IsLeft (t.excess i x) (waste q d) (excess_by t (alone (insert (remove (t.boxes i) q) r) q))) back
         (is.push q there d (subst (λ (x : ℕ). IsFree board (t.boxes i) x) (sym back) free) (floor, beyond))
 
-pub sound : (board : Board) (v : DistancesView) (t : Table) → board ≡ v.level
+pub sound : (board : Board) (v : DistancesView) (t : GroupTable) → board ≡ v.level
     → ((q : ℕ) → q < length board.cells → (d : Dir) → IsWaste board (far_in v.table) q d (waste_in t q d))
     → ((i : ℕ) → i < length t.entries.items → GroupPasses board (listed_in t) (waste_in t) i) → IsSound v t
 sound board v t same wastes all i lt =

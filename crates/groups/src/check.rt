@@ -7,12 +7,12 @@ ghost use Rattle.prices.specs.inside.Tables.{far_in};
 ghost use Rattle.groups.specs.inside.Checks.{AreWithin, GroupPasses, IsLeft, IsWaste, PushPays, WalksKeep};
 ghost use Rattle.groups.specs.inside.Tables.{IsSound, listed_in, row_excess, waste_in};
 
-use crate::table::{DEAD, ROWS, Table, is_among};
+use crate::table::{DEAD, GroupTable, ROWS, is_among};
 use grid::{Dir, Level, Position, Square};
 use prices::{Distances, NEVER};
 
 /// Whether each listed group passes the check.
-pub(crate) fn is_sound(level: &Level, distances: &Distances, table: &Table) -> bool
+pub(crate) fn is_sound(level: &Level, distances: &Distances, table: &GroupTable) -> bool
     requires { level.now ≡ distances.now.level }
     ensures { IsTrue result → IsSound distances.now table.now }
 {
@@ -23,7 +23,7 @@ pub(crate) fn is_sound(level: &Level, distances: &Distances, table: &Table) -> b
 }
 
 // Whether each push wastes at least what the table states.
-fn are_wastes(level: &Level, distances: &Distances, table: &Table) -> bool
+fn are_wastes(level: &Level, distances: &Distances, table: &GroupTable) -> bool
     requires { level.now ≡ distances.now.level }
     ensures { IsTrue result → (q : ℕ) → q < length level.now.cells → (d : Dir)
         → IsWaste level.now (far_in distances.now.table) q d (waste_in table.now q d) }
@@ -38,7 +38,7 @@ fn are_wastes(level: &Level, distances: &Distances, table: &Table) -> bool
 }
 
 // Whether each push of a box on the square wastes at least what the table states.
-fn are_wastes_of(level: &Level, distances: &Distances, table: &Table, square: Square) -> bool
+fn are_wastes_of(level: &Level, distances: &Distances, table: &GroupTable, square: Square) -> bool
     requires level { level.now ≡ distances.now.level }
     requires inside { square < length level.now.cells }
     ensures { IsTrue result → (d : Dir) →
@@ -52,7 +52,13 @@ fn are_wastes_of(level: &Level, distances: &Distances, table: &Table, square: Sq
 }
 
 // Whether a push of a box on the square wastes at least what the table states.
-fn is_waste(level: &Level, distances: &Distances, table: &Table, square: Square, dir: Dir) -> bool
+fn is_waste(
+    level: &Level,
+    distances: &Distances,
+    table: &GroupTable,
+    square: Square,
+    dir: Dir,
+) -> bool
     requires level { level.now ≡ distances.now.level }
     requires inside { square < length level.now.cells }
     ensures { IsTrue result →
@@ -100,7 +106,7 @@ fn number_at(numbers: &[u32], at: usize) -> u32
 }
 
 // Whether each listed group passes the check, if pushes waste what the table states.
-fn all_pass(level: &Level, table: &Table) -> bool
+fn all_pass(level: &Level, table: &GroupTable) -> bool
     ensures { IsTrue result → (i : ℕ) → i < length table.now.entries.items →
         GroupPasses level.now (listed_in table.now) (waste_in table.now) i }
 {
@@ -113,7 +119,7 @@ fn all_pass(level: &Level, table: &Table) -> bool
 }
 
 // Whether a group passes the check.
-fn passes(level: &Level, table: &Table, group: usize) -> bool
+fn passes(level: &Level, table: &GroupTable, group: usize) -> bool
     ensures { IsTrue result → GroupPasses level.now (listed_in table.now) (waste_in table.now) group }
 {
     let Some(position) = Position::of(table.boxes(group), Square(0)) else {
@@ -138,7 +144,7 @@ fn are_on_goals(level: &Level, squares: &[Square]) -> bool
 }
 
 // Whether no walk around boxes on the squares lessens the excess in the row.
-fn walks_keep(level: &Level, table: &Table, row: u32, boxes: &[Square]) -> bool
+fn walks_keep(level: &Level, table: &GroupTable, row: u32, boxes: &[Square]) -> bool
     ensures { IsTrue result → (p : ℕ) → p < length level.now.cells →
         WalksKeep level.now boxes.now (row_excess table.now row) p }
 {
@@ -155,7 +161,13 @@ fn walks_keep(level: &Level, table: &Table, row: u32, boxes: &[Square]) -> bool
 }
 
 // Whether no step of the player from a square lessens the excess in the row.
-fn walks_keep_from(level: &Level, table: &Table, row: u32, boxes: &[Square], player: Square) -> bool
+fn walks_keep_from(
+    level: &Level,
+    table: &GroupTable,
+    row: u32,
+    boxes: &[Square],
+    player: Square,
+) -> bool
     requires { player < length level.now.cells }
     ensures { IsTrue result → WalksKeep level.now boxes.now (row_excess table.now row) player }
 {
@@ -171,14 +183,21 @@ fn walks_keep_from(level: &Level, table: &Table, row: u32, boxes: &[Square], pla
 }
 
 // Whether the row has at least this excess on a square, if the player can be there.
-fn is_kept(level: &Level, table: &Table, row: u32, boxes: &[Square], excess: u8, to: Square) -> bool
+fn is_kept(
+    level: &Level,
+    table: &GroupTable,
+    row: u32,
+    boxes: &[Square],
+    excess: u8,
+    to: Square,
+) -> bool
     ensures { IsTrue result → IsFree level.now boxes.now to → excess ≤ row_excess table.now row to }
 {
     level.is_wall(to) || is_among(boxes, to) || excess <= table.row_excess(row, to)
 }
 
 // Whether each push of a box of the group leaves enough excess.
-fn pushes_pay(level: &Level, table: &Table, group: usize, position: &Position) -> bool
+fn pushes_pay(level: &Level, table: &GroupTable, group: usize, position: &Position) -> bool
     ensures { IsTrue result → (q : ℕ) → contains position.now.boxes q ≡ true → (d : Dir)
         → PushPays level.now (listed_in table.now) (waste_in table.now) group position.now.boxes q d }
 {
@@ -193,7 +212,7 @@ fn pushes_pay(level: &Level, table: &Table, group: usize, position: &Position) -
 // Whether each push of the group's box on the square leaves enough excess.
 fn pushes_pay_of(
     level: &Level,
-    table: &Table,
+    table: &GroupTable,
     group: usize,
     position: &Position,
     square: Square,
@@ -215,7 +234,7 @@ fn pushes_pay_of(
 // Whether a push of the group's box on the square leaves enough excess.
 fn push_pays(
     level: &Level,
-    table: &Table,
+    table: &GroupTable,
     group: usize,
     position: &Position,
     square: Square,

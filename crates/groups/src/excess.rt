@@ -9,7 +9,7 @@ ghost use Rattle.groups.specs.inside.Tables.{AreSound, IsSound};
 
 use crate::check::is_sound;
 use crate::filling::table_of;
-use crate::table::{DEAD, Table};
+use crate::table::{DEAD, GroupTable};
 use grid::{Level, MAX_BOXES, Position};
 use prices::{Distances, Matching};
 use std::alloc::{AllocError, Global};
@@ -20,7 +20,7 @@ use std::marker::Model;
 #[derive(Debug, Drop)]
 pub struct Groups {
     distances: Distances,
-    table: Option<Table>,
+    table: Option<GroupTable>,
 }
 
 impl Model for Groups {
@@ -101,7 +101,7 @@ impl Groups {
 }
 
 // The pushes that the boxes of a position need above what each needs alone.
-fn above(distances: &Distances, table: &Table, position: &Position) -> u64
+fn above(distances: &Distances, table: &GroupTable, position: &Position) -> u64
     requires sound { IsSound distances.now table.now }
     requires scene { IsScene distances.now.level position.now }
     ensures { (low m : ℕ) → ComesOfTolls distances.now.level (far_in distances.now.table) position.now low
@@ -115,7 +115,7 @@ fn above(distances: &Distances, table: &Table, position: &Position) -> u64
 }
 
 // The pushes that picked groups of a position need above what each of their boxes needs alone.
-fn above_by(distances: &Distances, table: &Table, position: &Position, picks: &[u32]) -> u64
+fn above_by(distances: &Distances, table: &GroupTable, position: &Position, picks: &[u32]) -> u64
     requires sound { IsSound distances.now table.now }
     requires scene { IsScene distances.now.level position.now }
     requires few { length picks.now ≤ MAX_BOXES }
@@ -127,7 +127,7 @@ fn above_by(distances: &Distances, table: &Table, position: &Position, picks: &[
 }
 
 // Whether a group is among the boxes and can never come to goals.
-fn is_dead_by(distances: &Distances, table: &Table, position: &Position, group: u32) -> bool
+fn is_dead_by(distances: &Distances, table: &GroupTable, position: &Position, group: u32) -> bool
     requires sound { IsSound distances.now table.now }
     requires scene { IsScene distances.now.level position.now }
     ensures { IsTrue result → IsLost distances.now.level position.now }
@@ -142,7 +142,7 @@ fn checked(
     level: &Level,
     distances: &Distances,
     most: usize,
-) -> Result<Option<Table>, AllocError>
+) -> Result<Option<GroupTable>, AllocError>
     requires { level.now ≡ distances.now.level }
     ensures { IfOk result (λ table. AreSound distances.now table) }
 {

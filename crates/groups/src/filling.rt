@@ -1,10 +1,10 @@
 //! The excess of all groups of one size, found by pulls from the groups on goals. It has no contract: it is checked.
 ghost use Rattle.std.specs.Prelude.{◌<◌};
 
-use crate::ground::{Ground, NONE, ground_at, ground_of, short};
+use crate::ground::{NONE, RoomSquare, ground_at, ground_of, short};
 use crate::listing::{empty_table, list_dead_squares, list_groups};
 use crate::numbering::{FIRST, Group, LARGEST, Numbering, advance, moved};
-use crate::table::{Table, byte_at};
+use crate::table::{GroupTable, byte_at};
 use grid::{Dir, Level, Square};
 use prices::Distances;
 use std::alloc::{AllocError, Global};
@@ -27,7 +27,7 @@ struct Located {
 
 /// A group and the player's square, and the next entry of the same excess.
 #[derive(Clone, Copy, Debug)]
-struct Entry {
+struct QueuedGroup {
     group: Group,
     player: u16,
     next: u32,
@@ -37,14 +37,14 @@ struct Entry {
 /// and a queue: one list for each excess.
 #[derive(Debug, Drop)]
 pub(crate) struct Filling {
-    pub(crate) ground: Vec<Ground>,
+    pub(crate) ground: Vec<RoomSquare>,
     pub(crate) size: usize,
     pub(crate) excess: Vec<u8>,
     pub(crate) fewer: Vec<u8>,
     spots: Vec<u16>,
     numbering: Numbering,
     heads: [u32; 256],
-    entries: Vec<Entry>,
+    entries: Vec<QueuedGroup>,
     stack: Vec<u16>,
 }
 
@@ -55,7 +55,7 @@ pub(crate) fn table_of(
     level: &Level,
     distances: &Distances,
     most: usize,
-) -> Result<Option<Table>, AllocError> {
+) -> Result<Option<GroupTable>, AllocError> {
     let mut filling = begun(alloc, level, distances)?;
     if most < 2 || !filling.is_small(2) {
         return Ok(None);
@@ -91,7 +91,7 @@ fn begun(alloc: Global, level: &Level, distances: &Distances) -> Result<Filling,
 }
 
 // The squares that have places, by their places.
-fn spots_of(alloc: Global, ground: &[Ground]) -> Result<Vec<u16>, AllocError> {
+fn spots_of(alloc: Global, ground: &[RoomSquare]) -> Result<Vec<u16>, AllocError> {
     let mut count = 0_usize;
     for it in ground {
         if it.place != NONE {
@@ -210,7 +210,7 @@ impl Filling {
         let Ok(place) = u32::try_from(self.entries.len()) else {
             return Ok(());
         };
-        self.entries.push(Entry {
+        self.entries.push(QueuedGroup {
             group: it.group,
             player,
             next,
@@ -234,7 +234,7 @@ impl Filling {
             if head >= self.entries.len() {
                 return Ok(());
             }
-            let Entry {
+            let QueuedGroup {
                 group,
                 player,
                 next,

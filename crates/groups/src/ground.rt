@@ -11,7 +11,7 @@ pub(crate) const NONE: u16 = u16::MAX;
 /// which a box can come to a goal, in rising order, and for each direction the waste of the push that a pull from it
 /// undoes.
 #[derive(Clone, Copy, Debug)]
-pub(crate) struct Ground {
+pub(crate) struct RoomSquare {
     pub(crate) square: u16,
     pub(crate) beside: [u16; 4],
     pub(crate) place: u16,
@@ -23,7 +23,7 @@ pub(crate) fn ground_of(
     alloc: Global,
     level: &Level,
     distances: &Distances,
-) -> Result<Vec<Ground>, AllocError> {
+) -> Result<Vec<RoomSquare>, AllocError> {
     level.tell();
     let mut numbers = vec![in alloc; NONE; level.squares()]?;
     let mut ground = gathered(alloc, level, numbers.as_mut_slice())?;
@@ -40,10 +40,10 @@ pub(crate) fn short(at: usize) -> u16 {
 
 /// The entry at an index; a square without neighbours if there is none.
 #[inline(always)]
-pub(crate) fn ground_at(ground: &[Ground], at: u16) -> Ground {
+pub(crate) fn ground_at(ground: &[RoomSquare], at: u16) -> RoomSquare {
     match ground.get(at as usize) {
         Some(it) => *it,
-        None => Ground {
+        None => RoomSquare {
             square: NONE,
             beside: [NONE; 4],
             place: NONE,
@@ -53,7 +53,11 @@ pub(crate) fn ground_at(ground: &[Ground], at: u16) -> Ground {
 }
 
 // The squares, each with its neighbours.
-fn gathered(alloc: Global, level: &Level, numbers: &mut [u16]) -> Result<Vec<Ground>, AllocError> {
+fn gathered(
+    alloc: Global,
+    level: &Level,
+    numbers: &mut [u16],
+) -> Result<Vec<RoomSquare>, AllocError> {
     let mut ground = Vec::new(alloc);
     enter(&mut ground, numbers, level.player())?;
     for head in 0..level.squares() {
@@ -68,7 +72,7 @@ fn gathered(alloc: Global, level: &Level, numbers: &mut [u16]) -> Result<Vec<Gro
 // Appends the neighbours of a square.
 fn visit(
     level: &Level,
-    ground: &mut Vec<Ground>,
+    ground: &mut Vec<RoomSquare>,
     numbers: &mut [u16],
     head: u16,
 ) -> Result<(), AllocError> {
@@ -102,14 +106,18 @@ fn number_of(numbers: &[u16], square: Square) -> u16 {
 }
 
 // Appends a square that is new.
-fn enter(ground: &mut Vec<Ground>, numbers: &mut [u16], square: Square) -> Result<(), AllocError> {
+fn enter(
+    ground: &mut Vec<RoomSquare>,
+    numbers: &mut [u16],
+    square: Square,
+) -> Result<(), AllocError> {
     if number_of(numbers, square) != NONE {
         return Ok(());
     }
     if let Some(number) = numbers.get_mut(square.0 as usize) {
         *number = short(ground.len());
     }
-    ground.push(Ground {
+    ground.push(RoomSquare {
         square: square.0,
         beside: [NONE; 4],
         place: NONE,
@@ -119,7 +127,7 @@ fn enter(ground: &mut Vec<Ground>, numbers: &mut [u16], square: Square) -> Resul
 }
 
 // Numbers the squares from which a box can come to a goal, in rising order.
-fn give_places(distances: &Distances, numbers: &[u16], ground: &mut [Ground]) {
+fn give_places(distances: &Distances, numbers: &[u16], ground: &mut [RoomSquare]) {
     let mut place = 0_u16;
     for number in numbers {
         if is_live(distances, ground, *number) {
@@ -132,7 +140,7 @@ fn give_places(distances: &Distances, numbers: &[u16], ground: &mut [Ground]) {
 }
 
 // Whether a box on the square can come to a goal, with the player on some neighbour.
-fn is_live(distances: &Distances, ground: &[Ground], at: u16) -> bool {
+fn is_live(distances: &Distances, ground: &[RoomSquare], at: u16) -> bool {
     let it = ground_at(ground, at);
     for beside in it.beside {
         if beside != NONE && is_hopeful(distances, ground, at, beside) {
@@ -143,7 +151,12 @@ fn is_live(distances: &Distances, ground: &[Ground], at: u16) -> bool {
 }
 
 /// Whether a lone box can come to a goal, with the player on another square.
-pub(crate) fn is_hopeful(distances: &Distances, ground: &[Ground], at: u16, player: u16) -> bool {
+pub(crate) fn is_hopeful(
+    distances: &Distances,
+    ground: &[RoomSquare],
+    at: u16,
+    player: u16,
+) -> bool {
     let square = ground_at(ground, at).square;
     let other = ground_at(ground, player).square;
     is_near(distances.row(Square(square), Square(other)))
@@ -160,7 +173,7 @@ fn is_near(row: &[u32]) -> bool {
 }
 
 // Sets, for each square, the waste of the pushes that pulls from it undo.
-fn give_wastes(distances: &Distances, ground: &mut [Ground]) {
+fn give_wastes(distances: &Distances, ground: &mut [RoomSquare]) {
     for at in 0..ground.len() {
         let waste = [
             waste_of(distances, ground, short(at), Dir::D),
@@ -173,7 +186,7 @@ fn give_wastes(distances: &Distances, ground: &mut [Ground]) {
 }
 
 // The waste of the push that a pull from the square in the direction undoes.
-fn waste_of(distances: &Distances, ground: &[Ground], at: u16, dir: Dir) -> u8 {
+fn waste_of(distances: &Distances, ground: &[RoomSquare], at: u16, dir: Dir) -> u8 {
     let to = ground_at(ground, at);
     let from = ground_at(ground, to.beside[dir as usize]);
     let player = ground_at(ground, from.beside[dir as usize]);

@@ -2,10 +2,10 @@
 //! checked.
 
 use crate::filling::{Filling, set_byte};
-use crate::ground::{Ground, NONE, ground_at, short};
+use crate::ground::{NONE, RoomSquare, ground_at, short};
 use crate::numbering::{FIRST, Group, LARGEST, advance};
 use crate::packing::Index;
-use crate::table::{DEAD, Entry, ROWS, Table, byte_at};
+use crate::table::{DEAD, GroupTable, ListedGroup, ROWS, byte_at};
 use grid::{Dir, Level, Square};
 use std::alloc::{AllocError, Global};
 
@@ -13,11 +13,11 @@ use std::alloc::{AllocError, Global};
 pub(crate) fn empty_table(
     alloc: Global,
     level: &Level,
-    ground: &[Ground],
-) -> Result<Table, AllocError> {
+    ground: &[RoomSquare],
+) -> Result<GroupTable, AllocError> {
     level.tell();
     let squares = level.squares();
-    let mut table = Table {
+    let mut table = GroupTable {
         places: vec![in alloc; short(ground.len()); squares]?,
         wastes: vec![in alloc; 0; squares.saturating_mul(4)]?,
         entries: Vec::new(alloc),
@@ -36,7 +36,7 @@ pub(crate) fn empty_table(
 }
 
 // Enters the waste of the pushes of a box to the square.
-fn note_wastes(table: &mut Table, ground: &[Ground], to: Ground) {
+fn note_wastes(table: &mut GroupTable, ground: &[RoomSquare], to: RoomSquare) {
     for dir in Dir::ALL {
         let from = ground_at(ground, to.beside[dir as usize]);
         let at = (from.square as usize)
@@ -49,7 +49,10 @@ fn note_wastes(table: &mut Table, ground: &[Ground], to: Ground) {
 }
 
 /// Lists the squares from which a box cannot come to a goal.
-pub(crate) fn list_dead_squares(table: &mut Table, ground: &[Ground]) -> Result<(), AllocError> {
+pub(crate) fn list_dead_squares(
+    table: &mut GroupTable,
+    ground: &[RoomSquare],
+) -> Result<(), AllocError> {
     for it in ground {
         if it.place == NONE {
             table.squares.push(Square(it.square))?;
@@ -62,7 +65,7 @@ pub(crate) fn list_dead_squares(table: &mut Table, ground: &[Ground]) -> Result<
 /// Lists the groups of the present size that have more excess than those within them.
 pub(crate) fn list_groups(
     alloc: Global,
-    table: &mut Table,
+    table: &mut GroupTable,
     filling: &Filling,
 ) -> Result<(), AllocError> {
     let len = filling.ground.len();
@@ -134,7 +137,7 @@ fn copy_row(filling: &Filling, group: &Group, start: usize, bytes: &mut [u8]) {
     }
 }
 
-impl Table {
+impl GroupTable {
     // The number of a row of these bytes.
     fn row_of(&mut self, bytes: &[u8]) -> Result<u32, AllocError> {
         let first = byte_at(bytes, 0);
@@ -155,7 +158,7 @@ impl Table {
     // Lists the group of the last squares.
     fn list(&mut self, count: usize, row: u32) -> Result<(), AllocError> {
         let first = self.squares.len().saturating_sub(count);
-        self.entries.push(Entry {
+        self.entries.push(ListedGroup {
             first: u32::try_from(first).unwrap_or(0),
             count: u32::try_from(count).unwrap_or(0),
             row,

@@ -1,6 +1,6 @@
 //! The choice of groups of a position that are counted together, and the index of listed groups. It has no contract.
 
-use crate::table::{DEAD, Table};
+use crate::table::{DEAD, GroupTable};
 use grid::{MAX_BOXES, Square};
 use std::alloc::{AllocError, Global};
 
@@ -10,7 +10,7 @@ pub(crate) const NO_GROUP: u32 = u32::MAX;
 /// No node.
 const NO_NODE: u32 = u32::MAX;
 
-/// The greatest number of groups that [`Table::picks`] weighs.
+/// The greatest number of groups that [`GroupTable::picks`] weighs.
 const MOST: usize = 128;
 
 /// More than [`LARGEST`](crate::numbering::LARGEST), the greatest number of boxes of a group.
@@ -131,7 +131,7 @@ impl Index {
 
 /// Boxes of a position that begin listed groups, and the next box to try.
 #[derive(Clone, Copy, Debug)]
-struct Step {
+struct PackingStep {
     node: u32,
     next: usize,
     mask: u64,
@@ -140,7 +140,7 @@ struct Step {
 /// A walk over the listed groups within the boxes of a position.
 #[derive(Drop)]
 struct Walk {
-    steps: [Step; DEEP],
+    steps: [PackingStep; DEEP],
     depth: usize,
     mask: u64,
 }
@@ -149,7 +149,7 @@ impl Walk {
     // Begins before the first group.
     fn new() -> Walk {
         Walk {
-            steps: [Step {
+            steps: [PackingStep {
                 node: 0,
                 next: 0,
                 mask: 0,
@@ -163,7 +163,7 @@ impl Walk {
     fn next(&mut self, index: &Index, boxes: &[Square]) -> u32 {
         for _ in 0..u32::MAX {
             let depth = self.depth % DEEP;
-            let Step { node, next, mask } = self.steps[depth];
+            let PackingStep { node, next, mask } = self.steps[depth];
             let at = first_child(index, node, boxes, next);
             if at >= boxes.len() {
                 if depth == 0 {
@@ -177,7 +177,7 @@ impl Walk {
                 let Node { group, is_inner } = index.node(child);
                 if is_inner {
                     self.depth = (depth + 1) % DEEP;
-                    self.steps[(depth + 1) % DEEP] = Step {
+                    self.steps[(depth + 1) % DEEP] = PackingStep {
                         node: child,
                         next: at + 1,
                         mask: self.mask,
@@ -232,7 +232,7 @@ struct Candidates {
     count: usize,
 }
 
-impl Table {
+impl GroupTable {
     /// Makes the index anew.
     pub(crate) fn make_index(&mut self, alloc: Global) -> Result<(), AllocError> {
         let len = self.squares.len().saturating_mul(2).saturating_add(2);

@@ -4,10 +4,10 @@ ghost use Rattle.groups.specs.Groups.{IsApart};
 ghost use Rattle.groups.specs.inside.Picks.{Fits, IsExcessOf, boxes_of, is_apart, taken};
 ghost use Rattle.groups.specs.inside.Tables.{boxes_in, listed_in};
 
-use crate::table::{Table, is_among, is_within};
+use crate::table::{GroupTable, is_among, is_within};
 use grid::{MAX_BOXES, Square};
 
-impl Table {
+impl GroupTable {
     /// The excess of picked groups, up to the first that does not fit.
     pub(crate) fn above(&self, boxes: &[Square], player: Square, picks: &[u32]) -> u64
         requires { length picks.now ≤ MAX_BOXES }

@@ -17,7 +17,7 @@ pub(crate) const ROWS: u32 = 256;
 /// A listed group: its squares, in rising order, are `count` squares from index `first` on, and its excess is in the
 /// row with the number `row`.
 #[derive(Clone, Copy, Debug)]
-pub(crate) struct Entry {
+pub(crate) struct ListedGroup {
     pub(crate) first: u32,
     pub(crate) count: u32,
     pub(crate) row: u32,
@@ -28,19 +28,19 @@ pub(crate) struct Entry {
 ///
 /// The waste of a push of a box on a square in a direction is the same for all goals, or less.
 #[derive(Debug, Drop)]
-pub(crate) struct Table {
+pub(crate) struct GroupTable {
     /// The place of each square in a row.
     pub(crate) places: Vec<u16>,
     /// Four for each square, in the order of directions.
     pub(crate) wastes: Vec<u8>,
-    pub(crate) entries: Vec<Entry>,
+    pub(crate) entries: Vec<ListedGroup>,
     pub(crate) squares: Vec<Square>,
     pub(crate) rows: Vec<u8>,
     /// Finds groups by their squares. It has no contract.
     pub(crate) index: Index,
 }
 
-impl Table {
+impl GroupTable {
     /// The number of listed groups.
     #[inline(always)]
     pub(crate) fn count(&self) -> usize
@@ -147,12 +147,12 @@ pub(crate) fn is_among(squares: &[Square], square: Square) -> bool
 
 // The entry of a group; an empty one if there is none.
 #[inline(always)]
-fn entry_of(entries: &[Entry], group: usize) -> Entry
+fn entry_of(entries: &[ListedGroup], group: usize) -> ListedGroup
     ensures { result ≡ entry_of entries.now group }
 {
     match entries.get(group) {
         Some(entry) => *entry,
-        None => Entry {
+        None => ListedGroup {
             first: 0,
             count: 0,
             row: 0,

@@ -10,7 +10,7 @@ use Rattle.successors.specs.declared.parcel.Successor.{Successor}
 use Rattle.successors.specs.Tasks.{Task}
 use Rattle.successors.specs.Capping.{capped}
 use Rattle.successors.specs.Reaching.{IsLayerOf}
-use Rattle.successors.specs.ParcelView.{AreSuccessors, IsSource}
+use Rattle.successors.specs.ParcelView.{AreSuccessors, IsRanked}
 use Rattle.layers.specs.LayerView.{LayerView, IsWhole}
 
 -- the successors of the position with a rank are told of each position with that rank, by the layer's own level and number
@@ -23,7 +23,7 @@ of_place places rank n here level same e number layer f ss come m there =
 
 -- the position with a rank of a whole layer is one that may be expanded
 pub is_source : (v : LayerView) → IsWhole v → (board : Board) (cap : Option ℕ) (number rank : ℕ) (n : Scene) → board ≡ v.level.board → cap ≡ v.level.cap →
-    number ≡ v.number → slice_get v.places rank ≡ Some n → FitsLevel v.level.board n → Undoomed v.level.board n → IsSource board (record {
+    number ≡ v.number → slice_get v.places rank ≡ Some n → FitsLevel v.level.board n → Undoomed v.level.board n → IsRanked board (record {
       cap = cap;
       layer = number;
       rank = rank;

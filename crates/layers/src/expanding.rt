@@ -1,13 +1,13 @@
 //! The successors of the positions of a layer.
 ghost use Rattle.std.specs.Prelude.{◌≡◌, ◌<◌, length, slice_get, Some};
 ghost use Rattle.grid.specs.Board.{Scene};
-ghost use Rattle.successors.specs.ParcelView.{AreSuccessors, IsSource};
+ghost use Rattle.successors.specs.ParcelView.{AreSuccessors, IsRanked};
 ghost use Rattle.successors.specs.Capping.{capped};
 
 use crate::layer::Layer;
 use area::Scratch;
 use doom::{Bound, Dead};
-use successors::{Parcel, Problem, Source};
+use successors::{Parcel, Problem, RankedPosition};
 
 /// The undoomed successors of the position with a rank of the layer, in the order of their pushes. Under a cap it
 /// leaves out those from which, by the bound, no solution keeps the cap. Takes no memory.
@@ -27,8 +27,8 @@ pub fn expand<'a>(
         AreSuccessors layer.now.level layer.now.number n result.successors }
     ensures size { scratch.new.size ≡ scratch.old.size }
 {
-    let source = source_of(layer, rank);
-    Parcel::of(layer.level(), &source, dead, Some(bound), scratch)
+    let ranked = ranked_position(layer, rank);
+    Parcel::of(layer.level(), &ranked, dead, Some(bound), scratch)
 }
 
 /// The parcel that [`expand`] gives, with the dead squares and the bound of the layer's problem. The problem is a
@@ -47,10 +47,10 @@ pub fn expand_over<'a>(
         AreSuccessors layer.now.level layer.now.number n result.successors }
     ensures size { scratch.new.size ≡ scratch.old.size }
 {
-    let source = source_of(layer, rank);
+    let ranked = ranked_position(layer, rank);
     Parcel::of(
         problem.level(),
-        &source,
+        &ranked,
         problem.dead(),
         problem.bound().as_ref(),
         scratch,
@@ -74,20 +74,20 @@ pub fn expand_over_into<'a>(
         AreSuccessors layer.now.level layer.now.number n parcel.new.successors }
     ensures size { scratch.new.size ≡ scratch.old.size }
 {
-    let source = source_of(layer, rank);
-    parcel.fill(problem, &source, scratch);
+    let ranked = ranked_position(layer, rank);
+    parcel.fill(problem, &ranked, scratch);
 }
 
 // The position with a rank of the layer, with its layer and rank.
-fn source_of(layer: &Layer, rank: u64) -> Source
+fn ranked_position(layer: &Layer, rank: u64) -> RankedPosition
     requires { rank < length layer.now.places }
-    ensures source { IsSource layer.now.level.board result }
+    ensures ranked { IsRanked layer.now.level.board result }
     ensures level { capped layer.now.level.board result.cap ≡ layer.now.level }
     ensures of { (result.layer ≡ layer.now.number) × (result.rank ≡ rank) }
     ensures place { slice_get layer.now.places rank ≡ Some result.position }
 {
     layer.tell();
-    Source {
+    RankedPosition {
         cap: layer.cap(),
         layer: layer.number(),
         rank,

@@ -4,7 +4,7 @@ use std::alloc::Global;
 use std::process::Abort;
 
 /// A board: its number of columns, and its rows one after the other.
-pub(crate) type Text = (usize, &'static [u8]);
+pub(crate) type BoardText = (usize, &'static [u8]);
 
 fn cell_of(byte: u8) -> Cell {
     match byte {
@@ -28,7 +28,7 @@ pub(crate) fn cells_of(rt: &impl Abort, alloc: Global, bytes: &[u8]) -> Vec<Cell
 }
 
 /// The level of a board.
-pub(crate) fn level_of(rt: &impl Abort, alloc: Global, board: Text) -> Level {
+pub(crate) fn level_of(rt: &impl Abort, alloc: Global, board: BoardText) -> Level {
     let (cols, bytes) = board;
     let cells = cells_of(rt, alloc, bytes);
     assert!(rt; cols >= 1);
@@ -37,7 +37,7 @@ pub(crate) fn level_of(rt: &impl Abort, alloc: Global, board: Text) -> Level {
 }
 
 /// The level of a board below `rows` rows of walls, so that its squares have greater numbers.
-pub(crate) fn level_below(rt: &impl Abort, alloc: Global, board: Text, rows: usize) -> Level {
+pub(crate) fn level_below(rt: &impl Abort, alloc: Global, board: BoardText, rows: usize) -> Level {
     let (cols, bytes) = board;
     let mut cells = Vec::new(alloc);
     for _ in 0..rows {

@@ -2,7 +2,7 @@
 ghost use Rattle.std.specs.Prelude.{◌≡◌};
 ghost use Rattle.grid.specs.States.{FitsLevel};
 
-use crate::boards::{Text, level_of};
+use crate::boards::{BoardText, level_of};
 use doom::Bound;
 use grid::{Dir, Level, Position, Square};
 use prices::laws::{a_first_push_leads_on, costs_tell_what_never_helps, needs_are_bounds};
@@ -14,24 +14,24 @@ use std::process::Abort;
 const LOST: u64 = u64::MAX;
 
 // the player cannot reach the other side of the box
-const WRONG_SIDE: Text = (6, b"#######.@$ #######");
+const WRONG_SIDE: BoardText = (6, b"#######.@$ #######");
 
 // the same with a way round
-const WAY_ROUND: Text = (6, b"#######    ##.@$ ##    #######");
+const WAY_ROUND: BoardText = (6, b"#######    ##.@$ ##    #######");
 
 // each box reaches only the goal on the left
-const ONE_GOAL_FOR_TWO: Text = (9, b"##########.$ $@ .##########");
+const ONE_GOAL_FOR_TWO: BoardText = (9, b"##########.$ $@ .##########");
 
-const TWO_ROOMS: Text = (8, b"#########. @ $.####  $##########");
+const TWO_ROOMS: BoardText = (8, b"#########. @ $.####  $##########");
 
-const TWO_BOXES: Text = (6, b"#######    ##@$$ ## .. #######");
+const TWO_BOXES: BoardText = (6, b"#######    ##@$$ ## .. #######");
 
-const THREE_BOXES: Text = (5, b"######@  ##$$$##...######");
+const THREE_BOXES: BoardText = (5, b"######@  ##$$$##...######");
 
-const LONG_HALL: Text = (10, b"###########. $ @$ .##### ########  ###############");
+const LONG_HALL: BoardText = (10, b"###########. $ @$ .##### ########  ###############");
 
 // rooms that the box cuts at many squares
-const DOORS: Text = (
+const DOORS: BoardText = (
     10,
     b"###########    #   ## @$   . ##    #   ##### ##  ##        ###########",
 );

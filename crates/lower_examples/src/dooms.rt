@@ -2,7 +2,7 @@
 mod compared;
 mod pushes;
 
-use crate::boards::{Text, level_of};
+use crate::boards::{BoardText, level_of};
 use area::Scratch;
 use doom::laws::{
     a_loose_box_dooms_nothing, a_push_lessens_the_bound_by_one, doomed_are_lost, solution_is_safe,
@@ -12,61 +12,61 @@ use grid::{Level, Position, Square};
 use std::alloc::Global;
 use std::process::Abort;
 
-const PUSH_RIGHT: Text = (5, b"######@$.######");
+const PUSH_RIGHT: BoardText = (5, b"######@$.######");
 
-const SOLVED: Text = (4, b"#####@*#####");
+const SOLVED: BoardText = (4, b"#####@*#####");
 
-const CORNER: Text = (5, b"######.  ## $ ##  @######");
+const CORNER: BoardText = (5, b"######.  ## $ ##  @######");
 
-const TWO_ENDS: Text = (7, b"########.$@$.########");
+const TWO_ENDS: BoardText = (7, b"########.$@$.########");
 
-const PAIR_AT_WALL: Text = (6, b"#######.$$.##  @ #######");
+const PAIR_AT_WALL: BoardText = (6, b"#######.$$.##  @ #######");
 
-const COLUMN_AT_WALL: Text = (5, b"######.  ##$  ##$ @##.  ######");
+const COLUMN_AT_WALL: BoardText = (5, b"######.  ##$  ##$ @##.  ######");
 
-const NO_PUSH: Text = (8, b"#########@ # $.#########");
+const NO_PUSH: BoardText = (8, b"#########@ # $.#########");
 
-const BETWEEN_DEAD: Text = (5, b"#######.####$### $ ## @.######");
+const BETWEEN_DEAD: BoardText = (5, b"#######.####$### $ ## @.######");
 
-const DEAD_ROWS: Text = (6, b"#######    ## @$.#######");
+const DEAD_ROWS: BoardText = (6, b"#######    ## @$.#######");
 
-const BESIDE_A_FREE_BOX: Text = (7, b"########  #  ##. $$ ##@  . ########");
+const BESIDE_A_FREE_BOX: BoardText = (7, b"########  #  ##. $$ ##@  . ########");
 
-const ABOVE_A_FREE_BOX: Text = (5, b"###### .@##   ###$ ## $.##   ######");
+const ABOVE_A_FREE_BOX: BoardText = (5, b"###### .@##   ###$ ## $.##   ######");
 
-const THERE_AND_BACK: Text = (8, b"############   ##.@$   #####   #########");
+const THERE_AND_BACK: BoardText = (8, b"############   ##.@$   #####   #########");
 
-const ALL_HOME: Text = (
+const ALL_HOME: BoardText = (
     35,
     b"####################################@********************************####################################",
 );
 
-const COLUMN_IN_TWO_WORDS: Text = (
+const COLUMN_IN_TWO_WORDS: BoardText = (
     8,
     b"#########.     ##      ##      ##      ##      ##      ##$     ##$ @   ##      ##.     #########",
 );
 
-const PAIR_IN_TWO_WORDS: Text = (
+const PAIR_IN_TWO_WORDS: BoardText = (
     10,
     b"###########        ##        ##        ##        ##   @    ##. $$   .###########",
 );
 
-const ONE_AFTER_ANOTHER: Text = (
+const ONE_AFTER_ANOTHER: BoardText = (
     10,
     b"###########        ##        ##        ##  ...   ##        ##  $$    ##   $@   ##        ###########",
 );
 
-const THREE_FROZEN: Text = (7, b"########@    ###$   ## $$. ## .#. ##     ########");
+const THREE_FROZEN: BoardText = (7, b"########@    ###$   ## $$. ## .#. ##     ########");
 
-const THREE_FREE: Text = (7, b"########@    ###  $ ## $$. ## .#. ##     ########");
+const THREE_FREE: BoardText = (7, b"########@    ###  $ ## $$. ## .#. ##     ########");
 
-const DEAD_ELSEWHERE: Text = (7, b"########@   $###  $ ##  $. ## .#. ##     ########");
+const DEAD_ELSEWHERE: BoardText = (7, b"########@   $###  $ ##  $. ## .#. ##     ########");
 
-const THREE_BEFORE: Text = (7, b"########     ### $@ ## $$. ## .#. ##     ########");
+const THREE_BEFORE: BoardText = (7, b"########     ### $@ ## $$. ## .#. ##     ########");
 
 #[test]
 fn live_squares_are_those_that_reach_a_goal(rt: HostRuntime) {
-    let rows: [(Text, &[u16]); 6] = [
+    let rows: [(BoardText, &[u16]); 6] = [
         (PUSH_RIGHT, &[7, 8]),
         (CORNER, &[6, 7, 11, 12]),
         (TWO_ENDS, &[8, 9, 10, 11, 12]),
@@ -94,7 +94,7 @@ fn check_live(rt: &impl Abort, dead: &Dead, live: &[u16]) {
 
 #[test]
 fn boxes_need_the_sum_of_their_pushes(rt: HostRuntime) {
-    let rows: [(Text, &[Square], u16, Option<u32>); 8] = [
+    let rows: [(BoardText, &[Square], u16, Option<u32>); 8] = [
         (TWO_ENDS, &[Square(9), Square(11)], 10, Some(2)),
         (TWO_ENDS, &[Square(8), Square(11)], 9, Some(1)),
         (TWO_ENDS, &[Square(9), Square(12)], 10, Some(1)),
@@ -114,7 +114,7 @@ fn boxes_need_the_sum_of_their_pushes(rt: HostRuntime) {
 fn needed(
     rt: &impl Abort,
     alloc: Global,
-    board: Text,
+    board: BoardText,
     boxes: &[Square],
     player: Square,
 ) -> Option<u32> {

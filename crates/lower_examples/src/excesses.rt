@@ -4,7 +4,7 @@
 //! for its fewest pushes, and over all positions of each group alone in the room for the pushes that the group needs.
 ghost use Rattle.std.specs.Prelude.{◌≡◌};
 
-use crate::boards::{Text, level_of};
+use crate::boards::{BoardText, level_of};
 use grid::{Level, Position};
 use groups::Groups;
 use groups::laws::{excess_adds_up, tables_tell};
@@ -13,43 +13,43 @@ use std::alloc::Global;
 use std::process::Abort;
 
 // two boxes side by side, with their goals beyond
-const BLOCKED: Text = (7, b"########     ##     ##@$$..##     ##     ########");
+const BLOCKED: BoardText = (7, b"########     ##     ##@$$..##     ##     ########");
 
 // the same in a corridor
-const CORRIDOR: Text = (7, b"########@$$..########");
+const CORRIDOR: BoardText = (7, b"########@$$..########");
 
 // each box has a goal below it
-const FREE: Text = (6, b"#######    ##@$$ ## .. #######");
+const FREE: BoardText = (6, b"#######    ##@$$ ## .. #######");
 
 // the player is between the boxes, and each has a goal beyond it
-const BETWEEN: Text = (9, b"##########. $@$ .##########");
+const BETWEEN: BoardText = (9, b"##########. $@$ .##########");
 
 // the fewest pushes are 10, and three boxes alone show more than 4
-const THREE: Text = (6, b"#######    ##  $ ##**@###.  ########");
+const THREE: BoardText = (6, b"#######    ##  $ ##**@###.  ########");
 
 // the fewest pushes are 3, and three boxes alone show more than 1
-const THREE_AT_WALLS: Text = (6, b"#######@*  ##* $ ### . #######");
+const THREE_AT_WALLS: BoardText = (6, b"#######@*  ##* $ ### . #######");
 
 // the fewest pushes are 15, and four boxes alone show more than 7
-const FOUR: Text = (6, b"########@  ## $  ##  $ ##** ###..  #######");
+const FOUR: BoardText = (6, b"########@  ## $  ##  $ ##** ###..  #######");
 
 // the fewest pushes are 3, and four boxes alone show more than 1
-const FOUR_AT_WALLS: Text = (6, b"#######@*  ##*.$ ##*   #######");
+const FOUR_AT_WALLS: BoardText = (6, b"#######@*  ##*.$ ##*   #######");
 
 // the fewest pushes are 7, and five boxes alone show more than 1
-const FIVE: Text = (8, b"#########@*    ## * $  ## **.###########");
+const FIVE: BoardText = (8, b"#########@*    ## * $  ## **.###########");
 
 // the fewest pushes are 9, and five boxes alone show more than 3
-const FIVE_AT_WALLS: Text = (8, b"#########+$    ##. $ * ##**    #########");
+const FIVE_AT_WALLS: BoardText = (8, b"#########+$    ##. $ * ##**    #########");
 
 // no solution: no box is frozen, and any two of the three boxes can be brought to goals
-const THREE_ARE_LOST: Text = (8, b"#########@$ * .## $.  ##########");
+const THREE_ARE_LOST: BoardText = (8, b"#########@$ * .## $.  ##########");
 
 // the same with any three of four boxes
-const FOUR_ARE_LOST: Text = (5, b"######.$@## $$##.*.###  ###  ######");
+const FOUR_ARE_LOST: BoardText = (5, b"######.$@## $$##.*.###  ###  ######");
 
 // the same with any four of five boxes
-const FIVE_ARE_LOST: Text = (5, b"######@$.##$$*##.*.## ########");
+const FIVE_ARE_LOST: BoardText = (5, b"######@$.##$$*##.*.## ########");
 
 fn prices_of(rt: &impl Abort, alloc: Global, level: &Level) -> Groups
     ensures { result ≡ level.now }
@@ -67,7 +67,7 @@ fn groups_of(rt: &impl Abort, alloc: Global, level: &Level, most: usize) -> Grou
 }
 
 // The lower bound of groups of up to `most` boxes for the start of a level.
-fn lower_of(rt: &impl Abort, alloc: Global, board: Text, most: usize) -> u64 {
+fn lower_of(rt: &impl Abort, alloc: Global, board: BoardText, most: usize) -> u64 {
     let level = level_of(rt, alloc, board);
     let groups = groups_of(rt, alloc, &level, most);
     let start = Position::start(&level).expect(rt, "few boxes");
@@ -76,7 +76,7 @@ fn lower_of(rt: &impl Abort, alloc: Global, board: Text, most: usize) -> u64 {
 }
 
 // Whether one of the groups at the start of a level is lost.
-fn is_dead(rt: &impl Abort, alloc: Global, board: Text, most: usize) -> bool {
+fn is_dead(rt: &impl Abort, alloc: Global, board: BoardText, most: usize) -> bool {
     let level = level_of(rt, alloc, board);
     let groups = groups_of(rt, alloc, &level, most);
     let start = Position::start(&level).expect(rt, "few boxes");

@@ -2,7 +2,7 @@
 ghost use Rattle.std.specs.Prelude.{◌≡◌, length};
 ghost use Rattle.grid.specs.States.{FitsLevel, IsScene};
 
-use crate::boards::{Text, level_of};
+use crate::boards::{BoardText, level_of};
 use area::laws::{
     an_area_has_one_normal_form, each_state_has_one_normal_form, walks_go_both_ways,
     what_boxes_decide_lasts,
@@ -14,12 +14,12 @@ use std::process::Abort;
 
 mod pushes;
 
-const HALL: Text = (6, b"#######.$  ##    ##   @#######");
+const HALL: BoardText = (6, b"#######.$  ##    ##   @#######");
 
-const LOOP: Text = (8, b"############   ##.@$   #####   #########");
+const LOOP: BoardText = (8, b"############   ##.@$   #####   #########");
 
 // A hall with two boxes.
-const PAIR: Text = (6, b"#######@   ##$#  ## $..#######");
+const PAIR: BoardText = (6, b"#######@   ##$#  ## $..#######");
 
 fn letter_of(dir: Dir) -> u8 {
     match dir {
@@ -39,7 +39,7 @@ fn is_text(moves: &Moves, text: &[u8]) -> bool {
 
 #[test]
 fn normal_positions_have_the_least_square_of_the_area(rt: HostRuntime) {
-    let rows: [(Text, u16, u16, u16); 3] = [
+    let rows: [(BoardText, u16, u16, u16); 3] = [
         (HALL, 8, 22, 7),
         (LOOP, 21, 20, 12),
         (LOOP, 19, 18, 17),
@@ -93,7 +93,7 @@ fn pushed(level: &Level, position: &Position, push: Push, scratch: &mut Scratch)
 
 #[test]
 fn after_a_push_the_normal_position_is_that_of_a_flood(rt: HostRuntime) {
-    let rows: [(Text, u16, u16, Dir, u16, u16); 5] = [
+    let rows: [(BoardText, u16, u16, Dir, u16, u16); 5] = [
         (HALL, 8, 9, Dir::L, 7, 8),
         (HALL, 9, 10, Dir::L, 8, 7),
         (HALL, 9, 7, Dir::R, 10, 7),

@@ -1,12 +1,12 @@
 //! Solutions: their texts, and the verdicts of replays.
-use crate::boards::{Text, level_of};
+use crate::boards::{BoardText, level_of};
 use lurd::{LurdFault, Verdict, parse, replay, write};
 use std::alloc::Global;
 use std::process::Abort;
 use std::test::Fail;
 
 // A player, a box and a goal in a row between walls.
-const CORRIDOR: Text = (5, b"######@$.######");
+const CORRIDOR: BoardText = (5, b"######@$.######");
 
 // The verdict on a text, replayed in the corridor.
 fn judged(rt: &impl Abort, alloc: Global, text: &[u8]) -> Result<Verdict, Fail> {

@@ -1,10 +1,10 @@
 //! Readers, small values and laws of the lowest crates.
-use crate::boards::{Text, level_of};
+use crate::boards::{BoardText, level_of};
 use area::SquareSet;
 use area::bits::{has, put, take_out};
 use grid::{Cell, Dir, Letter, Moves, Position, Square};
 
-const HALL: Text = (6, b"#######.$  ##    ##   @#######");
+const HALL: BoardText = (6, b"#######.$  ##    ##   @#######");
 
 #[test]
 fn levels_have_ways_and_a_room(rt: HostRuntime) {

@@ -7,7 +7,7 @@ use Rattle.grid.specs.Board.{Board, next, opposite}
 use Rattle.grid.specs.Squares.{contains}
 use Rattle.grid.proofs.lemmas.Steps.{inside_grid, next_back}
 use Rattle.prices.specs.declared.table.Side.{Side}
-use Rattle.prices.specs.declared.table.Table.{Table}
+use Rattle.prices.specs.declared.table.DistanceTable.{DistanceTable}
 use Rattle.prices.specs.Prices.{AreFar, CanStand, goals_of}
 use Rattle.prices.specs.inside.Checks.{AreClosed, AreNoneAtHome, KeepRows, LessenByOne, StayAway}
 use Rattle.prices.specs.inside.Tables.{far_in, has_number, number_of, place_in, row_by, row_in, sides_of, spot_of}
@@ -27,7 +27,7 @@ same_row (s ∷ ss) j k other same =
     ap (λ (b : Bool). cond b s.row (row_by ss j other)) here ∙ ap (λ (n : ℕ). cond (has_number s k) s.row n) rest
 
 -- where no step leads out of a side, steps that push nothing leave the distances as they are
-pub rows_kept : (board : Board) (t : Table) → ((b : ℕ) → b < length board.cells → AreClosed board t b)
+pub rows_kept : (board : Board) (t : DistanceTable) → ((b : ℕ) → b < length board.cells → AreClosed board t b)
     → KeepRows board t
 rows_kept board t closed b p d here there =
     let q = next board p d in
@@ -56,7 +56,7 @@ at_place (x ∷ xs) q d here = at_head (eqb x q) (eqb-true x q) (λ h. at_place 
     at_head false same tail h = tail h
 
 -- where the rows of each goal have a 0 at its place, no goal is far from a box on it
-pub none_at_home : (board : Board) (t : Table)
+pub none_at_home : (board : Board) (t : DistanceTable)
     → ((i p : ℕ) → i < length t.goals.items → p < length board.cells
     → get_or (row_in t (get_or t.goals.items i 0) p) i 0 ≡ 0) → AreNoneAtHome board t
 none_at_home board t none g p there inside =
@@ -72,7 +72,7 @@ are_all x y z all =
     let first = and_parts x y last.0 in
     (first.0, first.1, last.1)
 
-pub are_far : (board : Board) (t : Table) → t.goals.items ≡ goals_of board → KeepRows board t → AreNoneAtHome board t
+pub are_far : (board : Board) (t : DistanceTable) → t.goals.items ≡ goals_of board → KeepRows board t → AreNoneAtHome board t
     → LessenByOne board t
     → AreFar board (far_in t)
 are_far board t goals kept none less = record {
@@ -88,7 +88,7 @@ are_far board t goals kept none less = record {
 }
 
 -- and a box that can't be brought to a goal can't be brought there after a push either
-pub stay_away : (board : Board) (t : Table) → LessenByOne board t → StayAway board (far_in t)
+pub stay_away : (board : Board) (t : DistanceTable) → LessenByOne board t → StayAway board (far_in t)
 stay_away board t less g p d here ahead =
     (less p d (inside_grid board p here.player) here.player here.floor ahead.floor).never (place_in t.goals.items g)
 
@@ -98,7 +98,7 @@ nothing zero (suc k) i = refl
 nothing (suc n) zero i = refl
 nothing (suc n) (suc k) i = refl
 
-zero_far : (t : Table) → t.far.items ≡ [] → (g b p : ℕ) → far_in t g b p ≡ 0
+zero_far : (t : DistanceTable) → t.far.items ≡ [] → (g b p : ℕ) → far_in t g b p ≡ 0
 zero_far t none g b p =
     let start = row_by (sides_of t.spots.items t.sides.items b) (spot_of t.spots.items p).number
     (spot_of t.spots.items b).row in
@@ -107,7 +107,7 @@ zero_far t none g b p =
     ∙ nothing (length t.goals.items) start i
 
 -- no distances at all say that no box needs a push
-pub none_far : (board : Board) (t : Table) → t.far.items ≡ [] → AreFar board (far_in t)
+pub none_far : (board : Board) (t : DistanceTable) → t.far.items ≡ [] → AreFar board (far_in t)
 none_far board t none = record {
   home = λ g p goal stands. zero_far t none g g p;
   walk = λ g b p d here there. (let e = zero_far t none g b p in omega (arith, e));
@@ -115,6 +115,6 @@ none_far board t none = record {
 }
 
 -- and that each can be brought to each goal
-pub none_away : (board : Board) (t : Table) → t.far.items ≡ [] → StayAway board (far_in t)
+pub none_away : (board : Board) (t : DistanceTable) → t.far.items ≡ [] → StayAway board (far_in t)
 none_away board t none g p d here ahead never = let e = zero_far t none g (next board p d) p in
     absurd (omega (arith, e, never))

@@ -8,7 +8,7 @@ use Rattle.grid.specs.Board.{Board, Scene, next}
 use Rattle.grid.specs.States.{IsScene}
 use Rattle.doom.specs.Lost.{IsLost}
 use Rattle.prices.specs.declared.pulls.TheConstants.{NEVER}
-use Rattle.prices.specs.declared.table.Table.{Table}
+use Rattle.prices.specs.declared.table.DistanceTable.{DistanceTable}
 use Rattle.prices.specs.Prices.{AreFar, goals_of, least_of, need_of, sum_over, total_need}
 use Rattle.prices.specs.inside.Checks.{StayAway}
 use Rattle.prices.specs.inside.Goals.{keeps_to, mark_count, marks_all}
@@ -78,7 +78,7 @@ costs_all k zero (x ∷ xs) (m ∷ ms) all lt = by m (nat_le NEVER x) (and_parts
 costs_all k (suc i) (x ∷ xs) (m ∷ ms) all lt =
     costs_all k i xs ms (and_parts (m || nat_le NEVER x) (marks_all xs ms) all).1 (omega (arith, lt))
 
-keeper_needs : (t : Table) (ms : List Bool) (k b p : ℕ) → length ms ≡ length t.goals.items → keeps_to t ms b p ≡ true
+keeper_needs : (t : DistanceTable) (ms : List Bool) (k b p : ℕ) → length ms ≡ length t.goals.items → keeps_to t ms b p ≡ true
     → k ≤ least_of (λ g. never_or k (far_in t g b p) + number_of t.goals.items (tolls_by k ms) g) k t.goals.items
 keeper_needs t ms k b p size keeps =
     let row = row_in t b p in
@@ -106,7 +106,7 @@ times_more a zero k lt = absurd (omega (arith, lt))
 times_more zero (suc b) k lt = omega arith
 times_more (suc a) (suc b) k lt = let rest = times_more a b k (omega (arith, lt)) in omega (arith, rest)
 
-pub more_than_goals : (board : Board) (t : Table) (ms : List Bool) (s : Scene) (marks keep : ℕ) → AreFar board (far_in t) → StayAway board (far_in t)
+pub more_than_goals : (board : Board) (t : DistanceTable) (ms : List Bool) (s : Scene) (marks keep : ℕ) → AreFar board (far_in t) → StayAway board (far_in t)
     → t.goals.items ≡ goals_of board → length ms ≡ length t.goals.items → IsScene board s → marks ≡ mark_count ms
     → keep ≡ sum_over (λ b. cond (keeps_to t ms b s.player) 1 0) s.boxes → marks < keep → IsLost board s
 more_than_goals board t ms s marks keep are away goals size scene marked kept more u ds ps play solved =

@@ -7,7 +7,7 @@ use Rattle.grid.specs.Board.{Board, Scene, next}
 use Rattle.grid.specs.States.{IsScene}
 use Rattle.grid.specs.Squares.{contains, remove}
 use Rattle.grid.specs.Rising.{is_rising}
-use Rattle.prices.specs.declared.table.Table.{Table}
+use Rattle.prices.specs.declared.table.DistanceTable.{DistanceTable}
 use Rattle.prices.specs.Helping.{NeverHelps}
 use Rattle.prices.specs.Solving.{Allows}
 use Rattle.prices.specs.Prices.{AreFar, goals_of, least_of, need_of, sum_over, total_need}
@@ -19,7 +19,7 @@ use Rattle.prices.proofs.lemmas.Prices.{sum_le, sum_put_back, tolls_are_free}
 use Rattle.prices.proofs.Sums.{seen_low, tolls_le}
 
 -- a push after which its box needs more than is spare never helps
-pub dear_never_helps : (board : Board) (t : Table) (tolls : List ℕ) (m spare after : ℕ) (s : Scene) (b : ℕ) (d : Dir) → AreFar board (far_in t)
+pub dear_never_helps : (board : Board) (t : DistanceTable) (tolls : List ℕ) (m spare after : ℕ) (s : Scene) (b : ℕ) (d : Dir) → AreFar board (far_in t)
     → t.goals.items ≡ goals_of board → length tolls ≡ length t.goals.items → IsScene board s → contains s.boxes b ≡ true
     → m + total tolls ≤ spare + sum_over (λ z. need_seen t tolls z s.player) s.boxes
     → after ≤ need_by t tolls (next board b d) b → spare + need_seen t tolls b s.player ≤ after → NeverHelps board m s b d

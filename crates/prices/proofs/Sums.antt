@@ -7,7 +7,7 @@ use Rattle.grid.specs.States.{IsScene}
 use Rattle.grid.specs.Squares.{contains}
 use Rattle.grid.specs.Rising.{rises_from, is_rising}
 use Rattle.grid.proofs.lemmas.Squares.{contains_head, contains-from, rises_from-parts, contains_tail}
-use Rattle.prices.specs.declared.table.Table.{Table}
+use Rattle.prices.specs.declared.table.DistanceTable.{DistanceTable}
 use Rattle.prices.specs.Solving.{NoneWithin}
 use Rattle.prices.specs.Prices.{AreFar, ComesOfTolls, goals_of, least_of, need_of, sum_over, total_need}
 use Rattle.prices.specs.inside.Tables.{far_in, number_of, place_in, row_in}
@@ -26,7 +26,7 @@ at_least cost cap n (g ∷ gs) each le =
     omega (arith, here, rest)
 
 -- what is at most each sum of a distance and its toll is at most what the box needs
-pub need_least : (t : Table) (tolls row : List ℕ) (b p n : ℕ) → row ≡ row_in t b p → length row ≡ length tolls
+pub need_least : (t : DistanceTable) (tolls row : List ℕ) (b p n : ℕ) → row ≡ row_in t b p → length row ≡ length tolls
     → length tolls ≡ length t.goals.items
     → ((i : ℕ) → i < length row → n ≤ get_or row i 0 + get_or tolls i 0) → n ≤ greatest → n ≤ need_by t tolls b p
 need_least t tolls row b p n is same size each le =
@@ -51,7 +51,7 @@ least_sum_most (x ∷ xs) [] = omega arith
 least_sum_most (x ∷ xs) (y ∷ ys) = let rest = least_sum_most xs ys in omega (arith, rest)
 
 -- what the code finds is no more than what the box needs
-pub seen_low : (t : Table) (tolls : List ℕ) (b p : ℕ) → length tolls ≡ length t.goals.items
+pub seen_low : (t : DistanceTable) (tolls : List ℕ) (b p : ℕ) → length tolls ≡ length t.goals.items
     → need_seen t tolls b p ≤ need_by t tolls b p
 seen_low t tolls b p size = by_eq (length (row_in t b p) == length tolls) refl
   where
@@ -98,7 +98,7 @@ pub none_above : (board : Board) (far : ℕ → ℕ → ℕ → ℕ) (s : Scene)
 none_above board far s = ((λ g. 0), 0, (let e = no_tolls (goals_of board) in omega (arith, e)))
 
 -- what the boxes need above the sum of a list of tolls comes of tolls
-pub needs_above : (board : Board) (t : Table) (tolls : List ℕ) (s : Scene) (needs sum : ℕ)
+pub needs_above : (board : Board) (t : DistanceTable) (tolls : List ℕ) (s : Scene) (needs sum : ℕ)
     → t.goals.items ≡ goals_of board → length tolls ≡ length t.goals.items
     → needs ≤ sum_over (λ b. need_by t tolls b s.player) s.boxes → sum ≡ total tolls
     → ComesOfTolls board (far_in t) s (needs - sum)

@@ -6,12 +6,12 @@ ghost use Rattle.prices.specs.inside.Checks.{LessensByOne, StayAway, StaysIn};
 ghost use Rattle.prices.specs.inside.Tables.{far_in, row_in, has_number, spot_of};
 
 use crate::pulls::NEVER;
-use crate::table::{Side, Table};
+use crate::table::{DistanceTable, Side};
 use grid::{Dir, Level, Square};
 
 /// Makes sure that the distances of a table are lower bounds: a table that fails the check loses them all, which means
 /// that no box needs a push.
-pub(crate) fn make_sure(level: &Level, table: &mut Table)
+pub(crate) fn make_sure(level: &Level, table: &mut DistanceTable)
     requires { table.old.goals.items ≡ goals_of level.now }
     ensures far { AreFar level.now (far_in table.new) }
     ensures away { StayAway level.now (far_in table.new) }
@@ -23,7 +23,7 @@ pub(crate) fn make_sure(level: &Level, table: &mut Table)
 }
 
 // Whether the distances are lower bounds.
-fn are_far(level: &Level, table: &Table) -> bool
+fn are_far(level: &Level, table: &DistanceTable) -> bool
     requires { table.now.goals.items ≡ goals_of level.now }
     ensures far { IsTrue result → AreFar level.now (far_in table.now) }
     ensures away { IsTrue result → StayAway level.now (far_in table.now) }
@@ -35,7 +35,7 @@ fn are_far(level: &Level, table: &Table) -> bool
 }
 
 // Whether steps of the player without a push stay on one side of each lone box.
-fn keep_rows(level: &Level, table: &Table) -> bool
+fn keep_rows(level: &Level, table: &DistanceTable) -> bool
     ensures { IsTrue result → KeepRows level.now table.now }
 {
     level.tell();
@@ -48,7 +48,7 @@ fn keep_rows(level: &Level, table: &Table) -> bool
 }
 
 // Whether the player leaves no side of a lone box on the square without pushing it.
-fn are_closed(level: &Level, table: &Table, square: Square) -> bool
+fn are_closed(level: &Level, table: &DistanceTable, square: Square) -> bool
     ensures { IsTrue result → AreClosed level.now table.now square }
 {
     for side in table.sides(square) {
@@ -60,7 +60,7 @@ fn are_closed(level: &Level, table: &Table, square: Square) -> bool
 }
 
 // Whether no step of the player that does not push a lone box on the square leaves this side of it.
-fn is_closed(level: &Level, table: &Table, square: Square, side: Side) -> bool
+fn is_closed(level: &Level, table: &DistanceTable, square: Square, side: Side) -> bool
     ensures { IsTrue result → IsClosed level.now table.now square side }
 {
     level.tell();
@@ -73,7 +73,13 @@ fn is_closed(level: &Level, table: &Table, square: Square, side: Side) -> bool
 }
 
 // Whether no step from the player's square leaves the side of a lone box.
-fn stays_in(level: &Level, table: &Table, square: Square, side: Side, player: Square) -> bool
+fn stays_in(
+    level: &Level,
+    table: &DistanceTable,
+    square: Square,
+    side: Side,
+    player: Square,
+) -> bool
     requires inside { player < length level.now.cells }
     ensures { IsTrue result → (d : Dir) → StaysIn level.now table.now square side player d }
 {
@@ -88,7 +94,7 @@ fn stays_in(level: &Level, table: &Table, square: Square, side: Side, player: Sq
 }
 
 // Whether a square is a wall, or on this side of the lone box.
-fn is_in(level: &Level, table: &Table, square: Square, side: Side, player: Square) -> bool
+fn is_in(level: &Level, table: &DistanceTable, square: Square, side: Side, player: Square) -> bool
     ensures { IsTrue result → CanStand level.now square player →
         has_number side (spot_of table.now.spots.items player).number ≡ true }
 {
@@ -96,7 +102,7 @@ fn is_in(level: &Level, table: &Table, square: Square, side: Side, player: Squar
 }
 
 // Whether a box on a goal has distance 0 to it, wherever the player is.
-fn are_none_at_home(level: &Level, table: &Table) -> bool
+fn are_none_at_home(level: &Level, table: &DistanceTable) -> bool
     ensures { IsTrue result → AreNoneAtHome level.now table.now }
 {
     for (place, goal) in table.goals.as_slice().iter().enumerate() {
@@ -108,7 +114,7 @@ fn are_none_at_home(level: &Level, table: &Table) -> bool
 }
 
 // Whether a box on a goal with this index has distance 0 to it, wherever the player is.
-fn is_none_at_home(level: &Level, table: &Table, place: usize, goal: Square) -> bool
+fn is_none_at_home(level: &Level, table: &DistanceTable, place: usize, goal: Square) -> bool
     ensures { IsTrue result → (p : ℕ) → p < length level.now.cells →
         slice_index_or (row_in table.now goal p) place 0 ≡ 0 }
 {
@@ -132,7 +138,7 @@ fn number_at(numbers: &[u32], place: usize) -> u32
 }
 
 // Whether each push lessens each distance of the box by at most one, and keeps those of `NEVER`.
-fn lessen_by_one(level: &Level, table: &Table) -> bool
+fn lessen_by_one(level: &Level, table: &DistanceTable) -> bool
     ensures { IsTrue result → LessenByOne level.now table.now }
 {
     level.tell();
@@ -145,7 +151,7 @@ fn lessen_by_one(level: &Level, table: &Table) -> bool
 }
 
 // Whether each push of the player from a square lessens each distance of the box by at most one.
-fn lessen_from(level: &Level, table: &Table, player: Square) -> bool
+fn lessen_from(level: &Level, table: &DistanceTable, player: Square) -> bool
     requires { player < length level.now.cells }
     ensures { IsTrue result → (d : Dir) → LessensByOne level.now table.now player d }
 {
@@ -157,7 +163,7 @@ fn lessen_from(level: &Level, table: &Table, player: Square) -> bool
 }
 
 // Whether a push of the player from a square lessens each distance of the box by at most one.
-fn lessens_by_one(level: &Level, table: &Table, player: Square, dir: Dir) -> bool
+fn lessens_by_one(level: &Level, table: &DistanceTable, player: Square, dir: Dir) -> bool
     requires { player < length level.now.cells }
     ensures { IsTrue result → LessensByOne level.now table.now player dir }
 {

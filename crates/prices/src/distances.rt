@@ -13,7 +13,7 @@ use crate::matching::Matching;
 use crate::needs::sum;
 use crate::pulls::distances;
 use crate::sides::sides_of;
-use crate::table::{Table, part};
+use crate::table::{DistanceTable, part};
 use grid::{Level, MAX_BOXES, Position, Square};
 use std::alloc::{AllocError, Global};
 use std::marker::Model;
@@ -26,7 +26,7 @@ use std::marker::Model;
 #[derive(Debug, Drop)]
 pub struct Distances {
     pub(crate) level: Level,
-    pub(crate) table: Table,
+    pub(crate) table: DistanceTable,
 }
 
 impl Model for Distances {
@@ -135,13 +135,13 @@ impl Distances {
 }
 
 // A table of the level's goals and sides, without distances.
-fn empty_table(alloc: Global, level: &Level) -> Result<Table, AllocError>
+fn empty_table(alloc: Global, level: &Level) -> Result<DistanceTable, AllocError>
     ensures { IfOk result (λ table. table.goals.items ≡ goals_of level.now) }
 {
     let goals = goal_squares(alloc, level)?;
     let count = u32::try_from(goals.len()).unwrap_or(u32::MAX);
     let sides = sides_of(alloc, level, count)?;
-    Ok(Table {
+    Ok(DistanceTable {
         goals,
         spots: sides.spots,
         sides: sides.sides,

@@ -4,10 +4,10 @@ ghost use Rattle.prices.specs.Prices.{sum_over};
 ghost use Rattle.prices.specs.inside.Goals.{keeps_to, mark_count, marks_all};
 
 use crate::pulls::NEVER;
-use crate::table::Table;
+use crate::table::DistanceTable;
 use grid::{MAX_BOXES, Square};
 
-impl Table {
+impl DistanceTable {
     /// The number of boxes that can come only to marked goals.
     pub(crate) fn keep_to(&self, marks: &[bool], boxes: &[Square], player: Square) -> usize
         requires { length boxes.now ≤ MAX_BOXES }

@@ -3,7 +3,7 @@
 ghost use Rattle.std.specs.Prelude.{◌≤◌, length};
 ghost use Rattle.prices.specs.inside.Matchings.{IsCopy};
 
-use crate::table::{Table, part};
+use crate::table::{DistanceTable, part};
 use grid::{MAX_BOXES, Position, Square};
 
 /// No box, and no goal.
@@ -60,7 +60,7 @@ impl Matching {
     }
 
     /// Matches the boxes of a position with the goals.
-    pub(crate) fn meet(&mut self, table: &Table, position: &Position) {
+    pub(crate) fn meet(&mut self, table: &DistanceTable, position: &Position) {
         let boxes = position.boxes();
         self.keep(table, boxes, position.player());
         for place in 0..boxes.len() {
@@ -72,7 +72,7 @@ impl Matching {
     }
 
     // Keeps the boxes matched whose distances have the same index as before; all other goals become free.
-    fn keep(&mut self, table: &Table, boxes: &[Square], player: Square)
+    fn keep(&mut self, table: &DistanceTable, boxes: &[Square], player: Square)
         requires { length boxes.now ≤ MAX_BOXES }
     {
         let mut rows = [0; MAX_BOXES];

@@ -4,12 +4,12 @@ ghost use Rattle.std.specs.Prelude.{◌<◌, ◌≤◌};
 
 use crate::matching::{Matching, NONE};
 use crate::pulls::NEVER;
-use crate::table::Table;
+use crate::table::DistanceTable;
 use grid::MAX_BOXES;
 
 impl Matching {
     /// Gives the box with an index a goal, and other boxes other goals where that costs less.
-    pub(crate) fn find_goal(&mut self, table: &Table, place: u8) {
+    pub(crate) fn find_goal(&mut self, table: &DistanceTable, place: u8) {
         let goals = table.goals.len().min(MAX_BOXES);
         self.begin(table, place);
         for _ in 0..goals {
@@ -27,7 +27,7 @@ impl Matching {
 
     /// The goals of boxes that compete for too few: of a box without a goal, of the boxes that have the goals that it
     /// can reach, and so on. Empty if no box lacks a goal.
-    pub(crate) fn wanted(&self, table: &Table) -> [bool; MAX_BOXES] {
+    pub(crate) fn wanted(&self, table: &DistanceTable) -> [bool; MAX_BOXES] {
         let mut wanted = [false; MAX_BOXES];
         let mut boxes = [self.first_without(table); MAX_BOXES];
         let mut found = 1;
@@ -50,7 +50,7 @@ impl Matching {
     }
 
     // The first box that is not matched with a goal that it can reach.
-    fn first_without(&self, table: &Table) -> u8 {
+    fn first_without(&self, table: &DistanceTable) -> u8 {
         for place in 0..self.count.min(MAX_BOXES) {
             let row = table.row_at(self.rows[place]);
             match row.get(self.goals[place] as usize) {
@@ -62,7 +62,7 @@ impl Matching {
     }
 
     // The cost of each goal for a box is its distance and toll.
-    fn begin(&mut self, table: &Table, place: u8) {
+    fn begin(&mut self, table: &DistanceTable, place: u8) {
         self.costs = [u32::MAX; MAX_BOXES];
         self.from = [place; MAX_BOXES];
         self.left = [false; MAX_BOXES];
@@ -91,7 +91,7 @@ impl Matching {
     }
 
     // Goes on from a goal to those that its box could have instead.
-    fn go_on(&mut self, table: &Table, goal: usize, owner: u8)
+    fn go_on(&mut self, table: &DistanceTable, goal: usize, owner: u8)
         requires { goal < MAX_BOXES }
     {
         let row = table.row_at(self.rows[owner as usize % MAX_BOXES]);

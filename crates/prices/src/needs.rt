@@ -3,10 +3,10 @@ ghost use Rattle.std.specs.Prelude.{◌≡◌, ℕ, ◌+◌, ◌*◌, ◌<◌, �
 ghost use Rattle.prices.specs.Prices.{sum_over};
 ghost use Rattle.prices.specs.inside.Sums.{greatest, least_sum, need_by, need_seen, total};
 
-use crate::table::Table;
+use crate::table::DistanceTable;
 use grid::{MAX_BOXES, Square};
 
-impl Table {
+impl DistanceTable {
     /// A lower bound on the needs of boxes on these squares, with the player on another, by a toll for each goal.
     pub(crate) fn needs(&self, boxes: &[Square], player: Square, tolls: &[u32]) -> u64
         requires few { length boxes.now ≤ MAX_BOXES }

@@ -1,6 +1,6 @@
 //! The distances of a table, found by pulls from each goal. They have no contract: they are checked.
 
-use crate::table::Table;
+use crate::table::DistanceTable;
 use grid::{Dir, Level, Square};
 use std::alloc::{AllocError, Global};
 
@@ -17,7 +17,7 @@ struct Pulled {
 
 /// The distances to a goal and those before it as far as they were found, and the boxes that were found, in order.
 #[derive(Drop)]
-struct Filling {
+struct GoalPulls {
     place: usize,
     far: Vec<u32>,
     queue: Vec<Pulled>,
@@ -27,9 +27,9 @@ struct Filling {
 pub(crate) fn distances(
     alloc: Global,
     level: &Level,
-    table: &Table,
+    table: &DistanceTable,
 ) -> Result<Vec<u32>, AllocError> {
-    let mut filling = Filling {
+    let mut filling = GoalPulls {
         place: 0,
         far: vec![in alloc; NEVER; table.rows_end()]?,
         queue: Vec::with_capacity(alloc, table.spots.len())?,
@@ -43,9 +43,9 @@ pub(crate) fn distances(
     Ok(filling.far)
 }
 
-impl Filling {
+impl GoalPulls {
     // A box on the goal needs no push, wherever the player is.
-    fn begin(&mut self, table: &Table, goal: Square) -> Result<(), AllocError> {
+    fn begin(&mut self, table: &DistanceTable, goal: Square) -> Result<(), AllocError> {
         for side in table.sides(goal) {
             self.mark(goal, side.row, 0)?;
         }
@@ -53,7 +53,7 @@ impl Filling {
     }
 
     // Pulls the box from each square and side that was found.
-    fn spread(&mut self, level: &Level, table: &Table) -> Result<(), AllocError> {
+    fn spread(&mut self, level: &Level, table: &DistanceTable) -> Result<(), AllocError> {
         for head in 0..self.far.len() {
             if head >= self.queue.len() {
                 return Ok(());
@@ -68,7 +68,7 @@ impl Filling {
     fn pull_around(
         &mut self,
         level: &Level,
-        table: &Table,
+        table: &DistanceTable,
         square: Square,
         row: u32,
     ) -> Result<(), AllocError> {
@@ -82,7 +82,7 @@ impl Filling {
     fn pull(
         &mut self,
         level: &Level,
-        table: &Table,
+        table: &DistanceTable,
         square: Square,
         row: u32,
         dir: Dir,

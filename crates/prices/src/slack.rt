@@ -7,7 +7,7 @@ ghost use Rattle.prices.specs.Solving.{Allows};
 use crate::distances::Distances;
 use crate::matching::Matching;
 use crate::needs::sum;
-use crate::table::{Table, part};
+use crate::table::{DistanceTable, part};
 use grid::{Dir, Level, MAX_BOXES, Position, Square};
 use std::marker::Model;
 
@@ -16,7 +16,7 @@ use std::marker::Model;
 #[derive(Debug, Drop)]
 pub struct Slack<'a> {
     level: &'a Level,
-    table: &'a Table,
+    table: &'a DistanceTable,
     position: &'a Position,
     tolls: [u32; MAX_BOXES],
     left: Option<u32>,
@@ -64,13 +64,6 @@ impl<'a> Slack<'a> {
             left,
             spare: all.saturating_sub(needs),
         }
-    }
-
-    /// The number of pushes that are left after the next one; `None` is any number.
-    pub fn left(&self) -> Option<u32>
-        ensures { result ≡ self.now.left }
-    {
-        self.left
     }
 
     /// Whether the first push of a box costs more than is left: then no play that solves the position with the pushes

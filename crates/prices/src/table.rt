@@ -25,7 +25,7 @@ pub(crate) struct Spot {
 
 /// The distances of lone boxes: for each square and side, one for each goal, in the order of the goals.
 #[derive(Debug, Drop)]
-pub(crate) struct Table {
+pub(crate) struct DistanceTable {
     pub(crate) goals: Vec<Square>,
     pub(crate) spots: Vec<Spot>,
     pub(crate) sides: Vec<Side>,
@@ -42,7 +42,7 @@ impl Side {
     }
 }
 
-impl Table {
+impl DistanceTable {
     /// The entry of a square; an empty one if there is none.
     #[inline(always)]
     pub(crate) fn spot(&self, square: Square) -> Spot

@@ -11,7 +11,7 @@ use Rattle.store.specs.Visited.{Entry}
 use Rattle.prover.specs.Fewest.{NoneHasFewer, IsReachable, HasMore}
 use Rattle.prover.specs.Frontier.{IsUnderWay, AreFrom, AreClosed}
 use Rattle.prover.specs.inside.Working.{IsLeastOpen}
-use Rattle.prover.specs.inside.Rounds.{NoneIsAllowed, IsLeastSolved}
+use Rattle.prover.specs.inside.SearchEnds.{NoneIsAllowed, IsLeastSolved}
 use Rattle.prover.proofs.Openings.{allows_fewer, least_bounds, closed_decides}
 
 pub none_has_fewer : (board : Board) (cap : Option ℕ) (all : List Entry) (least : ℕ) → IsLevel board → IsUnderWay board cap all → AreFrom least all →

@@ -24,7 +24,7 @@ use Rattle.store.specs.declared.visited.Parent.{Parent}
 use Rattle.prover.specs.declared.outcome.Outcome.TheVariants.{Least}
 use Rattle.prover.specs.Frontier.{ComesFrom}
 use Rattle.prover.specs.Outcomes.{IsOutcome}
-use Rattle.prover.specs.inside.Rounds.{IsLeastSolved}
+use Rattle.prover.specs.inside.SearchEnds.{IsLeastSolved}
 use Rattle.prover.specs.inside.Working.{AreLeading, AreReadBack, AreTraced, pushes_at}
 use Rattle.prover.proofs.Steps.{leading_more}
 

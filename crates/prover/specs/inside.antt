@@ -1,4 +1,4 @@
 -- Definitions for the code's own state. No outcome depends on them.
 pub mod Tickets
 pub mod Working
-pub mod Rounds
+pub mod SearchEnds

@@ -4,10 +4,10 @@ ghost use Rattle.std.specs.Prelude.{◌≡◌, ℕ, ◌<◌, ◌≤◌, ◌^◌,
 ghost use Rattle.prover.specs.inside.Working.{Expands, IsExpanding, IsLater, IsSearched, IsUnsolvedOpen};
 ghost use Rattle.prover.specs.inside.Working.{Widens, tighter, turns_left};
 
-use crate::desk::Desk;
 use crate::frontier::Frontier;
 use crate::pruner::Pruner;
 use crate::pushing::{Expanded, try_push};
+use crate::workspace::Workspace;
 use prices::{Matching, Slack};
 use std::alloc::AllocError;
 
@@ -18,16 +18,16 @@ pub(crate) fn expand(
     frontier: &mut Frontier,
     place: usize,
     reach: u32,
-    desk: &mut Desk<'_>,
+    workspace: &mut Workspace<'_>,
 ) -> Result<(), AllocError>
     requires searched { IsSearched pruner.now.board pruner.now.cap frontier.old }
     requires waits { IsUnsolvedOpen pruner.now.board frontier.old.entries place reach }
     requires few { length frontier.old.entries < 2 ^ 32 }
-    requires task { desk.old.expander.task ≡ pruner.now }
+    requires task { workspace.old.expander.task ≡ pruner.now }
     ensures searched { OnOk result (IsSearched pruner.now.board pruner.now.cap frontier.new) }
     ensures fewer_turns { OnOk result ((limit : ℕ) → length frontier.new.entries ≤ limit →
         turns_left limit frontier.new.entries < turns_left limit frontier.old.entries) }
-    ensures task { desk.new.expander.task ≡ desk.old.expander.task }
+    ensures task { workspace.new.expander.task ≡ workspace.old.expander.task }
 {
     let from = Expanded {
         position: frontier.position(place),
@@ -35,8 +35,8 @@ pub(crate) fn expand(
         reach,
         place: place as u32,
     };
-    take_all(pruner, frontier, &from, desk)?;
-    frontier.set_least(place, desk.next)
+    take_all(pruner, frontier, &from, workspace)?;
+    frontier.set_least(place, workspace.next)
 }
 
 // Opens the positions that the pushes of a position lead to, up to a total.
@@ -45,35 +45,42 @@ fn take_all(
     pruner: &Pruner<'_>,
     frontier: &mut Frontier,
     from: &Expanded,
-    desk: &mut Desk<'_>,
+    workspace: &mut Workspace<'_>,
 ) -> Result<(), AllocError>
     requires expanding { IsExpanding pruner.now.board pruner.now.cap frontier.old from.now }
-    requires task { desk.old.expander.task ≡ pruner.now }
+    requires task { workspace.old.expander.task ≡ pruner.now }
     ensures widens { OnOk result (Widens pruner.now.board pruner.now.cap from.now.pushes frontier.old frontier.new) }
-    ensures expands { OnOk result (Expands pruner.now.board (tighter pruner.now.cap desk.new.next) frontier.new.entries
-        from.now.pushes from.now.position) }
-    ensures later { OnOk result (IsLater pruner.now.cap from.now.reach desk.new.next) }
-    ensures task { desk.new.expander.task ≡ desk.old.expander.task }
+    ensures expands { OnOk result (Expands pruner.now.board (tighter pruner.now.cap workspace.new.next)
+        frontier.new.entries from.now.pushes from.now.position) }
+    ensures later { OnOk result (IsLater pruner.now.cap from.now.reach workspace.new.next) }
+    ensures task { workspace.new.expander.task ≡ workspace.old.expander.task }
 {
-    desk.expander.find_pushes(&from.position);
+    workspace.expander.find_pushes(&from.position);
     pruner.level().tell();
-    desk.next = None;
+    workspace.next = None;
     // a fresh matching, so that nothing depends on what was expanded before
-    desk.matching = Matching::new();
-    pruner.distances().meet(&from.position, &mut desk.matching);
+    workspace.matching = Matching::new();
+    pruner
+        .distances()
+        .meet(&from.position, &mut workspace.matching);
     let left = pruner.left(from.pushes);
-    let slack = Slack::of(pruner.distances(), &from.position, left, &desk.matching);
+    let slack = Slack::of(
+        pruner.distances(),
+        &from.position,
+        left,
+        &workspace.matching,
+    );
     let only = corrals::find(
         pruner.level(),
         pruner.problem().dead(),
         &from.position,
-        desk.expander.scratch(),
+        workspace.expander.scratch(),
         &slack,
-        &mut desk.corral,
+        &mut workspace.corral,
     );
-    for index in 0..desk.expander.pushes().len() {
-        let push = desk.expander.pushes()[index];
-        try_push(pruner, frontier, from, push, &slack, only, desk)?;
+    for index in 0..workspace.expander.pushes().len() {
+        let push = workspace.expander.pushes()[index];
+        try_push(pruner, frontier, from, push, &slack, only, workspace)?;
     }
     Ok(())
 }

@@ -18,7 +18,6 @@
 //! ```
 #![tactic(auto)]
 
-mod desk;
 mod expansion;
 mod frontier;
 pub mod laws;
@@ -28,7 +27,7 @@ mod pushing;
 mod queue;
 mod retracing;
 mod searching;
-mod solved;
+mod workspace;
 
 pub use outcome::{Outcome, SearchFault};
 pub use searching::search;

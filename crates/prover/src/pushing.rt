@@ -5,9 +5,9 @@ ghost use Rattle.successors.specs.Expanding.{HasPushesOf};
 ghost use Rattle.prices.specs.Solving.{Allows};
 ghost use Rattle.prover.specs.inside.Working.{Defers, IsChosen, IsExpanding, IsTaken, Widens, lesser, tighter};
 
-use crate::desk::Desk;
 use crate::frontier::Frontier;
 use crate::pruner::Pruner;
+use crate::workspace::Workspace;
 use grid::{Position, Push};
 use prices::Slack;
 use std::alloc::AllocError;
@@ -33,23 +33,23 @@ pub(crate) fn try_push(
     push: Push,
     slack: &Slack<'_>,
     only: bool,
-    desk: &mut Desk<'_>,
+    workspace: &mut Workspace<'_>,
 ) -> Result<(), AllocError>
-    requires task { desk.old.expander.task ≡ pruner.now }
-    requires found { HasPushesOf desk.old.expander from.now.position }
+    requires task { workspace.old.expander.task ≡ pruner.now }
+    requires found { HasPushesOf workspace.old.expander from.now.position }
     requires possible { CanPush pruner.now.board from.now.position push }
     requires expanding { IsExpanding pruner.now.board pruner.now.cap frontier.old from.now }
     requires slack { (slack.now.board ≡ pruner.now.board) × (slack.now.scene ≡ from.now.position) }
     requires left { (m : ℕ) → Allows pruner.now.cap (from.now.pushes + suc m) → Allows slack.now.left m }
-    ensures taken { OnOk result (IsChosen only desk.old.corral.held push →
-        IsTaken pruner.now.board (tighter pruner.now.cap desk.new.next) frontier.new.entries from.now.pushes
+    ensures taken { OnOk result (IsChosen only workspace.old.corral.held push →
+        IsTaken pruner.now.board (tighter pruner.now.cap workspace.new.next) frontier.new.entries from.now.pushes
         from.now.position push) }
-    ensures defers { OnOk result (Defers pruner.now.cap from.now.reach desk.old.next desk.new.next) }
+    ensures defers { OnOk result (Defers pruner.now.cap from.now.reach workspace.old.next workspace.new.next) }
     ensures widens { OnOk result (Widens pruner.now.board pruner.now.cap from.now.pushes frontier.old frontier.new) }
-    ensures kept { (desk.new.expander ≡ desk.old.expander) × (desk.new.corral ≡ desk.old.corral) }
+    ensures kept { (workspace.new.expander ≡ workspace.old.expander) × (workspace.new.corral ≡ workspace.old.corral) }
 {
     let Push { square, dir } = push;
-    let held = desk.corral.holds(square);
+    let held = workspace.corral.holds(square);
     if only && !held {
         return Ok(());
     }
@@ -57,7 +57,7 @@ pub(crate) fn try_push(
     if useless {
         return Ok(());
     }
-    take(pruner, frontier, from, Push { square, dir }, desk)
+    take(pruner, frontier, from, Push { square, dir }, workspace)
 }
 
 // Opens the position that a push leads to, unless no play that the cap allows goes on from there and ends solved. A
@@ -68,29 +68,32 @@ fn take(
     frontier: &mut Frontier,
     from: &Expanded,
     push: Push,
-    desk: &mut Desk<'_>,
+    workspace: &mut Workspace<'_>,
 ) -> Result<(), AllocError>
-    requires task { desk.old.expander.task ≡ pruner.now }
-    requires found { HasPushesOf desk.old.expander from.now.position }
+    requires task { workspace.old.expander.task ≡ pruner.now }
+    requires found { HasPushesOf workspace.old.expander from.now.position }
     requires possible { CanPush pruner.now.board from.now.position push }
     requires expanding { IsExpanding pruner.now.board pruner.now.cap frontier.old from.now }
-    ensures taken { OnOk result (IsTaken pruner.now.board (tighter pruner.now.cap desk.new.next) frontier.new.entries
-        from.now.pushes from.now.position push) }
-    ensures defers { OnOk result (Defers pruner.now.cap from.now.reach desk.old.next desk.new.next) }
+    ensures taken { OnOk result (IsTaken pruner.now.board (tighter pruner.now.cap workspace.new.next)
+        frontier.new.entries from.now.pushes from.now.position push) }
+    ensures defers { OnOk result (Defers pruner.now.cap from.now.reach workspace.old.next workspace.new.next) }
     ensures widens { OnOk result (Widens pruner.now.board pruner.now.cap from.now.pushes frontier.old frontier.new) }
-    ensures kept { (desk.new.expander ≡ desk.old.expander) × (desk.new.corral ≡ desk.old.corral) }
+    ensures kept { (workspace.new.expander ≡ workspace.old.expander) × (workspace.new.corral ≡ workspace.old.corral) }
 {
     let Push { square, dir } = push;
-    let Some(after) = desk.expander.try_push(&from.position, Push { square, dir }) else {
+    let Some(after) = workspace
+        .expander
+        .try_push(&from.position, Push { square, dir })
+    else {
         return Ok(());
     };
     let pushes = from.pushes + 1;
-    desk.next_matching.copy_from(&desk.matching);
-    let Some(total) = pruner.allowed_total(&after, pushes, &mut desk.next_matching) else {
+    workspace.next_matching.copy_from(&workspace.matching);
+    let Some(total) = pruner.allowed_total(&after, pushes, &mut workspace.next_matching) else {
         return Ok(());
     };
     if total > from.reach {
-        desk.next = lesser(desk.next, total);
+        workspace.next = lesser(workspace.next, total);
         return Ok(());
     }
     let parent = Parent {

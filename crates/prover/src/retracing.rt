@@ -3,7 +3,7 @@ ghost use Rattle.std.specs.Prelude.{◌≡◌, ◌<◌, ◌≤◌, ℕ, IfOk, Op
 ghost use Rattle.grid.specs.Board.{Board};
 ghost use Rattle.store.specs.Visited.{Entry};
 ghost use Rattle.prover.specs.Outcomes.{IsOutcome};
-ghost use Rattle.prover.specs.inside.Rounds.{IsLeastSolved};
+ghost use Rattle.prover.specs.inside.SearchEnds.{IsLeastSolved};
 ghost use Rattle.prover.specs.inside.Working.{AreLeading, AreTraced};
 
 use crate::frontier::Frontier;

@@ -1,6 +1,7 @@
 //! The search: it expands the open position with the least total, until one is solved or none is open.
-ghost use Rattle.std.specs.Prelude.{◌≡◌, ◌⊎◌, ◌<◌, ◌≤◌, ℕ, List, Option, IfOk, IfErr, IfNone, IfSome, OnOk, length};
-ghost use Rattle.grid.specs.Board.{Board, start};
+ghost use Rattle.std.specs.Prelude.{◌≡◌, ◌⊎◌, ◌↔◌, ◌<◌, ◌≤◌, ℕ, List, Option, IfOk, IfErr, IfNone, IfSome, IsTrue};
+ghost use Rattle.std.specs.Prelude.{OnOk, length};
+ghost use Rattle.grid.specs.Board.{Board, IsSolved, start};
 ghost use Rattle.grid.specs.Lawful.{box_count};
 ghost use Rattle.grid.specs.States.{FitsLevel};
 ghost use Rattle.area.specs.Area.{IsNorm};
@@ -8,16 +9,15 @@ ghost use Rattle.store.specs.Visited.{Entry};
 ghost use Rattle.successors.specs.Capping.{capped};
 ghost use Rattle.prover.specs.Fewest.{NoneHasFewer};
 ghost use Rattle.prover.specs.Outcomes.{IsOutcome};
-ghost use Rattle.prover.specs.inside.Rounds.{Tells, none_by};
+ghost use Rattle.prover.specs.inside.SearchEnds.{Tells, none_by};
 ghost use Rattle.prover.specs.inside.Working.{IsSearched};
 
-use crate::desk::Desk;
 use crate::expansion::expand;
 use crate::frontier::Frontier;
 use crate::outcome::{Outcome, SearchFault};
 use crate::pruner::Pruner;
 use crate::retracing::solution_at;
-use crate::solved::is_solved;
+use crate::workspace::Workspace;
 use area::Scratch;
 use grid::{Level, MAX_BOXES, Position};
 use std::alloc::{AllocError, Global};
@@ -28,9 +28,9 @@ use successors::Problem;
 /// Making the tables takes about as long as finding that many positions, and many searches end before.
 const STAGES: [(u32, usize); 3] = [(500, 3), (5_000, 4), (50_000, 5)];
 
-/// How the rounds of a search end.
+/// How a search ends.
 #[derive(Clone, Copy, Debug)]
-pub(crate) enum End {
+pub(crate) enum SearchEnd {
     /// No position is open.
     Closed,
     /// The position at this place is solved, and no solution has fewer pushes.
@@ -117,7 +117,7 @@ fn run_on(
     cap: Option<u32>,
     limit: u32,
     frontier: &mut Frontier,
-) -> Result<End, AllocError>
+) -> Result<SearchEnd, AllocError>
     requires searched { IsSearched level.now cap frontier.old }
     requires few { box_count level.now ≤ MAX_BOXES }
     ensures searched { OnOk result (IsSearched level.now cap frontier.new) }
@@ -141,7 +141,7 @@ fn run_over(
     problem: &Problem,
     limit: u32,
     frontier: &mut Frontier,
-) -> Result<End, AllocError>
+) -> Result<SearchEnd, AllocError>
     requires searched { IsSearched problem.now.board problem.now.cap frontier.old }
     requires few { box_count problem.now.board ≤ MAX_BOXES }
     ensures searched { OnOk result (IsSearched problem.now.board problem.now.cap frontier.new) }
@@ -157,7 +157,7 @@ fn run_all(
     pruner: &mut Pruner<'_>,
     limit: u32,
     frontier: &mut Frontier,
-) -> Result<End, AllocError>
+) -> Result<SearchEnd, AllocError>
     requires searched { IsSearched pruner.old.board pruner.old.cap frontier.old }
     ensures searched { OnOk result (IsSearched pruner.old.board pruner.old.cap frontier.new) }
     ensures tells { IfOk result (λ end. Tells pruner.old.board pruner.old.cap limit frontier.new.entries end) }
@@ -178,14 +178,14 @@ fn run_all(
 }
 
 // The number of pushes that every solution has at least, if the limit was passed.
-fn limit_of(end: End) -> Option<u32>
+fn limit_of(end: SearchEnd) -> Option<u32>
     ensures some { IfSome result (λ least. (board : Board) (cap : Option ℕ) (few : ℕ) (all : List Entry) →
         Tells board cap few all end → NoneHasFewer board least) }
     ensures none { IfNone result ((board : Board) (cap : Option ℕ) (few limit : ℕ) (all : List Entry) →
         Tells board cap few all end → Tells board cap limit all end) }
 {
     match end {
-        End::Limit(least) => Some(least),
+        SearchEnd::Limit(least) => Some(least),
         _ => None,
     }
 }
@@ -197,47 +197,54 @@ fn run(
     reach: u32,
     limit: u32,
     frontier: &mut Frontier,
-) -> Result<End, AllocError>
+) -> Result<SearchEnd, AllocError>
     requires searched { IsSearched pruner.now.board pruner.now.cap frontier.old }
     requires told { NoneHasFewer pruner.now.board reach }
     ensures searched { OnOk result (IsSearched pruner.now.board pruner.now.cap frontier.new) }
     ensures tells { IfOk result (λ end. Tells pruner.now.board pruner.now.cap limit frontier.new.entries end) }
 {
-    let mut desk = Desk::new(alloc, pruner.problem())?;
+    let mut workspace = Workspace::new(alloc, pruner.problem())?;
     pruner.level().tell();
     let mut reach = reach;
     while let Some((place, least)) = frontier.least_open() {
         reach = least.max(reach);
         let solved = is_solved(pruner.level(), &frontier.position(place));
         if solved {
-            return Ok(End::Solved(place));
+            return Ok(SearchEnd::Solved(place));
         }
         if frontier.len() > limit as usize {
             frontier.tell();
-            return Ok(End::Limit(reach));
+            return Ok(SearchEnd::Limit(reach));
         }
-        expand(pruner, frontier, place, reach, &mut desk)?;
+        expand(pruner, frontier, place, reach, &mut workspace)?;
     }
-    Ok(End::Closed)
+    Ok(SearchEnd::Closed)
 }
 
-// The outcome that the end of the rounds means.
+// Whether each box of a position is on a goal.
+fn is_solved(level: &Level, position: &Position) -> bool
+    ensures { IsTrue result ↔ IsSolved level.now position.now }
+{
+    level.are_on_goals(position.boxes())
+}
+
+// The outcome that the end of the search means.
 fn outcome_of(
     alloc: Global,
     level: &Level,
     frontier: &Frontier,
     cap: Option<u32>,
     limit: u32,
-    end: End,
+    end: SearchEnd,
 ) -> Result<Outcome, AllocError>
     requires searched { IsSearched level.now cap frontier.now }
     requires tells { Tells level.now cap limit frontier.now.entries end }
     ensures { IfOk result (λ outcome. IsOutcome level.now cap limit outcome) }
 {
     match end {
-        End::Closed => Ok(none_of(cap)),
-        End::Limit(at_least) => Ok(Outcome::Limit { at_least }),
-        End::Solved(place) => solution_at(alloc, level, frontier, place),
+        SearchEnd::Closed => Ok(none_of(cap)),
+        SearchEnd::Limit(at_least) => Ok(Outcome::Limit { at_least }),
+        SearchEnd::Solved(place) => solution_at(alloc, level, frontier, place),
     }
 }
 

@@ -66,17 +66,17 @@ fn search_by(alloc: Global, problem: &Arc<Problem>, limit: u32) -> Result<Answer
         shares: 1,
     };
     let mut books = new_books(alloc, problem, limit, alone, &mut scratch)?;
-    let terms = Terms {
+    let parameters = Parameters {
         alloc,
         problem: &**problem,
         limit,
     };
-    iterate(&terms, books.as_mut_slice(), &mut scratch)
+    iterate(&parameters, books.as_mut_slice(), &mut scratch)
 }
 
 // The parameters of a search: the allocator, the problem, and the limit of positions.
 #[derive(Drop)]
-struct Terms<'s> {
+struct Parameters<'s> {
     alloc: Global,
     problem: &'s Problem,
     limit: u32,
@@ -84,18 +84,18 @@ struct Terms<'s> {
 
 // Iterates until there is an answer. Fails only if out of memory.
 fn iterate(
-    terms: &Terms<'_>,
+    parameters: &Parameters<'_>,
     books: &mut [Book],
     scratch: &mut Scratch,
 ) -> Result<Answer, AllocError>
-    requires first { AreBetweenTurns terms.now.problem.now terms.now.limit 1 1 books.old [] 0 }
-    requires room { scratch.old.size ≡ length terms.now.problem.now.board.cells }
-    ensures { IfOk result (λ answer. IsAnswer terms.now.problem.now terms.now.limit answer) }
+    requires first { AreBetweenTurns parameters.now.problem.now parameters.now.limit 1 1 books.old [] 0 }
+    requires room { scratch.old.size ≡ length parameters.now.problem.now.board.cells }
+    ensures { IfOk result (λ answer. IsAnswer parameters.now.problem.now parameters.now.limit answer) }
 {
-    let mut trail = Vec::new(terms.alloc);
+    let mut trail = Vec::new(parameters.alloc);
     let mut positions = 0;
     loop {
-        let found = iteration(terms, books, &mut trail, &mut positions, scratch)?;
+        let found = iteration(parameters, books, &mut trail, &mut positions, scratch)?;
         if let Some(answer) = found {
             return Ok(answer);
         }
@@ -105,27 +105,29 @@ fn iterate(
 // Looks at the last layer that the books closed, and if it gives no answer, does its ranks as the only worker. Fails
 // only if out of memory.
 fn iteration(
-    terms: &Terms<'_>,
+    parameters: &Parameters<'_>,
     books: &mut [Book],
     trail: &mut Vec<Parents>,
     positions: &mut u64,
     scratch: &mut Scratch,
 ) -> Result<Option<Answer>, AllocError>
-    requires between { AreBetweenTurns terms.now.problem.now terms.now.limit 1 1 books.old trail.old.items positions.old }
-    requires room { scratch.old.size ≡ length terms.now.problem.now.board.cells }
+    requires between { AreBetweenTurns parameters.now.problem.now parameters.now.limit 1 1 books.old trail.old.items
+        positions.old }
+    requires room { scratch.old.size ≡ length parameters.now.problem.now.board.cells }
     ensures answer { IfOk result
-        (λ found. IfSome found (λ answer. IsAnswer terms.now.problem.now terms.now.limit answer)) }
+        (λ found. IfSome found (λ answer. IsAnswer parameters.now.problem.now parameters.now.limit answer)) }
     ensures onward { IfOk result (λ found. IfNone found
-        (GoesOn terms.now.problem.now terms.now.limit books.new trail.new.items positions.old positions.new)) }
+        (GoesOn parameters.now.problem.now parameters.now.limit books.new trail.new.items positions.old
+        positions.new)) }
     ensures size { scratch.new.size ≡ scratch.old.size }
 {
-    let layer = last_layer(terms.alloc, books, Vec::new(terms.alloc))?;
+    let layer = last_layer(parameters.alloc, books, Vec::new(parameters.alloc))?;
     let found = look(
-        terms.alloc,
+        parameters.alloc,
         trail.as_slice(),
         positions,
         &layer,
-        terms.limit,
+        parameters.limit,
         scratch,
     )?;
     if let Some(answer) = found {

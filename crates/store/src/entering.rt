@@ -34,7 +34,8 @@ fn is_kept<const N: usize, const M: usize>(
     requires found { IsFoundUpTo start table.old.entries last }
     ensures kept { result ≡ keeps (seen_of start table.old.entries) (open_of start table.old.entries) key.now origin }
     ensures same { IsTrue result → table.new.entries ≡ table.old.entries }
-    ensures inserted { result ≡ false → table.new.entries ≡ insert_entry same_scene table.old.entries key.now (Some origin) }
+    ensures inserted { result ≡ false → table.new.entries ≡ insert_entry same_scene table.old.entries key.now
+        (Some origin) }
     ensures capacity { spare table.old ≤ spare table.new + 1 }
 {
     match table.entry(key.copy()) {

@@ -7,7 +7,7 @@ ghost use Rattle.store.specs.FoundView.{AllFit, FitsGrid, first_entries, origin_
 ghost use Rattle.store.specs.inside.Copies.{IsCopied, squares_of};
 
 use crate::origin::{MOST_RANKS, Origin};
-use crate::table::Table;
+use crate::table::PositionTable;
 use crate::widths::{in_each, of_width};
 use grid::{MAX_BOXES, Position, Square};
 use std::alloc::{AllocError, Global};
@@ -17,18 +17,18 @@ use successors::{Parcel, Successor};
 // The positions found, in keys of one width.
 #[derive(Debug, Drop)]
 pub(crate) enum Tables {
-    NarrowLow(Table<4, 0>),
-    MiddleLow(Table<12, 0>),
-    HalfLow(Table<20, 0>),
-    WideLow(Table<28, 0>),
-    BroadLow(Table<36, 0>),
-    WidestLow(Table<65, 0>),
-    Narrow(Table<4, 4>),
-    Middle(Table<12, 12>),
-    Half(Table<20, 20>),
-    Wide(Table<28, 28>),
-    Broad(Table<36, 36>),
-    Widest(Table<65, 65>),
+    NarrowLow(PositionTable<4, 0>),
+    MiddleLow(PositionTable<12, 0>),
+    HalfLow(PositionTable<20, 0>),
+    WideLow(PositionTable<28, 0>),
+    BroadLow(PositionTable<36, 0>),
+    WidestLow(PositionTable<65, 0>),
+    Narrow(PositionTable<4, 4>),
+    Middle(PositionTable<12, 12>),
+    Half(PositionTable<20, 20>),
+    Wide(PositionTable<28, 28>),
+    Broad(PositionTable<36, 36>),
+    Widest(PositionTable<65, 65>),
 }
 
 /// The positions that a book has found: the closed ones at fixed indices, and the open ones, each with an origin.
@@ -67,7 +67,7 @@ impl Found {
             Tables,
             boxes,
             squares,
-            Table::of(alloc, boxes, squares, first)?
+            PositionTable::of(alloc, boxes, squares, first)?
         );
         Ok(Found { tables })
     }

@@ -189,7 +189,8 @@ fn append<const N: usize, const M: usize>(
     requires sum { sum ≡ scene_sum successor.now.position }
     requires capacity { vec_len pending.old < vec_capacity pending.old }
     ensures items { pending.new.items ≡ pending.old.items ++ offer_of shares share rank successor.now }
-    ensures capacity { (vec_len pending.new ≤ vec_len pending.old + 1) × (vec_capacity pending.new ≡ vec_capacity pending.old) }
+    ensures capacity { (vec_len pending.new ≤ vec_len pending.old + 1) ×
+        (vec_capacity pending.new ≡ vec_capacity pending.old) }
 {
     if share_by(sum, shares) != share {
         return;
@@ -209,7 +210,8 @@ fn append_offer<const N: usize, const M: usize>(
     requires suits { Suits N M successor.now.position }
     requires capacity { vec_len pending.old < vec_capacity pending.old }
     ensures items { pending.new.items ≡ pending.old.items ++ offer_in rank (Some successor.now) }
-    ensures capacity { (vec_len pending.new ≡ vec_len pending.old + 1) × (vec_capacity pending.new ≡ vec_capacity pending.old) }
+    ensures capacity { (vec_len pending.new ≡ vec_len pending.old + 1) ×
+        (vec_capacity pending.new ≡ vec_capacity pending.old) }
 {
     let origin = Origin::new(rank, successor.push);
     pending.push_reserved((Key::of(&successor.position), origin));

@@ -22,7 +22,7 @@ use successors::{Parcel, Successor};
 
 /// The positions that a book has found, in keys with `N` low bytes and `M` high ones.
 #[derive(Debug, Drop)]
-pub(crate) struct Table<const N: usize, const M: usize> {
+pub(crate) struct PositionTable<const N: usize, const M: usize> {
     // the map has capacity for the pending offers
     pending: Vec<(Key<N, M>, Origin)>,
     table: IndexMap<Key<N, M>, ClosedOrigin>,
@@ -34,7 +34,7 @@ pub(crate) struct Table<const N: usize, const M: usize> {
     squares: usize,
 }
 
-impl<const N: usize, const M: usize> Model for Table<N, M> {
+impl<const N: usize, const M: usize> Model for PositionTable<N, M> {
     ghost use Rattle.std.specs.Prelude.{◌+◌, ◌≤◌, length};
     ghost use Rattle.indexmap.specs.IndexMap.{spare};
     ghost use Rattle.store.specs.FoundView.{FoundView, found_view};
@@ -53,7 +53,7 @@ impl<const N: usize, const M: usize> Model for Table<N, M> {
         × (length a.pending.items ≤ spare a.table) };
 }
 
-impl<const N: usize, const M: usize> Table<N, M> {
+impl<const N: usize, const M: usize> PositionTable<N, M> {
     /// Starts with one closed position or none. Fails only if out of memory.
     #[tactic(auto, using(crate::proofs::Lasts::none_open, crate::proofs::Bytes::suits))]
     pub(crate) fn of(
@@ -61,7 +61,7 @@ impl<const N: usize, const M: usize> Table<N, M> {
         boxes: usize,
         squares: usize,
         first: &Option<Position>,
-    ) -> Result<Table<N, M>, AllocError>
+    ) -> Result<PositionTable<N, M>, AllocError>
         requires width { (N ≤ MAX_BOXES + 1) × (M ≤ MAX_BOXES + 1) }
         requires suits { SuitsLevel N M boxes squares }
         requires few { IfSome first.now (FitsGrid boxes squares) }
@@ -80,7 +80,7 @@ impl<const N: usize, const M: usize> Table<N, M> {
             }
         }
         let start = table.len();
-        Ok(Table {
+        Ok(PositionTable {
             boxes,
             squares,
             table,
@@ -97,7 +97,7 @@ impl<const N: usize, const M: usize> Table<N, M> {
         self.start
     }
 
-    /// The closed position at an index; `None` exactly if the index is not below [`Table::closed_len`].
+    /// The closed position at an index; `None` exactly if the index is not below [`PositionTable::closed_len`].
     pub(crate) fn closed_at(&self, index: usize) -> Option<Position>
         ensures { result ≡ option_map (λ e. e.0) (slice_get self.now.seen index) }
     {
@@ -108,7 +108,8 @@ impl<const N: usize, const M: usize> Table<N, M> {
         Some(key.position())
     }
 
-    /// The origin of the closed position at an index; `None` exactly if the index is not below [`Table::closed_len`].
+    /// The origin of the closed position at an index; `None` exactly if the index is not below
+    /// [`PositionTable::closed_len`].
     pub(crate) fn origin_at(&self, index: usize) -> Option<Origin>
         ensures { result ≡ option_map (λ e. origin_in e.1) (slice_get self.now.seen index) }
     {

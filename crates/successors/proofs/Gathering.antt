@@ -8,8 +8,8 @@ use Rattle.grid.specs.declared.square.Push.{Push}
 use Rattle.grid.specs.Board.{Board, Scene, push_cmp}
 use Rattle.grid.specs.States.{IsScene, FitsLevel}
 use Rattle.successors.specs.declared.parcel.Successor.{Successor}
-use Rattle.successors.specs.declared.expansion.Source.{Source}
-use Rattle.successors.specs.ParcelView.{AreSuccessors, FitLevel, IsParcel, IsSource}
+use Rattle.successors.specs.declared.expansion.RankedPosition.{RankedPosition}
+use Rattle.successors.specs.ParcelView.{AreSuccessors, FitLevel, IsParcel, IsRanked}
 use Rattle.successors.specs.Capping.{capped, uncapped}
 use Rattle.successors.specs.Expansion.{IsSuccessor}
 use Rattle.successors.proofs.lemmas.Successors.{successor_unique}
@@ -84,7 +84,7 @@ fit_more board ss new fit here i s e = elim (pushed_at ss new s i e) [
 -- ---- the parcel of a rank
 
 -- the successors of the position make a parcel
-pub is_parcel : (board : Board) (s : Source) → IsSource board s → (ss : List Successor) → AreSuccessors (capped board s.cap) s.layer s.position ss →
+pub is_parcel : (board : Board) (s : RankedPosition) → IsRanked board s → (ss : List Successor) → AreSuccessors (capped board s.cap) s.layer s.position ss →
     FitLevel board ss →
     IsParcel (record { level = capped board s.cap; layer = s.layer; rank = s.rank; successors = ss })
 is_parcel board s is ss come fit = record {

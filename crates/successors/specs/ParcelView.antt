@@ -7,7 +7,7 @@ use Rattle.grid.specs.States.{FitsLevel}
 use Rattle.grid.specs.Lawful.{IsLevel}
 use Rattle.doom.specs.Deadlocks.{Undoomed}
 use Rattle.successors.specs.declared.parcel.Successor.{Successor}
-use Rattle.successors.specs.declared.expansion.Source.{Source}
+use Rattle.successors.specs.declared.expansion.RankedPosition.{RankedPosition}
 use Rattle.successors.specs.Tasks.{Task}
 use Rattle.successors.specs.Capping.{capped}
 use Rattle.successors.specs.Reaching.{IsLayerOf}
@@ -49,7 +49,7 @@ pub record IsParcel (v : ParcelView) : Type 0 where
   pub fits : FitLevel v.level.board v.successors
 
 -- the position stands at the rank of the layer of a lawful level under the cap, and is undoomed
-pub record IsSource (board : Board) (s : Source) : Type 0 where
+pub record IsRanked (board : Board) (s : RankedPosition) : Type 0 where
   pub lawful : IsLevel board
   pub places : List Scene
   pub layer : IsLayerOf (capped board s.cap) s.layer places

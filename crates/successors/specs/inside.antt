@@ -3,4 +3,4 @@ pub mod ParcelInside
 pub mod Pruned
 pub mod Sums
 pub mod Dealt
-pub mod Sites
+pub mod Expanding

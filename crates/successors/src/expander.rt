@@ -12,7 +12,7 @@ ghost use Rattle.successors.specs.Expanding.{HasPushesOf};
 ghost use Rattle.successors.specs.Expansion.{IsSuccessor, after_push};
 
 use crate::problem::Problem;
-use crate::pushing::{Site, make_after};
+use crate::pushing::{Parent, make_after};
 use area::{MAX_PUSHES, Scratch, possible_pushes};
 use arrayvec::ArrayVec;
 use doom::Dangers;
@@ -58,13 +58,6 @@ impl<'p> Expander<'p> {
             pushes: ArrayVec::new(),
             dangers,
         })
-    }
-
-    /// The problem.
-    pub fn problem(&self) -> &'p Problem
-        ensures { result.now ≡ self.now.task }
-    {
-        self.problem
     }
 
     /// Finds the pushes that the player can make in a position after walks. Takes no memory.
@@ -160,14 +153,14 @@ fn push_in(
     ensures lost { IfNone result (IsLost problem.now.board (after_push problem.now.board position.now push)) }
     ensures kept { scratch.new ≡ scratch.old }
 {
-    let site = Site {
+    let parent = Parent {
         level: problem.level(),
         dead: problem.dead(),
         position,
         dangers,
     };
     let mut after = Position::default();
-    let made = make_after(&site, 0, push, scratch, &mut after);
+    let made = make_after(&parent, 0, push, scratch, &mut after);
     if !made {
         return None;
     }

@@ -1,21 +1,21 @@
 ghost use Rattle.std.specs.Prelude.{◌≡◌, MatchOption, None, length, take};
-ghost use Rattle.successors.specs.ParcelView.{AreSuccessors, IsParcel, IsSource};
+ghost use Rattle.successors.specs.ParcelView.{AreSuccessors, IsParcel, IsRanked};
 ghost use Rattle.successors.specs.Capping.{capped};
 ghost use Rattle.successors.specs.inside.ParcelInside.{parcel_of};
-ghost use Rattle.successors.specs.inside.Sites.{AreFilled};
+ghost use Rattle.successors.specs.inside.Expanding.{AreFilled};
 
 use crate::dealing::Deal;
-use crate::parcel::{Parcel, Sheet};
+use crate::parcel::{Buffers, Parcel};
 use crate::problem::Problem;
 use crate::pruning::keep_admitted;
-use crate::pushing::{Site, successors_by};
+use crate::pushing::{Parent, successors_by};
 use area::Scratch;
 use doom::{Bound, Dead};
 use grid::{Level, Position};
 
 /// A position to expand: the position with this rank in this layer of a level, under a cap or without one.
 #[derive(Debug, Drop)]
-pub struct Source {
+pub struct RankedPosition {
     pub cap: Option<u32>,
     pub layer: u64,
     pub rank: u64,
@@ -27,57 +27,57 @@ impl<'a> Parcel<'a> {
     /// level's bound allows a solution within the cap. A cap needs the bound. Takes no memory.
     pub fn of(
         level: &'a Level,
-        source: &Source,
+        ranked: &RankedPosition,
         dead: &Dead,
         bound: Option<&Bound>,
         scratch: &mut Scratch,
     ) -> Parcel<'a>
-        requires source { IsSource level.now source.now }
+        requires ranked { IsRanked level.now ranked.now }
         requires dead_of_level { dead.now ≡ level.now }
-        requires bound_of_level { MatchOption bound (source.now.cap ≡ None) (λ b. b.now ≡ level.now) }
+        requires bound_of_level { MatchOption bound (ranked.now.cap ≡ None) (λ b. b.now ≡ level.now) }
         requires room { scratch.old.size ≡ length level.now.cells }
-        ensures of { (result.level ≡ capped level.now source.now.cap) × (result.layer ≡ source.now.layer) ×
-            (result.rank ≡ source.now.rank) }
-        ensures successors { AreSuccessors (capped level.now source.now.cap) source.now.layer source.now.position
+        ensures of { (result.level ≡ capped level.now ranked.now.cap) × (result.layer ≡ ranked.now.layer) ×
+            (result.rank ≡ ranked.now.rank) }
+        ensures successors { AreSuccessors (capped level.now ranked.now.cap) ranked.now.layer ranked.now.position
             result.successors }
         ensures size { scratch.new.size ≡ scratch.old.size }
     {
         let mut parcel = Parcel {
             level,
-            cap: source.cap,
-            layer: source.layer,
-            rank: source.rank,
-            sheet: Sheet::new(),
+            cap: ranked.cap,
+            layer: ranked.layer,
+            rank: ranked.rank,
+            buffers: Buffers::new(),
             count: 0,
             deal: Deal::none(),
         };
-        parcel.count = successors_of(level, source, dead, bound, scratch, &mut parcel.sheet);
+        parcel.count = successors_of(level, ranked, dead, bound, scratch, &mut parcel.buffers);
         parcel
     }
 
-    /// Fills the parcel with what [`Parcel::of`] gives for a source of a problem. Takes no memory.
-    pub fn fill(&mut self, problem: &'a Problem, source: &Source, scratch: &mut Scratch)
-        requires source { IsSource problem.now.board source.now }
-        requires cap { source.now.cap ≡ problem.now.cap }
+    /// Fills the parcel with what [`Parcel::of`] gives for a position of a problem. Takes no memory.
+    pub fn fill(&mut self, problem: &'a Problem, ranked: &RankedPosition, scratch: &mut Scratch)
+        requires ranked { IsRanked problem.now.board ranked.now }
+        requires cap { ranked.now.cap ≡ problem.now.cap }
         requires room { scratch.old.size ≡ length problem.now.board.cells }
-        ensures of { (self.new.level ≡ problem.now) × (self.new.layer ≡ source.now.layer) ×
-            (self.new.rank ≡ source.now.rank) }
-        ensures successors { AreSuccessors problem.now source.now.layer source.now.position self.new.successors }
+        ensures of { (self.new.level ≡ problem.now) × (self.new.layer ≡ ranked.now.layer) ×
+            (self.new.rank ≡ ranked.now.rank) }
+        ensures successors { AreSuccessors problem.now ranked.now.layer ranked.now.position self.new.successors }
         ensures size { scratch.new.size ≡ scratch.old.size }
     {
         self.level = problem.level();
-        self.cap = source.cap;
-        self.layer = source.layer;
-        self.rank = source.rank;
+        self.cap = ranked.cap;
+        self.layer = ranked.layer;
+        self.rank = ranked.rank;
         // the new successors are not dealt yet
         self.deal.shares = 0;
         self.count = successors_of(
             problem.level(),
-            source,
+            ranked,
             problem.dead(),
             problem.bound().as_ref(),
             scratch,
-            &mut self.sheet,
+            &mut self.buffers,
         );
     }
 }
@@ -87,35 +87,40 @@ impl<'a> Parcel<'a> {
 // successors alone.
 fn successors_of(
     level: &Level,
-    source: &Source,
+    ranked: &RankedPosition,
     dead: &Dead,
     bound: Option<&Bound>,
     scratch: &mut Scratch,
-    sheet: &mut Sheet,
+    buffers: &mut Buffers,
 ) -> usize
-    requires source { IsSource level.now source.now }
+    requires ranked { IsRanked level.now ranked.now }
     requires dead_of_level { dead.now ≡ level.now }
-    requires bound_of_level { MatchOption bound (source.now.cap ≡ None) (λ b. b.now ≡ level.now) }
+    requires bound_of_level { MatchOption bound (ranked.now.cap ≡ None) (λ b. b.now ≡ level.now) }
     requires room { scratch.old.size ≡ length level.now.cells }
-    ensures filled { AreFilled result sheet.new.slots }
+    ensures filled { AreFilled result buffers.new.slots }
     ensures parcel { IsParcel
-        (parcel_of (capped level.now source.now.cap) source.now.layer source.now.rank sheet.new.slots.successors.items
+        (parcel_of (capped level.now ranked.now.cap) ranked.now.layer ranked.now.rank buffers.new.slots.successors.items
         result) }
-    ensures successors { AreSuccessors (capped level.now source.now.cap) source.now.layer source.now.position
-        (take result sheet.new.slots.successors.items) }
+    ensures successors { AreSuccessors (capped level.now ranked.now.cap) ranked.now.layer ranked.now.position
+        (take result buffers.new.slots.successors.items) }
     ensures size { scratch.new.size ≡ scratch.old.size }
 {
-    let position = &source.position;
-    area::possible_pushes(level, position, scratch, &mut sheet.pushes);
-    sheet.dangers.find(level, dead, scratch);
-    let site = Site {
+    let position = &ranked.position;
+    area::possible_pushes(level, position, scratch, &mut buffers.pushes);
+    buffers.dangers.find(level, dead, scratch);
+    let parent = Parent {
         level,
         dead,
         position,
-        dangers: &sheet.dangers,
+        dangers: &buffers.dangers,
     };
-    let count = successors_by(&site, sheet.pushes.as_slice(), scratch, &mut sheet.slots);
-    let Some(most) = source.cap else {
+    let count = successors_by(
+        &parent,
+        buffers.pushes.as_slice(),
+        scratch,
+        &mut buffers.slots,
+    );
+    let Some(most) = ranked.cap else {
         return count;
     };
     let Some(bound) = bound else {
@@ -124,9 +129,9 @@ fn successors_of(
     keep_admitted(
         bound,
         most,
-        source.layer,
-        sheet.slots.successors.as_mut_slice(),
-        sheet.slots.sums.as_mut_slice(),
+        ranked.layer,
+        buffers.slots.successors.as_mut_slice(),
+        buffers.slots.sums.as_mut_slice(),
         count,
     )
 }

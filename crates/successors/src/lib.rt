@@ -30,7 +30,7 @@ mod pushing;
 mod sums;
 
 pub use expander::Expander;
-pub use expansion::Source;
+pub use expansion::RankedPosition;
 pub use limits::{MAX_SHARES, MAX_SUCCESSORS};
 pub use parcel::{Parcel, Successor};
 pub use plays::play_pushes;

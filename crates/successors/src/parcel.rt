@@ -42,19 +42,19 @@ impl Slots {
 /// The working memory of an expansion: the pushes to try, the squares where they may freeze a box, and the slots for
 /// their successors.
 #[derive(Debug, Drop)]
-pub(crate) struct Sheet {
+pub(crate) struct Buffers {
     pub(crate) pushes: ArrayVec<Push, MAX_SUCCESSORS>,
     pub(crate) dangers: Dangers,
     pub(crate) slots: Slots,
 }
 
-impl Sheet {
-    /// An empty sheet.
-    pub(crate) fn new() -> Sheet
+impl Buffers {
+    /// Empty buffers.
+    pub(crate) fn new() -> Buffers
         ensures successors { result.slots.successors.items ≡ [] }
         ensures sums { result.slots.sums.items ≡ [] }
     {
-        Sheet {
+        Buffers {
             pushes: ArrayVec::new(),
             dangers: Dangers::unknown(),
             slots: Slots::new(),
@@ -75,7 +75,7 @@ pub struct Parcel<'a> {
     // how the successors are dealt to shares, if they are
     pub(crate) deal: Deal,
     // comes last, since most of its slots are unused: what is read of a parcel lies close together
-    pub(crate) sheet: Sheet,
+    pub(crate) buffers: Buffers,
 }
 
 impl<'a> Model for Parcel<'a> {
@@ -88,12 +88,12 @@ impl<'a> Model for Parcel<'a> {
 
     ghost Value = { ParcelView };
 
-    ghost view = { λ a. parcel_of (capped a.level.now a.cap) a.layer a.rank a.sheet.slots.successors.items a.count };
+    ghost view = { λ a. parcel_of (capped a.level.now a.cap) a.layer a.rank a.buffers.slots.successors.items a.count };
 
-    ghost invariant = { λ a. (a.count ≤ length a.sheet.slots.successors.items)
-        × AreSums (take a.count a.sheet.slots.successors.items) (take a.count a.sheet.slots.sums.items)
-        × IsDealt a.deal.shares a.deal.rows a.deal.lens (take a.count a.sheet.slots.sums.items)
-        × IsParcel (parcel_of (capped a.level.now a.cap) a.layer a.rank a.sheet.slots.successors.items a.count) };
+    ghost invariant = { λ a. (a.count ≤ length a.buffers.slots.successors.items)
+        × AreSums (take a.count a.buffers.slots.successors.items) (take a.count a.buffers.slots.sums.items)
+        × IsDealt a.deal.shares a.deal.rows a.deal.lens (take a.count a.buffers.slots.sums.items)
+        × IsParcel (parcel_of (capped a.level.now a.cap) a.layer a.rank a.buffers.slots.successors.items a.count) };
 }
 
 impl<'a> Parcel<'a> {
@@ -102,7 +102,7 @@ impl<'a> Parcel<'a> {
     pub fn tell(&self)
         ensures { IsParcel self.now }
     {
-        let _ = &self.sheet;
+        let _ = &self.buffers;
     }
 
     /// The level.
@@ -144,14 +144,14 @@ impl<'a> Parcel<'a> {
     pub fn successors(&self) -> &[Successor]
         ensures { result.now ≡ self.now.successors }
     {
-        &self.sheet.slots.successors.as_slice()[..self.count]
+        &self.buffers.slots.successors.as_slice()[..self.count]
     }
 
     /// The sum of the squares of each successor's position. Public for crates that store successors by their shares.
     pub fn sums(&self) -> &[u32]
         ensures { AreSums self.now.successors result.now }
     {
-        &self.sheet.slots.sums.as_slice()[..self.count]
+        &self.buffers.slots.sums.as_slice()[..self.count]
     }
 
     /// Deals the successors to `shares` shares, so that the book of a share can skip the successors of the others.
@@ -159,7 +159,7 @@ impl<'a> Parcel<'a> {
     pub fn deal(&mut self, shares: u8)
         ensures { self.new ≡ self.old }
     {
-        let sums = &self.sheet.slots.sums.as_slice()[..self.count];
+        let sums = &self.buffers.slots.sums.as_slice()[..self.count];
         self.deal.deal(shares, sums);
     }
 

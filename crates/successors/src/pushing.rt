@@ -10,7 +10,7 @@ ghost use Rattle.successors.specs.ParcelView.{AreSuccessors, FitLevel, IsAppende
 ghost use Rattle.successors.specs.Expansion.{IsSuccessor, after_push};
 ghost use Rattle.successors.specs.Capping.{uncapped};
 ghost use Rattle.area.specs.Pushes.{ArePushes, CanPush};
-ghost use Rattle.successors.specs.inside.Sites.{AreFilled, IsReady};
+ghost use Rattle.successors.specs.inside.Expanding.{AreFilled, IsReady};
 ghost use Rattle.successors.specs.inside.Sums.{scene_sum};
 
 use crate::limits::MAX_SUCCESSORS;
@@ -24,7 +24,7 @@ use grid::{Level, MAX_BOXES, Position, Push, Square};
 /// A position to expand, and what its pushes are judged by: the level, its dead squares, and the squares where pushes
 /// may freeze a box.
 #[derive(Drop)]
-pub(crate) struct Site<'a> {
+pub(crate) struct Parent<'a> {
     pub(crate) level: &'a Level,
     pub(crate) dead: &'a Dead,
     pub(crate) position: &'a Position,
@@ -34,29 +34,29 @@ pub(crate) struct Site<'a> {
 /// Writes the undoomed positions that the pushes lead to over the first slots, and returns their number. The last
 /// flood was that of the position.
 pub(crate) fn successors_by(
-    site: &Site<'_>,
+    parent: &Parent<'_>,
     pushes: &[Push],
     scratch: &mut Scratch,
     slots: &mut Slots,
 ) -> usize
-    requires ready { IsReady site.now scratch.old }
-    requires undoomed { Undoomed site.now.level.now site.now.position.now }
-    requires pushes { ArePushes site.now.level.now site.now.position.now pushes.now }
+    requires ready { IsReady parent.now scratch.old }
+    requires undoomed { Undoomed parent.now.level.now parent.now.position.now }
+    requires pushes { ArePushes parent.now.level.now parent.now.position.now pushes.now }
     requires bound { length pushes.now ≤ MAX_SUCCESSORS }
     ensures filled { AreFilled result slots.new }
     ensures successors { (layer : ℕ) →
-        AreSuccessors (uncapped site.now.level.now) layer site.now.position.now
+        AreSuccessors (uncapped parent.now.level.now) layer parent.now.position.now
         (take result slots.new.successors.items) }
-    ensures fits { FitLevel site.now.level.now (take result slots.new.successors.items) }
+    ensures fits { FitLevel parent.now.level.now (take result slots.new.successors.items) }
     ensures kept { scratch.new ≡ scratch.old }
 {
-    let boxes = site.position.boxes();
-    let total = box_sum(site.position);
+    let boxes = parent.position.boxes();
+    let total = box_sum(parent.position);
     let mut place = 0;
     let mut count = 0;
     for push in pushes {
         place = box_from(boxes, place, push.square);
-        count = append_successor(site, total, place, *push, scratch, slots, count);
+        count = append_successor(parent, total, place, *push, scratch, slots, count);
     }
     count
 }
@@ -76,7 +76,7 @@ fn box_from(boxes: &[Square], place: usize, square: Square) -> usize {
 // is the sum of its box squares, and `place` is where the pushed box may be found. The position is made in its slot, so
 // that nothing is copied.
 fn append_successor(
-    site: &Site<'_>,
+    parent: &Parent<'_>,
     total: u32,
     place: usize,
     push: Push,
@@ -84,23 +84,23 @@ fn append_successor(
     slots: &mut Slots,
     count: usize,
 ) -> usize
-    requires ready { IsReady site.now scratch.old }
-    requires undoomed { Undoomed site.now.level.now site.now.position.now }
-    requires possible { CanPush site.now.level.now site.now.position.now push }
-    requires total { total ≡ sum site.now.position.now.boxes }
+    requires ready { IsReady parent.now scratch.old }
+    requires undoomed { Undoomed parent.now.level.now parent.now.position.now }
+    requires possible { CanPush parent.now.level.now parent.now.position.now push }
+    requires total { total ≡ sum parent.now.position.now.boxes }
     requires small { total ≤ 65535 * MAX_BOXES }
     requires place { count < MAX_SUCCESSORS }
     requires filled { AreFilled count slots.old }
     ensures filled { AreFilled result slots.new }
     ensures bound { result ≤ count + 1 }
-    ensures appended { IsAppended site.now.level.now site.now.position.now push
+    ensures appended { IsAppended parent.now.level.now parent.now.position.now push
         (take count slots.old.successors.items) (take result slots.new.successors.items) }
     ensures kept { scratch.new ≡ scratch.old }
 {
     let Push { square, dir } = push;
     have_slot(&mut slots.successors, count);
     let made = make_successor(
-        site,
+        parent,
         place,
         Push { square, dir },
         scratch,
@@ -109,7 +109,7 @@ fn append_successor(
     if !made {
         return count;
     }
-    let ahead = site.level.next(square, dir);
+    let ahead = parent.level.next(square, dir);
     let sum = sum_after(
         total,
         square,
@@ -158,57 +158,57 @@ fn put_sum(sums: &mut ArrayVec<u32, MAX_SUCCESSORS>, count: usize, sum: u32)
 // Writes a push, and the successor that it leads to, into a slot. Returns `false` exactly if it leads to none. The last
 // flood was that of the position before the push.
 fn make_successor(
-    site: &Site<'_>,
+    parent: &Parent<'_>,
     place: usize,
     push: Push,
     scratch: &mut Scratch,
     slot: &mut Successor,
 ) -> bool
-    requires ready { IsReady site.now scratch.old }
-    requires undoomed { Undoomed site.now.level.now site.now.position.now }
-    requires possible { CanPush site.now.level.now site.now.position.now push }
+    requires ready { IsReady parent.now scratch.old }
+    requires undoomed { Undoomed parent.now.level.now parent.now.position.now }
+    requires possible { CanPush parent.now.level.now parent.now.position.now push }
     ensures push { slot.new.push ≡ push }
-    ensures some { IsTrue result → IsSuccessor site.now.level.now site.now.position.now push slot.new.position
-        × FitsLevel site.now.level.now slot.new.position }
-    ensures none { result ≡ false → (m : Scene) → ¬ (IsSuccessor site.now.level.now site.now.position.now push m) }
+    ensures some { IsTrue result → IsSuccessor parent.now.level.now parent.now.position.now push slot.new.position
+        × FitsLevel parent.now.level.now slot.new.position }
+    ensures none { result ≡ false → (m : Scene) → ¬ (IsSuccessor parent.now.level.now parent.now.position.now push m) }
     ensures kept { scratch.new ≡ scratch.old }
 {
     let Push { square, dir } = push;
     slot.push = Push { square, dir };
     let moved = &mut slot.position;
-    make_after(site, place, Push { square, dir }, scratch, moved)
+    make_after(parent, place, Push { square, dir }, scratch, moved)
 }
 
 /// Makes a position the normal one after a push and returns `true`, or returns `false` if the pushed box dooms it. The
 /// last flood was that of the position before the push. `place` is where the pushed box may be found.
 pub(crate) fn make_after(
-    site: &Site<'_>,
+    parent: &Parent<'_>,
     place: usize,
     push: Push,
     scratch: &mut Scratch,
     moved: &mut Position,
 ) -> bool
-    requires ready { IsReady site.now scratch.old }
-    requires possible { CanPush site.now.level.now site.now.position.now push }
+    requires ready { IsReady parent.now scratch.old }
+    requires possible { CanPush parent.now.level.now parent.now.position.now push }
     ensures made { IsTrue result →
-        IsNorm site.now.level.now (after_push site.now.level.now site.now.position.now push) moved.new
-        × FitsLevel site.now.level.now moved.new }
-    ensures undoomed { Undoomed site.now.level.now site.now.position.now →
-        IsTrue result ↔ Undoomed site.now.level.now (after_push site.now.level.now site.now.position.now push) }
+        IsNorm parent.now.level.now (after_push parent.now.level.now parent.now.position.now push) moved.new
+        × FitsLevel parent.now.level.now moved.new }
+    ensures undoomed { Undoomed parent.now.level.now parent.now.position.now →
+        IsTrue result ↔ Undoomed parent.now.level.now (after_push parent.now.level.now parent.now.position.now push) }
     ensures lost { IsFalse result →
-        IsLost site.now.level.now (after_push site.now.level.now site.now.position.now push) }
+        IsLost parent.now.level.now (after_push parent.now.level.now parent.now.position.now push) }
     ensures kept { scratch.new ≡ scratch.old }
 {
     let Push { square, dir } = push;
-    let level = site.level;
-    let position = site.position;
+    let level = parent.level;
+    let position = parent.position;
     let ahead = level.next(square, dir);
-    if site.dead.is_dead(ahead) {
+    if parent.dead.is_dead(ahead) {
         return false;
     }
     moved.copy_from(position);
     moved.push_at(place, square, ahead);
-    let doomed = is_doomed(site, Push { square, dir }, ahead, moved, scratch);
+    let doomed = is_doomed(parent, Push { square, dir }, ahead, moved, scratch);
     if doomed {
         return false;
     }
@@ -218,26 +218,33 @@ pub(crate) fn make_after(
 
 // Whether the pushed box dooms the position after a push to a square that is not dead.
 fn is_doomed(
-    site: &Site<'_>,
+    parent: &Parent<'_>,
     push: Push,
     ahead: Square,
     moved: &Position,
     scratch: &mut Scratch,
 ) -> bool
-    requires ready { IsReady site.now scratch.old }
-    requires possible { CanPush site.now.level.now site.now.position.now push }
-    requires ahead { ahead ≡ next site.now.level.now push.square push.dir }
-    requires live { ¬ (IsDead site.now.level.now (next site.now.level.now push.square push.dir)) }
-    requires moved { moved.now ≡ after_push site.now.level.now site.now.position.now push }
-    ensures same { Undoomed site.now.level.now site.now.position.now →
-        IsTrue result ↔ Doomed site.now.level.now (after_push site.now.level.now site.now.position.now push).boxes }
+    requires ready { IsReady parent.now scratch.old }
+    requires possible { CanPush parent.now.level.now parent.now.position.now push }
+    requires ahead { ahead ≡ next parent.now.level.now push.square push.dir }
+    requires live { ¬ (IsDead parent.now.level.now (next parent.now.level.now push.square push.dir)) }
+    requires moved { moved.now ≡ after_push parent.now.level.now parent.now.position.now push }
+    ensures same { Undoomed parent.now.level.now parent.now.position.now →
+        IsTrue result ↔
+        Doomed parent.now.level.now (after_push parent.now.level.now parent.now.position.now push).boxes }
     ensures lost { IsTrue result →
-        IsLost site.now.level.now (after_push site.now.level.now site.now.position.now push) }
+        IsLost parent.now.level.now (after_push parent.now.level.now parent.now.position.now push) }
     ensures kept { scratch.new ≡ scratch.old }
 {
     let Push { square, dir } = push;
-    if site.dangers.spare(ahead, dir) {
+    if parent.dangers.spare(ahead, dir) {
         return false;
     }
-    doom::doomed_after(site.level, site.dead, moved, Push { square, dir }, scratch)
+    doom::doomed_after(
+        parent.level,
+        parent.dead,
+        moved,
+        Push { square, dir },
+        scratch,
+    )
 }

@@ -18,7 +18,7 @@ use std::thread::Threads;
 
 /// The result of a run, its report, and the numbers of its reads and writes.
 #[derive(Drop)]
-pub(crate) struct Outcome {
+pub(crate) struct RunResult {
     pub(crate) answer: Result<u8, RunFault>,
     pub(crate) text: Vec<u8>,
     pub(crate) reads: usize,
@@ -93,7 +93,7 @@ pub(crate) fn run<R: Threads + Wait + Sync>(
     file: &[u8],
     command: Command<'_>,
     ends: Ends,
-) -> Outcome {
+) -> RunResult {
     let solution = match command {
         Command::Replay(_, solution) => solution,
         _ => b"",
@@ -109,7 +109,7 @@ pub(crate) fn run<R: Threads + Wait + Sync>(
         &mut Reader::new(&mut letters),
         &mut Writer::new(&mut paper),
     );
-    Outcome {
+    RunResult {
         answer,
         reads: pieces.reads,
         solution_reads: letters.reads,
@@ -118,7 +118,7 @@ pub(crate) fn run<R: Threads + Wait + Sync>(
     }
 }
 
-impl Outcome {
+impl RunResult {
     /// Checks that the run wrote this report and returned this status.
     pub(crate) fn is(&self, rt: &impl Abort, report: &[u8], status: u8) {
         assert_eq!(rt; self.answer, Ok(status));

@@ -12,8 +12,8 @@ use Rattle.solo.specs.inside.Together.{AreFinished}
 use Rattle.solo.specs.inside.Turns.{AreBetweenTurns, AreDealt, AreWorkingOn}
 use Rattle.solo.specs.declared.turn.Worked.{Worked}
 use Rattle.crew.specs.declared.config.Config.{Config}
-use Rattle.crew.specs.declared.iteration.Outcome.{Outcome}
-use Rattle.crew.specs.declared.iteration.Outcome.TheVariants.{Onward, Found, Foreign}
+use Rattle.crew.specs.declared.iteration.IterationEnd.{IterationEnd}
+use Rattle.crew.specs.declared.iteration.IterationEnd.TheVariants.{Onward, Found, Foreign}
 
 -- the books of a search by the configuration are between two iterations
 abbrev pub ArePausedBy : Config → Task → List BookView → List (List (Origin Push)) → ℕ → Type 0
@@ -37,8 +37,8 @@ AreWorkedBy config layer worked books =
 
 -- the outcome of an iteration: the search goes on with books that have closed the next layer; or there is an answer; or
 -- other books came back
-abbrev pub IsOutcome : Config → Task → List (List (Origin Push)) → ℕ → ℕ → Outcome → Type 0
-IsOutcome config task trail before positions (Onward books) =
+abbrev pub IsIterationEnd : Config → Task → List (List (Origin Push)) → ℕ → ℕ → IterationEnd → Type 0
+IsIterationEnd config task trail before positions (Onward books) =
     ArePausedBy config task books.items trail positions × (before < positions)
-IsOutcome config task trail before positions (Found answer) = IsAnswer task config.limit answer
-IsOutcome config task trail before positions Foreign = Unit {0}
+IsIterationEnd config task trail before positions (Found answer) = IsAnswer task config.limit answer
+IsIterationEnd config task trail before positions Foreign = Unit {0}

@@ -1,12 +1,13 @@
 -- Laws of sets of squares.
 use Rattle.std.proofs.Common.{◌≡◌, ◌≢◌, ℕ, zero, suc, ◌+◌, ◌<◌, ◌≤◌, Bool, true, false, not, cond, eqb, ltb, leb, ◌&&◌}
-use Rattle.std.proofs.Common.{◌||◌, List, [], ◌∷◌, ◌++◌, length, get_or, ◌⊎◌, inl, inr, refl, sym, ap, ◌∙◌, arith, ◌==◌}
+use Rattle.std.proofs.Common.{◌||◌, List, [], ◌∷◌, ◌++◌, length, get_or, ◌⊎◌, inl, inr, refl, sym, ap, subst, ◌∙◌, arith, ◌==◌}
 use Rattle.std.proofs.lemmas.Bool.{eqb-true, eqb-false, eq-eqb, ne_eqb, ltb-true, ltb-false, leb-true, le-leb}
 use Rattle.std.proofs.lemmas.Bool.{and_parts, and_from, cases_eq, cases_order, true≢false, false≢true, or_cases}
 use Rattle.std.proofs.lemmas.Bool.{or_left, or_right, or_parts}
 use Rattle.std.proofs.Math.Bool.{or-false, and-false}
 use Rattle.std.proofs.lemmas.List.Folds.{list_any-append}
 use Rattle.std.specs.Cmp.{both_ways}
+use Rattle.std.specs.List.{list_all}
 use Rattle.grid.specs.Squares.{Squares, contains, remove, insert}
 use Rattle.grid.specs.Rising.{rises_from, is_rising}
 
@@ -343,6 +344,32 @@ is_rising-push xs q h above = pushed 0 xs (omega arith) h above
         let first = all y (contains_head y ys) in
         rises_from-cons k y (ys ++ q ∷ []) p.0
         (pushed (suc y) ys (omega arith) p.1 (λ x here. all x (contains_tail y ys x here)))
+
+-- every number of a list passes a test where those that the list contains do
+pub all_contained : (test : ℕ → Bool) (xs : List ℕ) → ((q : ℕ) → contains xs q ≡ true → test q ≡ true) → list_all test xs ≡ true
+all_contained test [] f = refl
+all_contained test (x ∷ xs) f =
+    let here : test x ≡ true = f x (head (eqb x x) (eq-eqb x x refl)) in
+    rw here (all_contained test xs (λ q there. f q (tail (eqb x q) there)))
+  where
+    head : (b : Bool) → b ≡ true → (b || contains xs x) ≡ true
+    head true e = refl
+    head false e = absurd (true≢false (sym e))
+
+    tail : {c : Bool} (b : Bool) → c ≡ true → (b || c) ≡ true
+    tail true e = refl
+    tail false e = e
+
+-- and the other way round
+pub contained_all : (test : ℕ → Bool) (xs : List ℕ) → list_all test xs ≡ true → (q : ℕ) → contains xs q ≡ true → test q ≡ true
+contained_all test [] all q there = absurd (true≢false (sym there))
+contained_all test (x ∷ xs) all q there =
+    let both = and_parts (test x) (list_all test xs) all in
+    by (eqb x q) refl (contained_all test xs both.1 q) both.0
+  where
+    by : (b : Bool) → eqb x q ≡ b → (contains xs q ≡ true → test q ≡ true) → test x ≡ true → test q ≡ true
+    by true e later here = subst (λ (n : ℕ). test n ≡ true) (eqb-true x q e) here
+    by false e later here = later (rw e at there)
 
 -- a set of squares below n has at most n members
 pub length-le_bound : (xs : Squares) (n : ℕ) → is_rising xs ≡ true → ((q : ℕ) → contains xs q ≡ true → q < n)

@@ -7,7 +7,7 @@ use std::process::Abort;
 
 /// The layer of a parcel: the last one that the book has closed, layer 0, or layer 0 of another level.
 #[derive(Clone, Copy)]
-enum Origin {
+enum ParcelLayer {
     Last,
     First,
     Foreign,
@@ -15,13 +15,13 @@ enum Origin {
 
 /// A call of a book, with its result.
 #[derive(Clone, Copy)]
-enum Event {
+enum BookCall {
     /// Begins its last layer.
     Begins(Result<(), BeginFault>),
     /// Claims a rank.
     Claims(Option<Claim>),
     /// Hands back the parcel of a rank, for a worker.
-    Takes(Origin, u8, u64, Result<(), Refusal>),
+    Takes(ParcelLayer, u8, u64, Result<(), Refusal>),
     /// Frees all claims.
     Reopens,
     /// Closes the next layer.
@@ -31,55 +31,55 @@ enum Event {
 }
 
 /// A parcel twice, and then one of another level.
-const ONCE: &[Event] = &[
-    Event::Begins(Ok(())),
-    Event::Takes(Origin::Last, 1, 0, Ok(())),
-    Event::Tells(0, true, [0, 1, 0]),
-    Event::Takes(Origin::Last, 2, 0, Err(Refusal::Double)),
-    Event::Tells(0, true, [0, 1, 0]),
-    Event::Takes(Origin::Foreign, 0, 0, Err(Refusal::OtherLevel)),
-    Event::Tells(0, true, [0, 1, 0]),
-    Event::Closes(Ok(Closed { layer: 1, count: 2 })),
-    Event::Tells(1, false, [0, 1, 0]),
+const ONCE: &[BookCall] = &[
+    BookCall::Begins(Ok(())),
+    BookCall::Takes(ParcelLayer::Last, 1, 0, Ok(())),
+    BookCall::Tells(0, true, [0, 1, 0]),
+    BookCall::Takes(ParcelLayer::Last, 2, 0, Err(Refusal::Double)),
+    BookCall::Tells(0, true, [0, 1, 0]),
+    BookCall::Takes(ParcelLayer::Foreign, 0, 0, Err(Refusal::OtherLevel)),
+    BookCall::Tells(0, true, [0, 1, 0]),
+    BookCall::Closes(Ok(Closed { layer: 1, count: 2 })),
+    BookCall::Tells(1, false, [0, 1, 0]),
 ];
 
 /// A claim that never comes back.
-const CLAIMED: &[Event] = &[
-    Event::Claims(None),
-    Event::Begins(Ok(())),
-    Event::Claims(Some(Claim { layer: 0, rank: 0 })),
-    Event::Claims(None),
-    Event::Closes(Err(CloseFault::NotAll)),
-    Event::Reopens,
-    Event::Claims(Some(Claim { layer: 0, rank: 0 })),
+const CLAIMED: &[BookCall] = &[
+    BookCall::Claims(None),
+    BookCall::Begins(Ok(())),
+    BookCall::Claims(Some(Claim { layer: 0, rank: 0 })),
+    BookCall::Claims(None),
+    BookCall::Closes(Err(CloseFault::NotAll)),
+    BookCall::Reopens,
+    BookCall::Claims(Some(Claim { layer: 0, rank: 0 })),
 ];
 
 /// Parcels before the layer has begun, of another layer, unclaimed, twice, and of another level; a layer that begins
 /// twice, and one that closes too early.
-const STRANGE: &[Event] = &[
-    Event::Takes(Origin::Last, 0, 0, Err(Refusal::NoSuchRank)),
-    Event::Takes(Origin::First, 0, 0, Err(Refusal::OtherLayer)),
-    Event::Begins(Ok(())),
-    Event::Begins(Err(BeginFault::OtherLayer)),
-    Event::Takes(Origin::Last, 0, 1, Ok(())),
-    Event::Takes(Origin::Last, 0, 1, Err(Refusal::Double)),
-    Event::Takes(Origin::Foreign, 0, 0, Err(Refusal::OtherLevel)),
-    Event::Claims(Some(Claim { layer: 1, rank: 0 })),
-    Event::Claims(None),
-    Event::Reopens,
-    Event::Claims(Some(Claim { layer: 1, rank: 0 })),
-    Event::Closes(Err(CloseFault::NotAll)),
-    Event::Takes(Origin::Last, 0, 0, Ok(())),
-    Event::Closes(Ok(Closed { layer: 2, count: 1 })),
+const STRANGE: &[BookCall] = &[
+    BookCall::Takes(ParcelLayer::Last, 0, 0, Err(Refusal::NoSuchRank)),
+    BookCall::Takes(ParcelLayer::First, 0, 0, Err(Refusal::OtherLayer)),
+    BookCall::Begins(Ok(())),
+    BookCall::Begins(Err(BeginFault::OtherLayer)),
+    BookCall::Takes(ParcelLayer::Last, 0, 1, Ok(())),
+    BookCall::Takes(ParcelLayer::Last, 0, 1, Err(Refusal::Double)),
+    BookCall::Takes(ParcelLayer::Foreign, 0, 0, Err(Refusal::OtherLevel)),
+    BookCall::Claims(Some(Claim { layer: 1, rank: 0 })),
+    BookCall::Claims(None),
+    BookCall::Reopens,
+    BookCall::Claims(Some(Claim { layer: 1, rank: 0 })),
+    BookCall::Closes(Err(CloseFault::NotAll)),
+    BookCall::Takes(ParcelLayer::Last, 0, 0, Ok(())),
+    BookCall::Closes(Ok(Closed { layer: 2, count: 1 })),
 ];
 
 /// A parcel that brings the book over its limit.
-const OVER: &[Event] = &[
-    Event::Begins(Ok(())),
-    Event::Takes(Origin::Last, 0, 0, Err(Refusal::Over)),
-    Event::Takes(Origin::Last, 0, 0, Err(Refusal::Over)),
-    Event::Takes(Origin::Foreign, 0, 0, Err(Refusal::OtherLevel)),
-    Event::Closes(Err(CloseFault::NotAll)),
+const OVER: &[BookCall] = &[
+    BookCall::Begins(Ok(())),
+    BookCall::Takes(ParcelLayer::Last, 0, 0, Err(Refusal::Over)),
+    BookCall::Takes(ParcelLayer::Last, 0, 0, Err(Refusal::Over)),
+    BookCall::Takes(ParcelLayer::Foreign, 0, 0, Err(Refusal::OtherLevel)),
+    BookCall::Closes(Err(CloseFault::NotAll)),
 ];
 
 #[test]
@@ -105,7 +105,7 @@ fn check_book(
     limit: u32,
     foreign: &Layer,
     goes_on: bool,
-    events: &[Event],
+    events: &[BookCall],
 ) {
     let mut book = book_of(rt, alloc, TWO_ENDS, limit);
     check_answers(rt, alloc, &mut book, foreign, goes_on, events);
@@ -119,7 +119,7 @@ fn check_answers(
     book: &mut Book,
     foreign: &Layer,
     goes_on: bool,
-    events: &[Event],
+    events: &[BookCall],
 ) {
     let first = joined(rt, alloc, book);
     if goes_on {
@@ -136,7 +136,7 @@ fn check_next(
     book: &mut Book,
     first: &Layer,
     foreign: &Layer,
-    events: &[Event],
+    events: &[BookCall],
 ) {
     work_through(rt, alloc, book, first, false);
     let last = joined(rt, alloc, book);
@@ -149,7 +149,7 @@ fn check_events(
     alloc: Global,
     book: &mut Book,
     layers: [&Layer; 3],
-    events: &[Event],
+    events: &[BookCall],
 ) {
     for event in events {
         check_event(rt, alloc, book, layers, *event);
@@ -157,23 +157,29 @@ fn check_events(
 }
 
 // Checks a call of a book.
-fn check_event(rt: &impl Abort, alloc: Global, book: &mut Book, layers: [&Layer; 3], event: Event) {
+fn check_event(
+    rt: &impl Abort,
+    alloc: Global,
+    book: &mut Book,
+    layers: [&Layer; 3],
+    event: BookCall,
+) {
     let [last, first, foreign] = layers;
     match event {
-        Event::Begins(answer) => assert_eq!(rt; book.begin(last), answer),
-        Event::Claims(answer) => assert_eq!(rt; book.claim(), answer),
-        Event::Takes(Origin::Last, worker, rank, answer) => {
+        BookCall::Begins(answer) => assert_eq!(rt; book.begin(last), answer),
+        BookCall::Claims(answer) => assert_eq!(rt; book.claim(), answer),
+        BookCall::Takes(ParcelLayer::Last, worker, rank, answer) => {
             check_parcel(rt, alloc, book, worker, last, rank, answer);
         }
-        Event::Takes(Origin::First, worker, rank, answer) => {
+        BookCall::Takes(ParcelLayer::First, worker, rank, answer) => {
             check_parcel(rt, alloc, book, worker, first, rank, answer);
         }
-        Event::Takes(Origin::Foreign, worker, rank, answer) => {
+        BookCall::Takes(ParcelLayer::Foreign, worker, rank, answer) => {
             check_parcel(rt, alloc, book, worker, foreign, rank, answer);
         }
-        Event::Reopens => book.reopen(),
-        Event::Closes(answer) => assert_eq!(rt; book.close(), answer),
-        Event::Tells(layer, begun, tallies) => check_told(rt, book, layer, begun, tallies),
+        BookCall::Reopens => book.reopen(),
+        BookCall::Closes(answer) => assert_eq!(rt; book.close(), answer),
+        BookCall::Tells(layer, begun, tallies) => check_told(rt, book, layer, begun, tallies),
     }
 }
 

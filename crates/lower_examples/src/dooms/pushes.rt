@@ -5,7 +5,7 @@ use super::{
     ABOVE_A_FREE_BOX, BESIDE_A_FREE_BOX, COLUMN_AT_WALL, DEAD_ELSEWHERE, THERE_AND_BACK,
     THREE_BEFORE, THREE_FREE, THREE_FROZEN, TWO_ENDS,
 };
-use crate::boards::{Text, level_of};
+use crate::boards::{BoardText, level_of};
 use area::Scratch;
 use doom::{Dangers, Dead, doomed, doomed_after};
 use grid::{Dir, Level, Position, Push, Square};
@@ -99,7 +99,7 @@ pub(crate) fn verdicts(
 fn verdicts_at_start(
     rt: &impl Abort,
     alloc: Global,
-    board: Text,
+    board: BoardText,
     square: u16,
     dir: Dir,
 ) -> (bool, bool) {

@@ -3,7 +3,7 @@ ghost use Rattle.std.specs.Prelude.{◌≡◌, length};
 ghost use Rattle.grid.specs.States.{FitsLevel};
 
 use super::PAIR;
-use crate::boards::{Text, level_of};
+use crate::boards::{BoardText, level_of};
 use area::{Scratch, possible_pushes};
 use arrayvec::ArrayVec;
 use grid::{Dir, Level, Position, Square};
@@ -11,7 +11,7 @@ use std::alloc::Global;
 use std::process::Abort;
 
 // A field of two words of squares, with two boxes.
-const FIELD: Text = (
+const FIELD: BoardText = (
     10,
     b"###########@$.     ##  $.    ##        ##        ##        ##        ##        ###########",
 );
@@ -41,7 +41,7 @@ fn allows(
 
 #[test]
 fn boxes_are_pushed_from_reached_squares_onto_free_ones(rt: HostRuntime) {
-    let rows: [(Text, [u16; 2], u16, &[(u16, Dir)]); 6] = [
+    let rows: [(BoardText, [u16; 2], u16, &[(u16, Dir)]); 6] = [
         (PAIR, [13, 20], 7, &[(13, Dir::D), (20, Dir::L)]),
         (PAIR, [8, 9], 7, &[]),
         (PAIR, [9, 15], 7, &[(9, Dir::L), (9, Dir::R)]),

@@ -3,7 +3,7 @@ use Rattle.std.specs.Prelude.{◌==◌, ◌&&◌, ℕ, suc, Bool, cond, nat_le, 
 use Rattle.std.specs.Prelude.{take, drop}
 use Rattle.prices.specs.declared.table.Side.{Side}
 use Rattle.prices.specs.declared.table.Spot.{Spot}
-use Rattle.prices.specs.declared.table.Table.{Table}
+use Rattle.prices.specs.declared.table.DistanceTable.{DistanceTable}
 
 -- the number is one of the side
 abbrev pub has_number : Side → ℕ → Bool
@@ -27,7 +27,7 @@ abbrev pub row_start : List Spot → List Side → ℕ → ℕ → ℕ
 row_start spots sides b p = row_by (sides_of spots sides b) (spot_of spots p).number (spot_of spots b).row
 
 -- the distances of a box, the player being on the second square
-abbrev pub row_in : Table → ℕ → ℕ → List ℕ
+abbrev pub row_in : DistanceTable → ℕ → ℕ → List ℕ
 row_in t b p = take (length t.goals.items) (drop (row_start t.spots.items t.sides.items b p) t.far.items)
 
 -- the first place of a square among some; their number where it is not among them
@@ -40,5 +40,5 @@ abbrev pub number_of : List ℕ → List ℕ → ℕ → ℕ
 number_of goals xs g = slice_index_or xs (place_in goals g) 0
 
 -- how far the goal is from a box, the player being on the third square
-abbrev pub far_in : Table → ℕ → ℕ → ℕ → ℕ
+abbrev pub far_in : DistanceTable → ℕ → ℕ → ℕ → ℕ
 far_in t g b p = number_of t.goals.items (row_in t b p) g

@@ -14,11 +14,11 @@ use std::sync::{Mutex, Wait};
 
 /// A gate that stops a worker at its event of this number.
 #[derive(Drop)]
-struct Closed {
+struct ClosedGate {
     nth: u64,
 }
 
-impl Gate for Closed {
+impl Gate for ClosedGate {
     ghost may_stop = { true };
 
     fn pass(&self, _layer: u64, _worker: u8, nth: u64) -> bool {
@@ -64,7 +64,7 @@ fn a_gate_stops_a_worker_that_drew(rt: HostRuntime) {
     let alloc = rt.alloc();
     let (book, layer) = begun(&rt, alloc);
     let (ledger, mut other, own) = one_number(&rt, alloc);
-    let gate = Closed { nth: 1 };
+    let gate = ClosedGate { nth: 1 };
     let (end, mut book) = worked(&rt, alloc, &layer, book, &ledger, own, 1, 0, &gate);
     assert!(rt; end == End::Stopped);
     assert!(rt; book.claim() == Some(FIRST), "the book is as it was");
@@ -77,7 +77,7 @@ fn a_gate_stops_a_worker_that_drew(rt: HostRuntime) {
 fn a_gate_stops_a_worker_that_handed_back(rt: HostRuntime) {
     let alloc = rt.alloc();
     let (book, layer) = begun(&rt, alloc);
-    let (end, mut book) = over_one(&rt, alloc, &layer, book, 0, &Closed { nth: 2 });
+    let (end, mut book) = over_one(&rt, alloc, &layer, book, 0, &ClosedGate { nth: 2 });
     assert!(rt; end == End::Stopped);
     assert!(rt; again(&rt, alloc, &layer, &mut book) == Err(Refusal::Double));
     drop(book);

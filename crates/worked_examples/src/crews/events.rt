@@ -48,7 +48,7 @@ const TURNS: u32 = 20_000_000;
 /// of them have had one. It holds the worker whose turn it is until there are more events than the layer has ranks, so
 /// that another worker has handed back a parcel.
 #[derive(Drop)]
-struct Meeting {
+struct MeetingGate {
     layer: u64,
     ranks: u64,
     turn: u64,
@@ -61,13 +61,13 @@ struct Meeting {
     last: Vec<AtomicU64>,
 }
 
-impl Meeting {
-    fn new(rt: &impl Abort, alloc: Global, room: Counted, workers: u8, turn: u8) -> Meeting {
+impl MeetingGate {
+    fn new(rt: &impl Abort, alloc: Global, room: Counted, workers: u8, turn: u8) -> MeetingGate {
         let mut last = Vec::new(alloc);
         for _ in 0..workers {
             last.push(AtomicU64::new(0)).expect(rt, "memory");
         }
-        Meeting {
+        MeetingGate {
             layer: room.layer,
             ranks: room.ranks,
             turn: turn as u64,
@@ -106,7 +106,7 @@ impl Meeting {
     }
 }
 
-impl Gate for Meeting {
+impl Gate for MeetingGate {
     ghost may_stop = { false };
 
     fn pass(&self, layer: u64, worker: u8, nth: u64) -> bool {
@@ -136,7 +136,7 @@ fn check<R: Threads + Wait + Sync + Abort>(
     locks: u8,
     turn: u8,
 ) {
-    let gate = Meeting::new(rt, alloc, room, workers, turn);
+    let gate = MeetingGate::new(rt, alloc, room, workers, turn);
     check_answer(rt, alloc, room, workers, locks, &gate);
     check_gate(rt, &gate, locks);
 }
@@ -148,7 +148,7 @@ fn check_answer<R: Threads + Wait + Sync + Abort>(
     room: Counted,
     workers: u8,
     locks: u8,
-    gate: &Meeting,
+    gate: &MeetingGate,
 ) {
     let level = level_of(rt, alloc, room.text);
     let config = Config {
@@ -172,7 +172,7 @@ fn check_answer<R: Threads + Wait + Sync + Abort>(
 
 /// Checks that no wait has failed, that each worker had events, numbered from 1, and that their number is that of the
 /// ranks, each drawn once and handed back once to each book.
-fn check_gate(rt: &impl Abort, gate: &Meeting, locks: u8) {
+fn check_gate(rt: &impl Abort, gate: &MeetingGate, locks: u8) {
     let workers = gate.workers;
     assert_eq!(rt;
         gate.ran_out.load(Ordering::SeqCst),

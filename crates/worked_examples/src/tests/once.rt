@@ -1,6 +1,6 @@
 //! One call of a source or a sink calls std's reader or writer once, and reports its result: an end of file in the
 //! midst of the bytes, and failures of each kind. The reader or writer would go on if it were called again.
-use super::Outcome;
+use super::RunResult;
 use crate::Paper;
 use crate::boards::ONE;
 use sokopar::{Reader, RunFault, Writer, run_check};
@@ -68,7 +68,7 @@ impl Write for Stuck {
 }
 
 /// The result of checking a level whose second read fails with this kind, or gives no bytes.
-fn read_once(alloc: Global, fails: Option<ErrorKind>) -> Outcome {
+fn read_once(alloc: Global, fails: Option<ErrorKind>) -> RunResult {
     let mut source = Broken {
         bytes: ONE,
         fails,
@@ -80,7 +80,7 @@ fn read_once(alloc: Global, fails: Option<ErrorKind>) -> Outcome {
         &mut Reader::new(&mut source),
         &mut Writer::new(&mut paper),
     );
-    Outcome {
+    RunResult {
         answer,
         reads: source.reads,
         solution_reads: 0,

@@ -13,9 +13,9 @@ use std::sync::{Arc, Wait};
 use std::thread::Threads;
 
 /// A level, and its answer: pushes, positions and moves.
-type Worked = (&'static [u8], (u64, u64, &'static [u8]));
+type LevelAnswer = (&'static [u8], (u64, u64, &'static [u8]));
 
-const LEVELS: [Worked; 3] = [
+const LEVELS: [LevelAnswer; 3] = [
     (CORNER, (2, 4, b"uLdlU")),
     (TWO_ENDS, (2, 4, b"LrR")),
     (THERE_AND_BACK, (6, 7, b"RRdrruLLLL")),

@@ -13,12 +13,12 @@ hand_to-requires g c =
 pub returns-in_err-hand_to-clause-ends : goal.returns-in_err-hand_to-clause-ends
 returns-in_err-hand_to-clause-ends g c = λ hand. (
     let is = c.in_err-hand_to.ensures in
-    let ended : HasEnded g.G.Gate.may_stop c.args.post.now.shift.now.layer c.args.post.now.shift.now.workers c.args.post.now.worker hand
+    let ended : HasEnded g.G.Gate.may_stop c.args.worker.now.shared.now.layer c.args.worker.now.shared.now.workers c.args.worker.now.number hand
     c.in_err-hand_to.field-0.0 = record { may = is.end; left = is.hand hand; answered = is.answered } in search (rules, ended))
 
 pub returns-in_err-hand_to-clause-gate : goal.returns-in_err-hand_to-clause-gate
 returns-in_err-hand_to-clause-gate g c =
-    let may = g.G.Gate.may_answer c.args.post.now.shift.now.gate c.args.post.now.shift.now.layer.number c.args.post.now.worker in
+    let may = g.G.Gate.may_answer c.args.worker.now.shared.now.gate c.args.worker.now.shared.now.layer.number c.args.worker.now.number in
     let nth = c.loop-parcel.nth in let after = c.hand_to.new.nth in let end = c.in_err-hand_to.field-0.0 in
     let ended = cut_off may c.loop-parcel.parcel-index 1 (length c.args.batch.now) c.args.nth.now nth after end (omega (arith, c.loop-parcel-test.true))
     c.loop-parcel.invariant (ends_at_once may nth after end c.in_err-hand_to.ensures.gate) in search (rules, ended)

@@ -16,15 +16,15 @@ returns-in-Err-clause-ends g c = c.in-Err.ensures.ends c.loop.drawer.hand
 
 pub returns-in-Err-clause-gate : goal.returns-in-Err-clause-gate
 returns-in-Err-clause-gate g c = λ hand left.
-    let may = g.G.Gate.may_answer c.args.post.now.shift.now.gate c.args.post.now.shift.now.layer.number c.args.post.now.worker in
-    let books = c.args.post.now.shift.now.books in let filled = c.loop.filled in let batch = take filled c.loop.parcels in
+    let may = g.G.Gate.may_answer c.args.worker.now.shared.now.gate c.args.worker.now.shared.now.layer.number c.args.worker.now.number in
+    let books = c.args.worker.now.shared.now.books in let filled = c.loop.filled in let batch = take filled c.loop.parcels in
     asks_handing may books filled (books * length batch) c.loop.nth c.hand_batch.new.nth hand c.loop.drawer.hand c.in-Err.end
     (ap (λ n. books * n) (length-take-le filled c.loop.parcels c.loop.invariant.2)) (c.loop.invariant.5 hand left) c.in-Err.ensures.gate
 
 pub returns-in-Err-draw_batch-clause-gate : goal.returns-in-Err-draw_batch-clause-gate
 returns-in-Err-draw_batch-clause-gate g c = λ hand left.
-    let may = g.G.Gate.may_answer c.args.post.now.shift.now.gate c.args.post.now.shift.now.layer.number c.args.post.now.worker in
-    let books = c.args.post.now.shift.now.books in let filled = c.loop.filled in let batch = take filled c.loop.parcels in
+    let may = g.G.Gate.may_answer c.args.worker.now.shared.now.gate c.args.worker.now.shared.now.layer.number c.args.worker.now.number in
+    let books = c.args.worker.now.shared.now.books in let filled = c.loop.filled in let batch = take filled c.loop.parcels in
     let handed = has_handed may books filled (books * length batch) c.loop.nth c.hand_batch.new.nth hand c.loop.drawer.hand
     (ap (λ n. books * n) (length-take-le filled c.loop.parcels c.loop.invariant.2)) (c.loop.invariant.5 hand left) c.in_default.ensures.goes_on in
     asks_drawing may books c.hand_batch.new.nth c.draw_batch.new.nth hand c.loop.drawer.hand c.draw_batch.new.drawer.hand c.in-Err-draw_batch.end handed
@@ -32,19 +32,19 @@ returns-in-Err-draw_batch-clause-gate g c = λ hand left.
 
 pub returns-then-filled-eq0-clause-gate : goal.returns-then-filled-eq0-clause-gate
 returns-then-filled-eq0-clause-gate g c = λ hand left.
-    let may = g.G.Gate.may_answer c.args.post.now.shift.now.gate c.args.post.now.shift.now.layer.number c.args.post.now.worker in
-    let books = c.args.post.now.shift.now.books in let filled = c.loop.filled in let batch = take filled c.loop.parcels in let is = c.in-Ok.ensures in
+    let may = g.G.Gate.may_answer c.args.worker.now.shared.now.gate c.args.worker.now.shared.now.layer.number c.args.worker.now.number in
+    let books = c.args.worker.now.shared.now.books in let filled = c.loop.filled in let batch = take filled c.loop.parcels in let is = c.in-Ok.ensures in
     let later = c.draw_batch.new.drawer.hand in let count = c.in-Ok.count in
     let handed = has_handed may books filled (books * length batch) c.loop.nth c.hand_batch.new.nth hand c.loop.drawer.hand
     (ap (λ n. books * n) (length-take-le filled c.loop.parcels c.loop.invariant.2)) (c.loop.invariant.5 hand left) c.in_default.ensures.goes_on in
     let drawn = has_drawn may books count c.hand_batch.new.nth c.draw_batch.new.nth hand c.loop.drawer.hand later
-    (batch_long c.args.post.now.shift.now.layer c.loop.drawer.hand later count c.draw_batch.new.parcels is.fits is.batch) handed is.goes_on in
+    (batch_long c.args.worker.now.shared.now.layer c.loop.drawer.hand later count c.draw_batch.new.parcels is.fits is.batch) handed is.goes_on in
     asks_drained may books c.draw_batch.new.nth hand later (subst (λ n. HasLeft may books n hand later c.draw_batch.new.nth) c.if-filled-eq0.true drawn)
 
 pub loop-preserved : goal.loop-preserved
 loop-preserved g c =
-    let may = g.G.Gate.may_answer c.args.post.now.shift.now.gate c.args.post.now.shift.now.layer.number c.args.post.now.worker in
-    let books = c.args.post.now.shift.now.books in let filled = c.loop.filled in let batch = take filled c.loop.parcels in let is = c.in-Ok.ensures in
+    let may = g.G.Gate.may_answer c.args.worker.now.shared.now.gate c.args.worker.now.shared.now.layer.number c.args.worker.now.number in
+    let books = c.args.worker.now.shared.now.books in let filled = c.loop.filled in let batch = take filled c.loop.parcels in let is = c.in-Ok.ensures in
     let later = c.draw_batch.new.drawer.hand in let count = c.in-Ok.count in (
       tt,
       tt,
@@ -54,5 +54,5 @@ loop-preserved g c =
       λ hand left. (let handed = has_handed may books filled (books * length batch) c.loop.nth c.hand_batch.new.nth hand c.loop.drawer.hand
           (ap (λ n. books * n) (length-take-le filled c.loop.parcels c.loop.invariant.2)) (c.loop.invariant.5 hand left) c.in_default.ensures.goes_on in
           has_drawn may books count c.hand_batch.new.nth c.draw_batch.new.nth hand c.loop.drawer.hand later
-          (batch_long c.args.post.now.shift.now.layer c.loop.drawer.hand later count c.draw_batch.new.parcels is.fits is.batch) handed is.goes_on),
+          (batch_long c.args.worker.now.shared.now.layer c.loop.drawer.hand later count c.draw_batch.new.parcels is.fits is.batch) handed is.goes_on),
     )

@@ -4,21 +4,21 @@ use Rattle.crew.proofs.worker.work_enrolled.Goals as goal
 
 pub returns-in-Err-clause-gate : goal.returns-in-Err-clause-gate
 returns-in-Err-clause-gate g c =
-    let may = g.G.Gate.may_answer c.args.post.now.shift.now.gate c.args.post.now.shift.now.layer.number c.args.post.now.worker in
-    asks_drawn may c.args.post.now.shift.now.books c.draw.new.nth c.args.drawer.now.hand c.draw.new.drawer.hand c.in-Err.end c.in-Err.ensures.gate
+    let may = g.G.Gate.may_answer c.args.worker.now.shared.now.gate c.args.worker.now.shared.now.layer.number c.args.worker.now.number in
+    asks_drawn may c.args.worker.now.shared.now.books c.draw.new.nth c.args.drawer.now.hand c.draw.new.drawer.hand c.in-Err.end c.in-Err.ensures.gate
 
 pub returns-then-is_empty-clause-gate : goal.returns-then-is_empty-clause-gate
 returns-then-is_empty-clause-gate g c =
-    let may = g.G.Gate.may_answer c.args.post.now.shift.now.gate c.args.post.now.shift.now.layer.number c.args.post.now.worker in
-    let books = c.args.post.now.shift.now.books in let is = c.in-Ok.ensures in
+    let may = g.G.Gate.may_answer c.args.worker.now.shared.now.gate c.args.worker.now.shared.now.layer.number c.args.worker.now.number in
+    let books = c.args.worker.now.shared.now.books in let is = c.in-Ok.ensures in
     let first = c.args.drawer.now.hand in let later = c.draw.new.drawer.hand in
     let long = ap length is.drawn ∙ length-append first.numbers (c.in-Ok.rank ∷ []) in
     c.by_batches.ensures.gate first (has_drawn may books 1 0 c.draw.new.nth first first later long (has_none may books first) (0, refl, is.goes_on))
 
 pub returns-clause-gate : goal.returns-clause-gate
 returns-clause-gate g c =
-    let may = g.G.Gate.may_answer c.args.post.now.shift.now.gate c.args.post.now.shift.now.layer.number c.args.post.now.worker in
-    let books = c.args.post.now.shift.now.books in let is = c.in-Ok.ensures in
+    let may = g.G.Gate.may_answer c.args.worker.now.shared.now.gate c.args.worker.now.shared.now.layer.number c.args.worker.now.number in
+    let books = c.args.worker.now.shared.now.books in let is = c.in-Ok.ensures in
     let first = c.args.drawer.now.hand in let later = c.draw.new.drawer.hand in
     let long = ap length is.drawn ∙ length-append first.numbers (c.in-Ok.rank ∷ []) in
     c.by_batches-2.ensures.gate first (has_drawn may books 1 0 c.draw.new.nth first first later long (has_none may books first) (0, refl, is.goes_on))

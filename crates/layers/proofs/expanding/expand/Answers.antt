@@ -5,7 +5,7 @@ use Rattle.layers.proofs.expanding.expand.Goals as goal
 
 pub returns-clause-successors : goal.returns-clause-successors
 returns-clause-successors c =
-    let s = c.source_of-source.result in let v = c.args.layer.now in
-    of_place v.places c.args.rank s.position c.source_of-source.ensures.place (capped c.level.result.now s.cap) v.level
-    ((λ i. capped (c.level.ensures i) s.cap) ∙ c.source_of-source.ensures.level) s.layer
-    v.number c.source_of-source.ensures.of.0 c.of.result.successors c.of.ensures.successors
+    let s = c.ranked_position-ranked.result in let v = c.args.layer.now in
+    of_place v.places c.args.rank s.position c.ranked_position-ranked.ensures.place (capped c.level.result.now s.cap) v.level
+    ((λ i. capped (c.level.ensures i) s.cap) ∙ c.ranked_position-ranked.ensures.level) s.layer
+    v.number c.ranked_position-ranked.ensures.of.0 c.of.result.successors c.of.ensures.successors

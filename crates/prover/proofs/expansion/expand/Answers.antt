@@ -34,7 +34,7 @@ returns-clause-searched c =
     let place = c.args.place in
     let now = c.in_ok-take_all.ensures in
     let middle = c.take_all.new.frontier.entries in
-    let next = c.take_all.new.desk.next in
+    let next = c.take_all.new.workspace.next in
     let waits = c.requires.waits in
     let x = waits.entry in
     let pushes : c.pushes.result ≡ x.pushes = c.pushes.ensures x waits.at in
@@ -61,5 +61,5 @@ returns-clause-fewer_turns c =
     let there : slice_get middle place ≡ Some x = now.widens.below place x waits.at (omega (arith, pushes)) in
     on_ok_so c.set_least.result (λ has.
     turns_expanded c.args.pruner.now.cap c.args.frontier.now.entries middle c.set_least.new.self.entries place waits.least c.args.reach x
-    c.take_all.new.desk.next (omega arith) now.widens.goes_on there waits.is_open waits.near now.later has)
+    c.take_all.new.workspace.next (omega arith) now.widens.goes_on there waits.is_open waits.near now.later has)
     c.set_least.ensures.set

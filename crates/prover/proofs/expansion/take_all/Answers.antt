@@ -24,7 +24,7 @@ find_pushes-requires c = record {
 pub try_push-requires-clause-possible : goal.try_push-requires-clause-possible
 try_push-requires-clause-possible c =
     let was = c.loop-index.invariant in
-    let ps = c.loop-index.desk.expander.pushes in
+    let ps = c.loop-index.workspace.expander.pushes in
     let p = c.index-pushes-index.result in
     let end : length c.pushes-index-end.result.now ≡ length c.find_pushes.new.self.pushes = ap length c.pushes-index-end.ensures in
     let same : length ps ≡ length c.find_pushes.new.self.pushes = ap (λ (v : ExpanderView). length v.pushes) was.same in
@@ -40,23 +40,23 @@ loop-index-preserved c =
     let s = c.args.from.now.position in
     let k = c.args.from.now.pushes in
     let was = c.loop-index.invariant in
-    let ps = c.loop-index.desk.expander.pushes in
+    let ps = c.loop-index.workspace.expander.pushes in
     let p = c.index-pushes-index.result in
     let now = c.in_ok-try_push.ensures in
     let kept = c.try_push.ensures.kept in
     let before = c.loop-index.frontier.entries in
     let after = c.try_push.new.frontier.entries in
-    let desk = c.try_push.new.desk in
+    let workspace = c.try_push.new.workspace in
     let only = c.find-only.result in
     let end : length c.pushes-index-end.result.now ≡ length c.find_pushes.new.self.pushes = ap length c.pushes-index-end.ensures in
     let same : length ps ≡ length c.find_pushes.new.self.pushes = ap (λ (v : ExpanderView). length v.pushes) was.same in
     let read : length c.pushes.result.now ≡ length ps = ap length c.pushes.ensures in
     let here = read_push c.pushes.result.now ps c.loop-index.index p c.pushes.ensures
     (omega (arith, end, same, read, c.loop-index-test.true)) c.index-pushes-index.is in
-    let held = c.loop-index.desk.corral.held in
-    let next = desk.next in
+    let held = c.loop-index.workspace.corral.held in
+    let next = workspace.next in
     let lower = tighter cap next in
-    let narrowed = are_taken_less board (tighter cap c.loop-index.desk.next) lower before (IsChosen only held) k s ps c.loop-index.index
+    let narrowed = are_taken_less board (tighter cap c.loop-index.workspace.next) lower before (IsChosen only held) k s ps c.loop-index.index
     now.defers.narrows was.taken in
     let taken = taken_more board lower before after (IsChosen only held) k s ps c.loop-index.index p now.widens.still here narrowed now.taken in
     record {
@@ -65,7 +65,7 @@ loop-index-preserved c =
       same = kept.0 ∙ was.same;
       corral = kept.1 ∙ was.corral;
       expanding = expanding_on board cap c.loop-index.frontier c.try_push.new.frontier c.args.from.now was.expanding now.widens;
-      taken = subst (λ (v : SetsView). AreTaken board lower after (IsChosen only v.held) k s desk.expander.pushes (c.loop-index.index + 1)) (sym kept.1)
+      taken = subst (λ (v : SetsView). AreTaken board lower after (IsChosen only v.held) k s workspace.expander.pushes (c.loop-index.index + 1)) (sym kept.1)
           (subst (λ (v : ExpanderView). AreTaken board lower after (IsChosen only held) k s v.pushes (c.loop-index.index + 1)) (sym kept.0) taken);
       later = now.defers.later was.later;
       widens = widens_then board cap k c.args.frontier.now c.loop-index.frontier c.try_push.new.frontier was.widens now.widens;
@@ -78,9 +78,9 @@ returns-clause-expands c =
     let s = c.args.from.now.position in
     let k = c.args.from.now.pushes in
     let was = c.loop-index.invariant in
-    let ps = c.loop-index.desk.expander.pushes in
+    let ps = c.loop-index.workspace.expander.pushes in
     let only = c.find-only.result in
-    let held = c.loop-index.desk.corral.held in
+    let held = c.loop-index.workspace.corral.held in
     let left = c.left-left.result in
     let fits = expanding_fits board cap c.args.frontier.now c.args.from.now c.requires.expanding in
     let end : length c.pushes-index-end.result.now ≡ length c.find_pushes.new.self.pushes = ap length c.pushes-index-end.ensures in
@@ -94,6 +94,6 @@ returns-clause-expands c =
           (c.find-only.ensures told m (subst (λ (v : SlackView). Allows v.left m) (sym c.of-slack.ensures) allowed))),
     ) in
     let level : IsLevel board = subst (λ (b : Board). IsLevel b) c.level.ensures c.tell.ensures in
-    let next = c.loop-index.desk.next in
+    let next = c.loop-index.workspace.next in
     expands_by board (tighter cap next) c.loop-index.frontier.entries (IsChosen only held) k s ps c.loop-index.index fits.scene pushes over
     (λ m allowed. chosen_suffice board left s only held level fits closure m (c.left-left.ensures m (loosened cap next (k + suc m) allowed))) was.taken

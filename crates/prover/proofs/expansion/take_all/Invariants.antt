@@ -5,13 +5,13 @@ use Rattle.prover.proofs.expansion.take_all.Given as goal
 
 abbrev pub invariant-loop-index : goal.invariant-loop-index
 invariant-loop-index l = record {
-  task : l.desk.expander.task ≡ l.pruner;
-  found : HasPushesOf l.desk.expander l.from.position;
-  same : l.desk.expander ≡ l.initial.desk.expander;
-  corral : l.desk.corral ≡ l.initial.desk.corral;
+  task : l.workspace.expander.task ≡ l.pruner;
+  found : HasPushesOf l.workspace.expander l.from.position;
+  same : l.workspace.expander ≡ l.initial.workspace.expander;
+  corral : l.workspace.corral ≡ l.initial.workspace.corral;
   expanding : IsExpanding l.pruner.board l.pruner.cap l.frontier l.from;
-  taken : AreTaken l.pruner.board (tighter l.pruner.cap l.desk.next) l.frontier.entries (IsChosen l.only l.desk.corral.held) l.from.pushes l.from.position
-      l.desk.expander.pushes l.index;
-  later : IsLater l.pruner.cap l.from.reach l.desk.next;
+  taken : AreTaken l.pruner.board (tighter l.pruner.cap l.workspace.next) l.frontier.entries (IsChosen l.only l.workspace.corral.held) l.from.pushes l.from.position
+      l.workspace.expander.pushes l.index;
+  later : IsLater l.pruner.cap l.from.reach l.workspace.next;
   widens : Widens l.pruner.board l.pruner.cap l.from.pushes l.fn.frontier l.frontier;
 }

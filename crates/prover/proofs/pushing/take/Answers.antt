@@ -22,7 +22,7 @@ returns-in_default-allowed_total-clause-taken c =
     let made : IsNorm board (after_push board s p) n × FitsLevel board n =
     subst (λ (t : Task). IsNorm t.board (after_push t.board s p) n × FitsLevel t.board n) c.requires.task c.in-Some.ensures.made in
     let one : k + 1 ≡ suc k = omega arith in
-    taken_less board cap (tighter cap c.args.desk.now.next) c.args.frontier.now.entries k s p (loosened cap c.args.desk.now.next)
+    taken_less board cap (tighter cap c.args.workspace.now.next) c.args.frontier.now.entries k s p (loosened cap c.args.workspace.now.next)
     (taken_none board cap c.args.frontier.now.entries k s n p scene c.requires.possible made.0
     (subst (λ (j : ℕ). NoneGoesOn board cap j n) one c.in_default-allowed_total.ensures.none))
 
@@ -39,13 +39,13 @@ returns-then-total-from-clause-taken c =
     let made : IsNorm board (after_push board s p) n × FitsLevel board n =
     subst (λ (t : Task). IsNorm t.board (after_push t.board s p) n × FitsLevel t.board n) c.requires.task c.in-Some.ensures.made in
     let one : k + 1 ≡ suc k = omega arith in
-    subst (λ (o : Option ℕ). IsTaken board (tighter cap o) c.args.frontier.now.entries k s p) (sym c.lesser-desk.ensures)
-    (taken_later board cap c.args.frontier.now.entries k total s n p c.args.desk.now.next scene c.requires.possible made.0
+    subst (λ (o : Option ℕ). IsTaken board (tighter cap o) c.args.frontier.now.entries k s p) (sym c.lesser-workspace.ensures)
+    (taken_later board cap c.args.frontier.now.entries k total s n p c.args.workspace.now.next scene c.requires.possible made.0
     (subst (λ (j : ℕ). IsBound board j n total) one c.in-Some-allowed_total.ensures.total.bound))
 
 pub returns-then-total-from-clause-defers : goal.returns-then-total-from-clause-defers
 returns-then-total-from-clause-defers c =
-    defers_one c.args.pruner.now.cap c.args.from.now.reach c.args.desk.now.next c.lesser-desk.result c.in-Some-allowed_total.total c.lesser-desk.ensures
+    defers_one c.args.pruner.now.cap c.args.from.now.reach c.args.workspace.now.next c.lesser-workspace.result c.in-Some-allowed_total.total c.lesser-workspace.ensures
     (omega (arith, c.if-total-from.true)) c.in-Some-allowed_total.ensures.total.allowed
 
 pub open_at-requires : goal.open_at-requires
@@ -69,14 +69,14 @@ returns-clause-taken c =
     subst (λ (t : Task). IsNorm t.board (after_push t.board s p) n × FitsLevel t.board n) c.requires.task c.in-Some.ensures.made in
     let one : k + 1 ≡ suc k = omega arith in
     let all = c.open_at.new.self.entries in
-    let next = c.args.desk.now.next in
+    let next = c.args.workspace.now.next in
     on_ok_so c.open_at.result (λ enters. taken_less board cap (tighter cap next) all k s p (loosened cap next)
     (taken_found board cap all k s n p scene c.requires.possible made.0
     (subst (λ (j : ℕ). IsFound all j n) one enters.found))) c.open_at.ensures.enters
 
 pub returns-clause-defers : goal.returns-clause-defers
 returns-clause-defers c =
-    on_ok_so c.open_at.result (λ enters. defers_none c.args.pruner.now.cap c.args.from.now.reach c.args.desk.now.next) c.open_at.ensures.enters
+    on_ok_so c.open_at.result (λ enters. defers_none c.args.pruner.now.cap c.args.from.now.reach c.args.workspace.now.next) c.open_at.ensures.enters
 
 pub returns-clause-widens : goal.returns-clause-widens
 returns-clause-widens c =

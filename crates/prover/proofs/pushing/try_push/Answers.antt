@@ -18,7 +18,7 @@ returns-then-useless-clause-taken c = λ chosen.
     (subst (λ (x : Scene). NeverHelps c.args.slack.now.board (suc m) x p.square p.dir) c.requires.slack.1
     (c.never_helps-useless.ensures c.if-useless.true m allowed)) in
     let cap = c.args.pruner.now.cap in
-    let next = c.args.desk.now.next in
+    let next = c.args.workspace.now.next in
     let all = c.args.frontier.now.entries in
     let fits = expanding_fits board cap c.args.frontier.now c.args.from.now c.requires.expanding in
     taken_less board cap (tighter cap next) all c.args.from.now.pushes s p (loosened cap next)

@@ -7,7 +7,7 @@ abbrev pub invariant-loop-place : goal.invariant-loop-place
 invariant-loop-place l = record {
   searched : IsSearched l.pruner.board l.pruner.cap l.frontier;
   told : NoneHasFewer l.pruner.board l.reach;
-  task : l.desk.expander.task ≡ l.pruner;
+  task : l.workspace.expander.task ≡ l.pruner;
 }
 
 abbrev pub decreases-loop-place : goal.decreases-loop-place

@@ -1,7 +1,7 @@
 use Rattle.std.proofs.Common.{◌∙◌, refl, subst, sym, arith}
 use Rattle.successors.specs.Tasks.{Task}
 use Rattle.prover.specs.Fewest.{NoneHasFewer}
-use Rattle.prover.specs.inside.Rounds.{Tells}
+use Rattle.prover.specs.inside.SearchEnds.{Tells}
 use Rattle.prover.specs.inside.Working.{IsSearched}
 use Rattle.prover.proofs.searching.run_all.Goals as goal
 

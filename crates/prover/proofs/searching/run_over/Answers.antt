@@ -1,6 +1,6 @@
 use Rattle.std.proofs.Common.{IfOk, subst}
 use Rattle.successors.specs.Tasks.{Task}
-use Rattle.prover.specs.inside.Rounds.{Tells}
+use Rattle.prover.specs.inside.SearchEnds.{Tells}
 use Rattle.prover.proofs.searching.run_over.Goals as goal
 
 pub returns-clause-tells : goal.returns-clause-tells

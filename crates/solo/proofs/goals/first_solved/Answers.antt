@@ -9,8 +9,8 @@ use Rattle.solo.proofs.goals.first_solved.Goals as goal
 pub boxes_at-requires : goal.boxes_at-requires
 boxes_at-requires c = omega (arith, c.len-rank-end.ensures, c.loop-rank-test.true)
 
-pub returns-then-is_solved : goal.returns-then-is_solved
-returns-then-is_solved c =
+pub returns-then-are_on_goals : goal.returns-then-are_on_goals
+returns-then-are_on_goals c =
     let places = c.args.layer.now.places in let rank = c.loop-rank.rank in
     let none : Scene = record { boxes = []; player = 0 } in
     let n : Scene = get_or places rank none in
@@ -18,14 +18,14 @@ returns-then-is_solved c =
     record {
       place = n;
       there = at;
-      solved = subst (λ (b : Board). IsSolved b n) c.level.ensures ((c.is_solved.ensures n (c.boxes_at.ensures n at)).0 c.if-is_solved.true);
+      solved = subst (λ (b : Board). IsSolved b n) c.level.ensures ((c.are_on_goals.ensures n (c.boxes_at.ensures n at)).0 c.if-are_on_goals.true);
       first = c.loop-rank.invariant;
     }
 
 pub loop-rank-preserved : goal.loop-rank-preserved
 loop-rank-preserved c = unsolved_more c.args.layer.now.level.board c.args.layer.now.places c.loop-rank.rank c.loop-rank.invariant (λ n at solved.
     let here : IsSolved c.level.result.now n = subst (λ (b : Board). IsSolved b n) (sym c.level.ensures) solved in
-    false≢true (sym c.if-is_solved.false ∙ (c.is_solved.ensures n (c.boxes_at.ensures n at)).1 here))
+    false≢true (sym c.if-are_on_goals.false ∙ (c.are_on_goals.ensures n (c.boxes_at.ensures n at)).1 here))
 
 pub returns : goal.returns
 returns c = unsolved_all c.args.layer.now.level.board c.args.layer.now.places c.loop-rank.rank c.loop-rank.invariant (let e = c.len-rank-end.ensures in

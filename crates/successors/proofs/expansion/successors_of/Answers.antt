@@ -13,14 +13,14 @@ use Rattle.successors.proofs.expansion.successors_of.Goals as goal
 
 pub returns-in_default-clause-successors : goal.returns-in_default-clause-successors
 returns-in_default-clause-successors c =
-    let s = c.args.source.now in let board = c.args.level.now in
+    let s = c.args.ranked.now in let board = c.args.level.now in
     under_cap (capped board s.cap) board None refl (search rules) s.layer s.position
     (take c.successors_by-count.result c.successors_by-count.new.slots.successors.items) (c.successors_by-count.ensures.successors s.layer)
 
 pub returns-in_default-clause-parcel : goal.returns-in_default-clause-parcel
 returns-in_default-clause-parcel c =
-    let s = c.args.source.now in let board = c.args.level.now in
-    is_parcel board s c.requires.source (take c.successors_by-count.result c.successors_by-count.new.slots.successors.items)
+    let s = c.args.ranked.now in let board = c.args.level.now in
+    is_parcel board s c.requires.ranked (take c.successors_by-count.result c.successors_by-count.new.slots.successors.items)
     (under_cap (capped board s.cap) board None refl (search rules) s.layer s.position
     (take c.successors_by-count.result c.successors_by-count.new.slots.successors.items) (c.successors_by-count.ensures.successors s.layer))
     c.successors_by-count.ensures.fits
@@ -34,7 +34,7 @@ keep_admitted-requires-clause-fits c = λ i s at.
 
 pub returns-clause-parcel : goal.returns-clause-parcel
 returns-clause-parcel c =
-    let s = c.args.source.now in let board = c.args.level.now in let bound = c.in-Some-bound.bound.now in
+    let s = c.args.ranked.now in let board = c.args.level.now in let bound = c.in-Some-bound.bound.now in
     let count = c.successors_by-count.result in let items = c.successors_by-count.new.slots.successors.items in
     let back = c.keep_admitted.new.slots in let kept = c.keep_admitted.result in
     let same : bound ≡ board = search rules in
@@ -45,5 +45,5 @@ returns-clause-parcel c =
     (c.keep_admitted.ensures.successors s.position given) in
     subst (λ (xs : List Successor). IsParcel (parcel_of (capped board s.cap) s.layer s.rank xs kept))
     (sym (slots_refilled items c.as_mut_slice.result.now back c.keep_admitted.auto.slots c.as_mut_slice.ensures.value))
-    (is_parcel board s c.requires.source (take kept back) come
+    (is_parcel board s c.requires.ranked (take kept back) come
     (λ i x at. subst (λ (b : Board). FitsLevel b x.position) same (c.keep_admitted.ensures.fits i x at)))

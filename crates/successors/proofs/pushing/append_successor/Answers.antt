@@ -8,7 +8,7 @@ use Rattle.successors.proofs.pushing.append_successor.Goals as goal
 
 pub next-ahead-requires : goal.next-ahead-requires
 next-ahead-requires c =
-    inside_grid c.args.site.now.level.now c.args.push.square (c.requires.ready.fits.scene.boxes c.args.push.square c.requires.possible.there)
+    inside_grid c.args.parent.now.level.now c.args.push.square (c.requires.ready.fits.scene.boxes c.args.push.square c.requires.possible.there)
 
 pub returns-then-not-made-clause-appended : goal.returns-then-not-made-clause-appended
 returns-then-not-made-clause-appended c = inr (
@@ -31,8 +31,8 @@ returns-clause-appended c =
 
 pub sum_after-sum-requires-clause-moved : goal.sum_after-sum-requires-clause-moved
 sum_after-sum-requires-clause-moved c =
-    let board = c.args.site.now.level.now in
-    let n = c.args.site.now.position.now in
+    let board = c.args.parent.now.level.now in
+    let n = c.args.parent.now.position.now in
     let come = c.make_successor-made.ensures.some c.if-not-made.false in
     let read = c.index-as_slice-count.result in
     let there : read ≡ c.make_successor-made.new.slot = c.index-as_slice-count.is

@@ -14,8 +14,8 @@ use Rattle.successors.proofs.pushing.is_doomed.Goals as goal
 
 pub returns-then-spare-clause-same : goal.returns-then-spare-clause-same
 returns-then-spare-clause-same c = λ undoomed.
-    let board : Board = c.args.site.now.level.now in
-    let n : Scene = c.args.site.now.position.now in
+    let board : Board = c.args.parent.now.level.now in
+    let n : Scene = c.args.parent.now.position.now in
     let ahead : c.args.ahead ≡ next board c.args.push.square c.args.push.dir = c.requires.ahead in
     let loose = subst (λ (q : ℕ). IsLoose board (insert (remove c.args.scratch.now.boxes c.args.push.square) q) q) ahead
     (c.if-spare.ensures board c.args.scratch.now.boxes c.args.push.square c.requires.ready.dangers refl ahead
@@ -28,29 +28,29 @@ returns-then-spare-clause-same c = λ undoomed.
 
 pub doomed_after-requires-clause-fits : goal.doomed_after-requires-clause-fits
 doomed_after-requires-clause-fits c =
-    subst (FitsLevel c.args.site.now.level.now) (sym c.requires.moved)
-    (after_fits c.args.site.now.level.now c.args.site.now.position.now c.requires.ready.fits.scene c.args.push c.requires.ready.fits c.requires.possible)
+    subst (FitsLevel c.args.parent.now.level.now) (sym c.requires.moved)
+    (after_fits c.args.parent.now.level.now c.args.parent.now.position.now c.requires.ready.fits.scene c.args.push c.requires.ready.fits c.requires.possible)
 
 pub doomed_after-requires-clause-inside : goal.doomed_after-requires-clause-inside
 doomed_after-requires-clause-inside c =
-    inside_grid c.args.site.now.level.now c.args.push.square (c.requires.ready.fits.scene.boxes c.args.push.square c.requires.possible.there)
+    inside_grid c.args.parent.now.level.now c.args.push.square (c.requires.ready.fits.scene.boxes c.args.push.square c.requires.possible.there)
 
 pub doomed_after-requires-clause-moved : goal.doomed_after-requires-clause-moved
 doomed_after-requires-clause-moved c =
-    let ahead : ℕ = next c.args.site.now.level.now c.args.push.square c.args.push.dir in
+    let ahead : ℕ = next c.args.parent.now.level.now c.args.push.square c.args.push.dir in
     subst (λ (s : Scene). contains s.boxes ahead ≡ true) (sym c.requires.moved)
-    (contains-insert_here (remove c.args.site.now.position.now.boxes c.args.push.square) ahead)
+    (contains-insert_here (remove c.args.parent.now.position.now.boxes c.args.push.square) ahead)
 
 pub returns-clause-same : goal.returns-clause-same
 returns-clause-same c = λ undoomed.
-    let board : Board = c.args.site.now.level.now in
-    let n : Scene = c.args.site.now.position.now in
+    let board : Board = c.args.parent.now.level.now in
+    let n : Scene = c.args.parent.now.position.now in
     let told = c.doomed_after.ensures.same (n.boxes, ap (λ (s : Scene). s.boxes) c.requires.moved, undoomed) in
     subst (λ (s : Scene). IsTrue c.doomed_after.result ↔ Doomed board s.boxes) c.requires.moved told
 
 pub returns-clause-lost : goal.returns-clause-lost
 returns-clause-lost c = λ bad.
-    let board : Board = c.args.site.now.level.now in
-    let n : Scene = c.args.site.now.position.now in
+    let board : Board = c.args.parent.now.level.now in
+    let n : Scene = c.args.parent.now.position.now in
     c.doomed_after.ensures.lost bad (after_push board n c.args.push)
     (after_scene board n c.requires.ready.fits.scene c.args.push c.requires.possible) (sym (ap (λ (s : Scene). s.boxes) c.requires.moved))

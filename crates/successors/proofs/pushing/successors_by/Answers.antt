@@ -1,7 +1,7 @@
 use Rattle.std.proofs.Common.{◌+◌, length, take, refl, sym, subst, ◌∙◌, inl, inr, arith}
 use Rattle.std.proofs.lemmas.Option.{slice_get_read}
 use Rattle.successors.specs.ParcelView.{FitLevel}
-use Rattle.successors.specs.inside.Sites.{IsReady}
+use Rattle.successors.specs.inside.Expanding.{IsReady}
 use Rattle.successors.proofs.lemmas.Successors.{come_by}
 use Rattle.successors.proofs.Gathering.{AreSuccessorsBy, by_same, by_more, by_all, fit_more}
 use Rattle.successors.proofs.pushing.successors_by.Goals as goal
@@ -13,8 +13,8 @@ append_successor-count-requires-clause-possible c =
 
 pub loop-push-preserved : goal.loop-push-preserved
 loop-push-preserved c =
-    let board = c.args.site.now.level.now in
-    let n = c.args.site.now.position.now in
+    let board = c.args.parent.now.level.now in
+    let n = c.args.parent.now.position.now in
     let scene = c.requires.ready.fits.scene in
     let ss = take c.loop-push.count c.loop-push.slots.successors.items in
     let here = slice_get_read c.args.pushes.now
@@ -46,9 +46,9 @@ loop-push-preserved c =
 
 pub returns-clause-successors : goal.returns-clause-successors
 returns-clause-successors c =
-    by_all c.args.site.now.level.now c.args.site.now.position.now c.requires.ready.fits.scene c.args.pushes.now c.loop-push.push-index
+    by_all c.args.parent.now.level.now c.args.parent.now.position.now c.requires.ready.fits.scene c.args.pushes.now c.loop-push.push-index
     (take c.loop-push.count c.loop-push.slots.successors.items) c.loop-push-test.false c.requires.pushes
-    (λ p m come. (come_by c.args.site.now.level.now c.args.site.now.position.now c.requires.ready.fits.scene p m come).can) c.loop-push.invariant.successors
+    (λ p m come. (come_by c.args.parent.now.level.now c.args.parent.now.position.now c.requires.ready.fits.scene p m come).can) c.loop-push.invariant.successors
 
 pub append_successor-count-requires-clause-ready : goal.append_successor-count-requires-clause-ready
-append_successor-count-requires-clause-ready c = subst (IsReady c.args.site.now) (sym c.loop-push.invariant.kept) c.requires.ready
+append_successor-count-requires-clause-ready c = subst (IsReady c.args.parent.now) (sym c.loop-push.invariant.kept) c.requires.ready

@@ -1,5 +1,5 @@
 use Rattle.std.proofs.Common.{◌≡◌, ◌-◌, ◌≤◌, ℕ, length, ap, subst, sym, ◌∙◌, arith}
-use Rattle.prices.specs.declared.table.Table.{Table}
+use Rattle.prices.specs.declared.table.DistanceTable.{DistanceTable}
 use Rattle.prices.specs.Prices.{ComesOfTolls, goals_of, sum_over}
 use Rattle.prices.specs.inside.Tables.{far_in}
 use Rattle.prices.specs.inside.Views.{DistancesView}
@@ -23,7 +23,7 @@ returns c =
     let le : needs ≤ sum_over (λ b. need_by t tolls b s.player) s.boxes = omega (arith, seen, low) in
     let table : t ≡ v.table = ap (λ (x : DistancesView). x.table) c.self.view_is in
     subst (λ (n : ℕ). ComesOfTolls v.level (far_in v.table) s n) (sym c.saturating_sub.ensures)
-    (subst (λ (x : Table). ComesOfTolls v.level (far_in x) s (needs - c.sum.result)) table
+    (subst (λ (x : DistanceTable). ComesOfTolls v.level (far_in x) s (needs - c.sum.result)) table
     (needs_above v.level t tolls s needs c.sum.result goals size le c.sum.ensures.value))
 
 pub returns-then-tolls-len : goal.returns-then-tolls-len
