@@ -6,7 +6,7 @@ use crate::boards::{BoardText, level_of};
 use doom::Bound;
 use grid::{Dir, Level, Position, Square};
 use prices::laws::{a_first_push_leads_on, costs_tell_what_never_helps, needs_are_bounds};
-use prices::{Distances, Matching, NEVER};
+use prices::{Distances, Matching, NEVER, Slack};
 use std::alloc::Global;
 use std::process::Abort;
 
@@ -248,6 +248,48 @@ fn compare_one(rt: &impl Abort, alloc: Global, level: &Level, row: usize) {
         let pushes = least[place].min(u64::from(NEVER));
         assert_eq!(rt; low, pushes, "row {row}, place {place}");
     }
+}
+
+#[test]
+fn of_one_box_the_least_of_a_push_is_the_fewest_pushes(rt: HostRuntime) {
+    for (row, board) in [WRONG_SIDE, WAY_ROUND, DOORS].into_iter().enumerate() {
+        let level = level_of(&rt, rt.alloc(), board);
+        compare_pushes(&rt, rt.alloc(), &level, row);
+    }
+}
+
+// Compares what each push of a level's one box needs with the slow search.
+fn compare_pushes(rt: &impl Abort, alloc: Global, level: &Level, row: usize) {
+    let positions = all_positions(rt, alloc, level);
+    let fewest = least_pushes(rt, alloc, level, positions.as_slice());
+    let distances = distances_of(rt, alloc, level);
+    for (place, position) in positions.as_slice().iter().enumerate() {
+        assert!(rt; position.fits(level));
+        let mut matching = Matching::new();
+        distances.meet(position, &mut matching);
+        let slack = Slack::of(&distances, position, None, &matching);
+        for square in position.boxes() {
+            assert!(rt; position.contains(*square));
+            for dir in Dir::ALL {
+                let after = pushed_alone(rt, level, *square, dir);
+                if let Some(to) = positions
+                    .iter()
+                    .position(|other| Some(other) == after.as_ref())
+                {
+                    assert!(rt; to < fewest.len());
+                    let want = fewest[to].saturating_add(1).min(u64::from(NEVER));
+                    let least = slack.least(*square, dir).min(u64::from(NEVER));
+                    assert_eq!(rt; least, want, "row {row}, place {place}");
+                }
+            }
+        }
+    }
+}
+
+// The position after a push of the only box.
+fn pushed_alone(rt: &impl Abort, level: &Level, square: Square, dir: Dir) -> Option<Position> {
+    assert!(rt; usize::from(square.0) < level.squares());
+    Position::of(&[level.next(square, dir)], square)
 }
 
 #[test]

@@ -18,12 +18,12 @@ use Rattle.prices.proofs.lemmas.Helping.{costs_tell}
 use Rattle.prices.proofs.lemmas.Prices.{sum_le, sum_put_back, tolls_are_free}
 use Rattle.prices.proofs.Sums.{seen_low, tolls_le}
 
--- a push after which its box needs more than is spare never helps
-pub dear_never_helps : (board : Board) (t : DistanceTable) (tolls : List ℕ) (m spare after : ℕ) (s : Scene) (b : ℕ) (d : Dir) → AreFar board (far_in t)
+-- a push never helps where more pushes are needed than there are, once its box needs what it needs after the push
+pub dear_never_helps : (board : Board) (t : DistanceTable) (tolls : List ℕ) (m after : ℕ) (s : Scene) (b : ℕ) (d : Dir) → AreFar board (far_in t)
     → t.goals.items ≡ goals_of board → length tolls ≡ length t.goals.items → IsScene board s → contains s.boxes b ≡ true
-    → m + total tolls ≤ spare + sum_over (λ z. need_seen t tolls z s.player) s.boxes
-    → after ≤ need_by t tolls (next board b d) b → spare + need_seen t tolls b s.player ≤ after → NeverHelps board m s b d
-dear_never_helps board t tolls m spare after s b d far goals size scene there left low dear =
+    → after ≤ need_by t tolls (next board b d) b
+    → m + total tolls + need_seen t tolls b s.player ≤ sum_over (λ z. need_seen t tolls z s.player) s.boxes + after → NeverHelps board m s b d
+dear_never_helps board t tolls m after s b d far goals size scene there low dear =
     let toll = number_of t.goals.items tolls in
     let need = need_of board (far_in t) toll greatest in
     let rises : is_rising t.goals.items ≡ true = ap (λ (gs : List ℕ). is_rising gs) goals ∙ is_rising-goals board in
@@ -39,11 +39,4 @@ dear_never_helps board t tolls m spare after s b d far goals size scene there le
     let real = sum_put_back (λ z. need_by t tolls z s.player) 0 s.boxes b scene.rising there in
     let others = sum_le (λ z. need_seen t tolls z s.player) (λ z. need_by t tolls z s.player) (remove s.boxes b) (λ z h. seen_low t tolls z s.player size) in
     costs_tell board toll need m s b d (tolls_are_free board (far_in t) toll greatest far) scene there
-    (omega (arith, pay, same, all, one, ahead, seen, real, others, left, low, dear))
-
--- a push that never helps with as many pushes as a cap allows helps with none that it allows
-pub never_under : (board : Board) (cap : Option ℕ) (s : Scene) (b : ℕ) (d : Dir) → is_some cap ≡ true
-    → ((left : ℕ) → cap ≡ Some left → NeverHelps board (suc left) s b d) → (m : ℕ) → Allows cap m → NeverHelps board (suc m) s b d
-never_under board None s b d some never m le = absurd (false≢true some)
-never_under board (Some left) s b d some never m le =
-    λ x y ds ps n play step e fits. never left refl x y ds ps n play step e (omega (arith, fits, le))
+    (omega (arith, pay, same, all, one, ahead, seen, real, others, low, dear))

@@ -1,4 +1,4 @@
-ghost use Rattle.std.specs.Prelude.{◌≡◌, ℕ, suc, IsTrue, true};
+ghost use Rattle.std.specs.Prelude.{◌≡◌, ◌<◌, ℕ, suc, IsTrue, true};
 ghost use Rattle.grid.specs.Squares.{contains};
 ghost use Rattle.grid.specs.States.{IsScene};
 ghost use Rattle.prices.specs.Helping.{NeverHelps};
@@ -20,8 +20,9 @@ pub struct Slack<'a> {
     position: &'a Position,
     tolls: [u32; MAX_BOXES],
     left: Option<u32>,
-    // under a cap, the most that a push may add to the need of its box
-    spare: u64,
+    // what the boxes need with the tolls, and the sum of the tolls
+    needs: u64,
+    price: u64,
 }
 
 impl<'a> Model for Slack<'a> {
@@ -55,14 +56,15 @@ impl<'a> Slack<'a> {
         } else {
             0
         };
-        let all = u64::from(left.unwrap_or(u32::MAX)) + 1 + sum(tolls);
+        let price = sum(tolls);
         Slack {
             level: &distances.level,
             table,
             position,
             tolls: all_tolls,
             left,
-            spare: all.saturating_sub(needs),
+            needs,
+            price,
         }
     }
 
@@ -74,16 +76,29 @@ impl<'a> Slack<'a> {
         ensures { IsTrue result → (m : ℕ) → Allows self.now.left m →
             NeverHelps self.now.board (suc m) self.now.scene square dir }
     {
-        if self.left.is_none() {
-            return false;
+        match self.left {
+            None => false,
+            Some(left) => self.least(square, dir) > u64::from(left) + 1,
         }
+    }
+
+    /// A lower bound on the pushes of a play that solves the position and begins a box's way with this push, with the
+    /// push itself. It is [`NEVER`](crate::NEVER) or more if the box, or another one, can come to no goal then.
+    pub fn least(&self, square: Square, dir: Dir) -> u64
+        requires { contains self.now.scene.boxes square ≡ true }
+        ensures { (m : ℕ) → m < result → NeverHelps self.now.board m self.now.scene square dir }
+    {
         let tolls = part(&self.tolls, 0, self.table.goals.len());
         if tolls.len() != self.table.goals.len() {
-            return false;
+            return 0;
         }
         let ahead = self.level.next(square, dir);
         let before = self.table.need(square, self.position.player(), tolls);
         let after = self.table.need(ahead, square, tolls);
-        u64::from(after) >= self.spare.saturating_add(u64::from(before))
+        let needs = self.needs.saturating_add(u64::from(after));
+        needs
+            .saturating_add(1)
+            .saturating_sub(u64::from(before))
+            .saturating_sub(self.price)
     }
 }

@@ -61,13 +61,21 @@ taken_none board cap all k s n p scene can norm none m allowed solvable =
     absurd (none m (allows_fewer cap (suc k + m) (k + suc m) (omega arith) allowed)
     ((norms_change_nothing board (after_push board s p) n (after_scene board s p scene can) norm m).0 solvable))
 
--- so is one that never helps, however many pushes of those that the cap allows are left
-pub taken_useless : (board : Board) (cap left : Option ℕ) (all : List Entry) (k : ℕ) (s : Scene) (p : Push) → IsScene board s → CanPush board s p →
-    ((m : ℕ) → Allows left m → NeverHelps board (suc m) s p.square p.dir) → ((m : ℕ) → Allows cap (k + suc m) → Allows left m) →
+-- so is one that never helps with fewer pushes than `least`, where the cap allows fewer
+pub taken_dear : (board : Board) (cap : Option ℕ) (all : List Entry) (k total least : ℕ) (s : Scene) (p : Push) → IsScene board s → CanPush board s p →
+    ((m : ℕ) → m < least → NeverHelps board m s p.square p.dir) → total ≤ k + least → ((m : ℕ) → Allows cap (k + suc m) → k + suc m < total) →
     IsTaken board cap all k s p
-taken_useless board cap left all k s p scene can never within m allowed (ds, ps, t, play, solved, few) =
-    absurd (let more = never_leads_on board m s (after_push board s p) p scene (never m (within m allowed))
+taken_dear board cap all k total least s p scene can never le below m allowed (ds, ps, t, play, solved, few) =
+    absurd (let lt = below m allowed in
+    let more = never_leads_on board m s (after_push board s p) p scene (never (suc m) (omega (arith, le, lt)))
     (record { there = can.there; behind = can.behind; ahead = can.ahead; after = refl }) ds ps t play solved in omega (arith, more, few))
+
+-- what the cap allows is less than a total that it does not allow
+pub below_refused : (cap : Option ℕ) (total m : ℕ) → ¬ (Allows cap total) → Allows cap m → m < total
+below_refused cap total m refused allowed = elim (cases_lt m total) [
+  | inl lt ↦ lt
+  | inr le ↦ absurd (refused (allows_fewer cap total m le allowed))
+]
 
 -- what is done with up to a number is done with up to a lesser one
 pub taken_less : (board : Board) (cap lower : Option ℕ) (all : List Entry) (k : ℕ) (s : Scene) (p : Push) → ((m : ℕ) → Allows lower m → Allows cap m) →

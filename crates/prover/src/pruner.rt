@@ -88,7 +88,7 @@ impl<'a> Pruner<'a> {
                 return None;
             }
         }
-        Some(pushes.saturating_add(u32::try_from(low).unwrap_or(u32::MAX)))
+        Some(total_of(pushes, low))
     }
 
     /// The total, if the cap allows it. `None` only if no play that the cap allows leads to the position with `pushes`
@@ -113,8 +113,8 @@ impl<'a> Pruner<'a> {
         Some(total)
     }
 
-    // Whether the cap allows this many pushes.
-    fn allows(&self, pushes: u32) -> bool
+    /// Whether the cap allows this many pushes.
+    pub(crate) fn allows(&self, pushes: u32) -> bool
         ensures { IsTrue result ↔ Allows self.now.cap pushes }
     {
         match self.problem.cap() {
@@ -132,4 +132,12 @@ impl<'a> Pruner<'a> {
             Some(most) => Some(most.saturating_sub(pushes).saturating_sub(1)),
         }
     }
+}
+
+/// The number of pushes of a play that needs `more` of them after the first ones, or the greatest number of the type.
+pub(crate) fn total_of(pushes: u32, more: u64) -> u32
+    ensures near { pushes ≤ result }
+    ensures most { result ≤ pushes + more }
+{
+    pushes.saturating_add(u32::try_from(more).unwrap_or(u32::MAX))
 }

@@ -2,14 +2,13 @@
 ghost use Rattle.std.specs.Prelude.{◌≡◌, ◌+◌, ℕ, suc, OnOk};
 ghost use Rattle.area.specs.Pushes.{CanPush};
 ghost use Rattle.successors.specs.Expanding.{HasPushesOf};
-ghost use Rattle.prices.specs.Solving.{Allows};
 ghost use Rattle.prover.specs.inside.Working.{Defers, IsChosen, IsExpanding, IsTaken, Widens, lesser, tighter};
 
 use crate::frontier::Frontier;
-use crate::pruner::Pruner;
+use crate::pruner::{Pruner, total_of};
 use crate::workspace::Workspace;
 use grid::{Position, Push};
-use prices::Slack;
+use prices::{NEVER, Slack};
 use std::alloc::AllocError;
 use store::Parent;
 
@@ -24,7 +23,7 @@ pub(crate) struct Expanded {
 }
 
 /// Opens the position that a push leads to. With `only`, it leaves out a push of another box than the corral's. It also
-/// leaves out a push that costs more than is left.
+/// leaves out a push that costs more than the cap allows, and leaves for later one that costs more than `from.reach`.
 #[tactic(auto, using(crate::proofs::Steps::widens_none, crate::proofs::Deferring::defers_none))]
 pub(crate) fn try_push(
     pruner: &Pruner<'_>,
@@ -40,7 +39,6 @@ pub(crate) fn try_push(
     requires possible { CanPush pruner.now.board from.now.position push }
     requires expanding { IsExpanding pruner.now.board pruner.now.cap frontier.old from.now }
     requires slack { (slack.now.board ≡ pruner.now.board) × (slack.now.scene ≡ from.now.position) }
-    requires left { (m : ℕ) → Allows pruner.now.cap (from.now.pushes + suc m) → Allows slack.now.left m }
     ensures taken { OnOk result (IsChosen only workspace.old.corral.held push →
         IsTaken pruner.now.board (tighter pruner.now.cap workspace.new.next) frontier.new.entries from.now.pushes
         from.now.position push) }
@@ -53,8 +51,16 @@ pub(crate) fn try_push(
     if only && !held {
         return Ok(());
     }
-    let useless = slack.never_helps(square, dir);
-    if useless {
+    let least = slack.least(square, dir);
+    let low = total_of(from.pushes, least);
+    let allowed = pruner.allows(low);
+    if !allowed {
+        return Ok(());
+    }
+    // where no number of pushes seems to do, the matching tells whether the position is lost
+    let later = low > from.reach && least < u64::from(NEVER);
+    if later {
+        workspace.next = lesser(workspace.next, low);
         return Ok(());
     }
     take(pruner, frontier, from, Push { square, dir }, workspace)

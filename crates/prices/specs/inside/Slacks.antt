@@ -1,5 +1,5 @@
 -- What is left above what boxes need.
-use Rattle.std.specs.Prelude.{◌≡◌, ℕ, suc, ◌+◌, ◌≤◌, Some, List, drop, length, take}
+use Rattle.std.specs.Prelude.{◌≡◌, ℕ, List, drop, length, take}
 use Rattle.grid.specs.States.{IsScene}
 use Rattle.prices.specs.Helping.{SlackView}
 use Rattle.prices.specs.Prices.{AreFar, goals_of, sum_over}
@@ -14,12 +14,11 @@ slack_view a = record { board = a.level.now; scene = a.position.now; left = a.le
 abbrev pub tolls_of : Inside → List ℕ
 tolls_of a = take (length a.table.now.goals.items) (drop 0 a.tolls)
 
--- the table is the level's, and under a cap the pushes that are left with the tolls are no more than what is spare
--- and what the boxes need
+-- the table is the level's, the price is the sum of the tolls, and the needs are those of the boxes with these tolls
 pub record IsSlack (a : Inside) : Type 0 where
   pub scene : IsScene a.level.now a.position.now
   pub far : AreFar a.level.now (far_in a.table.now)
   pub goals : a.table.now.goals.items ≡ goals_of a.level.now
-  pub spare : (left : ℕ) → a.left ≡ Some left → length (tolls_of a) ≡ length a.table.now.goals.items →
-      suc left + total (tolls_of a) ≤ a.spare +
-      sum_over (λ b. need_seen a.table.now (tolls_of a) b a.position.now.player) a.position.now.boxes
+  pub price : a.price ≡ total (tolls_of a)
+  pub needs : length (tolls_of a) ≡ length a.table.now.goals.items →
+      a.needs ≡ sum_over (λ b. need_seen a.table.now (tolls_of a) b a.position.now.player) a.position.now.boxes

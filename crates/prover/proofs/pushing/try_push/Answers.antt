@@ -1,25 +1,54 @@
-use Rattle.std.proofs.Common.{ℕ, suc, subst}
+use Rattle.std.proofs.Common.{◌≡◌, ◌+◌, ◌<◌, ◌≤◌, ◌∙◌, ℕ, Option, suc, subst, sym, arith}
+use Rattle.std.proofs.lemmas.Bool.{ltb-true, true≢false}
 use Rattle.grid.specs.Board.{Board, Scene}
 use Rattle.prices.specs.Helping.{NeverHelps}
-use Rattle.prices.specs.Solving.{Allows}
-use Rattle.prover.specs.inside.Working.{tighter}
-use Rattle.prover.proofs.Deferring.{loosened}
-use Rattle.prover.proofs.Steps.{expanding_fits, taken_less, taken_useless}
+use Rattle.prover.specs.inside.Working.{IsTaken, lesser, tighter}
+use Rattle.prover.proofs.Deferring.{defers_one, lesser_below, loosened}
+use Rattle.prover.proofs.Steps.{below_refused, expanding_fits, taken_dear}
 use Rattle.prover.proofs.pushing.try_push.Goals as goal
+use Rattle.prover.proofs.pushing.try_push.Goals.{then-low-from, else-low-from}
 
-pub returns-then-useless-clause-taken : goal.returns-then-useless-clause-taken
-returns-then-useless-clause-taken c = λ chosen.
+pub returns-then-not-allowed-clause-taken : goal.returns-then-not-allowed-clause-taken
+returns-then-not-allowed-clause-taken c = λ chosen.
     let board = c.args.pruner.now.board in
     let s = c.args.from.now.position in
     let p = c.args.push in
-    let left = c.args.slack.now.left in
-    let never : (m : ℕ) → Allows left m → NeverHelps board (suc m) s p.square p.dir = λ m allowed.
-    subst (λ (b : Board). NeverHelps b (suc m) s p.square p.dir) c.requires.slack.0
-    (subst (λ (x : Scene). NeverHelps c.args.slack.now.board (suc m) x p.square p.dir) c.requires.slack.1
-    (c.never_helps-useless.ensures c.if-useless.true m allowed)) in
+    let k = c.args.from.now.pushes in
     let cap = c.args.pruner.now.cap in
     let next = c.args.workspace.now.next in
-    let all = c.args.frontier.now.entries in
+    let least = c.least-least.result in
+    let low = c.total_of-low.result in
     let fits = expanding_fits board cap c.args.frontier.now c.args.from.now c.requires.expanding in
-    taken_less board cap (tighter cap next) all c.args.from.now.pushes s p (loosened cap next)
-    (taken_useless board cap left all c.args.from.now.pushes s p fits.scene c.requires.possible never c.requires.left)
+    let never : (m : ℕ) → m < least → NeverHelps board m s p.square p.dir = λ m lt.
+    subst (λ (b : Board). NeverHelps b m s p.square p.dir) c.requires.slack.0
+    (subst (λ (x : Scene). NeverHelps c.args.slack.now.board m x p.square p.dir) c.requires.slack.1 (c.least-least.ensures m lt)) in
+    taken_dear board (tighter cap next) c.args.frontier.now.entries k low least s p fits.scene c.requires.possible never c.total_of-low.ensures.most
+    (λ m allowed. below_refused cap low (k + suc m) (λ ok. true≢false (sym (c.allows-allowed.ensures.1 ok) ∙ c.if-not-allowed.true))
+    (loosened cap next (k + suc m) allowed))
+
+pub returns-then-later-clause-taken : goal.returns-then-later-clause-taken
+returns-then-later-clause-taken c = λ chosen.
+    let board = c.args.pruner.now.board in
+    let s = c.args.from.now.position in
+    let p = c.args.push in
+    let k = c.args.from.now.pushes in
+    let cap = c.args.pruner.now.cap in
+    let next = c.args.workspace.now.next in
+    let least = c.least-least.result in
+    let low = c.total_of-low.result in
+    let fits = expanding_fits board cap c.args.frontier.now c.args.from.now c.requires.expanding in
+    let never : (m : ℕ) → m < least → NeverHelps board m s p.square p.dir = λ m lt.
+    subst (λ (b : Board). NeverHelps b m s p.square p.dir) c.requires.slack.0
+    (subst (λ (x : Scene). NeverHelps c.args.slack.now.board m x p.square p.dir) c.requires.slack.1 (c.least-least.ensures m lt)) in
+    subst (λ (o : Option ℕ). IsTaken board (tighter cap o) c.args.frontier.now.entries k s p) (sym c.lesser-workspace.ensures)
+    (taken_dear board (tighter cap (lesser next low)) c.args.frontier.now.entries k low least s p fits.scene c.requires.possible never
+    c.total_of-low.ensures.most (λ m. lesser_below cap next low (k + suc m) (omega arith)))
+
+pub returns-then-later-clause-defers : goal.returns-then-later-clause-defers
+returns-then-later-clause-defers c =
+    let later : c.args.from.now.reach < c.total_of-low.result = elim c.if-low-from.branch [
+      | then-low-from w ↦ omega (arith, w.if-low-from)
+      | else-low-from w ↦ ltb-true c.args.from.now.reach c.total_of-low.result (sym w.later-is ∙ c.if-later.true)
+    ] in
+    defers_one c.args.pruner.now.cap c.args.from.now.reach c.args.workspace.now.next c.lesser-workspace.result c.total_of-low.result
+    c.lesser-workspace.ensures later (c.allows-allowed.ensures.0 c.if-not-allowed.false)

@@ -1,5 +1,4 @@
-use Rattle.std.proofs.Common.{◌≡◌, ℕ, Option, rules, ap, subst, sym, ◌∙◌}
-use Rattle.std.specs.Option.{unwrap_or}
+use Rattle.std.proofs.Common.{rules, ap, subst, sym}
 use Rattle.grid.specs.Board.{Board}
 use Rattle.grid.specs.States.{IsScene}
 use Rattle.prices.specs.inside.Views.{DistancesView}
@@ -10,8 +9,6 @@ invariant_of-result c = record {
   scene = subst (λ (b : Board). IsScene b c.args.position.now) (sym (ap (λ (v : DistancesView). v.level) c.distances.view_is)) c.requires;
   far = c.distances.invariant.0;
   goals = c.distances.invariant.1;
-  spare = λ left is size. (
-      let cap : c.unwrap_or.result ≡ left = c.unwrap_or.ensures ∙ ap (λ (o : Option ℕ). unwrap_or o 4294967295) is in
-      search (rules, cap)
-      );
+  price = search (rules);
+  needs = λ size. search (rules);
 }
