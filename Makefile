@@ -1,6 +1,6 @@
 # make         proves the program and builds it at target/sokopar; what the prover says is kept in target/build.log
 # make install builds it and copies it to PREFIX/bin
-# make quick   builds target/quick/sokopar from the program's text alone, in a minute or two, with nothing proved
+# make quick   builds target/quick/sokopar from the program's text alone, in two or three minutes, with nothing proved
 # make demo    runs the proved program on the collections of levels/, or the unproved one where no proved one is built
 # make test    checks what documents cite, proves everything, tries the must-fail edits and runs the tests (`rt ci`),
 #              and then tests the built program as a process
@@ -25,7 +25,7 @@ quick: target/quick/sokopar
 	@echo 'PATH=$$PWD/target/quick:$$PATH'
 
 target/quick/sokopar: $(SOURCES) crates.txt build/quick | toolchain
-	@echo "$@: a minute or two of compiling, with nothing proved"
+	@echo "$@: two or three minutes of compiling, with nothing proved"
 	@RT=$(RT) build/quick cli $@
 
 demo:
