@@ -2,7 +2,7 @@
 use Rattle.std.specs.Prelude.{◌≡◌, ℕ, ◌+◌, List, length, slice_get, Some}
 use Rattle.layers.specs.LayerView.{LayerView}
 use Rattle.layers.specs.BookView.{BookView}
-use Rattle.solo.specs.inside.Turns.{IsDealt, IsWorkingOn}
+use Rattle.solo.specs.inside.Iterations.{IsDealt, IsWorkingOn}
 use Rattle.crew.specs.declared.config.Config.{Config}
 
 -- the book is that of a share, made by the configuration for the layer's level and cap, and it is at work on the layer

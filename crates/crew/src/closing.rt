@@ -4,13 +4,11 @@ ghost use Rattle.layers.specs.BookView.{BookView};
 ghost use Rattle.solo.specs.inside.Rests.{MayBeClosed, MayBeClosedEach};
 ghost use Rattle.successors.specs.declared.limits.TheConstants.{MAX_SHARES};
 ghost use Rattle.solo.specs.inside.Together.{AreFinished};
-ghost use Rattle.solo.specs.inside.Turns.{AreWorkingOn};
+ghost use Rattle.solo.specs.inside.Iterations.{AreWorkingOn};
 
 use crate::config::Config;
-use area::Scratch;
 use layers::{Book, Layer};
-use solo::rest::do_rest;
-use solo::turn::{Worked, close_ahead, finish_rest};
+use solo::{Search, Worked, close_ahead};
 use spreading::for_each_spread;
 use std::alloc::AllocError;
 use std::thread::Threads;
@@ -30,23 +28,22 @@ pub(crate) fn finish_all<R: Threads + Sync>(
     config: Config,
     books: &mut [Book],
     layer: &Layer,
-    scratch: &mut Scratch,
+    search: &mut Search<'_>,
 ) -> Result<Worked, AllocError>
+    requires level { layer.now.level ≡ search.old.task }
     requires few { length books.old ≤ MAX_SHARES }
     requires working { AreWorkingOn layer.now books.old }
     requires worker { (i : ℕ) (v : BookView) → slice_get books.old i ≡ Some v → config.workers < v.workers }
-    requires room { scratch.old.size ≡ length layer.now.level.board.cells }
-    ensures worked { IfOk result (λ worked. AreFinished config.limit books.old layer.now worked books.new) }
-    ensures size { scratch.new.size ≡ scratch.old.size }
+    ensures worked { IfOk result (λ worked. AreFinished search.old.limit books.old layer.now worked books.new) }
+    ensures same { search.new ≡ search.old }
 {
     // the caller's own number is the last one
     let own = config.workers;
-    let within = do_rest(books, layer, scratch, own, config.limit)?;
-    if within.is_none() {
+    if search.do_rest(books, layer, own)?.is_none() {
         return Ok(Worked::Over);
     }
     close_side_by_side(rt, books, layer, own);
-    let worked = finish_rest(books, layer, scratch, own)?;
+    let worked = search.finish_rest(books, layer, own)?;
     Ok(worked)
 }
 

@@ -1,23 +1,21 @@
 //! One iteration of a search: the caller examines a layer, and the workers make the next one.
-ghost use Rattle.std.specs.Prelude.{◌≡◌, ◌<◌, ◌≤◌, ℕ, IfOk, IfSome, IsSome, None, Ok, Some, length, slice_get};
+ghost use Rattle.std.specs.Prelude.{◌≡◌, ℕ, IfOk, IfSome, IsSome, None, Ok, Some, slice_get};
 ghost use Rattle.layers.specs.BookView.{BookView};
 ghost use Rattle.layers.specs.Books.{MayBegin};
 ghost use Rattle.crew.specs.Configured.{IsWithinLimits};
 ghost use Rattle.crew.specs.Lending.{ComeBack};
 ghost use Rattle.crew.specs.inside.States.{IsStateOf};
-ghost use Rattle.crew.specs.inside.Iterations.{ArePausedBy, AreWorkedBy, HasLooked, IsIterationEnd};
+ghost use Rattle.crew.specs.inside.Iterations.{ArePausedBy, AreWorkedBy, IsIterationEnd};
+ghost use Rattle.solo.specs.inside.Searched.{IsExamined};
 
 use crate::closing::finish_all;
 use crate::config::Config;
-use crate::desks::Desks;
 use crate::gate::Gate;
 use crate::joining::join_layer;
 use crate::lent::{come_back, lend};
 use crate::settings::{SearchState, Settings};
-use area::Scratch;
-use layers::{Book, Layer, Parents};
-use solo::Answer;
-use solo::turn::{Worked, begin_each, look};
+use layers::{Book, Layer};
+use solo::{Answer, Search, Worked, begin_each};
 use std::alloc::AllocError;
 use std::mem::swap;
 use std::sync::Wait;
@@ -43,98 +41,51 @@ pub(crate) fn iterate<R: Threads + Wait + Sync, G: Gate + Sync>(
     state: &mut SearchState<'_>,
 ) -> Result<IterationEnd, AllocError>
     requires limits { IsWithinLimits settings.now.config }
-    requires paused { ArePausedBy settings.now.config settings.now.problem.now books.items state.old.trail.items
-        state.old.positions }
-    requires state { IsStateOf settings.now.problem.now state.old }
+    requires paused { ArePausedBy settings.now.config state.old.search books.items }
+    requires state { IsStateOf settings.now.config state.old }
     ensures outcome { IfOk result
-        (λ outcome. IsIterationEnd settings.now.config settings.now.problem.now state.new.trail.items
-        state.old.positions
-        state.new.positions outcome) }
-    ensures state { (state.new.scratch.size ≡ state.old.scratch.size) × (state.new.desks ≡ state.old.desks) }
+        (λ outcome. IsIterationEnd settings.now.config state.old.search state.new.search outcome) }
+    ensures desks { state.new.desks ≡ state.old.desks }
 {
-    let config = settings.config;
     let mut room = Vec::new(settings.alloc);
     swap(&mut room, &mut state.room);
-    let layer = join_layer(rt, settings.alloc, books.as_slice(), config.workers, room)?;
-    let found = look(
-        settings.alloc,
-        state.trail.as_slice(),
-        &mut state.positions,
-        &layer,
-        config.limit,
-        &mut state.scratch,
-    )?;
-    if let Some(answer) = found {
+    let workers = settings.config.workers;
+    let layer = join_layer(rt, settings.alloc, books.as_slice(), workers, room)?;
+    if let Some(answer) = state.search.look(&layer)? {
         return Ok(IterationEnd::Found(answer));
     }
-    go_on(rt, settings, books, layer, state)
-}
-
-// Lets the workers work through the examined layer. Fails only if out of memory.
-fn go_on<R: Threads + Wait + Sync, G: Gate + Sync>(
-    rt: &R,
-    settings: &Settings<'_, G>,
-    books: Vec<Book>,
-    layer: Layer,
-    state: &mut SearchState<'_>,
-) -> Result<IterationEnd, AllocError>
-    requires limits { IsWithinLimits settings.now.config }
-    requires looked { (before : ℕ) ×
-        HasLooked settings.now.config settings.now.problem.now books.items layer state.old.trail.items before
-        state.old.positions }
-    requires state { IsStateOf settings.now.problem.now state.old }
-    ensures outcome { (before : ℕ) →
-        HasLooked settings.now.config settings.now.problem.now books.items layer state.old.trail.items before
-        state.old.positions →
-        IfOk result (λ outcome. IsIterationEnd settings.now.config settings.now.problem.now state.new.trail.items before
-        state.new.positions outcome) }
-    ensures state { (state.new.scratch.size ≡ state.old.scratch.size) × (state.new.desks ≡ state.old.desks) }
-{
-    let positions = state.positions;
-    let back = work_through(
-        rt,
-        settings,
-        books,
-        &layer,
-        positions,
-        &mut state.scratch,
-        &mut state.desks,
-    )?;
-    let Some((worked, after)) = back else {
+    let Some((worked, after)) = work_through(rt, settings, books, &layer, state)? else {
         return Ok(IterationEnd::Foreign);
     };
-    let (parents, room) = Parents::of(layer);
-    state.trail.push(parents)?;
-    state.room = room;
+    state.room = state.search.push(layer)?;
     match worked {
         Worked::Over => Ok(IterationEnd::Found(Answer::Limit)),
         Worked::Through => Ok(IterationEnd::Onward(after)),
     }
 }
 
-// Lends the books, which have closed `positions` positions together, to the workers, and then does what they left of
-// the layer, book by book. `None` if other books came back. Fails only if out of memory.
+// Lends the books to the workers, and then does what they left of the layer, book by book. `None` if other books came
+// back. Fails only if out of memory.
 fn work_through<R: Threads + Wait + Sync, G: Gate + Sync>(
     rt: &R,
     settings: &Settings<'_, G>,
     mut books: Vec<Book>,
     layer: &Layer,
-    positions: u64,
-    scratch: &mut Scratch,
-    desks: &mut Desks<'_>,
+    state: &mut SearchState<'_>,
 ) -> Result<Option<(Worked, Vec<Book>)>, AllocError>
     requires limits { IsWithinLimits settings.now.config }
+    requires state { IsStateOf settings.now.config state.old }
+    requires level { layer.now.level ≡ state.old.search.task }
+    requires examined { IsExamined state.old.search layer.now }
     requires may { (i : ℕ) (v : BookView) → slice_get books.items i ≡ Some v → MayBegin v layer.now }
-    requires few { length layer.now.places ≤ settings.now.config.limit }
-    requires room { scratch.old.size ≡ length layer.now.level.board.cells }
-    requires desks { desks.old ≡ layer.now.level }
-    ensures worked { IfOk result (λ back. IfSome back (λ b. AreWorkedBy settings.now.config layer.now b.0 b.1.items)) }
-    ensures size { scratch.new.size ≡ scratch.old.size }
-    ensures desks { desks.new ≡ desks.old }
+    ensures worked { IfOk result (λ back. IfSome back
+        (λ b. AreWorkedBy settings.now.config state.old.search layer.now b.0 b.1.items)) }
+    ensures same { (state.new.search ≡ state.old.search) × (state.new.desks ≡ state.old.desks) }
 {
     begin_each(books.as_mut_slice(), layer)?;
-    let back = lend(rt, settings, books, layer, desks, positions)?;
-    finish_lent(rt, settings.config, back, layer, scratch)
+    let positions = state.search.positions().saturating_add(layer.len());
+    let back = lend(rt, settings, books, layer, &mut state.desks, positions)?;
+    finish_lent(rt, settings.config, back, layer, &mut state.search)
 }
 
 // Does what is left of a layer in the books that came back, book by book. `None` exactly if they are other books than
@@ -144,18 +95,20 @@ fn finish_lent<R: Threads + Sync>(
     config: Config,
     mut back: Vec<Book>,
     layer: &Layer,
-    scratch: &mut Scratch,
+    search: &mut Search<'_>,
 ) -> Result<Option<(Worked, Vec<Book>)>, AllocError>
     requires limits { IsWithinLimits config }
-    requires room { scratch.old.size ≡ length layer.now.level.board.cells }
+    requires level { layer.now.level ≡ search.old.task }
+    requires limit { search.old.limit ≡ config.limit }
     ensures others { ¬ (ComeBack config layer.now back.items) → result ≡ Ok None }
     ensures own { ComeBack config layer.now back.items → IfOk result IsSome }
-    ensures worked { IfOk result (λ back. IfSome back (λ b. AreWorkedBy config layer.now b.0 b.1.items)) }
-    ensures size { scratch.new.size ≡ scratch.old.size }
+    ensures worked { IfOk result
+        (λ back. IfSome back (λ b. AreWorkedBy config search.old layer.now b.0 b.1.items)) }
+    ensures same { search.new ≡ search.old }
 {
     if !come_back(back.as_slice(), config, layer) {
         return Ok(None);
     }
-    let worked = finish_all(rt, config, back.as_mut_slice(), layer, scratch)?;
+    let worked = finish_all(rt, config, back.as_mut_slice(), layer, search)?;
     Ok(Some((worked, back)))
 }

@@ -6,7 +6,7 @@ ghost use Rattle.crew.specs.inside.Segmented.{AreSegmentsOf};
 
 use grid::Square;
 use layers::{Book, JoinFault, Layer, Segment};
-use solo::turn::last_layer;
+use solo::last_layer;
 use spreading::for_each_spread;
 use std::alloc::{AllocError, Global};
 use std::thread::Threads;

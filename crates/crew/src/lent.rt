@@ -99,7 +99,7 @@ pub(crate) fn come_back(books: &[Book], config: Config, layer: &Layer) -> bool
     true
 }
 
-// Whether a book is, for all that it tells, the one that was lent at an index.
+// Whether a book shows what the book lent at an index must show.
 fn comes_back(book: &Book, place: usize, config: Config, layer: &Layer) -> bool
     requires { IsWithinLimits config }
     ensures { IsTrue result ↔ ComesBack config layer.now place book.now }

@@ -1,4 +1,4 @@
-ghost use Rattle.std.specs.Prelude.{◌≡◌, ◌+◌, ◌<◌, ◌≤◌, [], IfOk, IfSome, MatchResult, length};
+ghost use Rattle.std.specs.Prelude.{◌≤◌, IfOk, IfSome, MatchResult};
 ghost use Rattle.std.specs.Arc.{arc_value};
 ghost use Rattle.grid.specs.Lawful.{box_count};
 ghost use Rattle.successors.specs.Capping.{capped};
@@ -13,11 +13,9 @@ use crate::desks::Desks;
 use crate::gate::Gate;
 use crate::iteration::{IterationEnd, iterate};
 use crate::settings::{SearchState, Settings};
-use area::Scratch;
 use grid::{Level, MAX_BOXES};
 use layers::{Book, Dealing, Problem};
-use solo::turn::new_books;
-use solo::{Answer, SolveFault, solve_alone};
+use solo::{Answer, Search, SolveFault, solve_alone};
 use std::alloc::{AllocError, Global};
 use std::sync::{Arc, Wait};
 use std::thread::Threads;
@@ -87,21 +85,24 @@ fn search_by<R: Threads + Wait + Sync, G: Gate + Sync>(
     requires boxes { box_count (arc_value problem.now).board ≤ MAX_BOXES }
     ensures { IfOk result (λ found. IfSome found (λ answer. IsAnswer (arc_value problem.now) config.limit answer)) }
 {
-    let mut scratch = Scratch::new(alloc, problem.level())?;
+    let mut search = Search::new(alloc, problem, config.limit)?;
     // the caller hands back under a number of its own, so the books are made for one more worker
     let dealing = Dealing {
         workers: config.workers + 1,
         shares: config.locks,
     };
-    let books = new_books(alloc, problem, config.limit, dealing, &mut scratch)?;
-    let desks = Desks::of(alloc, problem, config.workers);
+    let books = search.new_books(dealing)?;
+    let state = SearchState {
+        search,
+        room: Vec::new(alloc),
+        desks: Desks::of(alloc, &**problem, config.workers),
+    };
     let settings = Settings {
         alloc,
-        problem: &**problem,
         config,
         gate,
     };
-    iterate_all(rt, &settings, books, scratch, desks)
+    iterate_all(rt, &settings, books, state)
 }
 
 // Examines layer after layer until there is an answer. `None` if other books came back than those lent. Fails only if
@@ -110,23 +111,14 @@ fn iterate_all<R: Threads + Wait + Sync, G: Gate + Sync>(
     rt: &R,
     settings: &Settings<'_, G>,
     first: Vec<Book>,
-    scratch: Scratch,
-    desks: Desks<'_>,
+    mut state: SearchState<'_>,
 ) -> Result<Option<Answer>, AllocError>
     requires limits { IsWithinLimits settings.now.config }
-    requires first { ArePausedBy settings.now.config settings.now.problem.now first.items [] 0 }
-    requires room { scratch.size ≡ length settings.now.problem.now.board.cells }
-    requires desks { desks ≡ settings.now.problem.now }
+    requires first { ArePausedBy settings.now.config state.search first.items }
+    requires state { IsStateOf settings.now.config state }
     ensures { IfOk result
-        (λ found. IfSome found (λ answer. IsAnswer settings.now.problem.now settings.now.config.limit answer)) }
+        (λ found. IfSome found (λ answer. IsAnswer state.entry.search.task state.entry.search.limit answer)) }
 {
-    let mut state = SearchState {
-        trail: Vec::new(settings.alloc),
-        positions: 0,
-        room: Vec::new(settings.alloc),
-        scratch,
-        desks,
-    };
     let mut books = first;
     loop {
         match iterate(rt, settings, books, &mut state)? {

@@ -2,27 +2,23 @@
 use crate::config::Config;
 use crate::desks::Desks;
 use crate::gate::Gate;
-use area::Scratch;
 use grid::Square;
-use layers::{Parents, Problem};
+use solo::Search;
 use std::alloc::Global;
 
-/// The settings of a search: the allocator, the problem, the configuration and the gate.
+/// The settings of a search: the allocator, the configuration and the gate.
 #[derive(Drop)]
 pub(crate) struct Settings<'s, G: Gate> {
     pub(crate) alloc: Global,
-    pub(crate) problem: &'s Problem,
     pub(crate) config: Config,
     pub(crate) gate: &'s G,
 }
 
-/// The state of a search: the parents of the positions of each examined layer, the number of their positions together,
-/// the memory of the last one's squares, the caller's scratch, and the desks of its workers.
+/// The state of a search with workers: the search itself, the memory of the last layer's squares, and the desks of the
+/// workers.
 #[derive(Drop)]
 pub(crate) struct SearchState<'a> {
-    pub(crate) trail: Vec<Parents>,
-    pub(crate) positions: u64,
+    pub(crate) search: Search<'a>,
     pub(crate) room: Vec<Square>,
-    pub(crate) scratch: Scratch,
     pub(crate) desks: Desks<'a>,
 }

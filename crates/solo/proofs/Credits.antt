@@ -8,7 +8,7 @@ use Rattle.successors.specs.ParcelView.{ParcelView}
 use Rattle.layers.specs.BookView.{BookView}
 use Rattle.store.specs.Entries.{Closed}
 use Rattle.layers.specs.Books.{AllDone, with_closed, with_parcel}
-use Rattle.solo.specs.inside.Turns.{AreDoneBy, IsDoneBy}
+use Rattle.solo.specs.inside.Iterations.{AreDoneBy, IsDoneBy}
 use Rattle.solo.proofs.Each.{HaveChangedUpTo, next_kept, one_changed, some_changed}
 
 -- ---- numbers and marks

@@ -8,8 +8,8 @@ use Rattle.std.proofs.lemmas.Option.{get_or_from_slice_get, same_Some, slice_get
 use Rattle.layers.specs.LayerView.{LayerView}
 use Rattle.layers.specs.BookView.{BookView, IsLawfulBook}
 use Rattle.layers.specs.Books.{with_begun}
-use Rattle.solo.specs.inside.Turns.{HaveBegun, IsStillAt, MayHaveBegun, WorkAnswer}
-use Rattle.solo.specs.declared.turn.Worked.TheVariants.{Through}
+use Rattle.solo.specs.inside.Iterations.{HaveBegun, IsStillAt, MayHaveBegun, WorkAnswer}
+use Rattle.solo.specs.declared.ranks.Worked.TheVariants.{Through}
 
 -- ---- results
 

@@ -14,8 +14,8 @@ use Rattle.layers.specs.Books.{AllDone, ClaimAnswer, HasBegun, IsAtWork, with_cl
 use Rattle.layers.specs.Events.{AreMadeAlike}
 use Rattle.layers.proofs.lemmas.Books.{begun_ranks}
 use Rattle.successors.proofs.lemmas.Lists.{count-set_true}
-use Rattle.solo.specs.inside.Turns.{IsDue, IsOfRank, IsStillAt, WorkAnswer, with_over}
-use Rattle.solo.specs.declared.turn.Worked.TheVariants.{Through, Over}
+use Rattle.solo.specs.inside.Iterations.{IsDue, IsOfRank, IsStillAt, WorkAnswer, with_over}
+use Rattle.solo.specs.declared.ranks.Worked.TheVariants.{Through, Over}
 
 -- ---- marks over ranks
 

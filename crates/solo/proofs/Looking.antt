@@ -1,10 +1,11 @@
 -- The result of a look at the next layer.
-use Rattle.std.proofs.Common.{◌≡◌, ℕ, ◌+◌, ◌<◌, ◌≤◌, List, [], ◌∷◌, ◌++◌, length, Some, inl, inr, refl, sym, ap, subst, ◌∙◌, arith}
+use Rattle.std.proofs.Common.{◌≡◌, ℕ, ◌+◌, ◌<◌, ◌≤◌, List, [], ◌∷◌, ◌++◌, length, Some, inl, inr, sym, ap, subst, ◌∙◌, arith}
 use Rattle.std.specs.Prelude.{slice_get}
 use Rattle.std.proofs.lemmas.List.{nil_from_length, length-map, map-append}
 use Rattle.std.proofs.lemmas.List.Sums.{sum_by_push}
 use Rattle.grid.specs.declared.moves.Letter.{Letter}
 use Rattle.grid.specs.Board.{Scene}
+use Rattle.grid.specs.Lawful.{IsLevel}
 use Rattle.successors.specs.Tasks.{Task}
 use Rattle.grid.specs.declared.square.Push.{Push}
 use Rattle.store.specs.Entries.{Origin}
@@ -13,7 +14,7 @@ use Rattle.layers.specs.LayerView.{LayerView, IsWhole}
 use Rattle.successors.proofs.lemmas.Lists.{at-push}
 use Rattle.solo.specs.Answers.{HasNone, IsAnswer}
 use Rattle.solo.specs.Leads.{AreUnsolved, IsFirstSolved, WritesLead}
-use Rattle.solo.specs.inside.Searched.{AreSearched, AreTrailed, HaveBefore, IsLookedAt, IsNextOf, places_of}
+use Rattle.solo.specs.inside.Searched.{AreSearched, AreTrailed, ComesNext, IsExamined, IsLookedAt, IsNextOf, SearchView, places_of}
 use Rattle.solo.specs.declared.answer.Answer.TheVariants.{Solved, Limit}
 use Rattle.solo.proofs.ReadingBack.{trail_long}
 use Rattle.solo.proofs.Solving.{searched_more, solved_answer, none_answer, limit_answer}
@@ -40,77 +41,68 @@ trailed_more task layers trail layer trailed level next whole = record {
   shown = map-append (λ (x : LayerView). x.origins) layers (layer ∷ []) ∙ ap (λ (xs : List (List (Origin Push))). xs ++ layer.origins ∷ []) trailed.shown;
 }
 
--- the layer comes next
-pub is_next : (trail : List (List (Origin Push))) (layer : LayerView) (ranks positions : ℕ) → HaveBefore layer.level trail ranks positions →
-    layer.number ≡ length trail → IsNextOf trail layer
-is_next trail layer ranks positions have next = record { layers = have.layers; trailed = have.trailed; number = next }
-
--- the first solved position of the next layer gives the answer
-pub solved_here : (trail : List (List (Origin Push))) (layer : LayerView) (rank positions : ℕ) (letters : List Letter) → IsWhole layer →
-    HaveBefore layer.level trail (length layer.places) positions → layer.number ≡ length trail → IsFirstSolved layer.level.board layer.places rank →
-    ((n : Scene) → slice_get layer.places rank ≡ Some n → WritesLead layer.level.board n letters) → (limit : ℕ) → positions ≤ limit →
-    IsAnswer layer.level limit (Solved letters layer.number positions)
-solved_here trail layer rank positions letters whole have next first lead limit within =
-    subst (λ p. IsAnswer layer.level limit (Solved letters layer.number p)) (sym have.count)
-    (subst (λ k. IsAnswer layer.level limit (Solved letters k (total (places_of layers) + length layer.places)))
-    (length-map layers (λ (x : LayerView). x.places) ∙ trail_long layer.level layers trail have.trailed ∙ sym next)
-    (solved_answer layer.level limit (places_of layers) layer.places rank first.place letters whole.lawful have.searched
-    (next_layer layer.level layers trail layer have.trailed refl next whole) first first.there (lead first.place first.there) (omega (arith, have.count))))
-  where
-    layers : List LayerView
-    layers = have.layers
-
--- ---- the next layer
-
--- what is before it
-pub have_before : (limit positions count : ℕ) (trail : List (List (Origin Push))) (layer : LayerView) → IsLookedAt layer.level limit trail positions →
-    count ≡ positions + length layer.places → HaveBefore layer.level trail (length layer.places) count
-have_before limit positions count trail layer looked is = record {
+-- the layer comes next after those whose origins are kept
+pub is_next : (s : SearchView) (layer : LayerView) → IsLookedAt s.task s.limit s.trail s.positions → ComesNext s layer → IsNextOf s.trail layer
+is_next s layer looked next = record {
   layers = looked.layers;
-  trailed = looked.trailed;
-  searched = looked.searched;
-  count = omega (arith, is, looked.count);
+  trailed = subst (λ t. AreTrailed t looked.layers s.trail) (sym next.0) looked.trailed;
+  number = next.1;
 }
 
--- with it the count passes the limit
-pub look_limit : (limit positions : ℕ) (trail : List (List (Origin Push))) (layer : LayerView) → IsLookedAt layer.level limit trail positions →
-    layer.number ≡ length trail → IsWhole layer → limit < positions + length layer.places → IsAnswer layer.level limit Limit
-look_limit limit positions trail layer looked next whole passed =
-    limit_answer layer.level limit (places_of looked.layers) layer.places whole.lawful looked.searched
-    (next_layer layer.level looked.layers trail layer looked.trailed refl next whole) (omega (arith, looked.count))
+-- ---- what the layer that comes next gives
 
--- it is empty
-pub look_none : (limit positions count : ℕ) (trail : List (List (Origin Push))) (layer : LayerView) → IsLookedAt layer.level limit trail positions →
-    layer.number ≡ length trail → IsWhole layer → length layer.places ≡ 0 → count ≡ positions + length layer.places → HasNone layer.level limit count
-look_none limit positions count trail layer looked next whole none is =
-    subst (HasNone layer.level limit) same
-    (none_answer layer.level limit (places_of layers) whole.lawful looked.searched
-    (subst (IsLayerOf layer.level (length (places_of layers))) (nil_from_length layer.places none)
-    (next_layer layer.level layers trail layer looked.trailed refl next whole)) (omega (arith, looked.count, looked.within))) where
-      layers : List LayerView
-      layers = looked.layers
+module _ (s : SearchView) (layer : LayerView) (looked : IsLookedAt s.task s.limit s.trail s.positions) (next : ComesNext s layer) (whole : IsWhole layer) where
+  abbrev layers : List LayerView
+  layers = looked.layers
 
-      same : total (places_of layers) ≡ count
-      same = omega (arith, looked.count)
+  here : IsLayerOf s.task (length (places_of layers)) layer.places
+  here = next_layer s.task layers s.trail layer looked.trailed next.0 next.1 whole
 
--- it gives no answer
-pub look_on : (limit positions count : ℕ) (trail : List (List (Origin Push))) (layer : LayerView) → IsLookedAt layer.level limit trail positions →
-    layer.number ≡ length trail → IsWhole layer → 1 ≤ length layer.places → AreUnsolved layer.level.board layer.places →
-    count ≡ positions + length layer.places → count ≤ limit → IsLookedAt layer.level limit (trail ++ layer.origins ∷ []) count
-look_on limit positions count trail layer looked next whole filled unsolved is within = record {
-  layers = layers ++ layer ∷ [];
-  trailed = trailed_more layer.level layers trail layer looked.trailed refl next whole;
-  searched = subst (AreSearched layer.level) (sym places) (searched_more layer.level (places_of layers) layer.places looked.searched
-      (next_layer layer.level layers trail layer looked.trailed refl next whole) filled unsolved);
-  count = is ∙ counted;
-  within = within;
-}
-  where
-    layers : List LayerView
-    layers = looked.layers
+  level : IsLevel s.task.board
+  level = subst (λ (t : Task). IsLevel t.board) next.0 whole.lawful
 
-    places : places_of (layers ++ layer ∷ []) ≡ places_of layers ++ layer.places ∷ []
-    places = map-append (λ (x : LayerView). x.places) layers (layer ∷ [])
+  -- its first solved position gives the answer
+  pub solved_here : (rank : ℕ) (letters : List Letter) → IsFirstSolved layer.level.board layer.places rank →
+      ((n : Scene) → slice_get layer.places rank ≡ Some n → WritesLead layer.level.board n letters) → s.positions + length layer.places ≤ s.limit →
+      IsAnswer s.task s.limit (Solved letters layer.number (s.positions + length layer.places))
+  solved_here rank letters first lead within =
+      let first_here : IsFirstSolved s.task.board layer.places rank = subst (λ (t : Task). IsFirstSolved t.board layer.places rank) next.0 first in
+      subst (λ p. IsAnswer s.task s.limit (Solved letters layer.number p)) (omega (arith, looked.count))
+      (subst (λ k. IsAnswer s.task s.limit (Solved letters k (total (places_of layers) + length layer.places)))
+      (length-map layers (λ (x : LayerView). x.places) ∙ trail_long s.task layers s.trail looked.trailed ∙ sym next.1)
+      (solved_answer s.task s.limit (places_of layers) layer.places rank first_here.place letters level looked.searched
+      here first_here first_here.there
+      (subst (λ (t : Task). WritesLead t.board first_here.place letters) next.0 (lead first_here.place first_here.there)) (omega (arith, looked.count, within))))
 
-    counted : positions + length layer.places ≡ total (places_of (layers ++ layer ∷ []))
-    counted = omega (arith, looked.count, ap total places, sum_by_push length (places_of layers) layer.places)
+  -- with it the count passes the limit
+  pub look_limit : s.limit < s.positions + length layer.places → IsAnswer s.task s.limit Limit
+  look_limit passed = limit_answer s.task s.limit (places_of layers) layer.places level looked.searched here (omega (arith, looked.count, passed))
+
+  -- it is empty
+  pub look_none : length layer.places ≡ 0 → HasNone s.task s.limit (s.positions + length layer.places)
+  look_none none =
+      subst (HasNone s.task s.limit) same
+      (none_answer s.task s.limit (places_of layers) level looked.searched
+      (subst (IsLayerOf s.task (length (places_of layers))) (nil_from_length layer.places none) here) (omega (arith, looked.count, looked.within))) where
+        same : total (places_of layers) ≡ s.positions + length layer.places
+        same = omega (arith, looked.count, none)
+
+  -- it gives no answer
+  pub look_on : 1 ≤ length layer.places → AreUnsolved layer.level.board layer.places → s.positions + length layer.places ≤ s.limit → IsExamined s layer
+  look_on filled unsolved within = record {
+    looked = record {
+      layers = layers ++ layer ∷ [];
+      trailed = trailed_more s.task layers s.trail layer looked.trailed next.0 next.1 whole;
+      searched = subst (AreSearched s.task) (sym places) (searched_more s.task (places_of layers) layer.places looked.searched here filled
+          (subst (λ (t : Task). AreUnsolved t.board layer.places) next.0 unsolved));
+      count = counted;
+      within = within;
+    };
+    filled = filled;
+  }
+    where
+      places : places_of (layers ++ layer ∷ []) ≡ places_of layers ++ layer.places ∷ []
+      places = map-append (λ (x : LayerView). x.places) layers (layer ∷ [])
+
+      counted : s.positions + length layer.places ≡ total (places_of (layers ++ layer ∷ []))
+      counted = omega (arith, looked.count, ap total places, sum_by_push length (places_of layers) layer.places)

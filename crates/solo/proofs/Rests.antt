@@ -1,5 +1,5 @@
 -- Loops over books of which some closed the next layer ahead.
-use Rattle.std.proofs.Common.{◌≡◌, ℕ, ◌+◌, ◌≤◌, Bool, true, false, List, [], ◌∷◌, length, set, Result, Ok, Err, IfOk, Some, inl, inr, refl, sym, subst, arith}
+use Rattle.std.proofs.Common.{◌≡◌, ℕ, ◌+◌, ◌≤◌, Bool, true, false, List, [], ◌∷◌, length, set, Some, inl, inr, refl, sym, subst, arith}
 use Rattle.std.specs.Bool.{MatchBool}
 use Rattle.std.specs.Prelude.{slice_get}
 use Rattle.std.proofs.lemmas.List.{length-append}
@@ -9,10 +9,10 @@ use Rattle.layers.specs.BookView.{BookView, IsLawfulBook}
 use Rattle.store.specs.Entries.{Closed}
 use Rattle.layers.specs.Books.{IsClosedBy, with_closed}
 use Rattle.layers.specs.declared.book.Closed.{Closed as Report}
-use Rattle.solo.specs.inside.Turns.{IsStillAt, MayBeWorked, WorkAnswer, WorkAnswers}
+use Rattle.solo.specs.inside.Iterations.{IsStillAt, MayBeWorked, WorkAnswer, WorkAnswers}
 use Rattle.solo.specs.inside.Rests.{MayBeClosed, RestAnswer, RestAnswers}
-use Rattle.solo.specs.declared.turn.Worked.{Worked}
-use Rattle.solo.specs.declared.turn.Worked.TheVariants.{Through, Over}
+use Rattle.solo.specs.declared.ranks.Worked.{Worked}
+use Rattle.solo.specs.declared.ranks.Worked.TheVariants.{Through, Over}
 use Rattle.solo.proofs.Each.{HaveChangedUpTo, MayBeLeft, all_changed, one_changed, set_here, some_changed, weaker}
 
 -- a close that was accepted
@@ -37,7 +37,7 @@ rest_over before place books v w at over lawful so =
     (place, v, at, (w, set_here books place w (omega (arith, slice_get_within before place v at, so.same)), over, lawful))
 
 -- where each of them was at work, they are left as books at work are
-rest_all : (before : List BookView) (worked : Worked) (after : List BookView) → ((i : ℕ) (v : BookView) → slice_get before i ≡ Some v → v.begun ≡ true) →
+pub rest_all : (before : List BookView) (worked : Worked) (after : List BookView) → ((i : ℕ) (v : BookView) → slice_get before i ≡ Some v → v.begun ≡ true) →
     RestAnswers before worked after → WorkAnswers before worked after
 rest_all before worked after begun rest = go worked rest
   where
@@ -47,11 +47,6 @@ rest_all before worked after begun rest = go worked rest
     go : (ended : Worked) → RestAnswers before ended after → WorkAnswers before ended after
     go Through all = (all.0, λ i v at. (let e = all.1 i v at in (e.0, e.1, was i v e.0 Through at e.2, e.3)))
     go Over one = (one.0, one.1, one.2, (one.3.0, one.3.1, was one.0 one.1 one.3.0 Over one.2 one.3.2, one.3.3))
-
-pub all_at_work : {E : Type 0} (before after : List BookView) → ((i : ℕ) (v : BookView) → slice_get before i ≡ Some v → v.begun ≡ true) →
-    (result : Result Worked E) → IfOk result (λ worked. RestAnswers before worked after) → IfOk result (λ worked. WorkAnswers before worked after)
-all_at_work before after begun (Ok worked) rest = rest_all before worked after begun rest
-all_at_work before after begun (Err e) rest = tt
 
 -- a finish that was refused left its book at work
 pub rest_may_be_worked : (before : List BookView) (layer : LayerView) (place : ℕ) (books : List BookView) (v w : BookView) → slice_get before place ≡ Some v →

@@ -1,4 +1,4 @@
 -- The lemmas that the proofs of upper crates cite.
-pub mod Turns
+pub mod Iterations
 pub mod Rests
 pub mod Together

@@ -3,4 +3,4 @@ pub mod LeadsBack
 pub mod Rests
 pub mod Searched
 pub mod Together
-pub mod Turns
+pub mod Iterations

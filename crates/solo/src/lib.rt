@@ -1,5 +1,5 @@
-//! The search for the least solution of a level on one thread ([`solve_alone`]), and its parts for solvers with
-//! workers: the iterations of a search ([`turn`], [`rest`]), and the play that leads to a position ([`moves_to`]).
+//! The search for the least solution of a level on one thread ([`solve_alone`]), its state for solvers with workers
+//! ([`Search`]), and the play that leads to a position ([`moves_to`]).
 //!
 //! Time and memory grow with the positions: some 50 to 150 bytes and 1 to 5 microseconds each.
 //!
@@ -12,15 +12,18 @@
 //! ```
 #![tactic(auto)]
 
+mod alone;
 mod answer;
 mod goals;
 pub mod laws;
 mod lead;
-pub mod rest;
+mod ranks;
+mod rest;
 mod search;
-pub mod turn;
 
+pub use alone::solve_alone;
 pub use answer::{Answer, SolveFault};
 pub use goals::first_solved;
 pub use lead::moves_to;
-pub use search::solve_alone;
+pub use ranks::{Worked, begin_each, close_ahead, last_layer};
+pub use search::Search;

@@ -6,49 +6,16 @@ ghost use Rattle.layers.specs.BookView.{BookView, AreLawfulBooks, IsLawfulBook};
 ghost use Rattle.layers.specs.Books.{AllDone, HasBegun};
 ghost use Rattle.layers.specs.Holding.{all_held, held};
 ghost use Rattle.solo.specs.inside.Together.{AreAllDone, AreStill, IsFull, IsOneOver, IsStill, PassTogether};
-ghost use Rattle.solo.specs.inside.Turns.{AreDoneBy, IsDoneBy};
+ghost use Rattle.solo.specs.inside.Iterations.{AreDoneBy, IsDoneBy};
 
-use crate::turn::do_ranks;
+use crate::ranks::do_ranks;
 use area::Scratch;
 use layers::{Book, Layer};
 use std::alloc::AllocError;
 
-/// Does, as worker `worker`, the ranks of the last closed layer that are left in each book, one book after the other,
-/// and closes none. It stops and returns `None` if the limit is passed: one of the books is over, or all together hold
-/// more positions. Otherwise each rank is done, and it returns the number of positions left up to the limit. After an
-/// error each book is still at work on that layer, perhaps with more of its ranks done. Only that worker gets credit
-/// for the ranks that are done here.
-pub fn do_rest(
-    books: &mut [Book],
-    layer: &Layer,
-    scratch: &mut Scratch,
-    worker: u8,
-    limit: u32,
-) -> Result<Option<u64>, AllocError>
-    requires few { length books.old ≤ MAX_SHARES }
-    requires begun { (i : ℕ) (v : BookView) → slice_get books.old i ≡ Some v → HasBegun v layer.now }
-    requires worker { (i : ℕ) (v : BookView) → slice_get books.old i ≡ Some v → worker < v.workers }
-    requires room { scratch.old.size ≡ length layer.now.level.board.cells }
-    ensures still { AreStill layer.now books.old books.new }
-    ensures credited { AreDoneBy worker books.old books.new }
-    ensures done { IfOk result (λ left. IfSome left (λ n. AreAllDone books.new × (n + all_held books.new ≡ limit))) }
-    ensures passed { IfOk result (λ left. IfNone left (PassTogether limit books.new)) }
-    ensures size { scratch.new.size ≡ scratch.old.size }
-{
-    for index in 0..books.len() {
-        let Some(left) = left_of(books, limit) else {
-            return Ok(None);
-        };
-        if !do_rest_of(&mut books[index], layer, scratch, worker, left)? {
-            return Ok(None);
-        }
-    }
-    Ok(left_of(books, limit))
-}
-
 // Does the ranks of the last closed layer that are left in one of the books. Returns `false` if the book is over or
 // gained more than `left` positions.
-fn do_rest_of(
+pub(crate) fn do_rest_of(
     book: &mut Book,
     layer: &Layer,
     scratch: &mut Scratch,
@@ -77,7 +44,7 @@ fn do_rest_of(
 
 // The number of positions left up to the limit over all books; `None` if one of them is over, or all together hold
 // more.
-fn left_of(books: &mut [Book], limit: u32) -> Option<u64>
+pub(crate) fn left_of(books: &mut [Book], limit: u32) -> Option<u64>
     requires few { length books.old ≤ MAX_SHARES }
     ensures left { IfSome result (λ left. left + all_held books.new ≡ limit) }
     ensures passed { IfNone result (PassTogether limit books.new) }

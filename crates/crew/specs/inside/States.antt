@@ -1,8 +1,8 @@
--- The state of a search.
-use Rattle.std.specs.Prelude.{◌≡◌, length}
-use Rattle.successors.specs.Tasks.{Task}
+-- The state of a search with workers.
+use Rattle.std.specs.Prelude.{◌≡◌}
+use Rattle.crew.specs.declared.config.Config.{Config}
 use Rattle.crew.specs.declared.settings.SearchState.{SearchState}
 
--- the caller's scratch is for the level, and the desks are over the problem
-abbrev pub IsStateOf : Task → SearchState → Type 0
-IsStateOf task state = (state.scratch.size ≡ length task.board.cells) × (state.desks ≡ task)
+-- the search has the limit of the configuration, and the desks are over its problem
+abbrev pub IsStateOf : Config → SearchState → Type 0
+IsStateOf config state = (state.search.limit ≡ config.limit) × (state.desks ≡ state.search.task)

@@ -7,10 +7,10 @@ use Rattle.std.proofs.lemmas.Option.{get_or_from_slice_get, same_Some, slice_get
 use Rattle.layers.specs.Books.{HasBegun}
 use Rattle.layers.specs.LayerView.{LayerView}
 use Rattle.layers.specs.BookView.{BookView}
-use Rattle.solo.specs.inside.Turns.{AreWorkingOn, WorkAnswer, WorkAnswers}
+use Rattle.solo.specs.inside.Iterations.{AreWorkingOn, WorkAnswer, WorkAnswers}
 use Rattle.solo.specs.inside.Rests.{MayBeClosed, MayBeClosedEach, RestAnswer, RestAnswers}
-use Rattle.solo.specs.declared.turn.Worked.{Worked}
-use Rattle.solo.specs.declared.turn.Worked.TheVariants.{Through, Over}
+use Rattle.solo.specs.declared.ranks.Worked.{Worked}
+use Rattle.solo.specs.declared.ranks.Worked.TheVariants.{Through, Over}
 
 -- a book that was at work is left by both as by its last ranks alone
 left_so : (v u w : BookView) (worked : Worked) → v.begun ≡ true → MayBeClosed v u → RestAnswer u worked w → WorkAnswer v worked w

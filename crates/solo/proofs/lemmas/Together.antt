@@ -15,15 +15,15 @@ use Rattle.layers.specs.Books.{AreAllShares}
 use Rattle.layers.specs.Holding.{all_held}
 use Rattle.layers.proofs.lemmas.Holdings.{held_all}
 use Rattle.solo.specs.Answers.{IsAnswer}
-use Rattle.solo.specs.inside.Searched.{IsLookedAt, places_of}
-use Rattle.solo.specs.inside.Turns.{AreDealt, AreWorkingOn, WorkAnswer, WorkAnswers}
+use Rattle.solo.specs.inside.Searched.{ComesNext, IsExamined, IsLookedAt, SearchView, places_of}
+use Rattle.solo.specs.inside.Iterations.{AreDealt, AreWorkingOn, WorkAnswer, WorkAnswers}
 use Rattle.solo.specs.inside.Together.{AreFinished, AreStill, IsStill, PassTogether}
 use Rattle.solo.specs.declared.answer.Answer.TheVariants.{Limit}
-use Rattle.solo.specs.declared.turn.Worked.{Worked}
-use Rattle.solo.specs.declared.turn.Worked.TheVariants.{Through, Over}
+use Rattle.solo.specs.declared.ranks.Worked.{Worked}
+use Rattle.solo.specs.declared.ranks.Worked.TheVariants.{Through, Over}
 use Rattle.solo.proofs.ReadingBack.{trail_long}
 use Rattle.solo.proofs.Solving.{searched_bound}
-use Rattle.solo.proofs.lemmas.Turns.{over_limit}
+use Rattle.solo.proofs.lemmas.Iterations.{over_limit}
 
 -- where the books of all shares hold more positions together than the limit, and the layers that they have closed were looked
 -- at, the answer is the limit
@@ -65,20 +65,16 @@ dealt_shares task limit workers shares (first ∷ books) layer some dealt workin
     )
 
 -- where books at work pass the limit together, and their layer was looked at, the answer is the limit
-pub together_limit : (task : Task) (limit workers shares : ℕ) (books : List BookView) (trail : List (List (Origin Push))) (count : ℕ) (layer : LayerView) →
-    1 ≤ shares → (layer.level ≡ task) × (layer.number ≡ length trail) → IsLookedAt layer.level limit (trail ++ layer.origins ∷ []) count →
-    AreDealt task limit workers shares books → AreWorkingOn layer books → PassTogether limit books → IsAnswer task limit Limit
-together_limit task limit workers shares books trail count layer some next looked dealt working (lawful, passed) = elim passed [
+pub together_limit : (s : SearchView) (workers shares : ℕ) (books : List BookView) (layer : LayerView) → 1 ≤ shares → ComesNext s layer →
+    IsExamined s layer → AreDealt s.task s.limit workers shares books → AreWorkingOn layer books → PassTogether s.limit books → IsAnswer s.task s.limit Limit
+together_limit s workers shares books layer some next examined dealt working (lawful, passed) = elim passed [
   | inl over ↦ (let i = over.0 in let v = over.1 in let d = dealt.each i v over.2 in
-      over_limit task limit count (trail ++ layer.origins ∷ []) v here (lawful i v over.2) d.0 d.1 over.3
-      (omega (arith, (working i v over.2).1, next.1, length-append trail (layer.origins ∷ []))))
-  | inr more ↦ (let a = dealt_shares task limit workers shares books layer some dealt working in
-      more_limit task limit count (trail ++ layer.origins ∷ []) books a.0 here lawful a.1
-      (omega (arith, a.2, next.1, length-append trail (layer.origins ∷ []))) more)
+      over_limit s.task s.limit _ (s.trail ++ layer.origins ∷ []) v examined.looked (lawful i v over.2) d.0 d.1 over.3
+      (omega (arith, (working i v over.2).1, next.1, length-append s.trail (layer.origins ∷ []))))
+  | inr more ↦ (let a = dealt_shares s.task s.limit workers shares books layer some dealt working in
+      more_limit s.task s.limit _ (s.trail ++ layer.origins ∷ []) books a.0 examined.looked lawful a.1
+      (omega (arith, a.2, next.1, length-append s.trail (layer.origins ∷ []))) more)
 ]
-  where
-    here : IsLookedAt task limit (trail ++ layer.origins ∷ []) count
-    here = subst (λ b. IsLookedAt b limit (trail ++ layer.origins ∷ []) count) next.0 looked
 
 -- ---- books that are still at work
 

@@ -2,9 +2,9 @@
 use Rattle.std.specs.Prelude.{◌≡◌, ℕ, ◌⊎◌, List, length, slice_get, Some}
 use Rattle.std.specs.Bool.{MatchBool}
 use Rattle.layers.specs.BookView.{BookView, IsLawfulBook}
-use Rattle.solo.specs.inside.Turns.{WorkAnswer}
-use Rattle.solo.specs.declared.turn.Worked.{Worked}
-use Rattle.solo.specs.declared.turn.Worked.TheVariants.{Through, Over}
+use Rattle.solo.specs.inside.Iterations.{WorkAnswer}
+use Rattle.solo.specs.declared.ranks.Worked.{Worked}
+use Rattle.solo.specs.declared.ranks.Worked.TheVariants.{Through, Over}
 
 -- the book is unchanged, or has closed the next layer
 abbrev pub MayBeClosed : BookView → BookView → Type 0

@@ -30,13 +30,6 @@ pub record IsNextOf (trail : List (List (Origin Push))) (layer : LayerView) : Ty
   pub trailed : AreTrailed layer.level layers trail
   pub number : layer.number ≡ length trail
 
--- positions is the number of positions of the searched layers and of the next one, which has ranks positions
-pub record HaveBefore (task : Task) (trail : List (List (Origin Push))) (ranks positions : ℕ) : Type 0 where
-  pub layers : List LayerView
-  pub trailed : AreTrailed task layers trail
-  pub searched : AreSearched task (places_of layers)
-  pub count : positions ≡ total (places_of layers) + ranks
-
 -- the search has looked at the layers whose origins are kept: the first ones of the level, none of them empty, none
 -- with a solved position; positions is their number of positions, no more than the limit
 pub record IsLookedAt (task : Task) (limit : ℕ) (trail : List (List (Origin Push))) (positions : ℕ) : Type 0 where
@@ -46,10 +39,30 @@ pub record IsLookedAt (task : Task) (limit : ℕ) (trail : List (List (Origin Pu
   pub count : positions ≡ total (places_of layers)
   pub within : positions ≤ limit
 
--- the search has looked at the layer after those whose origins are kept: it is not empty, no longer than the limit, and
--- its positions are counted
-pub record IsCounted (limit : ℕ) (trail : List (List (Origin Push))) (layer : LayerView) (before positions : ℕ) : Type
-    0 where
-  pub looked : IsLookedAt layer.level limit (trail ++ layer.origins ∷ []) positions
-  pub ranks : (0 < length layer.places) × (length layer.places ≤ limit)
-  pub count : positions ≡ before + length layer.places
+-- ---- the state of a search
+
+-- the level, the limit, the origins of the positions of each layer that was looked at, and the number of positions
+pub record SearchView : Type 0 where
+  pub task : Task
+  pub limit : ℕ
+  pub trail : List (List (Origin Push))
+  pub positions : ℕ
+
+-- the search before it looks at a layer
+abbrev pub new_search : Task → ℕ → SearchView
+new_search task limit = record { task = task; limit = limit; trail = []; positions = 0 }
+
+-- the search with one more layer
+abbrev pub with_layer : SearchView → LayerView → SearchView
+with_layer s layer =
+    record s { trail = s.trail ++ layer.origins ∷ []; positions = s.positions + length layer.places }
+
+-- the layer comes next in the search
+abbrev pub ComesNext : SearchView → LayerView → Type 0
+ComesNext s layer = (layer.level ≡ s.task) × (layer.number ≡ length s.trail)
+
+-- the search has looked at the layer that comes next: it is not empty and has no solved position, and with it the
+-- positions are no more than the limit
+pub record IsExamined (s : SearchView) (layer : LayerView) : Type 0 where
+  pub looked : IsLookedAt s.task s.limit (s.trail ++ layer.origins ∷ []) (s.positions + length layer.places)
+  pub filled : 0 < length layer.places

@@ -5,9 +5,9 @@ use Rattle.layers.specs.BookView.{BookView, AreLawfulBooks}
 use Rattle.layers.specs.Holding.{all_held, held}
 use Rattle.layers.specs.Books.{AllDone, HasBegun}
 use Rattle.layers.specs.Events.{AreMadeAlike}
-use Rattle.solo.specs.inside.Turns.{WorkAnswers}
-use Rattle.solo.specs.declared.turn.Worked.{Worked}
-use Rattle.solo.specs.declared.turn.Worked.TheVariants.{Through, Over}
+use Rattle.solo.specs.inside.Iterations.{WorkAnswers}
+use Rattle.solo.specs.declared.ranks.Worked.{Worked}
+use Rattle.solo.specs.declared.ranks.Worked.TheVariants.{Through, Over}
 
 -- the book is over, or holds more than most positions
 abbrev pub IsFull : ℕ → BookView → Type 0

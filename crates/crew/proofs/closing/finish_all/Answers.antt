@@ -21,6 +21,6 @@ pub returns-clause-worked : goal.returns-clause-worked
 returns-clause-worked g c =
     let layer = c.args.layer.now in let mid = c.do_rest.new.books in let worked = c.in_ok-worked.worked in
     let still = c.do_rest.ensures.still in
-    still_worked c.args.config.limit layer c.args.books.now mid c.finish_rest.new.books worked still
+    still_worked c.args.search.now.limit layer c.args.books.now mid c.finish_rest.new.books worked still
     (rest_worked layer mid c.close_side_by_side.new.books c.finish_rest.new.books worked
     (still_working layer c.args.books.now mid c.requires.working still) c.close_side_by_side.ensures c.in_ok-worked.ensures.worked)

@@ -30,7 +30,7 @@ returns-clause-worked g c =
     let left : take back.len (after ++ drop (length after) back.items) ≡ after = ap (λ n. take n (after ++ drop (length after) back.items)) whole
     ∙ take-append_seam after (drop (length after) back.items) in (
       lent,
-      (come_dealt config layer lent come).0,
-      (come_dealt config layer lent come).1,
-      subst (AreFinished config.limit lent layer c.in_ok-worked.worked) (sym left) c.in_ok-worked.ensures.worked,
+      (come_dealt config c.args.search.now layer lent c.requires.level c.requires.limit come).0,
+      (come_dealt config c.args.search.now layer lent c.requires.level c.requires.limit come).1,
+      subst (AreFinished c.args.search.now.limit lent layer c.in_ok-worked.worked) (sym left) c.in_ok-worked.ensures.worked,
     )

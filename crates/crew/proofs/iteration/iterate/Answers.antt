@@ -1,76 +1,64 @@
-use Rattle.std.proofs.Common.{rules, length, sym, ap, subst, ◌∙◌}
+use Rattle.std.proofs.Common.{◌≡◌, ◌+◌, refl, sym, ap, subst, ◌∙◌, arith}
 use Rattle.std.specs.Prelude.{IfNone, IfSome}
-use Rattle.successors.specs.Tasks.{Task}
 use Rattle.layers.specs.Books.{AreAllShares, IsJoinOf}
-use Rattle.solo.specs.Answers.{IsAnswer}
-use Rattle.solo.specs.inside.Searched.{IsCounted, IsLookedAt}
-use Rattle.crew.specs.inside.Iterations.{HasLooked}
-use Rattle.crew.proofs.Iterations.{joinable, looked_before, next_layer}
+use Rattle.solo.specs.inside.Iterations.{GoesOn}
+use Rattle.solo.specs.inside.Searched.{IsExamined, SearchView, with_layer}
+use Rattle.crew.specs.inside.Iterations.{AreWorkedBy}
+use Rattle.crew.proofs.Iterations.{begins, ends_over, goes_on, joinable, next_layer}
 use Rattle.crew.proofs.iteration.iterate.Goals as goal
 
-pub join_layer-requires : goal.join_layer-requires
-join_layer-requires g c = (
-  search rules,
-  subst AreAllShares (sym c.as_slice.ensures.value)
-      (joinable c.args.settings.now.config c.args.settings.now.problem.now c.args.books.items c.args.state.now.trail.items c.args.state.now.positions
-      c.requires.limits c.requires.paused),
-)
+pub join_layer-requires-after_bounds : goal.join_layer-requires-after_bounds
+join_layer-requires-after_bounds g c κs within =
+    subst AreAllShares (sym c.as_slice.ensures.value)
+    (joinable c.args.settings.now.config c.args.state.now.search c.args.books.items c.requires.limits c.requires.paused)
 
-pub look-requires-clause-looked : goal.look-requires-clause-looked
-look-requires-clause-looked g c =
+pub look-requires : goal.look-requires
+look-requires g c =
     let layer = c.in_ok-layer.layer in
     let join : IsJoinOf c.args.books.items layer = subst (λ bs. IsJoinOf bs layer) c.as_slice.ensures.value c.in_ok-layer.ensures in
-    subst (λ ls. IsLookedAt layer.level c.args.settings.now.config.limit ls c.args.state.now.positions) (sym c.as_slice-2.ensures.value)
-    (looked_before c.args.settings.now.config c.args.settings.now.problem.now c.args.books.items c.args.state.now.trail.items c.args.state.now.positions
-    c.requires.limits c.requires.paused layer join)
+    record { next = next_layer c.args.settings.now.config c.args.state.now.search c.args.books.items c.requires.limits c.requires.paused layer join }
 
-pub look-requires-clause-next : goal.look-requires-clause-next
-look-requires-clause-next g c =
+pub work_through-requires-clause-level : goal.work_through-requires-clause-level
+work_through-requires-clause-level g c κs within =
     let layer = c.in_ok-layer.layer in
     let join : IsJoinOf c.args.books.items layer = subst (λ bs. IsJoinOf bs layer) c.as_slice.ensures.value c.in_ok-layer.ensures in
-    (next_layer c.args.settings.now.config c.args.settings.now.problem.now c.args.books.items c.args.state.now.trail.items c.args.state.now.positions
-    c.requires.limits c.requires.paused layer join).1 ∙ ap length (sym c.as_slice-2.ensures.value)
+    (next_layer c.args.settings.now.config c.args.state.now.search c.args.books.items c.requires.limits c.requires.paused layer join).0
+    ∙ ap (λ (s : SearchView). s.task) (sym c.look.ensures.same)
 
-pub look-requires-clause-room : goal.look-requires-clause-room
-look-requires-clause-room g c =
+pub work_through-requires-clause-may : goal.work_through-requires-clause-may
+work_through-requires-clause-may g c κs within =
     let layer = c.in_ok-layer.layer in
     let join : IsJoinOf c.args.books.items layer = subst (λ bs. IsJoinOf bs layer) c.as_slice.ensures.value c.in_ok-layer.ensures in
-    c.requires.state.0 ∙ ap (λ (t : Task). length t.board.cells)
-    (sym (next_layer c.args.settings.now.config c.args.settings.now.problem.now c.args.books.items c.args.state.now.trail.items c.args.state.now.positions
-    c.requires.limits c.requires.paused layer join).0)
+    begins c.args.settings.now.config c.args.state.now.search c.args.books.items c.requires.limits c.requires.paused layer join
 
-pub returns-in-Some-clause-outcome : goal.returns-in-Some-clause-outcome
-returns-in-Some-clause-outcome g c =
-    let layer = c.in_ok-layer.layer in let limit = c.args.settings.now.config.limit in
+pub returns-in-Over-clause-outcome : goal.returns-in-Over-clause-outcome
+returns-in-Over-clause-outcome g c =
+    let config = c.args.settings.now.config in let s = c.args.state.now.search in let layer = c.in_ok-layer.layer in
     let join : IsJoinOf c.args.books.items layer = subst (λ bs. IsJoinOf bs layer) c.as_slice.ensures.value c.in_ok-layer.ensures in
-    let next = next_layer c.args.settings.now.config c.args.settings.now.problem.now c.args.books.items c.args.state.now.trail.items c.args.state.now.positions
-    c.requires.limits c.requires.paused layer join in
-    subst (λ b. IsAnswer b limit c.in-Some.answer) next.0 (subst (λ found. IfSome found (λ answer. IsAnswer layer.level limit answer)) c.in-Some.is
-    c.in_ok-found.ensures.answer)
+    let next = next_layer config s c.args.books.items c.requires.limits c.requires.paused layer join in
+    let after = c.in-Some-2.after.items in
+    let examined = subst (λ found. IfNone found (IsExamined s layer)) c.in_default.is c.in_ok-answer.ensures.onward in
+    let work : AreWorkedBy config c.look.new.self layer c.in-Some-2.worked after =
+    subst (λ back. IfSome back (λ b. AreWorkedBy config c.look.new.self layer b.0 b.1.items)) c.in-Some-2.is c.in_ok-worked.ensures.worked in
+    ends_over config s layer after c.requires.limits next examined
+    (subst (λ w. AreWorkedBy config s layer w after) c.in-Over.is (subst (λ v. AreWorkedBy config v layer c.in-Some-2.worked after) c.look.ensures.same work))
 
-pub go_on-requires-clause-looked : goal.go_on-requires-clause-looked
-go_on-requires-clause-looked g c κs within =
-    let layer = c.in_ok-layer.layer in let config = c.args.settings.now.config in let trail = c.args.state.now.trail.items in
+pub returns-in-Through-clause-outcome : goal.returns-in-Through-clause-outcome
+returns-in-Through-clause-outcome g c =
+    let config = c.args.settings.now.config in let s = c.args.state.now.search in let layer = c.in_ok-layer.layer in
     let join : IsJoinOf c.args.books.items layer = subst (λ bs. IsJoinOf bs layer) c.as_slice.ensures.value c.in_ok-layer.ensures in
-    let counted = subst (λ found. IfNone found (IsCounted config.limit c.as_slice-2.result.now layer c.args.state.now.positions c.look.new.positions))
-    c.in_default.is c.in_ok-found.ensures.onward in
-    let looked : HasLooked config c.args.settings.now.problem.now c.args.books.items layer trail c.args.state.now.positions c.look.new.positions = record {
-      paused = c.requires.paused;
-      join = join;
-      counted = subst (λ ls. IsCounted config.limit ls layer c.args.state.now.positions c.look.new.positions) c.as_slice-2.ensures.value counted;
-    } in (c.args.state.now.positions, looked)
-
-pub go_on-requires-clause-state : goal.go_on-requires-clause-state
-go_on-requires-clause-state g c κs within = (c.look.ensures.size ∙ c.requires.state.0, c.requires.state.1)
-
-pub returns-clause-outcome : goal.returns-clause-outcome
-returns-clause-outcome g c =
-    let layer = c.in_ok-layer.layer in let config = c.args.settings.now.config in let trail = c.args.state.now.trail.items in
-    let join : IsJoinOf c.args.books.items layer = subst (λ bs. IsJoinOf bs layer) c.as_slice.ensures.value c.in_ok-layer.ensures in
-    let counted = subst (λ found. IfNone found (IsCounted config.limit c.as_slice-2.result.now layer c.args.state.now.positions c.look.new.positions))
-    c.in_default.is c.in_ok-found.ensures.onward in
-    let looked : HasLooked config c.args.settings.now.problem.now c.args.books.items layer trail c.args.state.now.positions c.look.new.positions = record {
-      paused = c.requires.paused;
-      join = join;
-      counted = subst (λ ls. IsCounted config.limit ls layer c.args.state.now.positions c.look.new.positions) c.as_slice-2.ensures.value counted;
-    } in c.go_on.ensures.outcome c.args.state.now.positions looked
+    let next = next_layer config s c.args.books.items c.requires.limits c.requires.paused layer join in
+    let after = c.in-Some-2.after.items in
+    let examined = subst (λ found. IfNone found (IsExamined s layer)) c.in_default.is c.in_ok-answer.ensures.onward in
+    let work : AreWorkedBy config c.look.new.self layer c.in-Some-2.worked after =
+    subst (λ back. IfSome back (λ b. AreWorkedBy config c.look.new.self layer b.0 b.1.items)) c.in-Some-2.is c.in_ok-worked.ensures.worked in
+    let grown : c.push.new.self ≡ with_layer s layer = c.in_ok-state.ensures.ok
+    ∙ ap (λ (v : SearchView). with_layer v layer) (c.work_through.ensures.same.0 ∙ c.look.ensures.same) in
+    subst (λ v. GoesOn s v (config.workers + 1) config.locks after) (sym grown) (
+      goes_on config s layer after next
+          (subst (λ w. AreWorkedBy config s layer w after) c.in-Through.is (subst (λ v. AreWorkedBy config v layer c.in-Some-2.worked after) c.look.ensures.same work)),
+      refl,
+      refl,
+      omega (arith, examined.filled),
+      examined.looked.within,
+    )

@@ -1,13 +1,15 @@
-use Rattle.std.proofs.Common.{◌-◌}
+use Rattle.std.proofs.Common.{◌≡◌, ◌-◌}
 use Rattle.crew.specs.inside.States.{IsStateOf}
 use Rattle.crew.specs.inside.Iterations.{ArePausedBy}
 use Rattle.crew.proofs.search.iterate_all.Given as goal
 
 abbrev pub invariant-loop-state : goal.invariant-loop-state
 invariant-loop-state g l = record {
-  paused : ArePausedBy l.settings.config l.settings.problem.now l.books.items l.state.trail.items l.state.positions;
-  own : IsStateOf l.settings.problem.now l.state;
+  paused : ArePausedBy l.settings.config l.state.search l.books.items;
+  own : IsStateOf l.settings.config l.state;
+  task : l.state.search.task ≡ l.fn.state.search.task;
+  limit : l.state.search.limit ≡ l.fn.state.search.limit;
 }
 
 abbrev pub decreases-loop-state : goal.decreases-loop-state
-decreases-loop-state g l = l.settings.config.limit - l.state.positions
+decreases-loop-state g l = l.settings.config.limit - l.state.search.positions

@@ -1,4 +1,4 @@
-use Rattle.solo.proofs.lemmas.Turns.{over_limit}
+use Rattle.solo.proofs.lemmas.Iterations.{over_limit}
 use Rattle.solo.proofs.laws.a_book_that_is_over_passes_the_limit.Goals as goal
 
 pub returns : goal.returns

@@ -1,0 +1,156 @@
+-- From one iteration of a search to the next, and what follows from a book that is over.
+use Rattle.std.proofs.Common.{◌≡◌, ℕ, suc, ◌≤◌, true, false, List, [], ◌∷◌, ◌++◌, length, get_or, Some, refl, sym, ap, subst, ◌∙◌, arith}
+use Rattle.std.specs.Prelude.{slice_get}
+use Rattle.std.proofs.lemmas.List.{length-append, length-map}
+use Rattle.std.proofs.lemmas.Option.{none-some, same_Some, slice_get-get_or, slice_get_within}
+use Rattle.successors.specs.Tasks.{Task}
+use Rattle.grid.specs.Lawful.{IsLevel}
+use Rattle.grid.specs.declared.square.Push.{Push}
+use Rattle.store.specs.Entries.{Origin}
+use Rattle.successors.specs.Reaching.{IsLayerOf}
+use Rattle.layers.specs.LayerView.{LayerView}
+use Rattle.layers.specs.BookView.{BookView, IsLawfulBook}
+use Rattle.successors.specs.Distances.{IsAtDistance}
+use Rattle.layers.specs.Books.{AreAllShares, IsJoinOf, IsNew, MayBegin, with_begun}
+use Rattle.layers.proofs.lemmas.Shares.{closed_upto}
+use Rattle.solo.specs.Answers.{IsAnswer}
+use Rattle.solo.specs.inside.Searched.{ComesNext, IsExamined, IsLookedAt, SearchView, new_search, places_of, with_layer}
+use Rattle.solo.specs.inside.Iterations.{AreBetweenLayers, AreDealt, AreWorked, AreWorkingOn, HaveBegun, IsDealt, IsWorkingOn, WorkAnswer}
+use Rattle.solo.specs.declared.answer.Answer.TheVariants.{Limit}
+use Rattle.solo.specs.declared.ranks.Worked.TheVariants.{Through, Over}
+use Rattle.solo.proofs.ReadingBack.{trail_long}
+use Rattle.solo.proofs.Solving.{none_searched, searched_bound}
+
+-- before a search nothing was looked at
+pub none_looked : (task : Task) (limit : ℕ) → IsLookedAt task limit [] 0
+none_looked task limit = record {
+  layers = [];
+  trailed = record { each = λ j layer at. absurd (none-some layer at); shown = refl };
+  searched = none_searched task;
+  count = refl;
+  within = omega arith;
+}
+
+-- new books are before the first iteration
+pub first_iteration : (task : Task) (limit workers shares : ℕ) (books : List BookView) → length books ≡ shares →
+    ((i : ℕ) (v : BookView) → slice_get books i ≡ Some v → IsNew task limit workers i shares v) →
+    AreBetweenLayers (new_search task limit) workers shares books
+first_iteration task limit workers shares books all new = record {
+  dealt = record { all = all; each = λ i v at. (new i v at).made_with };
+  paused = λ i v at. ((new i v at).begun, ap length (new i v at).closed.1);
+}
+
+-- ---- between two iterations
+
+-- the books can be joined
+pub all_shares : (s : SearchView) (workers shares : ℕ) (books : List BookView) → 1 ≤ shares → AreBetweenLayers s workers shares books → AreAllShares books
+all_shares s workers shares [] some between = absurd (omega (arith, between.dealt.all))
+all_shares s workers shares (first ∷ books) some between =
+    let d = between.dealt.each 0 first refl in record {
+      first = first;
+      head = refl;
+      all = between.dealt.all ∙ sym d.4;
+      each = λ i v at. (let e = between.dealt.each i v at in (
+        e.3,
+        e.0 ∙ sym d.0,
+        e.1 ∙ sym d.1,
+        e.4 ∙ sym d.4,
+        (between.paused i v at).1 ∙ sym (between.paused 0 first refl).1,
+      ));
+    }
+
+-- the layer that they have closed last comes next
+pub next_of : (s : SearchView) (workers shares : ℕ) (books : List BookView) (layer : LayerView) → 1 ≤ shares →
+    AreBetweenLayers s workers shares books → IsJoinOf books layer → ComesNext s layer
+next_of s workers shares [] layer some between join = absurd (omega (arith, between.dealt.all))
+next_of s workers shares (first ∷ books) layer some between join =
+    let last = join.1 first refl in (last.0 ∙ (between.dealt.each 0 first refl).0, omega (arith, last.1, (between.paused 0 first refl).1))
+
+-- and each of them may begin it
+pub may_begin : (s : SearchView) (workers shares : ℕ) (books : List BookView) (layer : LayerView) → AreBetweenLayers s workers shares books →
+    ComesNext s layer → (i : ℕ) (v : BookView) → slice_get books i ≡ Some v → MayBegin v layer
+may_begin s workers shares books layer between next i v at =
+    (next.0 ∙ sym (between.dealt.each i v at).0, omega (arith, next.1, (between.paused i v at).1), (between.paused i v at).0)
+
+-- then they are at work on it
+pub at_work : (s : SearchView) (workers shares : ℕ) (books after : List BookView) (ranks : ℕ) (layer : LayerView) →
+    AreBetweenLayers s workers shares books → ComesNext s layer → HaveBegun books ranks after →
+    AreDealt s.task s.limit workers shares after × AreWorkingOn layer after
+at_work s workers shares books after ranks layer between next begun = (
+  record {
+    all = begun.0 ∙ between.dealt.all;
+    each = λ i w at. subst (IsDealt s.task s.limit workers shares i) (from i w at).2 (between.dealt.each i (from i w at).0 (from i w at).1);
+  },
+  λ i w at. subst (IsWorkingOn layer) (from i w at).2 (working i (from i w at).0 (from i w at).1),
+)
+  where
+    from : (i : ℕ) (w : BookView) → slice_get after i ≡ Some w → (v : BookView) × (slice_get books i ≡ Some v) × (with_begun v ranks ≡ w)
+    from i w at =
+        let there : slice_get books i ≡ Some (get_or books i w) = slice_get-get_or books i w (omega (arith, slice_get_within after i w at, begun.0)) in
+        (get_or books i w, there, same_Some (with_begun (get_or books i w) ranks) w (sym (begun.1 i (get_or books i w) there) ∙ at))
+
+    working : (i : ℕ) (v : BookView) → slice_get books i ≡ Some v → IsWorkingOn layer (with_begun v ranks)
+    working i v at = (
+      (
+        (may_begin s workers shares books layer between next i v at).0,
+        (may_begin s workers shares books layer between next i v at).1,
+        refl,
+      ),
+      omega (arith, next.1, (between.paused i v at).1),
+    )
+
+-- once its ranks are done, the books are between two iterations again
+pub goes_on : (s : SearchView) (workers shares : ℕ) (after : List BookView) (layer : LayerView) → ComesNext s layer →
+    AreWorked s.task s.limit workers shares layer Through after → AreBetweenLayers (with_layer s layer) workers shares after
+goes_on s workers shares after layer next (before, dealt, working, (same, left)) = record {
+  dealt = record { all = same ∙ dealt.all; each = λ i w at. (through i w at).0 };
+  paused = λ i w at. ((through i w at).1, (through i w at).2);
+}
+  where
+    left_so : (i : ℕ) (v w : BookView) → slice_get before i ≡ Some v → WorkAnswer v Through w →
+        IsDealt s.task s.limit workers shares i w × (w.begun ≡ false) × (length w.closed ≡ suc (length (s.trail ++ layer.origins ∷ [])))
+    left_so i v w at (alike, begun, closed) =
+        let d = dealt.each i v at in (
+          (sym alike.0 ∙ d.0, sym alike.1 ∙ d.1, sym alike.2 ∙ d.2, sym alike.3 ∙ d.3, sym alike.4 ∙ d.4),
+          begun,
+          omega (arith, closed, (working i v at).1, next.1, length-append s.trail (layer.origins ∷ [])),
+        )
+
+    through : (i : ℕ) (w : BookView) → slice_get after i ≡ Some w → IsDealt s.task s.limit workers shares i w × (w.begun ≡ false)
+        × (length w.closed ≡ suc (length (s.trail ++ layer.origins ∷ [])))
+    through i w at =
+        let v = get_or before i w in
+        let there : slice_get before i ≡ Some v = slice_get-get_or before i w (omega (arith, slice_get_within after i w at, same)) in
+        let l = left i v there in
+        left_so i v w there (subst (WorkAnswer v Through) (same_Some l.0 w (sym l.1 ∙ at)) l.2)
+
+-- where a book is over, and the layers that it has closed were looked at, the answer is the limit
+pub over_limit : (task : Task) (limit positions : ℕ) (trail : List (List (Origin Push))) (book : BookView) → IsLookedAt task limit trail positions →
+    IsLawfulBook book → book.level ≡ task → book.limit ≡ limit → book.over ≡ true → length book.closed ≡ length trail → IsAnswer task limit Limit
+over_limit task limit positions trail book looked lawful level same over long =
+    let layers = looked.layers in
+    let p = (lawful.over over).0 in
+    let searched = looked.searched in
+    let lists : length (places_of layers) ≡ length book.closed = length-map layers (λ (x : LayerView). x.places) ∙ trail_long task layers trail looked.trailed
+    ∙ sym long in record {
+      layers = places_of layers;
+      are = searched.are;
+      more = p.places;
+      distinct = p.distinct;
+      next = λ n i. subst (λ k. IsAtDistance task n k) (sym lists) (subst (λ b. IsAtDistance b n (length book.closed)) level (p.next n i).1);
+      passed = omega (
+        arith,
+        same,
+        p.passed,
+        closed_upto book lawful (places_of layers) (λ j xs at. subst (λ b. IsLayerOf b j xs) (sym level) (searched.are j xs at)) (omega (arith, lists)),
+      );
+      unsolved = searched_bound task (places_of layers) (subst (λ (t : Task). IsLevel t.board) level lawful.level) searched;
+    }
+
+-- so it is where the ranks of the layer that was looked at last were done until one of the books was over
+pub ends_over : (s : SearchView) (workers shares : ℕ) (after : List BookView) (layer : LayerView) → ComesNext s layer → IsExamined s layer →
+    AreWorked s.task s.limit workers shares layer Over after → IsAnswer s.task s.limit Limit
+ends_over s workers shares after layer next examined (before, dealt, working, (i, v, at, (w, there, (alike, over, closed), lawful))) =
+    let d = dealt.each i v at in
+    over_limit s.task s.limit _ (s.trail ++ layer.origins ∷ []) w examined.looked lawful
+    (sym alike.0 ∙ d.0) (sym alike.1 ∙ d.1) over (omega (arith, closed, (working i v at).1, next.1, length-append s.trail (layer.origins ∷ [])))

@@ -1,0 +1,149 @@
+-- The state of a search between two iterations and during one. Each iteration looks at the next layer and does its
+-- ranks in the books, one for each share of the positions.
+use Rattle.std.specs.Prelude.{◌≡◌, ℕ, suc, ◌+◌, ◌<◌, ◌≤◌, ◌⊎◌, true, false, not, List, length, count_by, slice_get}
+use Rattle.std.specs.Prelude.{slice_index_or, slice_set, Some}
+use Rattle.successors.specs.Tasks.{Task}
+use Rattle.layers.specs.LayerView.{LayerView}
+use Rattle.successors.specs.ParcelView.{ParcelView}
+use Rattle.layers.specs.BookView.{BookView, IsDone, IsLawfulBook}
+use Rattle.layers.specs.Books.{HasBegun, with_begun}
+use Rattle.layers.specs.Events.{AreMadeAlike}
+use Rattle.solo.specs.inside.Searched.{SearchView}
+use Rattle.solo.specs.declared.ranks.Worked.{Worked}
+use Rattle.solo.specs.declared.ranks.Worked.TheVariants.{Through, Over}
+
+-- ---- the books of a search
+
+-- the book is a share of the level, made with these numbers
+abbrev pub IsDealt : Task → ℕ → ℕ → ℕ → ℕ → BookView → Type 0
+IsDealt task limit workers shares share v =
+    (v.level ≡ task) × (v.limit ≡ limit) × (v.workers ≡ workers) × (v.share ≡ share) × (v.shares ≡ shares)
+
+-- the books are all the shares of the level in order, made with these numbers
+pub record AreDealt (task : Task) (limit workers shares : ℕ) (books : List BookView) : Type 0 where
+  pub all : length books ≡ shares
+  pub each : (i : ℕ) (v : BookView) → slice_get books i ≡ Some v → IsDealt task limit workers shares i v
+
+-- each of the books has closed this number of layers, and has not begun the last one
+abbrev pub ArePaused : ℕ → List BookView → Type 0
+ArePaused closed books =
+    (i : ℕ) (v : BookView) → slice_get books i ≡ Some v → (v.begun ≡ false) × (length v.closed ≡ closed)
+
+-- the book is at work on the layer, which it has closed last
+abbrev pub IsWorkingOn : LayerView → BookView → Type 0
+IsWorkingOn layer v = HasBegun v layer × (length v.closed ≡ suc layer.number)
+
+-- each of the books is at work on the layer
+abbrev pub AreWorkingOn : LayerView → List BookView → Type 0
+AreWorkingOn layer books = (i : ℕ) (v : BookView) → slice_get books i ≡ Some v → IsWorkingOn layer v
+
+-- between two iterations each of the books, which are all the shares, has closed one layer more than the search looked
+-- at, and has not begun it
+pub record AreBetweenLayers (s : SearchView) (workers shares : ℕ) (books : List BookView) : Type 0 where
+  pub dealt : AreDealt s.task s.limit workers shares books
+  pub paused : ArePaused (suc (length s.trail)) books
+
+-- the search goes on: between two iterations, with more positions counted, no more than the limit
+abbrev pub GoesOn : SearchView → SearchView → ℕ → ℕ → List BookView → Type 0
+GoesOn before after workers shares books =
+    AreBetweenLayers after workers shares books × (after.task ≡ before.task) × (after.limit ≡ before.limit) ×
+    (before.positions < after.positions) × (after.positions ≤ after.limit)
+
+-- ---- a layer begins
+
+-- each of the books has begun, with this number of ranks
+abbrev pub HaveBegun : List BookView → ℕ → List BookView → Type 0
+HaveBegun before ranks after =
+    (length after ≡ length before) ×
+    ((i : ℕ) (v : BookView) → slice_get before i ≡ Some v → slice_get after i ≡ Some (with_begun v ranks))
+
+-- each of the books is unchanged, or has begun
+abbrev pub MayHaveBegun : List BookView → ℕ → List BookView → Type 0
+MayHaveBegun before ranks after =
+    (length after ≡ length before)
+    × ((i : ℕ) (v : BookView) → slice_get before i ≡ Some v → (slice_get after i ≡ Some v) ⊎
+    (slice_get after i ≡ Some (with_begun v ranks)))
+
+-- ---- the ranks of a layer are done
+
+-- a book after the last ranks of a layer: it has closed the next layer, and not begun it; or it is over its limit
+abbrev pub WorkAnswer : BookView → Worked → BookView → Type 0
+WorkAnswer before Through after =
+    AreMadeAlike before after × (after.begun ≡ false) × (length after.closed ≡ suc (length before.closed))
+WorkAnswer before Over after =
+    AreMadeAlike before after × (after.over ≡ true) × (length after.closed ≡ length before.closed)
+
+-- so is the book at index i after them, and lawful
+abbrev pub IsLeft : List BookView → Worked → List BookView → ℕ → BookView → Type 0
+IsLeft before worked after i v = (w : BookView) × (slice_get after i ≡ Some w) × WorkAnswer v worked w × IsLawfulBook w
+
+-- several books after the last ranks of a layer: each has closed the next layer; or one of them is over its limit
+abbrev pub WorkAnswers : List BookView → Worked → List BookView → Type 0
+WorkAnswers before Through after =
+    (length after ≡ length before) ×
+    ((i : ℕ) (v : BookView) → slice_get before i ≡ Some v → IsLeft before Through after i v)
+WorkAnswers before Over after = (i : ℕ) × (v : BookView) × (slice_get before i ≡ Some v) × IsLeft before Over after i v
+
+-- all the shares were at work on the layer, and these are the books after its last ranks
+abbrev pub AreWorked : Task → ℕ → ℕ → ℕ → LayerView → Worked → List BookView → Type 0
+AreWorked task limit workers shares layer worked after =
+    (before : List BookView) × AreDealt task limit workers shares before × AreWorkingOn layer before ×
+    WorkAnswers before worked after
+
+-- the book is at work on the layer, with the same level, numbers and closed layers as before
+pub record IsStillAt (before : BookView) (layer : LayerView) (book : BookView) : Type 0 where
+  pub alike : AreMadeAlike before book
+  pub closed : book.closed ≡ before.closed
+  pub begun : HasBegun book layer
+  pub ranks : length book.done ≡ length layer.places
+
+-- the book is at work on the layer, and each rank that is not done is free
+abbrev pub IsReopenedAt : LayerView → BookView → Type 0
+IsReopenedAt layer book = IsStillAt book layer book × (book.claimed ≡ book.done)
+
+-- several books after the search ran out of memory: each is unchanged, or still at work, or has closed the next layer
+abbrev pub MayBeWorked : List BookView → LayerView → List BookView → Type 0
+MayBeWorked before layer after =
+    (length after ≡ length before)
+    × ((i : ℕ) (v : BookView) → slice_get before i ≡ Some v
+    → (w : BookView) × (slice_get after i ≡ Some w) × ((w ≡ v) ⊎ IsStillAt v layer w ⊎ WorkAnswer v Through w))
+
+-- the number of ranks of the layer at work that are not done
+abbrev pub left_ranks : BookView → ℕ
+left_ranks v = count_by not v.done
+
+-- the tally of the worker has grown by ranks, and no other one has changed
+abbrev pub IsCredited : ℕ → ℕ → BookView → BookView → Type 0
+IsCredited worker ranks before after =
+    after.tallies ≡ slice_set before.tallies worker (slice_index_or before.tallies worker 0 + ranks)
+
+-- only the worker gets credit for the ranks that were done: as many as fewer are left. A book that has closed the next
+-- layer has none left
+abbrev pub IsDoneBy : ℕ → BookView → BookView → Type 0
+IsDoneBy worker before after =
+    (ranks : ℕ) × (left_ranks before ≡ left_ranks after + ranks) × IsCredited worker ranks before after
+
+-- so it is for each of several books
+abbrev pub AreDoneBy : ℕ → List BookView → List BookView → Type 0
+AreDoneBy worker before after =
+    (length after ≡ length before) × ((i : ℕ) (v : BookView) → slice_get before i ≡ Some v →
+    (w : BookView) × (slice_get after i ≡ Some w) × IsDoneBy worker v w)
+
+-- the parcel is of a rank of the layer
+abbrev pub IsOfRank : LayerView → ℕ → ParcelView → Type 0
+IsOfRank layer rank parcel = (parcel.level ≡ layer.level) × (parcel.layer ≡ layer.number) × (parcel.rank ≡ rank)
+
+-- each claimed rank is done, except at most one
+abbrev pub AreDoneBut : BookView → ℕ → Type 0
+AreDoneBut book rank = (r : ℕ) → slice_index_or book.claimed r false ≡ true → IsDone book r ⊎ (r ≡ rank)
+
+-- the parcel is of the one rank that is claimed and not done
+pub record IsDue (before : BookView) (layer : LayerView) (book : BookView) (parcel : ParcelView) : Type 0 where
+  pub still : IsStillAt before layer book
+  pub of : IsOfRank layer parcel.rank parcel
+  pub free : slice_get book.done parcel.rank ≡ Some false
+  pub others : AreDoneBut book parcel.rank
+
+-- the book after its limit was passed
+abbrev pub with_over : BookView → BookView
+with_over book = record book { over = true }
