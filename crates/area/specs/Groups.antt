@@ -1,4 +1,4 @@
--- Boxes that hang together.
+-- Connected boxes: a chain of adjacent boxes links them.
 use Rattle.std.specs.Prelude.{◌≡◌, ℕ, true}
 use Rattle.grid.specs.declared.dir.Dir.{Dir}
 use Rattle.grid.specs.Squares.{Squares, contains}

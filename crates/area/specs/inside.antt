@@ -1,4 +1,4 @@
--- What keeps the books of the code: what its loops keep, what fields hold, why it ends. No report rests on it.
+-- Definitions about the code's own state: loop invariants, fields, measures. No report depends on them.
 pub mod Descent
 pub mod ScratchView
 pub mod Spread

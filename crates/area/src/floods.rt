@@ -14,7 +14,8 @@ use crate::scratch::Scratch;
 use crate::set::SquareSet;
 use grid::{Level, Position, Square, StepMasks, WORD_BITS};
 
-/// Finds the squares that the player reaches without a push. Afterwards [`Scratch::reaches`] tells them.
+/// Finds the squares that the player reaches without a push. Afterwards [`Scratch::reaches`] tells them. The position
+/// fits the level, and the scratch is made for the level's size.
 pub fn flood(level: &Level, position: &Position, scratch: &mut Scratch)
     requires fits { FitsLevel level.now position.now }
     requires room { scratch.old.size ≡ length level.now.cells }
@@ -31,8 +32,8 @@ pub fn flood(level: &Level, position: &Position, scratch: &mut Scratch)
     );
 }
 
-/// The normal position: the same boxes, and the player on the least square that it reaches without a push. Takes
-/// one flood.
+/// The normal position: the same boxes, and the player on the least square that it reaches without a push. The position
+/// fits the level, and the scratch is made for the level's size. Takes one flood.
 pub fn normal(level: &Level, position: &Position, scratch: &mut Scratch) -> Position
     requires fits { FitsLevel level.now position.now }
     requires room { scratch.old.size ≡ length level.now.cells }

@@ -4,7 +4,8 @@ ghost use Rattle.area.specs.inside.Spread.{IsBegun, IsLook, IsSpread, KeepsBlock
 
 use grid::{Dir, Level, Square};
 
-// Marks every square that a walk from a square reaches with the number of its steps, round the boxes' marks.
+// Marks every square that a walk from a square reaches with `base + 1` plus the steps of a shortest one, round the
+// boxes' marks.
 pub(crate) fn spread(
     level: &Level,
     from: Square,

@@ -1,4 +1,4 @@
--- What keeps the books of the code: views within a step, what a step tells, what fields hold.
+-- Definitions about the code's own state: loop invariants, fields, measures. No report depends on them.
 pub mod Fields
 pub mod Plays
 pub mod Views

@@ -91,7 +91,7 @@ const FAULTS: &str = "
 const MISSING: &str = "\
 If a level is missing, split or joined to another:
   A line is text if it has no wall, or has a tab, a letter, a comment after the
-  row or any other byte that is no cell. Text ends a level. Two levels need a
+  row or any other byte that is no cell, digit or bar. Text ends a level. Two levels need a
   line of text between them; an empty line will do. Lines end with LF or CRLF.
   The encoding is ASCII or UTF-8.
 
@@ -116,10 +116,11 @@ fn check_notes(alloc: Global) -> Result<String, AllocError> {
 
 /// The squares of the map, in the help of `dead`.
 pub const DEAD: &str = "\
-The map has # for walls, . for goals and x for dead squares. A square is dead if
-the player can reach it once the boxes are taken away, and no play brings a box
-from it to a goal. A box on a dead square leaves the level unsolvable. Other
-squares are blank, also those of the boxes and the player.
+The map has # for walls, . for goals and x for dead squares. The player can reach
+a dead square once the boxes are taken away, and no play brings a box from it to
+a goal, so a box on it leaves the level unsolvable. The map may lack some such
+squares: it sets the player down anew before each push. Other squares are blank,
+also those of the boxes and the player.
 
 Example:
   sokopar dead levels.xsb 1";
@@ -186,8 +187,8 @@ The report is the same for every number of workers and locks. Usually fastest
 with as many locks as workers: --workers 4 --locks 4 on four processors.
 
 A position takes up to 150 bytes and 1 to 5 microseconds. So the default limit
-needs at most about 150 MB and 5 seconds, and 100000000 positions 15 GB and 10
-to 15 minutes. With more than 11 boxes a position takes up to 240 bytes, with
+needs at most about 150 MB and 5 seconds, and 100000000 positions 15 GB and up
+to 10 minutes. With more than 11 boxes a position takes up to 240 bytes, with
 more than 35 up to 370, and in the largest rooms some 50 microseconds.
 
 With --max-pushes M the search looks only for solutions with at most M pushes.

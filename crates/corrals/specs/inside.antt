@@ -1,4 +1,4 @@
--- What keeps the books of the code: what contracts see of fields, and what a check looks at. No report rests on it.
+-- Definitions about the code's own state: loop invariants, fields, measures. No report depends on them.
 pub mod Views
 pub mod Grounds
 pub mod Checking

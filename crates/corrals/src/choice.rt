@@ -39,7 +39,7 @@ impl Choice {
     /// Chooses the corral with the fewest possible pushes among those it finds; `false` if it finds none.
     pub(crate) fn choose(&mut self, ground: &Ground<'_>) -> bool {
         self.sketch.draw(ground);
-        self.find_loose(ground);
+        self.find_mobile(ground);
         self.least = u32::MAX;
         self.try_rooms(ground);
         self.try_boxes(ground);
@@ -51,23 +51,23 @@ impl Choice {
         true
     }
 
-    // Finds the loose boxes, which no corral holds.
-    fn find_loose(&mut self, ground: &Ground<'_>) {
+    // Finds the boxes that the player can push to and fro, which the guess leaves out of all corrals.
+    fn find_mobile(&mut self, ground: &Ground<'_>) {
         self.bad = 0;
         for place in 0..self.sketch.count() {
-            if self.is_loose(ground, place) {
+            if self.is_mobile(ground, place) {
                 self.bad |= bit(place);
             }
         }
     }
 
     // Whether a box has a push from a square that the player reaches onto another such square.
-    fn is_loose(&mut self, ground: &Ground<'_>, place: usize) -> bool {
-        self.is_loose_along(ground, place, Dir::D) || self.is_loose_along(ground, place, Dir::R)
+    fn is_mobile(&mut self, ground: &Ground<'_>, place: usize) -> bool {
+        self.is_mobile_along(ground, place, Dir::D) || self.is_mobile_along(ground, place, Dir::R)
     }
 
     // The same for the pushes in a direction and its opposite.
-    fn is_loose_along(&mut self, ground: &Ground<'_>, place: usize, dir: Dir) -> bool {
+    fn is_mobile_along(&mut self, ground: &Ground<'_>, place: usize, dir: Dir) -> bool {
         let behind = self.sketch.beside(place, dir.opposite());
         let ahead = self.sketch.beside(place, dir);
         is_reached(behind)

@@ -8,9 +8,9 @@ use grid::{Level, Square};
 use std::alloc::{AllocError, Global};
 use std::marker::Model;
 
-/// The last corral that `find` found, and the memory of the search, made once for all levels with the same rows and
-/// columns; on a level of another size it finds none. Contracts see the squares of its boxes and of its room, as words
-/// of bits.
+/// The corral that the last call of [`find`](crate::find) found, if that returned `true`, and the memory of the search,
+/// made once for all levels with the same rows and columns; on a level of another size it finds none. Contracts see the
+/// squares of its boxes and of its room, as words of bits.
 #[derive(Debug, Drop)]
 pub struct Corral {
     pub(crate) size: usize,
@@ -40,8 +40,7 @@ impl Model for Corral {
 }
 
 impl Corral {
-    /// All memory that later calls need: some words for each 64 squares, and lists of the boxes. Fails only if out of
-    /// memory.
+    /// All memory that later calls need, some 14 bytes a square. Fails only if out of memory.
     pub fn new(alloc: Global, level: &Level) -> Result<Corral, AllocError> {
         level.tell();
         let squares = level.squares();
@@ -56,7 +55,8 @@ impl Corral {
         })
     }
 
-    /// Whether the corral holds the box on the square.
+    /// Whether the corral holds the box on the square. Without meaning unless the last call of
+    /// [`find`](crate::find) returned `true`.
     pub fn holds(&self, square: Square) -> bool
         ensures { result ≡ has_bit self.now.held square }
     {

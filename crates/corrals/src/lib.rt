@@ -2,7 +2,7 @@
 //! the fewest pushes uses them to leave out all other pushes.
 //!
 //! A guess chooses the boxes and squares, and a proved check accepts them only if they are a corral by definition. If a
-//! corral has no possible push, no play solves the position.
+//! corral has no possible push, no play solves the position with the pushes that are left.
 //!
 //! [`find`] looks for a corral after a flood of the position. If it returns `true`, the pushes of boxes that
 //! [`Corral::holds`] suffice. A call takes no memory, and about as long as a few floods.

@@ -10,10 +10,10 @@ use std::alloc::{AllocError, Global};
 /// The greatest number of rooms.
 const MAX_ROOMS: usize = 64;
 
-/// The number of squares beside a box.
-const AROUND: usize = 256;
+/// The number of squares beside boxes: four for each box.
+const SIDES: usize = 4 * MAX_BOXES;
 
-/// What is on a square: a box by its index, a square of a room by `ROOM` and the room's number.
+/// The code of a square of room 0; a square of another room has `ROOM` plus the room's number, and a box has its index.
 const ROOM: u8 = 64;
 
 /// The player reaches it.
@@ -37,7 +37,10 @@ pub(crate) enum Beside {
     Unknown,
 }
 
-/// The boxes and the rooms of a position.
+/// The boxes and the rooms of a position. `codes` says what is on each square. `squares` lists the rooms one after the
+/// other; a room has those from `starts` to `ends`. `around` has the boxes around each room, `goals` the rooms with goals
+/// and `off_goal` the boxes off goal, all as bits. `beside` has the codes of the four squares beside each box. A bit of
+/// `asked` says that it is known whether a push of a box never helps, the bit of `useless` that it never does.
 #[derive(Debug, Drop)]
 pub(crate) struct Sketch {
     codes: Vec<u8>,
@@ -50,7 +53,7 @@ pub(crate) struct Sketch {
     count: usize,
     boxes: [Square; MAX_BOXES],
     off_goal: u64,
-    beside: [u8; AROUND],
+    beside: [u8; SIDES],
     asked: [u8; MAX_BOXES],
     useless: [u8; MAX_BOXES],
 }
@@ -64,7 +67,7 @@ pub(crate) fn bit(number: usize) -> u64 {
 fn place_beside(place: usize, dir: Dir) -> usize
     ensures { result < 256 }
 {
-    place.wrapping_mul(4).wrapping_add(dir as usize) % AROUND
+    place.wrapping_mul(4).wrapping_add(dir as usize) % SIDES
 }
 
 impl Sketch {
@@ -81,7 +84,7 @@ impl Sketch {
             count: 0,
             boxes: [Square(0); MAX_BOXES],
             off_goal: 0,
-            beside: [NOTHING; AROUND],
+            beside: [NOTHING; SIDES],
             asked: [0; MAX_BOXES],
             useless: [0; MAX_BOXES],
         })

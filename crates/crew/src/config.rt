@@ -4,7 +4,8 @@ ghost use Rattle.crew.specs.Configured.{IsWithinLimits};
 use layers::{MAX_SHARES, MAX_WORKERS};
 
 /// How to solve a level: the numbers of workers and of locks, the limit of positions, and the cap of pushes, if one is
-/// set.
+/// set. There are 1 to [`MAX_WORKERS`](layers::MAX_WORKERS) workers and 1 to [`MAX_SHARES`](layers::MAX_SHARES) locks,
+/// and the limit is at least 1.
 #[derive(Clone, Copy, PartialEq, Eq, Debug)]
 pub struct Config {
     pub workers: u8,
@@ -14,8 +15,7 @@ pub struct Config {
 }
 
 impl Config {
-    /// Whether there are 1 to [`MAX_WORKERS`](layers::MAX_WORKERS) workers and 1 to
-    /// [`MAX_SHARES`](layers::MAX_SHARES) locks, and the limit is at least 1.
+    /// Whether these numbers are within their limits.
     pub(crate) fn is_within_limits(&self) -> bool
         ensures { IsTrue result ↔ IsWithinLimits self.now }
     {

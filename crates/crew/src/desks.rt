@@ -140,11 +140,7 @@ fn work_first<'a, R: Threads + Wait + Sync, G: Gate + Sync>(
 fn most_at_work(workers: usize, ranks: u64) -> usize
     ensures { result ≤ workers }
 {
-    if ranks < workers as u64 {
-        ranks as usize
-    } else {
-        workers
-    }
+    ranks.min(workers as u64) as usize
 }
 
 // Gives each desk a drawer of its own.

@@ -17,7 +17,7 @@ use crate::settings::{SearchState, Settings};
 use layers::{Book, Layer};
 use solo::{Answer, Search, Worked, begin_each};
 use std::alloc::AllocError;
-use std::mem::swap;
+use std::mem::replace;
 use std::sync::Wait;
 use std::thread::Threads;
 
@@ -47,17 +47,16 @@ pub(crate) fn iterate<R: Threads + Wait + Sync, G: Gate + Sync>(
         (λ outcome. IsIterationEnd settings.now.config state.old.search state.new.search outcome) }
     ensures desks { state.new.desks ≡ state.old.desks }
 {
-    let mut room = Vec::new(settings.alloc);
-    swap(&mut room, &mut state.room);
+    let memory = replace(&mut state.memory, Vec::new(settings.alloc));
     let workers = settings.config.workers;
-    let layer = join_layer(rt, settings.alloc, books.as_slice(), workers, room)?;
+    let layer = join_layer(rt, settings.alloc, books.as_slice(), workers, memory)?;
     if let Some(answer) = state.search.look(&layer)? {
         return Ok(IterationEnd::Found(answer));
     }
     let Some((worked, after)) = work_through(rt, settings, books, &layer, state)? else {
         return Ok(IterationEnd::Foreign);
     };
-    state.room = state.search.push(layer)?;
+    state.memory = state.search.push(layer)?;
     match worked {
         Worked::Over => Ok(IterationEnd::Found(Answer::Limit)),
         Worked::Through => Ok(IterationEnd::Onward(after)),

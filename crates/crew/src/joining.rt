@@ -24,26 +24,27 @@ const ROUNDS: usize = 16;
 // The least number of positions of a round.
 const LEAST_OF_A_ROUND: usize = 65536;
 
-// The last layer that the books have closed, which are all the shares in order. A large layer is merged in as many
-// segments as there are workers, each in a thread of its own if one can start, and a very large one in several rounds.
-// Its squares take the memory of those of the layer before, as far as it reaches. Fails only if out of memory.
+// The last layer that the books have closed, which are all the shares in order. A large layer is merged in a segment
+// for each worker, at most `MOST` side by side, each in a thread of its own if one can start, and a very large one in
+// several rounds. Its squares take the memory of those of the layer before, as far as it reaches. Fails only if out of
+// memory.
 pub(crate) fn join_layer<R: Threads + Sync>(
     rt: &R,
     alloc: Global,
     books: &[Book],
     workers: u8,
-    room: Vec<Square>,
+    memory: Vec<Square>,
 ) -> Result<Layer, AllocError>
     requires { AreAllShares books.now }
     ensures { IfOk result (λ layer. IsJoinOf books.now layer) }
 {
     if workers < 2 {
-        return last_layer(alloc, books, room);
+        return last_layer(alloc, books, memory);
     }
     let many = workers.min(MOST) as usize;
     let rounds = Segment::parts(books, ROUNDS, LEAST_OF_A_ROUND).max(1);
     let most = rounds.saturating_mul(many);
-    let Ok(mut segments) = Segment::all(alloc, books, most, LEAST, room) else {
+    let Ok(mut segments) = Segment::all(alloc, books, most, LEAST, memory) else {
         return last_layer(alloc, books, Vec::new(alloc));
     };
     let segments = segments.as_mut_slice();

@@ -94,7 +94,7 @@ fn search_by<R: Threads + Wait + Sync, G: Gate + Sync>(
     let books = search.new_books(dealing)?;
     let state = SearchState {
         search,
-        room: Vec::new(alloc),
+        memory: Vec::new(alloc),
         desks: Desks::of(alloc, &**problem, config.workers),
     };
     let settings = Settings {

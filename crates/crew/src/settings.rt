@@ -19,6 +19,6 @@ pub(crate) struct Settings<'s, G: Gate> {
 #[derive(Drop)]
 pub(crate) struct SearchState<'a> {
     pub(crate) search: Search<'a>,
-    pub(crate) room: Vec<Square>,
+    pub(crate) memory: Vec<Square>,
     pub(crate) desks: Desks<'a>,
 }

@@ -1,5 +1,5 @@
 -- Where walls and dead squares alone hold a box, as sets.
-use Rattle.std.proofs.Common.{◌≡◌, ◌≢◌, ◌↔◌, ◌<◌, ◌≤◌, ◌+◌, ◌-◌, ℕ, Bool, true, false, eqb, ◌||◌, List, length, refl}
+use Rattle.std.proofs.Common.{◌≡◌, ◌≢◌, ◌↔◌, ◌<◌, ◌≤◌, ◌+◌, ℕ, Bool, true, false, eqb, ◌||◌, List, length, refl}
 use Rattle.std.proofs.Common.{sym, ap, subst, ◌∙◌, inl, inr, arith, IsTrue}
 use Rattle.std.proofs.lemmas.Bool.{false≢true, cases_Bool, or_cases, or_left, or_right, cases_eq, eqb-true, eq-eqb}
 use Rattle.grid.specs.declared.dir.Dir.{Dir}

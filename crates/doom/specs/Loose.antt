@@ -1,4 +1,5 @@
--- Boxes that can be pushed on some axis, or could once others are, and pushes that bring a box to where it is one.
+-- Loose boxes: on some axis neither a wall, nor another box, nor two dead squares hold them. A push that makes its box
+-- loose dooms nothing.
 use Rattle.std.specs.Prelude.{ℕ}
 use Rattle.grid.specs.declared.dir.Dir.{Dir}
 use Rattle.grid.specs.Squares.{Squares, insert, remove}

@@ -15,7 +15,8 @@ use grid::{Level, Position, Push, Square};
 /// Whether a push dooms the position that it leads to: the pushed box is on a dead square, or some boxes connected to
 /// it, at least one of them off goal, are frozen. If the position before the push was not doomed, the result is that
 /// of [`doomed`](crate::doomed), and this call is faster: it looks for one dead box only, and floods the connected
-/// boxes only if some boxes of the position are frozen. It allocates no memory.
+/// boxes only if some boxes of the position are frozen. `dead` is that of the level, and the scratch is made for its
+/// size. It allocates no memory.
 pub fn doomed_after(
     level: &Level,
     dead: &Dead,
@@ -87,7 +88,7 @@ fn is_group_frozen(
     if !has_locked(holds, level.cols(), boxes, left) {
         return false;
     }
-    // a frozen box off goal freezes its group
+    // the pushed box is itself frozen and off goal, so its group need not be found
     let frozen = has(left, square);
     let off = !level.is_goal(square);
     if frozen & off {

@@ -1,5 +1,5 @@
 //! The pushes after which a box may be held on both axes, for all boxes of a position at once, in grids of few words.
-ghost use Rattle.std.specs.Prelude.{◌≡◌, ℕ, ◌<◌, ◌≤◌, IsTrue, length};
+ghost use Rattle.std.specs.Prelude.{◌≡◌, ℕ, ◌<◌, ◌≤◌, IsTrue, [], length};
 ghost use Rattle.grid.specs.declared.dir.Dir.TheVariants.{D, R};
 ghost use Rattle.grid.specs.Board.{Board, next};
 ghost use Rattle.grid.specs.Squares.{Squares, insert, remove};
@@ -40,7 +40,9 @@ pub struct Dangers {
 
 impl Dangers {
     /// Knows nothing: it spares no push.
-    pub fn unknown() -> Dangers {
+    pub fn unknown() -> Dangers
+        ensures { result.words.items ≡ [] }
+    {
         Dangers {
             words: ArrayVec::new(),
         }

@@ -1,5 +1,5 @@
 //! An example for users of the library: reads a collection from standard input, solves each of its levels on one
-//! thread, and prints a line for each: the pushes of its best solution and the solution, or why there is none.
+//! thread, and prints a line for each: the pushes of its least solution and the solution, or why there is none.
 //!
 //! ```text
 //! rt run < ../../levels/first-steps.xsb
@@ -19,7 +19,7 @@ use std::io::Read;
 use std::sync::Arc;
 use xsb::Entry;
 
-/// A search that has found more positions than this ends without an answer. Each takes some 20 to 50 bytes.
+/// A search that needs more positions than this answers [`Answer::Limit`]. Each takes some 50 to 150 bytes.
 const LIMIT: u32 = 1_000_000;
 
 /// All bytes of standard input.

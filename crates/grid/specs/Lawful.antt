@@ -29,8 +29,7 @@ pub data InRoom (board : Board) : ℕ → Type 0 where
 abbrev pub IsOpen : Board → Type 0
 IsOpen board = (q : ℕ) × (d : Dir) × InRoom board q × (next board q d ≡ length board.cells)
 
--- the first fault that looking at the cells alone finds, in the order of their numbers: of the size, then of what
--- stands there
+-- the first fault that looking at the cells alone finds, in the order of `LevelFault`: of the size, then of the cells
 abbrev pub cell_fault : Board → Option LevelFault
 cell_fault board =
     cond (nat_lt MAX_ROWS (row_count board)) (Some TooTall)
@@ -40,7 +39,7 @@ cell_fault board =
     (cond (box_count board == 0) (Some NoBox)
     (cond (box_count board == goal_count board) None (Some (Counts (box_count board) (goal_count board))))))))
 
--- f is the first fault of the board, in the order of their numbers
+-- f is the first fault of the board, in the order of `LevelFault`
 abbrev pub HasFault : Board → LevelFault → Type 0
 HasFault board f = (cell_fault board ≡ Some f) ⊎ ((cell_fault board ≡ None) × IsOpen board × (f ≡ Open))
 

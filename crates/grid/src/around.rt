@@ -39,7 +39,7 @@ pub(crate) fn neighbours(
 
 /// The neighbours of a square in a column.
 #[inline(always)]
-pub(crate) fn neighbours_of(cols: usize, cells: &[Cell], square: usize, column: usize) -> Around
+fn neighbours_of(cols: usize, cells: &[Cell], square: usize, column: usize) -> Around
     requires columns { 1 ≤ cols }
     requires wide { cols ≤ MAX_COLS }
     requires bound { length cells.now ≤ MAX_SQUARES }

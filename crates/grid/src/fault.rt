@@ -4,7 +4,8 @@ use crate::limits::{MAX_COLS, MAX_ROWS};
 use std::alloc::AllocError;
 use thiserror::Error;
 
-/// Why a board is no lawful level. If several faults apply, the first in this order is reported.
+/// Why a board is no lawful level. If several faults apply, the first in this order is reported, except that
+/// `OutOfMemory` may come in place of `Open`.
 #[derive(Clone, Copy, PartialEq, Eq, Debug, Drop, Error)]
 pub enum LevelFault {
     /// More rows than [`MAX_ROWS`](crate::MAX_ROWS).

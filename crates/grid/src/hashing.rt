@@ -19,9 +19,9 @@ impl Hash for Position {
     }
 }
 
-/// Writes the squares of boxes and of a player to a hasher, four at once, exactly as the hash of a position does.
+// Writes the squares of boxes and of a player to a hasher, four at once, exactly as the hash of a position does.
 #[inline]
-pub(crate) fn hash_squares<H: Hasher>(mut boxes: &[Square], player: Square, state: &mut H)
+fn hash_squares<H: Hasher>(mut boxes: &[Square], player: Square, state: &mut H)
     ensures { state.new ≡ fold H.write state.old (writes_of_squares boxes.now player) }
 {
     while let [a, b, c, d, others @ ..] = boxes {

@@ -42,7 +42,8 @@ impl Model for Level {
 }
 
 impl Level {
-    /// The level of these cells, row by row, or its first fault.
+    /// The level of these cells, row by row in rows of `cols`, at least 1; the number of cells is a multiple of it. Fails
+    /// with the first [`LevelFault`] that applies, or if out of memory.
     pub fn from_cells(alloc: Global, cols: usize, cells: Vec<Cell>) -> Result<Level, LevelFault>
         requires columns { 1 ≤ cols }
         requires whole { length cells.items % cols ≡ 0 }
@@ -55,7 +56,7 @@ impl Level {
         Ok(Level::of_board(alloc, board)?)
     }
 
-    /// The level of this board.
+    /// The level of this board. Fails only if out of memory.
     pub fn of_board(alloc: Global, board: Board) -> Result<Level, AllocError>
         ensures { IfOk result (λ level. level ≡ board) }
     {
@@ -156,7 +157,8 @@ impl Level {
         self.board.player()
     }
 
-    /// The square next to a square in a direction. Where the grid ends it is the number of squares, which is no square.
+    /// The square next to a square of the grid in a direction. Where the grid ends it is the number of squares, which is
+    /// no square.
     pub fn next(&self, square: Square, dir: Dir) -> Square
         requires { square < length self.now.cells }
         ensures { result ≡ next self.now square dir }
@@ -216,7 +218,7 @@ impl Level {
         self.board.in_room(square)
     }
 
-    /// An equal level.
+    /// An equal level. Fails only if out of memory.
     pub fn copy(&self) -> Result<Level, AllocError>
         ensures { IfOk result (λ level. level ≡ self.now) }
     {

@@ -1,4 +1,4 @@
-//! The game: squares, lawful levels, states, steps and positions of Sokoban, and the limits of the program.
+//! The game: squares, lawful levels, states, steps and positions of Sokoban, and the limits of levels.
 //!
 //! Use [`Level`] and [`State`] to play moves by the rules, and [`Position`] (boxes in rising order, and the player) to
 //! search. A level takes memory in proportion to its squares; a step and a position take none.

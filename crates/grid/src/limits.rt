@@ -1,4 +1,4 @@
-//! The limits of the program. All other code names these constants.
+//! The limits of levels and positions.
 
 /// The greatest number of rows of a level.
 pub const MAX_ROWS: usize = 255;

@@ -56,17 +56,10 @@ impl Position {
         ensures value { IfSome result (λ p. p ≡ record { boxes = boxes.now; player = player }) }
         ensures some { IsSome result ↔ ((is_rising boxes.now ≡ true) × (length boxes.now ≤ MAX_BOXES)) }
     {
-        if !rises(boxes) {
+        if !rises(boxes) || boxes.len() > MAX_BOXES {
             return None;
         }
-        let mut kept = ArrayVec::new();
-        if kept.try_extend_from_slice(boxes).is_err() {
-            return None;
-        }
-        Some(Position {
-            boxes: kept,
-            player,
-        })
+        Some(Position::of_rising(boxes, player))
     }
 
     /// The position with these boxes, in rising order, and this player.
@@ -87,12 +80,7 @@ impl Position {
     pub fn copy(&self) -> Position
         ensures { result ≡ self.now }
     {
-        let mut boxes = ArrayVec::new();
-        let _ = boxes.try_extend_from_slice(self.boxes.as_slice());
-        Position {
-            boxes,
-            player: self.player,
-        }
+        Position::of_rising(self.boxes(), self.player)
     }
 
     /// Makes the position equal to another, in place.
@@ -154,7 +142,7 @@ impl Position {
         self.player = player;
     }
 
-    /// Moves the box on `from` to `to`, and the player to `from`. `place` is a guess at the index of the box, which a
+    /// Moves the box on `from` to `to`, which has no box, and the player to `from`. `place` is a guess at the index of the box, which a
     /// caller that goes through the boxes in order knows; a wrong guess only costs time.
     pub fn push_at(&mut self, place: usize, from: Square, to: Square)
         requires box_there { contains self.old.boxes from ≡ true }
@@ -165,7 +153,7 @@ impl Position {
         self.player = from;
     }
 
-    /// Moves the box on `from` to `to`, and the player to `from`.
+    /// Moves the box on `from` to `to`, which has no box, and the player to `from`.
     pub fn push(&mut self, from: Square, to: Square)
         requires box_there { contains self.old.boxes from ≡ true }
         requires free { contains self.old.boxes to ≡ false }
@@ -259,7 +247,7 @@ pub(crate) fn move_square(squares: &mut [Square], place: usize, from: Square, to
     settle(squares, left, to);
 }
 
-// How many of the rising squares are less than this one, which is one of them. `place` is a guess at its index.
+// How many of the rising squares are less than this one. `place` is a guess at its index.
 fn place_by(squares: &[Square], place: usize, square: Square) -> usize
     requires rising { is_rising squares.now ≡ true }
     requires bound { length squares.now ≤ MAX_SQUARES }

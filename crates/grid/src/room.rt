@@ -105,7 +105,7 @@ fn run_start(cols: usize, cells: &[Cell], first: usize, square: usize) -> usize
 }
 
 // Marks the squares of a run from the first on, and makes the unmarked squares above and below pending: of several in a
-// row the first. It ends at the first square at the grid's edge.
+// row the first. Fails with `Open` at the first square at the grid's edge.
 #[inline(always)]
 fn fill_run(
     cols: usize,

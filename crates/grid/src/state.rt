@@ -50,7 +50,7 @@ impl State {
     }
 
     /// Makes one step in a direction, if the rules allow it: the player moves to a free square, or pushes a box that
-    /// has a free square behind it. Takes no memory.
+    /// has a free square behind it. The state is one of this level. Takes no memory.
     pub fn step(&mut self, level: &Level, dir: Dir) -> Step
         requires { IsScene level.now self.old }
         ensures steps { Steps level.now self.old dir result self.new }
@@ -73,7 +73,7 @@ impl State {
         Step::Pushed
     }
 
-    /// Whether every box is on a goal.
+    /// Whether every box is on a goal. The state is one of this level.
     pub fn is_solved(&self, level: &Level) -> bool
         requires { IsScene level.now self.now }
         ensures { IsTrue result ↔ IsSolved level.now self.now }

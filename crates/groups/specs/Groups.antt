@@ -25,8 +25,8 @@ IsPaid board far p d before after = let q = next board p d in let r = next board
 abbrev pub endless : ℕ
 endless = 255
 
--- how many pushes boxes need together above what each needs by itself, alone in the room with the player: none where
--- all are on goals; no walk lessens it; a push lessens it and the way of the box by at most one, and keeps it endless
+-- a lower bound on the pushes that boxes need together above what each needs by itself, alone in the room with the
+-- player: none where all are on goals; no walk lessens it; a push lessens it and the way of the box by at most one, and keeps it endless
 -- where it is
 pub record IsExcess (board : Board) (far : ℕ → ℕ → ℕ → ℕ) (excess : Scene → ℕ) : Type 0 where
   pub home : (s : Scene) → IsScene board s → IsSolved board s → excess s ≡ 0
@@ -55,7 +55,7 @@ abbrev pub excess_over : (Scene → ℕ) → ℕ → List Squares → ℕ
 excess_over excess p [] = 0
 excess_over excess p (g ∷ gs) = excess (alone g p) + excess_over excess p gs
 
--- where the boxes need so much above some tolls, the excess of groups comes on top: no play with fewer pushes ends
+-- if the boxes need `low` pushes above some tolls, the excess of groups comes on top: no play with fewer pushes ends
 -- solved
 abbrev pub ExcessAddsUp : Board → Type 0
 ExcessAddsUp board =

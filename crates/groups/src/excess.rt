@@ -49,8 +49,9 @@ impl Groups {
         })
     }
 
-    /// Makes the tables of groups of at most `most` boxes, 2 to 5. Leaves out each size whose table would be too large.
-    /// Takes up to a second or two. Fails only if out of memory, and then leaves the groups unchanged.
+    /// Makes the tables of groups of at most `most` boxes, 2 to 5. With less there are no tables afterwards; more counts
+    /// as 5. Leaves out each size whose table would be too large. Takes up to a second or two. Fails only if out of
+    /// memory, and then leaves the groups unchanged.
     pub fn make_tables(
         &mut self,
         alloc: Global,
@@ -71,8 +72,9 @@ impl Groups {
         &self.distances
     }
 
-    /// A lower bound on the pushes that the boxes need: no play from the position with fewer ends solved. Takes no
-    /// memory. The matching may be that of any position; one of a position that differs by a push or two is fastest.
+    /// A lower bound on the pushes that the boxes need: no play from the position with fewer ends solved. It may be
+    /// `u64::MAX`: then no play does. Takes no memory. The matching may be that of any position; one of a position that
+    /// differs by a push or two is fastest.
     pub fn lower(&self, position: &Position, matching: &mut Matching) -> u64
         requires { IsScene self.now position.now }
         ensures { (m : ℕ) → m < result → NoneWithin self.now m position.now }

@@ -4,7 +4,7 @@ use grid::{Dir, Level, Square};
 use prices::{Distances, NEVER};
 use std::alloc::{AllocError, Global};
 
-/// No place.
+/// No square, neighbour or index.
 pub(crate) const NONE: u16 = u16::MAX;
 
 /// A square of the room: its number, its neighbours by their indexes in the list, its place among the squares from
@@ -151,12 +151,7 @@ fn is_live(distances: &Distances, ground: &[RoomSquare], at: u16) -> bool {
 }
 
 /// Whether a lone box can come to a goal, with the player on another square.
-pub(crate) fn is_hopeful(
-    distances: &Distances,
-    ground: &[RoomSquare],
-    at: u16,
-    player: u16,
-) -> bool {
+fn is_hopeful(distances: &Distances, ground: &[RoomSquare], at: u16, player: u16) -> bool {
     let square = ground_at(ground, at).square;
     let other = ground_at(ground, player).square;
     is_near(distances.row(Square(square), Square(other)))

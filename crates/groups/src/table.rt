@@ -26,10 +26,11 @@ pub(crate) struct ListedGroup {
 /// Listed groups. A row with a number below [`ROWS`] has this number as its excess; any other row begins at its
 /// number in `rows`, with a byte for each place of the player. Groups may share a row.
 ///
-/// The waste of a push of a box on a square in a direction is the same for all goals, or less.
+/// The waste of a push is at most what the push takes back on the box's way to each goal that it can come to: one push,
+/// and what is left of the way after it, less what was left before.
 #[derive(Debug, Drop)]
 pub(crate) struct GroupTable {
-    /// The place of each square in a row.
+    /// The index of each square in a row.
     pub(crate) places: Vec<u16>,
     /// Four for each square, in the order of directions.
     pub(crate) wastes: Vec<u8>,

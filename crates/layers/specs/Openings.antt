@@ -39,8 +39,9 @@ pub record IsOpen {N P : Type 0} (cmp : P → P → Ordering) (Edge : N → P �
       ((j : ℕ) × (j ≤ k) × IsIn (layer j) m) ⊎ ((o : Origin P) × (look m ≡ Some o))
 
 -- what the order of layers rests on: the order of pushes is total and exact; a push leads on from a place that is
--- reached, and what more than no push reaches is reached by such a last push; equal push lists end in one place; and
--- what is admitted late or comes from what is admitted was admitted before
+-- reached, and what more than no push reaches is reached by such a last push; equal push lists end in one place; what
+-- is admitted at some number of pushes is admitted at fewer; and a place from which a push leads to an admitted one was
+-- admitted one push before
 pub record IsLayered {N P : Type 0} (cmp : P → P → Ordering) (Reach : List P → N → Type 0) (Edge : N → P → N → Type 0)
     (Adm : ℕ → N → Type 0) : Type 0 where
   pub total : IsTotalOrder cmp

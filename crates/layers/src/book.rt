@@ -138,7 +138,7 @@ impl Book {
         self.begun
     }
 
-    /// The number of ranks that the worker has handed back.
+    /// The number of ranks that the worker has handed back. `worker` is less than [`Book::workers`].
     pub fn tally(&self, worker: u8) -> u64
         requires { worker < self.now.workers }
         ensures { result ≡ slice_index_or self.now.tallies worker 0 }
@@ -159,7 +159,7 @@ impl Book {
 }
 
 // The bounds of a piece of a list that is cut at the indices `starts`; `None` beyond the pieces.
-pub(crate) fn piece_of(starts: &[usize], len: usize, piece: u64) -> Option<(usize, usize)>
+fn piece_of(starts: &[usize], len: usize, piece: u64) -> Option<(usize, usize)>
     requires { AreCuts starts.now len }
     ensures piece { MatchOption result (length starts.now ≤ piece) (λ r. IsPiece starts.now len piece r.0 r.1) }
     ensures order { IfSome result (λ r. (r.0 ≤ r.1) × (r.1 ≤ len)) }

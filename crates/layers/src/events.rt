@@ -63,7 +63,8 @@ impl Book {
     /// Accepts the successors of a rank, whether or not a worker claimed it. It marks the rank done and adds one to the
     /// worker's tally. The successors of the book's share that are in no closed layer are then open, each with the
     /// least rank and push so far. If the book would hold more positions than its limit, this marks it over, and the
-    /// error is `Over` from then on. Every other error leaves the book unchanged.
+    /// error is `Over` from then on. Every other error leaves the book unchanged. `worker` is less than
+    /// [`Book::workers`].
     pub fn hand_back(&mut self, worker: u8, parcel: &Parcel<'_>) -> Result<(), Refusal>
         requires { worker < self.old.workers }
         ensures may { OnOk result (MayEnter self.old parcel.now) }
@@ -142,7 +143,7 @@ impl Book {
         self.starts.reserve(1)?;
         self.found.close()?;
         let count = self.found.closed_len() - start;
-        push_within(&mut self.starts, start);
+        self.starts.push_reserved(start);
         self.claimed.clear();
         self.done.clear();
         self.next = 0;
@@ -152,14 +153,6 @@ impl Book {
             count: count as u64,
         })
     }
-}
-
-// Appends an index to a list that has capacity for it.
-fn push_within(indices: &mut Vec<usize>, index: usize)
-    requires { vec_len indices.old < vec_capacity indices.old }
-    ensures { indices.new.items ≡ indices.old.items ++ index ∷ [] }
-{
-    let _ = indices.push(index);
 }
 
 // Whether no successor of a parcel is of the share. Returns `false` if the parcel is not dealt to `shares` shares.

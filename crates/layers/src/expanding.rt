@@ -10,7 +10,8 @@ use doom::{Bound, Dead};
 use successors::{Parcel, Problem, RankedPosition};
 
 /// The undoomed successors of the position with a rank of the layer, in the order of their pushes. Under a cap it
-/// leaves out those from which, by the bound, no solution keeps the cap. Takes no memory.
+/// leaves out those from which, by the bound, no solution keeps the cap. The rank is less than [`Layer::len`]; the dead
+/// squares, the bound and the scratch are those of the level. Takes no memory.
 pub fn expand<'a>(
     layer: &'a Layer,
     dead: &Dead,
@@ -31,8 +32,8 @@ pub fn expand<'a>(
     Parcel::of(layer.level(), &ranked, dead, Some(bound), scratch)
 }
 
-/// The parcel that [`expand`] gives, with the dead squares and the bound of the layer's problem. The problem is a
-/// parameter so that the parcel may outlive the layer. Takes no memory.
+/// The parcel that [`expand`] gives, with the dead squares and the bound of the layer's problem, which is a parameter
+/// so that the parcel may outlive the layer. Takes no memory.
 pub fn expand_over<'a>(
     problem: &'a Problem,
     layer: &Layer,

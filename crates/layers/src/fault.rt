@@ -29,7 +29,7 @@ impl From<AllocError> for BookFault {
 #[derive(Clone, Copy, PartialEq, Eq, Debug, Drop, Error)]
 pub enum BeginFault {
     /// The layer is of another level or cap.
-    #[error("the layer is of another level")]
+    #[error("the layer is of another level or cap")]
     OtherLevel,
     /// The layer is not the last closed one, or it has begun.
     #[error("the layer is not the last closed one, or has begun")]
@@ -53,7 +53,7 @@ impl From<AllocError> for BeginFault {
 #[derive(Clone, Copy, PartialEq, Eq, Debug, Drop, Error)]
 pub enum Refusal {
     /// The parcel is of another level or cap.
-    #[error("the parcel is of another level")]
+    #[error("the parcel is of another level or cap")]
     OtherLevel,
     /// The parcel is not of the last closed layer.
     #[error("the parcel is not of the last closed layer")]
@@ -107,8 +107,8 @@ impl From<AllocError> for CloseFault {
 #[derive(Clone, Copy, PartialEq, Eq, Debug, Drop, Error)]
 pub enum JoinFault {
     /// The books are not all the shares, in order, of one level, cap, limit and number of shares, at the same last
-    /// closed layer.
-    #[error("not all the shares of one book")]
+    /// closed layer, or there are none.
+    #[error("the books are not all the shares in order")]
     NotWhole,
     /// Out of memory.
     #[error("out of memory")]

@@ -5,7 +5,7 @@ ghost use Rattle.layers.specs.Holding.{held};
 use crate::book::Book;
 
 impl Book {
-    /// The number of positions of the book, closed and open.
+    /// The number of positions of the book, closed and open. Enters the pending successors first.
     pub fn positions(&mut self) -> u64
         ensures count { result ≡ held self.old }
         ensures same { self.new ≡ self.old }

@@ -98,7 +98,7 @@ impl Layer {
         Some(self.place(rank))
     }
 
-    /// The box squares of the position with a rank, in rising order.
+    /// The box squares of the position with a rank, in rising order. The rank is less than [`Layer::len`].
     pub fn boxes_at(&self, rank: u64) -> &[Square]
         requires { rank < length self.now.places }
         ensures { (m : Scene) → slice_get self.now.places rank ≡ Some m → result.now ≡ m.boxes }

@@ -39,4 +39,4 @@ pub use limits::{MAX_WORKERS, MOST_POSITIONS};
 pub use making::Dealing;
 pub use parents::Parents;
 pub use segment::Segment;
-pub use successors::{MAX_SHARES, MAX_SUCCESSORS, Parcel, Problem, Successor};
+pub use successors::{MAX_SHARES, Parcel, Problem, Successor};

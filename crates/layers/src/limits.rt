@@ -1,4 +1,4 @@
-//! The limits of books and layers. All other code names these constants.
+//! The limits of books and layers.
 use successors::MAX_SHARES;
 
 /// The greatest number of workers. A book may be made for one more: the caller, which does the last ranks.

@@ -22,7 +22,8 @@ use std::sync::Arc;
 use store::Found;
 use successors::{MAX_SHARES, Problem, share_of};
 
-/// The number of workers, and the number of shares to which the positions of a level are dealt.
+/// The number of workers, 1 to [`MAX_WORKERS`](crate::MAX_WORKERS) + 1, and the number of shares to which the positions
+/// of a level are dealt, 1 to [`MAX_SHARES`].
 #[derive(Clone, Copy, PartialEq, Eq, Debug)]
 pub struct Dealing {
     pub workers: u8,
@@ -31,8 +32,9 @@ pub struct Dealing {
 
 impl Book {
     /// A book of a share of the level's positions, with layer 0 closed. That layer is empty if the start is doomed, if
-    /// its lone boxes need more pushes than the cap, or if it is of another share. Fails with
-    /// [`BookFault::TooManyBoxes`] if the level has more than [`MAX_BOXES`](grid::MAX_BOXES) boxes, and with
+    /// its lone boxes need more pushes than the cap, or if it is of another share. The limit is at least 1, there are 1
+    /// to [`MAX_WORKERS`](crate::MAX_WORKERS) + 1 workers, and `share` is less than `shares`, at most [`MAX_SHARES`].
+    /// Fails with [`BookFault::TooManyBoxes`] if the level has more than [`MAX_BOXES`](grid::MAX_BOXES) boxes, and with
     /// [`BookFault::OutOfMemory`].
     pub fn of(
         alloc: Global,

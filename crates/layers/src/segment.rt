@@ -11,7 +11,7 @@ use crate::join::tell_all;
 use crate::merging::{count_all, is_none_left, next_of, rests_of};
 use grid::Square;
 use std::alloc::{AllocError, Global};
-use std::mem::swap;
+use std::mem::{replace, swap};
 use store::{Origin, recycled};
 
 /// The greatest number of steps of a binary search.
@@ -41,7 +41,8 @@ pub(crate) struct Merged {
 }
 
 impl Segment {
-    /// The number of segments of at least `least` positions on average that [`Segment::all`] makes, at most `most`.
+    /// The number of parts of at least `least` positions on average into which the last closed layer can be divided, at
+    /// most `most`.
     pub fn parts(books: &[Book], most: usize, least: usize) -> usize
         ensures { result ≤ most }
     {
@@ -118,8 +119,7 @@ impl Segment {
         if self.starts.len() != books.len() {
             return;
         }
-        let mut memory = Vec::new(alloc);
-        swap(&mut memory, &mut self.memory);
+        let memory = replace(&mut self.memory, Vec::new(alloc));
         let starts = self.starts.as_slice();
         if let Ok(merged) = merge_upto(alloc, books, starts, self.bound, self.capacity, memory) {
             self.merged = Some(merged);

@@ -1,28 +1,15 @@
 -- Letters and their bytes, which are neither digits nor blanks.
-use Rattle.std.proofs.Common.{◌≡◌, ◌≢◌, eqb, Option, Some, None, ℕ, zero, suc, ◌+◌, ◌<◌, ◌≤◌, Bool, true, false, cond, List, [], ◌∷◌, ◌++◌, ◌⊎◌, length, take}
-use Rattle.std.proofs.Common.{drop, Result, Ok, Err, refl, sym, ap, subst, ◌∙◌, inl, inr, arith, append_assoc, length-append}
+use Rattle.std.proofs.Common.{◌≡◌, eqb, Option, Some, None, ℕ, Bool, true, false, cond, List, [], ◌∷◌, ◌⊎◌}
+use Rattle.std.proofs.Common.{refl, ap, inl, inr, arith}
 use Rattle.std.specs.Char.{is_ascii_digit}
-use Rattle.std.specs.List.{AllByRecursion, flat_map}
-use Rattle.std.proofs.lemmas.List.{append-nil, length-replicate, length-take}
-use Rattle.std.proofs.lemmas.Bool.{eqb-true, cases_lt}
+use Rattle.std.proofs.lemmas.Bool.{eqb-true}
 use Rattle.std.proofs.lemmas.Bool.Decides.{nat_tests}
 use Rattle.grid.specs.declared.dir.Dir.{Dir}
 use Rattle.grid.specs.declared.dir.Dir.TheVariants.{D, L, R, U}
 use Rattle.grid.specs.declared.moves.Letter.{Letter}
-use Rattle.lurd.specs.declared.fault.LurdFault.{LurdFault}
-use Rattle.lurd.specs.declared.fault.LurdFault.TheVariants.{BadByte, BadCount, TooManyMoves, OutOfMemory}
-use Rattle.lurd.specs.declared.limits.TheConstants.{MAX_MOVES}
-use Rattle.counts.specs.Counts.{AreDigits, IsCount, begins_with_digit, repeats}
-use Rattle.counts.specs.NoCount.{IsNoCount}
-use Rattle.counts.proofs.lemmas.Digits.{digit_count, digits_in_front, SameRun, one_run, digits_of_count, count_or_not}
-use Rattle.lurd.specs.ExactlyOne.{ExactlyOne}
-use Rattle.lurd.specs.inside.Item.{TakesItem, IsLetterByte}
-use Rattle.lurd.specs.Text.{byte_of, is_blank, Piece, blank, item, spelling, meaning, IsPiece, IsText, BeginsWithLetter, BeginsBadly, BeginsWithBadCount}
-use Rattle.lurd.specs.Text.{BeginsWithTooMany, FaultsAt}
-use Rattle.lurd.specs.Parsing.{Reads}
-use Rattle.lurd.proofs.Items.{bad_byte, bad_count, too_many, takes_item}
+use Rattle.lurd.specs.inside.Item.{IsLetterByte}
+use Rattle.lurd.specs.Text.{byte_of, is_blank}
 use Rattle.lurd.proofs.Leading.{letter_by}
-use Rattle.lurd.proofs.Texts.{text_of_nothing, text_and_piece}
 
 no_digit_by : (d : Dir) (b : Bool) → is_ascii_digit (byte_of (letter_by d b)) ≡ false
 no_digit_by D true = refl

@@ -19,7 +19,8 @@ pub enum Verdict {
     WrongCase { at: usize },
 }
 
-/// The verdict on the letters, played on the level from its start. The first letter that is wrong decides.
+/// The verdict on the letters, played on the level from its start. The first letter that is wrong decides. Fails
+/// only if out of memory.
 #[tactic(auto, using(crate::proofs::Leading::one_letter_on))]
 pub fn replay(alloc: Global, level: &Level, moves: &Moves) -> Result<Verdict, AllocError>
     ensures { IfOk result (λ verdict. IsVerdict level.now moves.now verdict) }

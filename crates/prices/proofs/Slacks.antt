@@ -1,7 +1,5 @@
 -- What is left above what boxes need tells of pushes that never help.
-use Rattle.std.proofs.Common.{◌≡◌, ◌+◌, ◌≤◌, ℕ, suc, true, Option, Some, None, List, length, refl, ap, ◌∙◌, arith}
-use Rattle.std.proofs.lemmas.Bool.{false≢true}
-use Rattle.std.specs.Option.{is_some}
+use Rattle.std.proofs.Common.{◌≡◌, ◌+◌, ◌≤◌, ℕ, true, List, length, ap, ◌∙◌, arith}
 use Rattle.grid.specs.declared.dir.Dir.{Dir}
 use Rattle.grid.specs.Board.{Board, Scene, next}
 use Rattle.grid.specs.States.{IsScene}
@@ -9,7 +7,6 @@ use Rattle.grid.specs.Squares.{contains, remove}
 use Rattle.grid.specs.Rising.{is_rising}
 use Rattle.prices.specs.declared.table.DistanceTable.{DistanceTable}
 use Rattle.prices.specs.Helping.{NeverHelps}
-use Rattle.prices.specs.Solving.{Allows}
 use Rattle.prices.specs.Prices.{AreFar, goals_of, least_of, need_of, sum_over, total_need}
 use Rattle.prices.specs.inside.Tables.{far_in, number_of}
 use Rattle.prices.specs.inside.Sums.{greatest, need_by, need_seen, total}

@@ -73,7 +73,7 @@ abbrev pub TollsAreFree : Board → Type 0
 TollsAreFree board =
     (far : ℕ → ℕ → ℕ → ℕ) (toll : ℕ → ℕ) (cap : ℕ) → AreFar board far → IsNeed board toll (need_of board far toll cap)
 
--- the boxes need so much above the tolls of the goals, for some tolls and cap
+-- the boxes need at least `low` above the tolls of the goals, for some tolls and cap
 abbrev pub ComesOfTolls : Board → (ℕ → ℕ → ℕ → ℕ) → Scene → ℕ → Type 0
 ComesOfTolls board far s low =
     (toll : ℕ → ℕ) × (cap : ℕ) × (low + sum_over toll (goals_of board) ≤ total_need (need_of board far toll cap) s)

@@ -113,7 +113,8 @@ impl Distances {
         self.table.goals.len()
     }
 
-    /// The distances of a lone box to each goal, in the order of the goals, with the player on the second square.
+    /// The distances of a lone box to each goal, in the order of the goals, with the player on the second square. Empty
+    /// if the distances did not pass their check; each then counts as 0.
     #[inline(always)]
     pub fn row(&self, square: Square, player: Square) -> &[u32]
         ensures { result.now ≡ row_in self.now.table square player }

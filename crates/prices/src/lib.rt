@@ -1,12 +1,13 @@
-//! Lower bounds on pushes by a matching: the boxes of a position need at least so many pushes to come to goals of their
-//! own, each box as if it were alone in the room with the player.
+//! Lower bounds on pushes by a matching: how many pushes the boxes of a position need at least to come to goals of
+//! their own, each box as if it were alone in the room with the player.
 //!
 //! A matching of the boxes with the goals gives each goal a toll. The need of a box is then the least sum, over the
 //! goals, of its distance and the goal's toll, and no play that ends solved has fewer pushes than the needs of the
 //! boxes minus the sum of the tolls. That holds for any tolls, so the matching needs no contract; a good one makes
 //! the bound great.
 //!
-//! Time and memory of [`Distances::of`] grow with the goals times the squares. A bound takes no memory.
+//! The memory of [`Distances::of`] grows with the goals times the squares, its time also with the sides of a box from
+//! which it can be pushed. A bound takes no memory.
 //!
 //! With the `level` of a room of three rows of three squares, the box in the middle, its goal at the top left and the
 //! player at the bottom right:

@@ -23,7 +23,7 @@ pub struct Matching {
     // for the search for a goal: the least cost of each goal, the box from which it is reached, and whether it is done
     pub(crate) costs: [u32; MAX_BOXES],
     pub(crate) from: [u8; MAX_BOXES],
-    pub(crate) left: [bool; MAX_BOXES],
+    pub(crate) done: [bool; MAX_BOXES],
 }
 
 impl Matching {
@@ -37,7 +37,7 @@ impl Matching {
             tolls: [0; MAX_BOXES],
             costs: [0; MAX_BOXES],
             from: [NONE; MAX_BOXES],
-            left: [false; MAX_BOXES],
+            done: [false; MAX_BOXES],
         }
     }
 

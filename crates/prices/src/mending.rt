@@ -20,7 +20,7 @@ impl Matching {
                 self.change_goals(goal, place);
                 return;
             }
-            self.left[goal] = true;
+            self.done[goal] = true;
             self.go_on(table, goal, owner);
         }
     }
@@ -65,7 +65,7 @@ impl Matching {
     fn begin(&mut self, table: &DistanceTable, place: u8) {
         self.costs = [u32::MAX; MAX_BOXES];
         self.from = [place; MAX_BOXES];
-        self.left = [false; MAX_BOXES];
+        self.done = [false; MAX_BOXES];
         let row = table.row_at(self.rows[place as usize % MAX_BOXES]);
         for (goal, far) in row.iter().enumerate() {
             if goal < MAX_BOXES {
@@ -82,7 +82,7 @@ impl Matching {
         let mut least = u32::MAX;
         let mut found = 0;
         for goal in 0..goals {
-            if !self.left[goal] && self.costs[goal] < least {
+            if !self.done[goal] && self.costs[goal] < least {
                 least = self.costs[goal];
                 found = goal;
             }
@@ -115,7 +115,7 @@ impl Matching {
         requires { goals ≤ MAX_BOXES }
     {
         for goal in 0..goals {
-            if self.left[goal] {
+            if self.done[goal] {
                 let less = most.wrapping_sub(self.costs[goal]);
                 self.tolls[goal] = self.tolls[goal].wrapping_add(less);
             }

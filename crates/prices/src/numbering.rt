@@ -50,7 +50,7 @@ fn walk_from(level: &Level, visits: &mut [Visit], root: Square, mut next: u32) -
     for _ in 0..visits.len().saturating_mul(5) {
         let visit = visit_of(visits, square);
         if let Some(dir) = direction(visit.tried) {
-            let to = step(level, visits, square, dir);
+            let to = try_step(level, visits, square, dir);
             if visit_of(visits, to).number == 0 {
                 next = enter(visits, to, square.0, next);
                 square = to;
@@ -91,8 +91,9 @@ fn enter(visits: &mut [Visit], square: Square, before: u16, next: u32) -> u32 {
     next.saturating_add(1)
 }
 
-// The square next to a square; the square itself if that is a wall. If it was visited, its number may be the least.
-fn step(level: &Level, visits: &mut [Visit], square: Square, dir: Dir) -> Square {
+// Counts a direction as tried, and returns the square next to a square, or the square itself if that is a wall. The
+// number of a visited square may become the least.
+fn try_step(level: &Level, visits: &mut [Visit], square: Square, dir: Dir) -> Square {
     let place = square.0 as usize;
     if place >= visits.len() || place >= level.squares() {
         return square;

@@ -83,7 +83,8 @@ impl<'a> Slack<'a> {
     }
 
     /// A lower bound on the pushes of a play that solves the position and begins a box's way with this push, with the
-    /// push itself. It is [`NEVER`](crate::NEVER) or more if the box, or another one, can come to no goal then.
+    /// push itself. With a matching made afresh for the position it is [`NEVER`](crate::NEVER) or more if the box, or
+    /// another one, can come to no goal then.
     pub fn least(&self, square: Square, dir: Dir) -> u64
         requires { contains self.now.scene.boxes square ≡ true }
         ensures { (m : ℕ) → m < result → NeverHelps self.now.board m self.now.scene square dir }

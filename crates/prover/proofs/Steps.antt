@@ -18,7 +18,7 @@ use Rattle.area.proofs.lemmas.Norms.{norm_walk}
 use Rattle.doom.specs.Lost.{IsLost}
 use Rattle.prices.specs.Solving.{Allows, SolvableWithin, NoneWithin}
 use Rattle.prices.proofs.lemmas.Solving.{norms_change_nothing}
-use Rattle.prices.specs.Helping.{NeverHelps}
+use Rattle.prices.specs.Helping.{NeverHelps, SlackView}
 use Rattle.prices.proofs.lemmas.Helping.{never_leads_on}
 use Rattle.grid.specs.Masks.{has_bit}
 use Rattle.corrals.specs.Corrals.{IsClosure}
@@ -60,6 +60,12 @@ pub taken_none : (board : Board) (cap : Option ℕ) (all : List Entry) (k : ℕ)
 taken_none board cap all k s n p scene can norm none m allowed solvable =
     absurd (none m (allows_fewer cap (suc k + m) (k + suc m) (omega arith) allowed)
     ((norms_change_nothing board (after_push board s p) n (after_scene board s p scene can) norm m).0 solvable))
+
+-- what the slack of the position says, it says of the level
+pub slack_never : (v : SlackView) (board : Board) (s : Scene) (least : ℕ) (p : Push) → (v.board ≡ board) × (v.scene ≡ s) →
+    ((m : ℕ) → m < least → NeverHelps v.board m v.scene p.square p.dir) → (m : ℕ) → m < least → NeverHelps board m s p.square p.dir
+slack_never v board s least p same never m lt =
+    subst (λ (b : Board). NeverHelps b m s p.square p.dir) same.0 (subst (λ (x : Scene). NeverHelps v.board m x p.square p.dir) same.1 (never m lt))
 
 -- so is one that never helps with fewer pushes than `least`, where the cap allows fewer
 pub taken_dear : (board : Board) (cap : Option ℕ) (all : List Entry) (k total least : ℕ) (s : Scene) (p : Push) → IsScene board s → CanPush board s p →

@@ -35,13 +35,13 @@ pub(crate) fn expand(
         reach,
         place: place as u32,
     };
-    take_all(pruner, frontier, &from, workspace)?;
+    open_all(pruner, frontier, &from, workspace)?;
     frontier.set_least(place, workspace.next)
 }
 
 // Opens the positions that the pushes of a position lead to, up to a total.
 #[tactic(auto, using(crate::proofs::Steps::widens_none))]
-fn take_all(
+fn open_all(
     pruner: &Pruner<'_>,
     frontier: &mut Frontier,
     from: &Expanded,

@@ -98,13 +98,12 @@ impl Frontier {
             parent,
         };
         let entered = self.visited.enter(position, label)?;
-        match entered {
-            Some(place) => self.queue.insert(Ticket {
+        if let Some(place) = entered {
+            self.queue.insert(Ticket {
                 least: Reverse(least),
                 pushes,
                 place,
-            }),
-            None => {}
+            });
         }
         Ok(())
     }
@@ -118,13 +117,12 @@ impl Frontier {
         self.queue.reserve()?;
         let pushes = self.visited.label(place).pushes;
         self.visited.set_least(place, least);
-        match least {
-            Some(least) => self.queue.insert(Ticket {
+        if let Some(least) = least {
+            self.queue.insert(Ticket {
                 least: Reverse(least),
                 pushes,
                 place,
-            }),
-            None => {}
+            });
         }
         Ok(())
     }

@@ -57,19 +57,19 @@ pub(crate) fn try_push(
     if !allowed {
         return Ok(());
     }
-    // where no number of pushes seems to do, the matching tells whether the position is lost
+    // a push that leads to no solution at all goes to `open_after`, which drops it instead of putting it off again
     let later = low > from.reach && least < u64::from(NEVER);
     if later {
         workspace.next = lesser(workspace.next, low);
         return Ok(());
     }
-    take(pruner, frontier, from, Push { square, dir }, workspace)
+    open_after(pruner, frontier, from, Push { square, dir }, workspace)
 }
 
 // Opens the position that a push leads to, unless no play that the cap allows goes on from there and ends solved. A
 // position with a total greater than `from.reach` is left for later.
 #[tactic(auto, using(crate::proofs::Steps::widens_none, crate::proofs::Deferring::defers_none))]
-fn take(
+fn open_after(
     pruner: &Pruner<'_>,
     frontier: &mut Frontier,
     from: &Expanded,

@@ -9,7 +9,7 @@ use std::alloc::{AllocError, Global};
 use std::cmp::Reverse;
 use std::collections::BinaryHeap;
 
-/// The place of an open position in the queue. The greatest ticket has the least total, then the most pushes, then the
+/// An entry of the queue for an open position. The greatest ticket has the least total, then the most pushes, then the
 /// latest place.
 #[derive(Clone, Copy, PartialEq, Eq, PartialOrd, Ord, Debug)]
 pub(crate) struct Ticket {

@@ -11,7 +11,7 @@ pub record Listed : Type 0 where
   pub first_line : ℕ
   pub board : Result Board LevelFault
 
--- what stands in the collection, judged
+-- the entry has the name and the first line of the board found, and the judgement of its cells
 pub record IsListed (listed : Listed) (found : Found) : Type 0 where
   pub name : listed.name ≡ found.name
   pub first_line : listed.first_line ≡ found.first_line

@@ -1,4 +1,4 @@
--- Each input of the commands except `best` and `prove` has one report.
+-- The report of `solve`, and that it is the only one.
 use Rattle.std.specs.Prelude.{◌≡◌, ℕ, List, Option}
 use Rattle.sokopar.specs.Report.{Report}
 use Rattle.sokopar.specs.Solving.{IsSolveReport}

@@ -18,7 +18,7 @@ use Rattle.lurd.specs.declared.verdict.Verdict.TheVariants as verdict
 use Rattle.xsb.specs.Written.{written}
 use Rattle.sokopar.specs.Listing.{Listed, IsListing, level_at}
 
--- what is written, byte by byte, and the exit status: 0 for good, 1 where something is wrong with a level or a solution
+-- what is written, byte by byte, and the exit status: 0 for good, 4 if a search passed its limit, 1 otherwise
 pub record Report : Type 0 where
   pub text : List ℕ
   pub status : ℕ

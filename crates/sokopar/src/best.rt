@@ -13,7 +13,7 @@ use prover::{Outcome, SearchFault};
 use std::alloc::{AllocError, Global};
 use xsb::MAX_FILE;
 
-/// Appends a lower bound on the pushes of every solution.
+/// Appends the number of pushes of a solution with the fewest.
 pub(crate) fn put_optimal(text: &mut Text, pushes: usize) -> Result<(), AllocError>
     ensures { OnOk result (text.new ≡ text.old ++ optimal_words pushes) }
 {

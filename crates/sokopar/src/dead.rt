@@ -66,7 +66,7 @@ fn put_row(text: &mut Text, row: &[u8]) -> Result<(), AllocError>
     text.put(b"\n")
 }
 
-/// Appends `rows` rows of a length.
+/// Appends `rows` rows of `cols` marks each.
 fn put_map(text: &mut Text, rows: usize, cols: usize, marks: &[u8]) -> Result<(), AllocError>
     ensures { OnOk result (text.new ≡ text.old ++ flat_map marked_row (rows_from rows cols marks.now)) }
 {
@@ -90,7 +90,7 @@ fn map_of(alloc: Global, level: &Level) -> Result<Report, AllocError>
 }
 
 /// The report of the dead squares of level N.
-pub(crate) fn dead_report(alloc: Global, chosen: &Chosen, number: u32) -> Result<Report, AllocError>
+fn dead_report(alloc: Global, chosen: &Chosen, number: u32) -> Result<Report, AllocError>
     requires { 1 ≤ number }
     ensures { IfOk result (λ report. MapsOn number chosen.now report) }
 {

@@ -81,11 +81,7 @@ pub(crate) fn text_fault_report(alloc: Global, fault: LurdFault) -> Result<Repor
 }
 
 /// The report of replaying a text on a level.
-pub(crate) fn replay_report(
-    alloc: Global,
-    level: &Level,
-    solution: &[u8],
-) -> Result<Report, AllocError>
+fn replay_report(alloc: Global, level: &Level, solution: &[u8]) -> Result<Report, AllocError>
     ensures { IfOk result (λ report. IsReplayOf level.now solution.now report) }
 {
     match parse(alloc, solution) {
@@ -96,7 +92,7 @@ pub(crate) fn replay_report(
 
 #[tactic(auto, using(crate::proofs::Reading::stops_after))]
 /// The report of replaying on level N. It reads the solution to its end if the level is lawful, and not otherwise.
-pub(crate) fn replay_level<T: Source>(
+fn replay_level<T: Source>(
     alloc: Global,
     chosen: &Chosen,
     number: u32,

@@ -40,7 +40,7 @@ fn shown(alloc: Global, level: &Level) -> Result<Report, AllocError>
 }
 
 /// The report of showing level N.
-pub(crate) fn show_report(alloc: Global, chosen: &Chosen, number: u32) -> Result<Report, AllocError>
+fn show_report(alloc: Global, chosen: &Chosen, number: u32) -> Result<Report, AllocError>
     requires { 1 ≤ number }
     ensures { IfOk result (λ report. ReportsOn IsShown number chosen.now report) }
 {

@@ -142,7 +142,7 @@ fn solve_level<R: Threads + Wait + Sync, G: Gate + Sync>(
 }
 
 /// The report of solving level N by a configuration, with a gate for its workers.
-pub(crate) fn solve_report<R: Threads + Wait + Sync, G: Gate + Sync>(
+fn solve_report<R: Threads + Wait + Sync, G: Gate + Sync>(
     rt: &R,
     alloc: Global,
     chosen: &Chosen,

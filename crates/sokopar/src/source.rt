@@ -7,7 +7,7 @@ use std::fmt;
 use std::fmt::{Debug, Formatter};
 use std::io::Read;
 
-/// The origin of a file's bytes.
+/// What an engine reads a file from.
 pub trait Source {
     // what its reads did so far, and the bytes that it has left, if these are known
     ghost seen: { Self → Seen };

@@ -8,7 +8,7 @@ use std::alloc::{AllocError, Global};
 use std::marker::Model;
 use xsb::write;
 
-/// The first capacity of a text, in bytes.
+/// The least number of bytes by which a text grows.
 const LEAST_ROOM: usize = 64;
 
 /// A text to append to.

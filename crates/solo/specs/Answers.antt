@@ -36,8 +36,8 @@ abbrev pub HaveTotal : Task → ℕ → ℕ → Type 0
 HaveTotal task n positions =
     (layers : List (List Scene)) × AreLayersOf task layers × (length layers ≡ n) × (total layers ≡ positions)
 
--- all layers of the level under its cap together have so many positions; layer n is the first empty one, so later
--- ones are too
+-- positions is the number of positions of all layers of the level under its cap: the last of these layers is the first
+-- empty one, so later ones are empty too
 pub record HasInAll (task : Task) (positions : ℕ) : Type 0 where
   pub layers : List (List Scene)
   pub are : AreLayersOf task layers
@@ -56,7 +56,7 @@ pub record PassesLimit (task : Task) (limit : ℕ) : Type 0 where
   pub passed : limit < total layers + length more
   pub unsolved : (ds : List Dir) (ps : List Push) → IsSolutionOf task ds ps → length layers ≤ length ps
 
--- no play solves the level within the cap, and all its layers together have so many positions, no more than the limit
+-- no play solves the level within the cap, and positions is the number of positions of all its layers, at most the limit
 abbrev pub HasNone : Task → ℕ → ℕ → Type 0
 HasNone task limit positions =
     ((ds : List Dir) (ps : List Push) → ¬ (IsSolutionOf task ds ps)) × HasInAll task positions × (positions ≤ limit)

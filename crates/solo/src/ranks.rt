@@ -17,12 +17,12 @@ use layers::{
 };
 use std::alloc::{AllocError, Global};
 
-/// The result of the last ranks of a layer.
+/// How the ranks that were left of a layer ended.
 #[derive(Clone, Copy, PartialEq, Eq, Debug)]
 pub enum Worked {
     /// Each rank is done, and the next layer is closed.
     Through,
-    /// The book would hold more positions than its limit.
+    /// The limit is passed: a book is over, or all books together hold more positions.
     Over,
 }
 
@@ -51,7 +51,7 @@ pub fn begin_each(books: &mut [Book], layer: &Layer) -> Result<(), AllocError>
     Ok(())
 }
 
-/// Opens the ranks of the last closed layer. An error leaves the book unchanged.
+// Opens the ranks of the last closed layer. An error leaves the book unchanged.
 fn begin(book: &mut Book, layer: &Layer) -> Result<(), AllocError>
     requires { MayBegin book.old layer.now }
     ensures ok { OnOk result (book.new ≡ with_begun book.old (length layer.now.places)) }
@@ -64,8 +64,10 @@ fn begin(book: &mut Book, layer: &Layer) -> Result<(), AllocError>
     }
 }
 
-// Does what [`finish`] does, unless the book has closed the next layer already.
-pub(crate) fn finish_begun(
+// Does, as worker `worker`, all ranks of the last closed layer that are left, even claimed ones, and closes the next
+// layer, unless the book is over or has closed that layer already. After an error the book is still at work on the last
+// layer, perhaps with more of its ranks done. Only that worker gets credit for the ranks that are done here.
+pub(crate) fn finish(
     book: &mut Book,
     layer: &Layer,
     scratch: &mut Scratch,
@@ -82,26 +84,6 @@ pub(crate) fn finish_begun(
     if !book.has_begun() {
         return Ok(Worked::Through);
     }
-    finish(book, layer, scratch, worker)
-}
-
-// Does, as worker `worker`, all ranks of the last closed layer that are left, even claimed ones, and closes the next
-// layer, unless the book is over. After an error the book is still at work on the last layer, perhaps with more of its
-/// ranks done. Only that worker gets credit for the ranks that are done here.
-pub(crate) fn finish(
-    book: &mut Book,
-    layer: &Layer,
-    scratch: &mut Scratch,
-    worker: u8,
-) -> Result<Worked, AllocError>
-    requires begun { HasBegun book.old layer.now }
-    requires worker { worker < book.old.workers }
-    requires room { scratch.old.size ≡ length layer.now.level.board.cells }
-    ensures worked { IfOk result (λ worked. WorkAnswer book.old worked book.new) }
-    ensures err { OnErr result (IsStillAt book.old layer.now book.new) }
-    ensures credited { IsDoneBy worker book.old book.new }
-    ensures size { scratch.new.size ≡ scratch.old.size }
-{
     book.tell();
     layer.tell();
     book.reopen();
@@ -169,8 +151,8 @@ fn enter(book: &mut Book, worker: u8, parcel: &Parcel<'_>) -> Result<bool, Alloc
     }
 }
 
-/// Closes the next layer before [`finish`] does, if each rank is done. Otherwise, or if out of memory, the book stays
-/// unchanged, and [`finish`] closes it.
+/// Closes the next layer before [`Search::finish_rest`](crate::Search::finish_rest) does, if each rank is done.
+/// Otherwise, or if out of memory, the book stays unchanged.
 pub fn close_ahead(book: &mut Book)
     ensures { MayBeClosed book.old book.new }
 {

@@ -20,7 +20,7 @@ ghost use Rattle.solo.specs.inside.Iterations.{AreDoneBy, MayBeWorked};
 use crate::answer::Answer;
 use crate::goals::first_solved;
 use crate::lead::moves_back;
-use crate::ranks::{Worked, finish_begun};
+use crate::ranks::{Worked, finish};
 use crate::rest::{do_rest_of, left_of};
 use area::Scratch;
 use grid::Square;
@@ -185,7 +185,7 @@ impl<'p> Search<'p> {
     {
         let scratch = &mut self.scratch;
         for index in 0..books.len() {
-            let worked = finish_begun(&mut books[index], layer, scratch, worker)?;
+            let worked = finish(&mut books[index], layer, scratch, worker)?;
             books[index].tell();
             match worked {
                 Worked::Through => (),

@@ -1,5 +1,6 @@
-//! Calls a function for each element of a slice, each call in a thread of its own. The caller starts all threads: a
-//! thread that a new thread starts mostly runs on the same processor, and the two take turns there.
+//! Calls a function for each element of a slice: the last call in the caller's thread, each other one in a new thread.
+//! The caller starts all threads: a thread that a new thread starts mostly runs on the same processor, and the two take
+//! turns there.
 //!
 //! ```text
 //! let mut numbers = [0u64; 4];
@@ -19,9 +20,9 @@ ghost use denote.Param.Send.{IsSync, IsSend};
 
 use std::thread::{Threads, join_mut};
 
-/// Calls `f(i, &mut s[i])` for each index, each call in a thread of its own if one can be started. The caller starts
-/// all threads and makes the last call itself, and the calls for which no thread starts. Returns when all calls have
-/// returned. The contract of `f` says what each call needs and gives.
+/// Calls `f(i, &mut s[i])` for each index: the last in the caller's thread, each other one in a new thread, or in the
+/// caller's if none can be started. Returns when all calls have returned. The contract of `f` says what each call needs
+/// and gives.
 pub fn for_each_spread<R: Threads + Sync, T: Send, F: Fn(usize, &mut T) + Sync>(
     rt: &R,
     s: &mut [T],

@@ -86,7 +86,8 @@ impl Found {
         in_each!(Tables, &self.tables, table => table.closed_at(index))
     }
 
-    /// The origin of the closed position at an index; `None` exactly if the index is not below [`Found::closed_len`].
+    /// The origin of the closed position at an index, or the least origin if it has none; `None` exactly if the index
+    /// is not below [`Found::closed_len`].
     pub fn origin_at(&self, index: usize) -> Option<Origin>
         ensures { result ≡ option_map (λ e. origin_in e.1) (slice_get self.now.seen index) }
     {
@@ -138,8 +139,8 @@ impl Found {
     }
 
     /// Offers the parcel's successors of the share in order. A new position opens with the parcel's rank and its push
-    /// as its origin, and an open one keeps its least origin. Up to `most` offers stay pending. Fails only if out of
-    /// memory, and then changes nothing.
+    /// as its origin, and an open one keeps its least origin. The new offers stay pending; if there are at least `most`
+    /// pending ones before, these enter first. Fails only if out of memory, and then changes nothing.
     #[tactic(auto, using(crate::proofs::Bytes::carried))]
     pub fn enter_all(
         &mut self,

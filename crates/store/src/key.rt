@@ -108,7 +108,7 @@ impl<const N: usize, const M: usize> Key<N, M> {
     }
 
     /// The square of the box with an index in rising order.
-    pub(crate) fn box_at(&self, index: usize) -> Square
+    fn box_at(&self, index: usize) -> Square
         requires { index < length self.now.boxes }
         ensures { slice_get self.now.boxes index ≡ Some result }
     {
@@ -306,16 +306,16 @@ pub(crate) fn same_rows(
     boxes: u8,
     low: &[u8],
     high: &[u8],
-    others: u8,
-    lower: &[u8],
-    higher: &[u8],
+    other_boxes: u8,
+    other_low: &[u8],
+    other_high: &[u8],
 ) -> bool
-    ensures { result ≡ (((boxes == others) && pointwise nat_eq low.now lower.now) && pointwise nat_eq high.now
-        higher.now) }
+    ensures { result ≡ (((boxes == other_boxes) && pointwise nat_eq low.now other_low.now) && pointwise nat_eq high.now
+        other_high.now) }
 {
-    let same_low = same_bytes(low, lower);
-    let same_high = same_bytes(high, higher);
-    (boxes == others) & same_low & same_high
+    let same_low = same_bytes(low, other_low);
+    let same_high = same_bytes(high, other_high);
+    (boxes == other_boxes) & same_low & same_high
 }
 
 // Whether two rows are equal. A map compares keys only if their hashes are equal, and then most keys are. So this reads

@@ -152,7 +152,7 @@ impl ClosedOrigin {
         }
     }
 
-    /// The origin of an open position, which has one.
+    /// The origin, or the least origin if there is none. An open position has one.
     pub(crate) fn opened(self) -> Origin
         ensures { result ≡ origin_in self }
     {

@@ -24,6 +24,7 @@ const MOST_PENDING: u32 = 4096;
 /// The number of offers that may be pending in the book of a share when `worker` hands a parcel back to it. Each book
 /// has one worker of its own, which enters a batch as soon as it is full, since its processor has that book in the
 /// cache. The other workers append their offers and release the lock. A worker may own several books, or none.
+/// `workers` does not count the caller; with 0 the caller is alone.
 pub fn most_pending(worker: u8, workers: u8, share: u8, shares: u8) -> usize
     requires { 0 < shares }
 {

@@ -108,8 +108,8 @@ impl<const N: usize, const M: usize> PositionTable<N, M> {
         Some(key.position())
     }
 
-    /// The origin of the closed position at an index; `None` exactly if the index is not below
-    /// [`PositionTable::closed_len`].
+    /// The origin of the closed position at an index, or the least origin if it has none; `None` exactly if the index
+    /// is not below [`PositionTable::closed_len`].
     pub(crate) fn origin_at(&self, index: usize) -> Option<Origin>
         ensures { result ≡ option_map (λ e. origin_in e.1) (slice_get self.now.seen index) }
     {
@@ -179,8 +179,8 @@ impl<const N: usize, const M: usize> PositionTable<N, M> {
         count_new(&self.table, self.start, share, shares, successors) > left
     }
 
-    /// Offers the parcel's successors of the share in order. Up to `most` offers stay pending. Fails only if out of
-    /// memory, and then changes nothing.
+    /// Offers the parcel's successors of the share in order. The new offers stay pending; if there are at least `most`
+    /// pending ones before, these enter first. Fails only if out of memory, and then changes nothing.
     pub(crate) fn enter_all(
         &mut self,
         most: usize,

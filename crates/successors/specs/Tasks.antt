@@ -8,8 +8,8 @@ pub record Task : Type 0 where
   pub board : Board
   pub cap : Option ℕ
 
--- at k pushes a cap admits the positions whose boxes need so few more that all together are within it; no cap admits
--- each position
+-- under a cap a position is admitted at k pushes if these and the pushes that its boxes need, each as if alone, are
+-- together no more than the cap; without a cap every position is
 abbrev pub IsAdmitted : Board → Option ℕ → ℕ → Scene → Type 0
 IsAdmitted board None k n = Unit {0}
 IsAdmitted board (Some most) k n = (low : ℕ) × IsLower board n.boxes low × (k + low ≤ most)

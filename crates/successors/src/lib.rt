@@ -31,7 +31,7 @@ mod sums;
 
 pub use expander::Expander;
 pub use expansion::RankedPosition;
-pub use limits::{MAX_SHARES, MAX_SUCCESSORS};
+pub use limits::MAX_SHARES;
 pub use parcel::{Parcel, Successor};
 pub use plays::play_pushes;
 pub use problem::Problem;

@@ -5,4 +5,4 @@ use area::MAX_PUSHES;
 pub const MAX_SHARES: u8 = 16;
 
 /// The greatest number of successors of a position, which is the greatest number of its pushes.
-pub const MAX_SUCCESSORS: usize = MAX_PUSHES;
+pub(crate) const MAX_SUCCESSORS: usize = MAX_PUSHES;

@@ -19,7 +19,7 @@ pub(crate) fn box_sum(position: &Position) -> u32
 }
 
 /// The sum of a position's box squares and its player's square.
-pub(crate) fn sum_of(position: &Position) -> u32
+fn sum_of(position: &Position) -> u32
     ensures { result ≡ scene_sum position.now }
 {
     box_sum(position) + u32::from(position.player().0)

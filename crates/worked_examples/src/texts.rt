@@ -86,7 +86,7 @@ fn texts_of_searches(rt: HostRuntime) {
         &rt,
         alloc,
         JoinFault::NotWhole,
-        "not all the shares of one book",
+        "the books are not all the shares in order",
     );
     shows(&rt, alloc, JoinFault::OutOfMemory, "out of memory");
 }
@@ -100,7 +100,7 @@ fn texts_of_layers(rt: HostRuntime) {
         &rt,
         alloc,
         BeginFault::OtherLevel,
-        "the layer is of another level",
+        "the layer is of another level or cap",
     );
     shows(&rt, alloc, BeginFault::OtherLayer, begun);
     shows(&rt, alloc, BeginFault::OutOfMemory, "out of memory");
@@ -110,7 +110,7 @@ fn texts_of_layers(rt: HostRuntime) {
         &rt,
         alloc,
         Refusal::OtherLevel,
-        "the parcel is of another level",
+        "the parcel is of another level or cap",
     );
     shows(&rt, alloc, Refusal::OtherLayer, closed);
     shows(&rt, alloc, Refusal::NoSuchRank, "no such rank");

@@ -39,7 +39,7 @@ pub record AreParts (lines gap : List (List ℕ)) (parts : List Part) : Type 0 w
   pub boards : AllByRecursion IsPart parts
   pub apart : AreApart parts
 
--- what stands in a part whose first line has a number, after a gap: the rows of the board are those of its lines, in
+-- the board found in a part that begins at `line`, after the gap `before`: its rows are those of the part's lines, in
 -- order
 pub record IsFound (line : ℕ) (before : List (List ℕ)) (part : Part) (found : Found) : Type 0 where
   pub name : found.name ≡ name_of before part.gap
@@ -47,7 +47,7 @@ pub record IsFound (line : ℕ) (before : List (List ℕ)) (part : Part) (found 
   pub board : (rows : List (List (List Cell))) × AllZip IsRowLine part.board rows ×
       (found.board ≡ board_of (flat_map (λ r. r) rows))
 
--- what stands in the parts, in order, the first of which begins at a line and after a gap
+-- the boards found in the parts, in order; the first part begins at `line`, after the gap `before`
 abbrev pub AreFound : ℕ → List (List ℕ) → List Part → List Found → Type 0
 AreFound line before [] [] = ⊤
 AreFound line before (part ∷ parts) (found ∷ founds) =

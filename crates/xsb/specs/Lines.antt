@@ -6,8 +6,8 @@ use Rattle.std.specs.List.{slice_split, starts_with}
 abbrev pub without_mark : List ℕ → List ℕ
 without_mark bytes = cond (starts_with nat_eq bytes (0xEF ∷ 0xBB ∷ 0xBF ∷ [])) (drop 3 bytes) bytes
 
--- the parts that line feeds part, but for a last part without a byte: no empty line follows a last line feed, and
--- an empty input has no line
+-- the parts between line feeds, except a last part without a byte: no empty line follows a last line feed, and an
+-- empty input has no line
 abbrev pub without_last_empty : List (List ℕ) → List (List ℕ)
 without_last_empty [] = []
 without_last_empty ([] ∷ []) = []

@@ -19,7 +19,7 @@ HasWallInEachRow board = All (λ row. Contains row Wall) (rows_of_board board)
 abbrev pub HasFullRow : Board → Type 0
 HasFullRow board = Any (λ row. cut_row row ≡ row) (rows_of_board board)
 
--- the cell of which it is known whether it has a wall, a box, the player and a goal
+-- the cell with or without a wall, a box, the player and a goal
 abbrev pub cell_with : Bool → Bool → Bool → Bool → Cell
 cell_with wall boxed player goal =
     cond wall Wall (cond boxed (cond goal BoxOnGoal Box)

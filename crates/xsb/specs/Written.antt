@@ -5,7 +5,7 @@ use Rattle.grid.specs.Lawful.{row_count}
 use Rattle.xsb.specs.Rows.{byte_of}
 use Rattle.xsb.specs.Boards.{cut_row}
 
--- as many rows of a length as a number says, from a list
+-- the first n rows of length `cols` of a list
 abbrev pub rows_from : {A : Type 0} → ℕ → ℕ → List A → List (List A)
 rows_from zero cols xs = []
 rows_from (suc n) cols xs = take cols xs ∷ rows_from n cols (drop cols xs)

@@ -1,4 +1,4 @@
-ghost use Rattle.std.specs.Prelude.{◌≡◌, ℕ, ◌≤◌, ◌<◌, ◌↔◌, List, [], length, IfOk, IfErr, IfSome, OnErr, Err};
+ghost use Rattle.std.specs.Prelude.{◌≡◌, ℕ, ◌≤◌, ◌<◌, ◌↔◌, List, [], length, IfOk, IfErr, IfNone, IfSome, OnErr, Err};
 ghost use Rattle.std.specs.List.{AllZip};
 ghost use Rattle.xsb.specs.Collection.{Found, IsCollection};
 ghost use Rattle.xsb.specs.Entries.{IsEntry};
@@ -40,11 +40,13 @@ impl<'a> Collection<'a> {
         Ok(Collection { lines, before })
     }
 
-    /// The next board, as [`read`] gives it, without the tables of a level; `None` after the last. Fails only if out of
-    /// memory. The collection is then unchanged, so the next call tries the same board again.
+    /// The next board, as [`read`] gives it, without the tables of a level; `None` after the last, now and in later
+    /// calls. Fails only if out of memory. The collection is then unchanged, so the next call tries the same board
+    /// again.
     pub fn next_board(&mut self, alloc: Global) -> Result<Option<BoardEntry>, AllocError>
         ensures next { (bytes : List ℕ) (founds : List Found) → HasRead bytes self.old founds →
             IfOk result (GivesNext bytes founds self.new) }
+        ensures last { IfOk result (λ next. IfNone next (self.new ≡ self.old)) }
         ensures fewer { IfOk result (λ next. IfSome next (λ _. lines_left self.new < lines_left self.old)) }
         ensures err { OnErr result (self.new ≡ self.old) }
     {

@@ -8,6 +8,6 @@ use Rattle.corrals.specs.Sets.{SetsView}
 abbrev pub sets_view : Inside → SetsView
 sets_view a = record { held = a.sets.held; room = a.sets.room }
 
--- both sets have room for so many squares
+-- both sets have capacity for this number of squares
 abbrev pub HasRoom : ℕ → Sets → Type 0
 HasRoom squares a = (length a.held ≡ word_count squares) × (length a.room ≡ word_count squares)

@@ -27,6 +27,6 @@ pub record AreHolds (board : Board) (holds : Holds) : Type 0 where
   pub along : AreFast board D holds.along
   pub goals : AreGoals board holds.goals
 
--- the squares beside one on the axis of d are so many numbers after it and before it, unless a box there is held anyway
+-- the squares beside one on the axis of d have numbers greater and less by `by`, unless a box there is held anyway
 abbrev pub IsApart : Board → Dir → ℕ → Type 0
 IsApart board d by = (q : ℕ) → ¬ (IsFast board q d) → (next board q d ≡ q + by) × (next board q (opposite d) + by ≡ q)

@@ -8,13 +8,13 @@ use Rattle.doom.specs.declared.holds.Holds.{Holds}
 use Rattle.area.specs.Groups.{HangsWith}
 use Rattle.area.specs.Words.{squares_of}
 
--- there are so many words in each set, or more
+-- each set has at least `words` words
 pub record HaveRoom (holds : Holds) (words : ℕ) : Type 0 where
   pub across : words ≤ length holds.across
   pub along : words ≤ length holds.along
   pub goals : words ≤ length holds.goals
 
--- a box on the square is held on an axis: anyway, or by a member so many numbers after it or before it
+-- a box on the square is held on an axis: anyway, or by a member whose number is greater or less by `by`
 abbrev pub IsHeldBy : List ℕ → ℕ → Squares → ℕ → Type 0
 IsHeldBy fast by members q = (has_bit fast q ≡ true) ⊎
     ((contains members (q + by) ≡ true) ⊎ ((p : ℕ) × (p + by ≡ q) × (contains members p ≡ true)))

@@ -44,7 +44,7 @@ Pulls board k q d far marked far' marked' =
     (CanPull board q d × Marks k (next board q d) far marked far' marked') ⊎
     (¬ (CanPull board q d) × (far' ≡ far) × (marked' ≡ marked))
 
--- so many pushes bring a lone box from the square to a goal
+-- n pushes bring a lone box from the square to a goal
 abbrev pub HasWay : Board → ℕ → ℕ → Type 0
 HasWay board q n = (way : Live board q) × (pushes_of way ≡ n)
 

@@ -13,7 +13,7 @@ abbrev pub AreWithin : List ℕ → List ℕ → ℕ → ℕ → Type 0
 AreWithin xs ys count waste =
     (i : ℕ) → i < count → slice_index_or xs i 0 < NEVER → slice_index_or xs i 0 + waste ≤ suc (slice_index_or ys i 0)
 
--- a push of a box on q in the direction wastes so many pushes, whichever goal it is for
+-- a push of a box on q in the direction wastes at least `waste` pushes, whichever goal it is for
 abbrev pub IsWaste : Board → (ℕ → ℕ → ℕ → ℕ) → ℕ → Dir → ℕ → Type 0
 IsWaste board far q d waste = let p = next board q (opposite d) in let r = next board q d in
     is_wall board q ≡ false → is_wall board p ≡ false → is_wall board r ≡ false
@@ -35,7 +35,7 @@ abbrev pub WalksKeep : Board → Squares → (ℕ → ℕ) → ℕ → Type 0
 WalksKeep board boxes excess p = IsFree board boxes p → (d : Dir) → let q = next board p d in
     IsFree board boxes q → excess p ≤ excess q
 
--- a listed group passes the look, where pushes waste so much
+-- a listed group passes the check, if pushes waste what `waste` says
 pub record GroupPasses (board : Board) (t : Listed) (waste : ℕ → Dir → ℕ) (i : ℕ) : Type 0 where
   pub rising : is_rising (t.boxes i) ≡ true
   pub home : (p : ℕ) → ¬ (IsSolved board (alone (t.boxes i) p))

@@ -35,7 +35,7 @@ abbrev pub taken : List ℕ → ℕ → List ℕ
 taken picks zero = []
 taken picks (suc k) = slice_index_or picks k 0 ∷ taken picks k
 
--- so much is the excess of some listed groups of the boxes of which no two share one
+-- n is the excess, added up, of some listed groups of the boxes, no two of which share a box
 pub record IsExcessOf (t : Listed) (boxes : Squares) (p n : ℕ) : Type 0 where
   pub chosen : List ℕ
   pub picked : ArePicked t boxes chosen

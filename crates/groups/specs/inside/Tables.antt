@@ -9,7 +9,7 @@ use Rattle.groups.specs.declared.table.ListedGroup.{ListedGroup}
 use Rattle.groups.specs.declared.table.GroupTable.{GroupTable}
 use Rattle.groups.specs.Tables.{AllPass, Listed}
 
--- the places of a group; those of no group where there is none
+-- the entry of group i; an empty one if there is none
 abbrev pub entry_of : List ListedGroup → ℕ → ListedGroup
 entry_of entries i = slice_index_or entries i (record { first = 0; count = 0; row = 0 })
 

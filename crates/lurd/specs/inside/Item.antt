@@ -5,7 +5,7 @@ use Rattle.lurd.specs.declared.limits.TheConstants.{MAX_MOVES}
 use Rattle.counts.specs.Counts.{repeats}
 use Rattle.lurd.specs.Text.{byte_of, item, IsPiece, spelling}
 
--- the bytes begin with this letter and its count, if it has one; both take len bytes and mean the letter so many
+-- the bytes begin with this letter and its count, if it has one; both take `len` bytes and mean the letter `times`
 -- times, and with the moves before them these are not too many
 pub record TakesItem (moves : ℕ) (bytes : List ℕ) (letter : Letter) (times len : ℕ) : Type 0 where
   pub digits : List ℕ

@@ -10,7 +10,7 @@ use Rattle.prices.specs.declared.slack.Slack.TheInside.{Inside}
 abbrev pub slack_view : Inside → SlackView
 slack_view a = record { board = a.level.now; scene = a.position.now; left = a.left }
 
--- the tolls of so many goals as the table has
+-- the tolls of the goals of the table
 abbrev pub tolls_of : Inside → List ℕ
 tolls_of a = take (length a.table.now.goals.items) (drop 0 a.tolls)
 

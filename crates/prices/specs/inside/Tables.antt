@@ -9,12 +9,12 @@ use Rattle.prices.specs.declared.table.DistanceTable.{DistanceTable}
 abbrev pub has_number : Side → ℕ → Bool
 has_number side k = nat_le side.from k && nat_lt k side.to
 
--- where the distances for the first side that has the number stand; an other place where none has it
+-- where the distances of the first side that has the number begin; `other` if none has it
 abbrev pub row_by : List Side → ℕ → ℕ → ℕ
 row_by [] k other = other
 row_by (s ∷ ss) k other = cond (has_number s k) s.row (row_by ss k other)
 
--- what is said of a square; nothing where nothing is
+-- the entry of a square; all zeros past the end
 abbrev pub spot_of : List Spot → ℕ → Spot
 spot_of spots q = slice_index_or spots q (record { number = 0; first = 0; count = 0; row = 0 })
 

@@ -67,11 +67,12 @@ pub record SuitsLevel (n k boxes squares : ℕ) : Type 0 where
   pub capacity : boxes < n
   pub bytes : (k ≡ n) ⊎ ((k ≡ 0) × (squares ≤ 256))
 
--- the rows of a key, without an empty one
+-- the row of high bytes, unless it is empty
 abbrev pub high_writes : ℕ → Scene → fed.HashWrites
 high_writes zero m = []
 high_writes (suc k) m = padded (suc k) (high_bytes (key_squares m)) ∷ []
 
+-- the rows of a key that are hashed
 abbrev pub key_writes : ℕ → ℕ → Scene → fed.HashWrites
 key_writes n k m = padded n (low_bytes (key_squares m)) ∷ high_writes k m
 

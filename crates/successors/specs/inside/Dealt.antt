@@ -26,6 +26,6 @@ pub record IsListed (shares share : ℕ) (rows lens sums : List ℕ) : Type 0 wh
 abbrev pub AllListed : ℕ → List ℕ → List ℕ → List ℕ → Type 0
 AllListed shares rows lens sums = (share : ℕ) → share < shares → IsListed shares share rows lens sums
 
--- successors with these sums are dealt to so many shares, no more than there may be; to 0 shares anything is dealt
+-- successors with these sums are dealt to `shares` shares, at most MAX_SHARES; with 0 shares nothing is claimed
 abbrev pub IsDealt : ℕ → List ℕ → List ℕ → List ℕ → Type 0
 IsDealt shares rows lens sums = (shares ≤ MAX_SHARES) × AllListed shares rows lens sums

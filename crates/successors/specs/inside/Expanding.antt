@@ -18,7 +18,7 @@ pub record IsReady (parent : Parent) (reach : Reach) : Type 0 where
   pub boxes : reach.boxes ≡ parent.position.now.boxes
   pub dangers : AreDangers parent.level.now reach.boxes parent.dangers.now.words.items
 
--- the first so many slots hold successors, each with its sum beside it
+-- the first `count` slots hold successors, each with its sum beside it
 pub record AreFilled (count : ℕ) (slots : Slots) : Type 0 where
   pub within : count ≤ length slots.successors.items
   pub sums : AreSums (take count slots.successors.items) (take count slots.sums.items)

@@ -4,7 +4,7 @@ use Rattle.successors.specs.Tasks.{Task}
 use Rattle.successors.specs.declared.parcel.Successor.{Successor}
 use Rattle.successors.specs.ParcelView.{ParcelView}
 
--- a parcel whose successors are the first so many of these
+-- a parcel whose successors are the first `count` of these
 abbrev pub parcel_of : Task → ℕ → ℕ → List Successor → ℕ → ParcelView
 parcel_of level layer rank slots count =
     record { level = level; layer = layer; rank = rank; successors = take count slots }

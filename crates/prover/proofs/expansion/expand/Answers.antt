@@ -6,8 +6,8 @@ use Rattle.prover.specs.inside.Working.{Expands, tighter}
 use Rattle.prover.proofs.Steps.{on_ok_so, turns_expanded, under_way_expanded}
 use Rattle.prover.proofs.expansion.expand.Goals as goal
 
-pub take_all-requires-clause-expanding : goal.take_all-requires-clause-expanding
-take_all-requires-clause-expanding c =
+pub open_all-requires-clause-expanding : goal.open_all-requires-clause-expanding
+open_all-requires-clause-expanding c =
     let waits = c.requires.waits in
     let lt = c.requires.searched.under_way.few c.args.place waits.entry waits.at in
     let pushes = c.pushes.ensures waits.entry waits.at in
@@ -23,8 +23,8 @@ set_least-requires c =
     let waits = c.requires.waits in
     let same = c.pushes.ensures waits.entry waits.at in
     record {
-      place = slice_get_within c.take_all.new.frontier.entries c.args.place waits.entry
-          (c.in_ok-take_all.ensures.widens.below c.args.place waits.entry waits.at (omega (arith, same)));
+      place = slice_get_within c.open_all.new.frontier.entries c.args.place waits.entry
+          (c.in_ok-open_all.ensures.widens.below c.args.place waits.entry waits.at (omega (arith, same)));
     }
 
 pub returns-clause-searched : goal.returns-clause-searched
@@ -32,9 +32,9 @@ returns-clause-searched c =
     let board = c.args.pruner.now.board in
     let cap = c.args.pruner.now.cap in
     let place = c.args.place in
-    let now = c.in_ok-take_all.ensures in
-    let middle = c.take_all.new.frontier.entries in
-    let next = c.take_all.new.workspace.next in
+    let now = c.in_ok-open_all.ensures in
+    let middle = c.open_all.new.frontier.entries in
+    let next = c.open_all.new.workspace.next in
     let waits = c.requires.waits in
     let x = waits.entry in
     let pushes : c.pushes.result ≡ x.pushes = c.pushes.ensures x waits.at in
@@ -53,13 +53,13 @@ returns-clause-searched c =
 pub returns-clause-fewer_turns : goal.returns-clause-fewer_turns
 returns-clause-fewer_turns c =
     let place = c.args.place in
-    let now = c.in_ok-take_all.ensures in
-    let middle = c.take_all.new.frontier.entries in
+    let now = c.in_ok-open_all.ensures in
+    let middle = c.open_all.new.frontier.entries in
     let waits = c.requires.waits in
     let x = waits.entry in
     let pushes : c.pushes.result ≡ x.pushes = c.pushes.ensures x waits.at in
     let there : slice_get middle place ≡ Some x = now.widens.below place x waits.at (omega (arith, pushes)) in
     on_ok_so c.set_least.result (λ has.
     turns_expanded c.args.pruner.now.cap c.args.frontier.now.entries middle c.set_least.new.self.entries place waits.least c.args.reach x
-    c.take_all.new.workspace.next (omega arith) now.widens.goes_on there waits.is_open waits.near now.later has)
+    c.open_all.new.workspace.next (omega arith) now.widens.goes_on there waits.is_open waits.near now.later has)
     c.set_least.ensures.set

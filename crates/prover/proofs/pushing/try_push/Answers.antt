@@ -1,10 +1,8 @@
-use Rattle.std.proofs.Common.{◌≡◌, ◌+◌, ◌<◌, ◌≤◌, ◌∙◌, ℕ, Option, suc, subst, sym, arith}
+use Rattle.std.proofs.Common.{◌+◌, ◌<◌, ◌∙◌, ℕ, Option, suc, subst, sym, arith}
 use Rattle.std.proofs.lemmas.Bool.{ltb-true, true≢false}
-use Rattle.grid.specs.Board.{Board, Scene}
-use Rattle.prices.specs.Helping.{NeverHelps}
 use Rattle.prover.specs.inside.Working.{IsTaken, lesser, tighter}
 use Rattle.prover.proofs.Deferring.{defers_one, lesser_below, loosened}
-use Rattle.prover.proofs.Steps.{below_refused, expanding_fits, taken_dear}
+use Rattle.prover.proofs.Steps.{below_refused, expanding_fits, slack_never, taken_dear}
 use Rattle.prover.proofs.pushing.try_push.Goals as goal
 use Rattle.prover.proofs.pushing.try_push.Goals.{then-low-from, else-low-from}
 
@@ -19,9 +17,7 @@ returns-then-not-allowed-clause-taken c = λ chosen.
     let least = c.least-least.result in
     let low = c.total_of-low.result in
     let fits = expanding_fits board cap c.args.frontier.now c.args.from.now c.requires.expanding in
-    let never : (m : ℕ) → m < least → NeverHelps board m s p.square p.dir = λ m lt.
-    subst (λ (b : Board). NeverHelps b m s p.square p.dir) c.requires.slack.0
-    (subst (λ (x : Scene). NeverHelps c.args.slack.now.board m x p.square p.dir) c.requires.slack.1 (c.least-least.ensures m lt)) in
+    let never = slack_never c.args.slack.now board s least p c.requires.slack c.least-least.ensures in
     taken_dear board (tighter cap next) c.args.frontier.now.entries k low least s p fits.scene c.requires.possible never c.total_of-low.ensures.most
     (λ m allowed. below_refused cap low (k + suc m) (λ ok. true≢false (sym (c.allows-allowed.ensures.1 ok) ∙ c.if-not-allowed.true))
     (loosened cap next (k + suc m) allowed))
@@ -37,9 +33,7 @@ returns-then-later-clause-taken c = λ chosen.
     let least = c.least-least.result in
     let low = c.total_of-low.result in
     let fits = expanding_fits board cap c.args.frontier.now c.args.from.now c.requires.expanding in
-    let never : (m : ℕ) → m < least → NeverHelps board m s p.square p.dir = λ m lt.
-    subst (λ (b : Board). NeverHelps b m s p.square p.dir) c.requires.slack.0
-    (subst (λ (x : Scene). NeverHelps c.args.slack.now.board m x p.square p.dir) c.requires.slack.1 (c.least-least.ensures m lt)) in
+    let never = slack_never c.args.slack.now board s least p c.requires.slack c.least-least.ensures in
     subst (λ (o : Option ℕ). IsTaken board (tighter cap o) c.args.frontier.now.entries k s p) (sym c.lesser-workspace.ensures)
     (taken_dear board (tighter cap (lesser next low)) c.args.frontier.now.entries k low least s p fits.scene c.requires.possible never
     c.total_of-low.ensures.most (λ m. lesser_below cap next low (k + suc m) (omega arith)))

@@ -1,4 +1,4 @@
-use Rattle.std.proofs.Common.{ap, subst}
+use Rattle.std.proofs.Common.{sym, ap, subst, ◌∙◌}
 use Rattle.std.specs.Prelude.{MatchBool}
 use Rattle.layers.specs.Books.{AllDone}
 use Rattle.solo.specs.inside.Together.{IsFull}
@@ -8,7 +8,7 @@ use Rattle.solo.proofs.ranks.finish.Goals as goal
 
 pub do_ranks-requires-clause-reopened : goal.do_ranks-requires-clause-reopened
 do_ranks-requires-clause-reopened c =
-    (still_at c.args.book.now c.reopen.new.self c.args.layer.now c.tell.ensures c.tell-2.ensures c.requires.begun c.reopen.ensures)
+    (still_at c.args.book.now c.reopen.new.self c.args.layer.now c.tell.ensures c.tell-2.ensures (c.requires.begun (sym c.has_begun.ensures ∙ c.if-not-has_begun.false)) c.reopen.ensures)
 
 pub returns-clause-credited : goal.returns-clause-credited
 returns-clause-credited c =

@@ -49,17 +49,17 @@ invariant_of-self-2 c =
     let all : AllDone (book_view a) = (c.if-not-self.false, c.if-not-are_all_set.ensures) in
     let same : AreReordered a.found.waiting ys = done.1 in
     let rise : RiseByOrigin ys = done.2 in
-    let starts_are : c.push_within.new.indices.items ≡ a.starts.items ++ c.closed_len-start.result ∷ [] = c.push_within.ensures
+    let starts_are : c.push_reserved.new.self.items ≡ a.starts.items ++ c.closed_len-start.result ∷ [] = c.push_reserved.ensures.items
     ∙ ap (λ (xs : List ℕ). xs ++ c.closed_len-start.result ∷ []) c.reserve.ensures.items in
     let n_is : c.closed_len-start.result ≡ length a.found.seen = c.closed_len-start.ensures in
     let seen_are : c.close.new.self.seen ≡ a.found.seen ++ map closed_entry ys = done.3 in
     record {
-      lawful = closed_lawful a c.self.invariant.lawful c.self.invariant.cuts all ys same rise c.push_within.new.indices.items c.close.new.self.seen
+      lawful = closed_lawful a c.self.invariant.lawful c.self.invariant.cuts all ys same rise c.push_reserved.new.self.items c.close.new.self.seen
           c.clear.new.self c.clear-2.new.self c.close.new.self.waiting c.closed_len-start.result starts_are n_is seen_are c.clear.ensures c.clear-2.ensures
           waits;
       few = c.self.invariant.few;
       boxes = (c.close.ensures.boxes ∙ c.self.invariant.boxes.0, c.close.ensures.squares ∙ c.self.invariant.boxes.1);
-      cuts = closed_cuts a c.self.invariant.lawful c.self.invariant.cuts all ys same rise c.push_within.new.indices.items c.close.new.self.seen c.clear.new.self
+      cuts = closed_cuts a c.self.invariant.lawful c.self.invariant.cuts all ys same rise c.push_reserved.new.self.items c.close.new.self.seen c.clear.new.self
           c.clear-2.new.self c.close.new.self.waiting c.closed_len-start.result starts_are n_is seen_are c.clear.ensures c.clear-2.ensures waits;
       taken = λ r lt. absurd (omega arith);
     }
@@ -73,12 +73,12 @@ returns-clause-ok c =
     let all : AllDone (book_view a) = (c.if-not-self.false, c.if-not-are_all_set.ensures) in
     let same : AreReordered a.found.waiting ys = done.1 in
     let rise : RiseByOrigin ys = done.2 in
-    let starts_are : c.push_within.new.indices.items ≡ a.starts.items ++ c.closed_len-start.result ∷ [] = c.push_within.ensures ∙ ap
+    let starts_are : c.push_reserved.new.self.items ≡ a.starts.items ++ c.closed_len-start.result ∷ [] = c.push_reserved.ensures.items ∙ ap
     (λ (xs : List ℕ). xs ++ c.closed_len-start.result ∷ []) c.reserve.ensures.items in
     let n_is : c.closed_len-start.result ≡ length a.found.seen = c.closed_len-start.ensures in
     let seen_are : c.close.new.self.seen ≡ a.found.seen ++ map closed_entry ys = done.3 in
     let long : c.len-layer.result ≡ length a.starts.items = omega (arith, c.len-layer.ensures) in
-    closed_by a c.self.invariant.lawful c.self.invariant.cuts all ys same rise c.push_within.new.indices.items c.close.new.self.seen c.clear.new.self
+    closed_by a c.self.invariant.lawful c.self.invariant.cuts all ys same rise c.push_reserved.new.self.items c.close.new.self.seen c.clear.new.self
     c.clear-2.new.self c.close.new.self.waiting c.closed_len-start.result starts_are n_is seen_are c.clear.ensures c.clear-2.ensures waits
     c.args.self.now c.self.view_is c.len-layer.result (c.closed_len.result - c.closed_len-start.result) long
     (omega (arith, c.closed_len.ensures, n_is, ap length seen_are, length-append a.found.seen (map closed_entry ys), length-map ys closed_entry, same.0))

@@ -1,4 +1,4 @@
-use Rattle.std.proofs.Common.{◌≡◌, ◌+◌, ◌≤◌, ◌∙◌, ℕ, Option, Some, suc, ap, subst, sym, arith}
+use Rattle.std.proofs.Common.{◌+◌, ◌∙◌, ℕ, Option, Some, suc, ap, subst, sym, arith}
 use Rattle.std.proofs.lemmas.Bool.{ltb-true}
 use Rattle.prices.specs.Helping.{SlackView}
 use Rattle.prices.specs.Solving.{Allows}

@@ -23,12 +23,12 @@ invariant_of-self-in-Some c =
     (subst (λ (o : Option ℕ). HasEntered old new e o) c.in-Some.is c.in_ok-entered.ensures.ok)
     (subst (λ (ts : List Ticket). IsQueued old ts) (sym c.reserve.ensures.same) c.self.invariant) c.insert.ensures.waits c.insert.ensures.others
 
-pub invariant_of-self-in-None : goal.invariant_of-self-in-None
-invariant_of-self-in-None c =
+pub invariant_of-self-in_default : goal.invariant_of-self-in_default
+invariant_of-self-in_default c =
     let old = c.self.inside.visited.entries in
     let new = c.enter.new.self.entries in
     let e : Entry = (record { position = c.args.position.now; pushes = c.args.pushes; least = Some c.args.least; parent = c.args.parent }) in
-    let none : HasEntered old new e None = subst (λ (o : Option ℕ). HasEntered old new e o) c.in-None.is c.in_ok-entered.ensures.ok in
+    let none : HasEntered old new e None = subst (λ (o : Option ℕ). HasEntered old new e o) c.in_default.is c.in_ok-entered.ensures.ok in
     subst (λ (xs : List Entry). IsQueued xs (heap_items c.reserve.new.self.heap)) (sym none.0)
     (subst (λ (ts : List Ticket). IsQueued old ts) (sym c.reserve.ensures.same) c.self.invariant)
 
@@ -39,8 +39,8 @@ returns-in-Some-clause-enters c =
     subst (λ (v : VisitedView). Enters v.entries new e) c.self.view_is
     (entered c.self.inside.visited.entries new e c.in_ok-entered.entered c.in_ok-entered.ensures.ok)
 
-pub returns-in-None-clause-enters : goal.returns-in-None-clause-enters
-returns-in-None-clause-enters c =
+pub returns-in_default-clause-enters : goal.returns-in_default-clause-enters
+returns-in_default-clause-enters c =
     let new = c.enter.new.self.entries in
     let e : Entry = (record { position = c.args.position.now; pushes = c.args.pushes; least = Some c.args.least; parent = c.args.parent }) in
     subst (λ (v : VisitedView). Enters v.entries new e) c.self.view_is

@@ -21,12 +21,12 @@ invariant_of-self-in-Some c =
     (λ n e. subst (λ (k : ℕ). Waits tickets k c.args.place) (same_Some c.in-Some.least n (sym c.in-Some.is ∙ e)) c.insert.ensures.waits)
     c.insert.ensures.others
 
-pub invariant_of-self-in-None : goal.invariant_of-self-in-None
-invariant_of-self-in-None c =
+pub invariant_of-self-in_default : goal.invariant_of-self-in_default
+invariant_of-self-in_default c =
     let old = c.self.inside.visited.entries in
     let tickets = heap_items c.reserve.new.self.heap in
     let (x, at) = in_range old c.args.place (subst (λ (v : VisitedView). c.args.place < length v.entries) (sym c.self.view_is) c.requires.place) in
     queued_set old c.set_least.new.self.entries x c.args.place c.args.least tickets tickets at c.set_least.ensures.set
     (subst (λ (ts : List Ticket). IsQueued old ts) (sym c.reserve.ensures.same) c.self.invariant)
-    (λ n e. absurd (none-some n (sym c.in-None.is ∙ e)))
+    (λ n e. absurd (none-some n (sym c.in_default.is ∙ e)))
     (λ n p waits. waits)

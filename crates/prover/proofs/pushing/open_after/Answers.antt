@@ -8,7 +8,7 @@ use Rattle.prover.specs.Frontier.{IsBound, IsFound, IsTotal, NoneGoesOn}
 use Rattle.prover.specs.inside.Working.{Enters, IsTaken, StayBelow, tighter}
 use Rattle.prover.proofs.Deferring.{defers_none, defers_one, loosened}
 use Rattle.prover.proofs.Steps.{expanding_fits, on_ok_so, taken_found, taken_later, taken_less, taken_none, under_way_after}
-use Rattle.prover.proofs.pushing.take.Goals as goal
+use Rattle.prover.proofs.pushing.open_after.Goals as goal
 
 pub returns-in_default-allowed_total-clause-taken : goal.returns-in_default-allowed_total-clause-taken
 returns-in_default-allowed_total-clause-taken c =

@@ -1,7 +1,7 @@
 use Rattle.std.proofs.Common.{◌≡◌}
 use Rattle.successors.specs.Expanding.{HasPushesOf}
 use Rattle.prover.specs.inside.Working.{AreTaken, IsChosen, IsExpanding, IsLater, Widens, tighter}
-use Rattle.prover.proofs.expansion.take_all.Given as goal
+use Rattle.prover.proofs.expansion.open_all.Given as goal
 
 abbrev pub invariant-loop-index : goal.invariant-loop-index
 invariant-loop-index l = record {

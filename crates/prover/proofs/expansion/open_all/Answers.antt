@@ -13,7 +13,7 @@ use Rattle.prices.specs.Solving.{Allows}
 use Rattle.prover.specs.inside.Working.{AreTaken, IsChosen, tighter}
 use Rattle.prover.proofs.Deferring.{loosened}
 use Rattle.prover.proofs.Steps.{are_taken_less, chosen_suffice, expanding_on, expands_by, read_push, expanding_fits, taken_more, widens_then}
-use Rattle.prover.proofs.expansion.take_all.Goals as goal
+use Rattle.prover.proofs.expansion.open_all.Goals as goal
 
 pub find_pushes-requires : goal.find_pushes-requires
 find_pushes-requires c = record {
