@@ -31,7 +31,7 @@ line words = words ++ 10 ∷ []
 abbrev pub one_line : List ℕ → ℕ → Report
 one_line words status = record { text = line words; status = status }
 
--- how a fault is told: its number and its name, and the numbers of boxes and goals where they differ
+-- how a fault is reported: its number and its name, and the numbers of boxes and goals if they differ
 abbrev pub fault_words : LevelFault → List ℕ
 fault_words level.TooTall = codes "fault 1 TooTall"
 fault_words level.TooWide = codes "fault 2 TooWide"
@@ -42,7 +42,7 @@ fault_words (level.Counts boxes goals) = codes "fault 6 Counts " ++ decimal boxe
 fault_words level.Open = codes "fault 7 Open"
 fault_words level.OutOfMemory = codes "fault 8 OutOfMemory"
 
--- how a judged board is told: a lawful level by its rows, columns and boxes
+-- how a judged board is reported: a lawful level by its rows, columns and boxes
 abbrev pub judged_words : Result Board LevelFault → List ℕ
 judged_words (Ok board) =
     codes "ok " ++ decimal (row_count board) ++ codes "x" ++ decimal board.cols ++ codes " " ++ decimal

@@ -1,4 +1,4 @@
--- How a solution that was written is told when it is replayed.
+-- How a written solution is reported when it is replayed.
 use Rattle.std.specs.Prelude.{◌≡◌, ℕ, ◌≤◌, List, ◌++◌, length, codes, Some}
 use Rattle.grid.specs.declared.moves.Letter.{Letter}
 use Rattle.lurd.specs.Text.{IsText, bytes_of}

@@ -13,7 +13,7 @@ use Rattle.sokopar.specs.Solving.{IsSolveOf, cap_words, positions_words}
 abbrev pub is_good : Listed → Bool
 is_good listed = is_ok listed.board
 
--- how a lawful level is told: its rows, columns and boxes
+-- how a lawful level is reported: its rows, columns and boxes
 abbrev pub level_words : Board → List ℕ
 level_words board =
     codes "ok " ++ decimal (row_count board) ++ codes "x" ++ decimal board.cols ++ codes " " ++ decimal
