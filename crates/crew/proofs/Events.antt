@@ -5,11 +5,7 @@ use Rattle.std.proofs.Math.Nat.{min-eq_left, min-eq_right}
 use Rattle.std.proofs.lemmas.Bool.{cases_lt}
 use Rattle.std.proofs.lemmas.Nat.{mul-le}
 use Rattle.claims.specs.declared.views.Hand.{Hand}
-use Rattle.layers.specs.LayerView.{LayerView}
-use Rattle.successors.specs.ParcelView.{ParcelView}
-use Rattle.layers.specs.BookView.{BookView}
-use Rattle.layers.specs.Books.{MayEnter}
-use Rattle.crew.specs.Work.{IsOwn, HandEnds, HandOverEnds, told, LetsGoOn, MayAnswerEach, WereAccepted, AsksTheGate}
+use Rattle.crew.specs.Work.{told, LetsGoOn, MayAnswerEach, WereAccepted, AsksTheGate}
 use Rattle.crew.specs.declared.end.End.{End}
 use Rattle.crew.specs.declared.end.End.TheVariants.{Drained, Refused, Stopped, Foreign, NoPlace}
 use Rattle.crew.specs.inside.Events.{counted, IsTold, GoesOn, EndsAtOnce, DrawsAtLast, GoesOnUntil, IsCutOff, DrawsUntil, HasLeft}
@@ -215,27 +211,3 @@ asks_drawn may books after hand later Stopped it =
 asks_drawn may books after hand later (Refused refusal) it = absurd it
 asks_drawn may books after hand later Foreign it = absurd it
 asks_drawn may books after hand later NoPlace it = absurd it
-
--- ---- under a book's lock
-
--- an end by the book comes with no event
-pub ends_by_book : (layer : LayerView) (workers worker : ℕ) (book : BookView) (parcel : ParcelView) (may : ℕ → Bool → Bool) (nth : ℕ) (end : End) →
-    HandEnds layer workers worker book parcel end → EndsAtOnce may nth nth end
-ends_by_book layer workers worker book parcel may nth Foreign it = refl
-ends_by_book layer workers worker book parcel may nth (Refused refusal) it = refl
-ends_by_book layer workers worker book parcel may nth Drained it = absurd it
-ends_by_book layer workers worker book parcel may nth Stopped it = absurd it
-ends_by_book layer workers worker book parcel may nth NoPlace it = absurd it
-
-pub over_by_book : (layer : LayerView) (workers worker : ℕ) (book : BookView) (parcel : ParcelView) (end : End) →
-    HandEnds layer workers worker book parcel end → HandOverEnds layer workers worker book parcel end
-over_by_book layer workers worker book parcel Foreign it = it
-over_by_book layer workers worker book parcel (Refused refusal) it = it
-over_by_book layer workers worker book parcel Drained it = absurd it
-over_by_book layer workers worker book parcel Stopped it = absurd it
-over_by_book layer workers worker book parcel NoPlace it = absurd it
-
--- or by the gate
-pub over_by_gate : (layer : LayerView) (workers worker : ℕ) (book : BookView) (parcel : ParcelView) (end : End) → end ≡ Stopped →
-    IsOwn layer workers worker book × MayEnter book parcel → HandOverEnds layer workers worker book parcel end
-over_by_gate layer workers worker book parcel end is may = subst (HandOverEnds layer workers worker book parcel) (sym is) may

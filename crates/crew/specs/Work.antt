@@ -3,7 +3,7 @@ use Rattle.std.specs.Prelude.{◌≡◌, ℕ, suc, ◌+◌, ◌-◌, ◌*◌, �
 use Rattle.layers.specs.LayerView.{LayerView}
 use Rattle.successors.specs.ParcelView.{ParcelView}
 use Rattle.layers.specs.BookView.{BookView, IsLawfulBook, last_layer}
-use Rattle.layers.specs.Books.{MayEnter, HandBackRefused, after_refusal}
+use Rattle.layers.specs.Books.{HandBackRefused, after_refusal}
 use Rattle.claims.specs.declared.views.Hand.{Hand}
 use Rattle.claims.specs.Hands.{LedgerView, DrawerView, Drew}
 use Rattle.crew.specs.declared.end.End.{End}
@@ -50,16 +50,6 @@ HandEnds layer workers worker book parcel (Refused refusal) =
 HandEnds layer workers worker book parcel Drained = ⊥
 HandEnds layer workers worker book parcel Stopped = ⊥
 HandEnds layer workers worker book parcel NoPlace = ⊥
-
--- how a hand back and then the gate end a worker: the book answered so, or the gate did not let it go on, after a book
--- of its own accepted the parcel
-abbrev pub HandOverEnds : LayerView → ℕ → ℕ → BookView → ParcelView → End → Type 0
-HandOverEnds layer workers worker book parcel Stopped = IsOwn layer workers worker book × MayEnter book parcel
-HandOverEnds layer workers worker book parcel Foreign = HandEnds layer workers worker book parcel Foreign
-HandOverEnds layer workers worker book parcel (Refused refusal) =
-    HandEnds layer workers worker book parcel (Refused refusal)
-HandOverEnds layer workers worker book parcel Drained = ⊥
-HandOverEnds layer workers worker book parcel NoPlace = ⊥
 
 -- the book after a hand back that ended a worker: over, if it would pass its limit, and else unchanged
 abbrev pub after_end : BookView → End → BookView

@@ -5,7 +5,6 @@ ghost use Rattle.crew.specs.declared.end.End.TheVariants.{Drained};
 ghost use Rattle.crew.specs.inside.Batches.{AreDrawn, AreExpanded, AreRanks, IsBatch, IsOfRank};
 ghost use Rattle.crew.specs.inside.Ends.{HasEnded, IsReady};
 ghost use Rattle.crew.specs.inside.Events.{DrawsUntil, GoesOn};
-ghost use Rattle.crew.specs.inside.Sharing.{answers_to};
 
 use crate::end::End;
 use crate::gate::Gate;
@@ -55,8 +54,8 @@ fn batch_size(left: u64, parcels: usize) -> usize
 /// Appends parcels to fill later, as many as pay in the layer and as there is capacity for. They are made here by
 /// value, which takes a large stack frame.
 #[inline(never)]
-pub(crate) fn append_parcels<'a, G: Gate>(
-    shared: &Shared<'_, 'a, G>,
+pub(crate) fn append_parcels<'a>(
+    shared: &Shared<'_, 'a>,
     rank: u64,
     scratch: &mut Scratch,
     parcels: &mut Vec<Parcel<'a>>,
@@ -90,13 +89,13 @@ pub(crate) fn draw_batch<'a, R: Wait, G: Gate>(
         (λ count. IsBatch worker.now.shared.now.layer drawer.old.hand (take count parcels.new) drawer.new.hand) }
     ensures fits { IfOk result (λ count. count ≤ length parcels.new) }
     ensures none { IfOk result (λ count. count ≡ 0 → EndsWith worker.now.number drawer.new.hand Drained) }
-    ensures goes_on { IfOk result
-        (λ count. GoesOn (answers_to G.may_answer worker.now.shared.now worker.now.number) nth.old count nth.new) }
+    ensures goes_on { IfOk result (λ count. GoesOn (G.may_answer worker.now.gate.now
+        worker.now.shared.now.layer.number worker.now.number) nth.old count nth.new) }
     ensures ends { IfErr result
         (λ end. HasEnded G.may_stop worker.now.shared.now.layer worker.now.shared.now.workers worker.now.number
         drawer.new.hand end) }
-    ensures gate { IfErr result (λ end. DrawsUntil (answers_to G.may_answer worker.now.shared.now worker.now.number)
-        drawer.old.hand nth.old drawer.new.hand nth.new end) }
+    ensures gate { IfErr result (λ end. DrawsUntil (G.may_answer worker.now.gate.now
+        worker.now.shared.now.layer.number worker.now.number) drawer.old.hand nth.old drawer.new.hand nth.new end) }
     ensures ready { IsReady worker.now.shared.now worker.now.number scratch.new drawer.new }
 {
     let shared = worker.shared;
@@ -119,13 +118,13 @@ fn draw_ranks<R: Wait, G: Gate>(
     ensures drawn { IfOk result
         (λ count. AreDrawn worker.now.shared.now.layer drawer.old.hand count ranks.new drawer.new.hand) }
     ensures all { IfOk result (λ count. count < length ranks.new → EndsWith worker.now.number drawer.new.hand Drained) }
-    ensures goes_on { IfOk result
-        (λ count. GoesOn (answers_to G.may_answer worker.now.shared.now worker.now.number) nth.old count nth.new) }
+    ensures goes_on { IfOk result (λ count. GoesOn (G.may_answer worker.now.gate.now
+        worker.now.shared.now.layer.number worker.now.number) nth.old count nth.new) }
     ensures ends { IfErr result
         (λ end. HasEnded G.may_stop worker.now.shared.now.layer worker.now.shared.now.workers worker.now.number
         drawer.new.hand end) }
-    ensures gate { IfErr result (λ end. DrawsUntil (answers_to G.may_answer worker.now.shared.now worker.now.number)
-        drawer.old.hand nth.old drawer.new.hand nth.new end) }
+    ensures gate { IfErr result (λ end. DrawsUntil (G.may_answer worker.now.gate.now
+        worker.now.shared.now.layer.number worker.now.number) drawer.old.hand nth.old drawer.new.hand nth.new end) }
     ensures place { IsAtPlace worker.now.shared.now.ledger worker.now.number drawer.new }
 {
     for place in 0..ranks.len() {
@@ -139,8 +138,8 @@ fn draw_ranks<R: Wait, G: Gate>(
 }
 
 /// Makes the first parcels those of the ranks, in order.
-pub(crate) fn expand_each<'a, G: Gate>(
-    shared: &Shared<'_, 'a, G>,
+pub(crate) fn expand_each<'a>(
+    shared: &Shared<'_, 'a>,
     ranks: &[u64],
     scratch: &mut Scratch,
     parcels: &mut [Parcel<'a>],
@@ -157,8 +156,8 @@ pub(crate) fn expand_each<'a, G: Gate>(
 }
 
 // Makes a parcel that of a rank, and deals its successors to the shares of the books.
-fn expand_into<'a, G: Gate>(
-    shared: &Shared<'_, 'a, G>,
+fn expand_into<'a>(
+    shared: &Shared<'_, 'a>,
     rank: u64,
     scratch: &mut Scratch,
     parcel: &mut Parcel<'a>,

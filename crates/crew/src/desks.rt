@@ -70,14 +70,15 @@ impl<'a> Desks<'a> {
     pub(crate) fn work<R: Threads + Wait + Sync, G: Gate + Sync>(
         &mut self,
         rt: &R,
-        shared: &Shared<'_, 'a, G>,
+        shared: &Shared<'_, 'a>,
+        gate: &G,
         drawer: Drawer,
     )
         requires problem { self.old ≡ shared.now.layer.level }
         requires drawer { drawer ≡ newcomer shared.now.ledger }
         ensures { self.new ≡ self.old }
     {
-        work_first(rt, self.desks.as_mut_slice(), shared, drawer);
+        work_first(rt, self.desks.as_mut_slice(), shared, gate, drawer);
     }
 }
 
@@ -122,7 +123,8 @@ fn append_desk<'a>(
 fn work_first<'a, R: Threads + Wait + Sync, G: Gate + Sync>(
     rt: &R,
     desks: &mut [Desk<'a>],
-    shared: &Shared<'_, 'a, G>,
+    shared: &Shared<'_, 'a>,
+    gate: &G,
     drawer: Drawer,
 )
     requires places { length desks.old ≤ PLACES }
@@ -133,7 +135,7 @@ fn work_first<'a, R: Threads + Wait + Sync, G: Gate + Sync>(
     let many = most_at_work(desks.len(), shared.layer.len());
     let first = &mut desks[..many];
     deal(shared.ledger, drawer, first);
-    work_all(rt, first, shared);
+    work_all(rt, first, shared, gate);
 }
 
 // The number of workers that can each draw one of the ranks.

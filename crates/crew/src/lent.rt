@@ -48,11 +48,10 @@ pub(crate) fn lend<'a, R: Threads + Wait + Sync, G: Gate + Sync>(
         layer,
         books: locks.as_slice(),
         ledger: &ledger,
-        gate: &gate,
         workers: settings.config.workers.saturating_add(1),
         held: &held,
     };
-    desks.work(rt, &shared, drawer);
+    desks.work(rt, &shared, &gate, drawer);
     unlock_each(alloc, locks)
 }
 

@@ -25,6 +25,7 @@ mod closing;
 mod config;
 mod desks;
 mod end;
+mod event;
 mod gate;
 mod handing;
 mod held;

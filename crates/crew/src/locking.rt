@@ -1,9 +1,11 @@
-//! The locks of books, and what a worker does while another one holds a lock.
-ghost use Rattle.std.specs.Prelude.{◌≡◌};
+//! The locks of books, and what a worker does while another one holds a lock. Only generic functions hold a guard. They
+//! cannot know what it guards, so under a lock they only call the function that was passed.
+ghost use Rattle.std.specs.Prelude.{◌≡◌, IfSome};
+ghost use Rattle.std.specs.Sync.Mutex.{mutex_guard_value};
+ghost use Rattle.crew.specs.inside.Calls.{Leaves};
 
-use crate::gate::Gate;
 use crate::held::tell_growth;
-use crate::shared::Worker;
+use crate::shared::Shared;
 use layers::Book;
 use std::sync::atomic::AtomicU64;
 use std::sync::{Mutex, MutexGuard, Wait};
@@ -20,34 +22,74 @@ const PAUSES: u32 = 8;
 // side by side.
 const LEAST: usize = 16;
 
-// Takes a book's lock as `lock` does, after some tries. While another worker holds it, this one enters the pending
-// successors of its own book.
-pub(crate) fn lock_book<'b, R: Wait, G: Gate>(
-    worker: &Worker<'_, '_, '_, '_, R, G>,
-    book: &'b Mutex<Book>,
-) -> MutexGuard<'b, Book> {
+/// Takes a lock as `lock` does, after some tries, calls `job` with what is behind it, and releases the lock. While
+/// another worker holds it, worker `worker` enters the pending successors of its own book.
+pub(crate) fn with_lock<R: Wait, T, A, F: Fn(&mut T) -> A>(
+    rt: &R,
+    shared: &Shared<'_, '_>,
+    worker: u8,
+    lock: &Mutex<T>,
+    job: &F,
+) -> A
+    requires { F.IsAlwaysCallable job.now }
+    ensures { (before : T) × (after : T) × Leaves F.Fn job.now before result after }
+{
+    with_guard(take_lock(rt, shared, worker, lock), job)
+}
+
+// Takes a lock as `with_lock` does.
+fn take_lock<'b, R: Wait, T>(
+    rt: &R,
+    shared: &Shared<'_, '_>,
+    worker: u8,
+    lock: &'b Mutex<T>,
+) -> MutexGuard<'b, T> {
     for _ in 0..TRIES {
-        if let Some(guard) = book.try_lock() {
+        if let Some(guard) = lock.try_lock() {
             return guard;
         }
-        if !enter_own(worker) {
+        if !enter_own(shared, worker) {
             pause();
         }
     }
-    book.lock(worker.rt)
+    lock.lock(rt)
+}
+
+// Calls `job` with what a guard guards, and releases the lock.
+fn with_guard<T, A, F: Fn(&mut T) -> A>(guard: MutexGuard<'_, T>, job: &F) -> A
+    requires { F.IsAlwaysCallable job.now }
+    ensures { (after : T) × Leaves F.Fn job.now (mutex_guard_value guard.entry) result after }
+{
+    let mut guard = guard;
+    job(&mut *guard)
+}
+
+// Calls `job` with what is behind a lock, unless another thread holds the lock.
+fn with_free_lock<T, A, F: Fn(&mut T) -> A>(lock: &Mutex<T>, job: &F) -> Option<A>
+    requires { F.IsAlwaysCallable job.now }
+    ensures { IfSome result
+        (λ answer. (before : T) × (after : T) × Leaves F.Fn job.now before answer after) }
+{
+    match lock.try_lock() {
+        Some(guard) => Some(with_guard(guard, job)),
+        None => None,
+    }
 }
 
 // Enters the pending successors of the worker's own book, and returns `true`. It returns `false` if they are fewer than
 // `LEAST`, or if another worker holds the book.
-fn enter_own<R: Wait, G: Gate>(worker: &Worker<'_, '_, '_, '_, R, G>) -> bool {
-    let shared = worker.shared;
-    let Some(book) = shared.books.get(worker.number as usize) else {
+fn enter_own(shared: &Shared<'_, '_>, worker: u8) -> bool {
+    let Some(book) = shared.books.get(worker as usize) else {
         return false;
     };
-    let Some(mut guard) = book.try_lock() else {
-        return false;
-    };
-    enter_into(&mut *guard, shared.held)
+    let held = shared.held;
+    let entered = with_free_lock(
+        book,
+        &|book: &mut Book|
+            ensures { book.exit.now ≡ book.entry.now }
+        { enter_into(book, held) },
+    );
+    entered.unwrap_or(false)
 }
 
 // Enters the pending successors of a book whose lock is held, unless they are fewer than `LEAST`, and adds the growth

@@ -1,16 +1,13 @@
-ghost use Rattle.std.specs.Prelude.{◌≡◌, ℕ, ◌<◌, ◌≤◌, [], ◌∷◌, ◌++◌, IsNone, true, IfErr, IfOk, OnErr, OnOk};
-ghost use Rattle.std.specs.Prelude.{length, take};
+ghost use Rattle.std.specs.Prelude.{◌≡◌, ◌<◌, ◌≤◌, [], ◌∷◌, ◌++◌, IsNone, true, IfErr, IfOk, OnOk, length, take};
 ghost use Rattle.claims.specs.declared.views.Hand.{Hand};
-ghost use Rattle.crew.specs.Work.{IsAtPlace, HasDrawn, DrawEnds, MayEnd, EndsWith, WasAnswered, AsksTheGate};
-ghost use Rattle.crew.specs.declared.end.End.TheVariants.{Stopped};
+ghost use Rattle.crew.specs.Work.{IsAtPlace, MayEnd, EndsWith, WasAnswered, AsksTheGate};
 ghost use Rattle.crew.specs.inside.Batches.{AreOfLayer};
 ghost use Rattle.crew.specs.inside.Ends.{HasEnded, IsReady};
-ghost use Rattle.crew.specs.inside.Events.{IsTold, EndsAtOnce, DrawsAtLast, HasLeft};
-ghost use Rattle.crew.specs.inside.Sharing.{answers_to};
-ghost use Rattle.layers.specs.LayerView.{LayerView};
+ghost use Rattle.crew.specs.inside.Events.{IsTold, DrawsAtLast, HasLeft};
 
 use crate::batch::{append_parcels, draw_batch, expand_each};
 use crate::end::End;
+use crate::event::draw_rank;
 use crate::gate::Gate;
 use crate::handing::hand_batch;
 use crate::shared::{Shared, Worker};
@@ -66,19 +63,19 @@ pub fn work<R: Wait, G: Gate>(
         layer,
         books,
         ledger,
-        gate,
         workers,
         held: &held,
     };
     let mut parcels = Vec::new(scratch.allocator());
-    work_at(rt, &shared, drawer, worker, scratch, &mut parcels)
+    work_at(rt, &shared, gate, drawer, worker, scratch, &mut parcels)
 }
 
 // Works on a layer as [`work`] does, by batches of at most as many ranks as there is capacity for parcels.
 // The parcels are kept from layer to layer.
 pub(crate) fn work_at<'a, R: Wait, G: Gate>(
     rt: &R,
-    shared: &Shared<'_, 'a, G>,
+    shared: &Shared<'_, 'a>,
+    gate: &G,
     drawer: &mut Drawer,
     worker: u8,
     scratch: &mut Scratch,
@@ -88,7 +85,7 @@ pub(crate) fn work_at<'a, R: Wait, G: Gate>(
     requires drawer { (drawer.old.ledger ≡ shared.now.ledger) × IsNone drawer.old.hand.place }
     requires place { worker < PLACES }
     ensures ends { HasEnded G.may_stop shared.now.layer shared.now.workers worker drawer.new.hand result }
-    ensures gate { AsksTheGate (answers_to G.may_answer shared.now worker) shared.now.books drawer.old.hand
+    ensures gate { AsksTheGate (G.may_answer gate.now shared.now.layer.number worker) shared.now.books drawer.old.hand
         drawer.new.hand result }
     ensures ledger { drawer.new.ledger ≡ shared.now.ledger }
     ensures size { scratch.new.size ≡ scratch.old.size }
@@ -96,11 +93,7 @@ pub(crate) fn work_at<'a, R: Wait, G: Gate>(
     if !shared.ledger.enrol(drawer, worker) {
         return End::NoPlace;
     }
-    let own = Worker {
-        rt,
-        shared,
-        number: worker,
-    };
+    let own = Worker::new(rt, shared, gate, worker);
     work_enrolled(&own, drawer, scratch, parcels)
 }
 
@@ -114,7 +107,7 @@ fn work_enrolled<'a, R: Wait, G: Gate>(
     requires ready { IsReady worker.now.shared.now worker.now.number scratch.old drawer.old }
     ensures ends { HasEnded G.may_stop worker.now.shared.now.layer worker.now.shared.now.workers worker.now.number
         drawer.new.hand result }
-    ensures gate { AsksTheGate (answers_to G.may_answer worker.now.shared.now worker.now.number)
+    ensures gate { AsksTheGate (G.may_answer worker.now.gate.now worker.now.shared.now.layer.number worker.now.number)
         worker.now.shared.now.books drawer.old.hand drawer.new.hand result }
     ensures ledger { drawer.new.ledger ≡ worker.now.shared.now.ledger }
     ensures size { scratch.new.size ≡ scratch.old.size }
@@ -148,9 +141,9 @@ fn by_batches<'a, R: Wait, G: Gate>(
     requires first { AreOfLayer worker.now.shared.now.layer (take 1 parcels.old) }
     ensures ends { HasEnded G.may_stop worker.now.shared.now.layer worker.now.shared.now.workers worker.now.number
         drawer.new.hand result }
-    ensures gate { (hand : Hand) → HasLeft (answers_to G.may_answer worker.now.shared.now worker.now.number)
-        worker.now.shared.now.books 1 hand drawer.old.hand nth.old →
-        AsksTheGate (answers_to G.may_answer worker.now.shared.now worker.now.number) worker.now.shared.now.books hand
+    ensures gate { (hand : Hand) → HasLeft (G.may_answer worker.now.gate.now worker.now.shared.now.layer.number
+        worker.now.number) worker.now.shared.now.books 1 hand drawer.old.hand nth.old → AsksTheGate (G.may_answer
+        worker.now.gate.now worker.now.shared.now.layer.number worker.now.number) worker.now.shared.now.books hand
         drawer.new.hand result }
     ensures ledger { drawer.new.ledger ≡ worker.now.shared.now.ledger }
     ensures size { scratch.new.size ≡ scratch.old.size }
@@ -183,53 +176,15 @@ pub(crate) fn draw<R: Wait, G: Gate>(
     ensures ends { IfErr result
         (λ end. HasEnded G.may_stop worker.now.shared.now.layer worker.now.shared.now.workers worker.now.number
         drawer.new.hand end) }
-    ensures goes_on { OnOk result
-        (IsTold (answers_to G.may_answer worker.now.shared.now worker.now.number) nth.old true nth.new) }
-    ensures gate { IfErr result (λ end. DrawsAtLast (answers_to G.may_answer worker.now.shared.now worker.now.number)
-        drawer.old.hand nth.old drawer.new.hand nth.new end) }
+    ensures goes_on { OnOk result (IsTold (G.may_answer worker.now.gate.now worker.now.shared.now.layer.number
+        worker.now.number) nth.old true nth.new) }
+    ensures gate { IfErr result (λ end. DrawsAtLast (G.may_answer worker.now.gate.now
+        worker.now.shared.now.layer.number worker.now.number) drawer.old.hand nth.old drawer.new.hand nth.new end) }
     ensures place { IsAtPlace worker.now.shared.now.ledger worker.now.number drawer.new }
 {
     let shared = worker.shared;
-    let rank = draw_rank(shared.layer, shared.ledger, drawer, worker.number)?;
-    pass(worker, nth)?;
+    let event = draw_rank(shared.layer, shared.ledger, drawer, worker.number)?;
+    let rank = event.rank();
+    worker.pass(event, nth)?;
     Ok(rank)
-}
-
-// Draws a rank of the layer.
-fn draw_rank(layer: &Layer, ledger: &Ledger, drawer: &mut Drawer, worker: u8) -> Result<u64, End>
-    requires ranks { ledger.now.len ≤ length layer.now.places }
-    requires place { IsAtPlace ledger.now worker drawer.old }
-    ensures ok { IfOk result (λ rank. HasDrawn layer.now ledger.now drawer.old.hand rank drawer.new.hand) }
-    ensures none { OnErr result (drawer.new.hand.numbers ≡ drawer.old.hand.numbers) }
-    ensures end { IfErr result (λ end. DrawEnds worker drawer.new.hand end) }
-    ensures place { IsAtPlace ledger.now worker drawer.new }
-{
-    match ledger.draw(drawer) {
-        Some(rank) => Ok(u64::from(rank)),
-        None => Err(End::Drained),
-    }
-}
-
-// Counts one more event, and calls the gate.
-pub(crate) fn pass<R: Wait, G: Gate>(
-    worker: &Worker<'_, '_, '_, '_, R, G>,
-    nth: &mut u64,
-) -> Result<(), End>
-    ensures stops { IfErr result (λ end. end ≡ Stopped) }
-    ensures end { IfErr result (λ end. MayEnd G.may_stop end) }
-    ensures hand { (hand : Hand) → IfErr result (λ end. EndsWith worker.now.number hand end) }
-    ensures answered { (layer : LayerView) (workers : ℕ) →
-        IfErr result (λ end. WasAnswered layer workers worker.now.number end) }
-    ensures goes_on { OnOk result
-        (IsTold (answers_to G.may_answer worker.now.shared.now worker.now.number) nth.old true nth.new) }
-    ensures gate { IfErr result
-        (λ end. EndsAtOnce (answers_to G.may_answer worker.now.shared.now worker.now.number) nth.old nth.new end) }
-{
-    let shared = worker.shared;
-    *nth = nth.saturating_add(1);
-    if shared.gate.pass(shared.layer.number(), worker.number, *nth) {
-        Ok(())
-    } else {
-        Err(End::Stopped)
-    }
 }

@@ -17,7 +17,8 @@ use std::thread::Threads;
 pub(crate) fn work_all<'a, R: Threads + Wait + Sync, G: Gate + Sync>(
     rt: &R,
     desks: &mut [Desk<'a>],
-    shared: &Shared<'_, 'a, G>,
+    shared: &Shared<'_, 'a>,
+    gate: &G,
 )
     requires places { length desks.old ≤ PLACES }
     requires drawers { HaveDrawers shared.now.ledger (length desks.old) desks.old }
@@ -32,12 +33,18 @@ pub(crate) fn work_all<'a, R: Threads + Wait + Sync, G: Gate + Sync>(
             requires drawer { desk.now.drawer ≡ Some (newcomer shared.now.ledger) }
             requires room { desk.now.scratch.size ≡ length shared.now.layer.level.board.cells }
             ensures { desk.exit.now.scratch.size ≡ desk.entry.now.scratch.size }
-        { help(rt, desk, shared, place as u8) },
+        { help(rt, desk, shared, gate, place as u8) },
     );
 }
 
 // Works on the layer as one worker, with the memory of the desk. Its result is ignored.
-fn help<'a, R: Wait, G: Gate>(rt: &R, desk: &mut Desk<'a>, shared: &Shared<'_, 'a, G>, worker: u8)
+fn help<'a, R: Wait, G: Gate>(
+    rt: &R,
+    desk: &mut Desk<'a>,
+    shared: &Shared<'_, 'a>,
+    gate: &G,
+    worker: u8,
+)
     requires place { worker < PLACES }
     requires drawer { desk.old.drawer ≡ Some (newcomer shared.now.ledger) }
     requires room { desk.old.scratch.size ≡ length shared.now.layer.level.board.cells }
@@ -47,6 +54,7 @@ fn help<'a, R: Wait, G: Gate>(rt: &R, desk: &mut Desk<'a>, shared: &Shared<'_, '
         work_at(
             rt,
             shared,
+            gate,
             &mut own,
             worker,
             &mut desk.scratch,

@@ -9,10 +9,9 @@ use Rattle.crew.specs.declared.end.End.{End}
 use Rattle.crew.specs.inside.Sharing.{SharedView}
 
 -- the scratch is for the layer's level, and the drawer has the worker's place in the ledger
-pub record IsReady {G : Type 0} (shared : SharedView G) (worker : ℕ) (scratch : Reach) (drawer : DrawerView) : Type 0
-  where
-    pub room : scratch.size ≡ length shared.layer.level.board.cells
-    pub place : IsAtPlace shared.ledger worker drawer
+pub record IsReady (shared : SharedView) (worker : ℕ) (scratch : Reach) (drawer : DrawerView) : Type 0 where
+  pub room : scratch.size ≡ length shared.layer.level.board.cells
+  pub place : IsAtPlace shared.ledger worker drawer
 
 -- the worker may end so, its drawer is as such an end leaves it, and if a book ended it, a lawful book may have
 pub record HasEnded (may_stop : Bool) (layer : LayerView) (workers worker : ℕ) (hand : Hand) (end : End) : Type 0 where

@@ -6,7 +6,7 @@ use Rattle.crew.proofs.batch.draw_ranks.Goals as goal
 
 pub returns-in-Err : goal.returns-in-Err
 returns-in-Err g c =
-    let may = g.G.Gate.may_answer c.args.worker.now.shared.now.gate c.args.worker.now.shared.now.layer.number c.args.worker.now.number in
+    let may = g.G.Gate.may_answer c.args.worker.now.gate.now c.args.worker.now.shared.now.layer.number c.args.worker.now.number in
     let first = c.args.drawer.now.hand in let mid = c.loop-place.drawer.hand in let later = c.draw.new.drawer.hand in
     let layer = c.args.worker.now.shared.now.layer in let place = c.loop-place.place in let is = c.in-Err.ensures in
     let undrained : ¬ (c.in-Err.other ≡ Drained) = search rules in record {
@@ -22,7 +22,7 @@ returns-in-Err g c =
 
 pub loop-place-preserved : goal.loop-place-preserved
 loop-place-preserved g c =
-    let may = g.G.Gate.may_answer c.args.worker.now.shared.now.gate c.args.worker.now.shared.now.layer.number c.args.worker.now.number in
+    let may = g.G.Gate.may_answer c.args.worker.now.gate.now c.args.worker.now.shared.now.layer.number c.args.worker.now.number in
     let first = c.args.drawer.now.hand in let mid = c.loop-place.drawer.hand in let later = c.draw.new.drawer.hand in
     let place = c.loop-place.place in let is = c.in-Ok.ensures in record {
       drawn = drawn_more c.args.worker.now.shared.now.layer first mid later place c.in-Ok.rank c.loop-place.ranks c.loop-place.invariant.drawn

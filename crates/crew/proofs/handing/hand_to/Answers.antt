@@ -1,10 +1,14 @@
-use Rattle.std.proofs.Common.{IfErr, subst, rules}
-use Rattle.crew.specs.Work.{WasAnswered}
+use Rattle.std.proofs.Common.{subst}
+use Rattle.crew.specs.inside.Handing.{HandsBack}
 use Rattle.crew.specs.inside.Sharing.{SharedView}
 use Rattle.crew.proofs.handing.hand_to.Goals as goal
 
-pub returns-in_err-handed-clause-answered : goal.returns-in_err-handed-clause-answered
-returns-in_err-handed-clause-answered g c =
-    let ended = c.from_residual.result in let answered = c.in_err-handed.ensures.answered in
-    let of_inside : IfErr ended (λ end. WasAnswered c.shared.inside.layer.now c.shared.inside.workers c.args.worker.now.number end) = search (rules, answered) in
-    subst (λ (shared : SharedView g.row.G.Denot). IfErr ended (λ end. WasAnswered shared.layer shared.workers c.args.worker.now.number end)) c.shared.view_is of_inside
+pub returns : goal.returns
+returns g c =
+    let is = c.with_lock.ensures.2 in let before = is.argument.now in let after = is.after_call.now in (
+      before,
+      after,
+      is.call.1,
+      subst (λ (shared : SharedView). HandsBack shared.layer shared.workers c.args.worker c.args.parcel.now before c.with_lock.result after)
+          c.shared.view_is is.call.0,
+    )

@@ -16,14 +16,14 @@ returns-in-Err-clause-ends g c = c.in-Err.ensures.ends c.loop.drawer.hand
 
 pub returns-in-Err-clause-gate : goal.returns-in-Err-clause-gate
 returns-in-Err-clause-gate g c = λ hand left.
-    let may = g.G.Gate.may_answer c.args.worker.now.shared.now.gate c.args.worker.now.shared.now.layer.number c.args.worker.now.number in
+    let may = g.G.Gate.may_answer c.args.worker.now.gate.now c.args.worker.now.shared.now.layer.number c.args.worker.now.number in
     let books = c.args.worker.now.shared.now.books in let filled = c.loop.filled in let batch = take filled c.loop.parcels in
     asks_handing may books filled (books * length batch) c.loop.nth c.hand_batch.new.nth hand c.loop.drawer.hand c.in-Err.end
     (ap (λ n. books * n) (length-take-le filled c.loop.parcels c.loop.invariant.2)) (c.loop.invariant.5 hand left) c.in-Err.ensures.gate
 
 pub returns-in-Err-draw_batch-clause-gate : goal.returns-in-Err-draw_batch-clause-gate
 returns-in-Err-draw_batch-clause-gate g c = λ hand left.
-    let may = g.G.Gate.may_answer c.args.worker.now.shared.now.gate c.args.worker.now.shared.now.layer.number c.args.worker.now.number in
+    let may = g.G.Gate.may_answer c.args.worker.now.gate.now c.args.worker.now.shared.now.layer.number c.args.worker.now.number in
     let books = c.args.worker.now.shared.now.books in let filled = c.loop.filled in let batch = take filled c.loop.parcels in
     let handed = has_handed may books filled (books * length batch) c.loop.nth c.hand_batch.new.nth hand c.loop.drawer.hand
     (ap (λ n. books * n) (length-take-le filled c.loop.parcels c.loop.invariant.2)) (c.loop.invariant.5 hand left) c.in_default.ensures.goes_on in
@@ -32,7 +32,7 @@ returns-in-Err-draw_batch-clause-gate g c = λ hand left.
 
 pub returns-then-filled-eq0-clause-gate : goal.returns-then-filled-eq0-clause-gate
 returns-then-filled-eq0-clause-gate g c = λ hand left.
-    let may = g.G.Gate.may_answer c.args.worker.now.shared.now.gate c.args.worker.now.shared.now.layer.number c.args.worker.now.number in
+    let may = g.G.Gate.may_answer c.args.worker.now.gate.now c.args.worker.now.shared.now.layer.number c.args.worker.now.number in
     let books = c.args.worker.now.shared.now.books in let filled = c.loop.filled in let batch = take filled c.loop.parcels in let is = c.in-Ok.ensures in
     let later = c.draw_batch.new.drawer.hand in let count = c.in-Ok.count in
     let handed = has_handed may books filled (books * length batch) c.loop.nth c.hand_batch.new.nth hand c.loop.drawer.hand
@@ -43,7 +43,7 @@ returns-then-filled-eq0-clause-gate g c = λ hand left.
 
 pub loop-preserved : goal.loop-preserved
 loop-preserved g c =
-    let may = g.G.Gate.may_answer c.args.worker.now.shared.now.gate c.args.worker.now.shared.now.layer.number c.args.worker.now.number in
+    let may = g.G.Gate.may_answer c.args.worker.now.gate.now c.args.worker.now.shared.now.layer.number c.args.worker.now.number in
     let books = c.args.worker.now.shared.now.books in let filled = c.loop.filled in let batch = take filled c.loop.parcels in let is = c.in-Ok.ensures in
     let later = c.draw_batch.new.drawer.hand in let count = c.in-Ok.count in (
       tt,

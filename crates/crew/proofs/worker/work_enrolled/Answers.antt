@@ -4,12 +4,12 @@ use Rattle.crew.proofs.worker.work_enrolled.Goals as goal
 
 pub returns-in-Err-clause-gate : goal.returns-in-Err-clause-gate
 returns-in-Err-clause-gate g c =
-    let may = g.G.Gate.may_answer c.args.worker.now.shared.now.gate c.args.worker.now.shared.now.layer.number c.args.worker.now.number in
+    let may = g.G.Gate.may_answer c.args.worker.now.gate.now c.args.worker.now.shared.now.layer.number c.args.worker.now.number in
     asks_drawn may c.args.worker.now.shared.now.books c.draw.new.nth c.args.drawer.now.hand c.draw.new.drawer.hand c.in-Err.end c.in-Err.ensures.gate
 
 pub returns-then-is_empty-clause-gate : goal.returns-then-is_empty-clause-gate
 returns-then-is_empty-clause-gate g c =
-    let may = g.G.Gate.may_answer c.args.worker.now.shared.now.gate c.args.worker.now.shared.now.layer.number c.args.worker.now.number in
+    let may = g.G.Gate.may_answer c.args.worker.now.gate.now c.args.worker.now.shared.now.layer.number c.args.worker.now.number in
     let books = c.args.worker.now.shared.now.books in let is = c.in-Ok.ensures in
     let first = c.args.drawer.now.hand in let later = c.draw.new.drawer.hand in
     let long = ap length is.drawn ∙ length-append first.numbers (c.in-Ok.rank ∷ []) in
@@ -17,7 +17,7 @@ returns-then-is_empty-clause-gate g c =
 
 pub returns-clause-gate : goal.returns-clause-gate
 returns-clause-gate g c =
-    let may = g.G.Gate.may_answer c.args.worker.now.shared.now.gate c.args.worker.now.shared.now.layer.number c.args.worker.now.number in
+    let may = g.G.Gate.may_answer c.args.worker.now.gate.now c.args.worker.now.shared.now.layer.number c.args.worker.now.number in
     let books = c.args.worker.now.shared.now.books in let is = c.in-Ok.ensures in
     let first = c.args.drawer.now.hand in let later = c.draw.new.drawer.hand in
     let long = ap length is.drawn ∙ length-append first.numbers (c.in-Ok.rank ∷ []) in
