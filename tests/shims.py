@@ -4,10 +4,14 @@ import os
 import shutil
 import subprocess
 import sys
+import tempfile
 
 TESTS = os.path.dirname(os.path.abspath(__file__))
 # seconds after which a run counts as hanging
 SECONDS = 600
+# what the program gives if it is out of memory, or cannot read
+OUT_OF_MEMORY = (5, b"", b"out of memory\n")
+CANNOT_READ = (3, b"", b"cannot read\n")
 
 
 def compiler():
@@ -40,23 +44,20 @@ def ran(words, env=None, fed=None, **more):
     return done.returncode, done.stdout, done.stderr
 
 
-def refusals(start, count, shim, rest):
+def refused(start, shim, rest, fault):
     """Starts runs in which each request for memory fails in turn, alone or (rest) with all later ones: `start` runs
-    the program in an environment, and the file `count` has the number of requests. Yields the request's number and the
-    result of each run in which a request failed. With threads the number of requests differs from run to run, so the
-    third run in a row without a failure is the last."""
+    the program in an environment. Yields a result for each run in which a request failed: it is right if the program
+    is out of memory, or if `fault` finds nothing wrong with what it gives. With threads the number of requests differs
+    from run to run, so the third run in a row without a failure is the last."""
     missed, at = 0, 0
-    while missed < 3:
-        at += 1
-        env = {"LD_PRELOAD": shim, "REFUSE_AT": str(at), "REFUSE_COUNT": count}
-        got = start({**env, "REFUSE_REST": "1"} if rest else env)
-        if counts(count, 1)[0] >= at:
+    with tempfile.NamedTemporaryFile() as count:
+        while missed < 3:
+            at += 1
+            env = {"LD_PRELOAD": shim, "REFUSE_AT": str(at), "REFUSE_COUNT": count.name}
+            got = start({**env, "REFUSE_REST": "1"} if rest else env)
+            if counts(count.name, 1)[0] < at:
+                missed += 1
+                continue
             missed = 0
-            yield at, got
-        else:
-            missed += 1
-
-
-def refusals_of(words, folder, shim, rest):
-    """The refusals of a command line in a folder: numbers, each with a status, an output and an error."""
-    return refusals(lambda env: ran(words, env, cwd=folder), os.path.join(folder, "requests"), shim, rest)
+            name = f"request {at}{' and all later ones' if rest else ''} fails"
+            yield name, None if got == OUT_OF_MEMORY else fault(got)

@@ -1,0 +1,130 @@
+"""Little memory: requests that fail, the most memory of commands and searches, and small address spaces."""
+import itertools
+import os
+import re
+
+import greatest
+import shims
+import worst
+from commands import PLENTY, ROOT, well
+from shims import OUT_OF_MEMORY
+from trials import differs
+
+# a level, a limit, and what `solve` writes of it
+SOLVED = [
+    (b"#####\n#.  #\n# $ #\n#  @#\n#####\n", PLENTY, 0, b"solved 2 pushes, 5 moves, 4 positions\nuLdlU\n"),
+    (b"#######\n#.$@$.#\n#######\n", 4, 0, b"solved 2 pushes, 3 moves, 4 positions\nLrR\n"),
+]
+
+# a command on a room that takes some 10^5 positions, or as many as the limit allows, and the status of its report
+SHORT = [
+    (["solve", "bench/harder.xsb", "5"], 0),
+    (["solve", "bench/levels.xsb", "5"], 1),
+    (["solve", "bench/levels.xsb", "8"], 4),
+    (["best", "bench/harder.xsb", "5"], 0),
+    (["prove", "bench/harder.xsb", "5", "bench/harder.lurd"], 0),
+]
+SHORT_LIMIT = 300_000
+# KB of address space, workers, and runs of each
+SHORT_SPACE = (8_000, 10_000, 12_000, 15_000, 20_000, 25_000, 30_000, 40_000, 50_000)
+SHORT_WORKERS = (1, 2, 4, 8, 16)
+SHORT_RUNS = 3
+# the status with which the loader of shared libraries ends where it lacks address space
+LOADER = 127
+
+
+def memory(bench, worked, workers, locks, rest):
+    """`solve`; each request for memory fails in turn, alone or with all later ones."""
+    level, limit, status, text = worked
+    words = [bench.program, "solve", bench.file(level), "1", "--limit", str(limit), "--workers", str(workers)]
+    words += [] if locks == 1 else ["--locks", str(locks)]
+    for name, fault in shims.refused(lambda env: bench.run(words, env=env), bench.refuse, rest,
+                                     lambda got: differs(got, (status, text, b""))):
+        yield f"{words[1:]}, {name}", fault
+
+
+def bounds(bench):
+    """Runs the commands over the worst files within the stated memory: each prints its report."""
+    for name, words, file, moves in worst.cases():
+        most = worst.FIXED + worst.A_BYTE * (len(file) + len(moves))
+        paths = {"FILE": bench.file(file), "MOVES": bench.file(moves)}
+        status, out, err = bench.run([
+            "/bin/sh", "-c", f'ulimit -v {most >> 10}; exec "$0" "$@"', bench.program,
+            *(paths.get(it, it) for it in words)
+        ])
+        fault = None if status in (0, 1) and out and not err else f"status {status}, {err!r}"
+        yield f"{words[0]} of {name}, {len(file) + len(moves)} bytes, within {most} bytes", fault
+
+
+def memory_at_limit():
+    """The bytes that README states for searches at the default limit."""
+    with open(os.path.join(ROOT, "README.md"), encoding="utf-8") as it:
+        return int(re.search(r"^\| 1000000 \| (\d+) MB", it.read(), re.MULTILINE)[1]) * 10**6
+
+
+def limits(bench, workers, locks):
+    """`solve` that ends at the default limit holds at most the memory that README states, with any workers and
+    locks."""
+    words = ["solve", bench.file(worst.WIDE_ROOM), "1", "--workers", str(workers), "--locks", str(locks)]
+    most, (asked, got) = memory_at_limit(), asked_by(bench, words)
+    fault = differs(got, (4, b"limit 1000000 reached\n", b"")) or (f"{asked} bytes" if most < asked else None)
+    yield f"{workers} workers over {locks} locks, within {most} bytes", fault
+
+
+def limits_of_best(bench, limit):
+    """The same of `best`, which ends at the limit with a right bound."""
+    level, pushes = greatest.crossing(6, 3, 10, 11)
+    most, (asked, got) = memory_at_limit() * limit // PLENTY, asked_by(
+        bench, ["best", bench.file(level), "1", "--limit", str(limit)])
+    reports = [(4, b"limit %d reached, at least %d pushes\n" % (limit, it), b"") for it in (pushes, pushes + 2)]
+    fault = f"{got}, not one of {reports}" if got not in reports else f"{asked} bytes" if most < asked else None
+    yield f"limit {limit}, within {most} bytes", fault
+
+
+def asked_by(bench, words):
+    """The most bytes that a run holds at one time, and its result."""
+    count = os.path.join(bench.folder, f"count{next(bench.numbers)}")
+    got = bench.run([bench.program, *words], env={"LD_PRELOAD": bench.asked, "ASKED_MOST": count})
+    return shims.counts(count, 1)[0], got
+
+
+def within(bench, words, space):
+    """A run with `space` KB of address space."""
+    return bench.run(["/bin/sh", "-c", f'ulimit -v {space}; exec "$0" "$@"', bench.program, *words])
+
+
+def short(bench, command, workers):
+    """A search within little address space, where threads and stacks take some of it: its report, the same each
+    time, or out of memory."""
+    (name, collection, number, *solution), status = command
+    words = [name, os.path.join(ROOT, collection), number, *(bench.file(line_of(it, int(number))) for it in solution)]
+    words += [
+        "--limit",
+        str(SHORT_LIMIT), *(["--workers", str(workers), "--locks", str(workers)] if name == "solve" else [])
+    ]
+    report = bench.run([bench.program, *words])
+    yield f"{words} with all address space", differs((report[0], report[2]), (status, b""))
+    for space, run in itertools.product(SHORT_SPACE, range(SHORT_RUNS)):
+        got = within(bench, words, space)
+        yield f"{words} within {space} KB, run {run + 1}", None if got == OUT_OF_MEMORY else differs(got, report)
+
+
+def short_cases():
+    """The commands of SHORT with workers; only `solve` has several."""
+    return [it for it in itertools.product(SHORT, SHORT_WORKERS) if it[0][0][0] == "solve" or it[1] == 1]
+
+
+def line_of(path, number):
+    """A line of a file of the repository, counted from 1."""
+    with open(os.path.join(ROOT, path), "rb") as it:
+        return it.read().splitlines()[number - 1]
+
+
+def shortest(bench):
+    """`--version` within ever less address space: status 0, or out of memory, down to where the loader finds no
+    room for the libraries."""
+    for space in range(min(SHORT_SPACE), 0, -50):
+        got = within(bench, ["--version"], space)
+        if got[0] == LOADER:
+            return
+        yield f"--version within {space} KB", None if got == OUT_OF_MEMORY else differs((got[0], got[2]), (0, b""))
