@@ -27,6 +27,31 @@ pub(crate) fn cells_of(rt: &impl Abort, alloc: Global, bytes: &[u8]) -> Vec<Cell
     cells
 }
 
+/// The bytes of a board, row after row: walls at its edge and `inside` elsewhere, except on the squares of `changed`.
+pub(crate) fn walled(
+    rt: &impl Abort,
+    alloc: Global,
+    rows: usize,
+    cols: usize,
+    inside: u8,
+    changed: &[(usize, u8)],
+) -> Vec<u8> {
+    let mut bytes = Vec::new(alloc);
+    for row in 0..rows {
+        for col in 0..cols {
+            let is_edge = row == 0 || row == rows - 1 || col == 0 || col == cols - 1;
+            bytes
+                .push(if is_edge { b'#' } else { inside })
+                .expect(rt, "memory");
+        }
+    }
+    for (square, byte) in changed {
+        assert!(rt; *square < bytes.len());
+        bytes[*square] = *byte;
+    }
+    bytes
+}
+
 /// The level of a board.
 pub(crate) fn level_of(rt: &impl Abort, alloc: Global, board: BoardText) -> Level {
     let (cols, bytes) = board;

@@ -4,7 +4,7 @@ ghost use Rattle.grid.specs.States.{FitsLevel};
 
 use crate::boards::{BoardText, level_of};
 use doom::Bound;
-use grid::{Dir, Level, Position, Square};
+use grid::{Dir, Level, MAX_BOXES, Position, Square};
 use prices::laws::{a_first_push_leads_on, costs_tell_what_never_helps, needs_are_bounds};
 use prices::{Distances, Matching, NEVER, Slack};
 use std::alloc::Global;
@@ -39,7 +39,7 @@ const DOORS: BoardText = (
 fn distances_of(rt: &impl Abort, alloc: Global, level: &Level) -> Distances
     ensures { result.level ≡ level.now }
 {
-    assert!(rt; level.boxes() <= 64);
+    assert!(rt; level.boxes() <= MAX_BOXES);
     Distances::of(alloc, level).expect(rt, "memory")
 }
 

@@ -94,12 +94,15 @@ fn check_live(rt: &impl Abort, dead: &Dead, live: &[u16]) {
 
 #[test]
 fn boxes_need_the_sum_of_their_pushes(rt: HostRuntime) {
-    let rows: [(BoardText, &[Square], u16, Option<u32>); 8] = [
+    let rows: [(BoardText, &[Square], u16, Option<u32>); 11] = [
         (TWO_ENDS, &[Square(9), Square(11)], 10, Some(2)),
         (TWO_ENDS, &[Square(8), Square(11)], 9, Some(1)),
         (TWO_ENDS, &[Square(9), Square(12)], 10, Some(1)),
         (TWO_ENDS, &[Square(8), Square(12)], 9, Some(0)),
         (TWO_ENDS, &[Square(10), Square(11)], 9, Some(3)),
+        (THERE_AND_BACK, &[Square(19)], 17, Some(2)),
+        (THERE_AND_BACK, &[Square(20)], 17, Some(3)),
+        (THERE_AND_BACK, &[Square(21)], 17, Some(4)),
         (BETWEEN_DEAD, &[Square(12), Square(17)], 22, Some(3)),
         (BETWEEN_DEAD, &[Square(12), Square(18)], 22, None),
         (BETWEEN_DEAD, &[Square(16), Square(17)], 22, None),

@@ -5,13 +5,18 @@ use std::process::Abort;
 use std::test::Fail;
 use xsb::{Entry, read, write};
 
+mod largest;
 mod one_by_one;
 
 // The rows, columns and boxes of a level, or its fault.
 type Shape = Result<(usize, usize, usize), LevelFault>;
 
 fn shape(entry: &Entry) -> Shape {
-    match &entry.board {
+    shape_of(&entry.board)
+}
+
+fn shape_of(board: &Result<Level, LevelFault>) -> Shape {
+    match board {
         Ok(level) => Ok((level.rows(), level.cols(), level.boxes())),
         Err(fault) => Err(*fault),
     }
@@ -30,7 +35,8 @@ fn only(alloc: Global, text: &[u8]) -> Result<Entry, Fail> {
 #[test]
 fn boards_are_levels_or_have_a_first_fault(rt: HostRuntime) -> Result<(), Fail> {
     let counts = LevelFault::Counts { boxes: 2, goals: 1 };
-    let rows: [(&[u8], Shape); 14] = [
+    let rows: [(&[u8], Shape); 15] = [
+        (b"5#|#@$.#|5#", Ok((3, 5, 1))),
         (b"5#|#@$.#|5#|", Ok((3, 5, 1))),
         (b"||05#\n#@$.#||0005#", Ok((3, 5, 1))),
         (b"68#|#@65*#|68#", Ok((3, 68, 65))),
@@ -69,6 +75,7 @@ fn lines_that_are_no_rows_end_boards(rt: HostRuntime) -> Result<(), Fail> {
 #[test]
 fn boards_have_as_many_rows_as_a_level_at_most(rt: HostRuntime) -> Result<(), Fail> {
     for (rows, fault) in [
+        (64, LevelFault::NoPlayer),
         (MAX_ROWS, LevelFault::NoPlayer),
         (MAX_ROWS + 1, LevelFault::TooTall),
     ] {

@@ -5,7 +5,7 @@
 ghost use Rattle.std.specs.Prelude.{◌≡◌};
 
 use crate::boards::{BoardText, level_of};
-use grid::{Level, Position};
+use grid::{Level, MAX_BOXES, Position};
 use groups::Groups;
 use groups::laws::{excess_adds_up, tables_tell};
 use prices::Matching;
@@ -54,7 +54,7 @@ const FIVE_ARE_LOST: BoardText = (5, b"######@$.##$$*##.*.## ########");
 fn prices_of(rt: &impl Abort, alloc: Global, level: &Level) -> Groups
     ensures { result ≡ level.now }
 {
-    assert!(rt; level.boxes() <= 64);
+    assert!(rt; level.boxes() <= MAX_BOXES);
     Groups::of_prices(alloc, level).expect(rt, "memory")
 }
 

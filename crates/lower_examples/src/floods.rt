@@ -12,6 +12,7 @@ use grid::{Dir, Level, Moves, Position, Push, Square, State, Step};
 use std::alloc::Global;
 use std::process::Abort;
 
+mod maze;
 mod pushes;
 
 const HALL: BoardText = (6, b"#######.$  ##    ##   @#######");

@@ -1,12 +1,15 @@
 //! Solutions: their texts, and the verdicts of replays.
 use crate::boards::{BoardText, level_of};
-use lurd::{LurdFault, Verdict, parse, replay, write};
+use lurd::{LurdFault, MAX_MOVES, Verdict, parse, replay, write};
 use std::alloc::Global;
 use std::process::Abort;
 use std::test::Fail;
 
 // A player, a box and a goal in a row between walls.
 const CORRIDOR: BoardText = (5, b"######@$.######");
+
+// The same with a free square between player and box.
+const LONG_CORRIDOR: BoardText = (6, b"#######@ $.#######");
 
 // The verdict on a text, replayed in the corridor.
 fn judged(rt: &impl Abort, alloc: Global, text: &[u8]) -> Result<Verdict, Fail> {
@@ -48,26 +51,36 @@ fn faults(rt: HostRuntime) {
     }
 }
 
-// A text of `times` items of 9,999 letters, and then `last`.
-fn repeated(alloc: Global, times: usize, last: &[u8]) -> Result<Vec<u8>, Fail> {
-    let mut text = Vec::new(alloc);
-    for _ in 0..times {
-        text.extend_from_slice(b"9999r")?;
-    }
-    text.extend_from_slice(last)?;
-    Ok(text)
+#[test]
+fn more_than_a_million_moves(rt: HostRuntime) -> Result<(), Fail> {
+    let text = b"9999r".repeat(rt.alloc(), 101)?;
+    let fault = parse(rt.alloc(), &text).err();
+    assert_eq!(&rt; fault, Some(LurdFault::TooManyMoves));
+    Ok(())
 }
 
 #[test]
 fn a_million_moves(rt: HostRuntime) -> Result<(), Fail> {
-    let above = repeated(rt.alloc(), 101, b"")?;
-    assert_eq!(&rt;
-        parse(rt.alloc(), &above).err(),
-        Some(LurdFault::TooManyMoves)
-    );
-    let text = repeated(rt.alloc(), 100, b"100r")?;
+    let mut text = b"9999r".repeat(rt.alloc(), 100)?;
+    text.extend_from_slice(b"100r")?;
+    let verdict = judged(&rt, rt.alloc(), &text)?;
+    assert_eq!(&rt; verdict, Verdict::WrongCase { at: 1 });
+    Ok(())
+}
+
+#[test]
+fn a_million_steps(rt: HostRuntime) -> Result<(), Fail> {
+    let text = b"rl".repeat(rt.alloc(), MAX_MOVES / 2)?;
     let moves = parse(rt.alloc(), &text)?;
-    assert_eq!(&rt; moves.len(), 1_000_000);
+    let level = level_of(&rt, rt.alloc(), LONG_CORRIDOR);
+    let unsolved = Verdict::Unsolved {
+        pushes: 0,
+        moves: MAX_MOVES,
+    };
+    assert_eq!(&rt; replay(rt.alloc(), &level, &moves), Ok(unsolved));
+    let mut out = Vec::new(rt.alloc());
+    write(&moves, &mut out)?;
+    assert!(rt; out.as_slice() == text.as_slice());
     Ok(())
 }
 

@@ -9,7 +9,7 @@ use area::Scratch;
 use claims::Ledger;
 use corrals::Corral;
 use doom::Dead;
-use grid::{Dir, Level, Position, Square, State, Step};
+use grid::{Dir, Level, MAX_BOXES, Position, Square, State, Step};
 use groups::Groups;
 use layers::{Book, Layer};
 use lurd::Verdict;
@@ -155,7 +155,7 @@ fn check_corral(
 fn check_start(rt: &impl Abort, alloc: Global, level: &Level, start: &Position)
     requires { FitsLevel level.now start.now }
 {
-    assert!(rt; level.boxes() <= 64);
+    assert!(rt; level.boxes() <= MAX_BOXES);
     let dead = Dead::of(alloc, level).expect(rt, "memory");
     let distances = Distances::of(alloc, level).expect(rt, "memory");
     check_corral(rt, alloc, level, start, &dead, &distances);

@@ -5,9 +5,10 @@ ghost use Rattle.layers.specs.inside.Merging.{IsSegmentOf};
 use super::traces::{
     CORNER_LAYERS, HALL_LAYERS, ONE_LAYERS, THERE_AND_BACK_LAYERS, TWO_ENDS_LAYERS,
 };
-use super::{AMPLE, Place, check_places, level_of, work_through};
+use super::{AMPLE, Place, check_places, is_position, level_of, work_through};
 use crate::boards::{CORNER, HALL, ONE, THERE_AND_BACK, TWO_ENDS};
-use layers::{Book, JoinFault, Layer, Parents, Segment};
+use grid::{Position, Square};
+use layers::{Book, JoinFault, Layer, MAX_SHARES, Parents, Segment};
 use std::alloc::Global;
 use std::process::Abort;
 
@@ -109,6 +110,71 @@ fn layers_are_those_worked_by_hand(rt: HostRuntime) {
             check_layers(&rt, rt.alloc(), text, layers, (shares, false));
             check_layers(&rt, rt.alloc(), text, layers, (shares, true));
         }
+    }
+}
+
+#[test]
+fn a_share_is_the_sum_of_the_squares_modulo_the_number_of_shares(rt: HostRuntime) {
+    let rows = [
+        ([9, 11], 10, 30),
+        ([8, 11], 9, 28),
+        ([9, 12], 10, 31),
+        ([8, 12], 9, 29),
+    ];
+    for ([first, second], player, sum) in rows {
+        let boxes = [Square(first), Square(second)];
+        let position = Position::of(&boxes, Square(player)).expect(&rt, "a position");
+        for shares in 1..=MAX_SHARES {
+            assert_eq!(&rt;
+                successors::share_of(&position, shares),
+                sum % shares,
+                "sum {sum}"
+            );
+        }
+    }
+}
+
+#[test]
+fn each_share_closes_its_own_positions(rt: HostRuntime) {
+    // the sums of TWO_ENDS are 30; 28 and 31; 29
+    let two: [&[&[usize]]; 2] = [&[&[0], &[0], &[]], &[&[], &[1], &[0]]];
+    check_shares(&rt, rt.alloc(), TWO_ENDS, TWO_ENDS_LAYERS, &two);
+    // those of CORNER are 18; 17 and 13; 13, so rank 0 of layer 1 comes from share 2
+    let three: [&[&[usize]]; 3] = [&[&[0], &[], &[]], &[&[], &[1], &[0]], &[&[], &[0], &[]]];
+    check_shares(&rt, rt.alloc(), CORNER, CORNER_LAYERS, &three);
+}
+
+// Checks what the shares of a level have closed: for each share and each layer, the ranks that it holds.
+fn check_shares(
+    rt: &impl Abort,
+    alloc: Global,
+    text: &[u8],
+    layers: &[&[Place]],
+    shares: &[&[&[usize]]],
+) {
+    let count = u8::try_from(shares.len()).unwrap_or(MAX_SHARES);
+    let mut books = shares_of(rt, alloc, text, count);
+    for _ in 1..layers.len() {
+        let layer = joined(rt, alloc, books.as_slice());
+        close_all(rt, alloc, books.as_mut_slice(), &layer, false);
+    }
+    for (book, ranks) in books.iter().zip(shares) {
+        assert_eq!(rt; book.layer().saturating_add(1), layers.len() as u64);
+        check_share(rt, book, layers, ranks);
+    }
+}
+
+// Checks that each closed layer of a book holds exactly these ranks of the layers.
+fn check_share(rt: &impl Abort, book: &Book, layers: &[&[Place]], ranks: &[&[usize]]) {
+    for (layer, (places, held)) in layers.iter().zip(ranks).enumerate() {
+        for (place, rank) in held.iter().enumerate() {
+            let (boxes, player, _) = places.get(*rank).expect(rt, "a rank");
+            let position = book
+                .closed_at(layer as u64, place as u64)
+                .expect(rt, "a position");
+            assert!(rt; is_position(&position, boxes, *player));
+        }
+        assert!(rt; book.closed_at(layer as u64, held.len() as u64).is_none());
     }
 }
 
