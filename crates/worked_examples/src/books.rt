@@ -55,8 +55,8 @@ pub(crate) fn turn(rt: &impl Abort, alloc: Global, book: &mut Book) {
     book.close().expect(rt, "a close");
 }
 
-// Hands back the parcel of a rank of a layer.
-fn hand_back(rt: &impl Abort, alloc: Global, book: &mut Book, layer: &Layer, rank: u64) {
+/// Hands back the parcel of a rank of a layer, as worker 0.
+pub(crate) fn hand_back(rt: &impl Abort, alloc: Global, book: &mut Book, layer: &Layer, rank: u64) {
     assert!(rt; book.workers() >= 1 && rank < layer.len());
     let mut scratch = Scratch::new(alloc, layer.level()).expect(rt, "memory");
     let parcel = expand_over(layer.problem(), layer, rank, &mut scratch);

@@ -1,5 +1,6 @@
 //! The engines over memory.
 mod failing;
+mod largest;
 mod once;
 mod passed;
 mod reports;
@@ -7,7 +8,7 @@ mod stopped;
 
 use crate::{Paper, Pieces};
 use crew::Config;
-use layers::MAX_SHARES;
+use layers::{MAX_SHARES, MAX_WORKERS};
 use sokopar::{
     Reader, RunFault, Sink, Source, Writer, run_check, run_dead, run_replay, run_show, run_solve,
 };
@@ -55,8 +56,8 @@ pub(crate) enum Command<'a> {
     Show(u32),
     Dead(u32),
     Replay(u32, &'a [u8]),
-    /// The number of a level, and the numbers of workers and locks, which are equal.
-    Solve(u32, u8),
+    /// The numbers of a level, of workers and of locks.
+    Solve(u32, u8, u8),
 }
 
 /// Runs the engine of a command. It replaces numbers of levels, workers and locks that are out of range by the nearest
@@ -74,10 +75,10 @@ fn perform<R: Threads + Wait + Sync, S: Source, T: Source, K: Sink>(
         Command::Show(number) => run_show(alloc, source, number.max(1), sink),
         Command::Dead(number) => run_dead(alloc, source, number.max(1), sink),
         Command::Replay(number, _) => run_replay(alloc, source, number.max(1), solution, sink),
-        Command::Solve(number, workers) => {
+        Command::Solve(number, workers, locks) => {
             let config = Config {
-                workers: workers.max(1).min(MAX_SHARES),
-                locks: workers.max(1).min(MAX_SHARES),
+                workers: workers.max(1).min(MAX_WORKERS),
+                locks: locks.max(1).min(MAX_SHARES),
                 limit: DEFAULT_LIMIT,
                 cap: None,
             };

@@ -1,16 +1,17 @@
 //! One worker with a ledger.
-ghost use Rattle.std.specs.Prelude.{◌≡◌};
+ghost use Rattle.std.specs.Prelude.{◌≡◌, false};
 ghost use Rattle.claims.specs.Hands.{newcomer};
 
-use crate::boards::{ROOM, TWO_ENDS};
-use crate::books::{AMPLE, book_of, joined, level_of, turn};
+use crate::boards::{LARGE_ROOM, TWO_ENDS};
+use crate::books::{AMPLE, book_of, hand_back, joined, level_of, turn};
 use area::Scratch;
 use claims::{Drawer, Ledger, PLACES};
 use crew::{End, Free, Gate, work};
-use layers::{Book, Claim, Layer, Refusal, expand_over};
+use layers::{Book, Claim, CloseFault, Layer, Refusal, expand_over};
 use std::alloc::Global;
 use std::process::Abort;
 use std::slice;
+use std::sync::atomic::{AtomicU64, Ordering};
 use std::sync::{Mutex, Wait};
 
 /// The number of workers of the books.
@@ -155,41 +156,92 @@ fn a_worker_claims_no_rank_of_a_book(rt: HostRuntime) {
     check_two(&rt, alloc, &layer, book);
 }
 
-/// The end of a worker that is alone with a layer, and the book after it.
-fn alone<R: Wait + Abort>(rt: &R, alloc: Global, layer: &Layer, book: Book) -> (End, Book) {
-    assert!(rt; layer.len() <= 1000);
-    let count = layer.len() as u32;
-    let (ledger, own) = Ledger::new(alloc, count).expect(rt, "memory");
-    worked(rt, alloc, layer, book, &ledger, own, count, 0, &Free)
+/// The number of ranks of layer 4 of the large room that the worker draws: all except the last one.
+const DRAWN: u32 = 2218;
+
+/// A gate that counts the events after which the lock of each book is free.
+#[derive(Drop)]
+struct FreeLocks<'a> {
+    books: &'a [Mutex<Book>],
+    free: AtomicU64,
 }
 
-/// A book of the room that has closed its layer 3.
-fn room_book(rt: &impl Abort, alloc: Global) -> Book {
-    let mut book = book_of(rt, alloc, ROOM, AMPLE);
-    turn(rt, alloc, &mut book);
-    turn(rt, alloc, &mut book);
-    turn(rt, alloc, &mut book);
+impl Gate for FreeLocks<'_> {
+    ghost may_stop = { false };
+
+    fn pass(&self, _layer: u64, _worker: u8, _nth: u64) -> bool {
+        for book in self.books {
+            if book.try_lock().is_none() {
+                return true;
+            }
+        }
+        self.free.fetch_add(1, Ordering::SeqCst);
+        true
+    }
+}
+
+/// A book of the large room that has closed its layer 4.
+fn large_book(rt: &impl Abort, alloc: Global) -> Book {
+    let mut book = book_of(rt, alloc, LARGE_ROOM, AMPLE);
+    for _ in 0..4 {
+        turn(rt, alloc, &mut book);
+    }
     book
 }
 
-/// Checks that a single worker hands back all of layer 3 of the room to its book, which then closes layer 4.
-fn check_room(rt: &(impl Wait + Abort), alloc: Global, layer: &Layer, book: Book) {
-    let (end, mut book) = alone(rt, alloc, layer, book);
+/// Begins a layer of a book and claims each of its ranks.
+fn claim_all(rt: &impl Abort, book: &mut Book, layer: &Layer) {
+    book.begin(layer).expect(rt, "a begin");
+    for rank in 0..layer.len() {
+        let layer = layer.number();
+        assert!(rt; book.claim() == Some(Claim { layer, rank }));
+    }
+}
+
+/// Lets worker 2 work alone on the ranks of a layer that it draws, and checks that the locks are free at each event.
+fn check_alone<R: Wait + Abort>(rt: &R, alloc: Global, layer: &Layer, books: &[Mutex<Book>]) {
+    let gate = FreeLocks {
+        books,
+        free: AtomicU64::new(0),
+    };
+    let (ledger, own) = Ledger::new(alloc, DRAWN).expect(rt, "memory");
+    let end = worked_over(rt, alloc, layer, books, &ledger, own, DRAWN, 2, &gate);
     assert!(rt; end == End::Drained);
+    assert_eq!(rt; gate.free.load(Ordering::SeqCst), 2 * u64::from(DRAWN));
+}
+
+/// The book after worker 2 has worked alone with it.
+fn alone<R: Wait + Abort>(rt: &R, alloc: Global, layer: &Layer, book: Book) -> Book {
+    let lock = Mutex::new(book);
+    check_alone(rt, alloc, layer, slice::from_ref(&lock));
+    lock.into_inner()
+}
+
+/// Checks that worker 2 has handed back each rank that it drew, under its own number, and that all ranks are still
+/// claimed.
+fn check_large(rt: &impl Abort, alloc: Global, layer: &Layer, book: &mut Book) {
+    assert!(rt; book.workers() == WORKERS);
+    assert_eq!(rt;
+        [book.tally(0), book.tally(1), book.tally(2)],
+        [830, 0, 2218]
+    );
     assert!(rt; book.claim().is_none());
+    assert!(rt; matches!(book.close(), Err(CloseFault::NotAll)));
+    hand_back(rt, alloc, book, layer, u64::from(DRAWN));
     let closed = book.close().expect(rt, "a close");
-    assert!(rt; closed.layer == 4 && closed.count == 162);
-    drop(book);
+    assert!(rt; closed.layer == 5 && closed.count == 5533);
 }
 
 #[test]
-fn a_worker_hands_back_each_rank_of_a_large_layer(rt: HostRuntime) {
+fn a_worker_hands_back_each_rank_that_it_drew_of_a_large_layer(rt: HostRuntime) {
     let alloc = rt.alloc();
-    let mut book = room_book(&rt, alloc);
+    let mut book = large_book(&rt, alloc);
     let layer = joined(&rt, alloc, &book);
-    assert!(rt; layer.len() == 87);
-    book.begin(&layer).expect(&rt, "a begin");
-    check_room(&rt, alloc, &layer, book);
+    assert!(rt; layer.len() == u64::from(DRAWN) + 1);
+    claim_all(&rt, &mut book, &layer);
+    let mut book = alone(&rt, alloc, &layer, book);
+    check_large(&rt, alloc, &layer, &mut book);
+    drop(book);
 }
 
 #[test]

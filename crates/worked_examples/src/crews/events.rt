@@ -1,7 +1,7 @@
 //! The events of each worker in a layer of some hundred ranks, and in one of some thousand.
 ghost use Rattle.std.specs.Prelude.{◌≡◌, false};
 
-use crate::boards::ROOM;
+use crate::boards::{LARGE_ROOM, ROOM};
 use crate::books::level_of;
 use crew::{Config, Gate, solve};
 use solo::Answer;
@@ -31,10 +31,9 @@ const SMALL: Counted = Counted {
     positions: 1053,
 };
 
-/// A room with five boxes. An independent search counted its layers: 1, 18, 141, 670, 2219 and 5533 positions. One
-/// position of the last layer is solved.
+/// The room with five boxes, and its largest layer that workers expand.
 const LARGE: Counted = Counted {
-    text: b"##########\n#@ .     #\n#  * $ * #\n#    .$  #\n# $      #\n# .      #\n##########\n",
+    text: LARGE_ROOM,
     layer: 4,
     ranks: 2219,
     pushes: 5,

@@ -27,7 +27,7 @@ const COMMANDS: [(Command<'static>, &[u8], u8); 5] = [
     (Command::Show(1), ONE, 0),
     (Command::Dead(1), b"#####\n#x .#\n#####\n", 0),
     (
-        Command::Solve(1, 2),
+        Command::Solve(1, 2, 2),
         b"solved 1 pushes, 1 moves, 2 positions\nR\n",
         0,
     ),

@@ -5,6 +5,7 @@ use super::DEFAULT_LIMIT;
 use crate::Paper;
 use crate::boards::TWO_ENDS;
 use crew::{Config, Gate};
+use layers::MAX_SHARES;
 use sokopar::{Reader, SolveRequest, Writer, run_solve_with};
 use std::alloc::Global;
 use std::process::Abort;
@@ -50,7 +51,7 @@ fn check_report<R: Threads + Wait + Sync + Abort>(
 ) {
     let config = Config {
         workers: 2,
-        locks: locks.max(1).min(layers::MAX_SHARES),
+        locks: locks.max(1).min(MAX_SHARES),
         limit: DEFAULT_LIMIT,
         cap: None,
     };
@@ -76,4 +77,5 @@ fn check_report<R: Threads + Wait + Sync + Abort>(
 fn each_rank_is_drawn_once_and_handed_to_a_book_for_each_lock(rt: HostRuntime) {
     assert_eq!(&rt; passed(&rt, rt.alloc(), 1), [2, 4, 0]);
     assert_eq!(&rt; passed(&rt, rt.alloc(), 2), [3, 6, 0]);
+    assert_eq!(&rt; passed(&rt, rt.alloc(), MAX_SHARES), [17, 34, 0]);
 }

@@ -25,6 +25,12 @@ fn each_engine_writes_its_report(rt: HostRuntime) {
             b"   #####\n####x .#  #\n   #####\n",
             0,
         ),
+        (
+            b"#####\n##.##\n##$##\n# $ #\n# @.#\n#####\n",
+            Command::Dead(1),
+            b"#####\n##.##\n## ##\n#x x#\n#x .#\n#####\n",
+            0,
+        ),
         (TWO, Command::Dead(2), b"fault 7 Open\n", 1),
         (
             ONE,
@@ -36,27 +42,46 @@ fn each_engine_writes_its_report(rt: HostRuntime) {
         (ONE, Command::Replay(1, b"R 2"), b"bad count at 3\n", 1),
         (
             THERE_AND_BACK,
-            Command::Solve(1, 2),
+            Command::Solve(1, 2, 2),
             b"solved 6 pushes, 10 moves, 7 positions\nRRdrruLLLL\n",
             0,
         ),
         (
             b"######\n#.$$.#\n#  @ #\n######\n",
-            Command::Solve(1, 1),
+            Command::Solve(1, 1, 1),
             b"unsolvable, 0 positions\n",
             1,
         ),
-        (
-            b"68#|#@65*#|68#\n",
-            Command::Solve(1, 1),
-            b"too many boxes\n",
-            1,
-        ),
-        (TWO, Command::Solve(2, 1), b"fault 7 Open\n", 1),
-        (b"", Command::Solve(1, 1), b"no level 1\n", 1),
+        (TWO, Command::Solve(2, 1, 1), b"fault 7 Open\n", 1),
+        (b"", Command::Solve(1, 1, 1), b"no level 1\n", 1),
     ];
     for (file, command, report, status) in rows {
         run(&rt, rt.alloc(), file, command, WELL).is(&rt, report, status);
+    }
+}
+
+#[test]
+fn boxes_on_their_goals_are_solved_up_to_the_greatest_number(rt: HostRuntime) {
+    let solved = b"solved 0 pushes, 0 moves, 1 positions\n\n";
+    let rows: [(&[u8], &[u8], u8); 4] = [
+        (b"35#|#@32*#|35#\n", solved, 0),
+        (b"36#|#@33*#|36#\n", solved, 0),
+        (b"67#|#@64*#|67#\n", solved, 0),
+        (b"68#|#@65*#|68#\n", b"too many boxes\n", 1),
+    ];
+    for (file, report, status) in rows {
+        for workers in [1, 2, 64] {
+            for locks in [1, 2, 3, 16] {
+                let outcome = run(
+                    &rt,
+                    rt.alloc(),
+                    file,
+                    Command::Solve(1, workers, locks),
+                    WELL,
+                );
+                outcome.is(&rt, report, status);
+            }
+        }
     }
 }
 

@@ -9,34 +9,22 @@ use grid::{Level, Moves};
 use solo::Answer;
 use std::alloc::Global;
 use std::process::Abort;
+use std::sync::atomic::{AtomicU64, Ordering};
 use std::sync::{Arc, Wait};
 use std::thread::Threads;
 
-/// A level, and its answer: pushes, positions and moves.
-type LevelAnswer = (&'static [u8], (u64, u64, &'static [u8]));
+/// An answer: pushes, positions and moves.
+type Solved = (u64, u64, &'static [u8]);
 
-const LEVELS: [LevelAnswer; 3] = [
-    (CORNER, (2, 4, b"uLdlU")),
-    (TWO_ENDS, (2, 4, b"LrR")),
-    (THERE_AND_BACK, (6, 7, b"RRdrruLLLL")),
+/// A level, the number of ranks of each layer that workers expand, and the answer.
+const LEVELS: [(&[u8], &[u64], Solved); 3] = [
+    (CORNER, &[1, 2], (2, 4, b"uLdlU")),
+    (TWO_ENDS, &[1, 2], (2, 4, b"LrR")),
+    (THERE_AND_BACK, &[1, 1, 1, 1, 1, 1], (6, 7, b"RRdrruLLLL")),
 ];
 
-const WORKERS: u8 = 2;
-
-/// The numbers of locks. Each position is drawn once and handed back once to each of the books, one for each lock.
-const LOCKS: [u8; 3] = [1, 2, 4];
-
-/// Always, all workers except one, and one worker at one of its events.
-const STOPS: [Stops; 8] = [
-    Stops::Always,
-    Stops::Others(0),
-    Stops::Others(1),
-    Stops::At(0, 0, 1),
-    Stops::At(0, 0, 2),
-    Stops::At(1, 0, 1),
-    Stops::At(1, 0, 3),
-    Stops::At(1, 1, 2),
-];
+/// The greatest number of locks that is tried.
+const MOST_LOCKS: u8 = 3;
 
 /// When a gate stops a worker.
 #[derive(Clone, Copy)]
@@ -49,58 +37,103 @@ enum Stops {
     Others(u8),
 }
 
-impl Gate for Stops {
+/// A gate that stops workers, and counts how often it does.
+#[derive(Drop)]
+struct StoppingGate {
+    stops: Stops,
+    count: AtomicU64,
+}
+
+impl Gate for StoppingGate {
     ghost may_stop = { true };
 
     fn pass(&self, layer: u64, worker: u8, nth: u64) -> bool {
-        match *self {
+        let goes_on = match self.stops {
             Stops::At(in_layer, who, event) => layer != in_layer || worker != who || nth != event,
             Stops::Always => false,
             Stops::Others(who) => worker == who,
+        };
+        if !goes_on {
+            self.count.fetch_add(1, Ordering::SeqCst);
+        }
+        goes_on
+    }
+}
+
+#[test]
+fn a_worker_is_stopped_at_each_event(rt: HostRuntime) {
+    for (text, layers, answer) in LEVELS {
+        let level = level_of(&rt, rt.alloc(), text);
+        for locks in 1..=MOST_LOCKS {
+            for (layer, ranks) in layers.iter().enumerate() {
+                check_layer(
+                    &rt,
+                    rt.alloc(),
+                    &level,
+                    (layer as u64, *ranks),
+                    locks,
+                    answer,
+                );
+            }
+        }
+    }
+}
+
+// Checks the answer if a worker is stopped at one of the events that it can have in a layer with this number and these
+// ranks. A worker that draws all of them has an event for each, and one for each of them and each lock.
+fn check_layer(
+    rt: &(impl Abort + Threads + Wait + Sync),
+    alloc: Global,
+    level: &Arc<Level>,
+    (layer, ranks): (u64, u64),
+    locks: u8,
+    answer: Solved,
+) {
+    for nth in 1..=ranks.saturating_mul(locks as u64 + 1) {
+        let stops = Stops::At(layer, 0, nth);
+        let count = stopped(rt, alloc, level, stops, (1, locks), answer);
+        assert_eq!(rt; count, 1, "a worker alone has each event once");
+        for worker in 0..2 {
+            let stops = Stops::At(layer, worker, nth);
+            stopped(rt, alloc, level, stops, (2, locks), answer);
         }
     }
 }
 
 #[test]
-fn stopped_workers_change_no_answer(rt: HostRuntime) {
-    for (text, answer) in LEVELS {
+fn workers_are_always_stopped(rt: HostRuntime) {
+    for (text, _, answer) in LEVELS {
         let level = level_of(&rt, rt.alloc(), text);
-        for stops in STOPS {
-            check_answer(&rt, rt.alloc(), &level, stops, answer);
+        for stops in [Stops::Always, Stops::Others(0), Stops::Others(1)] {
+            for locks in 1..=MOST_LOCKS {
+                stopped(&rt, rt.alloc(), &level, stops, (2, locks), answer);
+            }
         }
     }
 }
 
-// Checks the answer with a gate and each number of locks: pushes, positions and moves.
-fn check_answer(
+// Checks the answer of these workers over these locks with a gate, and returns how often the gate stopped one.
+fn stopped(
     rt: &(impl Abort + Threads + Wait + Sync),
     alloc: Global,
     level: &Arc<Level>,
     stops: Stops,
-    answer: (u64, u64, &[u8]),
-) {
-    for locks in LOCKS {
-        check_locks(rt, alloc, level, stops, locks, answer);
-    }
-}
-
-// Checks the answer with a gate and `locks` locks.
-fn check_locks(
-    rt: &(impl Abort + Threads + Wait + Sync),
-    alloc: Global,
-    level: &Arc<Level>,
-    stops: Stops,
-    locks: u8,
-    answer: (u64, u64, &[u8]),
-) {
+    (workers, locks): (u8, u8),
+    answer: Solved,
+) -> u64 {
     let config = Config {
-        workers: WORKERS,
+        workers,
         locks,
         limit: DEFAULT_LIMIT,
         cap: None,
     };
-    let found = solve(rt, alloc, level, config, &stops).expect(rt, "an answer");
+    let gate = StoppingGate {
+        stops,
+        count: AtomicU64::new(0),
+    };
+    let found = solve(rt, alloc, level, config, &gate).expect(rt, "an answer");
     assert!(rt; is_solution(rt, alloc, &found, answer));
+    gate.count.load(Ordering::SeqCst)
 }
 
 // Whether an answer is the solution with these pushes, positions and moves.
@@ -108,7 +141,7 @@ fn is_solution(
     rt: &impl Abort,
     alloc: Global,
     found: &Answer,
-    (pushes, positions, moves): (u64, u64, &[u8]),
+    (pushes, positions, moves): Solved,
 ) -> bool {
     match found {
         Answer::Solved {
