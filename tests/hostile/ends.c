@@ -1,5 +1,5 @@
 /* Loaded before the C library (LD_PRELOAD), it makes reads and writes of a program fail or stop short. Reads of any
-   file except standard input give at most READ_MOST bytes, and read number READ_FAILS, counted from 1, fails. Before
+   file except standard input and the list of the process's limits give at most READ_MOST bytes, and read number READ_FAILS, counted from 1, fails. Before
    read number CUT_AT the file CUT_FILE is cut to CUT_TO bytes. Writes to standard output take at most WRITE_MOST bytes,
    and write number WRITE_FAILS fails. With INTERRUPTED each read and each write of any file is first interrupted that
    many times; interruptions do not count. The file ENDS_COUNT holds the number of reads, of writes and of bytes
@@ -7,6 +7,8 @@
 #define _GNU_SOURCE
 #include "../shims.h"
 #include <dlfcn.h>
+#include <stdio.h>
+#include <string.h>
 
 typedef ssize_t (*Read)(int, void *, size_t);
 typedef ssize_t (*Write)(int, const void *, size_t);
@@ -42,9 +44,19 @@ static int is_interrupted(unsigned long *left) {
     return 1;
 }
 
+/* Whether the file is the list of the process's limits, which the program reads before it opens files. */
+static int lists_limits(int fd) {
+    char name[64], path[64];
+    snprintf(name, sizeof name, "/proc/self/fd/%d", fd);
+    ssize_t length = readlink(name, path, sizeof path - 1);
+    if (length < 0) return 0;
+    path[length] = 0;
+    return strncmp(path, "/proc/", 6) == 0 && strstr(path, "/limits") != NULL;
+}
+
 ssize_t read(int fd, void *bytes, size_t count) {
     if (seen && is_interrupted(&reads_left)) return -1;
-    if (!seen || fd == 0) return next_read ? next_read(fd, bytes, count) : -1;
+    if (!seen || fd == 0 || lists_limits(fd)) return next_read ? next_read(fd, bytes, count) : -1;
     seen[0]++;
     if (seen[0] == cut_at && truncate(getenv("CUT_FILE"), cut_to) != 0) _exit(99);
     if (seen[0] == read_fails) {

@@ -1,4 +1,4 @@
-"""Little memory: requests that fail, the most memory of commands and searches, and small address spaces."""
+"""Little memory: requests that fail, the most memory of commands and searches, and small address spaces and stacks."""
 import itertools
 import os
 import re
@@ -6,7 +6,7 @@ import re
 import greatest
 import shims
 import worst
-from commands import PLENTY, ROOT, well
+from commands import COMMANDS, MOVES, ONE, PLENTY, ROOT, well
 from shims import OUT_OF_MEMORY
 from trials import differs
 
@@ -31,6 +31,13 @@ SHORT_WORKERS = (1, 2, 4, 8, 16)
 SHORT_RUNS = 3
 # the status with which the loader of shared libraries ends where it lacks address space
 LOADER = 127
+# KB of stack, and the least of them with which the program answers
+STACKS = (64, 96, 128, 192, 256, 320, 384, 447, 448, 512, 576, 1_024)
+ENOUGH_STACK = 448
+# bytes of an environment, which the system puts on the stack, and the least KB with which it starts the program so
+ENVIRONMENT, STACK_FOR_IT = 120_000, 192
+# a room of large layers, with what another solver says of it (tests/workers)
+WIDE_LAYERS = (["solve", os.path.join(ROOT, "bench", "levels.xsb"), "5"], (1, b"unsolvable, 195896 positions\n", b""))
 
 
 def memory(bench, worked, workers, locks, rest):
@@ -88,9 +95,9 @@ def asked_by(bench, words):
     return shims.counts(count, 1)[0], got
 
 
-def within(bench, words, space):
-    """A run with `space` KB of address space."""
-    return bench.run(["/bin/sh", "-c", f'ulimit -v {space}; exec "$0" "$@"', bench.program, *words])
+def within(bench, words, space, kind="-v", **more):
+    """A run with `space` KB of address space, or of stack (-s)."""
+    return bench.run(["/bin/sh", "-c", f'ulimit {kind} {space}; exec "$0" "$@"', bench.program, *words], **more)
 
 
 def short(bench, command, workers):
@@ -128,3 +135,16 @@ def shortest(bench):
         if got[0] == LOADER:
             return
         yield f"--version within {space} KB", None if got == OUT_OF_MEMORY else differs((got[0], got[2]), (0, b""))
+
+
+def stacks(bench):
+    """Each command with little stack: its report, or out of memory below ENOUGH_STACK."""
+    commands = [(bench.words(it, ONE, MOVES)[1:], well(COMMANDS[it][1](ONE, MOVES))) for it in COMMANDS]
+    words, report = WIDE_LAYERS
+    commands += [(words, report), ([*words, "--workers", "64", "--locks", "16"], report)]
+    cases = [(space, 0) for space in STACKS]
+    cases += [(space, ENVIRONMENT) for space in STACKS if STACK_FOR_IT <= space]
+    for (words, report), (space, many) in itertools.product(commands, cases):
+        got = within(bench, words, space, "-s", env={"MANY": "x" * many})
+        is_well = got == report or got == OUT_OF_MEMORY and space < ENOUGH_STACK
+        yield f"{words} with {space} KB, {many} bytes of environment", None if is_well else str(got)

@@ -145,7 +145,7 @@ fn start<R: Env + Files + Print + Eprint + Threads + Wait + Sync + AllocGlobal>(
 }
 
 fn main(rt: HostRuntime) -> ExitCode {
-    let status = match stack::enlarge(rt.alloc()) {
+    let status = match stack::enlarge(&rt, rt.alloc()) {
         Ok(()) => start(&rt),
         Err(_) => complain(&rt, Trouble::Run(RunFault::OutOfMemory)),
     };
