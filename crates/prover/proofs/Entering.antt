@@ -15,7 +15,7 @@ in_front [] ys i x e = absurd (let lt = slice_get_within [] i x e in omega (arit
 in_front (z ∷ xs) ys zero x e = e
 in_front (z ∷ xs) ys (suc i) x e = in_front xs ys i x e
 
-last_at : {A : Type 0} (xs : List A) (y : A) → slice_get (xs ++ y ∷ []) (length xs) ≡ Some y
+pub last_at : {A : Type 0} (xs : List A) (y : A) → slice_get (xs ++ y ∷ []) (length xs) ≡ Some y
 last_at [] y = refl
 last_at (x ∷ xs) y = last_at xs y
 

@@ -145,7 +145,7 @@ settled_open board cap all x least open_ bound most allowed before = record {
 
 -- a position whose expansion kept what it has to, up to what is left for later, is settled up to there
 pub settled_expanded : (board : Board) (cap : Option ℕ) (all : List Entry) (x : Entry) (next : Option ℕ) → x.least ≡ next → ¬ (IsSolved board x.position) →
-    Expands board (tighter cap next) all x.pushes x.position → IsSettled board cap all x
+    Expands board (tighter cap next) (IsFound all (suc x.pushes)) x.pushes x.position → IsSettled board cap all x
 settled_expanded board cap all x next is unsolved expands most allowed before = record {
   unsolved = λ solved. absurd (unsolved solved);
   keeps = expands most (tightened cap next most allowed (subst (λ (o : Option ℕ). IsBefore o most) is before));

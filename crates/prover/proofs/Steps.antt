@@ -26,15 +26,17 @@ use Rattle.corrals.specs.Trying.{Suffice}
 use Rattle.corrals.proofs.lemmas.Corrals.{corrals_suffice}
 use Rattle.successors.specs.Expansion.{after_push}
 use Rattle.prover.specs.declared.pushing.Expanded.{Expanded}
+use Rattle.prover.specs.declared.pushing.Opened.{Opened}
 use Rattle.prover.specs.Fewest.{IsReachable}
 use Rattle.store.specs.Visited.{Entry, VisitedView, with_least}
 use Rattle.prover.specs.Frontier.{IsFound, IsSound, IsUnderWay, IsBound, IsTotal, IsLeast, IsSettled, ComesFrom, NoneGoesOn}
 use Rattle.prover.specs.inside.Working.{HasLeastAt, KeepPlaces, Expands, IsTaken, AreTaken, IsChosen, Enters, AreLeading, IsAtPlace, StayBelow, IsExpanding}
 use Rattle.prover.specs.inside.Working.{IsSearched, Widens, GoesOn, IsLater, lesser, openness, tighter, turns_left}
-use Rattle.prover.proofs.lemmas.Pruning.{after_scene, all_suffice, pushed_from, pushed_push}
+use Rattle.prover.specs.inside.Working.{AreEntered, IsListed, IsOpenedBy, Opens}
+use Rattle.prover.proofs.lemmas.Pruning.{after_scene, all_suffice, keeps_so, pushed_from, pushed_push}
 use Rattle.prover.proofs.Openings.{allows_fewer, found_on, settled_open, settled_expanded, sound_on}
 use Rattle.prover.proofs.Deferring.{lesser_below}
-use Rattle.prover.proofs.Entering.{set_here, set_there, set_either, same_turns, fewer_turns}
+use Rattle.prover.proofs.Entering.{either_at, in_front, last_at, set_here, set_there, set_either, same_turns, fewer_turns}
 
 -- what follows from a good answer
 pub on_ok_so : {T E A B : Type 0} (r : Result T E) → (A → B) → OnOk r A → OnOk r B
@@ -43,21 +45,21 @@ on_ok_so (Err e) f a = tt
 
 -- ---- a push is done with
 
-pub taken_on : (board : Board) (cap : Option ℕ) (old new : List Entry) (k : ℕ) (s : Scene) (p : Push) → KeepPlaces old new → IsTaken board cap old k s p →
-    IsTaken board cap new k s p
-taken_on board cap old new k s p still taken m allowed solvable =
-    let (t, found, rest) = taken m allowed solvable in
-    (t, found_on old new (suc k) t still found, rest)
+pub taken_on : (board : Board) (cap : Option ℕ) (Old New : Scene → Type 0) (k : ℕ) (s : Scene) (p : Push) → ((t : Scene) → Old t → New t) →
+    IsTaken board cap Old k s p → IsTaken board cap New k s p
+taken_on board cap Old New k s p still taken m allowed solvable =
+    let (t, kept, rest) = taken m allowed solvable in
+    (t, still t kept, rest)
 
-pub taken_found : (board : Board) (cap : Option ℕ) (all : List Entry) (k : ℕ) (s n : Scene) (p : Push) → IsScene board s → CanPush board s p →
-    IsNorm board (after_push board s p) n → IsFound all (suc k) n → IsTaken board cap all k s p
-taken_found board cap all k s n p scene can norm found m allowed solvable =
+pub taken_found : (board : Board) (cap : Option ℕ) (Kept : Scene → Type 0) (k : ℕ) (s n : Scene) (p : Push) → IsScene board s → CanPush board s p →
+    IsNorm board (after_push board s p) n → Kept n → IsTaken board cap Kept k s p
+taken_found board cap Kept k s n p scene can norm found m allowed solvable =
     (n, found, (norms_change_nothing board (after_push board s p) n (after_scene board s p scene can) norm m).0 solvable)
 
 -- so is one after which no play that the cap allows ends solved
-pub taken_none : (board : Board) (cap : Option ℕ) (all : List Entry) (k : ℕ) (s n : Scene) (p : Push) → IsScene board s → CanPush board s p →
-    IsNorm board (after_push board s p) n → NoneGoesOn board cap (suc k) n → IsTaken board cap all k s p
-taken_none board cap all k s n p scene can norm none m allowed solvable =
+pub taken_none : (board : Board) (cap : Option ℕ) (Kept : Scene → Type 0) (k : ℕ) (s n : Scene) (p : Push) → IsScene board s → CanPush board s p →
+    IsNorm board (after_push board s p) n → NoneGoesOn board cap (suc k) n → IsTaken board cap Kept k s p
+taken_none board cap Kept k s n p scene can norm none m allowed solvable =
     absurd (none m (allows_fewer cap (suc k + m) (k + suc m) (omega arith) allowed)
     ((norms_change_nothing board (after_push board s p) n (after_scene board s p scene can) norm m).0 solvable))
 
@@ -68,10 +70,10 @@ slack_never v board s least p same never m lt =
     subst (λ (b : Board). NeverHelps b m s p.square p.dir) same.0 (subst (λ (x : Scene). NeverHelps v.board m x p.square p.dir) same.1 (never m lt))
 
 -- so is one that never helps with fewer pushes than `least`, where the cap allows fewer
-pub taken_dear : (board : Board) (cap : Option ℕ) (all : List Entry) (k total least : ℕ) (s : Scene) (p : Push) → IsScene board s → CanPush board s p →
+pub taken_dear : (board : Board) (cap : Option ℕ) (Kept : Scene → Type 0) (k total least : ℕ) (s : Scene) (p : Push) → IsScene board s → CanPush board s p →
     ((m : ℕ) → m < least → NeverHelps board m s p.square p.dir) → total ≤ k + least → ((m : ℕ) → Allows cap (k + suc m) → k + suc m < total) →
-    IsTaken board cap all k s p
-taken_dear board cap all k total least s p scene can never le below m allowed (ds, ps, t, play, solved, few) =
+    IsTaken board cap Kept k s p
+taken_dear board cap Kept k total least s p scene can never le below m allowed (ds, ps, t, play, solved, few) =
     absurd (let lt = below m allowed in
     let more = never_leads_on board m s (after_push board s p) p scene (never (suc m) (omega (arith, le, lt)))
     (record { there = can.there; behind = can.behind; ahead = can.ahead; after = refl }) ds ps t play solved in omega (arith, more, few))
@@ -84,42 +86,42 @@ below_refused cap total m refused allowed = elim (cases_lt m total) [
 ]
 
 -- what is done with up to a number is done with up to a lesser one
-pub taken_less : (board : Board) (cap lower : Option ℕ) (all : List Entry) (k : ℕ) (s : Scene) (p : Push) → ((m : ℕ) → Allows lower m → Allows cap m) →
-    IsTaken board cap all k s p → IsTaken board lower all k s p
-taken_less board cap lower all k s p narrows taken m allowed = taken m (narrows (k + suc m) allowed)
+pub taken_less : (board : Board) (cap lower : Option ℕ) (Kept : Scene → Type 0) (k : ℕ) (s : Scene) (p : Push) → ((m : ℕ) → Allows lower m → Allows cap m) →
+    IsTaken board cap Kept k s p → IsTaken board lower Kept k s p
+taken_less board cap lower Kept k s p narrows taken m allowed = taken m (narrows (k + suc m) allowed)
 
-pub are_taken_less : (board : Board) (cap lower : Option ℕ) (all : List Entry) (Tried : Push → Type 0) (k : ℕ) (s : Scene) (pushes : List Push) (count : ℕ) →
-    ((m : ℕ) → Allows lower m → Allows cap m) → AreTaken board cap all Tried k s pushes count → AreTaken board lower all Tried k s pushes count
-are_taken_less board cap lower all Tried k s pushes count narrows taken i p lt there tried =
-    taken_less board cap lower all k s p narrows (taken i p lt there tried)
+pub are_taken_less : (board : Board) (cap lower : Option ℕ) (Kept : Scene → Type 0) (Tried : Push → Type 0) (k : ℕ) (s : Scene) (pushes : List Push) (count : ℕ) →
+    ((m : ℕ) → Allows lower m → Allows cap m) → AreTaken board cap Kept Tried k s pushes count → AreTaken board lower Kept Tried k s pushes count
+are_taken_less board cap lower Kept Tried k s pushes count narrows taken i p lt there tried =
+    taken_less board cap lower Kept k s p narrows (taken i p lt there tried)
 
 -- a push is left for later
-pub taken_later : (board : Board) (cap : Option ℕ) (all : List Entry) (k total : ℕ) (s n : Scene) (p : Push) (next : Option ℕ) → IsScene board s →
+pub taken_later : (board : Board) (cap : Option ℕ) (Kept : Scene → Type 0) (k total : ℕ) (s n : Scene) (p : Push) (next : Option ℕ) → IsScene board s →
     CanPush board s p → IsNorm board (after_push board s p) n → IsBound board (suc k) n total →
-    IsTaken board (tighter cap (lesser next total)) all k s p
-taken_later board cap all k total s n p next scene can norm bound m allowed solvable = absurd (
+    IsTaken board (tighter cap (lesser next total)) Kept k s p
+taken_later board cap Kept k total s n p next scene can norm bound m allowed solvable = absurd (
     let le = bound m ((norms_change_nothing board (after_push board s p) n (after_scene board s p scene can) norm m).0 solvable) in
     let lt = lesser_below cap next total (k + suc m) (omega arith) allowed in
     omega (arith, le, lt)
     )
 
 -- one more push is done with, if it is to be tried
-pub taken_more : (board : Board) (cap : Option ℕ) (old new : List Entry) (Tried : Push → Type 0) (k : ℕ) (s : Scene) (pushes : List Push) (i : ℕ) (p : Push)
-    → KeepPlaces old new → slice_get pushes i ≡ Some p → AreTaken board cap old Tried k s pushes i → (Tried p → IsTaken board cap new k s p) →
-    AreTaken board cap new Tried k s pushes (i + 1)
-taken_more board cap old new Tried k s pushes i p still here before taken j q lt there tried = elim (cases_lt j i) [
-  | inl less ↦ taken_on board cap old new k s q still (before j q less there tried)
+pub taken_more : (board : Board) (cap : Option ℕ) (Old New : Scene → Type 0) (Tried : Push → Type 0) (k : ℕ) (s : Scene) (pushes : List Push) (i : ℕ) (p : Push)
+    → ((t : Scene) → Old t → New t) → slice_get pushes i ≡ Some p → AreTaken board cap Old Tried k s pushes i → (Tried p → IsTaken board cap New k s p) →
+    AreTaken board cap New Tried k s pushes (i + 1)
+taken_more board cap Old New Tried k s pushes i p still here before taken j q lt there tried = elim (cases_lt j i) [
+  | inl less ↦ taken_on board cap Old New k s q still (before j q less there tried)
   | inr ge ↦
       (let e : i ≡ j = omega (arith, lt, ge) in
       let same : p ≡ q = same_Some p q (sym here ∙ (ap (λ (k : ℕ). slice_get pushes k) e ∙ there)) in
-      subst (λ (r : Push). Tried r → IsTaken board cap new k s r) same taken tried)
+      subst (λ (r : Push). Tried r → IsTaken board cap New k s r) same taken tried)
 ]
 
 -- all pushes that are to be tried are done with, and these suffice for each number of pushes that the cap leaves
-pub expands_by : (board : Board) (cap : Option ℕ) (all : List Entry) (Tried : Push → Type 0) (k : ℕ) (s : Scene) (pushes : List Push) (count : ℕ)
+pub expands_by : (board : Board) (cap : Option ℕ) (Kept : Scene → Type 0) (Tried : Push → Type 0) (k : ℕ) (s : Scene) (pushes : List Push) (count : ℕ)
     → IsScene board s → ArePushes board s pushes → length pushes ≤ count → ((m : ℕ) → Allows cap (k + suc m) → Suffice board m Tried s)
-    → AreTaken board cap all Tried k s pushes count → Expands board cap all k s
-expands_by board cap all Tried k s pushes count scene are over suffice taken most allowed m few unsolved solvable =
+    → AreTaken board cap Kept Tried k s pushes count → Expands board cap Kept k s
+expands_by board cap Kept Tried k s pushes count scene are over suffice taken most allowed m few unsolved solvable =
     let ok = allows_fewer cap (k + suc m) most few allowed in
     let (p, t, tried, pushed, rest) = suffice m ok m (omega arith) unsolved solvable in
     let can : CanPush board s p = record { there = pushed.there; behind = pushed.behind; ahead = pushed.ahead } in
@@ -157,6 +159,55 @@ none_over board cap k total s bound over rest allowed solvable = over (allows_fe
 -- or where no play ends solved
 pub none_lost : (board : Board) (cap : Option ℕ) (k : ℕ) (s : Scene) → IsLost board s → NoneGoesOn board cap k s
 none_lost board cap k s lost rest allowed (ds, ps, t, play, solved, few) = lost t ds ps play solved
+
+-- ---- positions are opened
+
+pub opens_none : (board : Board) (cap : Option ℕ) (from : Expanded) (opened : List Opened) → Opens board cap from opened opened
+opens_none board cap from opened = record { still = λ t listed. listed; each = λ each. each }
+
+pub opens_then : (board : Board) (cap : Option ℕ) (from : Expanded) (first second third : List Opened) → Opens board cap from first second →
+    Opens board cap from second third → Opens board cap from first third
+opens_then board cap from first second third one two = record {
+  still = λ t listed. two.still t (one.still t listed);
+  each = λ each. two.each (one.each each);
+}
+
+-- one more is opened
+pub opens_one : (board : Board) (cap : Option ℕ) (from : Expanded) (opened new : List Opened) (o : Opened) → new ≡ opened ++ o ∷ [] →
+    IsOpenedBy board cap from o → Opens board cap from opened new
+opens_one board cap from opened new o is by = subst (Opens board cap from opened) (sym is) (record {
+  still = λ t (i, u, at, same). (i, u, in_front opened (o ∷ []) i u at, same);
+  each = λ each i u at. elim (either_at opened o i u at) [
+    | inl h ↦ each i u h
+    | inr (p, q) ↦ subst (IsOpenedBy board cap from) (sym q) by
+  ];
+})
+
+pub listed_last : (opened new : List Opened) (o : Opened) → new ≡ opened ++ o ∷ [] → IsListed new o.position
+listed_last opened new o is = subst (λ (os : List Opened). IsListed os o.position) (sym is) (length opened, o, last_at opened o, refl)
+
+-- where each position that was opened has entered, what the expansion keeps was found
+pub expands_found : (board : Board) (cap : Option ℕ) (opened : List Opened) (all : List Entry) (k : ℕ) (s : Scene) →
+    ((t : Scene) → IsListed opened t → IsFound all (suc k) t) → Expands board cap (IsListed opened) k s → Expands board cap (IsFound all (suc k)) k s
+expands_found board cap opened all k s entered expands most allowed =
+    keeps_so board (IsListed opened) (IsFound all (suc k)) most k s entered (expands most allowed)
+
+-- the next of them has entered
+pub entered_more : (old new : List Entry) (opened : List Opened) (k i : ℕ) (o : Opened) → KeepPlaces old new → slice_get opened i ≡ Some o →
+    IsFound new k o.position → AreEntered old opened k i → AreEntered new opened k (i + 1)
+entered_more old new opened k i o still at found before j u lt there = elim (cases_lt j i) [
+  | inl less ↦ found_on old new k u.position still (before j u less there)
+  | inr ge ↦
+      (let e : i ≡ j = omega (arith, lt, ge) in
+      let same : o ≡ u = same_Some o u (sym at ∙ (ap (λ (n : ℕ). slice_get opened n) e ∙ there)) in
+      subst (λ (v : Opened). IsFound new k v.position) same found)
+]
+
+-- all of them have
+pub entered_all : (all : List Entry) (opened : List Opened) (k count : ℕ) → length opened ≤ count → AreEntered all opened k count →
+    (t : Scene) → IsListed opened t → IsFound all k t
+entered_all all opened k count over entered t (i, o, at, same) =
+    subst (IsFound all k) same (entered i o (let lt = slice_get_within opened i o at in omega (arith, lt, over)) at)
 
 -- ---- what leads to a position
 
@@ -246,7 +297,7 @@ under_way_set board cap old new place x least under here total settled has = sub
 -- the position that was expanded is closed, or has the least total of what was left for later
 pub under_way_expanded : (board : Board) (cap : Option ℕ) (old new : List Entry) (place reach : ℕ) (x : Entry) (next : Option ℕ) → IsUnderWay board cap old →
     slice_get old place ≡ Some x → x.pushes ≤ reach → ¬ (IsSolved board x.position) → IsLater cap reach next →
-    Expands board (tighter cap next) old x.pushes x.position → HasLeastAt old place next new → IsUnderWay board cap new
+    Expands board (tighter cap next) (IsFound old (suc x.pushes)) x.pushes x.position → HasLeastAt old place next new → IsUnderWay board cap new
 under_way_expanded board cap old new place reach x next under here near unsolved later expands =
     under_way_set board cap old new place x next under here
     (λ n e. (let (lt, allowed) = later n e in record { near = omega (arith, near, lt); allowed = allowed }))
@@ -340,6 +391,32 @@ under_way_first board cap old new n norm fits none enters = record {
       total = λ m is. subst (λ (k : ℕ). IsLeast cap 0 k) (same_Some 0 m is) (record { near = omega arith; allowed = any cap });
       settled = settled_open board cap new e 0 refl (λ rest solvable. omega arith);
     }
+
+-- ---- places are kept
+
+pub kept_then : (first second third : List Entry) → KeepPlaces first second → KeepPlaces second third → KeepPlaces first third
+kept_then first second third one two i x at =
+    let (y, there, same, less) = one i x at in
+    let (z, here, alike, fewer) = two i y there in
+    (z, here, alike ∙ same, omega (arith, less, fewer))
+
+pub kept_set : (old new : List Entry) (place : ℕ) (x : Entry) (least : Option ℕ) → slice_get old place ≡ Some x → HasLeastAt old place least new →
+    KeepPlaces old new
+kept_set old new place x least here has = subst (KeepPlaces old) (sym (has x here)) (λ i z there. elim (cases_eq i place) [
+  | inl eq ↦ (let e : z ≡ x = same_Some z x (sym there ∙ (ap (λ (k : ℕ). slice_get old k) eq ∙ here)) in (
+    y,
+    ap (λ (k : ℕ). slice_get after k) eq ∙ set_here old place x y here,
+    ap (λ (w : Entry). w.position) (sym e),
+    (let f = ap (λ (w : Entry). w.pushes) e in omega (arith, f)),
+  ))
+  | inr ne ↦ (z, set_there old place i y ne ∙ there, refl, omega arith)
+])
+  where
+    y : Entry
+    y = with_least least x
+
+    after : List Entry
+    after = set old place y
 
 -- ---- turns
 

@@ -1,12 +1,13 @@
 //! Expansions: each opens the positions that the pushes of one position lead to. It leaves out pushes that no shortest
-//! solution needs, and leaves those with a greater total for later.
-ghost use Rattle.std.specs.Prelude.{◌≡◌, ℕ, ◌<◌, ◌≤◌, ◌^◌, OnOk, length};
-ghost use Rattle.prover.specs.inside.Working.{Expands, IsExpanding, IsLater, IsSearched, IsUnsolvedOpen};
-ghost use Rattle.prover.specs.inside.Working.{Widens, tighter, turns_left};
+//! solution needs, and leaves those with a greater total for later. What it finds depends on the position, on the pushes
+//! that led to it and on the total that the search has reached, and not on what else was found.
+ghost use Rattle.std.specs.Prelude.{◌≡◌, ℕ, ◌<◌, ◌≤◌, ◌^◌, OnOk, [], length};
+ghost use Rattle.prover.specs.inside.Working.{IsExpandable, IsExpansion, IsSearched, IsUnsolvedOpen, turns_left};
 
 use crate::frontier::Frontier;
 use crate::pruner::Pruner;
 use crate::pushing::{Expanded, try_push};
+use crate::recording::enter;
 use crate::workspace::Workspace;
 use prices::{Matching, Slack};
 use std::alloc::AllocError;
@@ -35,26 +36,30 @@ pub(crate) fn expand(
         reach,
         place: place as u32,
     };
-    open_all(pruner, frontier, &from, workspace)?;
-    frontier.set_least(place, workspace.next)
+    open_all(pruner, &from, workspace)?;
+    enter(
+        pruner,
+        frontier,
+        &from,
+        workspace.opened.as_slice(),
+        workspace.next,
+    )
 }
 
-// Opens the positions that the pushes of a position lead to, up to a total.
-#[tactic(auto, using(crate::proofs::Steps::widens_none))]
-fn open_all(
+/// Opens the positions that the pushes of a position lead to, up to a total. The workspace then holds these, and the
+/// least total of those that are left for later.
+pub(crate) fn open_all(
     pruner: &Pruner<'_>,
-    frontier: &mut Frontier,
     from: &Expanded,
     workspace: &mut Workspace<'_>,
 ) -> Result<(), AllocError>
-    requires expanding { IsExpanding pruner.now.board pruner.now.cap frontier.old from.now }
+    requires expandable { IsExpandable pruner.now.board from.now }
     requires task { workspace.old.expander.task ≡ pruner.now }
-    ensures widens { OnOk result (Widens pruner.now.board pruner.now.cap from.now.pushes frontier.old frontier.new) }
-    ensures expands { OnOk result (Expands pruner.now.board (tighter pruner.now.cap workspace.new.next)
-        frontier.new.entries from.now.pushes from.now.position) }
-    ensures later { OnOk result (IsLater pruner.now.cap from.now.reach workspace.new.next) }
+    ensures expansion { OnOk result (IsExpansion pruner.now.board pruner.now.cap from.now workspace.new.opened.items
+        workspace.new.next) }
     ensures task { workspace.new.expander.task ≡ workspace.old.expander.task }
 {
+    workspace.opened.clear();
     workspace.expander.find_pushes(&from.position);
     pruner.level().tell();
     workspace.next = None;
@@ -80,7 +85,7 @@ fn open_all(
     );
     for index in 0..workspace.expander.pushes().len() {
         let push = workspace.expander.pushes()[index];
-        try_push(pruner, frontier, from, push, &slack, only, workspace)?;
+        try_push(pruner, from, push, &slack, only, workspace)?;
     }
     Ok(())
 }

@@ -25,6 +25,7 @@ mod outcome;
 mod pruner;
 mod pushing;
 mod queue;
+mod recording;
 mod retracing;
 mod searching;
 mod workspace;

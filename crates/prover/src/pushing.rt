@@ -2,15 +2,13 @@
 ghost use Rattle.std.specs.Prelude.{◌≡◌, ◌+◌, ℕ, suc, OnOk};
 ghost use Rattle.area.specs.Pushes.{CanPush};
 ghost use Rattle.successors.specs.Expanding.{HasPushesOf};
-ghost use Rattle.prover.specs.inside.Working.{Defers, IsChosen, IsExpanding, IsTaken, Widens, lesser, tighter};
+ghost use Rattle.prover.specs.inside.Working.{Defers, IsChosen, IsExpandable, IsListed, IsTaken, Opens, lesser, tighter};
 
-use crate::frontier::Frontier;
 use crate::pruner::{Pruner, total_of};
 use crate::workspace::Workspace;
 use grid::{Position, Push};
 use prices::{NEVER, Slack};
 use std::alloc::AllocError;
-use store::Parent;
 
 /// A position that is expanded, with the number of pushes that led to it, the greatest total that it is expanded for,
 /// and its place.
@@ -22,12 +20,19 @@ pub(crate) struct Expanded {
     pub(crate) place: u32,
 }
 
+/// A position that an expansion has opened, with the push that leads to it and its total.
+#[derive(Debug, Drop)]
+pub(crate) struct Opened {
+    pub(crate) position: Position,
+    pub(crate) push: Push,
+    pub(crate) total: u32,
+}
+
 /// Opens the position that a push leads to. With `only`, it leaves out a push of another box than the corral's. It also
 /// leaves out a push that costs more than the cap allows, and leaves for later one that costs more than `from.reach`.
-#[tactic(auto, using(crate::proofs::Steps::widens_none, crate::proofs::Deferring::defers_none))]
+#[tactic(auto, using(crate::proofs::Steps::opens_none, crate::proofs::Deferring::defers_none))]
 pub(crate) fn try_push(
     pruner: &Pruner<'_>,
-    frontier: &mut Frontier,
     from: &Expanded,
     push: Push,
     slack: &Slack<'_>,
@@ -37,13 +42,14 @@ pub(crate) fn try_push(
     requires task { workspace.old.expander.task ≡ pruner.now }
     requires found { HasPushesOf workspace.old.expander from.now.position }
     requires possible { CanPush pruner.now.board from.now.position push }
-    requires expanding { IsExpanding pruner.now.board pruner.now.cap frontier.old from.now }
+    requires expandable { IsExpandable pruner.now.board from.now }
     requires slack { (slack.now.board ≡ pruner.now.board) × (slack.now.scene ≡ from.now.position) }
     ensures taken { OnOk result (IsChosen only workspace.old.corral.held push →
-        IsTaken pruner.now.board (tighter pruner.now.cap workspace.new.next) frontier.new.entries from.now.pushes
-        from.now.position push) }
+        IsTaken pruner.now.board (tighter pruner.now.cap workspace.new.next) (IsListed workspace.new.opened.items)
+        from.now.pushes from.now.position push) }
     ensures defers { OnOk result (Defers pruner.now.cap from.now.reach workspace.old.next workspace.new.next) }
-    ensures widens { OnOk result (Widens pruner.now.board pruner.now.cap from.now.pushes frontier.old frontier.new) }
+    ensures opens { OnOk result (Opens pruner.now.board pruner.now.cap from.now workspace.old.opened.items
+        workspace.new.opened.items) }
     ensures kept { (workspace.new.expander ≡ workspace.old.expander) × (workspace.new.corral ≡ workspace.old.corral) }
 {
     let Push { square, dir } = push;
@@ -63,15 +69,14 @@ pub(crate) fn try_push(
         workspace.next = lesser(workspace.next, low);
         return Ok(());
     }
-    open_after(pruner, frontier, from, Push { square, dir }, workspace)
+    open_after(pruner, from, Push { square, dir }, workspace)
 }
 
 // Opens the position that a push leads to, unless no play that the cap allows goes on from there and ends solved. A
 // position with a total greater than `from.reach` is left for later.
-#[tactic(auto, using(crate::proofs::Steps::widens_none, crate::proofs::Deferring::defers_none))]
+#[tactic(auto, using(crate::proofs::Steps::opens_none, crate::proofs::Deferring::defers_none))]
 fn open_after(
     pruner: &Pruner<'_>,
-    frontier: &mut Frontier,
     from: &Expanded,
     push: Push,
     workspace: &mut Workspace<'_>,
@@ -79,11 +84,12 @@ fn open_after(
     requires task { workspace.old.expander.task ≡ pruner.now }
     requires found { HasPushesOf workspace.old.expander from.now.position }
     requires possible { CanPush pruner.now.board from.now.position push }
-    requires expanding { IsExpanding pruner.now.board pruner.now.cap frontier.old from.now }
+    requires expandable { IsExpandable pruner.now.board from.now }
     ensures taken { OnOk result (IsTaken pruner.now.board (tighter pruner.now.cap workspace.new.next)
-        frontier.new.entries from.now.pushes from.now.position push) }
+        (IsListed workspace.new.opened.items) from.now.pushes from.now.position push) }
     ensures defers { OnOk result (Defers pruner.now.cap from.now.reach workspace.old.next workspace.new.next) }
-    ensures widens { OnOk result (Widens pruner.now.board pruner.now.cap from.now.pushes frontier.old frontier.new) }
+    ensures opens { OnOk result (Opens pruner.now.board pruner.now.cap from.now workspace.old.opened.items
+        workspace.new.opened.items) }
     ensures kept { (workspace.new.expander ≡ workspace.old.expander) × (workspace.new.corral ≡ workspace.old.corral) }
 {
     let Push { square, dir } = push;
@@ -102,11 +108,12 @@ fn open_after(
         workspace.next = lesser(workspace.next, total);
         return Ok(());
     }
-    let parent = Parent {
-        place: from.place,
+    workspace.opened.push(Opened {
+        position: after,
         push: Push { square, dir },
-    };
-    frontier.open_at(&after, pushes, total, Some(parent))
+        total,
+    })?;
+    Ok(())
 }
 
 // The total, or the number, if it is less.

@@ -12,12 +12,14 @@ use Rattle.grid.specs.States.{FitsLevel}
 use Rattle.grid.specs.Lawful.{box_count}
 use Rattle.grid.specs.Plays.{Play, Any}
 use Rattle.area.specs.Area.{IsNorm}
+use Rattle.area.specs.Pushes.{CanPush}
 use Rattle.successors.specs.Expansion.{after_push}
 use Rattle.prices.specs.Solving.{Allows, SolvableWithin}
 use Rattle.prover.specs.declared.pushing.Expanded.{Expanded}
+use Rattle.prover.specs.declared.pushing.Opened.{Opened}
 use Rattle.prover.specs.declared.queue.Ticket.{Ticket}
 use Rattle.store.specs.Visited.{Entry, VisitedView, with_least}
-use Rattle.prover.specs.Frontier.{IsFound, Keeps, AreFew, AreFrom, ComesFrom, IsUnderWay}
+use Rattle.prover.specs.Frontier.{IsFound, IsTotal, Keeps, AreFew, AreFrom, ComesFrom, IsUnderWay}
 
 -- ---- the queue
 
@@ -144,24 +146,65 @@ pub record Defers (cap : Option ℕ) (reach : ℕ) (old new : Option ℕ) : Type
   pub narrows : (m : ℕ) → Allows (tighter cap new) m → Allows (tighter cap old) m
   pub later : IsLater cap reach old → IsLater cap reach new
 
--- what an expansion has to keep was found, for every number of pushes that the cap allows
-abbrev pub Expands : Board → Option ℕ → List Entry → ℕ → Scene → Type 0
-Expands board cap all k s = (most : ℕ) → Allows cap most → Keeps board most (IsFound all (suc k)) k s
+-- what an expansion has to keep is kept, for every number of pushes that the cap allows
+abbrev pub Expands : Board → Option ℕ → (Scene → Type 0) → ℕ → Scene → Type 0
+Expands board cap Kept k s = (most : ℕ) → Allows cap most → Keeps board most Kept k s
 
 -- a push after k pushes is done with: where a play that the cap allows goes on with it and ends solved, some position
--- was found from which one ends solved with no more pushes
-abbrev pub IsTaken : Board → Option ℕ → List Entry → ℕ → Scene → Push → Type 0
-IsTaken board cap all k s p = (m : ℕ) → Allows cap (k + suc m) → SolvableWithin board m (after_push board s p) →
-    (t : Scene) × IsFound all (suc k) t × SolvableWithin board m t
+-- is kept from which one ends solved with no more pushes
+abbrev pub IsTaken : Board → Option ℕ → (Scene → Type 0) → ℕ → Scene → Push → Type 0
+IsTaken board cap Kept k s p = (m : ℕ) → Allows cap (k + suc m) → SolvableWithin board m (after_push board s p) →
+    (t : Scene) × Kept t × SolvableWithin board m t
 
 -- the push is to be tried: any is, or with `only` those of the boxes that are held
 abbrev pub IsChosen : Bool → List ℕ → Push → Type 0
 IsChosen only held p = IsTrue only → has_bit held p.square ≡ true
 
 -- of the first pushes, those that are to be tried are done with
-abbrev pub AreTaken : Board → Option ℕ → List Entry → (Push → Type 0) → ℕ → Scene → List Push → ℕ → Type 0
-AreTaken board cap all Tried k s pushes count =
-    (i : ℕ) (p : Push) → i < count → slice_get pushes i ≡ Some p → Tried p → IsTaken board cap all k s p
+abbrev pub AreTaken : Board → Option ℕ → (Scene → Type 0) → (Push → Type 0) → ℕ → Scene → List Push → ℕ → Type 0
+AreTaken board cap Kept Tried k s pushes count =
+    (i : ℕ) (p : Push) → i < count → slice_get pushes i ≡ Some p → Tried p → IsTaken board cap Kept k s p
+
+-- the position can be expanded: it fits the level, and one more push can be counted
+pub record IsExpandable (board : Board) (from : Expanded) : Type 0 where
+  pub fits : FitsLevel board from.position
+  pub few : suc from.pushes < 2 ^ 32
+
+-- the expansion has opened the position
+abbrev pub IsListed : List Opened → Scene → Type 0
+IsListed opened t = (i : ℕ) × (o : Opened) × (slice_get opened i ≡ Some o) × (o.position ≡ t)
+
+-- a push of the expanded position leads to the opened one, which has a true total that the cap allows
+pub record IsOpenedBy (board : Board) (cap : Option ℕ) (from : Expanded) (o : Opened) : Type 0 where
+  pub fits : FitsLevel board o.position
+  pub can : CanPush board from.position o.push
+  pub norm : IsNorm board (after_push board from.position o.push) o.position
+  pub total : IsTotal board cap (suc from.pushes) o.position o.total
+
+abbrev pub AreOpenedBy : Board → Option ℕ → Expanded → List Opened → Type 0
+AreOpenedBy board cap from opened = (i : ℕ) (o : Opened) → slice_get opened i ≡ Some o → IsOpenedBy board cap from o
+
+-- what was opened stays so, and what is new is opened by a push of the expanded position
+pub record Opens (board : Board) (cap : Option ℕ) (from : Expanded) (old new : List Opened) : Type 0 where
+  pub still : (t : Scene) → IsListed old t → IsListed new t
+  pub each : AreOpenedBy board cap from old → AreOpenedBy board cap from new
+
+-- an expansion has opened these positions and left others for later, the least total of which is `next`. It depends on
+-- the expanded position alone, not on what was found
+pub record IsExpansion (board : Board) (cap : Option ℕ) (from : Expanded) (opened : List Opened) (next : Option ℕ) : Type 0
+  where
+    pub each : AreOpenedBy board cap from opened
+    pub expands : Expands board (tighter cap next) (IsListed opened) from.pushes from.position
+    pub later : IsLater cap from.reach next
+
+-- the first of the opened positions were found with at most k pushes
+abbrev pub AreEntered : List Entry → List Opened → ℕ → ℕ → Type 0
+AreEntered all opened k count = (i : ℕ) (o : Opened) → i < count → slice_get opened i ≡ Some o → IsFound all k o.position
+
+-- the numbers of an expansion fit their types, with one more push
+pub record IsInRange (from : Expanded) : Type 0 where
+  pub pushes : suc from.pushes < 2 ^ 32
+  pub reach : from.reach < 2 ^ 32
 
 -- ---- reading back
 

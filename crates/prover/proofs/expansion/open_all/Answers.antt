@@ -10,15 +10,15 @@ use Rattle.corrals.specs.Corrals.{IsClosure}
 use Rattle.corrals.specs.Sets.{SetsView}
 use Rattle.prices.specs.Helping.{SlackView}
 use Rattle.prices.specs.Solving.{Allows}
-use Rattle.prover.specs.inside.Working.{AreTaken, IsChosen, tighter}
+use Rattle.prover.specs.inside.Working.{AreTaken, IsChosen, IsListed, tighter}
 use Rattle.prover.proofs.Deferring.{loosened}
-use Rattle.prover.proofs.Steps.{are_taken_less, chosen_suffice, expanding_on, expands_by, read_push, expanding_fits, taken_more, widens_then}
+use Rattle.prover.proofs.Steps.{are_taken_less, chosen_suffice, expands_by, read_push, taken_more}
 use Rattle.prover.proofs.expansion.open_all.Goals as goal
 
 pub find_pushes-requires : goal.find_pushes-requires
 find_pushes-requires c = record {
   fits = subst (λ (t : Task). FitsLevel t.board c.args.from.now.position) (sym c.requires.task)
-      (expanding_fits c.args.pruner.now.board c.args.pruner.now.cap c.args.frontier.now c.args.from.now c.requires.expanding);
+      c.requires.expandable.fits;
 }
 
 pub try_push-requires-clause-possible : goal.try_push-requires-clause-possible
@@ -44,8 +44,8 @@ loop-index-preserved c =
     let p = c.index-pushes-index.result in
     let now = c.in_ok-try_push.ensures in
     let kept = c.try_push.ensures.kept in
-    let before = c.loop-index.frontier.entries in
-    let after = c.try_push.new.frontier.entries in
+    let before = IsListed c.loop-index.workspace.opened.items in
+    let after = IsListed c.try_push.new.workspace.opened.items in
     let workspace = c.try_push.new.workspace in
     let only = c.find-only.result in
     let end : length c.pushes-index-end.result.now ≡ length c.find_pushes.new.self.pushes = ap length c.pushes-index-end.ensures in
@@ -58,21 +58,20 @@ loop-index-preserved c =
     let lower = tighter cap next in
     let narrowed = are_taken_less board (tighter cap c.loop-index.workspace.next) lower before (IsChosen only held) k s ps c.loop-index.index
     now.defers.narrows was.taken in
-    let taken = taken_more board lower before after (IsChosen only held) k s ps c.loop-index.index p now.widens.still here narrowed now.taken in
+    let taken = taken_more board lower before after (IsChosen only held) k s ps c.loop-index.index p now.opens.still here narrowed now.taken in
     record {
       task = ap (λ (v : ExpanderView). v.task) kept.0 ∙ was.task;
       found = subst (λ (v : ExpanderView). HasPushesOf v s) (sym kept.0) was.found;
       same = kept.0 ∙ was.same;
       corral = kept.1 ∙ was.corral;
-      expanding = expanding_on board cap c.loop-index.frontier c.try_push.new.frontier c.args.from.now was.expanding now.widens;
+      each = now.opens.each was.each;
       taken = subst (λ (v : SetsView). AreTaken board lower after (IsChosen only v.held) k s workspace.expander.pushes (c.loop-index.index + 1)) (sym kept.1)
           (subst (λ (v : ExpanderView). AreTaken board lower after (IsChosen only held) k s v.pushes (c.loop-index.index + 1)) (sym kept.0) taken);
       later = now.defers.later was.later;
-      widens = widens_then board cap k c.args.frontier.now c.loop-index.frontier c.try_push.new.frontier was.widens now.widens;
     }
 
-pub returns-clause-expands : goal.returns-clause-expands
-returns-clause-expands c =
+pub returns-clause-expansion : goal.returns-clause-expansion
+returns-clause-expansion c =
     let board = c.args.pruner.now.board in
     let cap = c.args.pruner.now.cap in
     let s = c.args.from.now.position in
@@ -82,7 +81,7 @@ returns-clause-expands c =
     let only = c.find-only.result in
     let held = c.loop-index.workspace.corral.held in
     let left = c.left-left.result in
-    let fits = expanding_fits board cap c.args.frontier.now c.args.from.now c.requires.expanding in
+    let fits = c.requires.expandable.fits in
     let end : length c.pushes-index-end.result.now ≡ length c.find_pushes.new.self.pushes = ap length c.pushes-index-end.ensures in
     let same : length ps ≡ length c.find_pushes.new.self.pushes = ap (λ (v : ExpanderView). length v.pushes) was.same in
     let over : length ps ≤ c.loop-index.index = omega (arith, end, same, c.loop-index-test.false) in
@@ -95,5 +94,9 @@ returns-clause-expands c =
     ) in
     let level : IsLevel board = subst (λ (b : Board). IsLevel b) c.level.ensures c.tell.ensures in
     let next = c.loop-index.workspace.next in
-    expands_by board (tighter cap next) c.loop-index.frontier.entries (IsChosen only held) k s ps c.loop-index.index fits.scene pushes over
-    (λ m allowed. chosen_suffice board left s only held level fits closure m (c.left-left.ensures m (loosened cap next (k + suc m) allowed))) was.taken
+    record {
+      each = was.each;
+      later = was.later;
+      expands = expands_by board (tighter cap next) (IsListed c.loop-index.workspace.opened.items) (IsChosen only held) k s ps c.loop-index.index fits.scene pushes over
+          (λ m allowed. chosen_suffice board left s only held level fits closure m (c.left-left.ensures m (loosened cap next (k + suc m) allowed))) was.taken;
+    }

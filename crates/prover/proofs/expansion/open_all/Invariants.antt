@@ -1,6 +1,6 @@
 use Rattle.std.proofs.Common.{◌≡◌}
 use Rattle.successors.specs.Expanding.{HasPushesOf}
-use Rattle.prover.specs.inside.Working.{AreTaken, IsChosen, IsExpanding, IsLater, Widens, tighter}
+use Rattle.prover.specs.inside.Working.{AreOpenedBy, AreTaken, IsChosen, IsLater, IsListed, tighter}
 use Rattle.prover.proofs.expansion.open_all.Given as goal
 
 abbrev pub invariant-loop-index : goal.invariant-loop-index
@@ -9,9 +9,8 @@ invariant-loop-index l = record {
   found : HasPushesOf l.workspace.expander l.from.position;
   same : l.workspace.expander ≡ l.initial.workspace.expander;
   corral : l.workspace.corral ≡ l.initial.workspace.corral;
-  expanding : IsExpanding l.pruner.board l.pruner.cap l.frontier l.from;
-  taken : AreTaken l.pruner.board (tighter l.pruner.cap l.workspace.next) l.frontier.entries (IsChosen l.only l.workspace.corral.held) l.from.pushes l.from.position
-      l.workspace.expander.pushes l.index;
+  each : AreOpenedBy l.pruner.board l.pruner.cap l.from l.workspace.opened.items;
+  taken : AreTaken l.pruner.board (tighter l.pruner.cap l.workspace.next) (IsListed l.workspace.opened.items) (IsChosen l.only l.workspace.corral.held)
+      l.from.pushes l.from.position l.workspace.expander.pushes l.index;
   later : IsLater l.pruner.cap l.from.reach l.workspace.next;
-  widens : Widens l.pruner.board l.pruner.cap l.from.pushes l.fn.frontier l.frontier;
 }

@@ -1,8 +1,8 @@
 use Rattle.std.proofs.Common.{◌+◌, ◌<◌, ◌∙◌, ℕ, Option, suc, subst, sym, arith}
 use Rattle.std.proofs.lemmas.Bool.{ltb-true, true≢false}
-use Rattle.prover.specs.inside.Working.{IsTaken, lesser, tighter}
+use Rattle.prover.specs.inside.Working.{IsListed, IsTaken, lesser, tighter}
 use Rattle.prover.proofs.Deferring.{defers_one, lesser_below, loosened}
-use Rattle.prover.proofs.Steps.{below_refused, expanding_fits, slack_never, taken_dear}
+use Rattle.prover.proofs.Steps.{below_refused, slack_never, taken_dear}
 use Rattle.prover.proofs.pushing.try_push.Goals as goal
 use Rattle.prover.proofs.pushing.try_push.Goals.{then-low-from, else-low-from}
 
@@ -16,9 +16,9 @@ returns-then-not-allowed-clause-taken c = λ chosen.
     let next = c.args.workspace.now.next in
     let least = c.least-least.result in
     let low = c.total_of-low.result in
-    let fits = expanding_fits board cap c.args.frontier.now c.args.from.now c.requires.expanding in
+    let fits = c.requires.expandable.fits in
     let never = slack_never c.args.slack.now board s least p c.requires.slack c.least-least.ensures in
-    taken_dear board (tighter cap next) c.args.frontier.now.entries k low least s p fits.scene c.requires.possible never c.total_of-low.ensures.most
+    taken_dear board (tighter cap next) (IsListed c.args.workspace.now.opened.items) k low least s p fits.scene c.requires.possible never c.total_of-low.ensures.most
     (λ m allowed. below_refused cap low (k + suc m) (λ ok. true≢false (sym (c.allows-allowed.ensures.1 ok) ∙ c.if-not-allowed.true))
     (loosened cap next (k + suc m) allowed))
 
@@ -32,10 +32,10 @@ returns-then-later-clause-taken c = λ chosen.
     let next = c.args.workspace.now.next in
     let least = c.least-least.result in
     let low = c.total_of-low.result in
-    let fits = expanding_fits board cap c.args.frontier.now c.args.from.now c.requires.expanding in
+    let fits = c.requires.expandable.fits in
     let never = slack_never c.args.slack.now board s least p c.requires.slack c.least-least.ensures in
-    subst (λ (o : Option ℕ). IsTaken board (tighter cap o) c.args.frontier.now.entries k s p) (sym c.lesser-workspace.ensures)
-    (taken_dear board (tighter cap (lesser next low)) c.args.frontier.now.entries k low least s p fits.scene c.requires.possible never
+    subst (λ (o : Option ℕ). IsTaken board (tighter cap o) (IsListed c.args.workspace.now.opened.items) k s p) (sym c.lesser-workspace.ensures)
+    (taken_dear board (tighter cap (lesser next low)) (IsListed c.args.workspace.now.opened.items) k low least s p fits.scene c.requires.possible never
     c.total_of-low.ensures.most (λ m. lesser_below cap next low (k + suc m) (omega arith)))
 
 pub returns-then-later-clause-defers : goal.returns-then-later-clause-defers

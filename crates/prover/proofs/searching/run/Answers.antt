@@ -1,10 +1,11 @@
-use Rattle.std.proofs.Common.{rules, arith, ◌<◌, ◌∙◌, length, sym, subst}
+use Rattle.std.proofs.Common.{rules, arith, ◌+◌, ◌<◌, ◌≤◌, ◌∙◌, cond, length, nat_lt, sym, subst}
 use Rattle.std.proofs.lemmas.Bool.{false≢true}
 use Rattle.grid.specs.Board.{Board, Scene, IsSolved}
 use Rattle.grid.specs.Lawful.{IsLevel}
 use Rattle.store.specs.Visited.{VisitedView}
-use Rattle.prover.specs.inside.Working.{IsSearched}
+use Rattle.prover.specs.inside.Working.{IsSearched, turns_left}
 use Rattle.prover.proofs.Endings.{has_more, least_told, none_is_allowed, solved_told, told_more}
+use Rattle.prover.proofs.Steps.{rounds_lessen}
 use Rattle.prover.proofs.searching.run.Goals as goal
 
 pub returns-then-solved-clause-tells : goal.returns-then-solved-clause-tells
@@ -67,3 +68,13 @@ loop-place-preserved c =
           c.loop-place.invariant.told;
       task = c.expand.ensures.task ∙ c.loop-place.invariant.task;
     }
+
+pub loop-place-smaller : goal.loop-place-smaller
+loop-place-smaller c =
+    let limit = c.args.limit in
+    let all = c.least_open.new.self.entries in
+    let new = c.expand.new.frontier.entries in
+    let few : length all ≤ limit = search rules in
+    subst (λ (v : VisitedView). cond (nat_lt limit (length new)) 0 (1 + turns_left limit new) <
+    cond (nat_lt limit (length v.entries)) 0 (1 + turns_left limit v.entries)) c.least_open.ensures.same
+    (rounds_lessen limit all new few (c.in_ok-expand.ensures.fewer_turns limit))
