@@ -75,9 +75,11 @@ fn close_in_rounds<R: Threads + Sync>(rt: &R, books: &mut [Book], many: usize)
 fn close_each<R: Threads + Sync>(rt: &R, books: &mut [Book])
     ensures { MayBeClosedEach books.old books.new }
 {
+    let threads = books.len();
     for_each_spread(
         rt,
         books,
+        threads,
         &|_, book: &mut Book|
             ensures { MayBeClosed book.entry.now book.exit.now }
         { close_ahead(book) },

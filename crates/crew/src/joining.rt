@@ -116,9 +116,11 @@ fn gather(books: &[Book], whole: &mut [Segment], others: &mut [Segment])
 fn merge_each<R: Threads + Sync>(rt: &R, alloc: Global, books: &[Book], segments: &mut [Segment])
     ensures { AreSegmentsOf books.now segments.new }
 {
+    let threads = segments.len();
     for_each_spread(
         rt,
         segments,
+        threads,
         &|_, segment: &mut Segment|
             ensures { IsSegmentOf books.entry.now segment.exit.now }
         { segment.merge(alloc, books) },

@@ -25,9 +25,11 @@ pub(crate) fn work_all<'a, R: Threads + Wait + Sync, G: Gate + Sync>(
     requires room { AreRoomy (length shared.now.layer.level.board.cells) desks.old }
     ensures room { AreRoomy (length shared.now.layer.level.board.cells) desks.new }
 {
+    let threads = desks.len();
     for_each_spread(
         rt,
         desks,
+        threads,
         &|place, desk: &mut Desk<'_>|
             requires place { place < PLACES }
             requires drawer { desk.now.drawer ≡ Some (newcomer shared.now.ledger) }

@@ -44,6 +44,7 @@ fn page_of_spreading(rt: HostRuntime) {
     spreading::for_each_spread(
         &rt,
         &mut numbers,
+        2,
         &|nth, number: &mut u64| { *number = nth as u64 },
     );
     assert_eq!(&rt; numbers, [0, 1, 2, 3]);

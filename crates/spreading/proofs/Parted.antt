@@ -1,5 +1,5 @@
 -- What holds of all elements holds of those after the first, and what holds of the first and of those after it holds of all.
-use Rattle.std.proofs.Common.{◌≡◌, ℕ, ◌+◌, ◌-◌, ◌<◌, List, ◌++◌, length, set, sym, subst, ap, ◌∙◌, arith}
+use Rattle.std.proofs.Common.{◌≡◌, ℕ, ◌+◌, ◌-◌, ◌<◌, List, ◌++◌, length, set, refl, sym, subst, ap, ◌∙◌, arith}
 use lib.ListN.{get_or}
 use Rattle.std.proofs.lemmas.List.{get_or-set_same, get_or_default, length-set, get_or_append_left, get_or-append_right, length-append}
 use Rattle.std.proofs.lemmas.Bool.{cases_lt}
@@ -7,13 +7,18 @@ use mathlib.Core.Logic.{⊎_elim}
 use Rattle.spreading.specs.Places.{HoldsFrom, ChangesFrom}
 
 module _ {X : Type 0} (P : ℕ → X → Type 0) (base : ℕ) where
-  pub holds_rest : (all one more : List X) → all ≡ one ++ more → length one ≡ 1 → HoldsFrom P base all → HoldsFrom P (base + 1) more
-  holds_rest all one more is single each k d low =
-      let at : base + (1 + k) ≡ base + 1 + k = omega arith in
-      let down : 1 + k - 1 ≡ k = omega arith in
+  pub holds_first : (all part more : List X) → all ≡ part ++ more → HoldsFrom P base all → HoldsFrom P base part
+  holds_first all part more is each k d low =
+      subst (P (base + k)) (ap (λ l. get_or l k d) is ∙ get_or_append_left part more d k low)
+      (each k d (omega (arith, ap length is, length-append part more, low)))
+
+  pub holds_rest : (all part more : List X) (n : ℕ) → all ≡ part ++ more → length part ≡ n → HoldsFrom P base all → HoldsFrom P (base + n) more
+  holds_rest all part more n is many each k d low =
+      let at : base + (n + k) ≡ base + n + k = omega arith in
+      let down : n + k - n ≡ k = omega arith in
       subst (λ i. P i (get_or more k d)) at
-      (subst (P (base + (1 + k))) (ap (λ l. get_or l (1 + k) d) is ∙ get_or-append_right one more 1 (1 + k) d single (omega arith)
-      ∙ ap (λ i. get_or more i d) down) (each (1 + k) d (omega (arith, ap length is, length-append one more))))
+      (subst (P (base + (n + k))) (ap (λ l. get_or l (n + k) d) is ∙ get_or-append_right part more n (n + k) d many (omega arith)
+      ∙ ap (λ i. get_or more i d) down) (each (n + k) d (omega (arith, ap length is, length-append part more, many))))
 
   pub holds_only : (xs : List X) → length xs ≡ 1 → HoldsFrom P base xs → (d : X) → P base (get_or xs 0 d)
   holds_only xs single each d =
@@ -32,22 +37,25 @@ module _ {X : Type 0} (R : ℕ → X → X → Type 0) (base : ℕ) where
             (subst (λ x. R base x y) (get_or_default xs 0 e d (omega arith)) change)));
       }
 
-  pub changes_both : (all one more one' more' : List X) → all ≡ one ++ more → length one ≡ 1 → ChangesFrom R base one one' →
-      ChangesFrom R (base + 1) more more' → ChangesFrom R base all (one' ++ more')
-  changes_both all one more one' more' is single a b =
-      let single' : length one' ≡ 1 = a.len ∙ single in
+  pub changes_none : (xs : List X) → length xs ≡ 0 → ChangesFrom R base xs xs
+  changes_none xs none = record { len = refl; each = λ k d low. absurd (omega (arith, none)) }
+
+  pub changes_both : (all part more part' more' : List X) (n : ℕ) → all ≡ part ++ more → length part ≡ n → ChangesFrom R base part part' →
+      ChangesFrom R (base + n) more more' → ChangesFrom R base all (part' ++ more')
+  changes_both all part more part' more' n is many a b =
+      let many' : length part' ≡ n = a.len ∙ many in
       record {
-        len = omega (arith, ap length is, length-append one more, length-append one' more', a.len, b.len);
+        len = omega (arith, ap length is, length-append part more, length-append part' more', a.len, b.len);
         each = λ k d low. ⊎_elim
             (λ first.
-            subst (λ x. R (base + k) x (get_or (one' ++ more') k d)) (sym (ap (λ l. get_or l k d) is ∙ get_or_append_left one more d k (omega arith)))
-            (subst (R (base + k) (get_or one k d)) (sym (get_or_append_left one' more' d k (omega arith))) (a.each k d (omega arith))))
+            subst (λ x. R (base + k) x (get_or (part' ++ more') k d)) (sym (ap (λ l. get_or l k d) is ∙ get_or_append_left part more d k (omega (arith, many, first))))
+            (subst (R (base + k) (get_or part k d)) (sym (get_or_append_left part' more' d k (omega (arith, many', first)))) (a.each k d (omega (arith, many, first)))))
             (λ later.
-            let m = k - 1 in let at : base + 1 + m ≡ base + k = omega arith in
-            subst (λ x. R (base + k) x (get_or (one' ++ more') k d)) (sym (ap (λ l. get_or l k d) is ∙ get_or-append_right one more 1 k d single later))
-            (subst (R (base + k) (get_or more m d)) (sym (get_or-append_right one' more' 1 k d single' later))
-            (subst (λ i. R i (get_or more m d) (get_or more' m d)) at (b.each m d (omega (arith, ap length is, length-append one more))))))
-            (cases_lt k 1);
+            let m = k - n in let at : base + n + m ≡ base + k = omega (arith, later) in
+            subst (λ x. R (base + k) x (get_or (part' ++ more') k d)) (sym (ap (λ l. get_or l k d) is ∙ get_or-append_right part more n k d many later))
+            (subst (R (base + k) (get_or more m d)) (sym (get_or-append_right part' more' n k d many' later))
+            (subst (λ i. R i (get_or more m d) (get_or more' m d)) at (b.each m d (omega (arith, later, many, ap length is, length-append part more))))))
+            (cases_lt k n);
       }
 
 pub changes_all : {X : Type 0} (R : ℕ → X → X → Type 0) (xs ys : List X) → ChangesFrom R 0 xs ys → (i : ℕ) (d : X) → i < length xs →

@@ -3,5 +3,5 @@ use Rattle.std.specs.Fork.{ChangesAt}
 use Rattle.spreading.proofs.Parted.{changes_all}
 use Rattle.spreading.proofs.for_each_spread.Goals as goal
 
-pub returns-then-not-is_empty : goal.returns-then-not-is_empty
-returns-then-not-is_empty g c i d low = (refl, changes_all (ChangesAt g.F.Fn c.args.f.now) c.args.s.now c.spread_from.new.s c.spread_from.ensures i d low)
+pub returns : goal.returns
+returns g c i d low = (refl, changes_all (ChangesAt g.F.Fn c.args.f.now) c.args.s.now c.spread_from.new.s c.spread_from.ensures i d low)
