@@ -1,2 +1,3 @@
-pub mod Signs
-pub mod Statuses
+pub mod Digits
+pub mod Asking
+pub mod Running

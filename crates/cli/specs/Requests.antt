@@ -1,64 +1,66 @@
--- What the searches are to do, and what they do.
-use Rattle.std.specs.Prelude.{◌≡◌, ℕ, List, Option, Result, IfOk, codes, ⊤}
-use Rattle.std.specs.Int.NonZero.{non_zero_u32_get}
+-- What a command line asks for.
+use Rattle.std.specs.Prelude.{◌≡◌, ℕ, ◌≤◌, List, Some, option_map, codes, ⊤}
+use Rattle.clap.specs.Matches.{found_of, subcommand_name_of}
+use Rattle.clap.specs.Simple.{subcommand_rows_of}
+use Rattle.clap.specs.Walk.{rows_of}
 use Rattle.clap.specs.declared.parser.matches.ArgMatches.{ArgMatches}
-use Rattle.sokopar.specs.Best.{IsBestReport}
-use Rattle.sokopar.specs.OneReport.{IsOnlySolveReport}
-use Rattle.sokopar.specs.Proving.{IsProveReport}
-use Rattle.sokopar.specs.Report.{Report}
+use Rattle.crew.specs.Configured.{IsWithinLimits}
+use Rattle.sokopar.specs.declared.engines.SolveRequest.{SolveRequest}
+use Rattle.sokopar.specs.declared.proving.SearchRequest.{SearchRequest}
+use Rattle.cli.specs.declared.arguments.TheConstants.{MOST, MOST_LOCKS, MOST_WORKERS}
 use Rattle.cli.specs.declared.request.Request.{Request}
-use Rattle.cli.specs.declared.request.Request.TheVariants.{Solve, Best, Prove}
-use Rattle.cli.specs.Words.{HasNumber, MayHaveNumber}
+use Rattle.cli.specs.declared.request.Request.TheVariants.{Check, Show, Dead, Replay, Solve, Best, Prove}
+use Rattle.cli.specs.declared.subcommands.Subcommand.{Subcommand}
+use Rattle.cli.specs.declared.subcommands.Subcommand.TheVariants as subcommand
+use Rattle.cli.specs.Words.{HasNumber, HasText, MayHaveNumber, word_of}
 
--- the request is to solve the level with this number of this file, and the workers, the locks, the limit and the cap
--- are the options' values
-abbrev pub AsksToSolve : List ℕ → ℕ → ArgMatches → Request → Type 0
-AsksToSolve file number matches (Solve path level workers locks limit cap) =
-    (path.now ≡ file) × (non_zero_u32_get level ≡ number) ×
-    HasNumber matches (codes "workers") (non_zero_u32_get workers) ×
-    HasNumber matches (codes "locks") (non_zero_u32_get locks) ×
-    HasNumber matches (codes "limit") (non_zero_u32_get limit) ×
-    MayHaveNumber matches (codes "max-pushes") cap
-AsksToSolve file number matches other = ⊥
+-- the level and the settings of `solve` are the numbers of the arguments
+pub record AsksToSolve (matches : ArgMatches) (search : SolveRequest) : Type 0 where
+  pub level : HasNumber matches (codes "N") MOST search.number
+  pub workers : HasNumber matches (codes "workers") MOST_WORKERS search.config.workers
+  pub locks : HasNumber matches (codes "locks") MOST_LOCKS search.config.locks
+  pub limit : HasNumber matches (codes "limit") MOST search.config.limit
+  pub cap : MayHaveNumber matches (codes "max-pushes") MOST search.config.cap
 
--- the request is for a solution with the fewest pushes of the level with this number of this file, and the limit is
--- the option's value
-abbrev pub AsksForBest : List ℕ → ℕ → ArgMatches → Request → Type 0
-AsksForBest file number matches (Best path level limit) =
-    (path.now ≡ file) × (non_zero_u32_get level ≡ number) × HasNumber matches (codes "limit") (non_zero_u32_get limit)
-AsksForBest file number matches other = ⊥
+-- the level and the settings of `best` or `prove` are the numbers of the arguments
+pub record AsksToSearch (matches : ArgMatches) (search : SearchRequest) : Type 0 where
+  pub level : HasNumber matches (codes "N") MOST search.number
+  pub limit : HasNumber matches (codes "limit") MOST search.limit
 
--- the request is to prove this solution of the level with this number of this file, and the limit is the option's value
-abbrev pub AsksToProve : List ℕ → ℕ → List ℕ → ArgMatches → Request → Type 0
-AsksToProve file number solution matches (Prove path level text limit) =
-    (path.now ≡ file) × (non_zero_u32_get level ≡ number) × (text.now ≡ solution) ×
-    HasNumber matches (codes "limit") (non_zero_u32_get limit)
-AsksToProve file number solution matches other = ⊥
+-- the arguments of a subcommand ask for this request: its paths are their texts, its numbers their numbers
+abbrev pub Asks : Subcommand → ArgMatches → Request → Type 0
+Asks subcommand.Check matches (Check file) = HasText matches (codes "FILE") file.now
+Asks subcommand.Show matches (Show file number) =
+    HasText matches (codes "FILE") file.now × HasNumber matches (codes "N") MOST number
+Asks subcommand.Dead matches (Dead file number) =
+    HasText matches (codes "FILE") file.now × HasNumber matches (codes "N") MOST number
+Asks subcommand.Replay matches (Replay file number solution) =
+    HasText matches (codes "FILE") file.now × HasNumber matches (codes "N") MOST number ×
+    HasText matches (codes "SOLUTION") solution.now
+Asks subcommand.Solve matches (Solve file search) = HasText matches (codes "FILE") file.now × AsksToSolve matches search
+Asks subcommand.Best matches (Best file search) = HasText matches (codes "FILE") file.now × AsksToSearch matches search
+Asks subcommand.Prove matches (Prove file solution search) =
+    HasText matches (codes "FILE") file.now × HasText matches (codes "SOLUTION") solution.now ×
+    AsksToSearch matches search
+Asks subcommand matches request = ⊥
 
--- the status is that of a report of this kind on some file
-abbrev pub IsStatusOf : (List ℕ → Report → Type 0) → ℕ → Type 0
-IsStatusOf IsReport status = (bytes : List ℕ) × (report : Report) × IsReport bytes report × (status ≡ report.status)
+-- the matches have the subcommand, and the arguments of its matches
+pub record HasSubcommand (matches : ArgMatches) (subcommand : Subcommand) (inner : ArgMatches) : Type 0 where
+  pub word : subcommand_name_of matches ≡ Some (word_of subcommand)
+  pub arguments : option_map (λ both. both.1) (subcommand_rows_of matches) ≡ Some (rows_of (found_of inner))
 
--- the status is that of the report of solving the level with this number, in some file, under this cap and this limit
-abbrev pub IsStatusOfSolve : Option ℕ → ℕ → ℕ → ℕ → Type 0
-IsStatusOfSolve cap limit number status = IsStatusOf (IsOnlySolveReport cap limit number) status
+-- the subcommand of a command line and its arguments ask for this request
+abbrev pub AsksFor : ArgMatches → Request → Type 0
+AsksFor matches request =
+    (subcommand : Subcommand) × (inner : ArgMatches) × HasSubcommand matches subcommand inner ×
+    Asks subcommand inner request
 
--- the status is that of a report of `best` on the level with this number, in some file, under this limit
-abbrev pub IsStatusOfBest : ℕ → ℕ → ℕ → Type 0
-IsStatusOfBest limit number status = IsStatusOf (IsBestReport limit number) status
-
--- the status is that of a report of `prove` on the level with this number, in some file, and some solution, under
--- this limit
-abbrev pub IsStatusOfProve : ℕ → ℕ → ℕ → Type 0
-IsStatusOfProve limit number status =
-    IsStatusOf (λ bytes report. (solution : Option (List ℕ)) × IsProveReport limit number bytes solution report) status
-
--- where the request is for a search and there is no trouble, the status is that of a report under the request's own
--- limit, and cap if it has one
-abbrev pub Performs : {E : Type 0} → Request → Result ℕ E → Type 0
-Performs (Solve path level workers locks limit cap) result =
-    IfOk result (IsStatusOfSolve cap (non_zero_u32_get limit) (non_zero_u32_get level))
-Performs (Best path level limit) result = IfOk result (IsStatusOfBest (non_zero_u32_get limit) (non_zero_u32_get level))
-Performs (Prove path level text limit) result =
-    IfOk result (IsStatusOfProve (non_zero_u32_get limit) (non_zero_u32_get level))
-Performs other result = ⊤
+-- levels count from 1, and the settings of `solve` are within their limits
+abbrev pub IsInRange : Request → Type 0
+IsInRange (Check file) = ⊤
+IsInRange (Show file number) = 1 ≤ number
+IsInRange (Dead file number) = 1 ≤ number
+IsInRange (Replay file number solution) = 1 ≤ number
+IsInRange (Solve file search) = (1 ≤ search.number) × IsWithinLimits search.config
+IsInRange (Best file search) = 1 ≤ search.number
+IsInRange (Prove file solution search) = 1 ≤ search.number

@@ -12,6 +12,9 @@ const DEFAULT_WORKERS: &str = "1";
 /// The default number of locks.
 const DEFAULT_LOCKS: &str = "1";
 
+/// The greatest level number, limit of positions and cap of pushes.
+pub(crate) const MOST: u32 = u32::MAX;
+
 /// The greatest number of workers.
 pub(crate) const MOST_WORKERS: u32 = MAX_WORKERS as u32;
 

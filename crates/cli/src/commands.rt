@@ -1,166 +1,139 @@
-//! A function for each subcommand. It opens all its files before it reads the first, and runs its engine.
-ghost use Rattle.std.specs.Prelude.{◌≡◌, ◌≤◌, IfOk, min};
-ghost use Rattle.std.specs.Int.NonZero.{non_zero_u32_get};
+//! A function for each subcommand. It opens all its files before it reads the first, and runs its engine. It returns
+//! the exit status.
+ghost use Rattle.std.specs.Prelude.{◌≤◌};
 ghost use Rattle.crew.specs.Configured.{IsWithinLimits};
-ghost use Rattle.cli.specs.Requests.{IsStatusOfBest, IsStatusOfProve, IsStatusOfSolve};
-ghost use Rattle.cli.specs.declared.arguments.TheConstants.{MOST_WORKERS, MOST_LOCKS};
+ghost use Rattle.cli.specs.Performing.{Performs};
 
-use crate::arguments::{MOST_LOCKS, MOST_WORKERS};
-use crate::steady::Steady;
+use crate::request::Request;
+use crate::system::System;
 use crate::trouble::Trouble;
-use crew::Config;
 use sokopar::{
-    Reader, RunFault, SearchRequest, Writer, run_best, run_check, run_dead, run_prove, run_replay,
-    run_show, run_solve,
+    SearchRequest, SolveRequest, run_best, run_check, run_dead, run_prove, run_replay, run_show,
+    run_solve,
 };
 use std::alloc::Global;
-use std::num::NonZeroU32;
-use std::rt::Files;
 use std::sync::Wait;
 use std::thread::Threads;
-use std::{fs, io};
 
-/// Opens a file as a source.
-fn open<'a, R: Files>(rt: &R, path: &'a str) -> Result<Reader<Steady<R::File>>, Trouble<'a>> {
-    match fs::open(rt, path) {
-        Ok(file) => Ok(Reader::new(Steady::new(file))),
-        Err(error) if error.kind() == io::ErrorKind::OutOfMemory => {
-            Err(Trouble::Run(RunFault::OutOfMemory))
-        }
-        Err(_) => Err(Trouble::Open(path)),
-    }
-}
-
-/// Checks a collection. Returns the exit status.
-pub(crate) fn check<'a, R: Files + Print>(
-    rt: &R,
+#[tactic(auto, using(crate::proofs::Running::endings))]
+/// Checks a collection.
+pub(crate) fn check<'a, S: System>(
+    system: &S,
     alloc: Global,
     file: &'a str,
-) -> Result<u8, Trouble<'a>> {
-    let mut source = open(rt, file)?;
-    let mut sink = Writer::new(Steady::new(io::writer(rt)));
+) -> Result<u8, Trouble<'a>>
+    ensures { Performs S.opens S.File.seen S.Output.seen (Request.Check file.entry) result }
+{
+    let mut source = system.open(file)?;
+    let mut sink = system.output();
     Ok(run_check(alloc, &mut source, &mut sink)?)
 }
 
-/// Shows a level. Returns the exit status.
-pub(crate) fn show<'a, R: Files + Print>(
-    rt: &R,
+#[tactic(auto, using(crate::proofs::Running::endings))]
+/// Shows a level.
+pub(crate) fn show<'a, S: System>(
+    system: &S,
     alloc: Global,
     file: &'a str,
-    number: NonZeroU32,
-) -> Result<u8, Trouble<'a>> {
-    let mut source = open(rt, file)?;
-    let mut sink = Writer::new(Steady::new(io::writer(rt)));
-    Ok(run_show(alloc, &mut source, number.get(), &mut sink)?)
+    number: u32,
+) -> Result<u8, Trouble<'a>>
+    requires { 1 ≤ number }
+    ensures { Performs S.opens S.File.seen S.Output.seen (Request.Show file.entry number) result }
+{
+    let mut source = system.open(file)?;
+    let mut sink = system.output();
+    Ok(run_show(alloc, &mut source, number, &mut sink)?)
 }
 
-/// Shows the dead squares of a level. Returns the exit status.
-pub(crate) fn dead<'a, R: Files + Print>(
-    rt: &R,
+#[tactic(auto, using(crate::proofs::Running::endings))]
+/// Shows the dead squares of a level.
+pub(crate) fn dead<'a, S: System>(
+    system: &S,
     alloc: Global,
     file: &'a str,
-    number: NonZeroU32,
-) -> Result<u8, Trouble<'a>> {
-    let mut source = open(rt, file)?;
-    let mut sink = Writer::new(Steady::new(io::writer(rt)));
-    Ok(run_dead(alloc, &mut source, number.get(), &mut sink)?)
+    number: u32,
+) -> Result<u8, Trouble<'a>>
+    requires { 1 ≤ number }
+    ensures { Performs S.opens S.File.seen S.Output.seen (Request.Dead file.entry number) result }
+{
+    let mut source = system.open(file)?;
+    let mut sink = system.output();
+    Ok(run_dead(alloc, &mut source, number, &mut sink)?)
 }
 
-/// Replays a solution on a level. Returns the exit status.
-pub(crate) fn replay<'a, R: Files + Print>(
-    rt: &R,
+#[tactic(auto, using(crate::proofs::Running::endings))]
+/// Replays a solution on a level.
+pub(crate) fn replay<'a, S: System>(
+    system: &S,
     alloc: Global,
     file: &'a str,
-    number: NonZeroU32,
+    number: u32,
     solution: &'a str,
-) -> Result<u8, Trouble<'a>> {
-    let mut source = open(rt, file)?;
-    let mut letters = open(rt, solution)?;
-    let mut sink = Writer::new(Steady::new(io::writer(rt)));
-    Ok(run_replay(alloc, &mut source, number.get(), &mut letters, &mut sink)?)
-}
-
-/// The configuration with these workers and locks, each capped at its greatest number, this limit of positions, and
-/// this cap of pushes, if any.
-pub(crate) fn config_of(
-    workers: NonZeroU32,
-    locks: NonZeroU32,
-    limit: NonZeroU32,
-    cap: Option<u32>,
-) -> Config
-    ensures limits { IsWithinLimits result }
-    ensures workers { result.workers ≡ min (non_zero_u32_get workers) MOST_WORKERS }
-    ensures locks { result.locks ≡ min (non_zero_u32_get locks) MOST_LOCKS }
-    ensures limit { result.limit ≡ non_zero_u32_get limit }
-    ensures cap { result.cap ≡ cap }
+) -> Result<u8, Trouble<'a>>
+    requires { 1 ≤ number }
+    ensures { Performs S.opens S.File.seen S.Output.seen (Request.Replay file.entry number solution.entry) result }
 {
-    Config {
-        workers: workers.get().min(MOST_WORKERS) as u8,
-        locks: locks.get().min(MOST_LOCKS) as u8,
-        limit: limit.get(),
-        cap,
-    }
+    let mut source = system.open(file)?;
+    let mut letters = system.open(solution)?;
+    let mut sink = system.output();
+    Ok(run_replay(alloc, &mut source, number, &mut letters, &mut sink)?)
 }
 
-#[tactic(auto, using(crate::proofs::Statuses::status_of_run))]
-/// Solves a level. Returns the exit status.
-pub(crate) fn solve<'a, R: Files + Print + Threads + Wait + Sync>(
+#[tactic(auto, using(crate::proofs::Running::endings))]
+/// Solves a level.
+pub(crate) fn solve<'a, R: Threads + Wait + Sync, S: System>(
     rt: &R,
+    system: &S,
     alloc: Global,
     file: &'a str,
-    number: NonZeroU32,
-    config: Config,
+    search: SolveRequest,
 ) -> Result<u8, Trouble<'a>>
-    requires { IsWithinLimits config }
-    ensures { IfOk result (IsStatusOfSolve config.cap config.limit (non_zero_u32_get number)) }
+    requires number { 1 ≤ search.number }
+    requires limits { IsWithinLimits search.config }
+    ensures { Performs S.opens S.File.seen S.Output.seen (Request.Solve file.entry search) result }
 {
-    let mut source = open(rt, file)?;
-    let mut sink = Writer::new(Steady::new(io::writer(rt)));
-    Ok(run_solve(rt, alloc, &mut source, number.get(), config, &mut sink)?)
+    let mut source = system.open(file)?;
+    let mut sink = system.output();
+    Ok(run_solve(
+        rt,
+        alloc,
+        &mut source,
+        search.number,
+        search.config,
+        &mut sink,
+    )?)
 }
 
-/// The search of level N under a limit of positions.
-pub(crate) fn search_of(number: NonZeroU32, limit: NonZeroU32) -> SearchRequest
-    ensures number { result.number ≡ non_zero_u32_get number }
-    ensures limit { result.limit ≡ non_zero_u32_get limit }
-    ensures level { 1 ≤ result.number }
-{
-    SearchRequest {
-        number: number.get(),
-        limit: limit.get(),
-    }
-}
-
-#[tactic(auto, using(crate::proofs::Statuses::status_of_best))]
-/// Finds a solution with the fewest pushes of a level. Returns the exit status.
-pub(crate) fn best<'a, R: Files + Print>(
-    rt: &R,
+#[tactic(auto, using(crate::proofs::Running::endings))]
+/// Finds a solution with the fewest pushes of a level.
+pub(crate) fn best<'a, S: System>(
+    system: &S,
     alloc: Global,
     file: &'a str,
-    request: SearchRequest,
+    search: SearchRequest,
 ) -> Result<u8, Trouble<'a>>
-    requires { 1 ≤ request.number }
-    ensures { IfOk result (IsStatusOfBest request.limit request.number) }
+    requires { 1 ≤ search.number }
+    ensures { Performs S.opens S.File.seen S.Output.seen (Request.Best file.entry search) result }
 {
-    let mut source = open(rt, file)?;
-    let mut sink = Writer::new(Steady::new(io::writer(rt)));
-    Ok(run_best(alloc, &mut source, request, &mut sink)?)
+    let mut source = system.open(file)?;
+    let mut sink = system.output();
+    Ok(run_best(alloc, &mut source, search, &mut sink)?)
 }
 
-#[tactic(auto, using(crate::proofs::Statuses::status_of_prove))]
-/// Proves that a solution has the fewest pushes on a level. Returns the exit status.
-pub(crate) fn prove<'a, R: Files + Print>(
-    rt: &R,
+#[tactic(auto, using(crate::proofs::Running::endings))]
+/// Proves that a solution has the fewest pushes on a level.
+pub(crate) fn prove<'a, S: System>(
+    system: &S,
     alloc: Global,
     file: &'a str,
     solution: &'a str,
-    request: SearchRequest,
+    search: SearchRequest,
 ) -> Result<u8, Trouble<'a>>
-    requires { 1 ≤ request.number }
-    ensures { IfOk result (IsStatusOfProve request.limit request.number) }
+    requires { 1 ≤ search.number }
+    ensures { Performs S.opens S.File.seen S.Output.seen (Request.Prove file.entry solution.entry search) result }
 {
-    let mut source = open(rt, file)?;
-    let mut letters = open(rt, solution)?;
-    let mut sink = Writer::new(Steady::new(io::writer(rt)));
-    Ok(run_prove(alloc, &mut source, &mut letters, request, &mut sink)?)
+    let mut source = system.open(file)?;
+    let mut letters = system.open(solution)?;
+    let mut sink = system.output();
+    Ok(run_prove(alloc, &mut source, &mut letters, search, &mut sink)?)
 }

@@ -1,7 +1,9 @@
 //! The program: reads its command line, opens its files and runs an engine.
 #![tactic(auto)]
 
-ghost use Rattle.cli.specs.Requests.{Performs};
+ghost use Rattle.std.specs.Prelude.{◌≡◌};
+ghost use Rattle.cli.specs.Performing.{Exits, Performs, trouble_status};
+ghost use Rattle.cli.specs.Requests.{IsInRange};
 
 mod arguments;
 mod commands;
@@ -11,10 +13,11 @@ mod request;
 mod stack;
 mod steady;
 mod subcommands;
+mod system;
 mod trouble;
 
 use clap::error::ErrorKind;
-use commands::{best, check, config_of, dead, prove, replay, search_of, show, solve};
+use commands::{best, check, dead, prove, replay, show, solve};
 use help::Notes;
 use request::Request;
 use sokopar::RunFault;
@@ -25,50 +28,54 @@ use std::rt::Files;
 use std::sync::Wait;
 use std::thread::Threads;
 use std::{env, io};
+use system::System;
 use trouble::Trouble;
 
 /// The exit status of a fault of the command line.
 const USAGE: u8 = 2;
 
 /// Opens all files of a request before it reads the first, and runs its engine. Returns the exit status.
-fn perform<'a, R: Files + Print + Threads + Wait + Sync>(
+fn perform<'a, R: Threads + Wait + Sync, S: System>(
     rt: &R,
+    system: &S,
     alloc: Global,
     request: Request<'a>,
 ) -> Result<u8, Trouble<'a>>
-    ensures { Performs request.entry result }
+    requires { IsInRange request }
+    ensures { Performs S.opens S.File.seen S.Output.seen request.entry result }
 {
     match request {
-        Request::Check { file } => check(rt, alloc, file),
-        Request::Show { file, number } => show(rt, alloc, file, number),
-        Request::Dead { file, number } => dead(rt, alloc, file, number),
+        Request::Check { file } => check(system, alloc, file),
+        Request::Show { file, number } => show(system, alloc, file, number),
+        Request::Dead { file, number } => dead(system, alloc, file, number),
         Request::Replay {
             file,
             number,
             solution,
-        } => replay(rt, alloc, file, number, solution),
-        Request::Best {
-            file,
-            number,
-            limit,
-        } => best(rt, alloc, file, search_of(number, limit)),
+        } => replay(system, alloc, file, number, solution),
+        Request::Solve { file, search } => solve(rt, system, alloc, file, search),
+        Request::Best { file, search } => best(system, alloc, file, search),
         Request::Prove {
             file,
-            number,
             solution,
-            limit,
-        } => prove(rt, alloc, file, solution, search_of(number, limit)),
-        Request::Solve {
-            file,
-            number,
-            workers,
-            locks,
-            limit,
-            cap,
-        } => {
-            let config = config_of(workers, locks, limit, cap);
-            solve(rt, alloc, file, number, config)
-        }
+            search,
+        } => prove(system, alloc, file, solution, search),
+    }
+}
+
+/// Performs a request, and prints why if there is no report. Returns the exit status.
+fn carry_out<'a, R: Eprint + Threads + Wait + Sync, S: System>(
+    rt: &R,
+    system: &S,
+    alloc: Global,
+    request: Request<'a>,
+) -> u8
+    requires { IsInRange request }
+    ensures { Exits S.opens S.File.seen S.Output.seen request.entry result }
+{
+    match perform(rt, system, alloc, request) {
+        Ok(status) => status,
+        Err(trouble) => complain(rt, trouble),
     }
 }
 
@@ -87,13 +94,15 @@ fn explain<R: Print + Eprint>(rt: &R, error: clap::Error) -> u8 {
 }
 
 /// Prints one line that says why there is no report. Returns the exit status.
-fn complain<R: Eprint>(rt: &R, trouble: Trouble<'_>) -> u8 {
+fn complain<R: Eprint>(rt: &R, trouble: Trouble<'_>) -> u8
+    ensures { result ≡ trouble_status trouble.entry }
+{
     // if this line cannot be printed, only the status tells
     let _ = eprintln!(rt; "{trouble}");
     trouble.status()
 }
 
-/// Performs the words of the command line, given the last parts of its help texts. Returns the exit status.
+/// Carries out the words of the command line, given the last parts of its help texts. Returns the exit status.
 fn answer<R: Files + Print + Eprint + Threads + Wait + Sync>(
     rt: &R,
     alloc: Global,
@@ -101,10 +110,7 @@ fn answer<R: Files + Print + Eprint + Threads + Wait + Sync>(
     notes: &Notes,
 ) -> u8 {
     match request::parse(alloc, words, notes) {
-        Ok(request) => match perform(rt, alloc, request) {
-            Ok(status) => status,
-            Err(trouble) => complain(rt, trouble),
-        },
+        Ok(request) => carry_out(rt, &rt, alloc, request),
         Err(error) => explain(rt, error),
     }
 }

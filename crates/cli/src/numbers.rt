@@ -1,21 +1,41 @@
-//! The numbers of a command line.
-ghost use Rattle.std.specs.Prelude.{◌≡◌, ◌≤◌, ◌==◌, IfOk, IfSome, codes, slice_index};
-ghost use Rattle.std.specs.Int.NonZero.{non_zero_u32_get};
-ghost use Rattle.cli.specs.Words.{IsNumber, HasNumber, MayHaveNumber};
+//! The texts and the numbers of a command line.
+ghost use Rattle.std.specs.Prelude.{◌≡◌, ◌==◌, ℕ, List, Option, IfOk, OnErr, IfSome, IfNone, codes, slice_index};
+ghost use Rattle.cli.specs.Words.{HasNumber, HasText, IsNumber, MayHaveNumber};
+ghost use Rattle.cli.specs.declared.arguments.TheConstants.{MOST};
 
+use crate::arguments::MOST;
 use clap::ArgMatches;
 use std::alloc::{AllocError, Global};
-use std::num::NonZeroU32;
 
-/// A value that an argument does not accept.
+/// An argument that is missing, or whose text it does not accept.
 #[derive(Clone, Copy, Debug)]
-pub(crate) struct BadValue<'a> {
-    /// The argument, as the usage line shows it.
+pub(crate) enum BadArgument<'a> {
+    /// The argument, as the usage line shows it, is missing.
+    Missing {
+        argument: &'static str,
+    },
+    /// The text is no number from the least to the greatest one that the argument accepts.
+    Number {
+        argument: &'static str,
+        text: &'a str,
+        least: u32,
+        most: u32,
+    },
+}
+
+/// The text of the argument with this name; `argument` is its name in the usage line.
+pub(crate) fn text_of<'a>(
+    matches: &ArgMatches<'a>,
+    name: &str,
     argument: &'static str,
-    value: &'a str,
-    /// The least and the greatest number that it accepts.
-    least: u32,
-    most: u32,
+) -> Result<&'a str, BadArgument<'a>>
+    ensures ok { IfOk result (λ text. HasText matches.now name.now text.now) }
+    ensures err { OnErr result ((text : List ℕ) → ¬ (HasText matches.now name.now text)) }
+{
+    match matches.get_str(name) {
+        Some(text) => Ok(text),
+        None => Err(BadArgument::Missing { argument }),
+    }
 }
 
 /// Whether a word begins with a plus, which `parse` accepts.
@@ -28,41 +48,23 @@ fn has_plus(word: &str) -> bool
     }
 }
 
-#[tactic(auto, using(crate::proofs::Signs::no_sign))]
-/// A number of the command line: only decimal digits, from 1 to a greatest number.
-fn number_from(word: &str, most: u32) -> Option<NonZeroU32>
-    ensures { IfSome result (λ n. IsNumber word.now (non_zero_u32_get n) × (non_zero_u32_get n ≤ most)) }
+#[tactic(auto, using(crate::proofs::Digits::no_sign, crate::proofs::Digits::no_number))]
+/// The number that a word writes in decimal digits, if it is in the range.
+fn number_from(word: &str, least: u32, most: u32) -> Option<u32>
+    ensures some { IfSome result (λ n. IsNumber least most word.now n) }
+    ensures none { IfNone result ((n : ℕ) → ¬ (IsNumber least most word.now n)) }
 {
     if has_plus(word) {
         return None;
     }
-    let number = word.parse::<NonZeroU32>().ok()?;
-    if number.get() <= most {
-        Some(number)
-    } else {
-        None
-    }
-}
-
-#[tactic(auto, using(crate::proofs::Signs::no_sign))]
-/// A cap of the command line: only decimal digits, from 0 to the greatest `u32`.
-fn cap_from(word: &str) -> Option<u32>
-    ensures { IfSome result (λ n. IsNumber word.now n) }
-{
-    if has_plus(word) {
+    let number = word.parse::<u32>().ok()?;
+    if number < least {
         return None;
     }
-    word.parse::<u32>().ok()
-}
-
-/// The fault of a value that is no number from 1 to the greatest one that its argument accepts.
-fn out_of_range<'a>(argument: &'static str, value: &'a str, most: u32) -> BadValue<'a> {
-    BadValue {
-        argument,
-        value,
-        least: 1,
-        most,
+    if most < number {
+        return None;
     }
+    Some(number)
 }
 
 /// The number of the argument with this name, at most `most`; `argument` is its name in the usage line.
@@ -71,45 +73,54 @@ pub(crate) fn number_of<'a>(
     name: &str,
     argument: &'static str,
     most: u32,
-) -> Result<NonZeroU32, BadValue<'a>>
-    ensures { IfOk result (λ n. HasNumber matches.now name.now (non_zero_u32_get n)) }
+) -> Result<u32, BadArgument<'a>>
+    ensures ok { IfOk result (λ n. HasNumber matches.now name.now most n) }
+    ensures err { OnErr result ((n : ℕ) → ¬ (HasNumber matches.now name.now most n)) }
 {
-    let Some(value) = matches.get_str(name) else {
-        return Err(out_of_range(argument, "", most));
-    };
-    match number_from(value, most) {
+    let text = text_of(matches, name, argument)?;
+    match number_from(text, 1, most) {
         Some(number) => Ok(number),
-        None => Err(out_of_range(argument, value, most)),
-    }
-}
-
-/// The cap of pushes, if one is given.
-pub(crate) fn cap_of<'a>(matches: &ArgMatches<'a>) -> Result<Option<u32>, BadValue<'a>>
-    ensures { IfOk result (λ cap. MayHaveNumber matches.now (codes "max-pushes") cap) }
-{
-    let Some(value) = matches.get_str("max-pushes") else {
-        return Ok(None);
-    };
-    match cap_from(value) {
-        Some(cap) => Ok(Some(cap)),
-        None => Err(BadValue {
-            argument: "--max-pushes <M>",
-            value,
-            least: 0,
-            most: u32::MAX,
+        None => Err(BadArgument::Number {
+            argument,
+            text,
+            least: 1,
+            most,
         }),
     }
 }
 
-/// The text about a value that its argument does not accept.
-pub(crate) fn words_of(alloc: Global, bad: BadValue<'_>) -> Result<String, AllocError> {
-    let BadValue {
-        argument,
-        value,
-        least,
-        most,
-    } = bad;
-    format!(in alloc;
-        "invalid value '{value}' for '{argument}': it takes {least} to {most}, in decimal digits alone"
-    )
+/// The cap of pushes, if one is given.
+pub(crate) fn cap_of<'a>(matches: &ArgMatches<'a>) -> Result<Option<u32>, BadArgument<'a>>
+    ensures ok { IfOk result (λ cap. MayHaveNumber matches.now (codes "max-pushes") MOST cap) }
+    ensures err { OnErr result ((cap : Option ℕ) → ¬ (MayHaveNumber matches.now (codes "max-pushes") MOST cap)) }
+{
+    let Some(text) = matches.get_str("max-pushes") else {
+        return Ok(None);
+    };
+    match number_from(text, 0, MOST) {
+        Some(cap) => Ok(Some(cap)),
+        None => Err(BadArgument::Number {
+            argument: "--max-pushes <M>",
+            text,
+            least: 0,
+            most: MOST,
+        }),
+    }
+}
+
+/// What is wrong with an argument, for the user.
+pub(crate) fn words_of(alloc: Global, bad: BadArgument<'_>) -> Result<String, AllocError> {
+    match bad {
+        BadArgument::Missing { argument } => {
+            format!(in alloc; "the argument '{argument}' is missing")
+        }
+        BadArgument::Number {
+            argument,
+            text,
+            least,
+            most,
+        } => format!(in alloc;
+            "invalid value '{text}' for '{argument}': it takes {least} to {most}, in decimal digits alone"
+        ),
+    }
 }

@@ -1,166 +1,180 @@
 //! The request of a command line.
-ghost use Rattle.std.specs.Prelude.{IfOk};
-ghost use Rattle.std.specs.Int.NonZero.{non_zero_u32_get};
-ghost use Rattle.cli.specs.Requests.{AsksForBest, AsksToProve, AsksToSolve};
+ghost use Rattle.std.specs.Prelude.{ℕ, List, IfOk, IfSome, OnErr, codes};
+ghost use Rattle.cli.specs.Requests.{Asks, AsksFor, AsksToSearch, AsksToSolve, HasSubcommand, IsInRange};
+ghost use Rattle.cli.specs.Words.{HasNumber, HasText};
+ghost use Rattle.cli.specs.declared.arguments.TheConstants.{MOST};
 
-use crate::arguments::{MOST_LOCKS, MOST_WORKERS};
+use crate::arguments::{MOST, MOST_LOCKS, MOST_WORKERS};
 use crate::help::Notes;
-use crate::numbers::{BadValue, cap_of, number_of, words_of};
-use crate::subcommands::{command, usage_of};
+use crate::numbers::{BadArgument, cap_of, number_of, text_of, words_of};
+use crate::subcommands::{Subcommand, command, usage_of};
 use clap::error::ErrorKind;
 use clap::{ArgMatches, Error};
+use crew::Config;
+use sokopar::{SearchRequest, SolveRequest};
 use std::alloc::{AllocError, Global};
-use std::num::NonZeroU32;
 
-/// The request of a command line.
+/// The request of a command line. Levels are counted from 1.
 #[derive(Clone, Copy, Debug)]
 pub enum Request<'a> {
     /// Check the levels of a collection.
     Check {
         file: &'a str,
     },
-    /// Show level N of a collection.
+    /// Show a level of a collection.
     Show {
         file: &'a str,
-        number: NonZeroU32,
+        number: u32,
     },
-    /// Show the dead squares of level N of a collection.
+    /// Show the dead squares of a level of a collection.
     Dead {
         file: &'a str,
-        number: NonZeroU32,
+        number: u32,
     },
-    /// Replay the text of a solution file on level N of a collection.
+    /// Replay the text of a solution file on a level of a collection.
     Replay {
         file: &'a str,
-        number: NonZeroU32,
+        number: u32,
         solution: &'a str,
     },
-    /// Find a solution with the fewest pushes of level N of a collection, under a limit of positions.
-    Best {
-        file: &'a str,
-        number: NonZeroU32,
-        limit: NonZeroU32,
-    },
-    /// Prove that the solution of a file has the fewest pushes on level N of a collection, under a limit of positions.
-    Prove {
-        file: &'a str,
-        number: NonZeroU32,
-        solution: &'a str,
-        limit: NonZeroU32,
-    },
-    /// Solve level N of a collection with some workers and locks, under a limit of positions, and within a cap of
-    /// pushes if one is set.
+    /// Solve a level of a collection.
     Solve {
         file: &'a str,
-        number: NonZeroU32,
-        workers: NonZeroU32,
-        locks: NonZeroU32,
-        limit: NonZeroU32,
-        cap: Option<u32>,
+        search: SolveRequest,
+    },
+    /// Find a solution with the fewest pushes of a level of a collection.
+    Best {
+        file: &'a str,
+        search: SearchRequest,
+    },
+    /// Prove that the solution of a file has the fewest pushes on a level of a collection.
+    Prove {
+        file: &'a str,
+        solution: &'a str,
+        search: SearchRequest,
     },
 }
 
-/// The request of the matches of `solve`.
-fn solve_request<'a>(
-    file: &'a str,
-    number: NonZeroU32,
-    matches: &ArgMatches<'a>,
-) -> Result<Request<'a>, BadValue<'a>>
-    ensures { IfOk result (AsksToSolve file.now (non_zero_u32_get number) matches.now) }
+/// The path of the collection.
+fn file_of<'a>(matches: &ArgMatches<'a>) -> Result<&'a str, BadArgument<'a>>
+    ensures ok { IfOk result (λ text. HasText matches.now (codes "FILE") text.now) }
+    ensures err { OnErr result ((text : List ℕ) → ¬ (HasText matches.now (codes "FILE") text)) }
 {
+    text_of(matches, "FILE", "<FILE>")
+}
+
+/// The path of the solution.
+fn solution_of<'a>(matches: &ArgMatches<'a>) -> Result<&'a str, BadArgument<'a>>
+    ensures ok { IfOk result (λ text. HasText matches.now (codes "SOLUTION") text.now) }
+    ensures err { OnErr result ((text : List ℕ) → ¬ (HasText matches.now (codes "SOLUTION") text)) }
+{
+    text_of(matches, "SOLUTION", "<SOLUTION>")
+}
+
+/// The number of the level.
+fn level_of<'a>(matches: &ArgMatches<'a>) -> Result<u32, BadArgument<'a>>
+    ensures ok { IfOk result (λ n. HasNumber matches.now (codes "N") MOST n) }
+    ensures err { OnErr result ((n : ℕ) → ¬ (HasNumber matches.now (codes "N") MOST n)) }
+{
+    number_of(matches, "N", "<N>", MOST)
+}
+
+/// The limit of positions.
+fn limit_of<'a>(matches: &ArgMatches<'a>) -> Result<u32, BadArgument<'a>>
+    ensures ok { IfOk result (λ n. HasNumber matches.now (codes "limit") MOST n) }
+    ensures err { OnErr result ((n : ℕ) → ¬ (HasNumber matches.now (codes "limit") MOST n)) }
+{
+    number_of(matches, "limit", "--limit <L>", MOST)
+}
+
+/// The level and the settings of `solve`.
+fn solve_request<'a>(matches: &ArgMatches<'a>) -> Result<SolveRequest, BadArgument<'a>>
+    ensures ok { IfOk result (λ search. AsksToSolve matches.now search) }
+    ensures err { OnErr result ((search : SolveRequest) → ¬ (AsksToSolve matches.now search)) }
+{
+    let number = level_of(matches)?;
     let workers = number_of(matches, "workers", "--workers <W>", MOST_WORKERS)?;
     let locks = number_of(matches, "locks", "--locks <K>", MOST_LOCKS)?;
-    let limit = number_of(matches, "limit", "--limit <L>", u32::MAX)?;
+    let limit = limit_of(matches)?;
     let cap = cap_of(matches)?;
-    Ok(Request::Solve {
-        file,
-        number,
-        workers,
-        locks,
+    let config = Config {
+        workers: workers as u8,
+        locks: locks as u8,
         limit,
         cap,
-    })
+    };
+    Ok(SolveRequest { number, config })
 }
 
-/// The request of the matches of `best`.
-fn best_request<'a>(
-    file: &'a str,
-    number: NonZeroU32,
-    matches: &ArgMatches<'a>,
-) -> Result<Request<'a>, BadValue<'a>>
-    ensures { IfOk result (AsksForBest file.now (non_zero_u32_get number) matches.now) }
+/// The level and the settings of `best` or `prove`.
+fn search_request<'a>(matches: &ArgMatches<'a>) -> Result<SearchRequest, BadArgument<'a>>
+    ensures ok { IfOk result (λ search. AsksToSearch matches.now search) }
+    ensures err { OnErr result ((search : SearchRequest) → ¬ (AsksToSearch matches.now search)) }
 {
-    let limit = number_of(matches, "limit", "--limit <L>", u32::MAX)?;
-    Ok(Request::Best {
-        file,
-        number,
-        limit,
-    })
+    let number = level_of(matches)?;
+    let limit = limit_of(matches)?;
+    Ok(SearchRequest { number, limit })
 }
 
-/// The request of the matches of `prove`.
-fn prove_request<'a>(
-    file: &'a str,
-    number: NonZeroU32,
-    solution: &'a str,
+#[tactic(auto, using(crate::proofs::Asking::asks_nothing))]
+/// The request of the arguments of a subcommand.
+fn request_of<'a>(
+    subcommand: Subcommand,
     matches: &ArgMatches<'a>,
-) -> Result<Request<'a>, BadValue<'a>>
-    ensures { IfOk result (AsksToProve file.now (non_zero_u32_get number) solution.now matches.now) }
+) -> Result<Request<'a>, BadArgument<'a>>
+    ensures ok { IfOk result (λ request. Asks subcommand matches.now request) }
+    ensures err { OnErr result ((request : Request) → ¬ (Asks subcommand matches.now request)) }
 {
-    let limit = number_of(matches, "limit", "--limit <L>", u32::MAX)?;
-    Ok(Request::Prove {
-        file,
-        number,
-        solution,
-        limit,
-    })
+    let file = file_of(matches)?;
+    match subcommand {
+        Subcommand::Check => Ok(Request::Check { file }),
+        Subcommand::Show => {
+            let number = level_of(matches)?;
+            Ok(Request::Show { file, number })
+        }
+        Subcommand::Dead => {
+            let number = level_of(matches)?;
+            Ok(Request::Dead { file, number })
+        }
+        Subcommand::Replay => {
+            let number = level_of(matches)?;
+            let solution = solution_of(matches)?;
+            Ok(Request::Replay {
+                file,
+                number,
+                solution,
+            })
+        }
+        Subcommand::Solve => {
+            let search = solve_request(matches)?;
+            Ok(Request::Solve { file, search })
+        }
+        Subcommand::Best => {
+            let search = search_request(matches)?;
+            Ok(Request::Best { file, search })
+        }
+        Subcommand::Prove => {
+            let solution = solution_of(matches)?;
+            let search = search_request(matches)?;
+            Ok(Request::Prove {
+                file,
+                solution,
+                search,
+            })
+        }
+    }
 }
 
-/// The request of the matches of a subcommand on level N.
-fn level_request<'a>(
-    name: &str,
-    file: &'a str,
-    number: NonZeroU32,
-    matches: &ArgMatches<'a>,
-) -> Result<Request<'a>, BadValue<'a>> {
-    if name == "show" {
-        return Ok(Request::Show { file, number });
-    }
-    if name == "dead" {
-        return Ok(Request::Dead { file, number });
-    }
-    if name == "solve" {
-        return solve_request(file, number, matches);
-    }
-    if name == "best" {
-        return best_request(file, number, matches);
-    }
-    let solution = matches.get_str("SOLUTION").unwrap_or("");
-    if name == "prove" {
-        return prove_request(file, number, solution, matches);
-    }
-    Ok(Request::Replay {
-        file,
-        number,
-        solution,
-    })
-}
-
-/// The request of the matches of a subcommand.
-fn request_of<'a>(name: &str, matches: &ArgMatches<'a>) -> Result<Request<'a>, BadValue<'a>> {
-    let file = matches.get_str("FILE").unwrap_or("");
-    if name == "check" {
-        return Ok(Request::Check { file });
-    }
-    let number = number_of(matches, "N", "<N>", u32::MAX)?;
-    level_request(name, file, number, matches)
-}
-
-/// The error that names an argument whose number is out of range or not only digits, with the usage line of the
-/// subcommand of this name.
-fn refusal(alloc: Global, name: &str, bad: BadValue<'_>) -> Result<Error, AllocError> {
+/// The error that names an argument that is missing or whose text it does not accept, with the usage line of the
+/// subcommand.
+fn refusal(
+    alloc: Global,
+    subcommand: Subcommand,
+    bad: BadArgument<'_>,
+    notes: &Notes,
+) -> Result<Error, AllocError> {
     let words = words_of(alloc, bad)?;
-    usage_of(alloc, name)?.error(ErrorKind::ValueValidation, words.as_str())
+    usage_of(alloc, subcommand, notes)?.error(ErrorKind::ValueValidation, words.as_str())
 }
 
 /// The error that there is no subcommand.
@@ -168,24 +182,33 @@ fn missing_subcommand(alloc: Global, notes: &Notes) -> Result<Error, AllocError>
     command(alloc, notes)?.error(ErrorKind::MissingSubcommand, "a subcommand is required")
 }
 
+/// The subcommand of the matches of the command line, with its own matches.
+fn chosen<'m, 'a>(matches: &'m ArgMatches<'a>) -> Option<(Subcommand, &'m ArgMatches<'a>)>
+    ensures { IfSome result (λ both. HasSubcommand matches.now both.0 both.1.now) }
+{
+    let (word, inner) = matches.subcommand()?;
+    Some((Subcommand::named(word)?, inner))
+}
+
 /// The request of the matches of the command line.
-fn asked<'a>(alloc: Global, matches: &ArgMatches<'a>, notes: &Notes) -> Result<Request<'a>, Error> {
-    match matches.subcommand() {
-        Some((name, inner)) => match request_of(name, inner) {
+fn asked<'a>(alloc: Global, matches: &ArgMatches<'a>, notes: &Notes) -> Result<Request<'a>, Error>
+    ensures { IfOk result (λ request. AsksFor matches.now request) }
+{
+    match chosen(matches) {
+        Some((subcommand, inner)) => match request_of(subcommand, inner) {
             Ok(request) => Ok(request),
-            Err(bad) => Err(refusal(alloc, name, bad)?),
+            Err(bad) => Err(refusal(alloc, subcommand, bad, notes)?),
         },
         None => Err(missing_subcommand(alloc, notes)?),
     }
 }
 
+#[tactic(auto, using(crate::proofs::Asking::in_range))]
 /// Reads the words of a command line, given the last parts of its help texts. An error has the text for the user, and
 /// says whether help or the version was requested.
-pub fn parse<'a>(
-    alloc: Global,
-    words: &'a [String],
-    notes: &'a Notes,
-) -> Result<Request<'a>, Error> {
+pub fn parse<'a>(alloc: Global, words: &'a [String], notes: &'a Notes) -> Result<Request<'a>, Error>
+    ensures { IfOk result (λ request. IsInRange request) }
+{
     let matches = command(alloc, notes)?.try_get_matches_from(words)?;
     asked(alloc, &matches, notes)
 }

@@ -1,4 +1,7 @@
 //! The subcommands with their arguments.
+ghost use Rattle.std.specs.Prelude.{◌≡◌, ◌≢◌, IfSome, IfNone};
+ghost use Rattle.cli.specs.Words.{word_of};
+
 use crate::arguments::{
     file_operand, limit_option, locks_option, max_pushes_option, number_operand, solution_operand,
     workers_option,
@@ -8,71 +11,130 @@ use crate::help::Notes;
 use clap::Command;
 use std::alloc::{AllocError, Global};
 
-/// The subcommand `check`.
-fn check_command<'a>(alloc: Global, notes: &'a str) -> Result<Command<'a>, AllocError> {
-    Command::new(alloc, "check")
-        .about("Checks each level")
-        .after_help(notes)
-        .arg(file_operand(alloc))
+/// A subcommand of the program.
+#[derive(Clone, Copy, Debug)]
+pub enum Subcommand {
+    Check,
+    Show,
+    Dead,
+    Replay,
+    Solve,
+    Best,
+    Prove,
 }
 
-/// A subcommand on level N of a collection.
-fn level_command<'a>(
+impl Subcommand {
+    /// All subcommands, in the order of the help text.
+    const ALL: [Subcommand; 7] = [
+        Subcommand::Check,
+        Subcommand::Show,
+        Subcommand::Dead,
+        Subcommand::Replay,
+        Subcommand::Solve,
+        Subcommand::Best,
+        Subcommand::Prove,
+    ];
+
+    /// The subcommand with this word.
+    pub(crate) fn named(word: &str) -> Option<Subcommand>
+        ensures some { IfSome result (λ subcommand. word.now ≡ word_of subcommand) }
+        ensures none { IfNone result ((subcommand : Subcommand) → word.now ≢ word_of subcommand) }
+    {
+        match word {
+            "check" => Some(Subcommand::Check),
+            "show" => Some(Subcommand::Show),
+            "dead" => Some(Subcommand::Dead),
+            "replay" => Some(Subcommand::Replay),
+            "solve" => Some(Subcommand::Solve),
+            "best" => Some(Subcommand::Best),
+            "prove" => Some(Subcommand::Prove),
+            _ => None,
+        }
+    }
+
+    /// Its word.
+    fn word<'a>(self) -> &'a str
+        ensures { result.now ≡ word_of self }
+    {
+        match self {
+            Subcommand::Check => "check",
+            Subcommand::Show => "show",
+            Subcommand::Dead => "dead",
+            Subcommand::Replay => "replay",
+            Subcommand::Solve => "solve",
+            Subcommand::Best => "best",
+            Subcommand::Prove => "prove",
+        }
+    }
+
+    /// What it does, in one line of the help text.
+    fn about<'a>(self) -> &'a str {
+        match self {
+            Subcommand::Check => "Checks each level",
+            Subcommand::Show => "Shows a level in plain rows",
+            Subcommand::Dead => "Shows walls, goals and dead squares of a level",
+            Subcommand::Replay => "Replays a solution on a level",
+            Subcommand::Solve => "Solves a level with the fewest pushes",
+            Subcommand::Best => "Finds a solution with the fewest pushes",
+            Subcommand::Prove => "Proves that a solution has the fewest pushes",
+        }
+    }
+
+    /// The last part of its help text, if it has one.
+    fn notes(self, notes: &Notes) -> Option<&str> {
+        match self {
+            Subcommand::Check => Some(notes.check.as_str()),
+            Subcommand::Show => None,
+            Subcommand::Dead => Some(help::DEAD),
+            Subcommand::Replay => Some(notes.replay.as_str()),
+            Subcommand::Solve => Some(notes.solve.as_str()),
+            Subcommand::Best => Some(notes.best.as_str()),
+            Subcommand::Prove => Some(notes.prove.as_str()),
+        }
+    }
+
+    /// Its command line, with the last part of its help text.
+    pub(crate) fn command<'a>(
+        self,
+        alloc: Global,
+        notes: &'a Notes,
+    ) -> Result<Command<'a>, AllocError> {
+        let line = file_command(alloc, self.word(), self.about(), self.notes(notes))?;
+        match self {
+            Subcommand::Check => Ok(line),
+            Subcommand::Show | Subcommand::Dead => line.arg(number_operand(alloc)),
+            Subcommand::Replay => with_solution(alloc, line),
+            Subcommand::Solve => with_settings(alloc, line),
+            Subcommand::Best => line.arg(number_operand(alloc))?.arg(limit_option(alloc)),
+            Subcommand::Prove => with_solution(alloc, line)?.arg(limit_option(alloc)),
+        }
+    }
+}
+
+/// The command line of a subcommand on a collection, with the last part of its help text, if it has one.
+fn file_command<'a>(
     alloc: Global,
-    name: &'a str,
+    word: &'a str,
     about: &'a str,
+    notes: Option<&'a str>,
 ) -> Result<Command<'a>, AllocError> {
-    Command::new(alloc, name)
-        .about(about)
-        .arg(file_operand(alloc))?
-        .arg(number_operand(alloc))
+    let bare = Command::new(alloc, word).about(about);
+    let line = match notes {
+        Some(text) => bare.after_help(text),
+        None => bare,
+    };
+    line.arg(file_operand(alloc))
 }
 
-/// The subcommand `show`.
-fn show_command<'a>(alloc: Global) -> Result<Command<'a>, AllocError> {
-    level_command(alloc, "show", "Shows a level in plain rows")
-}
-
-/// The subcommand `dead`.
-fn dead_command<'a>(alloc: Global) -> Result<Command<'a>, AllocError> {
-    let command = level_command(
-        alloc,
-        "dead",
-        "Shows walls, goals and dead squares of a level",
-    )?;
-    Ok(command.after_help(help::DEAD))
-}
-
-/// The subcommand `replay`.
-fn replay_command<'a>(alloc: Global, notes: &'a str) -> Result<Command<'a>, AllocError> {
-    level_command(alloc, "replay", "Replays a solution on a level")?
-        .after_help(notes)
+/// A command line with the number of a level and a solution.
+fn with_solution<'a>(alloc: Global, line: Command<'a>) -> Result<Command<'a>, AllocError> {
+    line.arg(number_operand(alloc))?
         .arg(solution_operand(alloc))
 }
 
-/// The subcommand `best`.
-fn best_command<'a>(alloc: Global, notes: &'a str) -> Result<Command<'a>, AllocError> {
-    level_command(alloc, "best", "Finds a solution with the fewest pushes")?
-        .after_help(notes)
-        .arg(limit_option(alloc))
-}
-
-/// The subcommand `prove`.
-fn prove_command<'a>(alloc: Global, notes: &'a str) -> Result<Command<'a>, AllocError> {
-    level_command(
-        alloc,
-        "prove",
-        "Proves that a solution has the fewest pushes",
-    )?
-    .after_help(notes)
-    .arg(solution_operand(alloc))?
-    .arg(limit_option(alloc))
-}
-
-/// The subcommand `solve`.
-fn solve_command<'a>(alloc: Global, notes: &'a str) -> Result<Command<'a>, AllocError> {
-    level_command(alloc, "solve", "Solves a level with the fewest pushes")?
-        .after_help(notes)
+/// A command line with the number of a level and the settings of `solve`.
+fn with_settings<'a>(alloc: Global, line: Command<'a>) -> Result<Command<'a>, AllocError> {
+    line.arg(number_operand(alloc))?
         .arg(workers_option(alloc))?
         .arg(locks_option(alloc))?
         .arg(limit_option(alloc))?
@@ -91,63 +153,22 @@ fn bare_command<'a>(alloc: Global, notes: &'a str) -> Result<Command<'a>, AllocE
     )
 }
 
-/// A command line with the subcommands that show a level.
-fn with_looks<'a>(alloc: Global, line: Command<'a>) -> Result<Command<'a>, AllocError> {
-    line.subcommand(show_command(alloc)?)?
-        .subcommand(dead_command(alloc)?)
-}
-
-/// A command line with the subcommands that replay and solve.
-fn with_plays<'a>(
-    alloc: Global,
-    line: Command<'a>,
-    notes: &'a Notes,
-) -> Result<Command<'a>, AllocError> {
-    line.subcommand(replay_command(alloc, notes.replay.as_str())?)?
-        .subcommand(solve_command(alloc, notes.solve.as_str())?)
-}
-
-/// A command line with the subcommands that search for the fewest pushes.
-fn with_searches<'a>(
-    alloc: Global,
-    line: Command<'a>,
-    notes: &'a Notes,
-) -> Result<Command<'a>, AllocError> {
-    line.subcommand(best_command(alloc, notes.best.as_str())?)?
-        .subcommand(prove_command(alloc, notes.prove.as_str())?)
-}
-
 /// The command line of the program, given the last parts of its help texts.
 pub(crate) fn command<'a>(alloc: Global, notes: &'a Notes) -> Result<Command<'a>, AllocError> {
-    let bare = bare_command(alloc, notes.program.as_str())?;
-    let checks = bare.subcommand(check_command(alloc, notes.check.as_str())?)?;
-    let looks = with_looks(alloc, checks)?;
-    let plays = with_plays(alloc, looks, notes)?;
-    with_searches(alloc, plays, notes)
+    let mut line = bare_command(alloc, notes.program.as_str())?;
+    for subcommand in Subcommand::ALL {
+        line = line.subcommand(subcommand.command(alloc, notes)?)?;
+    }
+    Ok(line)
 }
 
-/// A subcommand with numbers, for its usage line.
-fn own_command<'a>(alloc: Global, name: &str) -> Result<Command<'a>, AllocError> {
-    if name == "show" {
-        return show_command(alloc);
-    }
-    if name == "dead" {
-        return dead_command(alloc);
-    }
-    if name == "replay" {
-        return replay_command(alloc, "");
-    }
-    if name == "best" {
-        return best_command(alloc, "");
-    }
-    if name == "prove" {
-        return prove_command(alloc, "");
-    }
-    solve_command(alloc, "")
-}
-
-/// A subcommand with numbers, whose usage line begins with the program's name.
-pub(crate) fn usage_of<'a>(alloc: Global, name: &str) -> Result<Command<'a>, AllocError> {
-    let words = format!(in alloc; "sokopar {name}")?;
-    own_command(alloc, name)?.bin_name(words.as_str())
+/// The command line of a subcommand, whose usage line begins with the program's name.
+pub(crate) fn usage_of<'a>(
+    alloc: Global,
+    subcommand: Subcommand,
+    notes: &'a Notes,
+) -> Result<Command<'a>, AllocError> {
+    let word = subcommand.word();
+    let words = format!(in alloc; "sokopar {word}")?;
+    subcommand.command(alloc, notes)?.bin_name(words.as_str())
 }

@@ -1,3 +1,7 @@
+ghost use Rattle.std.specs.Prelude.{◌≡◌};
+ghost use Rattle.cli.specs.Performing.{trouble_status};
+ghost use Rattle.cli.specs.declared.trouble.Trouble.TheVariants.{Run};
+
 use sokopar::RunFault;
 use std::fmt;
 
@@ -12,7 +16,9 @@ pub enum Trouble<'a> {
 
 impl Trouble<'_> {
     /// The exit status: 5 if out of memory, otherwise 3.
-    pub fn status(&self) -> u8 {
+    pub fn status(&self) -> u8
+        ensures { result ≡ trouble_status self.now }
+    {
         match self {
             Trouble::Run(RunFault::OutOfMemory) => 5,
             _ => 3,
@@ -21,6 +27,8 @@ impl Trouble<'_> {
 }
 
 impl From<RunFault> for Trouble<'_> {
+    ghost from_gives = { λ fault trouble. trouble ≡ Run fault };
+
     fn from(fault: RunFault) -> Self {
         Trouble::Run(fault)
     }
