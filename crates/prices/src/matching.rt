@@ -53,7 +53,7 @@ impl Matching {
     }
 
     /// The tolls of the first `goals` goals.
-    pub(crate) fn tolls(&self, goals: usize) -> &[u32]
+    pub fn tolls(&self, goals: usize) -> &[u32]
         ensures { length result.now ≤ MAX_BOXES }
     {
         part(&self.tolls, 0, goals.min(MAX_BOXES))
