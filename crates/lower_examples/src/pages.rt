@@ -10,11 +10,11 @@ use claims::Ledger;
 use corrals::Corral;
 use doom::Dead;
 use grid::{Dir, Level, MAX_BOXES, Position, Square, State, Step};
-use groups::Groups;
 use layers::{Book, Layer};
 use lurd::Verdict;
 use prices::{Distances, Matching, Slack};
 use prover::Outcome;
+use regions::Regions;
 use solo::{Answer, solve_alone};
 use std::alloc::Global;
 use std::process::Abort;
@@ -172,16 +172,20 @@ fn page_of_corrals(rt: HostRuntime) {
 }
 
 #[test]
-fn page_of_groups(rt: HostRuntime) {
+fn page_of_regions(rt: HostRuntime) {
     let alloc = rt.alloc();
     let level = level_of(&rt, alloc, BLOCKED);
-    level.tell_start();
     let start = Position::start(&level).expect(&rt, "few boxes");
-    let mut groups = Groups::of_prices(alloc, &level).expect(&rt, "memory");
-    groups.make_tables(alloc, &level, 2).expect(&rt, "memory");
+    assert!(&rt; start.fits(&level));
+    let mut regions = Regions::of_prices(alloc, &level).expect(&rt, "memory");
+    let mut plan = regions.plan(alloc, &level, 1 << 20).expect(&rt, "memory");
+    for task in plan.tasks() {
+        task.run(alloc).expect(&rt, "memory");
+    }
+    regions.take(&level, plan);
     let mut matching = Matching::new();
     // each box is two pushes from a goal, and one of them has to be pushed out of the row and back
-    assert_eq!(&rt; groups.lower(&start, &mut matching), 6);
+    assert_eq!(&rt; regions.lower(&start, &mut matching), 6);
 }
 
 #[test]

@@ -6,8 +6,8 @@ ghost use Rattle.prices.specs.Solving.{Allows};
 ghost use Rattle.prover.specs.Frontier.{IsBound, IsTotal, NoneGoesOn};
 
 use grid::{Level, MAX_BOXES, Position};
-use groups::Groups;
 use prices::{Distances, Matching, NEVER};
+use regions::Regions;
 use std::alloc::{AllocError, Global};
 use std::marker::Model;
 use successors::Problem;
@@ -16,7 +16,7 @@ use successors::Problem;
 #[derive(Debug, Drop)]
 pub(crate) struct Pruner<'a> {
     problem: &'a Problem,
-    groups: Groups,
+    regions: Regions,
 }
 
 impl<'a> Model for Pruner<'a> {
@@ -27,26 +27,32 @@ impl<'a> Model for Pruner<'a> {
 
     ghost view = { λ a. a.problem.now };
 
-    ghost invariant = { λ a. a.groups ≡ a.problem.now.board };
+    ghost invariant = { λ a. a.regions ≡ a.problem.now.board };
 }
 
 impl<'a> Pruner<'a> {
-    /// The pruner of a problem, without tables of groups. Fails only if out of memory.
+    /// The pruner of a problem, without tables of regions. Fails only if out of memory.
     pub(crate) fn of(alloc: Global, problem: &'a Problem) -> Result<Pruner<'a>, AllocError>
         requires { box_count problem.now.board ≤ MAX_BOXES }
         ensures { IfOk result (λ pruner. pruner ≡ problem.now) }
     {
         Ok(Pruner {
             problem,
-            groups: Groups::of_prices(alloc, problem.level())?,
+            regions: Regions::of_prices(alloc, problem.level())?,
         })
     }
 
-    /// Makes the tables of groups of up to `most` boxes. Fails only if out of memory.
-    pub(crate) fn make_tables(&mut self, alloc: Global, most: usize) -> Result<(), AllocError>
+    /// Chooses regions and makes their tables, each of at most `bytes` bytes. Fails only if out of memory.
+    pub(crate) fn make_tables(&mut self, alloc: Global, bytes: usize) -> Result<(), AllocError>
         ensures { self.new ≡ self.old }
     {
-        self.groups.make_tables(alloc, self.problem.level(), most)
+        let level = self.problem.level();
+        let mut plan = self.regions.plan(alloc, level, bytes)?;
+        for task in plan.tasks() {
+            task.run(alloc)?;
+        }
+        self.regions.take(level, plan);
+        Ok(())
     }
 
     /// The problem.
@@ -67,7 +73,7 @@ impl<'a> Pruner<'a> {
     pub(crate) fn distances(&self) -> &Distances
         ensures { result.now.level ≡ self.now.board }
     {
-        self.groups.distances()
+        self.regions.distances()
     }
 
     // A lower bound on the pushes of a play that leads to the position with `pushes` of them and goes on to a solved
@@ -77,13 +83,13 @@ impl<'a> Pruner<'a> {
         ensures bound { IfSome result (λ total. (pushes ≤ total) × IsBound self.now.board pushes position.now total) }
         ensures lost { IfNone result (IsLost self.now.board position.now) }
     {
-        let low = self.groups.lower(position, matching);
+        let low = self.regions.lower(position, matching);
         if low >= u64::from(NEVER) {
-            let lost = self.groups.distances().is_lost(position, matching);
+            let lost = self.regions.distances().is_lost(position, matching);
             if lost {
                 return None;
             }
-            let dead = self.groups.is_dead(position);
+            let dead = self.regions.is_dead(position);
             if dead {
                 return None;
             }

@@ -24,9 +24,9 @@ use std::alloc::{AllocError, Global};
 use std::sync::Arc;
 use successors::Problem;
 
-/// The numbers of positions at which the search makes tables, each with the number of boxes of the largest groups.
+/// The numbers of positions at which the search makes tables of regions, each with the bytes that a table may take.
 /// Making the tables takes about as long as finding that many positions, and many searches end before.
-const STAGES: [(u32, usize); 3] = [(500, 3), (5_000, 4), (50_000, 5)];
+const STAGES: [(u32, usize); 3] = [(500, 128_000), (5_000, 1_000_000), (50_000, 10_000_000)];
 
 /// How a search ends.
 #[derive(Clone, Copy, Debug)]
@@ -151,7 +151,7 @@ fn run_over(
     run_all(alloc, &mut pruner, limit, frontier)
 }
 
-// Expands open positions. Makes tables of larger groups of boxes the more positions it has found.
+// Expands open positions. Makes tables of larger regions the more positions it has found.
 fn run_all(
     alloc: Global,
     pruner: &mut Pruner<'_>,
@@ -163,7 +163,7 @@ fn run_all(
     ensures tells { IfOk result (λ end. Tells pruner.old.board pruner.old.cap limit frontier.new.entries end) }
 {
     let mut reach = 0;
-    for (first, most) in STAGES {
+    for (first, bytes) in STAGES {
         if first >= limit {
             break;
         }
@@ -172,7 +172,7 @@ fn run_all(
             return Ok(end);
         };
         reach = least;
-        pruner.make_tables(alloc, most)?;
+        pruner.make_tables(alloc, bytes)?;
     }
     run(alloc, pruner, reach, limit, frontier)
 }

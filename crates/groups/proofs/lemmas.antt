@@ -1,3 +1,0 @@
--- The lemmas that the proofs of upper crates cite.
-pub mod Excess
-pub mod Tables

@@ -1,0 +1,418 @@
+-- A table of which each set of boxes passes says what is so of each state.
+use Rattle.std.proofs.Common.{◌≡◌, ◌≢◌, ◌+◌, ◌-◌, ◌<◌, ◌≤◌, ◌&&◌, ◌||◌, ◌==◌, ℕ, zero, suc, Bool, true, false, cond, not, List, [], ◌∷◌, drop, length, slice_index_or, take}
+use Rattle.std.proofs.Common.{inl, inr, refl, sym, ap, subst, ◌∙◌, arith}
+use Rattle.std.proofs.Math.ListN.{set}
+use Rattle.std.proofs.lemmas.List.{length-set}
+use Rattle.std.proofs.lemmas.Bool.{and_parts, eqb-true, false≢true, ne_eqb, true≢false}
+use Rattle.grid.specs.declared.dir.Dir.{Dir}
+use Rattle.grid.specs.Squares.{Squares, contains, insert, remove}
+use Rattle.grid.specs.Rising.{rises_from, is_rising}
+use Rattle.grid.specs.Board.{Board, IsSolved, Pushes, Scene, Walks, is_wall, next, opposite}
+use Rattle.grid.specs.Lawful.{IsLevel, box_count}
+use Rattle.grid.specs.States.{FitsLevel}
+use Rattle.grid.proofs.lemmas.Squares.{contains_head, contains-from, contains_tail, contains-remove_out, contains-remove_other, contains-remove_parts}
+use Rattle.grid.proofs.lemmas.Squares.{is_rising-remove, length-remove, rises_from-parts}
+use Rattle.grid.proofs.lemmas.Steps.{inside_grid, next_back}
+use Rattle.prices.specs.Prices.{sum_over}
+use Rattle.prices.proofs.lemmas.Goals.{contains-goals}
+use Rattle.prices.proofs.lemmas.Prices.{sum_inserted, sum_put_back}
+use Rattle.prices.proofs.lemmas.Solved.{solved_are_goals}
+use Rattle.regions.specs.declared.table.RegionTable.{RegionTable}
+use Rattle.regions.specs.Regions.{IsLeft, IsPart, endless}
+use Rattle.regions.specs.inside.Tables.{entry_at, entry_of, high_of, is_seat, low_of, place_of, row_of, says}
+use Rattle.regions.proofs.Each.{none_left}
+use Rattle.regions.proofs.Marks.{Kept, mark_here, mark_other}
+use Rattle.regions.proofs.lemmas.Excess.{same_or}
+use Rattle.regions.specs.inside.Checks.{IsListed, IsOpen, Pays, SetPasses, SetsPass, mark_of, one, sum_where}
+
+-- ---- sums over the seats are sums over the boxes
+
+sum_nothing : (f : ℕ → ℕ) (xs : Squares) → ((q : ℕ) → contains xs q ≡ true → f q ≡ 0) → sum_over f xs ≡ 0
+sum_nothing f [] none = refl
+sum_nothing f (x ∷ xs) none =
+    let here = none x (contains_head x xs) in
+    let rest = sum_nothing f xs (λ q there. none q (contains_tail x xs q there)) in
+    omega (arith, here, rest)
+
+sum_equal : (f g : ℕ → ℕ) (xs : Squares) → ((q : ℕ) → contains xs q ≡ true → f q ≡ g q) → sum_over f xs ≡ sum_over g xs
+sum_equal f g [] same = refl
+sum_equal f g (x ∷ xs) same =
+    let here = same x (contains_head x xs) in
+    let rest = sum_equal f g xs (λ q there. same q (contains_tail x xs q there)) in
+    omega (arith, here, rest)
+
+outside_head : (x : ℕ) (xs : Squares) (q : ℕ) → x ≢ q → contains xs q ≡ false → contains (x ∷ xs) q ≡ false
+outside_head x xs q apart out = ap (λ (b : Bool). b || contains xs q) (ne_eqb x q apart) ∙ out
+
+-- numbers of boxes that are nothing off the seats have the sum of those of the seats with boxes
+abbrev Gathers : (ℕ → ℕ) → Squares → Squares → Type 0
+Gathers f xs ys = ((q : ℕ) → contains ys q ≡ true → contains xs q ≡ false → f q ≡ 0)
+    → sum_over (λ q. cond (contains ys q) (f q) 0) xs ≡ sum_over f ys
+
+gather : (f : ℕ → ℕ) (k : ℕ) (xs ys : Squares) → rises_from k xs ≡ true → is_rising ys ≡ true
+    → Gathers f xs ys
+gather f k [] ys rises rising none = sym (sum_nothing f ys (λ q there. none q there refl))
+gather f k (x ∷ xs) ys rises rising none = by (contains ys x) refl
+    (λ rest. gather f (suc x) xs (remove ys x) parts.1 (is_rising-remove ys x rising) rest)
+    (λ rest. gather f (suc x) xs ys parts.1 rising rest)
+  where
+    parts : (k ≤ x) × (rises_from (suc x) xs ≡ true)
+    parts = rises_from-parts k x xs rises
+
+    apart : (q : ℕ) → contains xs q ≡ true → x ≢ q
+    apart q there e = let from = contains-from (suc x) xs q parts.1 there in omega (arith, e, from)
+
+    by : (b : Bool) → contains ys x ≡ b → Gathers f xs (remove ys x) → Gathers f xs ys
+        → cond b (f x) 0 + sum_over (λ q. cond (contains ys q) (f q) 0) xs ≡ sum_over f ys
+    by true there without with =
+        let put = sum_put_back f 0 ys x rising there in
+        let rest = without (λ q h out. (let both = contains-remove_parts ys x q h in none q both.1 (outside_head x xs q both.0 out))) in
+        let same = sum_equal (λ q. cond (contains (remove ys x) q) (f q) 0) (λ q. cond (contains ys q) (f q) 0) xs
+        (λ q h. ap (λ (b : Bool). cond b (f q) 0) (contains-remove_other ys x q (apart q h))) in
+        omega (arith, put, rest, same)
+    by false gone without with =
+        let rest = with (λ q h out. none q h (outside_head x xs q (λ e. true≢false (sym h ∙ (ap (λ (z : ℕ). contains ys z) (sym e) ∙ gone))) out)) in
+        omega (arith, rest)
+
+abbrev number : Bool → ℕ → ℕ
+number b n = cond b n 0
+
+-- 1 for a seat, 0 for another square
+abbrev seat_one : Squares → ℕ → ℕ
+seat_one xs q = cond (contains xs q) 1 0
+
+-- seats among boxes are no more than the boxes, and fewer where a box is on no seat
+seats_few : (xs ys : Squares) → sum_over (seat_one xs) ys ≤ length ys
+seats_few xs [] = omega arith
+seats_few xs (y ∷ ys) = by (contains xs y) (seats_few xs ys)
+  where
+    by : (b : Bool) → sum_over (seat_one xs) ys ≤ length ys
+        → cond b 1 0 + sum_over (seat_one xs) ys ≤ suc (length ys)
+    by true le = omega (arith, le)
+    by false le = omega (arith, le)
+
+no_seat_one : (xs : Squares) (q : ℕ) → contains xs q ≡ false → seat_one xs q ≡ 0
+no_seat_one xs q out = ap (λ (b : Bool). number b 1) out
+
+seats_fewer : (xs ys : Squares) (q : ℕ) → is_rising ys ≡ true → contains ys q ≡ true → contains xs q ≡ false
+    → suc (sum_over (seat_one xs) ys) ≤ length ys
+seats_fewer xs ys q rising there out =
+    let put = sum_put_back (seat_one xs) 0 ys q rising there in
+    let none = no_seat_one xs q out in
+    let few = seats_few xs (remove ys q) in
+    let size = length-remove ys q rising there in
+    omega (arith, put, none, few, size)
+
+-- ---- a state
+
+-- the boxes that are seen
+abbrev high_in : RegionTable → Scene → ℕ
+high_in t s = sum_over (high_of t) s.boxes
+
+abbrev low_in : RegionTable → Scene → ℕ
+low_in t s = sum_over (low_of t) s.boxes
+
+abbrev seen : Squares → Squares → ℕ → Bool
+seen seats boxes q = contains seats q && contains boxes q
+
+-- how many boxes more there may be on seats
+abbrev room : Board → Squares → Scene → ℕ
+room board seats s = box_count board - sum_where (seen seats s.boxes) one seats
+
+module _ (seats boxes : Squares) where
+  seen_here : (q : ℕ) → contains seats q ≡ true → seen seats boxes q ≡ contains boxes q
+  seen_here q there = ap (λ (b : Bool). b && contains boxes q) there
+
+  not_listed : (q : ℕ) → contains seats q ≡ false → seen seats boxes q ≡ false
+  not_listed q out = ap (λ (b : Bool). b && contains boxes q) out
+
+  not_seen : (q : ℕ) → contains boxes q ≡ false → seen seats boxes q ≡ false
+  not_seen q free = by (contains seats q)
+    where
+      by : (b : Bool) → (b && contains boxes q) ≡ false
+      by true = free
+      by false = refl
+
+  sum_seen : (f : ℕ → ℕ) → is_rising seats ≡ true → is_rising boxes ≡ true
+      → ((q : ℕ) → contains boxes q ≡ true → contains seats q ≡ false → f q ≡ 0) → sum_where (seen seats boxes) f seats ≡ sum_over f boxes
+  sum_seen f first second none =
+      sum_equal (λ q. cond (seen seats boxes q) (f q) 0) (λ q. cond (contains boxes q) (f q) 0) seats
+      (λ q there. ap (λ (b : Bool). cond b (f q) 0) (seen_here q there))
+      ∙ gather f 0 seats boxes first second none
+
+  count_seen : is_rising seats ≡ true → is_rising boxes ≡ true
+      → sum_where (seen seats boxes) one seats ≡ sum_over (seat_one seats) boxes
+  count_seen first second =
+      sum_equal (λ q. cond (seen seats boxes q) (one q) 0) (λ q. cond (contains boxes q) (seat_one seats q) 0) seats
+      (λ q there. counted (contains seats q) (contains boxes q) there)
+      ∙ gather (seat_one seats) 0 seats boxes first second (λ q there out. no_seat_one seats q out)
+    where
+      counted : (a b : Bool) → a ≡ true → number (a && b) 1 ≡ number b (number a 1)
+      counted true true e = refl
+      counted true false e = refl
+      counted false b e = absurd (false≢true e)
+
+no_key : (high low : ℕ) → not ((high == 0) && (low == 0)) ≡ false → (high ≡ 0) × (low ≡ 0)
+no_key high low e =
+    let both = and_parts (high == 0) (low == 0) (by ((high == 0) && (low == 0)) e) in
+    (eqb-true high 0 both.0, eqb-true low 0 both.1)
+  where
+    by : (b : Bool) → not b ≡ false → b ≡ true
+    by true h = refl
+    by false h = absurd (true≢false h)
+
+-- ---- the steps
+
+module _ (board : Board) (t : RegionTable) (waste : ℕ → Dir → ℕ) (seats : Squares) (rising : is_rising seats ≡ true) (listed : IsListed board t seats) where
+  no_seat : (q : ℕ) → is_wall board q ≡ false → contains seats q ≡ false → is_seat t q ≡ false
+  no_seat q floor out = by (is_seat t q) refl
+    where
+      by : (b : Bool) → is_seat t q ≡ b → b ≡ false
+      by true e = absurd (false≢true (sym out ∙ (listed q (inside_grid board q floor)).seat e))
+      by false e = refl
+
+  no_high : (q : ℕ) → is_wall board q ≡ false → contains seats q ≡ false → high_of t q ≡ 0
+  no_high q floor out = (no_key (high_of t q) (low_of t q) (no_seat q floor out)).0
+
+  no_low : (q : ℕ) → is_wall board q ≡ false → contains seats q ≡ false → low_of t q ≡ 0
+  no_low q floor out = (no_key (high_of t q) (low_of t q) (no_seat q floor out)).1
+
+  -- no walk lessens what the row of a set says
+  walk_le : (box : ℕ → Bool) (high low left p : ℕ) (d : Dir) → SetPasses board t waste seats box high low left
+      → IsOpen board box p → IsOpen board box (next board p d)
+      → entry_at t high low p ≤ entry_at t high low (next board p d)
+  walk_le box high low left p d passes here there = by (place_of t p) refl (place_of t q) refl
+    where
+      q : ℕ
+      q = next board p d
+
+      row : ℕ
+      row = row_of t high low
+
+      back : next board q (opposite d) ≡ p
+      back = next_back board p d here.0 there.0
+
+      by : (m : ℕ) → place_of t p ≡ m → (n : ℕ) → place_of t q ≡ n → entry_of t row p ≤ entry_of t row q
+      by zero first zero second =
+          let e : entry_of t row p ≡ entry_of t row q =
+          ap (λ (k : ℕ). slice_index_or t.bytes.items (row + k) 0) (first ∙ sym second) in
+          omega (arith, e)
+      by zero first (suc n) second =
+          let listed_q = (listed q (inside_grid board q there.0)).square (λ e. omega (arith, e, second)) in
+          let keeps = passes.walk q listed_q there (opposite d) (subst (IsOpen board box) (sym back) here) in
+          subst (λ (y : ℕ). place_of t y ≡ 0 → entry_of t row y ≤ entry_of t row q) back keeps.back first
+      by (suc m) first n second =
+          let listed_p = (listed p (inside_grid board p here.0)).square (λ e. omega (arith, e, first)) in
+          (passes.walk p listed_p here d there).there
+
+  module _ (level : IsLevel board) (s : Scene) (fits : FitsLevel board s) where
+    module _ (left : ℕ) (passes : SetPasses board t waste seats (seen seats s.boxes) (high_in t s) (low_in t s) left) where
+      says_home : IsSolved board s → says t s ≡ 0
+      says_home solved =
+          let all = solved_are_goals board s level fits solved in
+          passes.home
+          (λ q there. seen_here seats s.boxes q there ∙ (ap (λ (xs : Squares). contains xs q) all ∙ contains-goals board q))
+          s.player (inside_grid board s.player fits.scene.player.0)
+
+      player_open : IsOpen board (seen seats s.boxes) s.player
+      player_open = (fits.scene.player.0, not_seen seats s.boxes s.player fits.scene.player.1)
+
+      says_walk : (u : Scene) (d : Dir) → Walks board s d u → says t s ≤ says t u
+      says_walk u d step =
+          let q = next board s.player d in
+          let le = walk_le (seen seats s.boxes) (high_in t s) (low_in t s) left s.player d passes player_open (step.0.0, not_seen seats s.boxes q step.0.1) in
+          subst (λ (x : Scene). says t s ≤ says t x) (sym step.1) le
+
+      says_push : (u : Scene) (d : Dir) → Pushes board s d u
+          → ((q : ℕ) → contains s.boxes q ≡ true → contains seats q ≡ false → 1 ≤ left)
+          → let w = waste (next board s.player d) d in w < endless → IsLeft (says t s) w (says t u)
+      says_push u d step more small =
+          subst (λ (x : Scene). IsLeft (says t s) (waste q d) (says t x)) (sym step.2)
+          (subst (λ (k : ℕ). IsLeft (says t s) (waste q d) (entry_at t k (sum_over (low_of t) (insert (remove s.boxes q) r)) q)) (sym (after (high_of t)))
+          (subst (λ (k : ℕ). IsLeft (says t s) (waste q d) (entry_at t (((high_in t s) - high_of t q) + high_of t r) k q)) (sym (after (low_of t)))
+          (by (contains seats q) refl (contains seats r) refl)))
+        where
+          p : ℕ
+          p = s.player
+
+          q : ℕ
+          q = next board p d
+
+          r : ℕ
+          r = next board q d
+
+          floor : is_wall board q ≡ false
+          floor = fits.scene.boxes q step.0
+
+          after : (f : ℕ → ℕ) → sum_over f (insert (remove s.boxes q) r) ≡ (sum_over f s.boxes - f q) + f r
+          after f =
+              let put = sum_put_back f 0 s.boxes q fits.scene.rising step.0 in
+              let new = sum_inserted f (remove s.boxes q) r (contains-remove_out s.boxes q r step.1.1) in
+              omega (arith, put, new)
+
+          back_p : next board q (opposite d) ≡ p
+          back_p = next_back board p d fits.scene.player.0 floor
+
+          back_q : next board r (opposite d) ≡ q
+          back_q = next_back board q d floor step.1.0
+
+          r_open : IsOpen board (seen seats s.boxes) r
+          r_open = (step.1.0, not_seen seats s.boxes r step.1.1)
+
+          by : (m : Bool) → contains seats q ≡ m → (n : Bool) → contains seats r ≡ n
+              → IsLeft (entry_at t (high_in t s) (low_in t s) p) (waste q d) (entry_at t (((high_in t s) - high_of t q) + high_of t r) (((low_in t s) - low_of t q) + low_of t r) q)
+          by true there n to =
+              let pays = (passes.seat q there d).push (seen_here seats s.boxes q there ∙ step.0) floor
+              (subst (IsOpen board (seen seats s.boxes)) (sym back_p) player_open) r_open in
+              subst (λ (x : ℕ). Pays t waste (high_in t s) (low_in t s) x q r d) back_p pays small
+          by false out true to =
+              let pays = (passes.seat r to d).enter (r_open.1) (more q step.0 out) step.1.0
+              (subst (λ (x : ℕ). is_wall board x ≡ false) (sym back_q) floor)
+              (subst (λ (x : ℕ). is_seat t x ≡ false) (sym back_q) (no_seat q floor out))
+              (subst (λ (x : ℕ). IsOpen board (seen seats s.boxes) (next board x (opposite d))) (sym back_q) (subst (IsOpen board (seen seats s.boxes)) (sym back_p) player_open)) in
+              subst (λ (x : ℕ). Pays t waste (high_in t s) (low_in t s) x q r d) back_p
+              (subst (λ (x : ℕ). Pays t waste (high_in t s) (low_in t s) (next board x (opposite d)) x r d) back_q pays) small
+          by false out false beyond =
+              let le = walk_le (seen seats s.boxes) (high_in t s) (low_in t s) left p d passes player_open (floor, not_listed seats s.boxes q out) in
+              let a = no_high q floor out in
+              let b = no_low q floor out in
+              let c = no_high r step.1.0 beyond in
+              let e = no_low r step.1.0 beyond in
+              let first : (high_in t s) ≡ ((high_in t s) - high_of t q) + high_of t r = omega (arith, a, c) in
+              let second : (low_in t s) ≡ ((low_in t s) - low_of t q) + low_of t r = omega (arith, b, e) in
+              subst (λ (k : ℕ). IsLeft (entry_at t (high_in t s) (low_in t s) p) (waste q d) (entry_at t k (((low_in t s) - low_of t q) + low_of t r) q)) first
+              (subst (λ (k : ℕ). IsLeft (entry_at t (high_in t s) (low_in t s) p) (waste q d) (entry_at t (high_in t s) k q)) second
+              (record { less = omega (arith, le); stuck = λ big. omega (arith, le, big) }))
+
+  module _ (level : IsLevel board) (marks : ℕ → Bool) (none : (q : ℕ) → marks q ≡ false)
+      (all : SetsPass board t waste seats seats marks 0 0 (box_count board)) where
+    set_of : (s : Scene) → FitsLevel board s → SetPasses board t waste seats (seen seats s.boxes) (sum_over (high_of t) s.boxes) (sum_over (low_of t) s.boxes) (room board seats s)
+    set_of s fits =
+        let boxes = s.boxes in
+        let few = seats_few seats boxes in
+        let count = count_seen seats boxes rising fits.scene.rising in
+        let size = fits.boxes in
+        let it = all (seen seats boxes) (λ q out. none q ∙ sym (not_listed seats boxes q out)) (omega (arith, few, count, size)) in
+        let highs = sum_seen seats boxes (high_of t) rising fits.scene.rising (λ q there out. no_high q (fits.scene.boxes q there) out) in
+        let lows = sum_seen seats boxes (low_of t) rising fits.scene.rising (λ q there out. no_low q (fits.scene.boxes q there) out) in
+        let first : 0 + sum_where (seen seats boxes) (high_of t) seats ≡ sum_over (high_of t) boxes = omega (arith, highs) in
+        let second : 0 + sum_where (seen seats boxes) (low_of t) seats ≡ sum_over (low_of t) boxes = omega (arith, lows) in
+        subst (λ (k : ℕ). SetPasses board t waste seats (seen seats boxes) k (sum_over (low_of t) boxes) (room board seats s)) first
+        (subst (λ (k : ℕ). SetPasses board t waste seats (seen seats boxes) (0 + sum_where (seen seats boxes) (high_of t) seats) k (room board seats s)) second it)
+
+    -- where a box is on no seat, there may be one box more
+    room_left : (s : Scene) → FitsLevel board s → (q : ℕ) → contains s.boxes q ≡ true → contains seats q ≡ false → 1 ≤ room board seats s
+    room_left s fits q there out =
+        let fewer = seats_fewer seats s.boxes q fits.scene.rising there out in
+        let count = count_seen seats s.boxes rising fits.scene.rising in
+        let size = fits.boxes in
+        omega (arith, fewer, count, size)
+
+    pub table_is_part : IsPart board waste (says t)
+    table_is_part = record {
+      home = λ s fits solved. says_home level s fits (room board seats s) (set_of s fits) solved;
+      walk = λ s u d fits step. says_walk level s fits (room board seats s) (set_of s fits) u d step;
+      push = λ s u d fits step small. says_push level s fits (room board seats s) (set_of s fits) u d step (room_left s fits) small;
+    }
+
+-- ---- one seat more
+
+module _ (board : Board) (t : RegionTable) (waste : ℕ → Dir → ℕ) (seats : Squares) where
+  -- the marks are the boxes
+  pub sets_end : (marks : ℕ → Bool) (high low left : ℕ) → SetPasses board t waste seats marks high low left
+      → SetsPass board t waste seats [] marks high low left
+  sets_end marks high low left passes box same few =
+      let a : high ≡ high + 0 = omega arith in
+      let b : low ≡ low + 0 = omega arith in
+      let c : left ≡ left - 0 = omega arith in
+      subst (λ (k : ℕ). SetPasses board t waste seats box k (low + 0) (left - 0)) a
+      (subst (λ (k : ℕ). SetPasses board t waste seats box high k (left - 0)) b
+      (subst (λ (k : ℕ). SetPasses board t waste seats box high low k) c
+      (subst (λ (f : ℕ → Bool). SetPasses board t waste seats f high low left) (λ i. λ q. same q refl i) passes)))
+
+  -- the first seat has no box, or has one
+  pub sets_next : (x : ℕ) (xs : Squares) (marks without with : ℕ → Bool) (high low left : ℕ)
+      → ((q : ℕ) → x ≢ q → contains xs q ≡ false → without q ≡ marks q) → (contains xs x ≡ false → without x ≡ false)
+      → ((q : ℕ) → x ≢ q → contains xs q ≡ false → with q ≡ marks q) → (contains xs x ≡ false → with x ≡ true)
+      → SetsPass board t waste seats xs without high low left
+      → (1 ≤ left → SetsPass board t waste seats xs with (high + high_of t x) (low + low_of t x) (left - 1))
+      → SetsPass board t waste seats (x ∷ xs) marks high low left
+  sets_next x xs marks without with high low left others gone others_too here first second box same few = by (box x) refl
+    where
+      tail : (m : ℕ → Bool) (b : Bool) → box x ≡ b → ((q : ℕ) → x ≢ q → contains xs q ≡ false → m q ≡ marks q) → (contains xs x ≡ false → m x ≡ b)
+          → (q : ℕ) → contains xs q ≡ false → m q ≡ box q
+      tail m b is apart at_x q out = elim (same_or x q) [
+        | inl e ↦ subst (λ (z : ℕ). contains xs z ≡ false → m z ≡ box z) e (λ o. at_x o ∙ sym is) out
+        | inr other ↦ apart q other out ∙ same q (outside_head x xs q other out)
+      ]
+
+      count : (b : Bool) → box x ≡ b → cond b 1 0 + sum_where box one xs ≤ left
+      count b is = subst (λ (u : Bool). cond u 1 0 + sum_where box one xs ≤ left) is few
+
+      highs : ℕ
+      highs = sum_where box (high_of t) xs
+
+      lows : ℕ
+      lows = sum_where box (low_of t) xs
+
+      ones : ℕ
+      ones = sum_where box one xs
+
+      by : (b : Bool) → box x ≡ b
+          → SetPasses board t waste seats box (high + (cond (box x) (high_of t x) 0 + highs)) (low + (cond (box x) (low_of t x) 0 + lows))
+          (left - (cond (box x) (one x) 0 + ones))
+      by false is =
+          let le = count false is in
+          let it = first box (tail without false is others gone) (omega (arith, le)) in
+          let a : high + highs ≡ high + (0 + highs) = omega arith in
+          let b : low + lows ≡ low + (0 + lows) = omega arith in
+          let c : left - ones ≡ left - (0 + ones) = omega arith in
+          subst (λ (u : Bool). SetPasses board t waste seats box (high + (cond u (high_of t x) 0 + highs)) (low + (cond u (low_of t x) 0 + lows))
+          (left - (cond u (one x) 0 + ones))) (sym is)
+          (subst (λ (k : ℕ). SetPasses board t waste seats box k (low + (0 + lows)) (left - (0 + ones))) a
+          (subst (λ (k : ℕ). SetPasses board t waste seats box (high + highs) k (left - (0 + ones))) b
+          (subst (λ (k : ℕ). SetPasses board t waste seats box (high + highs) (low + lows) k) c it)))
+      by true is =
+          let le = count true is in
+          let it = second (omega (arith, le)) box (tail with true is others_too here) (omega (arith, le)) in
+          let a : (high + high_of t x) + highs ≡ high + (high_of t x + highs) = omega arith in
+          let b : (low + low_of t x) + lows ≡ low + (low_of t x + lows) = omega arith in
+          let c : (left - 1) - ones ≡ left - (1 + ones) = omega arith in
+          subst (λ (u : Bool). SetPasses board t waste seats box (high + (cond u (high_of t x) 0 + highs)) (low + (cond u (low_of t x) 0 + lows))
+          (left - (cond u (one x) 0 + ones))) (sym is)
+          (subst (λ (k : ℕ). SetPasses board t waste seats box k (low + (low_of t x + lows)) (left - (1 + ones))) a
+          (subst (λ (k : ℕ). SetPasses board t waste seats box ((high + high_of t x) + highs) k (left - (1 + ones))) b
+          (subst (λ (k : ℕ). SetPasses board t waste seats box ((high + high_of t x) + highs) ((low + low_of t x) + lows) k) c it)))
+
+  -- so it is with marks in a list
+  pub end_of : (rest : Squares) (m : List Bool) (high low left : ℕ) → length rest < 1 → SetPasses board t waste seats (mark_of m) high low left
+      → SetsPass board t waste seats rest (mark_of m) high low left
+  end_of rest m high low left none passes =
+      subst (λ (xs : Squares). SetsPass board t waste seats xs (mark_of m) high low left) (sym (none_left rest none)) (sets_end (mark_of m) high low left passes)
+
+  pub next_of : (rest : Squares) (x at : ℕ) (m n : List Bool) (high low left high_with low_with : ℕ) → rest ≡ (x ∷ take (length rest - 1) (drop 1 rest)) → at ≡ x
+      → at < length m → length n ≡ length (set m at false)
+      → let xs = take (length rest - 1) (drop 1 rest) in Kept xs n (set m at false)
+      → SetsPass board t waste seats xs (mark_of (set m at false)) high low left
+      → high_with ≡ high + high_of t x → low_with ≡ low + low_of t x
+      → (1 ≤ left → SetsPass board t waste seats xs (mark_of (set n at true)) high_with low_with (left - 1))
+      → SetsPass board t waste seats rest (mark_of m) high low left
+  next_of rest x at m n high low left high_with low_with split same inside size kept first highs lows second =
+      let xs = take (length rest - 1) (drop 1 rest) in
+      subst (λ (ys : Squares). SetsPass board t waste seats ys (mark_of m) high low left) (sym split)
+      (sets_next x xs (mark_of m) (mark_of (set m at false)) (mark_of (set n at true)) high low left
+      (λ q apart out. mark_other m at false q (λ e. apart (sym same ∙ e)))
+      (λ out. subst (λ (z : ℕ). mark_of (set m at false) z ≡ false) same (mark_here m at false inside))
+      (λ q apart out. mark_other n at true q (λ e. apart (sym same ∙ e)) ∙ (kept q out ∙ mark_other m at false q (λ e. apart (sym same ∙ e))))
+      (λ out. subst (λ (z : ℕ). mark_of (set n at true) z ≡ true) same (mark_here n at true (omega (arith, inside, size, length-set m at false))))
+      first (λ some. subst (λ (k : ℕ). SetsPass board t waste seats xs (mark_of (set n at true)) k (low + low_of t x) (left - 1)) highs
+      (subst (λ (k : ℕ). SetsPass board t waste seats xs (mark_of (set n at true)) high_with k (left - 1)) lows (second some))))
+
+-- where all sets pass, the table says what is so
+pub part_of_all : (board : Board) (t : RegionTable) (waste : ℕ → Dir → ℕ) (seats rest : Squares) (m : List Bool) (left : ℕ) → IsLevel board → rest ≡ seats
+    → is_rising rest ≡ true → IsListed board t seats → left ≡ box_count board → ((q : ℕ) → mark_of m q ≡ false)
+    → SetsPass board t waste seats rest (mark_of m) 0 0 left → IsPart board waste (says t)
+part_of_all board t waste seats rest m left level same rises listed room_is none all =
+    table_is_part board t waste seats (subst (λ (xs : Squares). is_rising xs ≡ true) same rises) listed level (mark_of m) none
+    (subst (λ (xs : Squares). SetsPass board t waste seats xs (mark_of m) 0 0 (box_count board)) same
+    (subst (λ (k : ℕ). SetsPass board t waste seats rest (mark_of m) 0 0 k) room_is all))

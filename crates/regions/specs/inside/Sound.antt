@@ -1,0 +1,18 @@
+-- Sets of regions whose tables are true.
+use Rattle.std.specs.Prelude.{ℕ, Option, Some, None, List}
+use Rattle.prices.specs.inside.Tables.{far_in}
+use Rattle.prices.specs.inside.Views.{DistancesView}
+use Rattle.regions.specs.declared.plan.Plan.{Plan}
+use Rattle.regions.specs.Regions.{ArePaid, AreParts}
+use Rattle.regions.specs.inside.Needs.{need_under}
+use Rattle.regions.specs.inside.Views.{TaskView, parts_of}
+
+-- the tables are those of the level, and count no more for a push than it wastes under the tolls
+pub record AreSound (v : DistancesView) (tolls : List ℕ) (tasks : List TaskView) : Type 0 where
+  pub parts : AreParts v.level (parts_of tasks)
+  pub paid : ArePaid v.level (far_in v.table) (need_under v tolls) (parts_of tasks)
+
+-- so it is with a plan, if there is one
+abbrev pub IsTaken : DistancesView → Option Plan → Type 0
+IsTaken v None = Unit {0}
+IsTaken v (Some plan) = AreSound v plan.tolls.items plan.tasks.items

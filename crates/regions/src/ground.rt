@@ -1,0 +1,204 @@
+//! The places of a region and the pulls of boxes there. They have no contract: the table that they fill is checked.
+
+use crate::rows::MOST_SEATS;
+use crate::table::{ENDLESS, Key, waste_at};
+use crate::wastes::{beside, is_live};
+use grid::{Dir, Level, Square};
+use std::alloc::{AllocError, Global};
+
+/// A place of a region: its seat as a bit, or 0 if a box there is not seen, and the places beside it as bits.
+#[derive(Clone, Copy, Default)]
+pub(crate) struct Spot {
+    pub(crate) seat: u32,
+    pub(crate) beside: u64,
+}
+
+/// A pull, which undoes a push: the player's places before and after it, and the seats, as bits, that the box leaves
+/// and comes to and that the player comes to. A seat is 0 if a box there is not seen.
+#[derive(Clone, Copy)]
+pub(crate) struct Pull {
+    pub(crate) from: u8,
+    pub(crate) to: u8,
+    pub(crate) left: u32,
+    pub(crate) entered: u32,
+    pub(crate) player: u32,
+    pub(crate) waste: u8,
+}
+
+/// A level, and a region of it that counts these wastes of pushes: four for each square, in the order of the
+/// directions.
+#[derive(Clone, Copy)]
+pub(crate) struct Site<'a> {
+    pub(crate) level: &'a Level,
+    pub(crate) wastes: &'a [u8],
+    pub(crate) squares: &'a [Square],
+}
+
+/// A region's squares with their places and seats, and its pulls.
+#[derive(Drop)]
+pub(crate) struct Ground {
+    /// The place of each square of the level: 0 outside the region.
+    pub(crate) places: Vec<u8>,
+    /// By place: 0 is outside.
+    pub(crate) spots: Vec<Spot>,
+    /// The place of each seat.
+    pub(crate) seats: Vec<u8>,
+    /// The pulls of boxes from the first seat, then from the second and so on, then those of boxes that are not seen.
+    pub(crate) pulls: Vec<Pull>,
+    /// For each seat, the index of its first pull; then that of the first pull of a box that is not seen.
+    pub(crate) firsts: Vec<usize>,
+}
+
+/// The places and pulls of a region.
+pub(crate) fn ground_of(alloc: Global, site: &Site<'_>) -> Result<Ground, AllocError> {
+    let mut ground = Ground {
+        places: vec![in alloc; 0; site.level.squares()]?,
+        spots: vec![in alloc; Spot::default(); site.squares.len().saturating_add(1)]?,
+        seats: Vec::new(alloc),
+        pulls: Vec::new(alloc),
+        firsts: Vec::new(alloc),
+    };
+    ground.number(site)?;
+    for square in site.squares {
+        ground.connect(site.level, *square);
+    }
+    for square in site.squares {
+        ground.list_pulls_from(site, *square)?;
+    }
+    let unseen = ground.pulls.len();
+    ground.firsts.push(unseen)?;
+    for square in site.squares {
+        ground.list_pulls_into_sight(site, *square)?;
+    }
+    Ok(ground)
+}
+
+/// The key of each square of the level, with so many seats in the low half.
+pub(crate) fn keys_of(alloc: Global, ground: &Ground, half: u32) -> Result<Vec<Key>, AllocError> {
+    let mut keys = Vec::with_capacity(alloc, ground.places.len())?;
+    for place in ground.places.as_slice() {
+        let seat = ground.spot(*place as usize).seat;
+        let half = half % 32;
+        keys.push(Key {
+            high: seat >> half,
+            low: seat & ((1 << half) - 1),
+        })?;
+    }
+    Ok(keys)
+}
+
+impl Ground {
+    /// The spot of a place.
+    #[inline(always)]
+    pub(crate) fn spot(&self, place: usize) -> Spot {
+        match self.spots.get(place) {
+            Some(spot) => *spot,
+            None => Spot { seat: 0, beside: 0 },
+        }
+    }
+
+    /// The place of a square: 0 outside the region.
+    #[inline(always)]
+    fn place(&self, square: Square) -> u8 {
+        match self.places.get(square.0 as usize) {
+            Some(place) => *place,
+            None => 0,
+        }
+    }
+
+    // The seat of a square.
+    fn seat(&self, square: Square) -> u32 {
+        self.spot(self.place(square) as usize).seat
+    }
+
+    // Gives the squares places, and the live ones seats.
+    fn number(&mut self, site: &Site<'_>) -> Result<(), AllocError> {
+        for (index, square) in site.squares.iter().enumerate() {
+            let number = u8::try_from(index).unwrap_or(u8::MAX).saturating_add(1);
+            if let Some(place) = self.places.as_mut_slice().get_mut(square.0 as usize) {
+                *place = number;
+            }
+            let seats = self.seats.len();
+            if seats < MOST_SEATS && is_live(site.level, site.wastes, *square) {
+                if let Some(spot) = self.spots.as_mut_slice().get_mut(number as usize) {
+                    spot.seat = 1 << (seats % 32);
+                }
+                self.seats.push(number)?;
+            }
+        }
+        Ok(())
+    }
+
+    // Connects the place of a square with those beside it.
+    fn connect(&mut self, level: &Level, square: Square) {
+        let place = self.place(square) as usize;
+        for dir in Dir::ALL {
+            if let Some(next) = beside(level, square, dir) {
+                let other = self.place(next) as usize;
+                self.link(place, other);
+                self.link(other, place);
+            }
+        }
+    }
+
+    // Enters a place beside another.
+    fn link(&mut self, place: usize, other: usize) {
+        if let Some(spot) = self.spots.as_mut_slice().get_mut(place) {
+            spot.beside |= 1 << (other % 64);
+        }
+    }
+
+    // Lists the pulls of a box from a square, if it has a seat.
+    fn list_pulls_from(&mut self, site: &Site<'_>, square: Square) -> Result<(), AllocError> {
+        if self.seat(square) == 0 {
+            return Ok(());
+        }
+        let first = self.pulls.len();
+        self.firsts.push(first)?;
+        for dir in Dir::ALL {
+            if let Some(from) = beside(site.level, square, dir.opposite()) {
+                self.list_pull(site, from, dir)?;
+            }
+        }
+        Ok(())
+    }
+
+    // Lists the pulls of boxes that are not seen to a square, if it has a seat.
+    fn list_pulls_into_sight(&mut self, site: &Site<'_>, square: Square) -> Result<(), AllocError> {
+        if self.seat(square) == 0 {
+            return Ok(());
+        }
+        for dir in Dir::ALL {
+            if let Some(to) = beside(site.level, square, dir) {
+                if self.seat(to) == 0 {
+                    self.list_pull(site, square, dir)?;
+                }
+            }
+        }
+        Ok(())
+    }
+
+    // Lists the pull that undoes a push of a box from a square, unless the box can come to no goal after the push.
+    fn list_pull(&mut self, site: &Site<'_>, square: Square, dir: Dir) -> Result<(), AllocError> {
+        let Some(player) = beside(site.level, square, dir.opposite()) else {
+            return Ok(());
+        };
+        let Some(to) = beside(site.level, square, dir) else {
+            return Ok(());
+        };
+        let waste = waste_at(site.wastes, square, dir);
+        if waste == ENDLESS {
+            return Ok(());
+        }
+        let pull = Pull {
+            from: self.place(square),
+            to: self.place(player),
+            left: self.seat(to),
+            entered: self.seat(square),
+            player: self.seat(player),
+            waste,
+        };
+        self.pulls.push(pull)?;
+        Ok(())
+    }
+}

@@ -1,0 +1,158 @@
+ghost use Rattle.std.specs.Prelude.{◌≡◌, IfOk, IsTrue};
+ghost use Rattle.regions.specs.Regions.{IsPart};
+ghost use Rattle.regions.specs.inside.Tables.{said, waste_in};
+
+use crate::check::passes;
+use crate::choosing::Choice;
+use crate::filling::fill;
+use crate::table::{ENDLESS, RegionTable, byte_at, waste_at};
+use grid::{Dir, Level, Position, Square};
+use std::alloc::{AllocError, Global};
+use std::marker::Model;
+
+/// Regions that were chosen for a level, each with the task to make its table, and a toll for each goal.
+#[derive(Debug, Drop)]
+pub struct Plan {
+    pub(crate) tolls: Vec<u32>,
+    pub(crate) tasks: Vec<Task>,
+}
+
+/// A region of a level: its squares, and the waste that it counts of each push, four for each square in the order of
+/// directions. The table, once it is made, has passed the check. Contracts see the level, the waste and the table.
+#[derive(Debug, Drop)]
+pub struct Task {
+    pub(crate) level: Level,
+    pub(crate) squares: Vec<Square>,
+    pub(crate) wastes: Vec<u8>,
+    pub(crate) table: Option<RegionTable>,
+}
+
+impl Model for Task {
+    ghost use Rattle.std.specs.Prelude.{◌≡◌};
+    ghost use Rattle.regions.specs.Regions.{IsPart};
+    ghost use Rattle.regions.specs.inside.Tables.{said, waste_in};
+    ghost use Rattle.regions.specs.inside.Views.{TaskView};
+
+    ghost Value = { TaskView };
+
+    ghost view = { λ a. record { board = a.level; wastes = a.wastes.items; table = a.table } };
+
+    ghost invariant = { λ a. IsPart a.level (waste_in a.wastes.items) (said a.table) };
+}
+
+impl Plan {
+    /// The tasks, one for each region. They are independent of each other: run them in any order, in any threads.
+    pub fn tasks(&mut self) -> &mut [Task] {
+        self.tasks.as_mut_slice()
+    }
+}
+
+impl Task {
+    /// Makes the table of the region and checks it. A table that does not pass is left out. Takes up to some seconds.
+    /// Fails only if out of memory, and then there is no table.
+    pub fn run(&mut self, alloc: Global) -> Result<(), AllocError> {
+        self.table = None;
+        self.table = checked(
+            alloc,
+            &self.level,
+            self.wastes.as_slice(),
+            self.squares.as_slice(),
+        )?;
+        Ok(())
+    }
+
+    /// States that the table says nothing that is not so. It does nothing; call it in proofs.
+    pub(crate) fn tell(&self)
+        ensures { IsPart self.now.board (waste_in self.now.wastes) (said self.now.table) }
+    {
+        let _ = &self.table;
+    }
+
+    /// Whether the task is of this level.
+    pub(crate) fn is_of(&self, level: &Level) -> bool
+        ensures { IsTrue result → self.now.board ≡ level.now }
+    {
+        self.level == *level
+    }
+
+    /// What the region says of a position; 0 without a table.
+    pub(crate) fn says(&self, position: &Position) -> u8
+        ensures { result ≡ said self.now.table position.now }
+    {
+        match &self.table {
+            Some(table) => table.says(position),
+            None => 0,
+        }
+    }
+
+    /// What the region counts of a push of a box on the square.
+    #[inline(always)]
+    pub(crate) fn waste(&self, square: Square, dir: Dir) -> u8
+        ensures { result ≡ waste_in self.now.wastes square dir }
+    {
+        waste_at(self.wastes.as_slice(), square, dir)
+    }
+}
+
+// The table of a region, if it passes the check.
+fn checked(
+    alloc: Global,
+    level: &Level,
+    wastes: &[u8],
+    squares: &[Square],
+) -> Result<Option<RegionTable>, AllocError>
+    ensures { IfOk result (λ table. IsPart level.now (waste_in wastes.now) (said table)) }
+{
+    let Some(table) = fill(alloc, level, wastes, squares)? else {
+        return Ok(None);
+    };
+    let good = passes(alloc, level, wastes, &table)?;
+    if good {
+        return Ok(Some(table));
+    }
+    Ok(None)
+}
+
+/// The plan of a choice of regions.
+pub(crate) fn plan_of(alloc: Global, level: &Level, choice: Choice) -> Result<Plan, AllocError> {
+    let Choice {
+        tolls,
+        wastes,
+        owners,
+        mut regions,
+    } = choice;
+    let mut tasks = Vec::new(alloc);
+    for _ in 0..regions.len() {
+        let Some(squares) = regions.pop() else {
+            break;
+        };
+        let counted = wastes_of(alloc, wastes.as_slice(), owners.as_slice(), regions.len())?;
+        tasks.push(Task {
+            level: level.copy()?,
+            squares,
+            wastes: counted,
+            table: None,
+        })?;
+    }
+    Ok(Plan { tolls, tasks })
+}
+
+// The waste that the region with this index counts of each push: none of a push from a square that it does not own.
+fn wastes_of(
+    alloc: Global,
+    wastes: &[u8],
+    owners: &[u8],
+    region: usize,
+) -> Result<Vec<u8>, AllocError> {
+    let mut counted = Vec::new(alloc);
+    for index in 0..wastes.len() {
+        let owner = byte_at(owners, index / 4) as usize;
+        let waste = if wastes[index] == ENDLESS || owner > 0 && owner - 1 == region {
+            wastes[index]
+        } else {
+            0
+        };
+        counted.push(waste)?;
+    }
+    Ok(counted)
+}
