@@ -63,10 +63,15 @@ def bounds(bench):
         yield f"{words[0]} of {name}, {len(file) + len(moves)} bytes, within {most} bytes", fault
 
 
+def memory_stated(pattern):
+    """The bytes that README states, in MB."""
+    with open(os.path.join(ROOT, "README.md"), encoding="utf-8") as it:
+        return int(re.search(pattern, it.read(), re.MULTILINE)[1]) * 10**6
+
+
 def memory_at_limit():
     """The bytes that README states for searches at the default limit."""
-    with open(os.path.join(ROOT, "README.md"), encoding="utf-8") as it:
-        return int(re.search(r"^\| 1000000 \| (\d+) MB", it.read(), re.MULTILINE)[1]) * 10**6
+    return memory_stated(r"^\| 1000000 \| (\d+) MB")
 
 
 def limits(bench, workers, locks):
@@ -81,8 +86,9 @@ def limits(bench, workers, locks):
 def limits_of_best(bench, limit):
     """The same of `best`, which ends at the limit with a right bound."""
     level, pushes = greatest.crossing(6, 3, 10, 11)
-    most, (asked, got) = memory_at_limit() * limit // PLENTY, asked_by(
-        bench, ["best", bench.file(level), "1", "--limit", str(limit)])
+    tables = memory_stated(r"^- Tables of `best` and `prove` take up to (\d+) MB")
+    most = memory_at_limit() * limit // PLENTY + tables
+    asked, got = asked_by(bench, ["best", bench.file(level), "1", "--limit", str(limit)])
     reports = [(4, b"limit %d reached, at least %d pushes\n" % (limit, it), b"") for it in (pushes, pushes + 2)]
     fault = f"{got}, not one of {reports}" if got not in reports else f"{asked} bytes" if most < asked else None
     yield f"limit {limit}, within {most} bytes", fault
