@@ -227,8 +227,9 @@ them in a fixed order and counts positions, and usually needs more positions.
 
 The search counts the positions that it stores, and stops when they exceed the
 limit. In rooms of ordinary size a position takes as much memory as in 'sokopar
-solve' and 10 to 60 microseconds, so the default limit takes up to a minute. In
-open rooms with 30 boxes or more it takes up to 200 microseconds.
+solve', and tables take up to 150 MB more. A position takes 10 to 60
+microseconds, so the default limit takes up to a minute. In open rooms with 30
+boxes or more it takes up to 200 microseconds.
 
 Examples:
   sokopar best levels.xsb 1
