@@ -51,9 +51,18 @@ fn faults(rt: HostRuntime) {
     }
 }
 
+// A text that repeats an item.
+fn repeated(alloc: Global, item: &[u8], times: usize) -> Result<Vec<u8>, Fail> {
+    let mut text = Vec::new(alloc);
+    for _ in 0..times {
+        text.extend_from_slice(item)?;
+    }
+    Ok(text)
+}
+
 #[test]
 fn more_than_a_million_moves(rt: HostRuntime) -> Result<(), Fail> {
-    let text = b"9999r".repeat(rt.alloc(), 101)?;
+    let text = repeated(rt.alloc(), b"9999r", 101)?;
     let fault = parse(rt.alloc(), &text).err();
     assert_eq!(&rt; fault, Some(LurdFault::TooManyMoves));
     Ok(())
@@ -61,7 +70,7 @@ fn more_than_a_million_moves(rt: HostRuntime) -> Result<(), Fail> {
 
 #[test]
 fn a_million_moves(rt: HostRuntime) -> Result<(), Fail> {
-    let mut text = b"9999r".repeat(rt.alloc(), 100)?;
+    let mut text = repeated(rt.alloc(), b"9999r", 100)?;
     text.extend_from_slice(b"100r")?;
     let verdict = judged(&rt, rt.alloc(), &text)?;
     assert_eq!(&rt; verdict, Verdict::WrongCase { at: 1 });
@@ -70,7 +79,7 @@ fn a_million_moves(rt: HostRuntime) -> Result<(), Fail> {
 
 #[test]
 fn a_million_steps(rt: HostRuntime) -> Result<(), Fail> {
-    let text = b"rl".repeat(rt.alloc(), MAX_MOVES / 2)?;
+    let text = repeated(rt.alloc(), b"rl", MAX_MOVES / 2)?;
     let moves = parse(rt.alloc(), &text)?;
     let level = level_of(&rt, rt.alloc(), LONG_CORRIDOR);
     let unsolved = Verdict::Unsolved {
@@ -80,7 +89,7 @@ fn a_million_steps(rt: HostRuntime) -> Result<(), Fail> {
     assert_eq!(&rt; replay(rt.alloc(), &level, &moves), Ok(unsolved));
     let mut out = Vec::new(rt.alloc());
     write(&moves, &mut out)?;
-    assert!(rt; out.as_slice() == text.as_slice());
+    assert!(&rt; out.as_slice() == text.as_slice());
     Ok(())
 }
 

@@ -110,10 +110,19 @@ fn check_level(rt: &impl Abort, alloc: Global, level: &Level, text: &[u8], is_so
     );
 }
 
+// A text that repeats a byte.
+fn repeated(alloc: Global, byte: u8, times: usize) -> Result<Vec<u8>, Fail> {
+    let mut text = Vec::new(alloc);
+    for _ in 0..times {
+        text.push(byte)?;
+    }
+    Ok(text)
+}
+
 #[test]
 fn the_longest_name_is_read(rt: HostRuntime) -> Result<(), Fail> {
     // `;`, the name, a line feed, and a row line of 11 bytes
-    let name = b"n".repeat(rt.alloc(), MAX_FILE - 13)?;
+    let name = repeated(rt.alloc(), b'n', MAX_FILE - 13)?;
     let mut text = b";".to_vec(rt.alloc())?;
     text.extend_from_slice(&name)?;
     text.extend_from_slice(b"\n5#|#@$.#|5#")?;

@@ -86,10 +86,19 @@ fn check(
     run(rt, alloc, file, command, WELL).is(rt, report, 0);
 }
 
+// A text that repeats a byte.
+fn repeated(rt: &impl Abort, alloc: Global, byte: u8, times: usize) -> Vec<u8> {
+    let mut text = Vec::new(alloc);
+    for _ in 0..times {
+        text.push(byte).expect(rt, "memory");
+    }
+    text
+}
+
 #[test]
 fn the_longest_name_is_reported(rt: HostRuntime) {
     // `;`, the name, a line feed, and a row line of 11 bytes
-    let name = b"n".repeat(rt.alloc(), MAX_FILE - 13).expect(&rt, "memory");
+    let name = repeated(&rt, rt.alloc(), b'n', MAX_FILE - 13);
     let file = framed(&rt, rt.alloc(), b";", &name, b"\n5#|#@$.#|5#");
     assert_eq!(&rt; file.len(), MAX_FILE);
     let report = framed(
