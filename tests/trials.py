@@ -2,6 +2,7 @@
 
 A result is a pair: a name, and what is wrong, or None."""
 import concurrent.futures
+import sys
 
 # the number of parts that are tried at once
 JOBS = 4
@@ -28,3 +29,21 @@ def close(script, said):
         print(f"{script}: {name}: {fault}")
     print(f"{len(said) - len(faults)} passed, {len(faults)} failed")
     return 1 if faults or not said else 0
+
+
+def written(path, script, rows):
+    """What is wrong with the part of a document that a script writes, between two marker lines, if it shall have these
+    rows; empty lines do not count. If the script runs with --write, it writes them, and nothing is wrong."""
+    with open(path, encoding="utf-8") as file:
+        before, start, rest = file.read().partition(f"<!-- written by tests/{script} --write -->\n")
+    old, end, after = rest.partition("<!-- end -->")
+    if not end:
+        return [f"{path} has no part that tests/{script} writes"]
+    if sys.argv[1:] == ["--write"]:
+        with open(path, "w", encoding="utf-8") as file:
+            file.write(f"{before}{start}\n" + "\n".join(rows) + f"\n\n{end}{after}")
+        return []
+    there, wanted = [line for line in old.splitlines() if line], [line for line in rows if line]
+    faults = [f"missing in {path}: {line}" for line in wanted if line not in there]
+    faults += [f"not so in {path}: {line}" for line in there if line not in wanted]
+    return faults or ([] if there == wanted else [f"{path} has the rows in another order"])
