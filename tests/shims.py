@@ -44,20 +44,20 @@ def ran(words, env=None, fed=None, **more):
     return done.returncode, done.stdout, done.stderr
 
 
-def refused(start, shim, rest, fault):
-    """Starts runs in which each request for memory fails in turn, alone or (rest) with all later ones: `start` runs
-    the program in an environment. Yields a result for each run in which a request failed: it is right if the program
-    is out of memory, or if `fault` finds nothing wrong with what it gives. With threads the number of requests differs
-    from run to run, so the third run in a row without a failure is the last."""
-    missed, at = 0, 0
-    with tempfile.NamedTemporaryFile() as count:
-        while missed < 3:
-            at += 1
-            env = {"LD_PRELOAD": shim, "REFUSE_AT": str(at), "REFUSE_COUNT": count.name}
-            got = start({**env, "REFUSE_REST": "1"} if rest else env)
-            if counts(count.name, 1)[0] < at:
-                missed += 1
-                continue
-            missed = 0
-            name = f"request {at}{' and all later ones' if rest else ''} fails"
-            yield name, None if got == OUT_OF_MEMORY else fault(got)
+def refused(start, shim, fault):
+    """Starts runs in which each request for memory fails in turn, first alone and then with all later ones: `start`
+    runs the program in an environment with the library `shim` of refuse.c. Yields a result for each run in which a
+    request failed: it is right if the program is out of memory, or if `fault` finds nothing wrong with what it gives,
+    which also gets whether later requests fail. With threads the number of requests differs from run to run, so the
+    third run in a row without a failure is the last."""
+    for rest in (False, True):
+        missed, at = 0, 0
+        with tempfile.NamedTemporaryFile() as count:
+            while missed < 3:
+                at, missed = at + 1, missed + 1
+                env = {"LD_PRELOAD": shim, "REFUSE_AT": str(at), "REFUSE_COUNT": count.name}
+                got = start({**env, "REFUSE_REST": "1"} if rest else env)
+                if at <= counts(count.name, 1)[0]:
+                    missed = 0
+                    name = f"request {at}{' and all later ones' if rest else ''} fails"
+                    yield name, None if got == OUT_OF_MEMORY else fault(got, rest)

@@ -2,7 +2,10 @@
 
 A result is a pair: a name, and what is wrong, or None."""
 import concurrent.futures
+import os
 import sys
+
+TOP = os.path.dirname(os.path.dirname(os.path.abspath(__file__)))
 
 # the number of parts that are tried at once
 JOBS = 4
@@ -31,16 +34,23 @@ def close(script, said):
     return 1 if faults or not said else 0
 
 
+def crates():
+    """The crates of the repository, lowest first, each with the libraries that it uses."""
+    with open(f"{TOP}/crates.txt", encoding="utf-8") as file:
+        lines = [line.partition("#")[0].partition(":") for line in file]
+    return {name.split()[0]: uses.split() for name, is_crate, uses in lines if is_crate}
+
+
 def written(path, script, rows):
     """What is wrong with the part of a document that a script writes, between two marker lines, if it shall have these
     rows; empty lines do not count. If the script runs with --write, it writes them, and nothing is wrong."""
-    with open(path, encoding="utf-8") as file:
+    with open(f"{TOP}/{path}", encoding="utf-8") as file:
         before, start, rest = file.read().partition(f"<!-- written by tests/{script} --write -->\n")
     old, end, after = rest.partition("<!-- end -->")
     if not end:
         return [f"{path} has no part that tests/{script} writes"]
     if sys.argv[1:] == ["--write"]:
-        with open(path, "w", encoding="utf-8") as file:
+        with open(f"{TOP}/{path}", "w", encoding="utf-8") as file:
             file.write(f"{before}{start}\n" + "\n".join(rows) + f"\n\n{end}{after}")
         return []
     there, wanted = [line for line in old.splitlines() if line], [line for line in rows if line]

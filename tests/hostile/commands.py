@@ -54,8 +54,8 @@ class Bench:
 
     def __init__(self, program, folder):
         self.program, self.folder = program, folder
-        self.refuse, self.ends = shims.build("cli/refuse.c", folder), shims.build("hostile/ends.c", folder)
-        self.asked = shims.build("hostile/asked.c", folder)
+        self.refuse, self.ends, self.asked = (shims.build(it, folder)
+                                              for it in ("refuse.c", "hostile/ends.c", "hostile/asked.c"))
         self.numbers = itertools.count()
 
     def file(self, data):

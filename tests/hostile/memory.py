@@ -40,13 +40,13 @@ ENVIRONMENT, STACK_FOR_IT = 120_000, 192
 WIDE_LAYERS = (["solve", os.path.join(ROOT, "bench", "levels.xsb"), "5"], (1, b"unsolvable, 195896 positions\n", b""))
 
 
-def memory(bench, worked, workers, locks, rest):
+def memory(bench, worked, workers, locks):
     """`solve`; each request for memory fails in turn, alone or with all later ones."""
     level, limit, status, text = worked
     words = [bench.program, "solve", bench.file(level), "1", "--limit", str(limit), "--workers", str(workers)]
     words += [] if locks == 1 else ["--locks", str(locks)]
-    for name, fault in shims.refused(lambda env: bench.run(words, env=env), bench.refuse, rest,
-                                     lambda got: differs(got, (status, text, b""))):
+    for name, fault in shims.refused(lambda env: bench.run(words, env=env), bench.refuse,
+                                     lambda got, _: differs(got, (status, text, b""))):
         yield f"{words[1:]}, {name}", fault
 
 
@@ -55,10 +55,7 @@ def bounds(bench):
     for name, words, file, moves in worst.cases():
         most = worst.FIXED + worst.A_BYTE * (len(file) + len(moves))
         paths = {"FILE": bench.file(file), "MOVES": bench.file(moves)}
-        status, out, err = bench.run([
-            "/bin/sh", "-c", f'ulimit -v {most >> 10}; exec "$0" "$@"', bench.program,
-            *(paths.get(it, it) for it in words)
-        ])
+        status, out, err = within(bench, [paths.get(it, it) for it in words], most >> 10)
         fault = None if status in (0, 1) and out and not err else f"status {status}, {err!r}"
         yield f"{words[0]} of {name}, {len(file) + len(moves)} bytes, within {most} bytes", fault
 

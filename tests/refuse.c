@@ -1,6 +1,6 @@
 /* Loaded before the C library (LD_PRELOAD), it makes requests for memory fail: the one with number REFUSE_AT, counted
    from 1, and with REFUSE_REST all later ones. The file REFUSE_COUNT holds the number of requests. */
-#include "../refusing.h"
+#include "refusing.h"
 
 static unsigned long at, *seen;
 static int rest;
