@@ -91,9 +91,9 @@ const FAULTS: &str = "
 const MISSING: &str = "\
 If a level is missing, split or joined to another:
   A line is text if it has no wall, or has a tab, a letter, a comment after the
-  row or any other byte that is no cell, digit or bar. Text ends a level. Two levels need a
-  line of text between them; an empty line will do. Lines end with LF or CRLF.
-  The encoding is ASCII or UTF-8.
+  row or any other byte that is no cell, digit or bar. Text ends a level. Two
+  levels need a line of text between them; an empty line will do. Lines end with
+  LF or CRLF. The encoding is ASCII or UTF-8.
 
 If the report is '0 levels, 0 good' (status 0), no line of FILE is a row. Usual
 causes: FILE is UTF-16, or packed (gzip, zip), its lines end with CR alone, or
@@ -116,11 +116,11 @@ fn check_notes(alloc: Global) -> Result<String, AllocError> {
 
 /// The squares of the map, in the help of `dead`.
 pub const DEAD: &str = "\
-The map has # for walls, . for goals and x for dead squares. The player can reach
-a dead square once the boxes are taken away, and no play brings a box from it to
-a goal, so a box on it leaves the level unsolvable. The map may lack some such
-squares: it sets the player down anew before each push. Other squares are blank,
-also those of the boxes and the player.
+The map has # for walls, . for goals and x for dead squares. The player can
+reach a dead square once the boxes are taken away, and no play brings a box from
+it to a goal, so a box on it leaves the level unsolvable. The map may lack some
+such squares: it sets the player down anew before each push. Other squares are
+blank, also those of the boxes and the player.
 
 Example:
   sokopar dead levels.xsb 1";

@@ -74,8 +74,9 @@ impl Subcommand {
             Subcommand::Show => "Shows a level in plain rows",
             Subcommand::Dead => "Shows walls, goals and dead squares of a level",
             Subcommand::Replay => "Replays a solution on a level",
-            Subcommand::Solve => "Solves a level with the fewest pushes",
-            Subcommand::Best => "Finds a solution with the fewest pushes",
+            Subcommand::Solve =>
+                "Finds the first solution with the fewest pushes, and counts positions",
+            Subcommand::Best => "Finds a solution with the fewest pushes, also of harder levels",
             Subcommand::Prove => "Proves that a solution has the fewest pushes",
         }
     }
