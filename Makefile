@@ -1,5 +1,5 @@
 # make         proves the program and builds it at target/sokopar; what the prover says is kept in target/build.log
-# make install builds it and copies it to PREFIX/bin
+# make install builds it and copies it to PREFIX/bin, with its man page and completions to PREFIX/share
 # make quick   builds target/quick/sokopar from the program's text alone, in two or three minutes, with nothing proved
 # make demo    runs the proved program on the collections of levels/, or the unproved one where no proved one is built
 # make test    checks what documents cite, proves everything, tries the must-fail edits and runs the tests (`rt ci`),
@@ -9,6 +9,7 @@
 
 RT ?= rt
 PREFIX ?= /usr/local
+SHARE = $(DESTDIR)$(PREFIX)/share
 SOURCES = $(shell find crates -name out -prune -o -name '*.rt' -print)
 
 .PHONY: all install quick demo test check bench toolchain needs
@@ -17,9 +18,12 @@ all: toolchain
 	@RT=$(RT) build/all
 
 install: all
-	@mkdir -p $(DESTDIR)$(PREFIX)/bin
-	@install -m 755 target/sokopar $(DESTDIR)$(PREFIX)/bin/sokopar
-	@echo "$(DESTDIR)$(PREFIX)/bin/sokopar"
+	@install -D -m 755 target/sokopar $(DESTDIR)$(PREFIX)/bin/sokopar
+	@install -D -m 644 share/sokopar.1 $(SHARE)/man/man1/sokopar.1
+	@install -D -m 644 share/sokopar.bash $(SHARE)/bash-completion/completions/sokopar
+	@install -D -m 644 share/_sokopar $(SHARE)/zsh/site-functions/_sokopar
+	@install -D -m 644 share/sokopar.fish $(SHARE)/fish/vendor_completions.d/sokopar.fish
+	@echo "$(DESTDIR)$(PREFIX)/bin/sokopar; its man page and completions are in $(SHARE)"
 
 quick: target/quick/sokopar
 	@echo 'PATH=$$PWD/target/quick:$$PATH'

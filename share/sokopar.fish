@@ -1,0 +1,31 @@
+# fish completion for sokopar; written by build/share
+complete -c sokopar -f
+complete -c sokopar -n '__fish_use_subcommand' -s h -l help -d 'Print help'
+complete -c sokopar -n '__fish_use_subcommand' -s V -l version -d 'Print version'
+complete -c sokopar -n __fish_use_subcommand -a check -d 'Checks each level'
+complete -c sokopar -n '__fish_seen_subcommand_from check' -F
+complete -c sokopar -n '__fish_seen_subcommand_from check' -s h -l help -d 'Print help'
+complete -c sokopar -n __fish_use_subcommand -a show -d 'Shows a level in plain rows'
+complete -c sokopar -n '__fish_seen_subcommand_from show' -F
+complete -c sokopar -n '__fish_seen_subcommand_from show' -s h -l help -d 'Print help'
+complete -c sokopar -n __fish_use_subcommand -a dead -d 'Shows walls, goals and dead squares of a level'
+complete -c sokopar -n '__fish_seen_subcommand_from dead' -F
+complete -c sokopar -n '__fish_seen_subcommand_from dead' -s h -l help -d 'Print help'
+complete -c sokopar -n __fish_use_subcommand -a replay -d 'Replays a solution on a level'
+complete -c sokopar -n '__fish_seen_subcommand_from replay' -F
+complete -c sokopar -n '__fish_seen_subcommand_from replay' -s h -l help -d 'Print help'
+complete -c sokopar -n __fish_use_subcommand -a solve -d 'Finds the first solution with the fewest pushes, and counts positions'
+complete -c sokopar -n '__fish_seen_subcommand_from solve' -F
+complete -c sokopar -n '__fish_seen_subcommand_from solve' -l workers -x -d 'Number of threads [default: 1]'
+complete -c sokopar -n '__fish_seen_subcommand_from solve' -l locks -x -d 'Number of locks, usually best equal to W [default: 1]'
+complete -c sokopar -n '__fish_seen_subcommand_from solve' -l limit -x -d 'Stops beyond L positions [default: 1000000]'
+complete -c sokopar -n '__fish_seen_subcommand_from solve' -l max-pushes -x -d 'Looks only for solutions with at most M pushes'
+complete -c sokopar -n '__fish_seen_subcommand_from solve' -s h -l help -d 'Print help'
+complete -c sokopar -n __fish_use_subcommand -a best -d 'Finds a solution with the fewest pushes, also of harder levels'
+complete -c sokopar -n '__fish_seen_subcommand_from best' -F
+complete -c sokopar -n '__fish_seen_subcommand_from best' -l limit -x -d 'Stops beyond L positions [default: 1000000]'
+complete -c sokopar -n '__fish_seen_subcommand_from best' -s h -l help -d 'Print help'
+complete -c sokopar -n __fish_use_subcommand -a prove -d 'Proves that a solution has the fewest pushes'
+complete -c sokopar -n '__fish_seen_subcommand_from prove' -F
+complete -c sokopar -n '__fish_seen_subcommand_from prove' -l limit -x -d 'Stops beyond L positions [default: 1000000]'
+complete -c sokopar -n '__fish_seen_subcommand_from prove' -s h -l help -d 'Print help'
