@@ -8,7 +8,7 @@ _sokopar() {
         dead) options="--help" ;;
         replay) options="--help" ;;
         solve) options="--workers --locks --limit --max-pushes --help" ;;
-        best) options="--limit --help" ;;
+        best) options="--from --to --limit --max-pushes --help" ;;
         prove) options="--limit --help" ;;
         *) options= ;;
     esac
@@ -17,7 +17,7 @@ _sokopar() {
         compopt +o default
     fi
     case ${COMP_WORDS[COMP_CWORD - 1]} in
-        --workers | --locks | --limit | --max-pushes) compopt +o default; return ;; # a number
+        --workers | --locks | --limit | --max-pushes | --from | --to) compopt +o default; return ;; # a number
     esac
     if [ "$COMP_CWORD" = 1 ] || [[ $word == -* ]]; then
         mapfile -t COMPREPLY < <(compgen -W "$options" -- "$word")
