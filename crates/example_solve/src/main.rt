@@ -2,8 +2,11 @@
 //! thread, and prints a line for each: the pushes of its least solution and the solution, or why there is none.
 //!
 //! ```text
-//! rt run < ../../levels/first-steps.xsb
+//! rt try < ../../levels/first-steps.xsb
 //! ```
+//!
+//! `rt try` runs it unproved after some minutes. `rt run` first proves it and the crates below, which takes half an
+//! hour.
 #![tactic(auto)]
 
 ghost use Rattle.std.specs.Prelude.{IfOk, None};
