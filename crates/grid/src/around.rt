@@ -9,11 +9,11 @@ use std::alloc::{AllocError, Global};
 
 /// A square for each direction.
 #[derive(Clone, Copy, PartialEq, Eq, Debug)]
-pub struct Around {
-    pub d: Square,
-    pub l: Square,
-    pub r: Square,
-    pub u: Square,
+pub(crate) struct Around {
+    pub(crate) d: Square,
+    pub(crate) l: Square,
+    pub(crate) r: Square,
+    pub(crate) u: Square,
 }
 
 /// The neighbours of each square of these cells, row by row.

@@ -22,7 +22,7 @@ impl Cell {
     }
 
     /// Whether the cell has a goal.
-    pub fn has_goal(self) -> bool
+    pub(crate) fn has_goal(self) -> bool
         ensures { result ≡ goal_cell self }
     {
         matches!(self, Cell::Goal | Cell::BoxOnGoal | Cell::PlayerOnGoal)
@@ -36,7 +36,7 @@ impl Cell {
     }
 
     /// Whether the player is on the cell.
-    pub fn has_player(self) -> bool
+    pub(crate) fn has_player(self) -> bool
         ensures { result ≡ player_cell self }
     {
         matches!(self, Cell::Player | Cell::PlayerOnGoal)

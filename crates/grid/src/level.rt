@@ -1,9 +1,9 @@
-ghost use Rattle.std.specs.Prelude.{◌≡◌, ◌%◌, ◌<◌, ◌≤◌, ◌⊎◌, ◌↔◌, IsTrue, IfOk, IfErr, length, if◌then◌else◌};
+ghost use Rattle.std.specs.Prelude.{◌≡◌, ◌%◌, ◌<◌, ◌≤◌, ◌⊎◌, ◌↔◌, IsTrue, IfOk, IfErr, length};
 ghost use Rattle.grid.specs.Board.{Scene, IsSolved, is_wall, is_goal, next, start, start_player};
 ghost use Rattle.std.specs.List.{list_all};
 ghost use Rattle.grid.specs.Lawful.{row_count, box_count, HasFault, InRoom, IsLevel};
 ghost use Rattle.grid.specs.States.{FitsLevel, has_box};
-ghost use Rattle.grid.specs.inside.AroundView.{around_of, ways_of};
+ghost use Rattle.grid.specs.inside.AroundView.{around_of};
 ghost use Rattle.grid.specs.Masks.{AreMasks};
 ghost use Rattle.grid.specs.RoomMask.{IsRoomMask};
 
@@ -173,28 +173,6 @@ impl Level {
         ensures { result ≡ around_of self.now square }
     {
         self.around[square.0 as usize]
-    }
-
-    /// The ways from a square: for each direction the square next to it, or the square itself if that is a wall or
-    /// outside the grid.
-    pub fn ways(&self, square: Square) -> Around
-        requires { square < length self.now.cells }
-        ensures { result ≡ ways_of self.now square }
-    {
-        let next = self.around(square);
-        Around {
-            d: self.way(square, next.d),
-            l: self.way(square, next.l),
-            r: self.way(square, next.r),
-            u: self.way(square, next.u),
-        }
-    }
-
-    // The next square if that is no wall, otherwise the square itself.
-    fn way(&self, square: Square, next: Square) -> Square
-        ensures { result ≡ (if is_wall self.now next then square else next) }
-    {
-        if self.is_wall(next) { square } else { next }
     }
 
     /// The squares that a step in each direction can lead to, as bits of words.

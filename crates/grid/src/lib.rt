@@ -31,7 +31,6 @@ mod room;
 mod square;
 mod state;
 
-pub use around::Around;
 pub use board::Board;
 pub use cell::Cell;
 pub use dir::Dir;

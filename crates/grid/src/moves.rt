@@ -1,4 +1,4 @@
-ghost use Rattle.std.specs.Prelude.{◌≡◌, [], ◌∷◌, ◌++◌, OnOk, OnErr, length, take, IsTrue, ◌↔◌};
+ghost use Rattle.std.specs.Prelude.{◌≡◌, [], ◌∷◌, ◌++◌, OnOk, OnErr, length, take};
 
 use crate::dir::Dir;
 use std::alloc::{AllocError, Global};
@@ -57,13 +57,6 @@ impl Moves {
         ensures { result ≡ length self.now }
     {
         self.letters.len()
-    }
-
-    /// Whether the list is empty.
-    pub fn is_empty(&self) -> bool
-        ensures { IsTrue result ↔ (self.now ≡ []) }
-    {
-        self.letters.is_empty()
     }
 
     /// The letters, in order.
