@@ -3,15 +3,8 @@ use Rattle.std.proofs.Common.{◌≡◌, ◌≢◌, ℕ, suc, ◌+◌, ◌<◌, 
 use Rattle.std.proofs.lemmas.Bool.{cases_eq, cases_lt}
 use Rattle.grid.specs.declared.dir.Dir.{Dir}
 use Rattle.grid.specs.Board.{Board, is_wall, next, dir_number}
-use Rattle.grid.proofs.lemmas.Directions.{dir_same, dir_number-lt}
+use Rattle.grid.proofs.lemmas.Directions.{dir_number-lt, more_dirs}
 use Rattle.area.specs.inside.Spread.{IsClosed, HasCome, IsSpread, IsSpreading}
-
--- the directions below the next number are those below this one, and the one with this number
-more_dirs : (seen : ℕ) (d e : Dir) → dir_number d ≡ seen → dir_number e < suc seen → (dir_number e < seen) ⊎ (d ≡ e)
-more_dirs seen d e at lt = elim (cases_lt (dir_number e) seen) [
-  | inl less ↦ inl less
-  | inr more ↦ inr (dir_same d e (omega arith))
-]
 
 module _ (board : Board) (base from : ℕ) (mark place : ℕ → ℕ) (head seen tail : ℕ) (d : Dir) (n : ℕ)
     (s : IsSpreading board base from mark place head seen tail)

@@ -1,159 +1,218 @@
 -- Filling the player's room: marks grow until they are closed under steps.
-use Rattle.std.proofs.Common.{◌≡◌, ℕ, Bool, true, false, eqb, List, [], ◌∷◌, ◌++◌, length, replicate, ◌⊎◌, ◌↔◌, inl}
-use Rattle.std.proofs.Common.{inr, refl, sym, subst, ◌∙◌, arith}
-use Rattle.std.proofs.lemmas.Bool.{eqb-true, eq-eqb, cases_lt, or_cases, or_left, or_right, false≢true}
-use Rattle.std.proofs.lemmas.List.{get_or_past, get_or-replicate, length-replicate}
-use Rattle.grid.specs.declared.dir.Dir.TheVariants.{R}
-use Rattle.grid.specs.Board.{Board, is_wall, next, start_player}
+use Rattle.std.proofs.Common.{◌≡◌, ℕ, suc, ◌<◌, ◌≤◌, Bool, true, false, not, cond, eqb, List, [], ◌∷◌, ◌++◌, length, get_or}
+use Rattle.std.proofs.Common.{set, ◌⊎◌, ◌↔◌, inl, inr, refl, sym, subst, ◌∙◌, arith}
+use Rattle.std.proofs.lemmas.Bool.{eqb-true, eq-eqb, cases_eq, cases_lt, or_cases, or_left, or_right, false≢true}
+use Rattle.std.proofs.lemmas.List.{get_or_past, get_or-set_same, get_or-set_other, length-append, length-set}
+use Rattle.std.proofs.lemmas.List.Sums.{sum_by-set}
+use Rattle.grid.specs.declared.dir.Dir.{Dir}
+use Rattle.grid.specs.Board.{Board, dir_number, is_wall, next, start_player}
 use Rattle.grid.specs.Lawful.{InRoom, IsOpen}
 use Rattle.grid.specs.Lawful.InRoom.{here, beside}
 use Rattle.grid.specs.Squares.{contains}
-use Rattle.grid.specs.inside.Filling.{Awaits, IsFilling, IsMarked, IsRunning}
-use Rattle.grid.specs.inside.Filling.Awaits.{listed, along}
+use Rattle.grid.specs.inside.Filling.{IsFilling, IsLook, IsMarked, IsSeen, work}
+use Rattle.grid.specs.inside.Filling.IsLook.{passes, takes}
+use Rattle.grid.proofs.lemmas.Directions.{dir_number-lt, more_dirs}
 use Rattle.grid.proofs.lemmas.Steps.{inside_grid}
 use Rattle.grid.proofs.lemmas.Squares.{contains-push_cases, contains-push_kept, contains-push_last}
 
--- ---- marks and pending squares
+-- ---- one look
 
--- no mark, before the first
-pub unmarked : (n q : ℕ) → IsMarked (replicate n false) q → ⊥
-unmarked n q h = elim (cases_lt q n) [
-  | inl lt ↦ false≢true (sym (get_or-replicate n q false false lt) ∙ h)
-  | inr ge ↦ false≢true (sym (get_or_past (replicate n false) q false (omega (arith, length-replicate n false))) ∙ h)
+-- in the midst of the looks round a square: the squares beside it in the first directions were seen
+pub record IsLooking (board : Board) (marks : List Bool) (pending : List ℕ) (p seen : ℕ) : Type 0 where
+  pub filling : IsFilling board marks (p ∷ pending)
+  pub seen_to : (d : Dir) → dir_number d < seen → IsSeen board marks (next board p d)
+
+-- before the first look
+pub unseen : (board : Board) (marks : List Bool) (pending : List ℕ) (p : ℕ) → IsFilling board marks (p ∷ pending)
+    → IsLooking board marks pending p 0
+unseen board marks pending p f = record { filling = f; seen_to = λ d lt. absurd (omega arith) }
+
+-- a square that is pending first is of the room
+pub first_in_room : (board : Board) (marks : List Bool) (p : ℕ) (xs : List ℕ) → IsFilling board marks (p ∷ xs)
+    → InRoom board p
+first_in_room board marks p xs f = f.inside p (f.waits p (or_left (eqb p p) (contains xs p) (eq-eqb p p refl)))
+
+-- and of the grid
+pub first_inside : (board : Board) (marks : List Bool) (p : ℕ) (xs : List ℕ) → IsFilling board marks (p ∷ xs)
+    → p < length board.cells
+first_inside board marks p xs f = elim (cases_lt p (length marks)) [
+  | inl lt ↦ omega (arith, lt, f.size)
+  | inr le ↦ absurd (false≢true (sym (get_or_past marks p false le) ∙
+      f.waits p (or_left (eqb p p) (contains xs p) (eq-eqb p p refl))))
 ]
 
--- ---- what awaits its mark
+-- where a step from there leads past the grid, the room is open
+pub open_at : (board : Board) (marks : List Bool) (p n : ℕ) (d : Dir) (xs : List ℕ) → IsFilling board marks (p ∷ xs)
+    → next board p d ≡ n → n ≡ length board.cells → IsOpen board
+open_at board marks p n d xs f at past = (p, d, first_in_room board marks p xs f, at ∙ past)
 
--- where p is no longer pending since it is marked, or awaits its mark for another reason, so is what followed it
-pub awaits_without : (board : Board) (marks : List Bool) (p : ℕ) (xs ys : List ℕ)
-    → ((r : ℕ) → contains xs r ≡ true → contains ys r ≡ true)
-    → (is_wall board p ≡ false → IsMarked marks p ⊎ Awaits board ys p)
-    → ((q : ℕ) → IsMarked marks q → is_wall board (next board q R) ≡ false → IsMarked marks (next board q R)
-    ⊎ Awaits board ys (next board q R))
-    → (x : ℕ) → Awaits board (p ∷ xs) x → IsMarked marks x ⊎ Awaits board ys x
-awaits_without board marks p xs ys more gone whole x a = go a
+-- after a look at the next square
+pub looked : (board : Board) (old : List Bool) (before : List ℕ) (p seen : ℕ) (d : Dir) (n : ℕ) {new : List Bool}
+    {later : List ℕ} → IsLooking board old before p seen → dir_number d ≡ seen → next board p d ≡ n
+    → IsLook board n old before new later
+    → IsLooking board new later p (suc seen) × (work new later ≤ work old before)
+looked board old before p seen d n k at is (passes here_seen) = (
+  record {
+    filling = k.filling;
+    seen_to = λ e lt. elim (more_dirs seen d e at lt) [
+      | inl less ↦ k.seen_to e less
+      | inr same ↦ subst (λ (x : Dir). IsSeen board old (next board p x)) same
+          (subst (IsSeen board old) (sym is) here_seen)
+    ];
+  },
+  omega arith,
+)
+looked board old before p seen d n k at is (takes floor free) = (record { filling = filling; seen_to = seen_to }, less)
   where
-    go : {y : ℕ} → Awaits board (p ∷ xs) y → IsMarked marks y ⊎ Awaits board ys y
-    go (listed {q} there floor) = elim (or_cases (eqb p q) (contains xs q) there) [
-      | inl e ↦ subst (λ (y : ℕ). is_wall board y ≡ false → IsMarked marks y ⊎ Awaits board ys y)
-          (eqb-true p q e) gone floor
-      | inr e ↦ inr (listed (more q e) floor)
+    inside : n < length board.cells
+    inside = inside_grid board n floor
+
+    lies : n < length old
+    lies = omega (arith, inside, k.filling.size)
+
+    itself : IsMarked (set old n true) n
+    itself = get_or-set_same old n true false lies
+
+    kept : (q : ℕ) → IsMarked old q → IsMarked (set old n true) q
+    kept q h = elim (cases_eq q n) [
+      | inl e ↦ subst (λ (x : ℕ). IsMarked (set old n true) x) (sym e) itself
+      | inr ne ↦ get_or-set_other old n q true false ne ∙ h
     ]
-    go (along {q} before floor) = elim (go before) [ inl e ↦ whole q e floor | inr e ↦ inr (along e floor) ]
 
--- what awaits its mark awaits it where more is pending
-pub awaits_more : (board : Board) (xs ys : List ℕ) → ((r : ℕ) → contains xs r ≡ true → contains ys r ≡ true) → (x : ℕ)
-    → Awaits board xs x → Awaits board ys x
-awaits_more board xs ys more x a = go a
-  where
-    go : {y : ℕ} → Awaits board xs y → Awaits board ys y
-    go (listed {q} there floor) = listed (more q there) floor
-    go (along {q} before floor) = along (go before) floor
+    fresh : (q : ℕ) → IsMarked (set old n true) q → (q ≡ n) ⊎ IsMarked old q
+    fresh q h = elim (cases_eq q n) [
+      | inl e ↦ inl e
+      | inr ne ↦ inr (sym (get_or-set_other old n q true false ne) ∙ h)
+    ]
 
--- what awaits its mark is of the room, where what is pending is
-pub awaits_none : (board : Board) (x : ℕ) → Awaits board [] x → ⊥
-awaits_none board x a = go a
-  where
-    go : {y : ℕ} → Awaits board [] y → ⊥
-    go (listed {q} there floor) = false≢true there
-    go (along {q} before floor) = go before
+    still : (q : ℕ) → IsSeen board old q → IsSeen board (set old n true) q
+    still q s = (s.0, λ clear. kept q (s.1 clear))
 
--- no step to the right leads to the end and to a square that is no wall
-pub not_at_end : (board : Board) (q : ℕ) → is_wall board q ≡ false → q ≡ length board.cells → ⊥
-not_at_end board q floor e = (let lt = inside_grid board q floor in omega (arith, lt, e))
+    in_room : InRoom board n
+    in_room = subst (λ (x : ℕ). is_wall board x ≡ false → InRoom board x) is
+        (λ clear. beside d (first_in_room board old p before k.filling) clear) floor
 
--- p is no longer pending, since it is a wall or has its mark
-pub forget : (board : Board) (marks : List Bool) (p place : ℕ) (xs : List ℕ) → IsRunning board marks (p ∷ xs) place
-    → (is_wall board p ≡ false → IsMarked marks p) → (is_wall board place ≡ false → IsMarked marks place)
-    → IsFilling board marks xs
-forget board marks p place xs f gone ended = record {
-  size = f.size;
-  start = elim f.start [ inl e ↦ inl e | inr e ↦ without (start_player board) e ];
-  inside = f.inside;
-  waits = λ q there floor. f.waits q (or_right (eqb p q) (contains xs q) there) floor;
-  whole = λ q h floor. inl (right q h floor);
-  closed = λ q d h floor. elim (f.closed q d h floor) [ inl e ↦ inl e | inr e ↦ without (next board q d) e ];
-  inner = f.inner;
+    more : (q : ℕ) → contains (p ∷ before) q ≡ true → contains (p ∷ (before ++ n ∷ [])) q ≡ true
+    more q h = elim (or_cases (eqb p q) (contains before q) h) [
+      | inl e ↦ or_left (eqb p q) (contains (before ++ n ∷ []) q) e
+      | inr e ↦ or_right (eqb p q) (contains (before ++ n ∷ []) q) (contains-push_kept before n q e)
+    ]
+
+    filling : IsFilling board (set old n true) (p ∷ (before ++ n ∷ []))
+    filling = record {
+      size = length-set old n true ∙ k.filling.size;
+      start = kept (start_player board) k.filling.start;
+      inside = λ q h. elim (fresh q h) [
+        | inl e ↦ subst (InRoom board) (sym e) in_room
+        | inr was ↦ k.filling.inside q was
+      ];
+      waits = λ q h. elim (or_cases (eqb p q) (contains (before ++ n ∷ []) q) h) [
+        | inl e ↦ kept q (k.filling.waits q (or_left (eqb p q) (contains before q) e))
+        | inr there ↦ elim (contains-push_cases before n q there) [
+          | inl e ↦ kept q (k.filling.waits q (or_right (eqb p q) (contains before q) e))
+          | inr e ↦ subst (λ (x : ℕ). IsMarked (set old n true) x) e itself
+        ]
+      ];
+      done = λ q h. elim (fresh q h) [
+        | inl e ↦ inl (subst (λ (x : ℕ). contains (p ∷ (before ++ n ∷ [])) x ≡ true) (sym e)
+            (or_right (eqb p n) (contains (before ++ n ∷ []) n) (contains-push_last before n)))
+        | inr was ↦ elim (k.filling.done q was) [
+          | inl e ↦ inl (more q e)
+          | inr all ↦ inr (λ e. still (next board q e) (all e))
+        ]
+      ];
+    }
+
+    seen_to : (e : Dir) → dir_number e < suc seen → IsSeen board (set old n true) (next board p e)
+    seen_to e lt = elim (more_dirs seen d e at lt) [
+      | inl less ↦ still (next board p e) (k.seen_to e less)
+      | inr same ↦ subst (λ (x : Dir). IsSeen board (set old n true) (next board p x)) same
+          (subst (IsSeen board (set old n true)) (sym is) (λ past. omega (arith, past, inside), λ _. itself))
+    ]
+
+    less : work (set old n true) (before ++ n ∷ []) ≤ work old before
+    less =
+        let e = sum_by-set (λ x. cond (not x) 1 0) old n true false lies in
+        let g : ◌≡◌ {A = ℕ} (cond (not (get_or old n false)) 1 0) 1 = rw free refl in
+        omega (arith, e, g, length-append before (n ∷ []))
+
+-- after the look at the last one the square is no longer pending
+pub all_seen : (board : Board) (marks : List Bool) (pending : List ℕ) (p : ℕ) → IsLooking board marks pending p 4
+    → IsFilling board marks pending
+all_seen board marks pending p k = record {
+  size = k.filling.size;
+  start = k.filling.start;
+  inside = k.filling.inside;
+  waits = λ q h. k.filling.waits q (or_right (eqb p q) (contains pending q) h);
+  done = λ q h. elim (k.filling.done q h) [
+    | inl e ↦ elim (or_cases (eqb p q) (contains pending q) e) [
+      | inl same ↦ inr (subst (λ (x : ℕ). (d : Dir) → IsSeen board marks (next board x d)) (eqb-true p q same)
+          (λ d. k.seen_to d (dir_number-lt d)))
+      | inr there ↦ inl there
+    ]
+    | inr all ↦ inr all
+  ];
 }
-  where
-    right : (q : ℕ) → IsMarked marks q → is_wall board (next board q R) ≡ false → IsMarked marks (next board q R)
-    right q h floor = elim (f.whole q h floor) [
-      | inl e ↦ e
-      | inr e ↦ subst (λ (y : ℕ). is_wall board y ≡ false → IsMarked marks y) (sym e) ended floor
-    ]
-
-    without : (x : ℕ) → Awaits board (p ∷ xs) x → IsMarked marks x ⊎ Awaits board xs x
-    without x a = awaits_without board marks p xs xs (λ r h. h) (λ floor. inl (gone floor))
-        (λ q h floor. inl (right q h floor)) x a
 
 -- ---- the beginning and the end
 
--- the player's square is pending
-pub fill_start : (board : Board) (clear : List Bool) (pending : List ℕ) → length clear ≡ length board.cells
-    → ((q : ℕ) → IsMarked clear q → ⊥)
-    → pending ≡ start_player board ∷ [] → is_wall board (start_player board) ≡ false → IsFilling board clear pending
-fill_start board clear pending sized none is floor = subst (IsFilling board clear) (sym is) first
+-- the player's square is marked and pending
+pub fill_start : (board : Board) (clear : List Bool) (p : ℕ) → length clear ≡ length board.cells
+    → ((q : ℕ) → IsMarked clear q → ⊥) → p ≡ start_player board → is_wall board p ≡ false
+    → IsFilling board (set clear p true) (p ∷ [])
+fill_start board clear p sized none is floor = record {
+  size = length-set clear p true ∙ sized;
+  start = subst (IsMarked (set clear p true)) is itself;
+  inside = λ q h. subst (InRoom board) (sym is ∙ sym (only q h)) here;
+  waits = λ q there. elim (or_cases (eqb p q) false there) [
+    | inl e ↦ subst (IsMarked (set clear p true)) (eqb-true p q e) itself
+    | inr e ↦ absurd (false≢true e)
+  ];
+  done = λ q h. inl (or_left (eqb p q) false (eq-eqb p q (sym (only q h))));
+}
   where
-    first : IsFilling board clear (start_player board ∷ [])
-    first = record {
-      size = sized;
-      start =
-          inr
-          (listed (or_left (eqb (start_player board) (start_player board)) false
-          (eq-eqb (start_player board) (start_player board) refl)) floor);
-      inside = λ q h. absurd (none q h);
-      waits = λ q there open_here. elim (or_cases (eqb (start_player board) q) false there) [
-        | inl e ↦ subst (InRoom board) (eqb-true (start_player board) q e) here
-        | inr e ↦ absurd (false≢true e)
-      ];
-      whole = λ q h open_here. absurd (none q h);
-      closed = λ q d h open_here. absurd (none q h);
-      inner = λ q d h e. none q h;
-    }
+    itself : IsMarked (set clear p true) p
+    itself = get_or-set_same clear p true false (omega (arith, inside_grid board p floor, sized))
 
--- the last of those that are pending may stand first
+    only : (q : ℕ) → IsMarked (set clear p true) q → q ≡ p
+    only q h = elim (cases_eq q p) [
+      | inl e ↦ e
+      | inr ne ↦ absurd (none q (sym (get_or-set_other clear p q true false ne) ∙ h))
+    ]
+
+-- the last of those that are pending may come first
 pub last_first : (board : Board) (marks : List Bool) (xs : List ℕ) (p : ℕ) → IsFilling board marks (xs ++ p ∷ [])
     → IsFilling board marks (p ∷ xs)
 last_first board marks xs p f = record {
   size = f.size;
-  start = elim f.start [
-    | inl e ↦ inl e
-    | inr e ↦
-        inr (awaits_more board (xs ++ p ∷ []) (p ∷ xs) to (start_player board) e)
-  ];
+  start = f.start;
   inside = f.inside;
-  waits = λ q there floor. f.waits q (back q there) floor;
-  whole = f.whole;
-  closed = λ q d h floor. elim (f.closed q d h floor) [
-    | inl e ↦ inl e
-    | inr e ↦
-        inr (awaits_more board (xs ++ p ∷ []) (p ∷ xs) to (next board q d) e)
+  waits = λ q h. elim (or_cases (eqb p q) (contains xs q) h) [
+    | inl e ↦ f.waits q (subst (λ (y : ℕ). contains (xs ++ p ∷ []) y ≡ true) (eqb-true p q e) (contains-push_last xs p))
+    | inr e ↦ f.waits q (contains-push_kept xs p q e)
   ];
-  inner = f.inner;
+  done = λ q h. elim (f.done q h) [
+    | inl there ↦ elim (contains-push_cases xs p q there) [
+      | inl e ↦ inl (or_right (eqb p q) (contains xs q) e)
+      | inr e ↦ inl (or_left (eqb p q) (contains xs q) (eq-eqb p q e))
+    ]
+    | inr all ↦ inr all
+  ];
 }
-  where
-    to : (r : ℕ) → contains (xs ++ p ∷ []) r ≡ true → contains (p ∷ xs) r ≡ true
-    to r h = elim (contains-push_cases xs p r h) [
-      | inl e ↦ or_right (eqb p r) (contains xs r) e
-      | inr e ↦ or_left (eqb p r) (contains xs r) (eq-eqb p r e)
-    ]
 
-    back : (r : ℕ) → contains (p ∷ xs) r ≡ true → contains (xs ++ p ∷ []) r ≡ true
-    back r h = elim (or_cases (eqb p r) (contains xs r) h) [
-      | inl e ↦ subst (λ (y : ℕ). contains (xs ++ p ∷ []) y ≡ true) (eqb-true p r e) (contains-push_last xs p)
-      | inr e ↦ contains-push_kept xs p r e
-    ]
+module _ (board : Board) (marks : List Bool) (f : IsFilling board marks []) where
+  -- nothing is pending: all squares beside a marked one were seen
+  seen_beside : (q : ℕ) (d : Dir) → IsMarked marks q → IsSeen board marks (next board q d)
+  seen_beside q d h = elim (f.done q h) [ inl e ↦ absurd (false≢true e) | inr all ↦ all d ]
 
--- nothing is pending: the marks are the room
-pub fill_done : (board : Board) (marks : List Bool) → IsFilling board marks [] → (q : ℕ)
-    → IsMarked marks q ↔ InRoom board q
-fill_done board marks f q = (f.inside q, reached)
-  where
-    reached : {x : ℕ} → InRoom board x → IsMarked marks x
-    reached here = elim f.start [ inl e ↦ e | inr e ↦ absurd (awaits_none board (start_player board) e) ]
-    reached (beside {q} d r floor) =
-        elim (f.closed q d (reached r) floor) [ inl e ↦ e | inr e ↦ absurd (awaits_none board (next board q d) e) ]
+  -- so the marks are the room
+  pub fill_done : (q : ℕ) → IsMarked marks q ↔ InRoom board q
+  fill_done q = (f.inside q, reached)
+    where
+      reached : {x : ℕ} → InRoom board x → IsMarked marks x
+      reached here = f.start
+      reached (beside {q} d r floor) = (seen_beside q d (reached r)).1 floor
 
--- nothing is pending: the room is closed
-pub fill_closed : (board : Board) (marks : List Bool) → IsFilling board marks [] → IsOpen board → ⊥
-fill_closed board marks f gap = f.inner gap.0 gap.1 ((fill_done board marks f gap.0).1 gap.2) gap.3
+  -- and the room is closed
+  pub fill_closed : IsOpen board → ⊥
+  fill_closed gap = (seen_beside gap.0 gap.1 ((fill_done gap.0).1 gap.2)).0 gap.3

@@ -1,8 +1,10 @@
 //! The neighbours of a square, and a table of those of each square of a board, so that a step needs no division.
 ghost use Rattle.std.specs.Prelude.{◌≡◌, ◌%◌, ◌<◌, ◌≤◌, IfOk, length};
+ghost use Rattle.grid.specs.Masks.{square_to};
 ghost use Rattle.grid.specs.inside.AroundView.{AreAround, around_of};
 
 use crate::cell::Cell;
+use crate::dir::Dir;
 use crate::limits::{MAX_COLS, MAX_SQUARES};
 use crate::square::Square;
 use std::alloc::{AllocError, Global};
@@ -14,6 +16,21 @@ pub(crate) struct Around {
     pub(crate) l: Square,
     pub(crate) r: Square,
     pub(crate) u: Square,
+}
+
+impl Around {
+    /// The square in a direction.
+    #[inline(always)]
+    pub(crate) fn to(&self, dir: Dir) -> Square
+        ensures { result ≡ square_to dir self.now }
+    {
+        match dir {
+            Dir::D => self.d,
+            Dir::L => self.l,
+            Dir::R => self.r,
+            Dir::U => self.u,
+        }
+    }
 }
 
 /// The neighbours of each square of these cells, row by row.
@@ -39,7 +56,7 @@ pub(crate) fn neighbours(
 
 /// The neighbours of a square in a column.
 #[inline(always)]
-fn neighbours_of(cols: usize, cells: &[Cell], square: usize, column: usize) -> Around
+pub(crate) fn neighbours_of(cols: usize, cells: &[Cell], square: usize, column: usize) -> Around
     requires columns { 1 ≤ cols }
     requires wide { cols ≤ MAX_COLS }
     requires bound { length cells.now ≤ MAX_SQUARES }

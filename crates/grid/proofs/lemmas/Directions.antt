@@ -1,8 +1,8 @@
 -- Laws of the four directions.
 use Rattle.std.proofs.Common.{◌≡◌, ℕ, zero, suc, ◌+◌, ◌-◌, ◌%◌, ◌<◌, Bool, true, false, eqb, ltb, ◌&&◌, [], ◌∷◌, length}
-use Rattle.std.proofs.Common.{get_or, refl, arith}
+use Rattle.std.proofs.Common.{◌⊎◌, inl, inr, get_or, refl, arith}
 use Rattle.std.proofs.Math.Nat.{zero-mod}
-use Rattle.std.proofs.lemmas.Bool.{and_parts, cond_both, eqb-false, ltb-false}
+use Rattle.std.proofs.lemmas.Bool.{and_parts, cases_lt, cond_both, eqb-false, ltb-false}
 use Rattle.grid.specs.declared.dir.Dir.{Dir}
 use Rattle.grid.specs.declared.dir.Dir.TheVariants.{D, L, R, U}
 use Rattle.grid.specs.Board.{Board, dir_number, next}
@@ -23,6 +23,13 @@ dir_number-lt D = omega arith
 dir_number-lt L = omega arith
 dir_number-lt R = omega arith
 dir_number-lt U = omega arith
+
+-- the directions below the next number are those below this one, and the one with this number
+pub more_dirs : (seen : ℕ) (d e : Dir) → dir_number d ≡ seen → dir_number e < suc seen → (dir_number e < seen) ⊎ (d ≡ e)
+more_dirs seen d e at lt = elim (cases_lt (dir_number e) seen) [
+  | inl less ↦ inl less
+  | inr more ↦ inr (dir_same d e (omega arith))
+]
 
 -- the list of all directions has each at its number
 pub dir_at : (i : ℕ) → i < 4 → dir_number (get_or (D ∷ L ∷ R ∷ U ∷ []) i D) ≡ i
