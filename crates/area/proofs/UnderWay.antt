@@ -1,14 +1,15 @@
 -- What one look at a square does to the marks and the queue.
 use Rattle.std.proofs.Common.{◌≡◌, ◌≢◌, ℕ, suc, ◌+◌, ◌<◌, ◌≤◌, false, cond, ltb, inl, inr, List, [], ◌∷◌, length}
-use Rattle.std.proofs.Common.{get_or, set, refl, sym, ap, subst, ◌∙◌, arith}
+use Rattle.std.proofs.Common.{get_or, replicate, set, refl, sym, ap, subst, ◌∙◌, arith}
 use Rattle.std.specs.List.{sum_by}
 use Rattle.std.proofs.lemmas.Bool.{cases_eq, cases_lt, lt-ltb, le-ltb}
-use Rattle.std.proofs.lemmas.List.{get_or_past, get_or-set_same, get_or-set_other, length-set}
+use Rattle.std.proofs.lemmas.List.{get_or_past, get_or-replicate, get_or-set_same, get_or-set_other}
+use Rattle.std.proofs.lemmas.List.{length-replicate, length-set}
 use Rattle.std.proofs.lemmas.List.Sums.{sum_by-set, sum_by-cons}
 use Rattle.grid.specs.declared.dir.Dir.{Dir}
 use Rattle.grid.specs.Board.{Board, is_wall, next, dir_number}
 use Rattle.grid.proofs.lemmas.Steps.{inside_grid}
-use Rattle.area.specs.inside.Spread.{IsLook, passes, takes, IsSpreading, IsUnderWay, AreWithin, untouched}
+use Rattle.area.specs.inside.Spread.{IsLook, passes, takes, IsSpreading, IsUnderWay, untouched}
 use Rattle.area.proofs.Spreading.{skipped, visited, turned}
 use Rattle.area.proofs.Nearness.{tally_one}
 
@@ -50,7 +51,7 @@ module _ (board : Board) (base from : ℕ) (old marks queue : List ℕ) (head se
   tail_bound = let c = u.count in let r = u.room in omega arith
 
   -- the marks so far are small
-  pub marks_within : AreWithin base (length board.cells) marks
+  pub marks_within : (q : ℕ) → get_or marks q 0 ≤ base + length board.cells
   marks_within q = elim (cases_lt base (get_or marks q 0)) [
     | inl above ↦ (let l = u.spreading.listed q above in
         let b : get_or marks (get_or queue l.0 0) 0 ≤ suc base + l.0 = u.spreading.bound l.0 l.1 in
@@ -143,6 +144,13 @@ untouched-le base [] = omega arith
 untouched-le base (m ∷ ms) =
     rw (sum_by-cons (λ (x : ℕ). cond (ltb x base) 1 0) m ms)
     (tally_one (ltb m base) (untouched base ms) (length ms) (untouched-le base ms))
+
+-- no mark is left
+pub cleared : (marks : List ℕ) (n q : ℕ) → marks ≡ replicate n 0 → get_or marks q 0 ≡ 0
+cleared marks n q e = ap (λ (ms : List ℕ). get_or ms q 0) e ∙ elim (cases_lt q n) [
+  | inl lt ↦ get_or-replicate n q 0 0 lt
+  | inr le ↦ get_or_past (replicate n 0) q 0 (let l = length-replicate {A = ℕ} n 0 in omega (arith, l))
+]
 
 -- a search as it begins: one square is reached, with no step, and stands in the queue
 pub started : (board : Board) (base from : ℕ) (marks queue : List ℕ) → length marks ≡ length board.cells

@@ -10,7 +10,7 @@
 //!
 //! # What it costs
 //!
-//! All calls work in a [`Scratch`]: about seven bytes a square, made once for levels of the same rows and columns.
+//! All calls work in a [`Scratch`]: about five bytes a square, made once for levels of the same rows and columns.
 //! Beside that only [`walk`] takes memory, for its moves. A flood works on words of 64 squares and keeps rooms of
 //! up to two words in registers. After a push the flood of the position before it mostly decides, so a search makes
 //! one flood a position.

@@ -7,10 +7,10 @@ ghost use Rattle.grid.specs.States.{IsScene};
 ghost use Rattle.grid.specs.Squares.{contains};
 ghost use Rattle.area.specs.LeastWalks.{WalkAnswer, walk_letters};
 ghost use Rattle.area.specs.inside.Descent.{IsDown, IsFirstDown, IsDescent};
-ghost use Rattle.area.specs.inside.Spread.{AreBlocked, AreWithin, IsMemory, IsSearched, IsSpread};
+ghost use Rattle.area.specs.inside.Spread.{AreBlocked, IsSearched, IsSpread};
 
-use crate::scratch::{GREATEST_BASE, Scratch, renewed};
-use crate::spread::spread;
+use crate::scratch::Scratch;
+use crate::spread::{BOX_MARK, spread};
 use grid::{Dir, Letter, Level, MAX_SQUARES, Moves, Square, State};
 use std::alloc::AllocError;
 
@@ -38,21 +38,13 @@ pub fn walk(
     if level.is_wall(square) || state.has_box(square) {
         return Ok(false);
     }
-    let base = search_from(
-        level,
-        state,
-        square,
-        scratch.base,
-        &mut scratch.marks,
-        &mut scratch.queue,
-    );
-    scratch.base = base;
+    search_from(level, state, square, &mut scratch.marks, &mut scratch.queue);
     let player = state.player();
-    if scratch.marks[player.0 as usize] <= base {
+    if scratch.marks[player.0 as usize] <= BOX_MARK {
         return Ok(false);
     }
     let len = moves.len();
-    let outcome = descend(level, player, square, base, &scratch.marks, moves);
+    let outcome = descend(level, player, square, &scratch.marks, moves);
     if outcome.is_err() {
         moves.truncate(len);
         return Err(AllocError);
@@ -60,38 +52,29 @@ pub fn walk(
     Ok(true)
 }
 
-// Marks every square that walks from a square reach, round the boxes. Returns the boxes' mark.
-fn search_from(
-    level: &Level,
-    state: &State,
-    from: Square,
-    base: u32,
-    marks: &mut [u32],
-    queue: &mut [Square],
-) -> u32
+// Marks every square that walks from a square reach, round the boxes.
+fn search_from(level: &Level, state: &State, from: Square, marks: &mut [u16], queue: &mut [Square])
     requires scene { IsScene level.now state.now }
     requires free { IsFree level.now state.now.boxes from }
-    requires memory { IsMemory level.now base marks.old queue.old }
-    ensures searched { IsSearched level.now state.now.boxes result from marks.new }
-    ensures base { result ≤ GREATEST_BASE }
-    ensures within { AreWithin result (length marks.old) marks.new }
+    requires room { length marks.old ≡ length level.now.cells }
+    requires places { length queue.old ≡ length level.now.cells }
+    requires small { length marks.old ≤ MAX_SQUARES }
+    ensures { IsSearched level.now state.now.boxes BOX_MARK from marks.new }
 {
-    let base = renewed(base, marks);
-    block_boxes(state, base, marks);
-    spread(level, from, base, marks, queue);
-    base
+    block_boxes(state, marks);
+    spread(level, from, marks, queue);
 }
 
-// Gives the squares of the boxes their mark.
-fn block_boxes(state: &State, base: u32, marks: &mut [u32])
+// Gives the squares of the boxes their mark, and clears all other marks.
+fn block_boxes(state: &State, marks: &mut [u16])
     requires inside { (q : ℕ) → contains state.now.boxes q ≡ true → q < length marks.old }
     requires small { length marks.old ≤ MAX_SQUARES }
-    requires low { (q : ℕ) → slice_index marks.old q < base }
-    ensures { AreBlocked base state.now.boxes marks.new }
+    ensures { AreBlocked BOX_MARK state.now.boxes marks.new }
 {
+    marks.fill(0);
     for i in 0..marks.len() {
         if state.has_box(Square(i as u16)) {
-            marks[i] = base;
+            marks[i] = BOX_MARK;
         }
     }
 }
@@ -101,14 +84,13 @@ fn descend(
     level: &Level,
     from: Square,
     to: Square,
-    base: u32,
-    marks: &[u32],
+    marks: &[u16],
     moves: &mut Moves,
 ) -> Result<(), AllocError>
     requires room { length marks.now ≡ length level.now.cells }
-    requires spread { IsSpread level.now base to (λ q. slice_index marks.now q) }
-    requires reached { base < slice_index marks.now from }
-    ensures ok { OnOk result ((ds : List Dir) × IsDescent level.now base to (λ q. slice_index marks.now q) from ds ×
+    requires spread { IsSpread level.now BOX_MARK to (λ q. slice_index marks.now q) }
+    requires reached { BOX_MARK < slice_index marks.now from }
+    ensures ok { OnOk result ((ds : List Dir) × IsDescent level.now BOX_MARK to (λ q. slice_index marks.now q) from ds ×
         (moves.new ≡ moves.old ++ walk_letters ds)) }
     ensures err { OnErr result ((xs : List Letter) × (moves.new ≡ moves.old ++ xs)) }
 {
@@ -122,7 +104,7 @@ fn descend(
 }
 
 // The first direction in which the next square has a mark one less.
-fn first_down(level: &Level, square: Square, marks: &[u32]) -> Dir
+fn first_down(level: &Level, square: Square, marks: &[u16]) -> Dir
     requires inside { square < length level.now.cells }
     requires room { length marks.now ≡ length level.now.cells }
     requires more { 1 < slice_index marks.now square }
@@ -143,7 +125,7 @@ fn first_down(level: &Level, square: Square, marks: &[u32]) -> Dir
 }
 
 // Whether the next square in a direction has this mark.
-fn leads_to(level: &Level, square: Square, dir: Dir, mark: u32, marks: &[u32]) -> bool
+fn leads_to(level: &Level, square: Square, dir: Dir, mark: u16, marks: &[u16]) -> bool
     requires inside { square < length level.now.cells }
     requires mark { 0 < mark }
     ensures { IsTrue result ↔ (slice_index marks.now (next level.now square dir) ≡ mark) }

@@ -1,4 +1,4 @@
-ghost use Rattle.std.specs.Prelude.{◌≡◌, ℕ, ◌+◌, ◌<◌, ◌≤◌, ◌↔◌, true, false, IfOk, length, slice_index};
+ghost use Rattle.std.specs.Prelude.{◌≡◌, ℕ, ◌<◌, ◌≤◌, ◌↔◌, true, false, IfOk, length};
 ghost use Rattle.std.specs.Borrow.{Lends, sem, Array, u64 as word};
 ghost use Rattle.grid.specs.Board.{is_wall};
 ghost use Rattle.grid.specs.Masks.{has_bit, word_count};
@@ -7,32 +7,23 @@ ghost use Rattle.area.specs.Groups.{HangsWith};
 ghost use Rattle.area.specs.Words.{squares_of};
 ghost use Rattle.area.specs.contracts.scratch.Scratch.{the_row};
 ghost use Rattle.area.specs.inside.Detours.{IsLeastWith};
-ghost use Rattle.area.specs.inside.Spread.{AreWithin};
 
 use crate::bits::{least_but, least_of};
 use crate::groups::group;
 use crate::set::SquareSet;
-use grid::{Level, MAX_SQUARES, Square};
+use grid::{Level, Square};
 use std::alloc::{AllocError, Global};
 use std::marker::Model;
 
-/// The greatest mark of a box. Before a search would exceed it, all marks are cleared.
-pub(crate) const GREATEST_BASE: u32 = 1 << 31;
-
-/// The memory that floods and searches for walks work in: about seven bytes a square, made once for all levels of
+/// The memory that floods and searches for walks work in: about five bytes a square, made once for all levels of
 /// the same rows and columns.
 ///
 /// A flood leaves two sets: the squares that it reaches, and the boxes. [`Scratch::reaches`] and
 /// [`Scratch::has_box`] read them until another call uses the scratch. The spare sets serve what keeps the last
 /// flood: another flood with its boxes, or tests of which boxes hold one another.
-///
-/// A search for a walk gives each square a mark. In one search the boxes have the mark `base`, the squares that it
-/// reaches have greater marks, and all others have lesser ones. The next search takes a greater `base`, so no mark
-/// needs clearing.
 #[derive(Debug, Drop)]
 pub struct Scratch {
-    pub(crate) marks: Vec<u32>,
-    pub(crate) base: u32,
+    pub(crate) marks: Vec<u16>,
     pub(crate) queue: Vec<Square>,
     pub(crate) reached: SquareSet,
     pub(crate) boxes: SquareSet,
@@ -64,7 +55,6 @@ impl Scratch {
         level.tell();
         Ok(Scratch {
             marks: zeros(alloc, level.squares())?,
-            base: 0,
             queue: vec![in alloc; Square(0); level.squares()]?,
             reached: SquareSet::none(alloc, level.squares())?,
             boxes: SquareSet::none(alloc, level.squares())?,
@@ -147,27 +137,8 @@ impl Scratch {
 }
 
 // A mark of 0 for each square.
-fn zeros(alloc: Global, squares: usize) -> Result<Vec<u32>, AllocError>
-    ensures size { IfOk result (λ v. length v.items ≡ squares) }
-    ensures low { IfOk result (λ v. (q : ℕ) → slice_index v.items q ≡ 0) }
+fn zeros(alloc: Global, squares: usize) -> Result<Vec<u16>, AllocError>
+    ensures { IfOk result (λ v. length v.items ≡ squares) }
 {
     Ok(vec![in alloc; 0; squares]?)
-}
-
-// The mark of the boxes in the next search: greater than all marks. Clears the marks if it would grow too great.
-pub(crate) fn renewed(base: u32, marks: &mut [u32]) -> u32
-    requires small { length marks.old ≤ MAX_SQUARES }
-    requires base { base ≤ GREATEST_BASE }
-    requires within { AreWithin base (length marks.old) marks.old }
-    ensures low { (q : ℕ) → slice_index marks.new q < result }
-    ensures base { result ≤ GREATEST_BASE }
-{
-    let next = base + marks.len() as u32 + 1;
-    if next <= GREATEST_BASE {
-        return next;
-    }
-    for mark in marks.iter_mut() {
-        *mark = 0;
-    }
-    1
 }

@@ -3,21 +3,16 @@ use Rattle.std.specs.Prelude.{◌≡◌, ◌≤◌, length}
 use Rattle.grid.specs.declared.limits.TheConstants.{MAX_SQUARES}
 use Rattle.grid.specs.Masks.{word_count}
 use Rattle.area.specs.declared.scratch.Scratch.TheInside.{Inside}
-use Rattle.area.specs.declared.scratch.TheConstants.{GREATEST_BASE}
 use Rattle.area.specs.Reach.{Reach}
-use Rattle.area.specs.inside.Spread.{AreWithin}
 use Rattle.area.specs.Words.{squares_of}
 
 abbrev pub view_of : Inside → Reach
 view_of a = record { size = length a.marks.items; reached = squares_of a.reached; boxes = squares_of a.boxes }
 
--- there is a mark and a place in the queue for each square, and the marks are small enough for one more search; each
--- set has room for the squares
+-- there is a mark and a place in the queue for each square, and each set has room for the squares
 pub record IsReady (a : Inside) : Type 0 where
   pub places : length a.queue.items ≡ length a.marks.items
   pub small : length a.marks.items ≤ MAX_SQUARES
-  pub base : a.base ≤ GREATEST_BASE
-  pub within : AreWithin a.base (length a.marks.items) a.marks.items
   pub reached_words : length a.reached ≡ word_count (length a.marks.items)
   pub boxes_words : length a.boxes ≡ word_count (length a.marks.items)
   pub spare_words : length a.spare ≡ word_count (length a.marks.items)

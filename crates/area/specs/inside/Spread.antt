@@ -4,8 +4,6 @@ use Rattle.std.specs.Prelude.{slice_set, nat_lt, sum_by, cond}
 use Rattle.grid.specs.declared.dir.Dir.{Dir}
 use Rattle.grid.specs.Board.{Board, is_wall, next, dir_number}
 use Rattle.grid.specs.Squares.{Squares, contains}
-use Rattle.grid.specs.declared.limits.TheConstants.{MAX_SQUARES}
-use Rattle.area.specs.declared.scratch.TheConstants.{GREATEST_BASE}
 
 -- A mark of `base` says that a box stands on the square, a lesser mark that the search did not come upon it, and
 -- the mark `base + 1 + n` that it is reached, n steps from the square where the search began.
@@ -45,24 +43,11 @@ pub record IsSearched (board : Board) (boxes : Squares) (base from : ℕ) (marks
 abbrev pub KeepsBlocked : ℕ → List ℕ → List ℕ → Type 0
 KeepsBlocked base old new = (q : ℕ) → (slice_index old q ≡ base) ↔ (slice_index new q ≡ base)
 
--- no mark is more than `most` above `base`
-abbrev pub AreWithin : ℕ → ℕ → List ℕ → Type 0
-AreWithin base most marks = (q : ℕ) → slice_index marks q ≤ base + most
-
--- memory in which a search may begin: a mark and a place for each square, and no mark more than one for each square
--- above the last one of a box, which is not too great for one more search
-pub record IsMemory (board : Board) (base : ℕ) (marks queue : List ℕ) : Type 0 where
-  pub room : length marks ≡ length board.cells
-  pub places : length queue ≡ length board.cells
-  pub small : length marks ≤ MAX_SQUARES
-  pub low : base ≤ GREATEST_BASE
-  pub within : AreWithin base (length marks) marks
-
 -- memory in which a search from a square begins, round the boxes' marks
 pub record IsBegun (board : Board) (base from : ℕ) (marks queue : List ℕ) : Type 0 where
   pub room : length marks ≡ length board.cells
   pub places : length queue ≡ length board.cells
-  pub small : base + length board.cells + 1 < 2 ^ 32
+  pub small : base + length board.cells + 1 < 2 ^ 16
   pub fresh : (q : ℕ) → slice_index marks q ≤ base
   pub clear : is_wall board from ≡ false
   pub vacant : slice_index marks from < base

@@ -2,6 +2,7 @@ use Rattle.std.proofs.Common.{◌≡◌, ℕ, suc, ◌+◌, ◌<◌, [], ◌∷�
 use Rattle.std.proofs.lemmas.List.{get_or_read}
 use Rattle.grid.specs.declared.dir.Dir.TheVariants.{D, L, R, U}
 use Rattle.grid.proofs.lemmas.Steps.{inside_grid}
+use Rattle.area.specs.declared.spread.TheConstants.{BOX_MARK}
 use Rattle.area.specs.inside.Spread.{IsUnderWay}
 use Rattle.area.proofs.UnderWay.{IsLooked, started, begun, looked, has_room, queued_inside, passed, tail_bound}
 use Rattle.grid.proofs.lemmas.Directions.{dir_at}
@@ -15,8 +16,8 @@ bounds-queue-0 c = omega (arith, inside_grid c.args.level.now c.args.from c.requ
 
 pub loop-head-init : goal.loop-head-init
 loop-head-init c =
-    subst (λ (x : ℕ). IsUnderWay c.args.level.now c.args.base c.args.from c.args.marks.now
-    (set c.args.marks.now x (c.args.base + 1))
+    subst (λ (x : ℕ). IsUnderWay c.args.level.now BOX_MARK c.args.from c.args.marks.now
+    (set c.args.marks.now x (BOX_MARK + 1))
     (set c.args.queue.now 0 c.args.from) 0 0 1) (sym c.from.view_is)
     (started c.args.level.now _ _ _ _ c.requires.begun.room c.requires.begun.places c.requires.begun.fresh
     c.requires.begun.clear c.requires.begun.vacant)
@@ -41,10 +42,10 @@ pub loop-dir-preserved : goal.loop-dir-preserved
 loop-dir-preserved c =
     let i : ℕ = c.loop-dir.dir-index in
     let mark : ℕ = get_or c.loop-head.marks c.square.inside.0 0 + 1 in
-    subst (λ (n : ℕ). IsLooked c.args.level.now c.args.base c.args.from c.args.marks.now c.look-tail.new.marks
+    subst (λ (n : ℕ). IsLooked c.args.level.now BOX_MARK c.args.from c.args.marks.now c.look-tail.new.marks
     c.look-tail.new.queue c.loop-head.head n
     c.look-tail.result c.index-queue-head.result mark) (let e : suc i ≡ i + 1 = omega arith in e)
-    (looked c.args.level.now c.args.base c.args.from c.args.marks.now c.loop-dir.marks c.loop-dir.queue c.loop-head.head
+    (looked c.args.level.now BOX_MARK c.args.from c.args.marks.now c.loop-dir.marks c.loop-dir.queue c.loop-head.head
     i c.loop-dir.tail
     c.index-queue-head.result mark (get_or (D ∷ L ∷ R ∷ U ∷ []) i D) c.next-next.result c.loop-dir.invariant
     (dir_at i c.loop-dir-test.true)
@@ -54,7 +55,7 @@ pub loop-head-preserved : goal.loop-head-preserved
 loop-head-preserved c =
     let mark : ℕ = get_or c.loop-head.marks c.square.inside.0 0 + 1 in
     passed _ _ _ _ _ _ _ _ _ _
-    (subst (λ (n : ℕ). IsLooked c.args.level.now c.args.base c.args.from c.args.marks.now c.loop-dir.marks
+    (subst (λ (n : ℕ). IsLooked c.args.level.now BOX_MARK c.args.from c.args.marks.now c.loop-dir.marks
     c.loop-dir.queue
     c.loop-head.head n c.loop-dir.tail c.index-queue-head.result mark)
     (let e : c.loop-dir.dir-index ≡ 4 = omega (arith, c.loop-dir-test.false, c.loop-dir.auto.dir-index-end) in
