@@ -102,8 +102,8 @@ fn open_after(masks: &[StepMasks], boxes: &[u64], index: usize, dir: Dir, by: us
         word_bit result j ≡ is_open board boxes.now dir i }
 {
     let far = by / WORD_BITS;
-    let here = open_at(masks, boxes, index + far, dir);
-    let high = open_at(masks, boxes, index + far + 1, dir);
+    let here = open_word_at(masks, boxes, index + far, dir);
+    let high = open_word_at(masks, boxes, index + far + 1, dir);
     slid_down(here, high, by % WORD_BITS)
 }
 
@@ -118,15 +118,15 @@ fn open_before(masks: &[StepMasks], boxes: &[u64], index: usize, dir: Dir, by: u
     ensures none { (j : ℕ) → j < WORD_BITS → WORD_BITS * index + j < by → word_bit result j ≡ false }
 {
     let far = by / WORD_BITS;
-    let here = open_back(masks, boxes, index, dir, far);
-    let low = open_back(masks, boxes, index, dir, far + 1);
+    let here = open_word_before(masks, boxes, index, dir, far);
+    let low = open_word_before(masks, boxes, index, dir, far + 1);
     slid_up(here, low, by % WORD_BITS)
 }
 
 // The squares that a step in the direction can enter, in the word `far` words before another; none before the first
 // word.
 #[inline(always)]
-fn open_back(masks: &[StepMasks], boxes: &[u64], index: usize, dir: Dir, far: usize) -> u64
+fn open_word_before(masks: &[StepMasks], boxes: &[u64], index: usize, dir: Dir, far: usize) -> u64
     requires inside { index < length masks.now }
     requires boxes { length boxes.now ≡ length masks.now }
     ensures there { (board : Board) → AreMasks board masks.now → (j : ℕ) → j < WORD_BITS → far ≤ index →
@@ -134,7 +134,7 @@ fn open_back(masks: &[StepMasks], boxes: &[u64], index: usize, dir: Dir, far: us
     ensures none { index < far → result ≡ 0 }
 {
     if far <= index {
-        open_at(masks, boxes, index - far, dir)
+        open_word_at(masks, boxes, index - far, dir)
     } else {
         0
     }
@@ -142,7 +142,7 @@ fn open_back(masks: &[StepMasks], boxes: &[u64], index: usize, dir: Dir, far: us
 
 // The squares of a word that a step in the direction can enter: no wall bars it, and no box stands there.
 #[inline(always)]
-fn open_at(masks: &[StepMasks], boxes: &[u64], index: usize, dir: Dir) -> u64
+fn open_word_at(masks: &[StepMasks], boxes: &[u64], index: usize, dir: Dir) -> u64
     requires boxes { length boxes.now ≡ length masks.now }
     ensures { (board : Board) → AreMasks board masks.now → (j : ℕ) → j < WORD_BITS →
         word_bit result j ≡ is_open board boxes.now dir (WORD_BITS * index + j) }

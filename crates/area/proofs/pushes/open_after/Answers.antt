@@ -8,4 +8,4 @@ pub returns : goal.returns
 returns c = λ board are i j lt e.
     seen_after (is_open board c.args.boxes.now c.args.dir) c.args.index (c.args.by / WORD_BITS) (c.args.by % WORD_BITS) c.args.by _ _ _ (omega arith)
     (omega arith)
-    (c.open_at-here.ensures board are) (c.open_at-high.ensures board are) c.slid_down.ensures.here c.slid_down.ensures.high i j lt e
+    (c.open_word_at-here.ensures board are) (c.open_word_at-high.ensures board are) c.slid_down.ensures.here c.slid_down.ensures.high i j lt e

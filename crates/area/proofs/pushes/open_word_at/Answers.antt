@@ -1,6 +1,6 @@
 use Rattle.std.proofs.Common.{refl, arith}
 use Rattle.area.proofs.lemmas.Pushing.{open_bits, open_none}
-use Rattle.area.proofs.pushes.open_at.Goals as goal
+use Rattle.area.proofs.pushes.open_word_at.Goals as goal
 
 pub returns-then-index-masks : goal.returns-then-index-masks
 returns-then-index-masks c = λ board are j lt.
