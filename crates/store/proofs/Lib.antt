@@ -11,3 +11,4 @@ pub mod Lasts
 pub mod Digests
 pub mod Indices
 pub mod EntriesOf
+pub mod Finding

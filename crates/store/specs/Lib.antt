@@ -2,5 +2,6 @@ pub mod Entries
 pub mod Entering
 pub mod FoundView
 pub mod Visited
+pub mod Places
 pub mod Widths
 pub mod inside

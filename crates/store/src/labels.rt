@@ -1,6 +1,7 @@
 //! The positions that a search has visited, in keys of one width.
 ghost use Rattle.std.specs.Prelude.{◌≡◌, ◌+◌, ◌<◌, ◌≤◌, [], length, map, slice_get, slice_set, IfOk, OnErr, Some};
 ghost use Rattle.store.specs.FoundView.{FitsGrid};
+ghost use Rattle.store.specs.Places.{IsPlaceOf};
 ghost use Rattle.store.specs.Visited.{Entry, HasEntered, entries_of, entry_of, with_least};
 ghost use Rattle.store.specs.inside.KeyRows.{SuitsLevel};
 ghost use Rattle.successors.specs.Distances.{AreDistinct};
@@ -87,6 +88,14 @@ impl<const N: usize, const M: usize> Labels<N, M> {
         *label
     }
 
+    /// The place of a position, if it has one.
+    pub(crate) fn find(&self, position: &Position) -> Option<usize>
+        requires fits { FitsGrid self.now.boxes self.now.squares position.now }
+        ensures { IsPlaceOf self.now.entries position.now result }
+    {
+        find(&self.map, &Key::of(position))
+    }
+
     /// Enters a position that is new or has fewer pushes than before, and returns its place.
     pub(crate) fn enter(
         &mut self,
@@ -113,6 +122,18 @@ impl<const N: usize, const M: usize> Labels<N, M> {
     {
         self.map[place].least = least;
     }
+}
+
+// The place of a key, if it has one.
+fn find<const N: usize, const M: usize>(
+    map: &IndexMap<Key<N, M>, Label>,
+    key: &Key<N, M>,
+) -> Option<usize>
+    requires width { (N ≤ MAX_BOXES + 1) × (M ≤ MAX_BOXES + 1) }
+    ensures { IsPlaceOf (entries_of map.now.entries) key.now result }
+{
+    let place = map.get_index_of(key);
+    place
 }
 
 // Enters a key that is new or has fewer pushes than before, and returns its place.

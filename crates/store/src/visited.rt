@@ -1,6 +1,7 @@
 //! The positions that a search has visited, with a label each.
 ghost use Rattle.std.specs.Prelude.{◌≡◌, ◌<◌, ◌≤◌, [], length, map, slice_get, slice_set, IfOk, OnErr, Some};
 ghost use Rattle.store.specs.FoundView.{FitsGrid};
+ghost use Rattle.store.specs.Places.{IsPlaceOf};
 ghost use Rattle.store.specs.Visited.{Entry, HasEntered, entry_of, with_least};
 ghost use Rattle.successors.specs.Distances.{AreDistinct};
 
@@ -105,6 +106,16 @@ impl Visited {
             (result.least ≡ x.least) × (result.parent ≡ x.parent) }
     {
         in_each!(AnyLabels, &self.labels, labels => labels.label(place))
+    }
+
+    /// The place of a position. `None` if it was never entered.
+    ///
+    /// The position has at most as many boxes and squares as [`Visited::of`] was given.
+    pub fn find(&self, position: &Position) -> Option<usize>
+        requires fits { FitsGrid self.now.boxes self.now.squares position.now }
+        ensures { IsPlaceOf self.now.entries position.now result }
+    {
+        in_each!(AnyLabels, &self.labels, labels => labels.find(position))
     }
 
     /// Enters a position with a label and returns its place. A new position comes last. A position with more pushes
