@@ -9,7 +9,7 @@ use Rattle.grid.proofs.lemmas.Steps.{inside_grid, next_back}
 use Rattle.prices.specs.declared.table.Side.{Side}
 use Rattle.prices.specs.declared.table.DistanceTable.{DistanceTable}
 use Rattle.prices.specs.Prices.{AreFar, CanStand, goals_of}
-use Rattle.prices.specs.inside.Checks.{AreClosed, AreNoneAtHome, KeepRows, LessenByOne, StayAway}
+use Rattle.prices.specs.inside.Checks.{AreClosed, AreNoneAtHome, DistancesLessenByOne, KeepRows, StayAway}
 use Rattle.prices.specs.inside.Tables.{far_in, has_number, number_of, place_in, row_by, row_in, sides_of, spot_of}
 use Rattle.prices.proofs.lemmas.Goals.{contains-goals}
 use Rattle.prices.proofs.lemmas.Tables.{place_inside}
@@ -73,7 +73,7 @@ are_all x y z all =
     (first.0, first.1, last.1)
 
 pub are_far : (board : Board) (t : DistanceTable) → t.goals.items ≡ goals_of board → KeepRows board t → AreNoneAtHome board t
-    → LessenByOne board t
+    → DistancesLessenByOne board t
     → AreFar board (far_in t)
 are_far board t goals kept none less = record {
   home = λ g p goal stands. none g p (ap (λ (xs : List ℕ). contains xs g) goals ∙ (contains-goals board g ∙ goal))
@@ -88,7 +88,7 @@ are_far board t goals kept none less = record {
 }
 
 -- and a box that can't be brought to a goal can't be brought there after a push either
-pub stay_away : (board : Board) (t : DistanceTable) → LessenByOne board t → StayAway board (far_in t)
+pub stay_away : (board : Board) (t : DistanceTable) → DistancesLessenByOne board t → StayAway board (far_in t)
 stay_away board t less g p d here ahead =
     (less p d (inside_grid board p here.player) here.player here.floor ahead.floor).never (place_in t.goals.items g)
 

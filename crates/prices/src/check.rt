@@ -1,8 +1,8 @@
 //! The proved check that distances are lower bounds: one step of the player, or one push, at a time.
 ghost use Rattle.std.specs.Prelude.{◌≡◌, ℕ, ◌<◌, IsTrue, true, length, slice_index_or};
 ghost use Rattle.prices.specs.Prices.{AreFar, CanStand, goals_of};
-ghost use Rattle.prices.specs.inside.Checks.{AreClosed, AreNoneAtHome, AreWithinOne, IsClosed, KeepRows, LessenByOne};
-ghost use Rattle.prices.specs.inside.Checks.{LessensByOne, StayAway, StaysIn};
+ghost use Rattle.prices.specs.inside.Checks.{AreClosed, AreNoneAtHome, AreWithinOne, DistancesLessenByOne, IsClosed};
+ghost use Rattle.prices.specs.inside.Checks.{KeepRows, LessensByOne, StayAway, StaysIn};
 ghost use Rattle.prices.specs.inside.Tables.{far_in, row_in, has_number, spot_of};
 
 use crate::pulls::NEVER;
@@ -139,7 +139,7 @@ fn number_at(numbers: &[u32], place: usize) -> u32
 
 // Whether each push lessens each distance of the box by at most one, and keeps those of `NEVER`.
 fn lessen_by_one(level: &Level, table: &DistanceTable) -> bool
-    ensures { IsTrue result → LessenByOne level.now table.now }
+    ensures { IsTrue result → DistancesLessenByOne level.now table.now }
 {
     level.tell();
     for index in 0..level.squares() {

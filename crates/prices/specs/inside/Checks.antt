@@ -45,8 +45,8 @@ LessensByOne board t p d = let q = next board p d in let r = next board q d in
     AreWithinOne (row_in t q p) (row_in t r q)
 
 -- so does each push
-abbrev pub LessenByOne : Board → DistanceTable → Type 0
-LessenByOne board t = (p : ℕ) (d : Dir) → p < length board.cells → LessensByOne board t p d
+abbrev pub DistancesLessenByOne : Board → DistanceTable → Type 0
+DistancesLessenByOne board t = (p : ℕ) (d : Dir) → p < length board.cells → LessensByOne board t p d
 
 -- a box that can't be brought to a goal can't be brought there after a push either
 abbrev pub StayAway : Board → (ℕ → ℕ → ℕ → ℕ) → Type 0
