@@ -1,8 +1,7 @@
 -- A table of which each set of boxes passes says what is so of each state.
 use Rattle.std.proofs.Common.{◌≡◌, ◌≢◌, ◌+◌, ◌-◌, ◌<◌, ◌≤◌, ◌&&◌, ◌||◌, ◌==◌, ℕ, zero, suc, Bool, true, false, cond, not, List, [], ◌∷◌, drop, length, slice_index_or, take}
 use Rattle.std.proofs.Common.{inl, inr, refl, sym, ap, subst, ◌∙◌, arith}
-use Rattle.std.proofs.Math.ListN.{set}
-use Rattle.std.proofs.lemmas.List.{length-set}
+use Rattle.std.specs.Int.RustNames.{bit_and, bit_or}
 use Rattle.std.proofs.lemmas.Bool.{and_parts, eqb-true, false≢true, ne_eqb, true≢false}
 use Rattle.grid.specs.declared.dir.Dir.{Dir}
 use Rattle.grid.specs.Squares.{Squares, contains, insert, remove}
@@ -21,9 +20,10 @@ use Rattle.regions.specs.declared.table.RegionTable.{RegionTable}
 use Rattle.regions.specs.Regions.{IsLeft, IsPart, endless}
 use Rattle.regions.specs.inside.Tables.{entry_at, entry_of, high_of, is_seat, low_of, place_of, row_of, says}
 use Rattle.regions.proofs.Each.{none_left}
-use Rattle.regions.proofs.Marks.{Kept, mark_here, mark_other}
+use Rattle.regions.proofs.Bits.{box_other, box_put, no_bit, no_box}
 use Rattle.regions.proofs.lemmas.Excess.{same_or}
-use Rattle.regions.specs.inside.Checks.{IsListed, IsOpen, Pays, SetPasses, SetsPass, mark_of, one, sum_where}
+use Rattle.regions.specs.inside.Checks.{IsListed, IsOpen, Pays, SetPasses, SetsPass, one, sum_where}
+use Rattle.regions.specs.inside.Listing.{IsApart, bit_of, box_in}
 
 -- ---- sums over the seats are sums over the boxes
 
@@ -384,35 +384,39 @@ module _ (board : Board) (t : RegionTable) (waste : ℕ → Dir → ℕ) (seats 
           (subst (λ (k : ℕ). SetPasses board t waste seats box ((high + high_of t x) + highs) k (left - (1 + ones))) b
           (subst (λ (k : ℕ). SetPasses board t waste seats box ((high + high_of t x) + highs) ((low + low_of t x) + lows) k) c it)))
 
-  -- so it is with marks in a list
-  pub end_of : (rest : Squares) (m : List Bool) (high low left : ℕ) → length rest < 1 → SetPasses board t waste seats (mark_of m) high low left
-      → SetsPass board t waste seats rest (mark_of m) high low left
-  end_of rest m high low left none passes =
-      subst (λ (xs : Squares). SetsPass board t waste seats xs (mark_of m) high low left) (sym (none_left rest none)) (sets_end (mark_of m) high low left passes)
+  -- so it is with the bits of a set
+  pub end_of : (rest : Squares) (bits : List ℕ) (set high low left : ℕ) → length rest < 1
+      → SetPasses board t waste seats (box_in bits set) high low left
+      → SetsPass board t waste seats rest (box_in bits set) high low left
+  end_of rest bits set high low left none passes =
+      subst (λ (xs : Squares). SetsPass board t waste seats xs (box_in bits set) high low left) (sym (none_left rest none))
+      (sets_end (box_in bits set) high low left passes)
 
-  pub next_of : (rest : Squares) (x at : ℕ) (m n : List Bool) (high low left high_with low_with : ℕ) → rest ≡ (x ∷ take (length rest - 1) (drop 1 rest)) → at ≡ x
-      → at < length m → length n ≡ length (set m at false)
-      → let xs = take (length rest - 1) (drop 1 rest) in Kept xs n (set m at false)
-      → SetsPass board t waste seats xs (mark_of (set m at false)) high low left
+  pub next_of : (rest : Squares) (x : ℕ) (bits : List ℕ) (own set high low left high_with low_with : ℕ)
+      → rest ≡ (x ∷ take (length rest - 1) (drop 1 rest)) → own ≡ bit_of bits x → own ≢ 0 → bit_and set own ≡ 0
+      → ((y : ℕ) → contains rest y ≡ true → IsApart bits y)
+      → let xs = take (length rest - 1) (drop 1 rest) in
+      SetsPass board t waste seats xs (box_in bits set) high low left
       → high_with ≡ high + high_of t x → low_with ≡ low + low_of t x
-      → (1 ≤ left → SetsPass board t waste seats xs (mark_of (set n at true)) high_with low_with (left - 1))
-      → SetsPass board t waste seats rest (mark_of m) high low left
-  next_of rest x at m n high low left high_with low_with split same inside size kept first highs lows second =
+      → (1 ≤ left → SetsPass board t waste seats xs (box_in bits (bit_or set own)) high_with low_with (left - 1))
+      → SetsPass board t waste seats rest (box_in bits set) high low left
+  next_of rest x bits own set high low left high_with low_with split is some none apart first highs lows second =
       let xs = take (length rest - 1) (drop 1 rest) in
-      subst (λ (ys : Squares). SetsPass board t waste seats ys (mark_of m) high low left) (sym split)
-      (sets_next x xs (mark_of m) (mark_of (set m at false)) (mark_of (set n at true)) high low left
-      (λ q apart out. mark_other m at false q (λ e. apart (sym same ∙ e)))
-      (λ out. subst (λ (z : ℕ). mark_of (set m at false) z ≡ false) same (mark_here m at false inside))
-      (λ q apart out. mark_other n at true q (λ e. apart (sym same ∙ e)) ∙ (kept q out ∙ mark_other m at false q (λ e. apart (sym same ∙ e))))
-      (λ out. subst (λ (z : ℕ). mark_of (set n at true) z ≡ true) same (mark_here n at true (omega (arith, inside, size, length-set m at false))))
-      first (λ some. subst (λ (k : ℕ). SetsPass board t waste seats xs (mark_of (set n at true)) k (low + low_of t x) (left - 1)) highs
-      (subst (λ (k : ℕ). SetsPass board t waste seats xs (mark_of (set n at true)) high_with k (left - 1)) lows (second some))))
+      let with = box_in bits (bit_or set (bit_of bits x)) in
+      let alone = apart x (subst (λ (ys : Squares). contains ys x ≡ true) (sym split) (contains_head x xs)) in
+      subst (λ (ys : Squares). SetsPass board t waste seats ys (box_in bits set) high low left) (sym split)
+      (sets_next x xs (box_in bits set) (box_in bits set) with high low left
+      (λ q other out. refl) (λ out. no_bit bits set x (subst (λ (n : ℕ). bit_and set n ≡ 0) is none))
+      (λ q other out. box_other bits set x q alone other) (λ out. box_put bits set x (λ e. some (is ∙ e)))
+      first (λ more. subst (λ (k : ℕ). SetsPass board t waste seats xs with k (low + low_of t x) (left - 1)) highs
+      (subst (λ (k : ℕ). SetsPass board t waste seats xs with high_with k (left - 1)) lows
+      (subst (λ (n : ℕ). SetsPass board t waste seats xs (box_in bits (bit_or set n)) high_with low_with (left - 1)) is (second more)))))
 
 -- where all sets pass, the table says what is so
-pub part_of_all : (board : Board) (t : RegionTable) (waste : ℕ → Dir → ℕ) (seats rest : Squares) (m : List Bool) (left : ℕ) → IsLevel board → rest ≡ seats
-    → is_rising rest ≡ true → IsListed board t seats → left ≡ box_count board → ((q : ℕ) → mark_of m q ≡ false)
-    → SetsPass board t waste seats rest (mark_of m) 0 0 left → IsPart board waste (says t)
-part_of_all board t waste seats rest m left level same rises listed room_is none all =
-    table_is_part board t waste seats (subst (λ (xs : Squares). is_rising xs ≡ true) same rises) listed level (mark_of m) none
-    (subst (λ (xs : Squares). SetsPass board t waste seats xs (mark_of m) 0 0 (box_count board)) same
-    (subst (λ (k : ℕ). SetsPass board t waste seats rest (mark_of m) 0 0 k) room_is all))
+pub part_of_all : (board : Board) (t : RegionTable) (waste : ℕ → Dir → ℕ) (seats rest : Squares) (bits : List ℕ) (left : ℕ) → IsLevel board → rest ≡ seats
+    → is_rising rest ≡ true → IsListed board t seats → left ≡ box_count board
+    → SetsPass board t waste seats rest (box_in bits 0) 0 0 left → IsPart board waste (says t)
+part_of_all board t waste seats rest bits left level same rises listed room_is all =
+    table_is_part board t waste seats (subst (λ (xs : Squares). is_rising xs ≡ true) same rises) listed level (box_in bits 0) (no_box bits)
+    (subst (λ (xs : Squares). SetsPass board t waste seats xs (box_in bits 0) 0 0 (box_count board)) same
+    (subst (λ (k : ℕ). SetsPass board t waste seats rest (box_in bits 0) 0 0 k) room_is all))

@@ -4,3 +4,4 @@ pub mod Views
 pub mod Needs
 pub mod Sound
 pub mod Checks
+pub mod Listing

@@ -1,12 +1,14 @@
 //! The proved check that makes a table a lower bound: one set of boxes at a time.
-ghost use Rattle.std.specs.Prelude.{◌≡◌, ◌<◌, ◌≤◌, ℕ, IfOk, IsTrue, true, false, length};
+ghost use Rattle.std.specs.Prelude.{◌≡◌, ◌<◌, ◌≤◌, ℕ, IfOk, IsTrue, true, length};
 ghost use Rattle.grid.specs.Board.{is_goal};
 ghost use Rattle.grid.specs.Squares.{contains};
 ghost use Rattle.regions.specs.Regions.{IsPart};
-ghost use Rattle.regions.specs.inside.Checks.{IsListed, IsListedAt, SetPasses, SetsPass, mark_of};
+ghost use Rattle.regions.specs.inside.Checks.{IsListed, IsListedAt, SetPasses, SetsPass};
+ghost use Rattle.regions.specs.inside.Listing.{AreListed, IsApart, box_in};
 ghost use Rattle.regions.specs.inside.Tables.{entry_of, says, waste_in};
 
-use crate::steps::{BoxSet, Look, mark_of, pushes_pay, walks_keep};
+use crate::listing::{Look, Steps, are_apart, are_listed, bit_of, bits_of, has_box, steps_of};
+use crate::steps::{BoxSet, entries_pay, pushes_pay, walks_keep};
 use crate::table::RegionTable;
 use grid::{Level, Position, Square};
 use std::alloc::{AllocError, Global};
@@ -24,14 +26,16 @@ pub(crate) fn passes(
     let Some(seats) = Position::of(listed.as_slice(), Square(0)) else {
         return Ok(false);
     };
-    let mut marks = vec![in alloc; false; level.squares()]?;
+    let bits = bits_of(alloc, level.squares(), seats.boxes())?;
     let look = Look {
         level,
         wastes,
         table,
         seats: &seats,
+        bits: bits.as_slice(),
     };
-    let all = all_pass(&look, marks.as_mut_slice());
+    let steps = steps_of(alloc, &look)?;
+    let all = all_pass(&look, &steps);
     Ok(all)
 }
 
@@ -48,20 +52,26 @@ fn seats_of(alloc: Global, level: &Level, table: &RegionTable) -> Result<Vec<Squ
     Ok(seats)
 }
 
-// Whether all squares are listed, and all sets of boxes pass.
-fn all_pass(look: &Look<'_>, marks: &mut [bool]) -> bool
-    requires { (q : ℕ) → mark_of marks.old q ≡ false }
+// Whether all squares and steps are listed, and all sets of boxes pass.
+fn all_pass(look: &Look<'_>, steps: &Steps) -> bool
     ensures { IsTrue result → IsPart look.now.level.now (waste_in look.now.wastes.now) (says look.now.table.now) }
 {
     look.level.tell();
-    if !are_listed(look.level, look.table, look.seats) {
+    if !are_squares_listed(look.level, look.table, look.seats) {
         return false;
     }
-    sets_pass(look, look.seats.boxes(), marks, 0, 0, look.level.boxes())
+    let seats = look.seats.boxes();
+    if !are_apart(look.bits, seats) {
+        return false;
+    }
+    if !are_listed(look, steps) {
+        return false;
+    }
+    sets_pass(look, steps, seats, 0, 0, 0, look.level.boxes())
 }
 
 // Whether the squares of the region and those where a box is seen are listed.
-fn are_listed(level: &Level, table: &RegionTable, seats: &Position) -> bool
+fn are_squares_listed(level: &Level, table: &RegionTable, seats: &Position) -> bool
     ensures { IsTrue result → IsListed level.now table.now seats.now.boxes }
 {
     level.tell();
@@ -93,38 +103,43 @@ fn is_among(squares: &[Square], square: Square) -> bool
     found
 }
 
-// Whether all sets of boxes pass that are as marked, except on the rest of the seats, where they have at most `left`
-// boxes. Changes marks of these seats only.
+// Whether all sets of boxes pass that have these bits, except on the rest of the seats, where they have at most `left`
+// boxes.
 fn sets_pass(
     look: &Look<'_>,
+    steps: &Steps,
     rest: &[Square],
-    marks: &mut [bool],
+    bits: u64,
     high: u32,
     low: u32,
     left: usize,
 ) -> bool
-    ensures pass { IsTrue result → SetsPass look.now.level.now look.now.table.now (waste_in look.now.wastes.now)
-        look.now.seats.now.boxes rest.now (mark_of marks.old) high low left }
-    ensures others { (q : ℕ) → contains rest.now q ≡ false → mark_of marks.new q ≡ mark_of marks.old q }
-    ensures size { length marks.new ≡ length marks.old }
+    requires apart { (x : ℕ) → contains rest.now x ≡ true → IsApart look.now.bits.now x }
+    requires listed { AreListed look.now.level.now look.now.table.now look.now.bits.now (waste_in look.now.wastes.now)
+        look.now.seats.now.boxes steps.now }
+    ensures { IsTrue result → SetsPass look.now.level.now look.now.table.now (waste_in look.now.wastes.now)
+        look.now.seats.now.boxes rest.now (box_in look.now.bits.now bits) high low left }
 {
     let [first, others @ ..] = rest else {
         return set_passes(
             look,
+            steps,
             &BoxSet {
-                marks,
+                bits,
                 high,
                 low,
                 left,
             },
         );
     };
-    let at = first.0 as usize;
-    if at >= marks.len() {
+    let own = bit_of(look.bits, *first);
+    if own == 0 {
         return false;
     }
-    marks[at] = false;
-    if !sets_pass(look, others, marks, high, low, left) {
+    if bits & own != 0 {
+        return false;
+    }
+    if !sets_pass(look, steps, others, bits, high, low, left) {
         return false;
     }
     if left == 0 {
@@ -137,33 +152,62 @@ fn sets_pass(
     let Some(low_with) = low.checked_add(key.low) else {
         return false;
     };
-    marks[at] = true;
-    sets_pass(look, others, marks, high_with, low_with, left - 1)
+    sets_pass(
+        look,
+        steps,
+        others,
+        bits | own,
+        high_with,
+        low_with,
+        left - 1,
+    )
 }
 
 // Whether a set of boxes passes.
-fn set_passes(look: &Look<'_>, set: &BoxSet<'_>) -> bool
+fn set_passes(look: &Look<'_>, steps: &Steps, set: &BoxSet) -> bool
+    requires { AreListed look.now.level.now look.now.table.now look.now.bits.now (waste_in look.now.wastes.now)
+        look.now.seats.now.boxes steps.now }
     ensures { IsTrue result → SetPasses look.now.level.now look.now.table.now (waste_in look.now.wastes.now)
-        look.now.seats.now.boxes (mark_of set.now.marks.now) set.now.high set.now.low set.now.left }
+        look.now.seats.now.boxes (box_in look.now.bits.now set.now.bits) set.now.high set.now.low set.now.left }
 {
     let row = look.table.row(set.high as usize, set.low as usize);
-    let home = !is_home(look.level, look.seats.boxes(), set.marks) || is_nothing(look, row);
-    let kept = walks_keep(look, look.table.squares.as_slice(), set.marks, row);
-    let paid = pushes_pay(look, look.seats.boxes(), set, row);
-    home & kept & paid
+    if !walks_keep(look.table, steps.walks.as_slice(), set.bits, row) {
+        return false;
+    }
+    if !pushes_pay(look.table, steps.pushes.as_slice(), set, row) {
+        return false;
+    }
+    if !entries_pay(look.table, steps.entries.as_slice(), set, row) {
+        return false;
+    }
+    home_passes(look, set.bits, row)
+}
+
+// Whether the row says 0 if the set is that of a solved position.
+fn home_passes(look: &Look<'_>, set: u64, row: usize) -> bool
+    requires { row ≤ 8589934590 }
+    ensures { IsTrue result → ((q : ℕ) → contains look.now.seats.now.boxes q ≡ true →
+        box_in look.now.bits.now set q ≡ is_goal look.now.level.now q) → (p : ℕ) →
+        p < length look.now.level.now.cells → entry_of look.now.table.now row p ≡ 0 }
+{
+    if !is_home(look, look.seats.boxes(), set) {
+        return true;
+    }
+    is_nothing(look, row)
 }
 
 // Whether the seats with goals are those with boxes.
-fn is_home(level: &Level, seats: &[Square], marks: &[bool]) -> bool
-    ensures { ((q : ℕ) → contains seats.now q ≡ true → mark_of marks.now q ≡ is_goal level.now q) → IsTrue result }
+fn is_home(look: &Look<'_>, seats: &[Square], set: u64) -> bool
+    ensures { ((q : ℕ) → contains seats.now q ≡ true → box_in look.now.bits.now set q ≡ is_goal look.now.level.now q)
+        → IsTrue result }
 {
     let [first, rest @ ..] = seats else {
         return true;
     };
-    let mark = mark_of(marks, *first);
-    let goal = level.is_goal(*first);
-    if mark == goal {
-        return is_home(level, rest, marks);
+    let boxed = has_box(look.bits, set, *first);
+    let goal = look.level.is_goal(*first);
+    if boxed == goal {
+        return is_home(look, rest, set);
     }
     false
 }

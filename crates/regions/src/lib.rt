@@ -33,6 +33,7 @@ mod choosing;
 mod filling;
 mod ground;
 pub mod laws;
+mod listing;
 mod needs;
 mod plan;
 mod regions;

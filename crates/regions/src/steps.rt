@@ -1,221 +1,128 @@
-//! The single steps that the check of a table looks at, for one set of boxes.
-ghost use Rattle.std.specs.Prelude.{◌≡◌, ◌<◌, ◌≤◌, ◌↔◌, ℕ, IsTrue, true, length};
-ghost use Rattle.grid.specs.declared.dir.Dir.{Dir};
-ghost use Rattle.grid.specs.Squares.{contains};
+//! What the check of a table looks at for one set of boxes: the steps that are listed.
+ghost use Rattle.std.specs.Prelude.{◌≡◌, ◌≢◌, ◌≤◌, ℕ, IsTrue, Some, slice_get};
+ghost use Rattle.std.specs.Int.RustNames.{bit_and};
+ghost use Rattle.regions.specs.declared.listing.PushStep.{PushStep};
+ghost use Rattle.regions.specs.declared.listing.WalkStep.{WalkStep};
 ghost use Rattle.regions.specs.Regions.{IsLeft};
-ghost use Rattle.regions.specs.inside.Checks.{EntryPays, IsOpen, Keeps, Pays, PushPays, SeatPays, WalksKeep, mark_of};
-ghost use Rattle.regions.specs.inside.Tables.{row_of, waste_in};
+ghost use Rattle.regions.specs.inside.Listing.{PaysFor, WalkKeeps};
+ghost use Rattle.regions.specs.inside.Tables.{row_of};
 
-use crate::table::{ENDLESS, RegionTable, waste_at};
-use grid::{Dir, Level, Position, Square};
+use crate::listing::{PushStep, WalkStep};
+use crate::table::{ENDLESS, RegionTable};
 
-/// What is looked at: a table of a level, the waste of pushes that it counts, and the squares where a box is seen.
+/// A set of boxes: the bits of its seats, the sums of its keys, and how many boxes there may be besides.
 #[derive(Clone, Copy)]
-pub(crate) struct Look<'a> {
-    pub(crate) level: &'a Level,
-    pub(crate) wastes: &'a [u8],
-    pub(crate) table: &'a RegionTable,
-    pub(crate) seats: &'a Position,
-}
-
-/// A set of boxes: its marks, one for each square of the level, the sums of its keys, and how many boxes there may be
-/// besides.
-#[derive(Clone, Copy)]
-pub(crate) struct BoxSet<'a> {
-    pub(crate) marks: &'a [bool],
+pub(crate) struct BoxSet {
+    pub(crate) bits: u64,
     pub(crate) high: u32,
     pub(crate) low: u32,
     pub(crate) left: usize,
 }
 
-// The mark of a square.
-#[inline(always)]
-pub(crate) fn mark_of(marks: &[bool], square: Square) -> bool
-    ensures { result ≡ mark_of marks.now square }
-{
-    match marks.get(square.0 as usize) {
-        Some(mark) => *mark,
-        None => false,
-    }
-}
-
-// Whether the player can be on the square: it is no wall and has no box of the set.
-#[inline(always)]
-fn is_open(level: &Level, marks: &[bool], square: Square) -> bool
-    ensures { IsTrue result ↔ IsOpen level.now (mark_of marks.now) square }
-{
-    !level.is_wall(square) && !mark_of(marks, square)
-}
-
-/// Whether no walk from these squares, and none to them from outside, lessens what the row says.
-pub(crate) fn walks_keep(look: &Look<'_>, squares: &[Square], marks: &[bool], row: usize) -> bool
+/// Whether no step of the player changes what the row says.
+pub(crate) fn walks_keep(table: &RegionTable, walks: &[WalkStep], bits: u64, row: usize) -> bool
     requires { row ≤ 8589934590 }
-    ensures { IsTrue result → (z : ℕ) → contains squares.now z ≡ true
-        → WalksKeep look.now.level.now look.now.table.now (mark_of marks.now) row z }
+    ensures { IsTrue result → (i : ℕ) (w : WalkStep) → slice_get walks.now i ≡ Some w →
+        WalkKeeps table.now bits row w }
 {
-    let [first, rest @ ..] = squares else {
-        return true;
-    };
-    if !walks_keep_from(look, marks, row, *first) {
-        return false;
+    for walk in walks {
+        if !walk_keeps(table, walk, bits, row) {
+            return false;
+        }
     }
-    walks_keep(look, rest, marks, row)
+    true
 }
 
-// Whether no step from the square, and none to it from outside, lessens what the row says.
-fn walks_keep_from(look: &Look<'_>, marks: &[bool], row: usize, square: Square) -> bool
-    requires { row ≤ 8589934590 }
-    ensures { IsTrue result → WalksKeep look.now.level.now look.now.table.now (mark_of marks.now) row square }
-{
-    if look.level.is_wall(square) {
-        return true;
-    }
-    if mark_of(marks, square) {
-        return true;
-    }
-    let down = keeps(look, marks, row, square, look.level.next(square, Dir::D));
-    let left = keeps(look, marks, row, square, look.level.next(square, Dir::L));
-    let right = keeps(look, marks, row, square, look.level.next(square, Dir::R));
-    let up = keeps(look, marks, row, square, look.level.next(square, Dir::U));
-    down & left & right & up
-}
-
-// Whether a step between the two squares lessens nothing, if the player can be on the second.
+// Whether a step of the player changes nothing, or a box is in the way.
 #[inline(always)]
-fn keeps(look: &Look<'_>, marks: &[bool], row: usize, square: Square, to: Square) -> bool
+fn walk_keeps(table: &RegionTable, walk: &WalkStep, bits: u64, row: usize) -> bool
     requires { row ≤ 8589934590 }
-    ensures { IsTrue result → IsOpen look.now.level.now (mark_of marks.now) to →
-        Keeps look.now.table.now row square to }
+    ensures { IsTrue result → WalkKeeps table.now bits row walk.now }
 {
-    if !is_open(look.level, marks, to) {
+    if bits & walk.seats != 0 {
         return true;
     }
-    let before = look.table.entry(row, square);
-    let after = look.table.entry(row, to);
-    before <= after && (look.table.place(to) != 0 || after <= before)
+    table.byte(row, walk.from) == table.byte(row, walk.to)
 }
 
-/// Whether what is left after each push of a box of the set, and after each push of another box to a seat, pays for
-/// what was before it.
-pub(crate) fn pushes_pay(look: &Look<'_>, seats: &[Square], set: &BoxSet<'_>, row: usize) -> bool
-    requires row { row ≡ row_of look.now.table.now set.now.high set.now.low }
+/// Whether what is left after each of the pushes of boxes of the set pays for what was before it.
+pub(crate) fn pushes_pay(table: &RegionTable, pushes: &[PushStep], set: &BoxSet, row: usize) -> bool
+    requires row { row ≡ row_of table.now set.now.high set.now.low }
     requires few { row ≤ 8589934590 }
-    ensures { IsTrue result → (q : ℕ) → contains seats.now q ≡ true → (d : Dir)
-        → SeatPays look.now.level.now look.now.table.now (waste_in look.now.wastes.now) (mark_of set.now.marks.now)
-        set.now.high set.now.low set.now.left q d }
+    ensures { IsTrue result → (i : ℕ) (p : PushStep) → slice_get pushes.now i ≡ Some p →
+        bit_and set.now.bits p.seat ≢ 0 → PaysFor table.now set.now.bits set.now.high set.now.low p }
 {
-    let [first, rest @ ..] = seats else {
-        return true;
-    };
-    if !seat_pays(look, set, row, *first) {
-        return false;
+    for push in pushes {
+        if !seat_pays(table, push, set, row) {
+            return false;
+        }
     }
-    pushes_pay(look, rest, set, row)
+    true
 }
 
-// Whether each push of a box on the seat, or of another box to it, pays.
-fn seat_pays(look: &Look<'_>, set: &BoxSet<'_>, row: usize, seat: Square) -> bool
-    requires row { row ≡ row_of look.now.table.now set.now.high set.now.low }
+/// Whether what is left after each push of another box to a seat pays for what was before it, if there is another box.
+pub(crate) fn entries_pay(
+    table: &RegionTable,
+    entries: &[PushStep],
+    set: &BoxSet,
+    row: usize,
+) -> bool
+    requires row { row ≡ row_of table.now set.now.high set.now.low }
     requires few { row ≤ 8589934590 }
-    ensures { IsTrue result → (d : Dir)
-        → SeatPays look.now.level.now look.now.table.now (waste_in look.now.wastes.now) (mark_of set.now.marks.now)
-        set.now.high set.now.low set.now.left seat d }
+    ensures { IsTrue result → 1 ≤ set.now.left → (i : ℕ) (p : PushStep) → slice_get entries.now i ≡ Some p →
+        PaysFor table.now set.now.bits set.now.high set.now.low p }
 {
-    if look.level.is_wall(seat) {
-        return false;
-    }
-    let down = seat_pays_to(look, set, row, seat, Dir::D);
-    let left = seat_pays_to(look, set, row, seat, Dir::L);
-    let right = seat_pays_to(look, set, row, seat, Dir::R);
-    let up = seat_pays_to(look, set, row, seat, Dir::U);
-    down & left & right & up
-}
-
-// Whether a push of a box on the seat, or of another box to it, pays.
-fn seat_pays_to(look: &Look<'_>, set: &BoxSet<'_>, row: usize, seat: Square, dir: Dir) -> bool
-    requires row { row ≡ row_of look.now.table.now set.now.high set.now.low }
-    requires few { row ≤ 8589934590 }
-    requires inside { seat < length look.now.level.now.cells }
-    ensures { IsTrue result → SeatPays look.now.level.now look.now.table.now (waste_in look.now.wastes.now)
-        (mark_of set.now.marks.now) set.now.high set.now.low set.now.left seat dir }
-{
-    if mark_of(set.marks, seat) {
-        return push_pays(look, set, row, seat, dir);
-    }
     if set.left == 0 {
         return true;
     }
-    entry_pays(look, set, row, seat, dir)
+    for push in entries {
+        if !pays(table, push, set, row) {
+            return false;
+        }
+    }
+    true
 }
 
-// Whether a push of the set's box on the square pays.
-fn push_pays(look: &Look<'_>, set: &BoxSet<'_>, row: usize, square: Square, dir: Dir) -> bool
-    requires row { row ≡ row_of look.now.table.now set.now.high set.now.low }
-    requires few { row ≤ 8589934590 }
-    requires inside { square < length look.now.level.now.cells }
-    ensures { IsTrue result → PushPays look.now.level.now look.now.table.now (waste_in look.now.wastes.now)
-        (mark_of set.now.marks.now) set.now.high set.now.low square dir }
-{
-    let player = look.level.next(square, dir.opposite());
-    if !is_open(look.level, set.marks, player) {
-        return true;
-    }
-    let to = look.level.next(square, dir);
-    if !is_open(look.level, set.marks, to) {
-        return true;
-    }
-    pays(look, set, row, player, square, to, dir)
-}
-
-// Whether a push to the square of a box that isn't seen pays.
-fn entry_pays(look: &Look<'_>, set: &BoxSet<'_>, row: usize, to: Square, dir: Dir) -> bool
-    requires row { row ≡ row_of look.now.table.now set.now.high set.now.low }
-    requires few { row ≤ 8589934590 }
-    requires inside { to < length look.now.level.now.cells }
-    ensures { IsTrue result → EntryPays look.now.level.now look.now.table.now (waste_in look.now.wastes.now)
-        (mark_of set.now.marks.now) set.now.high set.now.low to dir }
-{
-    let square = look.level.next(to, dir.opposite());
-    if look.level.is_wall(square) {
-        return true;
-    }
-    if look.table.is_seat(square) {
-        return true;
-    }
-    let player = look.level.next(square, dir.opposite());
-    if !is_open(look.level, set.marks, player) {
-        return true;
-    }
-    pays(look, set, row, player, square, to, dir)
-}
-
-// Whether the player's push of a box from a square to the next pays, or its box can come to no goal afterwards.
+// Whether a push pays, or a box is in the way, or the seat has no box.
 #[inline(always)]
-fn pays(
-    look: &Look<'_>,
-    set: &BoxSet<'_>,
-    row: usize,
-    player: Square,
-    square: Square,
-    to: Square,
-    dir: Dir,
-) -> bool
-    requires row { row ≡ row_of look.now.table.now set.now.high set.now.low }
+fn seat_pays(table: &RegionTable, push: &PushStep, set: &BoxSet, row: usize) -> bool
+    requires row { row ≡ row_of table.now set.now.high set.now.low }
     requires few { row ≤ 8589934590 }
-    ensures { IsTrue result →
-        Pays look.now.table.now (waste_in look.now.wastes.now) set.now.high set.now.low player square to dir }
+    ensures { IsTrue result → bit_and set.now.bits push.now.seat ≢ 0 →
+        PaysFor table.now set.now.bits set.now.high set.now.low push.now }
 {
-    let waste = waste_at(look.wastes, square, dir);
-    if waste == ENDLESS {
+    if set.bits & push.seat == 0 {
         return true;
     }
-    let from = look.table.key(square);
-    let into = look.table.key(to);
-    let high = set.high.saturating_sub(from.high) as usize + into.high as usize;
-    let low = set.low.saturating_sub(from.low) as usize + into.low as usize;
-    let before = look.table.entry(row, player);
-    let after = look.table.entry(look.table.row(high, low), square);
-    is_left(before, waste, after)
+    pays(table, push, set, row)
+}
+
+// Whether a push pays, or a box is in the way.
+#[inline(always)]
+fn pays(table: &RegionTable, push: &PushStep, set: &BoxSet, row: usize) -> bool
+    requires row { row ≡ row_of table.now set.now.high set.now.low }
+    requires few { row ≤ 8589934590 }
+    ensures { IsTrue result → PaysFor table.now set.now.bits set.now.high set.now.low push.now }
+{
+    if set.bits & push.free != 0 {
+        return true;
+    }
+    let before = table.byte(row, push.player);
+    if is_covered(before, push.waste) {
+        return true;
+    }
+    let high = set.high.saturating_sub(push.left.high) as usize + push.entered.high as usize;
+    let low = set.low.saturating_sub(push.left.low) as usize + push.entered.low as usize;
+    let after = table.byte(table.row(high, low), push.place);
+    is_left(before, push.waste, after)
+}
+
+// Whether the waste of a push pays for what was before it.
+#[inline(always)]
+fn is_covered(before: u8, waste: u8) -> bool
+    ensures { IsTrue result → (after : ℕ) → IsLeft before waste after }
+{
+    before <= waste && before < ENDLESS
 }
 
 // Whether what is left after a push with this waste pays for what was before it.

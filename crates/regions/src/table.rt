@@ -2,8 +2,8 @@
 ghost use Rattle.std.specs.Prelude.{◌≡◌, ◌≤◌, ◌+◌, ◌*◌, length, slice_index_or};
 ghost use Rattle.grid.specs.Board.{dir_number};
 ghost use Rattle.prices.specs.Prices.{sum_over};
-ghost use Rattle.regions.specs.inside.Tables.{entry_of, high_of, is_seat, key_of, low_of, place_of, row_of, says};
-ghost use Rattle.regions.specs.inside.Tables.{waste_in};
+ghost use Rattle.regions.specs.inside.Tables.{byte_in, entry_of, high_of, is_seat, key_of, low_of, place_of, row_of};
+ghost use Rattle.regions.specs.inside.Tables.{says, waste_in};
 
 use grid::{Dir, MAX_BOXES, Position, Square};
 
@@ -12,7 +12,7 @@ use grid::{Dir, MAX_BOXES, Position, Square};
 pub(crate) const ENDLESS: u8 = u8::MAX;
 
 /// What a box on a square adds to the two numbers of a set of boxes.
-#[derive(Clone, Copy, Default, Debug)]
+#[derive(Clone, Copy, Default, PartialEq, Eq, Debug)]
 pub(crate) struct Key {
     pub(crate) high: u32,
     pub(crate) low: u32,
@@ -81,7 +81,16 @@ impl RegionTable {
         requires { row ≤ 8589934590 }
         ensures { result ≡ entry_of self.now row player }
     {
-        byte_at(self.bytes.as_slice(), row + self.place(player) as usize)
+        self.byte(row, self.place(player))
+    }
+
+    /// The entry of a row, with the player on the place.
+    #[inline(always)]
+    pub(crate) fn byte(&self, row: usize, place: u8) -> u8
+        requires { row ≤ 8589934590 }
+        ensures { result ≡ byte_in self.now row place }
+    {
+        byte_at(self.bytes.as_slice(), row + place as usize)
     }
 
     /// What the table says of a position.

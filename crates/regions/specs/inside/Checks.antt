@@ -1,6 +1,5 @@
 -- What a table is looked at for, one set of boxes and one step of the player at a time.
 use Rattle.std.specs.Prelude.{◌≡◌, ◌≢◌, ℕ, suc, ◌+◌, ◌-◌, ◌≤◌, ◌<◌, Bool, true, false, cond, List, length}
-use Rattle.std.specs.Prelude.{slice_index_or}
 use Rattle.grid.specs.declared.dir.Dir.{Dir}
 use Rattle.grid.specs.Squares.{Squares, contains}
 use Rattle.grid.specs.Board.{Board, is_goal, is_wall, next, opposite}
@@ -8,10 +7,6 @@ use Rattle.prices.specs.Prices.{CanStand, sum_over}
 use Rattle.regions.specs.declared.table.RegionTable.{RegionTable}
 use Rattle.regions.specs.Regions.{AreFinite, CanCome, IsLeft, Part, endless, waste_of}
 use Rattle.regions.specs.inside.Tables.{entry_at, entry_of, high_of, is_seat, low_of, place_of, row_of}
-
--- the mark of a square
-abbrev pub mark_of : List Bool → ℕ → Bool
-mark_of marks q = slice_index_or marks q false
 
 -- neither a wall nor a box of the set
 abbrev pub IsOpen : Board → (ℕ → Bool) → ℕ → Type 0

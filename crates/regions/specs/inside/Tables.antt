@@ -28,9 +28,13 @@ place_of t q = slice_index_or t.places.items q 0
 abbrev pub row_of : RegionTable → ℕ → ℕ → ℕ
 row_of t high low = slice_index_or t.high_rows.items high 0 + slice_index_or t.low_rows.items low 0
 
--- what a row says, the player being on the square
+-- what a row says, the player being on the place
+abbrev pub byte_in : RegionTable → ℕ → ℕ → ℕ
+byte_in t row place = slice_index_or t.bytes.items (row + place) 0
+
+-- what it says, the player being on the square
 abbrev pub entry_of : RegionTable → ℕ → ℕ → ℕ
-entry_of t row p = slice_index_or t.bytes.items (row + place_of t p) 0
+entry_of t row p = byte_in t row (place_of t p)
 
 -- what the table says of boxes with these sums of keys
 abbrev pub entry_at : RegionTable → ℕ → ℕ → ℕ → ℕ

@@ -1,34 +1,35 @@
 use Rattle.std.proofs.Common.{◌+◌, ◌∙◌, ℕ, ap, arith, refl}
 use Rattle.regions.specs.declared.table.Key.{Key}
-use Rattle.regions.specs.inside.Tables.{high_of, key_of, low_of, waste_in}
+use Rattle.regions.specs.inside.Tables.{high_of, low_of, waste_in}
 use Rattle.regions.proofs.Each.{first_and_rest}
 use Rattle.regions.proofs.Sets.{end_of, next_of}
 use Rattle.regions.proofs.check.+sets_pass.Goals as goal
 
-pub returns-in_default-clause-pass : goal.returns-in_default-clause-pass
-returns-in_default-clause-pass t c = λ yes.
+pub returns-in_default : goal.returns-in_default
+returns-in_default t c = λ yes.
     end_of c.args.look.now.level.now c.args.look.now.table.now (waste_in c.args.look.now.wastes.now) c.args.look.now.seats.now.boxes
-    c.args.rest.now c.args.marks.now c.args.high c.args.low c.args.left c.in_default.len_below (c.set_passes.ensures yes)
+    c.args.rest.now c.args.look.now.bits.now c.args.bits c.args.high c.args.low c.args.left c.in_default.len_below (c.set_passes.ensures yes)
 
-pub returns-then-left-eq0-clause-pass : goal.returns-then-left-eq0-clause-pass
-returns-then-left-eq0-clause-pass t c = λ yes. (
+pub returns-then-left-eq0 : goal.returns-then-left-eq0
+returns-then-left-eq0 t c = λ yes. (
     let none = c.if-left-eq0.true in
     next_of c.args.look.now.level.now c.args.look.now.table.now (waste_in c.args.look.now.wastes.now) c.args.look.now.seats.now.boxes
-    c.args.rest.now c.first-item.result c.first.inside.0 c.args.marks.now c.sets_pass.new.marks c.args.high c.args.low c.args.left (c.args.high + high_of c.args.look.now.table.now c.first-item.result)
-    (c.args.low + low_of c.args.look.now.table.now c.first-item.result)
-    (first_and_rest c.args.rest.now c.first-item.result c.in-len1-up.len_at_least c.first-item.is) c.first.view_is
-    (omega (arith, c.if-at-marks.false)) c.sets_pass.ensures.size c.sets_pass.ensures.others
-    (c.sets_pass.ensures.pass c.if-not-sets_pass.false) refl refl (λ some. absurd (omega (arith, some, none)))
+    c.args.rest.now c.first-item.result c.args.look.now.bits.now c.bit_of-own.result c.args.bits c.args.high c.args.low c.args.left
+    (c.args.high + high_of c.args.look.now.table.now c.first-item.result) (c.args.low + low_of c.args.look.now.table.now c.first-item.result)
+    (first_and_rest c.args.rest.now c.first-item.result c.in-len1-up.len_at_least c.first-item.is)
+    c.bit_of-own.ensures c.if-own-eq0.false c.if-bits-own-ne0.false c.requires.apart
+    (c.sets_pass.ensures c.if-not-sets_pass.false) refl refl (λ some. absurd (omega (arith, some, none)))
     )
 
-pub returns-clause-pass : goal.returns-clause-pass
-returns-clause-pass t c = λ yes. (
-    let key = c.key-key.ensures ∙ ap (λ (q : ℕ). key_of c.args.look.now.table.now q) c.first.view_is in
+pub returns : goal.returns
+returns t c = λ yes. (
+    let key = c.key-key.ensures in
     next_of c.args.look.now.level.now c.args.look.now.table.now (waste_in c.args.look.now.wastes.now) c.args.look.now.seats.now.boxes
-    c.args.rest.now c.first-item.result c.first.inside.0 c.args.marks.now c.sets_pass.new.marks c.args.high c.args.low c.args.left c.in-Some.high_with c.in-Some-checked_add.low_with
-    (first_and_rest c.args.rest.now c.first-item.result c.in-len1-up.len_at_least c.first-item.is) c.first.view_is
-    (omega (arith, c.if-at-marks.false)) c.sets_pass.ensures.size c.sets_pass.ensures.others
-    (c.sets_pass.ensures.pass c.if-not-sets_pass.false)
+    c.args.rest.now c.first-item.result c.args.look.now.bits.now c.bit_of-own.result c.args.bits c.args.high c.args.low c.args.left
+    c.in-Some.high_with c.in-Some-checked_add.low_with
+    (first_and_rest c.args.rest.now c.first-item.result c.in-len1-up.len_at_least c.first-item.is)
+    c.bit_of-own.ensures c.if-own-eq0.false c.if-bits-own-ne0.false c.requires.apart
+    (c.sets_pass.ensures c.if-not-sets_pass.false)
     (let e = c.in-Some.ensures in let k = ap (λ (k : Key). k.high) key in omega (arith, e, k))
-    (let e = c.in-Some-checked_add.ensures in let k = ap (λ (k : Key). k.low) key in omega (arith, e, k)) (λ some. c.sets_pass-2.ensures.pass yes)
+    (let e = c.in-Some-checked_add.ensures in let k = ap (λ (k : Key). k.low) key in omega (arith, e, k)) (λ some. c.sets_pass-2.ensures yes)
     )

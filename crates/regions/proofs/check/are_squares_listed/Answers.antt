@@ -1,7 +1,7 @@
 use Rattle.std.proofs.Common.{arith}
 use Rattle.prices.proofs.lemmas.Looks.{below_next}
 use Rattle.regions.specs.inside.Checks.{IsListedAt}
-use Rattle.regions.proofs.check.are_listed.Goals as goal
+use Rattle.regions.proofs.check.are_squares_listed.Goals as goal
 
 pub loop-index-preserved : goal.loop-index-preserved
 loop-index-preserved c =
