@@ -1,5 +1,6 @@
 //! The choice of tolls and regions. It has no contract: the tables that are filled for them are checked.
 
+use crate::fitting::{fitted, ranked};
 use crate::rows::MOST_ENTRIES;
 use crate::wastes::wastes_of;
 use crate::windows::Finder;
@@ -42,6 +43,54 @@ pub(crate) fn choose(
         owners,
         regions,
     })
+}
+
+/// The part of a table's bytes that the small tables take by which squares are ranked.
+const SMALL: usize = 40;
+
+/// Chooses regions and tolls that suit these positions: windows round the squares where small tables find most in them
+/// come first. Each table takes at most `bytes` bytes, and all together at most [`MOST_ENTRIES`].
+pub(crate) fn choose_for(
+    alloc: Global,
+    level: &Level,
+    distances: &Distances,
+    bytes: usize,
+    samples: &[Position],
+) -> Result<Choice, AllocError> {
+    let tolls = fitted(alloc, distances, samples)?;
+    let wastes = wastes_of(alloc, level, distances, tolls.as_slice())?;
+    let order = ranked(alloc, level, wastes.as_slice(), bytes / SMALL, samples)?;
+    let mut finder = Finder::new(alloc, level, wastes.as_slice(), level.boxes(), bytes)?;
+    let windows = windows_round(alloc, level, &mut finder, order.as_slice())?;
+    let regions = affordable(alloc, &finder, windows)?;
+    let owners = owners_of(alloc, level, regions.as_slice())?;
+    Ok(Choice {
+        tolls,
+        wastes,
+        owners,
+        regions,
+    })
+}
+
+// Windows round these squares, in this order, and then round others from which a box can come to a goal.
+fn windows_round(
+    alloc: Global,
+    level: &Level,
+    finder: &mut Finder,
+    order: &[Square],
+) -> Result<Vec<Vec<Square>>, AllocError> {
+    let mut cover = Cover {
+        regions: Vec::new(alloc),
+        covered: vec![in alloc; false; level.squares()]?,
+    };
+    for square in order {
+        cover.add(alloc, level, finder, *square)?;
+    }
+    level.tell();
+    for index in 0..level.squares() {
+        cover.add(alloc, level, finder, Square(index as u16))?;
+    }
+    Ok(cover.regions)
 }
 
 // The tolls of the matching of the start, which suit it best.

@@ -8,7 +8,8 @@
 //! wastes, so the needs of the boxes and the tables of all regions add up to a bound.
 //!
 //! A proved check looks at each entry of a table once, one step at a time, so it does not matter how the squares were
-//! chosen and how the table was filled. Without tables a bound is that of the matching. A bound takes no memory.
+//! chosen and how the table was filled. Without tables a bound is that of the matching. A bound takes no memory. A
+//! search that is held up can choose regions again for positions that it samples ([`Regions::plan_for`]).
 //!
 //! With the `level` of a room of five rows of five squares, in the third row the player, two boxes side by side and two
 //! goals:
@@ -31,6 +32,7 @@
 mod check;
 mod choosing;
 mod filling;
+mod fitting;
 mod ground;
 pub mod laws;
 mod listing;

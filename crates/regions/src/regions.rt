@@ -3,9 +3,9 @@ ghost use Rattle.grid.specs.Lawful.{box_count};
 ghost use Rattle.grid.specs.States.{FitsLevel};
 ghost use Rattle.doom.specs.Lost.{IsLost};
 ghost use Rattle.prices.specs.Solving.{NoneWithin};
-ghost use Rattle.regions.specs.inside.Sound.{IsTaken};
+ghost use Rattle.regions.specs.inside.Sound.{AreSound, IsTaken};
 
-use crate::choosing::choose;
+use crate::choosing::{choose, choose_for};
 use crate::plan::{Plan, plan_of};
 use crate::sums::{are_sound, is_dead_by, lower_by};
 use grid::{Level, MAX_BOXES, Position};
@@ -13,11 +13,14 @@ use prices::{Distances, Matching};
 use std::alloc::{AllocError, Global};
 use std::marker::Model;
 
-/// The distances of a level, and regions with their tables. Contracts see the level.
+/// The distances of a level, and up to three sets of regions with their tables. Contracts see the level.
 #[derive(Debug, Drop)]
 pub struct Regions {
     distances: Distances,
     plan: Option<Plan>,
+    // the last two that were chosen for sampled positions
+    earlier: Option<Plan>,
+    latest: Option<Plan>,
 }
 
 impl Model for Regions {
@@ -29,7 +32,8 @@ impl Model for Regions {
 
     ghost view = { λ a. a.distances.level };
 
-    ghost invariant = { λ a. IsTaken a.distances a.plan };
+    ghost invariant = { λ a. IsTaken a.distances a.plan × IsTaken a.distances a.earlier ×
+        IsTaken a.distances a.latest };
 }
 
 impl Regions {
@@ -43,6 +47,8 @@ impl Regions {
         Ok(Regions {
             distances: far,
             plan: None,
+            earlier: None,
+            latest: None,
         })
     }
 
@@ -53,33 +59,54 @@ impl Regions {
         &self.distances
     }
 
-    /// Chooses regions of a level, and tolls that suit the sampled positions, or the start if there are none. Each
-    /// table takes at most `bytes` bytes. The choice has no contract. Fails only if out of memory.
+    /// Chooses regions of a level, and tolls that suit the start. Each table takes at most `bytes` bytes. The choice
+    /// has no contract. Fails only if out of memory.
     pub fn plan(&self, alloc: Global, level: &Level, bytes: usize) -> Result<Plan, AllocError> {
         let choice = choose(alloc, level, &self.distances, bytes)?;
         plan_of(alloc, level, choice)
     }
 
-    /// Takes the tables of a plan that passed their check, in place of those before. A plan of another level, or one whose
-    /// regions count more for a push than it wastes, changes nothing.
+    /// Chooses regions and tolls that suit sampled positions, for [`Regions::take_later`]: the first regions lie where
+    /// the boxes of the samples are in each other's way. Each table takes at most `bytes` bytes. Takes up to some
+    /// seconds. The choice has no contract. Fails only if out of memory.
+    pub fn plan_for(
+        &self,
+        alloc: Global,
+        level: &Level,
+        bytes: usize,
+        samples: &[Position],
+    ) -> Result<Plan, AllocError> {
+        let choice = choose_for(alloc, level, &self.distances, bytes, samples)?;
+        plan_of(alloc, level, choice)
+    }
+
+    /// Takes the tables of a plan that passed their check, in place of those before. A plan of another level, or one
+    /// whose regions count more for a push than it wastes, changes nothing.
     pub fn take(&mut self, level: &Level, plan: Plan)
         requires { level.now ≡ self.old }
         ensures { self.new ≡ self.old }
     {
-        let sound = are_sound(
-            level,
-            &self.distances,
-            plan.tolls.as_slice(),
-            plan.tasks.as_slice(),
-        );
-        if !sound {
+        if !is_sound(level, &self.distances, &plan) {
             return;
         }
         self.plan = Some(plan);
     }
 
+    /// Takes the tables of a plan that passed their check, beside those of [`Regions::take`] and of the last plan that
+    /// this took. A plan of another level, or one whose regions count more for a push than it wastes, changes nothing.
+    pub fn take_later(&mut self, level: &Level, plan: Plan)
+        requires { level.now ≡ self.old }
+        ensures { self.new ≡ self.old }
+    {
+        if !is_sound(level, &self.distances, &plan) {
+            return;
+        }
+        self.earlier = self.latest.take();
+        self.latest = Some(plan);
+    }
+
     /// A lower bound on the pushes that the boxes need: no play from the position with fewer ends solved. It is the
-    /// greater of the matching's and of what the regions say; `u64::MAX` if [`Regions::is_dead`] is true.
+    /// greatest of the matching's and of what each set of regions says; `u64::MAX` if [`Regions::is_dead`] is true.
     /// Takes no memory. The matching may be that of any position; one of a position that differs by a push or two is
     /// fastest.
     pub fn lower(&self, position: &Position, matching: &mut Matching) -> u64
@@ -87,7 +114,10 @@ impl Regions {
         ensures { (m : ℕ) → m < result → NoneWithin self.now m position.now }
     {
         let low = self.distances.lower(position, matching);
-        low.max(lower_of(&self.distances, &self.plan, position))
+        let first = lower_of(&self.distances, &self.plan, position);
+        let second = lower_of(&self.distances, &self.earlier, position);
+        let third = lower_of(&self.distances, &self.latest, position);
+        low.max(first).max(second.max(third))
     }
 
     /// Whether a table says that its boxes can never all come to goals: then no play from the position ends solved.
@@ -96,8 +126,24 @@ impl Regions {
         requires { FitsLevel self.now position.now }
         ensures { IsTrue result → IsLost self.now position.now }
     {
-        is_dead_of(&self.distances, &self.plan, position)
+        let first = is_dead_of(&self.distances, &self.plan, position);
+        let second = is_dead_of(&self.distances, &self.earlier, position);
+        let third = is_dead_of(&self.distances, &self.latest, position);
+        first | second | third
     }
+}
+
+// Whether the plan is of the level, and its regions count no more for a push than it wastes.
+fn is_sound(level: &Level, distances: &Distances, plan: &Plan) -> bool
+    requires { level.now ≡ distances.now.level }
+    ensures { IsTrue result → AreSound distances.now plan.now.tolls.items plan.now.tasks.items }
+{
+    are_sound(
+        level,
+        distances,
+        plan.tolls.as_slice(),
+        plan.tasks.as_slice(),
+    )
 }
 
 // The bound of regions: 0 without any, and `u64::MAX` if one of them is endless.
