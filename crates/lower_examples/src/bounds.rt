@@ -11,7 +11,7 @@ use std::alloc::Global;
 use std::process::Abort;
 
 /// No play ends solved.
-const LOST: u64 = u64::MAX;
+pub(crate) const LOST: u64 = u64::MAX;
 
 // the player cannot reach the other side of the box
 const WRONG_SIDE: BoardText = (6, b"#######.@$ #######");
@@ -60,8 +60,8 @@ fn what_no_matching_brings_home_is_lost(rt: HostRuntime) {
     }
 }
 
-// All positions of a level with at most three boxes, in the order of their squares.
-fn all_positions(rt: &impl Abort, alloc: Global, level: &Level) -> Vec<Position> {
+/// All positions of a level with at most three boxes, in the order of their squares.
+pub(crate) fn all_positions(rt: &impl Abort, alloc: Global, level: &Level) -> Vec<Position> {
     let mut found = Vec::new(alloc);
     let last = u16::try_from(level.squares()).unwrap_or(u16::MAX);
     for first in 0..last {
@@ -164,9 +164,14 @@ fn lower_each(rt: &impl Abort, steps: &[(usize, usize, u64)], least: &mut [u64])
     changed
 }
 
-// The least pushes with which a play from each position ends solved, by the rules alone. The shortest of these plays
-// have fewer steps than there are positions.
-fn least_pushes(rt: &impl Abort, alloc: Global, level: &Level, positions: &[Position]) -> Vec<u64> {
+/// The least pushes with which a play from each position ends solved, by the rules alone. The shortest of these plays
+/// have fewer steps than there are positions.
+pub(crate) fn least_pushes(
+    rt: &impl Abort,
+    alloc: Global,
+    level: &Level,
+    positions: &[Position],
+) -> Vec<u64> {
     let steps = steps_of(rt, alloc, level, positions);
     let mut least = Vec::new(alloc);
     for position in positions {

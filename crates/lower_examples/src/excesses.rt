@@ -4,9 +4,10 @@
 //! pushes. These numbers come from a slow search by the rules, over all positions of the room.
 ghost use Rattle.std.specs.Prelude.{◌≡◌};
 
-use crate::boards::{BoardText, level_of};
+use crate::boards::{BoardText, cells_of, level_of, walled};
+use crate::bounds::{LOST, all_positions, least_pushes};
 use grid::{Level, MAX_BOXES, Position};
-use prices::Matching;
+use prices::{Matching, NEVER};
 use regions::Regions;
 use regions::laws::{excess_is_bound, parts_add_up};
 use std::alloc::Global;
@@ -53,6 +54,18 @@ const FOUR_ARE_LOST: BoardText = (5, b"######.$@## $$##.*.###  ###  ######");
 
 // the same with any four of five boxes
 const FIVE_ARE_LOST: BoardText = (5, b"######@$.##$$*##.*.## ########");
+
+// one box, which the player has to walk round, and squares from which a box comes to no goal
+const WAY_ROUND: BoardText = (6, b"#######    ##.@$ ##    #######");
+
+// the player cannot come to the other side of the box
+const WRONG_SIDE: BoardText = (6, b"#######.@$ #######");
+
+// all boxes are on goals
+const SOLVED: BoardText = (7, b"######## * @ ## ### ##  *  ########");
+
+// a box on its goal where the player never comes, and one that needs a push
+const SHUT_AWAY: BoardText = (8, b"#########@$.# *#########");
 
 fn prices_of(rt: &impl Abort, alloc: Global, level: &Level) -> Regions
     ensures { result ≡ level.now }
@@ -138,6 +151,158 @@ fn boxes_are_lost(rt: HostRuntime) {
     assert!(&rt; is_dead(&rt, alloc, FOUR_ARE_LOST));
     assert!(&rt; is_dead(&rt, alloc, FIVE_ARE_LOST));
     assert!(&rt; lower_of(&rt, alloc, FIVE_ARE_LOST) == u64::MAX);
+}
+
+// Compares the bound of each position of a level with the slow search. The table is of the whole room, so the bound is
+// the fewest pushes.
+fn compare_all(rt: &impl Abort, alloc: Global, board: BoardText) {
+    let level = level_of(rt, alloc, board);
+    let positions = all_positions(rt, alloc, &level);
+    let fewest = least_pushes(rt, alloc, &level, positions.as_slice());
+    let regions = regions_of(rt, alloc, &level);
+    let mut matching = Matching::new();
+    for (place, position) in positions.as_slice().iter().enumerate() {
+        assert!(rt; position.fits(&level));
+        assert!(rt; place < fewest.len());
+        let low = regions.lower(position, &mut matching);
+        let pushes = fewest[place];
+        assert_eq!(rt;
+            low.min(u64::from(NEVER)),
+            pushes.min(u64::from(NEVER)),
+            "place {place}"
+        );
+        let is_dead = regions.is_dead(position);
+        assert!(rt; !is_dead || pushes == LOST, "place {place} is not lost");
+        assert!(rt; !is_dead || low == LOST, "place {place}: {low}");
+    }
+}
+
+#[test]
+fn of_whole_rooms_the_bound_is_the_fewest_pushes(rt: HostRuntime) {
+    for board in [
+        WAY_ROUND,
+        WRONG_SIDE,
+        CORRIDOR,
+        BETWEEN,
+        FREE,
+        THREE_AT_WALLS,
+    ] {
+        compare_all(&rt, rt.alloc(), board);
+    }
+}
+
+#[test]
+fn one_box_needs_what_it_needs_alone(rt: HostRuntime) {
+    let alloc = rt.alloc();
+    assert!(&rt; lower_of(&rt, alloc, WAY_ROUND) == 2);
+    assert!(&rt; is_dead(&rt, alloc, WRONG_SIDE));
+}
+
+#[test]
+fn boxes_on_goals_need_no_push(rt: HostRuntime) {
+    let alloc = rt.alloc();
+    assert!(&rt; lower_of(&rt, alloc, SOLVED) == 0);
+    assert!(&rt; !is_dead(&rt, alloc, SOLVED));
+}
+
+#[test]
+fn a_box_where_the_player_never_comes_needs_nothing(rt: HostRuntime) {
+    let alloc = rt.alloc();
+    assert!(&rt; lower_of(&rt, alloc, SHUT_AWAY) == 1);
+    assert!(&rt; !is_dead(&rt, alloc, SHUT_AWAY));
+}
+
+// A box beside its goal that has to go along the corridor to column `end` and back, since a box on a goal shuts the
+// way round it. Alone it needs one push.
+//
+// #######..#####
+// ## * ##..   ##
+// ##+$  ..    ##
+// #######..#####
+fn there_and_back(rt: &impl Abort, alloc: Global, end: usize) -> Level {
+    assert!(rt; end >= 6 && end <= 200);
+    let cols = end + 3;
+    let mut changed = Vec::new(alloc);
+    for col in 5..end - 1 {
+        changed.push((cols + col, b'#')).expect(rt, "memory");
+    }
+    for (square, byte) in [
+        (cols + 1, b'#'),
+        (cols + 3, b'*'),
+        (2 * cols + 1, b'#'),
+        (2 * cols + 2, b'+'),
+        (2 * cols + 3, b'$'),
+    ] {
+        changed.push((square, byte)).expect(rt, "memory");
+    }
+    let bytes = walled(rt, alloc, 4, cols, b' ', changed.as_slice());
+    let cells = cells_of(rt, alloc, bytes.as_slice());
+    assert!(rt; cells.len() % cols == 0);
+    Level::from_cells(alloc, cols, cells).expect(rt, "a level")
+}
+
+// The first push leads `end` - 3 squares away and wastes twice that: the box needs `end` - 4 more pushes to the end
+// and `end` - 2 back. A table says 254 of that and of more, and the box alone needs 1.
+#[test]
+fn a_table_says_at_most_254(rt: HostRuntime) {
+    for (end, pushes) in [(129, 253), (130, 255), (131, 255), (140, 255)] {
+        let level = there_and_back(&rt, rt.alloc(), end);
+        let regions = regions_of(&rt, rt.alloc(), &level);
+        let start = Position::start(&level).expect(&rt, "few boxes");
+        assert!(&rt; start.fits(&level));
+        assert_eq!(&rt;
+            regions.lower(&start, &mut Matching::new()),
+            pushes,
+            "to column {end}"
+        );
+        assert!(&rt; !regions.is_dead(&start));
+    }
+}
+
+// The bound of the start of a level by regions that were chosen for the start as the only sample.
+fn chosen_again(rt: &impl Abort, alloc: Global, board: BoardText) -> u64 {
+    let level = level_of(rt, alloc, board);
+    let mut regions = prices_of(rt, alloc, &level);
+    let start = Position::start(&level).expect(rt, "few boxes");
+    assert!(rt; start.fits(&level));
+    let mut plan = regions
+        .plan_for(alloc, &level, BYTES, &[start.copy()])
+        .expect(rt, "memory");
+    for task in plan.tasks() {
+        task.run(alloc).expect(rt, "memory");
+    }
+    regions.take_later(&level, plan);
+    regions.lower(&start, &mut Matching::new())
+}
+
+#[test]
+fn regions_that_are_chosen_again_count_beside_the_first(rt: HostRuntime) {
+    let alloc = rt.alloc();
+    assert!(&rt; chosen_again(&rt, alloc, BLOCKED) == 6);
+    assert!(&rt; chosen_again(&rt, alloc, FOUR) == 15);
+    assert!(&rt; chosen_again(&rt, alloc, FIVE_AT_WALLS) == 9);
+    assert!(&rt; chosen_again(&rt, alloc, FIVE_ARE_LOST) == LOST);
+}
+
+#[test]
+fn plans_of_other_levels_change_nothing(rt: HostRuntime) {
+    let alloc = rt.alloc();
+    let level = level_of(&rt, alloc, BLOCKED);
+    let other = level_of(&rt, alloc, FREE);
+    let mut regions = regions_of(&rt, alloc, &level);
+    let strange = prices_of(&rt, alloc, &other);
+    let mut plan = strange.plan(alloc, &other, BYTES).expect(&rt, "memory");
+    for task in plan.tasks() {
+        task.run(alloc).expect(&rt, "memory");
+    }
+    regions.take(&level, plan);
+    let again = strange
+        .plan_for(alloc, &other, BYTES, &[])
+        .expect(&rt, "memory");
+    regions.take_later(&level, again);
+    let start = Position::start(&level).expect(&rt, "few boxes");
+    assert!(&rt; start.fits(&level));
+    assert!(&rt; regions.lower(&start, &mut Matching::new()) == 6);
 }
 
 #[test]
