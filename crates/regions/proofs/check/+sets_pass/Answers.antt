@@ -1,4 +1,4 @@
-use Rattle.std.proofs.Common.{◌+◌, ◌∙◌, ℕ, ap, arith, refl}
+use Rattle.std.proofs.Common.{◌+◌, ap, arith, refl}
 use Rattle.regions.specs.declared.table.Key.{Key}
 use Rattle.regions.specs.inside.Tables.{high_of, low_of, waste_in}
 use Rattle.regions.proofs.Each.{first_and_rest}
