@@ -24,6 +24,7 @@ COMMANDS = {
     "replay": (["replay", "FILE", "1", "MOVES"], lambda file, moves: formats.replay(file, 1, moves)),
     "solve": (["solve", "FILE", "1", "--workers", "2"], lambda file, _: solved(file)),
     "best": (["best", "FILE", "1"], lambda file, _: best(file)),
+    "each": (["best", "FILE"], lambda file, _: each(file)),
     "prove": (["prove", "FILE", "1", "SOLUTION"], lambda file, _: proved(file)),
 }
 # what is read after the collection, where the level is lawful
@@ -40,13 +41,22 @@ def proved(file):
     """The status and the report of `prove` of level 1 and SOLUTION, which is known to be the best one where it is
     one at all."""
     status, text = formats.replay(file, 1, SOLUTION)
-    return (0, b"optimal 1 pushes\n") if text.startswith(b"solved ") else (status, text)
+    return (0, b"optimal 1 pushes, 1 moves\n") if text.startswith(b"solved ") else (status, text)
 
 
 def best(file):
     """The same of `best` of level 1, of which SOLUTION is the only best solution where it is one at all."""
     status, text = proved(file)
     return status, text if status else text + SOLUTION + b"\n"
+
+
+def each(file):
+    """The same of `best` of all levels. SOLUTION is the only best solution of those that are lawful."""
+    faults = [board.fault for board in formats.boards_of(file)]
+    lines = [f"{n} " + (f"fault {it}" if it else "optimal 1 pushes, 1 moves  R") for n, it in enumerate(faults, 1)]
+    bad = sum(it is not None for it in faults)
+    lines.append(f"{len(faults)} levels, {len(faults) - bad} optimal, 0 unsolvable, 0 open, {bad} not judged")
+    return int(bad > 0), "".join(line + "\n" for line in lines).encode()
 
 
 class Bench:

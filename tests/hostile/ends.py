@@ -185,12 +185,17 @@ def longest(bench):
     fault = (1, b"fault 1 TooTall\n", b"")
     checked = (1, b"1 line 1 fault 1 TooTall\n1 levels, 0 good\n", b"")
     none = (1, b"no level 1\n", b"")
-    for data, check, other in ((tall, checked, fault), (tall + b"9999", (0, b"0 levels, 0 good\n", b""), none),
-                               (tall + b"9999#", TOO_LONG, TOO_LONG)):
+    totals = "{} levels, 0 optimal, 0 unsolvable, 0 open, {} not judged\n"
+    tried = (1, f"1 fault 1 TooTall\n{totals.format(1, 1)}".encode(), b"")
+    cases = ((tall, fault, {"check": checked, "each": tried}),
+             (tall + b"9999", none, {"check": (0, b"0 levels, 0 good\n", b""),
+                                     "each": (0, totals.format(0, 0).encode(), b"")}),
+             (tall + b"9999#", TOO_LONG, {}))
+    for data, said, others in cases:
         path = bench.file(data)
         for command in COMMANDS:
             got = bench.run(bench.words(command, path))
-            yield f"{command} of {len(data)} bytes", differs(got, check if command == "check" else other)
+            yield f"{command} of {len(data)} bytes", differs(got, others.get(command, said))
         os.remove(path)
     for more, told in ((0, (1, b"unsolved 0 pushes, 0 moves\n", b"")), (1, TOO_LONG)):
         yield f"replay of {MOST + more} blanks", differs(bench.run(bench.words("replay", ONE, b" " * (MOST + more))),

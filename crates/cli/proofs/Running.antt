@@ -3,11 +3,11 @@ use Rattle.std.specs.Prelude.{◌≡◌, ℕ, ◌⊎◌, List, [], Option, Resul
 use Rattle.std.proofs.Common.{subst, sym, inl, inr}
 use Rattle.sokopar.specs.Ends.{Seen}
 use Rattle.sokopar.specs.Report.{Report}
-use Rattle.sokopar.specs.Runs.{Runs, RunsInTwo}
+use Rattle.sokopar.specs.Runs.{Runs, RunsByLine, RunsInTwo}
 use Rattle.sokopar.specs.declared.fault.RunFault.{RunFault}
 use Rattle.cli.specs.declared.trouble.Trouble.{Trouble}
 use Rattle.cli.specs.declared.trouble.Trouble.TheVariants as trouble
-use Rattle.cli.specs.Performing.{EndsBy, IsOpened, RunsOn, RunsOnTwo}
+use Rattle.cli.specs.Performing.{EndsBy, IsOpened, RunsOn, RunsOnByLine, RunsOnTwo}
 
 -- runs on files that were opened, and on the output
 module _ {File Output : Type 0} (opens : List ℕ → File → Type 0) (seen : File → Seen) (shown : Output → Seen) where
@@ -16,6 +16,20 @@ module _ {File Output : Type 0} (opens : List ℕ → File → Type 0) (seen : F
       → Runs IsReport (seen file) (seen read) (shown output) (shown written) result
       → RunsOn opens seen shown IsReport path result
   on_one IsReport path file read output written result opened fresh runs = record {
+    file = file;
+    read = read;
+    output = output;
+    written = written;
+    opened = opened;
+    fresh = fresh;
+    runs = runs;
+  }
+
+  pub on_one_by_line : (IsReport : List ℕ → Report → Type 0) (Begins : List ℕ → List ℕ → Type 0) (path : List ℕ)
+      (file read : File) (output written : Output) (result : Result ℕ RunFault) → IsOpened opens seen path file
+      → (shown output).acts ≡ [] → RunsByLine IsReport Begins (seen file) (seen read) (shown output) (shown written) result
+      → RunsOnByLine opens seen shown IsReport Begins path result
+  on_one_by_line IsReport Begins path file read output written result opened fresh runs = record {
     file = file;
     read = read;
     output = output;
@@ -55,4 +69,4 @@ pub fails : (Ran : Result ℕ RunFault → Type 0) (Fails : Trouble → Type 0) 
 fails Ran Fails (trouble.Open path) bad = bad
 fails Ran Fails (trouble.Run fault) bad = inr bad
 
-pub ruleset endings = (on_one, on_two, faults, fails)
+pub ruleset endings = (on_one, on_one_by_line, on_two, faults, fails)

@@ -1,16 +1,18 @@
 -- What performing a request does: which engine runs, on which files, and with which settings.
 use Rattle.std.specs.Prelude.{◌≡◌, ℕ, ◌⊎◌, List, [], Option, Result, Ok, Err}
 use Rattle.sokopar.specs.Best.{IsBestReport}
+use Rattle.sokopar.specs.Collection.{BeginsCollectionReport, IsCollectionReport}
 use Rattle.sokopar.specs.DeadMap.{IsDeadReport}
 use Rattle.sokopar.specs.Ends.{Seen}
 use Rattle.sokopar.specs.OneReport.{IsOnlySolveReport}
 use Rattle.sokopar.specs.Proving.{IsProveReport}
 use Rattle.sokopar.specs.Report.{Report, IsCheckReport, IsReplayReport, IsShowReport}
-use Rattle.sokopar.specs.Runs.{Runs, RunsInTwo}
+use Rattle.sokopar.specs.Runs.{Runs, RunsByLine, RunsInTwo}
 use Rattle.sokopar.specs.declared.fault.RunFault.{RunFault}
 use Rattle.sokopar.specs.declared.fault.RunFault.TheVariants.{OutOfMemory}
 use Rattle.cli.specs.declared.request.Request.{Request}
-use Rattle.cli.specs.declared.request.Request.TheVariants.{Check, Show, Dead, Replay, Solve, Best, Prove}
+use Rattle.cli.specs.declared.request.Request.TheVariants.{Check, Show, Dead, Replay, Solve, Best, BestCollection}
+use Rattle.cli.specs.declared.request.Request.TheVariants.{Prove}
 use Rattle.cli.specs.declared.trouble.Trouble.{Trouble}
 use Rattle.cli.specs.declared.trouble.Trouble.TheVariants as trouble
 
@@ -34,6 +36,18 @@ module _ {File Output : Type 0} (opens : List ℕ → File → Type 0) (seen : F
     pub opened : IsOpened opens seen path file
     pub fresh : (shown output).acts ≡ []
     pub runs : Runs IsReport (seen file) (seen read) (shown output) (shown written) result
+
+  -- an engine that writes its report line by line ran on the file at this path and on the output, and ended with this
+  -- result
+  pub record RunsOnByLine (IsReport : List ℕ → Report → Type 0) (Begins : List ℕ → List ℕ → Type 0) (path : List ℕ)
+      (result : Result ℕ RunFault) : Type 0 where
+    pub file : File
+    pub read : File
+    pub output : Output
+    pub written : Output
+    pub opened : IsOpened opens seen path file
+    pub fresh : (shown output).acts ≡ []
+    pub runs : RunsByLine IsReport Begins (seen file) (seen read) (shown output) (shown written) result
 
   -- an engine with these reports of level n ran on the files at these paths and on the output, and ended with this
   -- result
@@ -60,7 +74,11 @@ module _ {File Output : Type 0} (opens : List ℕ → File → Type 0) (seen : F
       RunsOnTwo (IsReplayReport number) number file.now solution.now result
   RunsEngine (Solve file search) result =
       RunsOn (IsOnlySolveReport search.config.cap search.config.limit search.number) file.now result
-  RunsEngine (Best file search) result = RunsOn (IsBestReport search.limit search.number) file.now result
+  RunsEngine (Best file search) result =
+      RunsOn (IsBestReport search.config.cap search.config.limit search.number) file.now result
+  RunsEngine (BestCollection file search) result =
+      RunsOnByLine (IsCollectionReport search.config.cap search.config.limit search.from search.to)
+      (BeginsCollectionReport search.config.cap search.config.limit search.from search.to) file.now result
   RunsEngine (Prove file solution search) result =
       RunsOnTwo (IsProveReport search.limit search.number) search.number file.now solution.now result
 
@@ -72,6 +90,7 @@ CannotOpenOne (Dead file number) trouble = CannotOpen file.now trouble
 CannotOpenOne (Replay file number solution) trouble = CannotOpen file.now trouble ⊎ CannotOpen solution.now trouble
 CannotOpenOne (Solve file search) trouble = CannotOpen file.now trouble
 CannotOpenOne (Best file search) trouble = CannotOpen file.now trouble
+CannotOpenOne (BestCollection file search) trouble = CannotOpen file.now trouble
 CannotOpenOne (Prove file solution search) trouble = CannotOpen file.now trouble ⊎ CannotOpen solution.now trouble
 
 -- how performing ends: as an engine ended, or since a file could not be opened

@@ -6,13 +6,17 @@ use Rattle.clap.specs.Walk.{rows_of}
 use Rattle.clap.specs.declared.parser.matches.ArgMatches.{ArgMatches}
 use Rattle.crew.specs.Configured.{IsWithinLimits}
 use Rattle.sokopar.specs.declared.engines.SolveRequest.{SolveRequest}
-use Rattle.sokopar.specs.declared.proving.SearchRequest.{SearchRequest}
+use Rattle.sokopar.specs.declared.proving.BestRequest.{BestRequest}
+use Rattle.sokopar.specs.declared.proving.CollectionRequest.{CollectionRequest}
+use Rattle.sokopar.specs.declared.proving.ProveRequest.{ProveRequest}
+use Rattle.sokopar.specs.declared.proving.SearchConfig.{SearchConfig}
 use Rattle.cli.specs.declared.arguments.TheConstants.{MOST, MOST_LOCKS, MOST_WORKERS}
 use Rattle.cli.specs.declared.request.Request.{Request}
-use Rattle.cli.specs.declared.request.Request.TheVariants.{Check, Show, Dead, Replay, Solve, Best, Prove}
+use Rattle.cli.specs.declared.request.Request.TheVariants.{Check, Show, Dead, Replay, Solve, Best, BestCollection}
+use Rattle.cli.specs.declared.request.Request.TheVariants.{Prove}
 use Rattle.cli.specs.declared.subcommands.Subcommand.{Subcommand}
 use Rattle.cli.specs.declared.subcommands.Subcommand.TheVariants as subcommand
-use Rattle.cli.specs.Words.{HasNumber, HasText, MayHaveNumber, word_of}
+use Rattle.cli.specs.Words.{HasNumber, HasNumberOr, HasText, LacksText, MayHaveNumber, word_of}
 
 -- the level and the settings of `solve` are the numbers of the arguments
 pub record AsksToSolve (matches : ArgMatches) (search : SolveRequest) : Type 0 where
@@ -22,8 +26,28 @@ pub record AsksToSolve (matches : ArgMatches) (search : SolveRequest) : Type 0 w
   pub limit : HasNumber matches (codes "limit") MOST search.config.limit
   pub cap : MayHaveNumber matches (codes "max-pushes") MOST search.config.cap
 
--- the level and the settings of `best` or `prove` are the numbers of the arguments
-pub record AsksToSearch (matches : ArgMatches) (search : SearchRequest) : Type 0 where
+-- the bounds of a search of `best` are the numbers of the arguments
+pub record HasBounds (matches : ArgMatches) (config : SearchConfig) : Type 0 where
+  pub limit : HasNumber matches (codes "limit") MOST config.limit
+  pub cap : MayHaveNumber matches (codes "max-pushes") MOST config.cap
+
+-- the level and the settings of `best` are the numbers of the arguments, and no range of levels is given
+pub record AsksForLevel (matches : ArgMatches) (search : BestRequest) : Type 0 where
+  pub level : HasNumber matches (codes "N") MOST search.number
+  pub no_first : LacksText matches (codes "from")
+  pub no_last : LacksText matches (codes "to")
+  pub bounds : HasBounds matches search.config
+
+-- no level is given, and the range of levels and the settings of `best` are the numbers of the arguments; without them
+-- the range begins at 1 and has no end
+pub record AsksForLevels (matches : ArgMatches) (search : CollectionRequest) : Type 0 where
+  pub no_level : LacksText matches (codes "N")
+  pub first : HasNumberOr matches (codes "from") 1 MOST search.from
+  pub last : HasNumberOr matches (codes "to") MOST MOST search.to
+  pub bounds : HasBounds matches search.config
+
+-- the level and the limit of `prove` are the numbers of the arguments
+pub record AsksToProve (matches : ArgMatches) (search : ProveRequest) : Type 0 where
   pub level : HasNumber matches (codes "N") MOST search.number
   pub limit : HasNumber matches (codes "limit") MOST search.limit
 
@@ -38,10 +62,12 @@ Asks subcommand.Replay matches (Replay file number solution) =
     HasText matches (codes "FILE") file.now × HasNumber matches (codes "N") MOST number ×
     HasText matches (codes "SOLUTION") solution.now
 Asks subcommand.Solve matches (Solve file search) = HasText matches (codes "FILE") file.now × AsksToSolve matches search
-Asks subcommand.Best matches (Best file search) = HasText matches (codes "FILE") file.now × AsksToSearch matches search
+Asks subcommand.Best matches (Best file search) = HasText matches (codes "FILE") file.now × AsksForLevel matches search
+Asks subcommand.Best matches (BestCollection file search) =
+    HasText matches (codes "FILE") file.now × AsksForLevels matches search
 Asks subcommand.Prove matches (Prove file solution search) =
     HasText matches (codes "FILE") file.now × HasText matches (codes "SOLUTION") solution.now ×
-    AsksToSearch matches search
+    AsksToProve matches search
 Asks subcommand matches request = ⊥
 
 -- the matches have the subcommand, and the arguments of its matches
@@ -63,4 +89,5 @@ IsInRange (Dead file number) = 1 ≤ number
 IsInRange (Replay file number solution) = 1 ≤ number
 IsInRange (Solve file search) = (1 ≤ search.number) × IsWithinLimits search.config
 IsInRange (Best file search) = 1 ≤ search.number
+IsInRange (BestCollection file search) = ⊤
 IsInRange (Prove file solution search) = 1 ≤ search.number

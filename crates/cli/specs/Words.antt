@@ -1,5 +1,5 @@
 -- What the words of the command line say.
-use Rattle.std.specs.Prelude.{◌≡◌, ℕ, ◌≤◌, List, codes, Option, Some, None}
+use Rattle.std.specs.Prelude.{◌≡◌, ◌⊎◌, ℕ, ◌≤◌, List, codes, Option, Some, None}
 use Rattle.std.specs.Str.Parse.{IsNumeral, digits_value}
 use Rattle.clap.specs.declared.parser.matches.ArgMatches.{ArgMatches}
 use Rattle.clap.specs.Matches.{found_of, first_value}
@@ -20,6 +20,10 @@ word_of Prove = codes "prove"
 abbrev pub HasText : ArgMatches → List ℕ → List ℕ → Type 0
 HasText matches name text = first_value (found_of matches) name ≡ Some text
 
+-- no argument has this name
+abbrev pub LacksText : ArgMatches → List ℕ → Type 0
+LacksText matches name = first_value (found_of matches) name ≡ None
+
 -- the word is this number, in decimal digits alone, and the number is in a range
 pub record IsNumber (least most : ℕ) (word : List ℕ) (n : ℕ) : Type 0 where
   pub digits : IsNumeral 10 word
@@ -33,5 +37,10 @@ HasNumber matches name most n = (word : List ℕ) × HasText matches name word �
 
 -- the argument with this name is left out, or its text is this number, from 0 to a greatest one
 abbrev pub MayHaveNumber : ArgMatches → List ℕ → ℕ → Option ℕ → Type 0
-MayHaveNumber matches name most None = first_value (found_of matches) name ≡ None
+MayHaveNumber matches name most None = LacksText matches name
 MayHaveNumber matches name most (Some n) = (word : List ℕ) × HasText matches name word × IsNumber 0 most word n
+
+-- the text of the argument with this name is this number, from 1 to a greatest one; or the argument is left out, and
+-- the number is the default
+abbrev pub HasNumberOr : ArgMatches → List ℕ → ℕ → ℕ → ℕ → Type 0
+HasNumberOr matches name default most n = HasNumber matches name most n ⊎ (LacksText matches name × (n ≡ default))

@@ -35,6 +35,11 @@ pub(crate) fn number_operand<'a>(alloc: Global) -> Arg<'a> {
         .required(true)
 }
 
+/// The operand N, which may be left out.
+pub(crate) fn optional_number_operand<'a>(alloc: Global) -> Arg<'a> {
+    Arg::new(alloc, "N").help("The number of a level, counted from 1; without it all levels")
+}
+
 /// The operand SOLUTION.
 pub(crate) fn solution_operand<'a>(alloc: Global) -> Arg<'a> {
     Arg::new(alloc, "SOLUTION")
@@ -57,6 +62,22 @@ pub(crate) fn max_pushes_option<'a>(alloc: Global) -> Arg<'a> {
         .long("max-pushes")
         .value_name("M")
         .help("Looks only for solutions with at most M pushes")
+}
+
+/// The option `--from A`.
+pub(crate) fn from_option<'a>(alloc: Global) -> Arg<'a> {
+    Arg::new(alloc, "from")
+        .long("from")
+        .value_name("A")
+        .help("Without N: the first level")
+}
+
+/// The option `--to B`.
+pub(crate) fn to_option<'a>(alloc: Global) -> Arg<'a> {
+    Arg::new(alloc, "to")
+        .long("to")
+        .value_name("B")
+        .help("Without N: the last level")
 }
 
 /// The option `--workers W`.

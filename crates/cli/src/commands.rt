@@ -8,8 +8,8 @@ use crate::request::Request;
 use crate::system::System;
 use crate::trouble::Trouble;
 use sokopar::{
-    SearchRequest, SolveRequest, run_best, run_check, run_dead, run_prove, run_replay, run_show,
-    run_solve,
+    BestRequest, CollectionRequest, ProveRequest, SolveRequest, run_best, run_best_collection,
+    run_check, run_dead, run_prove, run_replay, run_show, run_solve,
 };
 use std::alloc::Global;
 use std::sync::Wait;
@@ -110,7 +110,7 @@ pub(crate) fn best<'a, S: System>(
     system: &S,
     alloc: Global,
     file: &'a str,
-    search: SearchRequest,
+    search: BestRequest,
 ) -> Result<u8, Trouble<'a>>
     requires { 1 ≤ search.number }
     ensures { Performs S.opens S.File.seen S.Output.seen (Request.Best file.entry search) result }
@@ -121,13 +121,28 @@ pub(crate) fn best<'a, S: System>(
 }
 
 #[tactic(auto, using(crate::proofs::Running::endings))]
+/// Finds a solution with the fewest pushes of each level of a part of a collection.
+pub(crate) fn best_collection<'a, S: System>(
+    system: &S,
+    alloc: Global,
+    file: &'a str,
+    search: CollectionRequest,
+) -> Result<u8, Trouble<'a>>
+    ensures { Performs S.opens S.File.seen S.Output.seen (Request.BestCollection file.entry search) result }
+{
+    let mut source = system.open(file)?;
+    let mut sink = system.output();
+    Ok(run_best_collection(alloc, &mut source, search, &mut sink)?)
+}
+
+#[tactic(auto, using(crate::proofs::Running::endings))]
 /// Proves that a solution has the fewest pushes on a level.
 pub(crate) fn prove<'a, S: System>(
     system: &S,
     alloc: Global,
     file: &'a str,
     solution: &'a str,
-    search: SearchRequest,
+    search: ProveRequest,
 ) -> Result<u8, Trouble<'a>>
     requires { 1 ≤ search.number }
     ensures { Performs S.opens S.File.seen S.Output.seen (Request.Prove file.entry solution.entry search) result }

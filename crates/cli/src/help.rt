@@ -213,17 +213,31 @@ fn solve_notes(alloc: Global) -> Result<String, AllocError> {
 /// The reports, in the help of `best`.
 const FEWEST: &str = "\
 The first line says what was found:
-  optimal P pushes                       The second line is a solution with P
+  optimal P pushes, S moves              The second line is a solution with P
                                          pushes. No solution has fewer.
   unsolvable                             There is no solution.
+  none within M pushes                   No solution has M pushes or fewer.
   limit L reached, at least P pushes     Undecided: give a greater --limit. No
                                          solution has fewer than P pushes.";
+
+/// The reports on all levels, in the help of `best`.
+const ALL_LEVELS: &str = "\
+Without N, best searches all levels of FILE, or those from --from to --to, one
+after the other. It prints a line as soon as a level is decided, and the totals:
+  7 optimal P pushes, S moves  SOLUTION  Level 7: as above, on one line.
+  8 unsolvable                           Level 8: the first line as above.
+  9 fault K WORD                         Level 9 has a fault.
+  T levels, .. optimal, .. unsolvable, .. open, .. not judged
+Open are the levels at the limit, not judged those with a fault or too many
+boxes. The exit status is 0 if all are optimal, else 4 if one is open, else 1.";
 
 /// How `best` compares with `solve`, its memory, and examples, in the help of `best`.
 const BEST: &str = "\
 Several solutions can have the fewest pushes. best writes one of them, which is
 not always the one with the fewest moves. 'sokopar solve' writes the first of
 them in a fixed order and counts positions, and usually needs more positions.
+
+With --max-pushes M the search looks only for solutions with at most M pushes.
 
 The search counts the positions that it stores, and stops when they exceed the
 limit. In rooms of ordinary size a position takes as much memory as in 'sokopar
@@ -234,6 +248,7 @@ boxes or more it takes up to 200 microseconds.
 Examples:
   sokopar best levels.xsb 1
   sokopar best levels.xsb 1 --limit 5000000
+  sokopar best levels.xsb --from 5 --to 10
   sokopar best levels.xsb 1 | tail -n +2 |
       sokopar replay levels.xsb 1 /dev/stdin";
 
@@ -242,19 +257,21 @@ fn best_notes(alloc: Global) -> Result<String, AllocError> {
     format!(in alloc;
         "{FEWEST}\n  \
           too many boxes                         The level has more than {MAX_BOXES} boxes.\n\n\
-        {BEST}"
+        {ALL_LEVELS}\n\n{BEST}"
     )
 }
 
 /// The reports on a solution, in the help of `prove`.
 const JUDGEMENTS: &str = "\
 If SOLUTION solves the level, the first line says whether it has the fewest
-pushes:
-  optimal P pushes                       It has P pushes. No solution has fewer.
-  not optimal P pushes, optimal F pushes The second line is a solution with F
+pushes. P and S are its pushes and moves:
+  optimal P pushes, S moves              No solution has fewer pushes.
+  not optimal P pushes, S moves, optimal F pushes, T moves
+                                         The second line is a solution with F
                                          pushes. No solution has fewer.
-  limit L reached, at least P pushes     Undecided: give a greater --limit. No
-                                         solution has fewer than P pushes.";
+  limit L reached, at least K pushes, given P pushes, S moves
+                                         Undecided: give a greater --limit. No
+                                         solution has fewer than K pushes.";
 
 /// How `prove` compares with `replay` and `best`, its memory, and examples, in the help of `prove`.
 const PROOF: &str = "\

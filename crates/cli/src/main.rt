@@ -17,7 +17,7 @@ mod system;
 mod trouble;
 
 use clap::error::ErrorKind;
-use commands::{best, check, dead, prove, replay, show, solve};
+use commands::{best, best_collection, check, dead, prove, replay, show, solve};
 use help::Notes;
 use request::Request;
 use sokopar::RunFault;
@@ -55,6 +55,7 @@ fn perform<'a, R: Threads + Wait + Sync, S: System>(
         } => replay(system, alloc, file, number, solution),
         Request::Solve { file, search } => solve(rt, system, alloc, file, search),
         Request::Best { file, search } => best(system, alloc, file, search),
+        Request::BestCollection { file, search } => best_collection(system, alloc, file, search),
         Request::Prove {
             file,
             solution,

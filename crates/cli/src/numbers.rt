@@ -1,6 +1,6 @@
 //! The texts and the numbers of a command line.
-ghost use Rattle.std.specs.Prelude.{◌≡◌, ◌==◌, ℕ, List, Option, IfOk, OnErr, IfSome, IfNone, codes, slice_index};
-ghost use Rattle.cli.specs.Words.{HasNumber, HasText, IsNumber, MayHaveNumber};
+ghost use Rattle.std.specs.Prelude.{◌≡◌, ◌==◌, ℕ, List, Option, IfOk, OnOk, OnErr, IfSome, IfNone, codes, slice_index};
+ghost use Rattle.cli.specs.Words.{HasNumber, HasNumberOr, HasText, IsNumber, LacksText, MayHaveNumber};
 ghost use Rattle.cli.specs.declared.arguments.TheConstants.{MOST};
 
 use crate::arguments::MOST;
@@ -12,6 +12,10 @@ use std::alloc::{AllocError, Global};
 pub(crate) enum BadArgument<'a> {
     /// The argument, as the usage line shows it, is missing.
     Missing {
+        argument: &'static str,
+    },
+    /// The argument is given beside the number of a level.
+    BesideLevel {
         argument: &'static str,
     },
     /// The text is no number from the least to the greatest one that the argument accepts.
@@ -89,6 +93,39 @@ pub(crate) fn number_of<'a>(
     }
 }
 
+/// The number of the argument with this name, at most [`MOST`], or `default` if the argument is left out; `argument` is
+/// its name in the usage line.
+pub(crate) fn number_or<'a>(
+    matches: &ArgMatches<'a>,
+    name: &str,
+    argument: &'static str,
+    default: u32,
+) -> Result<u32, BadArgument<'a>>
+    ensures ok { IfOk result (λ n. HasNumberOr matches.now name.now default MOST n) }
+    ensures err { OnErr result ((n : ℕ) → ¬ (HasNumberOr matches.now name.now default MOST n)) }
+{
+    let Some(_) = matches.get_str(name) else {
+        return Ok(default);
+    };
+    number_of(matches, name, argument, MOST)
+}
+
+/// Fails if the argument with this name is given, which the number of a level excludes; `argument` is its name in the
+/// usage line.
+pub(crate) fn lacks<'a>(
+    matches: &ArgMatches<'a>,
+    name: &str,
+    argument: &'static str,
+) -> Result<(), BadArgument<'a>>
+    ensures ok { OnOk result (LacksText matches.now name.now) }
+    ensures err { OnErr result (¬ (LacksText matches.now name.now)) }
+{
+    match matches.get_str(name) {
+        None => Ok(()),
+        Some(_) => Err(BadArgument::BesideLevel { argument }),
+    }
+}
+
 /// The cap of pushes, if one is given.
 pub(crate) fn cap_of<'a>(matches: &ArgMatches<'a>) -> Result<Option<u32>, BadArgument<'a>>
     ensures ok { IfOk result (λ cap. MayHaveNumber matches.now (codes "max-pushes") MOST cap) }
@@ -113,6 +150,9 @@ pub(crate) fn words_of(alloc: Global, bad: BadArgument<'_>) -> Result<String, Al
     match bad {
         BadArgument::Missing { argument } => {
             format!(in alloc; "the argument '{argument}' is missing")
+        }
+        BadArgument::BesideLevel { argument } => {
+            format!(in alloc; "the argument '{argument}' cannot be used with '[N]'")
         }
         BadArgument::Number {
             argument,

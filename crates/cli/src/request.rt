@@ -1,17 +1,18 @@
 //! The request of a command line.
 ghost use Rattle.std.specs.Prelude.{ℕ, List, IfOk, IfSome, OnErr, codes};
-ghost use Rattle.cli.specs.Requests.{Asks, AsksFor, AsksToSearch, AsksToSolve, HasSubcommand, IsInRange};
-ghost use Rattle.cli.specs.Words.{HasNumber, HasText};
+ghost use Rattle.cli.specs.Requests.{Asks, AsksFor, AsksForLevel, AsksForLevels, AsksToProve, AsksToSolve};
+ghost use Rattle.cli.specs.Requests.{HasBounds, HasSubcommand, IsInRange};
+ghost use Rattle.cli.specs.Words.{HasNumber, HasText, LacksText};
 ghost use Rattle.cli.specs.declared.arguments.TheConstants.{MOST};
 
 use crate::arguments::{MOST, MOST_LOCKS, MOST_WORKERS};
 use crate::help::Notes;
-use crate::numbers::{BadArgument, cap_of, number_of, text_of, words_of};
+use crate::numbers::{BadArgument, cap_of, lacks, number_of, number_or, text_of, words_of};
 use crate::subcommands::{Subcommand, command, usage_of};
 use clap::error::ErrorKind;
 use clap::{ArgMatches, Error};
 use crew::Config;
-use sokopar::{SearchRequest, SolveRequest};
+use sokopar::{BestRequest, CollectionRequest, ProveRequest, SearchConfig, SolveRequest};
 use std::alloc::{AllocError, Global};
 
 /// The request of a command line. Levels are counted from 1.
@@ -45,13 +46,18 @@ pub enum Request<'a> {
     /// Find a solution with the fewest pushes of a level of a collection.
     Best {
         file: &'a str,
-        search: SearchRequest,
+        search: BestRequest,
+    },
+    /// Find a solution with the fewest pushes of each level of a part of a collection.
+    BestCollection {
+        file: &'a str,
+        search: CollectionRequest,
     },
     /// Prove that the solution of a file has the fewest pushes on a level of a collection.
     Prove {
         file: &'a str,
         solution: &'a str,
-        search: SearchRequest,
+        search: ProveRequest,
     },
 }
 
@@ -106,14 +112,67 @@ fn solve_request<'a>(matches: &ArgMatches<'a>) -> Result<SolveRequest, BadArgume
     Ok(SolveRequest { number, config })
 }
 
-/// The level and the settings of `best` or `prove`.
-fn search_request<'a>(matches: &ArgMatches<'a>) -> Result<SearchRequest, BadArgument<'a>>
-    ensures ok { IfOk result (λ search. AsksToSearch matches.now search) }
-    ensures err { OnErr result ((search : SearchRequest) → ¬ (AsksToSearch matches.now search)) }
+/// The bounds of a search of `best`.
+fn bounds_of<'a>(matches: &ArgMatches<'a>) -> Result<SearchConfig, BadArgument<'a>>
+    ensures ok { IfOk result (λ config. HasBounds matches.now config) }
+    ensures err { OnErr result ((config : SearchConfig) → ¬ (HasBounds matches.now config)) }
+{
+    let limit = limit_of(matches)?;
+    let cap = cap_of(matches)?;
+    Ok(SearchConfig { limit, cap })
+}
+
+/// The level and the settings of `best`, if the number of a level is given.
+fn level_request<'a>(matches: &ArgMatches<'a>) -> Result<BestRequest, BadArgument<'a>>
+    ensures ok { IfOk result (λ search. AsksForLevel matches.now search) }
+    ensures err { OnErr result ((search : BestRequest) → ¬ (AsksForLevel matches.now search)) }
+{
+    let number = level_of(matches)?;
+    lacks(matches, "from", "--from <A>")?;
+    lacks(matches, "to", "--to <B>")?;
+    let config = bounds_of(matches)?;
+    Ok(BestRequest { number, config })
+}
+
+/// The range of levels and the settings of `best`, if no number of a level is given.
+fn levels_request<'a>(matches: &ArgMatches<'a>) -> Result<CollectionRequest, BadArgument<'a>>
+    requires { LacksText matches.now (codes "N") }
+    ensures ok { IfOk result (λ search. AsksForLevels matches.now search) }
+    ensures err { OnErr result ((search : CollectionRequest) → ¬ (AsksForLevels matches.now search)) }
+{
+    let from = number_or(matches, "from", "--from <A>", 1)?;
+    let to = number_or(matches, "to", "--to <B>", MOST)?;
+    let config = bounds_of(matches)?;
+    Ok(CollectionRequest { from, to, config })
+}
+
+#[tactic(auto, using(crate::proofs::Asking::asks_nothing_of_best))]
+/// The request of the arguments of `best` on this collection.
+fn best_request<'a>(file: &'a str, matches: &ArgMatches<'a>) -> Result<Request<'a>, BadArgument<'a>>
+    requires { HasText matches.now (codes "FILE") file.now }
+    ensures ok { IfOk result (λ request. Asks Subcommand.Best matches.now request) }
+    ensures err { OnErr result ((request : Request) → ¬ (Asks Subcommand.Best matches.now request)) }
+{
+    match matches.get_str("N") {
+        Some(_) => {
+            let search = level_request(matches)?;
+            Ok(Request::Best { file, search })
+        }
+        None => {
+            let search = levels_request(matches)?;
+            Ok(Request::BestCollection { file, search })
+        }
+    }
+}
+
+/// The level and the limit of `prove`.
+fn prove_request<'a>(matches: &ArgMatches<'a>) -> Result<ProveRequest, BadArgument<'a>>
+    ensures ok { IfOk result (λ search. AsksToProve matches.now search) }
+    ensures err { OnErr result ((search : ProveRequest) → ¬ (AsksToProve matches.now search)) }
 {
     let number = level_of(matches)?;
     let limit = limit_of(matches)?;
-    Ok(SearchRequest { number, limit })
+    Ok(ProveRequest { number, limit })
 }
 
 #[tactic(auto, using(crate::proofs::Asking::asks_nothing))]
@@ -149,13 +208,10 @@ fn request_of<'a>(
             let search = solve_request(matches)?;
             Ok(Request::Solve { file, search })
         }
-        Subcommand::Best => {
-            let search = search_request(matches)?;
-            Ok(Request::Best { file, search })
-        }
+        Subcommand::Best => best_request(file, matches),
         Subcommand::Prove => {
             let solution = solution_of(matches)?;
-            let search = search_request(matches)?;
+            let search = prove_request(matches)?;
             Ok(Request::Prove {
                 file,
                 solution,

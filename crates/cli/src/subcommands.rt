@@ -3,8 +3,8 @@ ghost use Rattle.std.specs.Prelude.{◌≡◌, ◌≢◌, IfSome, IfNone};
 ghost use Rattle.cli.specs.Words.{word_of};
 
 use crate::arguments::{
-    file_operand, limit_option, locks_option, max_pushes_option, number_operand, solution_operand,
-    workers_option,
+    file_operand, from_option, limit_option, locks_option, max_pushes_option, number_operand,
+    optional_number_operand, solution_operand, to_option, workers_option,
 };
 use crate::help;
 use crate::help::Notes;
@@ -106,7 +106,7 @@ impl Subcommand {
             Subcommand::Show | Subcommand::Dead => line.arg(number_operand(alloc)),
             Subcommand::Replay => with_solution(alloc, line),
             Subcommand::Solve => with_settings(alloc, line),
-            Subcommand::Best => line.arg(number_operand(alloc))?.arg(limit_option(alloc)),
+            Subcommand::Best => with_bounds(alloc, line),
             Subcommand::Prove => with_solution(alloc, line)?.arg(limit_option(alloc)),
         }
     }
@@ -138,6 +138,15 @@ fn with_settings<'a>(alloc: Global, line: Command<'a>) -> Result<Command<'a>, Al
     line.arg(number_operand(alloc))?
         .arg(workers_option(alloc))?
         .arg(locks_option(alloc))?
+        .arg(limit_option(alloc))?
+        .arg(max_pushes_option(alloc))
+}
+
+/// A command line with the number of a level or a range of levels, and the bounds of a search of `best`.
+fn with_bounds<'a>(alloc: Global, line: Command<'a>) -> Result<Command<'a>, AllocError> {
+    line.arg(optional_number_operand(alloc))?
+        .arg(from_option(alloc))?
+        .arg(to_option(alloc))?
         .arg(limit_option(alloc))?
         .arg(max_pushes_option(alloc))
 }

@@ -1,4 +1,6 @@
 mod Acts
+mod ByLine
+mod Cutting
 mod Judging
 mod Listings
 mod Maps

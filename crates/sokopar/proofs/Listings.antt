@@ -35,7 +35,7 @@ each-last (l ∷ listing) [] listed found each is = absurd each
 each-last (l ∷ listing) (f ∷ founds) listed found each is = (each.0, each-last listing founds listed found each.1 is)
 
 -- a board more
-listed-more : {bytes : List ℕ} {first : Collection} {listing : List Listed} (last : Collection) (entry : BoardEntry) (is : HasListed bytes first listing)
+pub listed-more : {bytes : List ℕ} {first : Collection} {listing : List Listed} (last : Collection) (entry : BoardEntry) (is : HasListed bytes first listing)
     → GivesNext bytes is.founds last (Some entry) → HasListed bytes last (listing ++ listed_of entry ∷ [])
 listed-more {bytes} {first} {listing} last entry is next = record {
   founds = is.founds ++ next.0 ∷ [];
@@ -85,11 +85,11 @@ goods (l ∷ listing) = cond (is_good l) (1 + goods listing) (goods listing)
 goods-are : (listing : List Listed) → goods listing ≡ good_count listing
 goods-are listing = is_count_by goods is_good refl (λ x xs. refl) listing
 
-good-first : (b : Bool) (n : ℕ) → cond b (1 + n) n ≡ cond b (n + 1) n
+pub good-first : (b : Bool) (n : ℕ) → cond b (1 + n) n ≡ cond b (n + 1) n
 good-first true n = omega arith
 good-first false n = refl
 
-good-on : (b t : Bool) (n m : ℕ) → m ≡ cond t (n + 1) n → cond b (1 + m) m ≡ cond t (cond b (1 + n) n + 1) (cond b (1 + n) n)
+pub good-on : (b t : Bool) (n m : ℕ) → m ≡ cond t (n + 1) n → cond b (1 + m) m ≡ cond t (cond b (1 + n) n + 1) (cond b (1 + n) n)
 good-on true true n m e = let f : m ≡ n + 1 = e in omega arith
 good-on true false n m e = ap (λ k. 1 + k) e
 good-on false true n m e = e

@@ -1,7 +1,7 @@
 -- How a text is written, one part after the other.
 use Rattle.std.proofs.Common.{◌≡◌, ◌≤◌, List, [], ◌∷◌, ℕ, ◌++◌, length, take, drop, refl, sym, ap, ◌∙◌, subst, append_assoc, append-nil, take-append-drop}
 use Rattle.std.specs.Io.KnownBytes.{Appends, Keeps}
-use Rattle.sokopar.specs.Ends.{moved, failed, Seen, Pass, none}
+use Rattle.sokopar.specs.Ends.{Act, moved, failed, Seen, Pass, none, more}
 use Rattle.sokopar.specs.Runs.{WritesWhole, WritesPart}
 use Rattle.sokopar.proofs.Acts.{pass_more, appends_none, appends_more, appends_kept}
 
@@ -46,4 +46,22 @@ taken_part old mid new text rest before act kept = record {
   taken = before.taken;
   last = act;
   holds = appends_kept old.known mid.known new.known before.part before.holds kept;
+}
+
+-- acts that moved bytes, and then more acts that moved more
+pass-join : (first mid last : List Act) (bytes more_bytes : List ℕ) → Pass first mid bytes → Pass mid last more_bytes → Pass first last (bytes ++ more_bytes)
+pass-join first mid _ bytes _ before none = let P : List ℕ → Type 0 = λ bs. Pass first mid bs in subst P (sym (append-nil bytes)) before
+pass-join first mid _ bytes _ before (more {acts} {bytes = so_far} part pass some) =
+    let P : List ℕ → Type 0 = λ bs. Pass first (acts ++ moved part ∷ []) bs in
+    subst P (append_assoc bytes so_far part) (more part (pass-join first mid acts bytes so_far before pass) some)
+
+-- no text is written by no act
+pub wrote_none : (seen : Seen) → WritesWhole seen seen []
+wrote_none seen = record { taken = none; holds = appends_none seen.known }
+
+-- a text is written, and then another one
+pub wrote_more : (old mid new : Seen) (text next : List ℕ) → WritesWhole old mid text → WritesWhole mid new next → WritesWhole old new (text ++ next)
+wrote_more old mid new text next first second = record {
+  taken = pass-join old.acts mid.acts new.acts text next first.taken second.taken;
+  holds = appends_more old.known mid.known new.known text next first.holds second.holds;
 }

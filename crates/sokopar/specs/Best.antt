@@ -1,5 +1,5 @@
 -- What finding a solution with the fewest pushes writes.
-use Rattle.std.specs.Prelude.{◌≡◌, ℕ, List, ◌++◌, length, codes, decimal}
+use Rattle.std.specs.Prelude.{◌≡◌, ℕ, suc, ◌≤◌, ⊤, List, ◌++◌, length, Option, Some, None, codes, decimal}
 use Rattle.grid.specs.Board.{Board}
 use Rattle.grid.specs.declared.dir.Dir.{Dir}
 use Rattle.grid.specs.declared.moves.Letter.{Letter}
@@ -9,8 +9,10 @@ use Rattle.lurd.specs.Text.{bytes_of}
 use Rattle.lurd.specs.Verdict.{IsVerdict}
 use Rattle.lurd.specs.declared.verdict.Verdict.TheVariants.{Solved}
 use Rattle.prover.specs.Fewest.{NoneHasFewer, HasMore}
+use Rattle.prover.specs.declared.outcome.Outcome.{Outcome}
+use Rattle.prover.specs.declared.outcome.Outcome.TheVariants.{Least, NoneWithin, Unsolvable, Limit}
 use Rattle.sokopar.specs.Listing.{Listed, IsListing, level_at}
-use Rattle.sokopar.specs.Report.{Report, ReportsOn, IsSearchOf, line, one_line}
+use Rattle.sokopar.specs.Report.{Report, ReportsOn, IsSearchOf, cap_words, counts_words, line, one_line}
 
 -- the letters solve the level with this number of pushes, and no solution has fewer
 abbrev pub HasFewest : Board → List Letter → ℕ → Type 0
@@ -20,35 +22,59 @@ HasFewest board letters pushes = IsVerdict board letters (Solved pushes (length 
 abbrev pub IsUnsolvable : Board → Type 0
 IsUnsolvable board = (ds : List Dir) (ps : List Push) → ¬ (IsSolution board ds ps)
 
--- the number of pushes of a solution with the fewest
-abbrev pub optimal_words : ℕ → List ℕ
-optimal_words pushes = codes "optimal " ++ decimal pushes ++ codes " pushes"
+-- a search ended at its limit: more positions than the limit can be reached, and no solution has fewer pushes than the
+-- bound
+abbrev pub IsUndecided : ℕ → Board → ℕ → Type 0
+IsUndecided limit board bound = NoneHasFewer board bound × HasMore board limit
 
--- the report of a solution with the fewest pushes: their number, and its text as a line
-abbrev pub optimal_report : ℕ → List Letter → Report
-optimal_report pushes letters = record { text = line (optimal_words pushes) ++ line (bytes_of letters); status = 0 }
+-- a number of pushes is no more than the cap, if one is set
+abbrev pub IsWithinCap : Option ℕ → ℕ → Type 0
+IsWithinCap None pushes = ⊤
+IsWithinCap (Some most) pushes = pushes ≤ most
 
--- the report of a search that ended at its limit: every solution has at least bound pushes
-abbrev pub undecided_report : ℕ → ℕ → Report
-undecided_report limit bound =
-    one_line (codes "limit " ++ decimal limit ++ codes " reached, at least " ++ decimal bound ++ codes " pushes") 4
+-- the outcome is right for a level under a cap of pushes and a limit of positions: a solution with the fewest pushes,
+-- no more than the cap; or that each solution has more pushes than the cap; or, without a cap, that there is no
+-- solution; or that the search ended at its limit
+abbrev pub Finds : Option ℕ → ℕ → Board → Outcome → Type 0
+Finds cap limit board (Least letters pushes) = HasFewest board letters pushes × IsWithinCap cap pushes
+Finds cap limit board NoneWithin = (most : ℕ) × (cap ≡ Some most) × NoneHasFewer board (suc most)
+Finds cap limit board Unsolvable = (cap ≡ None) × IsUnsolvable board
+Finds cap limit board (Limit bound) = IsUndecided limit board bound
 
--- the search ended at its limit: more positions than the limit can be reached, and no solution has fewer pushes than
--- the bound
-abbrev pub IsUndecided : ℕ → Board → Report → Type 0
-IsUndecided limit board report =
-    (bound : ℕ) × NoneHasFewer board bound × HasMore board limit × (report ≡ undecided_report limit bound)
+-- the numbers of pushes and moves of a solution with the fewest pushes
+abbrev pub optimal_words : ℕ → ℕ → List ℕ
+optimal_words pushes moves = codes "optimal " ++ counts_words pushes moves
 
--- the report of a level under a limit of positions: a solution with the fewest pushes, or that there is no solution,
--- or that the search ended at its limit
-pub data IsBest (limit : ℕ) (board : Board) (report : Report) : Type 0 where
-  optimal : (letters : List Letter) (pushes : ℕ) → HasFewest board letters pushes →
-      report ≡ optimal_report pushes letters → IsBest limit board report
-  unsolvable : IsUnsolvable board → report ≡ one_line (codes "unsolvable") 1 → IsBest limit board report
-  undecided : IsUndecided limit board report → IsBest limit board report
+-- that a search ended at its limit; every solution has at least bound pushes
+abbrev pub undecided_words : ℕ → ℕ → List ℕ
+undecided_words limit bound =
+    codes "limit " ++ decimal limit ++ codes " reached, at least " ++ decimal bound ++ codes " pushes"
 
--- the report of finding a solution with the fewest pushes of level n of these bytes, under a limit of positions
-abbrev pub IsBestReport : ℕ → ℕ → List ℕ → Report → Type 0
-IsBestReport limit n bytes report =
+-- an outcome in words, under a cap of pushes and a limit of positions
+abbrev pub outcome_words : Option ℕ → ℕ → Outcome → List ℕ
+outcome_words cap limit (Least letters pushes) = optimal_words pushes (length letters)
+outcome_words cap limit NoneWithin = codes "none within " ++ cap_words cap ++ codes " pushes"
+outcome_words cap limit Unsolvable = codes "unsolvable"
+outcome_words cap limit (Limit bound) = undecided_words limit bound
+
+-- the report of an outcome: its words, and a solution as a second line
+abbrev pub outcome_report : Option ℕ → ℕ → Outcome → Report
+outcome_report cap limit (Least letters pushes) = record {
+  text = line (outcome_words cap limit (Least letters pushes)) ++ line (bytes_of letters);
+  status = 0;
+}
+outcome_report cap limit NoneWithin = one_line (outcome_words cap limit NoneWithin) 1
+outcome_report cap limit Unsolvable = one_line (outcome_words cap limit Unsolvable) 1
+outcome_report cap limit (Limit bound) = one_line (outcome_words cap limit (Limit bound)) 4
+
+-- the report of a level under a cap of pushes and a limit of positions
+abbrev pub IsBest : Option ℕ → ℕ → Board → Report → Type 0
+IsBest cap limit board report =
+    (outcome : Outcome) × Finds cap limit board outcome × (report ≡ outcome_report cap limit outcome)
+
+-- the report of finding a solution with the fewest pushes of level n of these bytes, under a cap of pushes and a limit
+-- of positions
+abbrev pub IsBestReport : Option ℕ → ℕ → ℕ → List ℕ → Report → Type 0
+IsBestReport cap limit n bytes report =
     (listing : List Listed) × IsListing bytes listing ×
-    ReportsOn (IsSearchOf (IsBest limit)) n (level_at listing n) report
+    ReportsOn (IsSearchOf (IsBest cap limit)) n (level_at listing n) report

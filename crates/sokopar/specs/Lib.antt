@@ -6,6 +6,7 @@ pub mod Report
 pub mod Runs
 pub mod Solving
 pub mod Best
+pub mod Collection
 pub mod Proving
 pub mod OneReport
 pub mod OneAtMost

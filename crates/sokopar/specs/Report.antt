@@ -100,6 +100,11 @@ IsShown board report = report ≡ record { text = written board; status = 0 }
 abbrev pub counts_words : ℕ → ℕ → List ℕ
 counts_words pushes moves = decimal pushes ++ codes " pushes, " ++ decimal moves ++ codes " moves"
 
+-- the cap of pushes in digits, if one is set
+abbrev pub cap_words : Option ℕ → List ℕ
+cap_words None = []
+cap_words (Some most) = decimal most
+
 -- the report of a verdict on a solution
 abbrev pub verdict_report : Verdict → Report
 verdict_report (verdict.Solved pushes moves) = one_line (codes "solved " ++ counts_words pushes moves) 0

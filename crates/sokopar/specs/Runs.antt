@@ -97,3 +97,31 @@ RunsInTwo IsReport n source read second second_read sink written (Err Write) =
     IsReport bytes solution report × WritesPart sink written report.text
 RunsInTwo IsReport n source read second second_read sink written (Err fault) =
     StopsInTwo n source read second second_read fault × (written ≡ sink)
+
+-- the sink took whole lines, then a beginning of the next line, then a write failed, and no other was asked for
+pub record WritesLinePart (old new : Seen) (lines next : List ℕ) : Type 0 where
+  pub between : Seen
+  pub whole : WritesWhole old between lines
+  pub part : WritesPart between new next
+
+-- these are the first lines of a report, and the line that comes next, which may be the report's last one
+abbrev pub ComesNext : (Report → Type 0) → (List ℕ → Type 0) → List ℕ → List ℕ → Type 0
+ComesNext IsReport Begins lines next =
+    Begins lines × (Begins (lines ++ next) ⊎ ((report : Report) × IsReport report × (report.text ≡ lines ++ next)))
+
+-- what a run does that writes its report line by line, by its answer.  It reads the source to its end first.  The
+-- report is written whole; or a write fails within a line, after whole lines; or memory is refused, after whole lines;
+-- or the reading stops and nothing is written
+abbrev pub RunsByLine : (List ℕ → Report → Type 0) → (List ℕ → List ℕ → Type 0) → Seen → Seen → Seen → Seen →
+    Result ℕ RunFault → Type 0
+RunsByLine IsReport Begins source read sink written (Ok status) =
+    (bytes : List ℕ) × (report : Report) × ReadsWhole source read bytes × IsReport bytes report ×
+    WritesWhole sink written report.text × (status ≡ report.status)
+RunsByLine IsReport Begins source read sink written (Err Write) =
+    (bytes : List ℕ) × (lines : List ℕ) × (next : List ℕ) × ReadsWhole source read bytes ×
+    ComesNext (IsReport bytes) (Begins bytes) lines next × WritesLinePart sink written lines next
+RunsByLine IsReport Begins source read sink written (Err OutOfMemory) =
+    (Stops source read OutOfMemory × (written ≡ sink)) ⊎
+    ((bytes : List ℕ) × (lines : List ℕ) × ReadsWhole source read bytes × Begins bytes lines ×
+    WritesWhole sink written lines)
+RunsByLine IsReport Begins source read sink written (Err fault) = Stops source read fault × (written ≡ sink)

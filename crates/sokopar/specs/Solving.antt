@@ -1,21 +1,16 @@
 -- What solving a level writes.
-use Rattle.std.specs.Prelude.{◌≡◌, ℕ, List, [], ◌++◌, length, Option, Some, None, codes, decimal}
+use Rattle.std.specs.Prelude.{◌≡◌, ℕ, List, ◌++◌, length, Option, codes, decimal}
 use Rattle.grid.specs.Board.{Board}
 use Rattle.lurd.specs.Text.{bytes_of}
 use Rattle.solo.specs.Answers.{IsAnswer}
 use Rattle.solo.specs.declared.answer.Answer.{Answer}
 use Rattle.solo.specs.declared.answer.Answer.TheVariants.{Solved, Unsolvable, NoneWithin, Limit}
 use Rattle.sokopar.specs.Listing.{Listed, IsListing, level_at}
-use Rattle.sokopar.specs.Report.{Report, ReportsOn, IsSearchOf, line, one_line, counts_words}
+use Rattle.sokopar.specs.Report.{Report, ReportsOn, IsSearchOf, cap_words, line, one_line, counts_words}
 
 -- a number of positions
 abbrev pub positions_words : ℕ → List ℕ
 positions_words positions = codes ", " ++ decimal positions ++ codes " positions"
-
--- the cap in digits, if one is set
-abbrev pub cap_words : Option ℕ → List ℕ
-cap_words None = []
-cap_words (Some most) = decimal most
 
 -- the report of an answer under a cap of pushes and a limit of positions; good where the level is solved
 abbrev pub answer_report : Option ℕ → ℕ → Answer → Report

@@ -2,3 +2,4 @@
 pub mod Sending
 pub mod Trail
 pub mod Parts
+pub mod Totals

@@ -20,9 +20,11 @@
 
 mod best;
 mod check;
+mod collection;
 mod dead;
 mod engines;
 mod fault;
+mod finding;
 mod laws;
 mod listing;
 mod prove;
@@ -35,6 +37,7 @@ mod sink;
 mod solve;
 mod source;
 mod text;
+mod totals;
 mod trail;
 mod writes;
 
@@ -43,7 +46,10 @@ pub use engines::{
 };
 pub use fault::RunFault;
 pub use laws::{one_report, printed_solution_replays, solution_replays};
-pub use proving::{SearchRequest, run_best, run_prove};
+pub use proving::{
+    BestRequest, CollectionRequest, ProveRequest, SearchConfig, run_best, run_best_collection,
+    run_prove,
+};
 pub use sink::{Sink, Writer};
 pub use source::{Reader, Source};
 pub use trail::Failed;

@@ -6,14 +6,15 @@ ghost use Rattle.prover.specs.Parity.{SomeHas};
 ghost use Rattle.sokopar.specs.Best.{optimal_words};
 ghost use Rattle.sokopar.specs.Listing.{IsLevelOf};
 ghost use Rattle.sokopar.specs.Proving.{IsJudged, IsProofOf, IsProvedBy, IsProveReport, beaten_report};
+ghost use Rattle.sokopar.specs.Proving.{undecided_report};
 ghost use Rattle.sokopar.specs.Report.{IsSearchOf, ReportsOnText, one_line};
 ghost use Rattle.sokopar.specs.Runs.{ReadsIfSome, Stops};
 
-use crate::best::{put_optimal, undecided};
+use crate::best::{put_optimal, put_undecided};
 use crate::fault::RunFault;
 use crate::listing::{Chosen, level_of};
 use crate::reads::read_whole;
-use crate::replay::{text_fault_report, verdict_report};
+use crate::replay::{put_counts, text_fault_report, verdict_report};
 use crate::report::Report;
 use crate::show::{fault_report, no_level};
 use crate::solve::too_many_boxes;
@@ -26,60 +27,74 @@ use prover::{Outcome, SearchFault};
 use std::alloc::{AllocError, Global};
 use xsb::MAX_FILE;
 
+/// The numbers of pushes and moves of a solution.
+#[derive(Clone, Copy)]
+struct Counts {
+    pushes: usize,
+    moves: usize,
+}
+
 /// The report that no solution has fewer pushes.
-fn optimal(alloc: Global, pushes: usize) -> Result<Report, AllocError>
-    ensures { IfOk result (λ report. report ≡ one_line (optimal_words pushes) 0) }
+fn optimal(alloc: Global, given: Counts) -> Result<Report, AllocError>
+    ensures { IfOk result (λ report. report ≡ one_line (optimal_words given.pushes given.moves) 0) }
 {
     let mut text = Text::new(alloc);
-    put_optimal(&mut text, pushes)?;
+    put_optimal(&mut text, given.pushes, given.moves)?;
     text.put(b"\n")?;
     Ok(Report::new(text, 0))
 }
 
 /// The report that a solution with the fewest pushes has fewer pushes.
-fn beaten(alloc: Global, pushes: usize, fewest: usize, moves: &Moves) -> Result<Report, AllocError>
-    ensures { IfOk result (λ report. report ≡ beaten_report pushes fewest moves.now) }
+fn beaten(alloc: Global, given: Counts, fewest: usize, moves: &Moves) -> Result<Report, AllocError>
+    ensures { IfOk result (λ report. report ≡ beaten_report given.pushes given.moves fewest moves.now) }
 {
     let mut text = Text::new(alloc);
-    text.put(b"not optimal ")?;
-    text.put_number(pushes)?;
-    text.put(b" pushes, ")?;
-    put_optimal(&mut text, fewest)?;
+    text.put(b"not ")?;
+    put_optimal(&mut text, given.pushes, given.moves)?;
+    text.put(b", ")?;
+    put_optimal(&mut text, fewest, moves.len())?;
     text.put(b"\n")?;
     text.put_letters(moves)?;
     text.put(b"\n")?;
     Ok(Report::new(text, 1))
 }
 
+/// The report of a solution if the search ended at its limit; every solution has at least `bound` pushes.
+fn undecided(alloc: Global, given: Counts, limit: u32, bound: u32) -> Result<Report, AllocError>
+    ensures { IfOk result (λ report. report ≡ undecided_report limit bound given.pushes given.moves) }
+{
+    let mut text = Text::new(alloc);
+    put_undecided(&mut text, limit, bound)?;
+    text.put(b", given ")?;
+    put_counts(&mut text, given.pushes, given.moves)?;
+    text.put(b"\n")?;
+    Ok(Report::new(text, 4))
+}
+
 #[tactic(auto, using(crate::proofs::Judging::of_judged))]
-/// The report of a solution with this number of pushes, under a limit of positions.
+/// The report of a solution with these numbers of pushes and moves, under a limit of positions.
 ///
 /// All solutions of a level have an even number of pushes, or all have an odd number. So a solution has the fewest
 /// pushes unless another one has at least two fewer.
-fn judged(alloc: Global, level: &Level, pushes: usize, limit: u32) -> Result<Report, AllocError>
-    requires some { SomeHas level.now pushes }
-    requires few { pushes ≤ MAX_MOVES }
-    ensures { IfOk result (λ report. IsSearchOf (IsJudged limit pushes) level.now report) }
+fn judged(alloc: Global, level: &Level, given: Counts, limit: u32) -> Result<Report, AllocError>
+    requires some { SomeHas level.now given.pushes }
+    requires few { given.pushes ≤ MAX_MOVES }
+    ensures { IfOk result (λ report. IsSearchOf (IsJudged limit given.pushes given.moves) level.now report) }
 {
     level.tell();
     solutions_are_alike(level);
     if level.boxes() > MAX_BOXES {
         return too_many_boxes(alloc);
     }
-    if pushes < 2 {
-        return optimal(alloc, pushes);
+    if given.pushes < 2 {
+        return optimal(alloc, given);
     }
-    let most = (pushes - 2) as u32;
+    let most = (given.pushes - 2) as u32;
     match prover::search(alloc, level, Some(most), limit) {
-        Ok(
-            Outcome::Least {
-                moves,
-                pushes: fewest,
-            },
-        ) => beaten(alloc, pushes, fewest, &moves),
-        Ok(Outcome::NoneWithin) => optimal(alloc, pushes),
+        Ok(Outcome::Least { moves, pushes }) => beaten(alloc, given, pushes, &moves),
+        Ok(Outcome::NoneWithin) => optimal(alloc, given),
         Ok(Outcome::Unsolvable) => unreachable!(),
-        Ok(Outcome::Limit { at_least }) => undecided(alloc, limit, at_least),
+        Ok(Outcome::Limit { at_least }) => undecided(alloc, given, limit, at_least),
         Err(SearchFault::TooManyBoxes) => too_many_boxes(alloc),
         Err(SearchFault::OutOfMemory) => Err(AllocError),
     }
@@ -99,7 +114,7 @@ fn moves_report(
 {
     let verdict = replay(alloc, level, moves)?;
     match verdict {
-        Verdict::Solved { pushes, .. } => judged(alloc, level, pushes, limit),
+        Verdict::Solved { pushes, moves } => judged(alloc, level, Counts { pushes, moves }, limit),
         Verdict::Unsolved { .. } => verdict_report(alloc, verdict),
         Verdict::Blocked { .. } => verdict_report(alloc, verdict),
         Verdict::WrongCase { .. } => verdict_report(alloc, verdict),

@@ -3,10 +3,12 @@
 //! So [`one_report`](crate::one_report) does not cover them.
 ghost use Rattle.std.specs.Prelude.{◌≤◌};
 ghost use Rattle.sokopar.specs.Best.{IsBestReport};
+ghost use Rattle.sokopar.specs.Collection.{BeginsCollectionReport, IsCollectionReport};
 ghost use Rattle.sokopar.specs.Proving.{IsProveReport};
-ghost use Rattle.sokopar.specs.Runs.{Runs, RunsInTwo};
+ghost use Rattle.sokopar.specs.Runs.{Runs, RunsByLine, RunsInTwo};
 
 use crate::best::best_in;
+use crate::collection::send_collection;
 use crate::fault::RunFault;
 use crate::prove::prove_in;
 use crate::reads::read_whole;
@@ -14,33 +16,79 @@ use crate::sink::Sink;
 use crate::source::Source;
 use std::alloc::Global;
 
-/// The level for [`run_best`] and [`run_prove`], counted from 1. The search ends undecided once it has found more
-/// positions than the limit.
+/// The bounds of a search of [`run_best`]. The search ends undecided once it has found more positions than the limit.
+/// With a cap it looks only for solutions with at most that many pushes.
 #[derive(Clone, Copy, PartialEq, Eq, Debug)]
-pub struct SearchRequest {
+pub struct SearchConfig {
+    pub limit: u32,
+    pub cap: Option<u32>,
+}
+
+/// The level for [`run_best`], counted from 1, and the bounds of the search.
+#[derive(Clone, Copy, PartialEq, Eq, Debug)]
+pub struct BestRequest {
+    pub number: u32,
+    pub config: SearchConfig,
+}
+
+/// The first and the last level for [`run_best_collection`], counted from 1, and the bounds of the search of each.
+/// Levels that the collection lacks are left out.
+#[derive(Clone, Copy, PartialEq, Eq, Debug)]
+pub struct CollectionRequest {
+    pub from: u32,
+    pub to: u32,
+    pub config: SearchConfig,
+}
+
+/// The level for [`run_prove`], counted from 1. The search ends undecided once it has found more positions than the
+/// limit.
+#[derive(Clone, Copy, PartialEq, Eq, Debug)]
+pub struct ProveRequest {
     pub number: u32,
     pub limit: u32,
 }
 
 #[tactic(auto, using(crate::proofs::Reading::stops_after))]
-/// Finds a solution with the fewest pushes of a level of a collection. Writes the number of pushes and the solution as
-/// LURD text; or that the level has no solution; or that the search found more positions than the limit, and a lower
-/// bound on the pushes of every solution. Returns the exit status: 0 for a solution, 4 at the limit, otherwise 1. The
-/// faults are those of [`run_check`](crate::run_check).
+/// Finds a solution with the fewest pushes of a level of a collection. Writes its numbers of pushes and moves, and the
+/// solution as LURD text; or that the level has no solution, or none with as few pushes as the cap; or that the search
+/// found more positions than the limit, and a lower bound on the pushes of every solution. Returns the exit status: 0
+/// for a solution, 4 at the limit, otherwise 1. The faults are those of [`run_check`](crate::run_check).
 pub fn run_best<S: Source, K: Sink>(
     alloc: Global,
     source: &mut S,
-    request: SearchRequest,
+    request: BestRequest,
     sink: &mut K,
 ) -> Result<u8, RunFault>
     requires { 1 ≤ request.number }
-    ensures { Runs (IsBestReport request.limit request.number) (S.seen source.old) (S.seen source.new)
-        (K.seen sink.old) (K.seen sink.new) result }
+    ensures { Runs (IsBestReport request.config.cap request.config.limit request.number) (S.seen source.old)
+        (S.seen source.new) (K.seen sink.old) (K.seen sink.new) result }
 {
-    let SearchRequest { number, limit } = request;
+    let BestRequest { number, config } = request;
     let bytes = read_whole(alloc, source)?;
-    let report = best_in(alloc, bytes.as_slice(), number, limit)?;
+    let report = best_in(alloc, bytes.as_slice(), number, config.cap, config.limit)?;
     report.send(sink)
+}
+
+#[tactic(auto, using(crate::proofs::ByLine::runs_by_line, crate::proofs::ByLine::stopped_reading))]
+/// Finds a solution with the fewest pushes of each level of a part of a collection, one level after the other. Writes a
+/// line for each level before it goes on to the next one, and the totals. Returns the exit status: 0 if it finds a
+/// solution for each level, else 4 if a search ended at its limit, else 1.
+///
+/// Fails as [`run_check`](crate::run_check) does, except that it may run out of memory after some lines; then it has
+/// written these lines whole. If a write fails, it has written all lines before whole, and a beginning of this one.
+pub fn run_best_collection<S: Source, K: Sink>(
+    alloc: Global,
+    source: &mut S,
+    request: CollectionRequest,
+    sink: &mut K,
+) -> Result<u8, RunFault>
+    ensures { RunsByLine
+        (IsCollectionReport request.config.cap request.config.limit request.from request.to)
+        (BeginsCollectionReport request.config.cap request.config.limit request.from request.to)
+        (S.seen source.old) (S.seen source.new) (K.seen sink.old) (K.seen sink.new) result }
+{
+    let bytes = read_whole(alloc, source)?;
+    send_collection(alloc, bytes.as_slice(), request, sink)
 }
 
 #[tactic(auto, using(crate::proofs::Reading::stops_after))]
@@ -54,7 +102,7 @@ pub fn run_prove<S: Source, T: Source, K: Sink>(
     alloc: Global,
     source: &mut S,
     solution: &mut T,
-    request: SearchRequest,
+    request: ProveRequest,
     sink: &mut K,
 ) -> Result<u8, RunFault>
     requires { 1 ≤ request.number }
@@ -62,7 +110,7 @@ pub fn run_prove<S: Source, T: Source, K: Sink>(
         (S.seen source.new) (T.seen solution.old)
         (T.seen solution.new) (K.seen sink.old) (K.seen sink.new) result }
 {
-    let SearchRequest { number, limit } = request;
+    let ProveRequest { number, limit } = request;
     let bytes = read_whole(alloc, source)?;
     let report = prove_in(alloc, bytes.as_slice(), number, limit, solution)?;
     report.send(sink)

@@ -7,6 +7,7 @@ ghost use Rattle.sokopar.specs.inside.Parts.{limit_words, none_within, SolvesOn}
 ghost use Rattle.lurd.specs.Text.{bytes_of};
 ghost use Rattle.crew.specs.Configured.{IsWithinLimits};
 
+use crate::best::put_none_within;
 use crate::laws::one_report;
 use crate::listing::{Chosen, level_of};
 use crate::replay::put_counts;
@@ -90,11 +91,7 @@ fn none_within(alloc: Global, cap: Option<u32>, positions: u64) -> Result<Report
     ensures { IfOk result (λ report. report ≡ none_within cap positions) }
 {
     let mut text = Text::new(alloc);
-    text.put(b"none within ")?;
-    if let Some(most) = cap {
-        text.put_number(most as usize)?;
-    }
-    text.put(b" pushes")?;
+    put_none_within(&mut text, cap)?;
     put_positions(&mut text, positions)?;
     text.put(b"\n")?;
     Ok(Report::new(text, 1))

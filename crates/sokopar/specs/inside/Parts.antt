@@ -6,8 +6,8 @@ use Rattle.grid.specs.declared.fault.LevelFault.{LevelFault}
 use Rattle.sokopar.specs.Best.{IsBest}
 use Rattle.sokopar.specs.DeadMap.{IsMapOf}
 use Rattle.sokopar.specs.Listing.{Listed}
-use Rattle.sokopar.specs.Report.{Report, ReportsOn, IsSearchOf, one_line}
-use Rattle.sokopar.specs.Solving.{IsSolveOf, cap_words, positions_words}
+use Rattle.sokopar.specs.Report.{Report, ReportsOn, IsSearchOf, cap_words, one_line}
+use Rattle.sokopar.specs.Solving.{IsSolveOf, positions_words}
 
 -- the board is a lawful level
 abbrev pub is_good : Listed → Bool
@@ -23,6 +23,10 @@ level_words board =
 abbrev pub limit_words : ℕ → List ℕ
 limit_words limit = codes "limit " ++ decimal limit ++ codes " reached"
 
+-- that no solution has as few pushes as a cap
+abbrev pub none_words : Option ℕ → List ℕ
+none_words cap = codes "none within " ++ cap_words cap ++ codes " pushes"
+
 -- the report that no play solves a level within a cap
 abbrev pub none_within : Option ℕ → ℕ → Report
 none_within cap positions =
@@ -36,6 +40,7 @@ MapsOn n level report = ReportsOn IsMapOf n level report
 abbrev pub SolvesOn : Option ℕ → ℕ → ℕ → Option (Result Board LevelFault) → Report → Type 0
 SolvesOn cap limit n level report = ReportsOn (IsSolveOf cap limit) n level report
 
--- the report of finding a solution with the fewest pushes of level n of a listing, under a limit of positions
-abbrev pub FindsOn : ℕ → ℕ → Option (Result Board LevelFault) → Report → Type 0
-FindsOn limit n level report = ReportsOn (IsSearchOf (IsBest limit)) n level report
+-- the report of finding a solution with the fewest pushes of level n of a listing, under a cap of pushes and a limit of
+-- positions
+abbrev pub FindsOn : Option ℕ → ℕ → ℕ → Option (Result Board LevelFault) → Report → Type 0
+FindsOn cap limit n level report = ReportsOn (IsSearchOf (IsBest cap limit)) n level report

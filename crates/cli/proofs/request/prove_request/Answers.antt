@@ -1,0 +1,9 @@
+-- A level or a limit that is missing or bad leaves no settings.
+use Rattle.cli.proofs.Asking.{no_level_to_prove, no_limit_to_prove, on_err}
+use Rattle.cli.proofs.request.prove_request.Goals as goal
+
+pub returns-in_err-number-clause-err : goal.returns-in_err-number-clause-err
+returns-in_err-number-clause-err c = on_err _ _ (no_level_to_prove _ c.in_err-number.ensures.err)
+
+pub returns-in_err-limit-clause-err : goal.returns-in_err-limit-clause-err
+returns-in_err-limit-clause-err c = on_err _ _ (no_limit_to_prove _ c.in_err-limit.ensures.err)
