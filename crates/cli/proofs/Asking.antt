@@ -12,7 +12,7 @@ use Rattle.cli.specs.declared.request.Request.{Request}
 use Rattle.cli.specs.declared.request.Request.TheVariants as request
 use Rattle.cli.specs.declared.subcommands.Subcommand.{Subcommand}
 use Rattle.cli.specs.declared.subcommands.Subcommand.TheVariants.{Check, Show, Dead, Replay, Solve, Best, Prove}
-use Rattle.cli.specs.Requests.{Asks, AsksFor, AsksForLevel, AsksForLevels, AsksToProve, AsksToSolve, HasBounds, IsInRange}
+use Rattle.cli.specs.Requests.{Asks, AsksFor, AsksForLevel, AsksForLevels, AsksToProve, AsksToSolve, HasSettings, IsInRange}
 use Rattle.cli.specs.Words.{HasNumber, HasNumberOr, HasText, LacksText}
 
 -- the numbers of a request are in range
@@ -124,9 +124,13 @@ pub no_limit_to_solve : (m : ArgMatches) → ((n : ℕ) → ¬ (HasNumber m (cod
     → (search : SolveRequest) → ¬ (AsksToSolve m search)
 no_limit_to_solve m bad search asks = bad _ asks.limit
 
-pub no_limit_of_bounds : (m : ArgMatches) → ((n : ℕ) → ¬ (HasNumber m (codes "limit") MOST n))
-    → (config : SearchConfig) → ¬ (HasBounds m config)
-no_limit_of_bounds m bad config has = bad _ has.limit
+pub no_workers_of_settings : (m : ArgMatches) → ((n : ℕ) → ¬ (HasNumber m (codes "workers") MOST_WORKERS n))
+    → (config : SearchConfig) → ¬ (HasSettings m config)
+no_workers_of_settings m bad config has = bad _ has.workers
+
+pub no_limit_of_settings : (m : ArgMatches) → ((n : ℕ) → ¬ (HasNumber m (codes "limit") MOST n))
+    → (config : SearchConfig) → ¬ (HasSettings m config)
+no_limit_of_settings m bad config has = bad _ has.limit
 
 pub no_level_of_level : (m : ArgMatches) → ((n : ℕ) → ¬ (HasNumber m (codes "N") MOST n))
     → (search : BestRequest) → ¬ (AsksForLevel m search)
@@ -138,9 +142,9 @@ first_of_level m given search asks = given asks.no_first
 pub last_of_level : (m : ArgMatches) → ¬ (LacksText m (codes "to")) → (search : BestRequest) → ¬ (AsksForLevel m search)
 last_of_level m given search asks = given asks.no_last
 
-pub no_bounds_of_level : (m : ArgMatches) → ((config : SearchConfig) → ¬ (HasBounds m config))
+pub no_settings_in_level : (m : ArgMatches) → ((config : SearchConfig) → ¬ (HasSettings m config))
     → (search : BestRequest) → ¬ (AsksForLevel m search)
-no_bounds_of_level m bad search asks = bad _ asks.bounds
+no_settings_in_level m bad search asks = bad _ asks.settings
 
 pub no_first_of_levels : (m : ArgMatches) → ((n : ℕ) → ¬ (HasNumberOr m (codes "from") 1 MOST n))
     → (search : CollectionRequest) → ¬ (AsksForLevels m search)
@@ -150,9 +154,9 @@ pub no_last_of_levels : (m : ArgMatches) → ((n : ℕ) → ¬ (HasNumberOr m (c
     → (search : CollectionRequest) → ¬ (AsksForLevels m search)
 no_last_of_levels m bad search asks = bad _ asks.last
 
-pub no_bounds_of_levels : (m : ArgMatches) → ((config : SearchConfig) → ¬ (HasBounds m config))
+pub no_settings_in_levels : (m : ArgMatches) → ((config : SearchConfig) → ¬ (HasSettings m config))
     → (search : CollectionRequest) → ¬ (AsksForLevels m search)
-no_bounds_of_levels m bad search asks = bad _ asks.bounds
+no_settings_in_levels m bad search asks = bad _ asks.settings
 
 -- an argument whose text is no number has no number, and is not left out
 pub no_number_or : {T E : Type 0} (result : Result T E) (m : ArgMatches) (name text : List ℕ) (default most : ℕ)
@@ -168,6 +172,10 @@ no_number_or (Err e) m name text default most given bad =
 pub no_level_to_prove : (m : ArgMatches) → ((n : ℕ) → ¬ (HasNumber m (codes "N") MOST n))
     → (search : ProveRequest) → ¬ (AsksToProve m search)
 no_level_to_prove m bad search asks = bad _ asks.level
+
+pub no_workers_to_prove : (m : ArgMatches) → ((n : ℕ) → ¬ (HasNumber m (codes "workers") MOST_WORKERS n))
+    → (search : ProveRequest) → ¬ (AsksToProve m search)
+no_workers_to_prove m bad search asks = bad _ asks.workers
 
 pub no_limit_to_prove : (m : ArgMatches) → ((n : ℕ) → ¬ (HasNumber m (codes "limit") MOST n))
     → (search : ProveRequest) → ¬ (AsksToProve m search)

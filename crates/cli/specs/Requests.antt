@@ -26,8 +26,9 @@ pub record AsksToSolve (matches : ArgMatches) (search : SolveRequest) : Type 0 w
   pub limit : HasNumber matches (codes "limit") MOST search.config.limit
   pub cap : MayHaveNumber matches (codes "max-pushes") MOST search.config.cap
 
--- the bounds of a search of `best` are the numbers of the arguments
-pub record HasBounds (matches : ArgMatches) (config : SearchConfig) : Type 0 where
+-- the settings of a search of `best` are the numbers of the arguments
+pub record HasSettings (matches : ArgMatches) (config : SearchConfig) : Type 0 where
+  pub workers : HasNumber matches (codes "workers") MOST_WORKERS config.workers
   pub limit : HasNumber matches (codes "limit") MOST config.limit
   pub cap : MayHaveNumber matches (codes "max-pushes") MOST config.cap
 
@@ -36,7 +37,7 @@ pub record AsksForLevel (matches : ArgMatches) (search : BestRequest) : Type 0 w
   pub level : HasNumber matches (codes "N") MOST search.number
   pub no_first : LacksText matches (codes "from")
   pub no_last : LacksText matches (codes "to")
-  pub bounds : HasBounds matches search.config
+  pub settings : HasSettings matches search.config
 
 -- no level is given, and the range of levels and the settings of `best` are the numbers of the arguments; without them
 -- the range begins at 1 and has no end
@@ -44,11 +45,12 @@ pub record AsksForLevels (matches : ArgMatches) (search : CollectionRequest) : T
   pub no_level : LacksText matches (codes "N")
   pub first : HasNumberOr matches (codes "from") 1 MOST search.from
   pub last : HasNumberOr matches (codes "to") MOST MOST search.to
-  pub bounds : HasBounds matches search.config
+  pub settings : HasSettings matches search.config
 
--- the level and the limit of `prove` are the numbers of the arguments
+-- the level and the settings of `prove` are the numbers of the arguments
 pub record AsksToProve (matches : ArgMatches) (search : ProveRequest) : Type 0 where
   pub level : HasNumber matches (codes "N") MOST search.number
+  pub workers : HasNumber matches (codes "workers") MOST_WORKERS search.workers
   pub limit : HasNumber matches (codes "limit") MOST search.limit
 
 -- the arguments of a subcommand ask for this request: its paths are their texts, its numbers their numbers

@@ -106,7 +106,8 @@ pub(crate) fn solve<'a, R: Threads + Wait + Sync, S: System>(
 
 #[tactic(auto, using(crate::proofs::Running::endings))]
 /// Finds a solution with the fewest pushes of a level.
-pub(crate) fn best<'a, S: System>(
+pub(crate) fn best<'a, R: Threads + Sync, S: System>(
+    rt: &R,
     system: &S,
     alloc: Global,
     file: &'a str,
@@ -117,12 +118,13 @@ pub(crate) fn best<'a, S: System>(
 {
     let mut source = system.open(file)?;
     let mut sink = system.output();
-    Ok(run_best(alloc, &mut source, search, &mut sink)?)
+    Ok(run_best(rt, alloc, &mut source, search, &mut sink)?)
 }
 
 #[tactic(auto, using(crate::proofs::Running::endings))]
 /// Finds a solution with the fewest pushes of each level of a part of a collection.
-pub(crate) fn best_collection<'a, S: System>(
+pub(crate) fn best_collection<'a, R: Threads + Sync, S: System>(
+    rt: &R,
     system: &S,
     alloc: Global,
     file: &'a str,
@@ -132,12 +134,13 @@ pub(crate) fn best_collection<'a, S: System>(
 {
     let mut source = system.open(file)?;
     let mut sink = system.output();
-    Ok(run_best_collection(alloc, &mut source, search, &mut sink)?)
+    Ok(run_best_collection(rt, alloc, &mut source, search, &mut sink)?)
 }
 
 #[tactic(auto, using(crate::proofs::Running::endings))]
 /// Proves that a solution has the fewest pushes on a level.
-pub(crate) fn prove<'a, S: System>(
+pub(crate) fn prove<'a, R: Threads + Sync, S: System>(
+    rt: &R,
     system: &S,
     alloc: Global,
     file: &'a str,
@@ -150,5 +153,5 @@ pub(crate) fn prove<'a, S: System>(
     let mut source = system.open(file)?;
     let mut letters = system.open(solution)?;
     let mut sink = system.output();
-    Ok(run_prove(alloc, &mut source, &mut letters, search, &mut sink)?)
+    Ok(run_prove(rt, alloc, &mut source, &mut letters, search, &mut sink)?)
 }

@@ -241,7 +241,7 @@ With --max-pushes M the search looks only for solutions with at most M pushes.
 
 The search counts the positions that it stores, and stops when they exceed the
 limit. In rooms of ordinary size a position takes as much memory as in 'sokopar
-solve', and tables take up to 150 MB more. A position takes 10 to 60
+solve', and tables take up to 270 MB more. A position takes 10 to 60
 microseconds, so the default limit takes up to a minute. In open rooms with 30
 boxes or more it takes up to 200 microseconds.
 

@@ -54,13 +54,15 @@ fn perform<'a, R: Threads + Wait + Sync, S: System>(
             solution,
         } => replay(system, alloc, file, number, solution),
         Request::Solve { file, search } => solve(rt, system, alloc, file, search),
-        Request::Best { file, search } => best(system, alloc, file, search),
-        Request::BestCollection { file, search } => best_collection(system, alloc, file, search),
+        Request::Best { file, search } => best(rt, system, alloc, file, search),
+        Request::BestCollection { file, search } => best_collection(
+            rt, system, alloc, file, search,
+        ),
         Request::Prove {
             file,
             solution,
             search,
-        } => prove(system, alloc, file, solution, search),
+        } => prove(rt, system, alloc, file, solution, search),
     }
 }
 

@@ -1,9 +1,9 @@
 //! The request of a command line.
 ghost use Rattle.std.specs.Prelude.{ℕ, List, IfOk, IfSome, OnErr, codes};
 ghost use Rattle.cli.specs.Requests.{Asks, AsksFor, AsksForLevel, AsksForLevels, AsksToProve, AsksToSolve};
-ghost use Rattle.cli.specs.Requests.{HasBounds, HasSubcommand, IsInRange};
+ghost use Rattle.cli.specs.Requests.{HasSettings, HasSubcommand, IsInRange};
 ghost use Rattle.cli.specs.Words.{HasNumber, HasText, LacksText};
-ghost use Rattle.cli.specs.declared.arguments.TheConstants.{MOST};
+ghost use Rattle.cli.specs.declared.arguments.TheConstants.{MOST, MOST_WORKERS};
 
 use crate::arguments::{MOST, MOST_LOCKS, MOST_WORKERS};
 use crate::help::Notes;
@@ -93,13 +93,21 @@ fn limit_of<'a>(matches: &ArgMatches<'a>) -> Result<u32, BadArgument<'a>>
     number_of(matches, "limit", "--limit <L>", MOST)
 }
 
+/// The number of workers.
+fn workers_of<'a>(matches: &ArgMatches<'a>) -> Result<u32, BadArgument<'a>>
+    ensures ok { IfOk result (λ n. HasNumber matches.now (codes "workers") MOST_WORKERS n) }
+    ensures err { OnErr result ((n : ℕ) → ¬ (HasNumber matches.now (codes "workers") MOST_WORKERS n)) }
+{
+    number_of(matches, "workers", "--workers <W>", MOST_WORKERS)
+}
+
 /// The level and the settings of `solve`.
 fn solve_request<'a>(matches: &ArgMatches<'a>) -> Result<SolveRequest, BadArgument<'a>>
     ensures ok { IfOk result (λ search. AsksToSolve matches.now search) }
     ensures err { OnErr result ((search : SolveRequest) → ¬ (AsksToSolve matches.now search)) }
 {
     let number = level_of(matches)?;
-    let workers = number_of(matches, "workers", "--workers <W>", MOST_WORKERS)?;
+    let workers = workers_of(matches)?;
     let locks = number_of(matches, "locks", "--locks <K>", MOST_LOCKS)?;
     let limit = limit_of(matches)?;
     let cap = cap_of(matches)?;
@@ -112,14 +120,19 @@ fn solve_request<'a>(matches: &ArgMatches<'a>) -> Result<SolveRequest, BadArgume
     Ok(SolveRequest { number, config })
 }
 
-/// The bounds of a search of `best`.
-fn bounds_of<'a>(matches: &ArgMatches<'a>) -> Result<SearchConfig, BadArgument<'a>>
-    ensures ok { IfOk result (λ config. HasBounds matches.now config) }
-    ensures err { OnErr result ((config : SearchConfig) → ¬ (HasBounds matches.now config)) }
+/// The settings of a search of `best`.
+fn settings_of<'a>(matches: &ArgMatches<'a>) -> Result<SearchConfig, BadArgument<'a>>
+    ensures ok { IfOk result (λ config. HasSettings matches.now config) }
+    ensures err { OnErr result ((config : SearchConfig) → ¬ (HasSettings matches.now config)) }
 {
+    let workers = workers_of(matches)?;
     let limit = limit_of(matches)?;
     let cap = cap_of(matches)?;
-    Ok(SearchConfig { limit, cap })
+    Ok(SearchConfig {
+        workers: workers as u8,
+        limit,
+        cap,
+    })
 }
 
 /// The level and the settings of `best`, if the number of a level is given.
@@ -130,7 +143,7 @@ fn level_request<'a>(matches: &ArgMatches<'a>) -> Result<BestRequest, BadArgumen
     let number = level_of(matches)?;
     lacks(matches, "from", "--from <A>")?;
     lacks(matches, "to", "--to <B>")?;
-    let config = bounds_of(matches)?;
+    let config = settings_of(matches)?;
     Ok(BestRequest { number, config })
 }
 
@@ -142,7 +155,7 @@ fn levels_request<'a>(matches: &ArgMatches<'a>) -> Result<CollectionRequest, Bad
 {
     let from = number_or(matches, "from", "--from <A>", 1)?;
     let to = number_or(matches, "to", "--to <B>", MOST)?;
-    let config = bounds_of(matches)?;
+    let config = settings_of(matches)?;
     Ok(CollectionRequest { from, to, config })
 }
 
@@ -165,14 +178,19 @@ fn best_request<'a>(file: &'a str, matches: &ArgMatches<'a>) -> Result<Request<'
     }
 }
 
-/// The level and the limit of `prove`.
+/// The level and the settings of `prove`.
 fn prove_request<'a>(matches: &ArgMatches<'a>) -> Result<ProveRequest, BadArgument<'a>>
     ensures ok { IfOk result (λ search. AsksToProve matches.now search) }
     ensures err { OnErr result ((search : ProveRequest) → ¬ (AsksToProve matches.now search)) }
 {
     let number = level_of(matches)?;
+    let workers = workers_of(matches)?;
     let limit = limit_of(matches)?;
-    Ok(ProveRequest { number, limit })
+    Ok(ProveRequest {
+        number,
+        workers: workers as u8,
+        limit,
+    })
 }
 
 #[tactic(auto, using(crate::proofs::Asking::asks_nothing))]

@@ -106,8 +106,10 @@ impl Subcommand {
             Subcommand::Show | Subcommand::Dead => line.arg(number_operand(alloc)),
             Subcommand::Replay => with_solution(alloc, line),
             Subcommand::Solve => with_settings(alloc, line),
-            Subcommand::Best => with_bounds(alloc, line),
-            Subcommand::Prove => with_solution(alloc, line)?.arg(limit_option(alloc)),
+            Subcommand::Best => with_search(alloc, line),
+            Subcommand::Prove => with_solution(alloc, line)?
+                .arg(workers_option(alloc))?
+                .arg(limit_option(alloc)),
         }
     }
 }
@@ -142,11 +144,12 @@ fn with_settings<'a>(alloc: Global, line: Command<'a>) -> Result<Command<'a>, Al
         .arg(max_pushes_option(alloc))
 }
 
-/// A command line with the number of a level or a range of levels, and the bounds of a search of `best`.
-fn with_bounds<'a>(alloc: Global, line: Command<'a>) -> Result<Command<'a>, AllocError> {
+/// A command line with the number of a level or a range of levels, and the settings of a search of `best`.
+fn with_search<'a>(alloc: Global, line: Command<'a>) -> Result<Command<'a>, AllocError> {
     line.arg(optional_number_operand(alloc))?
         .arg(from_option(alloc))?
         .arg(to_option(alloc))?
+        .arg(workers_option(alloc))?
         .arg(limit_option(alloc))?
         .arg(max_pushes_option(alloc))
 }

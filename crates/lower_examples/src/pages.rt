@@ -230,9 +230,9 @@ fn page_of_layers(rt: HostRuntime) {
 fn page_of_prover(rt: HostRuntime) {
     let alloc = rt.alloc();
     let level = level_of(&rt, alloc, CORNER);
-    let best = prover::search(alloc, &level, None, 1_000).expect(&rt, "memory");
+    let best = prover::search(&rt, alloc, &level, None, 1_000, 1).expect(&rt, "memory");
     assert!(&rt; matches!(&best, Outcome::Least { pushes: 2, .. }));
-    let fewer = prover::search(alloc, &level, Some(1), 1_000).expect(&rt, "memory");
+    let fewer = prover::search(&rt, alloc, &level, Some(1), 1_000, 2).expect(&rt, "memory");
     assert!(&rt; matches!(&fewer, Outcome::NoneWithin));
 }
 

@@ -7,4 +7,5 @@ pub mod Deferring
 pub mod Steps
 pub mod Endings
 pub mod Queues
+pub mod Dealing
 pub mod ReadingBack

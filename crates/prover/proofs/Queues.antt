@@ -1,8 +1,9 @@
 -- The queue of open positions, over plain lists.
-use Rattle.std.proofs.Common.{IfNone, IfSome, ◌≡◌, ℕ, zero, suc, ◌+◌, ◌≤◌, ◌⊎◌, List, [], ◌∷◌, length, Option, None, Some, inl, inr, refl, sym, ap, subst}
+use Rattle.std.proofs.Common.{IfNone, IfSome, ◌≡◌, ℕ, zero, suc, ◌+◌, ◌≤◌, ◌<◌, ◌⊎◌, List, [], ◌∷◌, ◌++◌, length, Option, None, Some, inl, inr, refl, sym, ap, subst}
 use Rattle.std.proofs.Common.{◌∙◌, arith, false, slice_index_or, slice_set}
 use Rattle.std.proofs.lemmas.List.Sorted.{Contains-permutation, length_permutation}
 use Rattle.std.proofs.lemmas.Map.Keys.{ge_from_not_lt}
+use Rattle.std.proofs.lemmas.List.{length-append}
 use Rattle.std.proofs.lemmas.Option.{none-some, same_Some, slice_get_within}
 use Rattle.std.specs.BinaryHeap.{IsUpperBound}
 use Rattle.std.specs.declared.cmp.Ordering.{Ordering}
@@ -10,7 +11,7 @@ use Rattle.std.specs.declared.cmp.Ordering.TheVariants.{Less, Equal, Greater}
 use Rattle.std.specs.List.{Contains}
 use Rattle.std.specs.List.Sorted.{IsPermutation}
 use Rattle.std.specs.Ordering.{is_lt, ordering_then}
-use Rattle.std.specs.Prelude.{slice_get}
+use Rattle.std.specs.Prelude.{MatchOption, option_to_list, slice_get}
 use Rattle.store.specs.Visited.{Entry, HasEntered, with_least}
 use Rattle.prover.specs.declared.queue.Ticket.{Ticket}
 use Rattle.prover.specs.Frontier.{AreClosed}
@@ -75,7 +76,154 @@ pub popped_by : (first : Ticket) (r : Option Ticket) (old new : List Ticket) (n 
 popped_by first None old new n size empty top same at = absurd (let lt = slice_get_within old 0 first at in omega (arith, size, empty, lt))
 popped_by first (Some t) old new n size empty top same at = popped first t old new at top same
 
+-- ---- tickets that are set aside
+
+in_front_part : (t : Ticket) (xs ys : List Ticket) → Contains xs t → Contains (xs ++ ys) t
+in_front_part t [] ys (i, lt, e) = absurd (omega (arith, lt))
+in_front_part t (x ∷ xs) ys (zero, lt, e) = (zero, omega arith, e)
+in_front_part t (x ∷ xs) ys (suc i, lt, e) = in_tail x t (xs ++ ys) (in_front_part t xs ys (i, omega (arith, lt), e))
+
+in_back_part : (t : Ticket) (xs ys : List Ticket) → Contains ys t → Contains (xs ++ ys) t
+in_back_part t [] ys there = there
+in_back_part t (x ∷ xs) ys there = in_tail x t (xs ++ ys) (in_back_part t xs ys there)
+
+in_either_part : (t : Ticket) (xs ys : List Ticket) → Contains (xs ++ ys) t → Contains xs t ⊎ Contains ys t
+in_either_part t [] ys there = inr there
+in_either_part t (x ∷ xs) ys there = elim (head_or_tail x t (xs ++ ys) there) [
+  | inl e ↦ inl (zero, omega arith, e)
+  | inr rest ↦ elim (in_either_part t xs ys rest) [
+    | inl h ↦ inl (in_tail x t xs h)
+    | inr h ↦ inr h
+  ]
+]
+
+pub waits_front : (xs ys : List Ticket) (least place : ℕ) → Waits xs least place → Waits (xs ++ ys) least place
+waits_front xs ys least place (t, there, l, p) = (t, in_front_part t xs ys there, l, p)
+
+waits_back : (xs ys : List Ticket) (least place : ℕ) → Waits ys least place → Waits (xs ++ ys) least place
+waits_back xs ys least place (t, there, l, p) = (t, in_back_part t xs ys there, l, p)
+
+waits_either : (xs ys : List Ticket) (least place : ℕ) → Waits (xs ++ ys) least place → Waits xs least place ⊎ Waits ys least place
+waits_either xs ys least place (t, there, l, p) = elim (in_either_part t xs ys there) [
+  | inl h ↦ inl (t, h, l, p)
+  | inr h ↦ inr (t, h, l, p)
+]
+
+-- what waits, also aside, when the tickets in order become more
+pub waits_wider : (old new aside aside' : List Ticket) → aside' ≡ aside → ((least place : ℕ) → Waits old least place → Waits new least place) →
+    (least place : ℕ) → Waits (old ++ aside) least place → Waits (new ++ aside') least place
+waits_wider old new aside aside' same wider least place waits = subst (λ (ts : List Ticket). Waits (new ++ ts) least place) (sym same)
+    (elim (waits_either old aside least place waits) [
+      | inl h ↦ waits_front new aside least place (wider least place h)
+      | inr h ↦ waits_back new aside least place h
+    ])
+
+-- what waits, also aside, when the first ticket was taken out
+pub waits_less : (t : Ticket) (old new aside aside' : List Ticket) → aside' ≡ aside →
+    ((least place : ℕ) → Waits old least place → Waits new least place ⊎ ((least ≡ t.least.0) × (place ≡ t.place))) →
+    (least place : ℕ) → Waits (old ++ aside) least place → Waits (new ++ aside') least place ⊎ ((least ≡ t.least.0) × (place ≡ t.place))
+waits_less t old new aside aside' same less least place waits = elim (waits_either old aside least place waits) [
+  | inl h ↦ elim (less least place h) [
+    | inl k ↦ inl (waits_front new aside' least place k)
+    | inr k ↦ inr k
+  ]
+  | inr h ↦ inl (subst (λ (ts : List Ticket). Waits (new ++ ts) least place) (sym same) (waits_back new aside least place h))
+]
+
+-- what waits, also aside, when the first ticket was set aside
+pub waits_aside : (t : Ticket) (old new aside aside' : List Ticket) → aside' ≡ aside ++ t ∷ [] →
+    ((least place : ℕ) → Waits old least place → Waits new least place ⊎ ((least ≡ t.least.0) × (place ≡ t.place))) →
+    (least place : ℕ) → Waits (old ++ aside) least place → Waits (new ++ aside') least place
+waits_aside t old new aside aside' shape less least place waits = subst (λ (ts : List Ticket). Waits (new ++ ts) least place) (sym shape)
+    (waits_back_or (waits_either old aside least place waits))
+  where
+    last : (l p : ℕ) → l ≡ t.least.0 → p ≡ t.place → Waits (aside ++ t ∷ []) l p
+    last l p e f = waits_back aside (t ∷ []) l p (t, at_head t [], sym e, sym f)
+
+    waits_back_or : Waits old least place ⊎ Waits aside least place → Waits (new ++ (aside ++ t ∷ [])) least place
+    waits_back_or (inr h) = waits_back new (aside ++ t ∷ []) least place (waits_front aside (t ∷ []) least place h)
+    waits_back_or (inl h) = elim (less least place h) [
+      | inl k ↦ waits_front new (aside ++ t ∷ []) least place k
+      | inr k ↦ waits_back new (aside ++ t ∷ []) least place (last least place k.0 k.1)
+    ]
+
 -- ---- the queue beside what was found
+
+-- where nothing is aside, the tickets are those in order
+pub only_ordered : (all : List Entry) (ordered aside : List Ticket) → aside ≡ [] → IsQueued all (ordered ++ aside) → IsQueued all ordered
+only_ordered all ordered aside none queued i x least at open_ = elim (waits_either ordered aside least i (queued i x least at open_)) [
+  | inl h ↦ h
+  | inr (t, (k, lt, same), l, p) ↦ absurd (let size = ap (λ (ts : List Ticket). length ts) none in omega (arith, lt, size))
+]
+
+pub with_aside : (all : List Entry) (ordered aside : List Ticket) → IsQueued all ordered → IsQueued all (ordered ++ aside)
+with_aside all ordered aside queued i x least at open_ = waits_front ordered aside least i (queued i x least at open_)
+
+-- the same, over other lists
+pub queued_same : (all : List Entry) (old new aside aside' : List Ticket) → new ≡ old → aside' ≡ aside → IsQueued all (old ++ aside) →
+    IsQueued all (new ++ aside')
+queued_same all old new aside aside' same alike queued = subst (λ (ts : List Ticket). IsQueued all (ts ++ aside')) (sym same)
+    (subst (λ (ts : List Ticket). IsQueued all (old ++ ts)) (sym alike) queued)
+
+pub queued_on : (all : List Entry) (old new : List Ticket) → ((least place : ℕ) → Waits old least place → Waits new least place) →
+    IsQueued all old → IsQueued all new
+queued_on all old new wider queued i x least at open_ = wider least i (queued i x least at open_)
+
+-- the last ticket was taken back
+nil_of : (ts : List Ticket) → length ts ≡ 0 → ts ≡ []
+nil_of [] e = refl
+nil_of (t ∷ ts) e = absurd (omega (arith, e))
+
+one_aside : (heap old new : List Ticket) (t : Ticket) → old ≡ new ++ t ∷ [] → (least place : ℕ) → Waits (heap ++ old) least place →
+    Waits (heap ++ new) least place ⊎ ((least ≡ t.least.0) × (place ≡ t.place))
+one_aside heap old new t is least place waits = by (waits_either heap old least place waits)
+  where
+    last : Waits (t ∷ []) least place → (least ≡ t.least.0) × (place ≡ t.place)
+    last (u, there, l, p) = elim (head_or_tail t u [] there) [
+      | inl e ↦ (sym l ∙ ap (λ (w : Ticket). w.least.0) (sym e), sym p ∙ ap (λ (w : Ticket). w.place) (sym e))
+      | inr (i, lt, e) ↦ absurd (omega (arith, lt))
+    ]
+
+    by : Waits heap least place ⊎ Waits old least place → Waits (heap ++ new) least place ⊎ ((least ≡ t.least.0) × (place ≡ t.place))
+    by (inl h) = inl (waits_front heap new least place h)
+    by (inr h) = elim (waits_either new (t ∷ []) least place (subst (λ (ts : List Ticket). Waits ts least place) is h)) [
+      | inl k ↦ inl (waits_back heap new least place k)
+      | inr k ↦ inr (last k)
+    ]
+
+pub popped_aside : (heap old new : List Ticket) (r : Option Ticket) → old ≡ new ++ option_to_list r →
+    IfSome r (λ t. (least place : ℕ) → Waits (heap ++ old) least place → Waits (heap ++ new) least place ⊎ ((least ≡ t.least.0) × (place ≡ t.place)))
+popped_aside heap old new None is = tt
+popped_aside heap old new (Some t) is = one_aside heap old new t is
+
+pub fewer_aside : (old new : List Ticket) (r : Option Ticket) → old ≡ new ++ option_to_list r → IfSome r (λ _. length new + 1 ≡ length old)
+fewer_aside old new None is = tt
+fewer_aside old new (Some t) is = let long = length-append new (t ∷ []) in let size = ap (λ (ts : List Ticket). length ts) is in omega (arith, long, size)
+
+append_none : (ts : List Ticket) → ts ++ [] ≡ ts
+append_none [] = refl
+append_none (t ∷ ts) = ap (λ (us : List Ticket). t ∷ us) (append_none ts)
+
+pub kept_aside : (old new : List Ticket) (r : Option Ticket) → old ≡ new ++ option_to_list r → IfNone r (new ≡ old)
+kept_aside old new None is = sym (is ∙ append_none new)
+kept_aside old new (Some t) is = tt
+
+pub none_aside : (new : List Ticket) (n m : ℕ) (r : Option Ticket) → MatchOption r ((n ≡ 0) × (m ≡ 0)) (λ _. m + 1 ≡ n) → m ≡ length new →
+    IfNone r (new ≡ [])
+none_aside new n m None none size = let e = none.1 in nil_of new (omega (arith, e, size))
+none_aside new n m (Some t) some size = tt
+
+-- a ticket that was taken back waits again, if its position is open
+pub queued_back : (all : List Entry) (t : Ticket) (before : List Ticket) (old new aside aside' : List Ticket) → IsQueued all before →
+    ((least place : ℕ) → Waits before least place → Waits (old ++ aside) least place ⊎ ((least ≡ t.least.0) × (place ≡ t.place))) →
+    ((x : Entry) → slice_get all t.place ≡ Some x → x.least ≡ Some t.least.0 → Waits new t.least.0 t.place) →
+    ((least place : ℕ) → Waits old least place → Waits new least place) → aside' ≡ aside → IsQueued all (new ++ aside')
+queued_back all t before old new aside aside' queued less again wider same i x least at open_ = elim (less least i (queued i x least at open_)) [
+  | inl h ↦ waits_wider old new aside aside' same wider least i h
+  | inr (l, p) ↦
+      subst (λ (m : ℕ). Waits (new ++ aside') m i) (sym l) (subst (λ (j : ℕ). Waits (new ++ aside') t.least.0 j) (sym p)
+      (waits_front new aside' t.least.0 t.place (again x (ap (λ (k : ℕ). slice_get all k) (sym p) ∙ at) (open_ ∙ ap Some l))))
+]
 
 -- one more position is open
 pub queued_more : (old new : List Entry) (e : Entry) (place least : ℕ) (before after : List Ticket) → e.least ≡ Some least →

@@ -392,35 +392,8 @@ under_way_first board cap old new n norm fits none enters = record {
       settled = settled_open board cap new e 0 refl (λ rest solvable. omega arith);
     }
 
--- ---- places are kept
+-- ---- fewer turns are left
 
-pub kept_then : (first second third : List Entry) → KeepPlaces first second → KeepPlaces second third → KeepPlaces first third
-kept_then first second third one two i x at =
-    let (y, there, same, less) = one i x at in
-    let (z, here, alike, fewer) = two i y there in
-    (z, here, alike ∙ same, omega (arith, less, fewer))
-
-pub kept_set : (old new : List Entry) (place : ℕ) (x : Entry) (least : Option ℕ) → slice_get old place ≡ Some x → HasLeastAt old place least new →
-    KeepPlaces old new
-kept_set old new place x least here has = subst (KeepPlaces old) (sym (has x here)) (λ i z there. elim (cases_eq i place) [
-  | inl eq ↦ (let e : z ≡ x = same_Some z x (sym there ∙ (ap (λ (k : ℕ). slice_get old k) eq ∙ here)) in (
-    y,
-    ap (λ (k : ℕ). slice_get after k) eq ∙ set_here old place x y here,
-    ap (λ (w : Entry). w.position) (sym e),
-    (let f = ap (λ (w : Entry). w.pushes) e in omega (arith, f)),
-  ))
-  | inr ne ↦ (z, set_there old place i y ne ∙ there, refl, omega arith)
-])
-  where
-    y : Entry
-    y = with_least least x
-
-    after : List Entry
-    after = set old place y
-
--- ---- turns
-
--- an expansion, and then the closing of its position, or its greater least total
 pub turns_expanded : (cap : Option ℕ) (first second third : List Entry) (place least reach : ℕ) (x : Entry) (next : Option ℕ) → reach < 4294967296 →
     GoesOn first second → slice_get second place ≡ Some x → x.least ≡ Some least → least ≤ reach → IsLater cap reach next →
     HasLeastAt second place next third → (limit : ℕ) → length third ≤ limit → turns_left limit third < turns_left limit first
@@ -449,3 +422,29 @@ rounds_lessen limit old new few less = by (nat_lt limit (length old)) (nat_lt li
     by true c e f = absurd (let lt = ltb-true limit (length old) e in omega (arith, few, lt))
     by false true e f = omega arith
     by false false e f = let lt = less (ltb-false limit (length new) f) in omega (arith, lt)
+
+pub goes_expanded : (first second third : List Entry) (place : ℕ) (x : Entry) (next : Option ℕ) → GoesOn first second → slice_get second place ≡ Some x →
+    HasLeastAt second place next third → ((limit : ℕ) → length third ≤ limit → turns_left limit third < turns_left limit first) → GoesOn first third
+goes_expanded first second third place x next on at has fewer =
+    let long = length-set second place (with_least next x) in
+    let size = ap (λ (xs : List Entry). length xs) (has x at) in
+    let more = on.more in record {
+      more = omega (arith, long, size, more);
+      turns = λ limit le. (let less = fewer limit le in omega (arith, less));
+    }
+
+pub goes_then : (first second third : List Entry) → GoesOn first second → GoesOn second third → GoesOn first third
+goes_then first second third one two =
+    let a = one.more in
+    let b = two.more in record {
+      more = omega (arith, a, b);
+      turns = λ limit le. (let p = one.turns limit (omega (arith, b, le)) in let q = two.turns limit le in omega (arith, p, q));
+    }
+
+pub turns_then : (limit : ℕ) (first second third : List Entry) → (length second ≤ limit → turns_left limit second < turns_left limit first) →
+    GoesOn second third → length third ≤ limit → turns_left limit third < turns_left limit first
+turns_then limit first second third less on le =
+    let more = on.more in
+    let p = less (omega (arith, more, le)) in
+    let q = on.turns limit le in
+    omega (arith, p, q)

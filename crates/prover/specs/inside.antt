@@ -2,3 +2,5 @@
 pub mod Tickets
 pub mod Working
 pub mod SearchEnds
+pub mod Waiting
+pub mod Rounds

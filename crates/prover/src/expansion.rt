@@ -1,8 +1,9 @@
 //! Expansions: each opens the positions that the pushes of one position lead to. It leaves out pushes that no shortest
 //! solution needs, and leaves those with a greater total for later. What it finds depends on the position, on the pushes
 //! that led to it and on the total that the search has reached, and not on what else was found.
-ghost use Rattle.std.specs.Prelude.{◌≡◌, ℕ, ◌<◌, ◌≤◌, ◌^◌, OnOk, [], length};
-ghost use Rattle.prover.specs.inside.Working.{IsExpandable, IsExpansion, IsSearched, IsUnsolvedOpen, turns_left};
+ghost use Rattle.std.specs.Prelude.{◌≡◌, ℕ, ◌<◌, ◌≤◌, OnOk, [], length};
+ghost use Rattle.prover.specs.inside.Working.{GoesOn, IsExpandable, IsExpansion, IsReady, IsSearched};
+ghost use Rattle.prover.specs.inside.Working.{IsWaiting, turns_left};
 
 use crate::frontier::Frontier;
 use crate::pruner::Pruner;
@@ -12,35 +13,29 @@ use crate::workspace::Workspace;
 use prices::{Matching, Slack};
 use std::alloc::AllocError;
 
-/// Expands the open position at a place for totals up to `reach`. Its least total becomes the least of the totals that
-/// are left for later. It is closed if there is none.
+/// Expands an open position for totals up to `from.reach`. Its least total becomes the least of the totals that are left
+/// for later. It is closed if there is none.
 pub(crate) fn expand(
     pruner: &Pruner<'_>,
     frontier: &mut Frontier,
-    place: usize,
-    reach: u32,
+    from: &Expanded,
     workspace: &mut Workspace<'_>,
 ) -> Result<(), AllocError>
     requires searched { IsSearched pruner.now.board pruner.now.cap frontier.old }
-    requires waits { IsUnsolvedOpen pruner.now.board frontier.old.entries place reach }
-    requires few { length frontier.old.entries < 2 ^ 32 }
+    requires waits { IsWaiting frontier.old.entries from.now }
+    requires ready { IsReady pruner.now.board from.now }
     requires task { workspace.old.expander.task ≡ pruner.now }
     ensures searched { OnOk result (IsSearched pruner.now.board pruner.now.cap frontier.new) }
+    ensures goes_on { OnOk result (GoesOn frontier.old.entries frontier.new.entries) }
     ensures fewer_turns { OnOk result ((limit : ℕ) → length frontier.new.entries ≤ limit →
         turns_left limit frontier.new.entries < turns_left limit frontier.old.entries) }
     ensures task { workspace.new.expander.task ≡ workspace.old.expander.task }
 {
-    let from = Expanded {
-        position: frontier.position(place),
-        pushes: frontier.pushes(place),
-        reach,
-        place: place as u32,
-    };
-    open_all(pruner, &from, workspace)?;
+    open_all(pruner, from, workspace)?;
     enter(
         pruner,
         frontier,
-        &from,
+        from,
         workspace.opened.as_slice(),
         workspace.next,
     )

@@ -7,19 +7,23 @@
 //! a position has a solution that the cap allows, some push that its expansions keep leads on to a solution with as few
 //! pushes.
 //!
+//! A search goes in rounds. A round expands the open position of the least total, and then others whose totals the search
+//! has reached, side by side. What it finds does not depend on the number of workers, unless one runs out of memory.
+//!
 //! With the `level` of a room of three rows of three squares, the box in the middle, its goal at the top left and the
 //! player at the bottom right:
 //!
 //! ```text
-//! let best = prover::search(alloc, &level, None, 1_000).expect(&rt, "memory");
+//! let best = prover::search(&rt, alloc, &level, None, 1_000, 1).expect(&rt, "memory");
 //! assert!(&rt; matches!(&best, Outcome::Least { pushes: 2, .. }));
-//! let fewer = prover::search(alloc, &level, Some(1), 1_000).expect(&rt, "memory");
+//! let fewer = prover::search(&rt, alloc, &level, Some(1), 1_000, 2).expect(&rt, "memory");
 //! assert!(&rt; matches!(&fewer, Outcome::NoneWithin));
 //! ```
 #![tactic(auto)]
 
 mod expansion;
 mod frontier;
+mod lane;
 pub mod laws;
 mod outcome;
 mod pruner;
@@ -27,6 +31,7 @@ mod pushing;
 mod queue;
 mod recording;
 mod retracing;
+mod rounds;
 mod searching;
 mod workspace;
 

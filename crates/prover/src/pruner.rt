@@ -7,9 +7,12 @@ ghost use Rattle.prover.specs.Frontier.{IsBound, IsTotal, NoneGoesOn};
 
 use grid::{Level, MAX_BOXES, Position};
 use prices::{Distances, Matching, NEVER};
-use regions::Regions;
+use regions::{Plan, Regions, Task};
+use spreading::for_each_spread;
 use std::alloc::{AllocError, Global};
 use std::marker::Model;
+use std::sync::atomic::{AtomicBool, Ordering};
+use std::thread::Threads;
 use successors::Problem;
 
 /// A problem with the lower bounds that the search prunes by. Contracts see the level with its cap.
@@ -42,16 +45,40 @@ impl<'a> Pruner<'a> {
         })
     }
 
-    /// Chooses regions and makes their tables, each of at most `bytes` bytes. Fails only if out of memory.
-    pub(crate) fn make_tables(&mut self, alloc: Global, bytes: usize) -> Result<(), AllocError>
+    /// Chooses regions and makes their tables, each of at most `bytes` bytes, in at most `workers` threads. Fails only if
+    /// out of memory.
+    pub(crate) fn make_tables<R: Threads + Sync>(
+        &mut self,
+        rt: &R,
+        alloc: Global,
+        bytes: usize,
+        workers: u8,
+    ) -> Result<(), AllocError>
         ensures { self.new ≡ self.old }
     {
         let level = self.problem.level();
         let mut plan = self.regions.plan(alloc, level, bytes)?;
-        for task in plan.tasks() {
-            task.run(alloc)?;
-        }
+        run_plan(rt, alloc, workers, &mut plan)?;
         self.regions.take(level, plan);
+        Ok(())
+    }
+
+    /// Chooses regions that suit sampled positions, and makes their tables as [`Pruner::make_tables`] does. Fails only
+    /// if out of memory.
+    pub(crate) fn make_tables_for<R: Threads + Sync>(
+        &mut self,
+        rt: &R,
+        alloc: Global,
+        bytes: usize,
+        samples: &[Position],
+        workers: u8,
+    ) -> Result<(), AllocError>
+        ensures { self.new ≡ self.old }
+    {
+        let level = self.problem.level();
+        let mut plan = self.regions.plan_for(alloc, level, bytes, samples)?;
+        run_plan(rt, alloc, workers, &mut plan)?;
+        self.regions.take_later(level, plan);
         Ok(())
     }
 
@@ -138,6 +165,39 @@ impl<'a> Pruner<'a> {
             Some(most) => Some(most.saturating_sub(pushes).saturating_sub(1)),
         }
     }
+}
+
+// Makes the tables of a plan, in at most `workers` threads. Fails only if out of memory.
+fn run_plan<R: Threads + Sync>(
+    rt: &R,
+    alloc: Global,
+    workers: u8,
+    plan: &mut Plan,
+) -> Result<(), AllocError> {
+    let done = run_each(rt, alloc, workers, plan.tasks());
+    if !done {
+        // memory ran out where several tables were made at once: one after the other takes less
+        for task in plan.tasks() {
+            task.run(alloc)?;
+        }
+    }
+    Ok(())
+}
+
+// Runs the tasks in at most `workers` threads. Returns whether none of them ran out of memory.
+fn run_each<R: Threads + Sync>(rt: &R, alloc: Global, workers: u8, tasks: &mut [Task]) -> bool {
+    let failed = AtomicBool::new(false);
+    for_each_spread(
+        rt,
+        tasks,
+        workers as usize,
+        &|_, task: &mut Task| {
+            if task.run(alloc).is_err() {
+                failed.store(true, Ordering::SeqCst);
+            }
+        },
+    );
+    !failed.load(Ordering::SeqCst)
 }
 
 /// The number of pushes of a play that needs `more` of them after the first ones, or the greatest number of the type.

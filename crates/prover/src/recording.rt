@@ -3,7 +3,7 @@ ghost use Rattle.std.specs.Prelude.{◌≡◌, ℕ, suc, ◌<◌, ◌≤◌, OnO
 ghost use Rattle.grid.specs.Board.{Scene};
 ghost use Rattle.prover.specs.Frontier.{IsFound};
 ghost use Rattle.prover.specs.inside.Working.{AreOpenedBy, IsExpanding, IsExpansion, IsListed, IsOpenedBy, IsSearched};
-ghost use Rattle.prover.specs.inside.Working.{IsAtPlace, IsInRange, IsUnsolvedOpen, KeepPlaces, Widens, turns_left};
+ghost use Rattle.prover.specs.inside.Working.{GoesOn, IsReady, IsWaiting, Widens, turns_left};
 
 use crate::frontier::Frontier;
 use crate::pruner::Pruner;
@@ -21,12 +21,11 @@ pub(crate) fn enter(
     next: Option<u32>,
 ) -> Result<(), AllocError>
     requires searched { IsSearched pruner.now.board pruner.now.cap frontier.old }
-    requires waits { IsUnsolvedOpen pruner.now.board frontier.old.entries from.now.place from.now.reach }
-    requires at_place { IsAtPlace frontier.old.entries from.now.place from.now.position from.now.pushes }
-    requires range { IsInRange from.now }
+    requires waits { IsWaiting frontier.old.entries from.now }
+    requires ready { IsReady pruner.now.board from.now }
     requires expansion { IsExpansion pruner.now.board pruner.now.cap from.now opened.now next }
     ensures searched { OnOk result (IsSearched pruner.now.board pruner.now.cap frontier.new) }
-    ensures still { OnOk result (KeepPlaces frontier.old.entries frontier.new.entries) }
+    ensures goes_on { OnOk result (GoesOn frontier.old.entries frontier.new.entries) }
     ensures fewer_turns { OnOk result ((limit : ℕ) → length frontier.new.entries ≤ limit →
         turns_left limit frontier.new.entries < turns_left limit frontier.old.entries) }
 {

@@ -17,16 +17,27 @@ use crate::frontier::Frontier;
 use crate::outcome::{Outcome, SearchFault};
 use crate::pruner::Pruner;
 use crate::retracing::solution_at;
-use crate::workspace::Workspace;
+use crate::rounds::{Desk, expand_more};
 use area::Scratch;
 use grid::{Level, MAX_BOXES, Position};
 use std::alloc::{AllocError, Global};
 use std::sync::Arc;
+use std::thread::Threads;
 use successors::Problem;
 
-/// The numbers of positions at which the search makes tables of regions, each with the bytes that a table may take.
-/// Making the tables takes about as long as finding that many positions, and many searches end before.
-const STAGES: [(u32, usize); 3] = [(500, 128_000), (5_000, 1_000_000), (50_000, 10_000_000)];
+/// The numbers of positions at which the search makes tables of regions, each with the bytes that a table may take, and
+/// whether the regions are chosen for the open positions that hold the search up. Making the tables takes about as
+/// long as finding that many positions, and many searches end before.
+const STAGES: [(u32, usize, bool); 8] = [
+    (500, 128_000, false),
+    (1_500, 250_000, true),
+    (3_000, 1_000_000, true),
+    (6_000, 1_000_000, false),
+    (10_000, 1_000_000, true),
+    (30_000, 1_000_000, true),
+    (60_000, 10_000_000, false),
+    (200_000, 4_000_000, true),
+];
 
 /// How a search ends.
 #[derive(Clone, Copy, Debug)]
@@ -39,8 +50,9 @@ pub(crate) enum SearchEnd {
     Limit(u32),
 }
 
-/// Searches for a solution with the fewest pushes. With a cap it looks only for solutions with at most that many
-/// pushes.
+/// Searches for a solution with the fewest pushes, in at most `workers` threads (0 counts as 1, and more than 16 as 16).
+/// With a cap it looks only for solutions with at most that many pushes. A part whose thread cannot start is done in the
+/// caller's thread, and so is what a thread had no memory for.
 ///
 /// Only a search with a cap gives [`Outcome::NoneWithin`], and only one without a cap gives [`Outcome::Unsolvable`].
 /// [`Outcome::Limit`] means that the search found more positions than the limit. It is tested, not proved, that a
@@ -48,11 +60,13 @@ pub(crate) enum SearchEnd {
 ///
 /// Fails with [`SearchFault::TooManyBoxes`] if the level has more than [`MAX_BOXES`](grid::MAX_BOXES) boxes, and with
 /// [`SearchFault::OutOfMemory`] if it runs out of memory.
-pub fn search(
+pub fn search<R: Threads + Sync>(
+    rt: &R,
     alloc: Global,
     level: &Level,
     cap: Option<u32>,
     limit: u32,
+    workers: u8,
 ) -> Result<Outcome, SearchFault>
     ensures outcome { IfOk result (λ outcome. IsOutcome level.now cap limit outcome) }
     ensures few { OnOk result (box_count level.now ≤ MAX_BOXES) }
@@ -62,16 +76,18 @@ pub fn search(
     let Some(first) = Position::start(level) else {
         return Err(SearchFault::TooManyBoxes);
     };
-    Ok(search_from(alloc, level, &first, cap, limit)?)
+    Ok(search_from(rt, alloc, level, &first, cap, limit, workers)?)
 }
 
 // Searches from the start.
-fn search_from(
+fn search_from<R: Threads + Sync>(
+    rt: &R,
     alloc: Global,
     level: &Level,
     first: &Position,
     cap: Option<u32>,
     limit: u32,
+    workers: u8,
 ) -> Result<Outcome, AllocError>
     requires first { first.now ≡ start level.now }
     requires few { box_count level.now ≤ MAX_BOXES }
@@ -80,7 +96,7 @@ fn search_from(
     level.tell_start();
     let normal = normal_of(alloc, level, first)?;
     let mut frontier = begun(alloc, level, &normal, cap)?;
-    let end = run_on(alloc, level, cap, limit, &mut frontier)?;
+    let end = run_on(rt, alloc, level, cap, limit, workers, &mut frontier)?;
     outcome_of(alloc, level, &frontier, cap, limit, end)
 }
 
@@ -111,11 +127,13 @@ fn begun(
 }
 
 // Expands open positions until that decides the level, or the search has found more positions than the limit.
-fn run_on(
+fn run_on<R: Threads + Sync>(
+    rt: &R,
     alloc: Global,
     level: &Level,
     cap: Option<u32>,
     limit: u32,
+    workers: u8,
     frontier: &mut Frontier,
 ) -> Result<SearchEnd, AllocError>
     requires searched { IsSearched level.now cap frontier.old }
@@ -124,7 +142,7 @@ fn run_on(
     ensures tells { IfOk result (λ end. Tells level.now cap limit frontier.new.entries end) }
 {
     let problem = problem_of(alloc, level, cap)?;
-    run_over(alloc, &problem, limit, frontier)
+    run_over(rt, alloc, &problem, limit, workers, frontier)
 }
 
 // The problem of a level and a cap.
@@ -136,10 +154,12 @@ fn problem_of(alloc: Global, level: &Level, cap: Option<u32>) -> Result<Problem,
 }
 
 // The same for a problem.
-fn run_over(
+fn run_over<R: Threads + Sync>(
+    rt: &R,
     alloc: Global,
     problem: &Problem,
     limit: u32,
+    workers: u8,
     frontier: &mut Frontier,
 ) -> Result<SearchEnd, AllocError>
     requires searched { IsSearched problem.now.board problem.now.cap frontier.old }
@@ -148,14 +168,16 @@ fn run_over(
     ensures tells { IfOk result (λ end. Tells problem.now.board problem.now.cap limit frontier.new.entries end) }
 {
     let mut pruner = Pruner::of(alloc, problem)?;
-    run_all(alloc, &mut pruner, limit, frontier)
+    run_all(rt, alloc, &mut pruner, limit, workers, frontier)
 }
 
 // Expands open positions. Makes tables of larger regions the more positions it has found.
-fn run_all(
+fn run_all<R: Threads + Sync>(
+    rt: &R,
     alloc: Global,
     pruner: &mut Pruner<'_>,
     limit: u32,
+    workers: u8,
     frontier: &mut Frontier,
 ) -> Result<SearchEnd, AllocError>
     requires searched { IsSearched pruner.old.board pruner.old.cap frontier.old }
@@ -163,18 +185,48 @@ fn run_all(
     ensures tells { IfOk result (λ end. Tells pruner.old.board pruner.old.cap limit frontier.new.entries end) }
 {
     let mut reach = 0;
-    for (first, bytes) in STAGES {
+    for (first, bytes, is_chosen_again) in STAGES {
         if first >= limit {
             break;
         }
-        let end = run(alloc, pruner, reach, first, frontier)?;
+        let end = run(rt, alloc, pruner, reach, first, workers, frontier)?;
         let Some(least) = limit_of(end) else {
             return Ok(end);
         };
         reach = least;
-        pruner.make_tables(alloc, bytes)?;
+        add_tables(
+            rt,
+            alloc,
+            pruner,
+            frontier,
+            reach,
+            bytes,
+            is_chosen_again,
+            workers,
+        )?;
     }
-    run(alloc, pruner, reach, limit, frontier)
+    run(rt, alloc, pruner, reach, limit, workers, frontier)
+}
+
+// Makes tables of regions, or of regions that are chosen again for open positions with a least total of at most
+// `reach`.
+fn add_tables<R: Threads + Sync>(
+    rt: &R,
+    alloc: Global,
+    pruner: &mut Pruner<'_>,
+    frontier: &Frontier,
+    reach: u32,
+    bytes: usize,
+    is_chosen_again: bool,
+    workers: u8,
+) -> Result<(), AllocError>
+    ensures { pruner.new ≡ pruner.old }
+{
+    if !is_chosen_again {
+        return pruner.make_tables(rt, alloc, bytes, workers);
+    }
+    let samples = frontier.samples(alloc, reach)?;
+    pruner.make_tables_for(rt, alloc, bytes, samples.as_slice(), workers)
 }
 
 // The number of pushes that every solution has at least, if the limit was passed.
@@ -190,12 +242,14 @@ fn limit_of(end: SearchEnd) -> Option<u32>
     }
 }
 
-// Expands one open position after the other. `reach` is the greatest of the least totals that came up before.
-fn run(
+// Expands open positions in rounds. `reach` is the greatest of the least totals that came up before.
+fn run<R: Threads + Sync>(
+    rt: &R,
     alloc: Global,
     pruner: &Pruner<'_>,
     reach: u32,
     limit: u32,
+    workers: u8,
     frontier: &mut Frontier,
 ) -> Result<SearchEnd, AllocError>
     requires searched { IsSearched pruner.now.board pruner.now.cap frontier.old }
@@ -203,10 +257,10 @@ fn run(
     ensures searched { OnOk result (IsSearched pruner.now.board pruner.now.cap frontier.new) }
     ensures tells { IfOk result (λ end. Tells pruner.now.board pruner.now.cap limit frontier.new.entries end) }
 {
-    let mut workspace = Workspace::new(alloc, pruner.problem())?;
+    let mut desk = Desk::new(alloc, pruner)?;
     pruner.level().tell();
     let mut reach = reach;
-    while let Some((place, least)) = frontier.least_open() {
+    while let Some((place, least)) = frontier.least_open()? {
         reach = least.max(reach);
         let solved = is_solved(pruner.level(), &frontier.position(place));
         if solved {
@@ -216,13 +270,17 @@ fn run(
             frontier.tell();
             return Ok(SearchEnd::Limit(reach));
         }
-        expand(pruner, frontier, place, reach, &mut workspace)?;
+        let first = frontier.expanded(place, reach);
+        expand(pruner, frontier, &first, &mut desk.workspace)?;
+        expand_more(
+            rt, alloc, pruner, frontier, reach, limit, workers, &mut desk,
+        )?;
     }
     Ok(SearchEnd::Closed)
 }
 
-// Whether each box of a position is on a goal.
-fn is_solved(level: &Level, position: &Position) -> bool
+/// Whether each box of a position is on a goal.
+pub(crate) fn is_solved(level: &Level, position: &Position) -> bool
     ensures { IsTrue result ↔ IsSolved level.now position.now }
 {
     level.are_on_goals(position.boxes())

@@ -5,6 +5,7 @@ ghost use Rattle.sokopar.specs.Report.{IsSearchOf};
 ghost use Rattle.sokopar.specs.inside.Parts.{FindsOn, none_words};
 
 use crate::listing::{Chosen, level_of};
+use crate::proving::SearchConfig;
 use crate::replay::put_counts;
 use crate::report::Report;
 use crate::show::{fault_report, no_level};
@@ -13,6 +14,7 @@ use crate::text::Text;
 use grid::Level;
 use prover::{Outcome, SearchFault};
 use std::alloc::{AllocError, Global};
+use std::thread::Threads;
 use xsb::MAX_FILE;
 
 /// Appends the numbers of pushes and moves of a solution with the fewest pushes.
@@ -87,47 +89,57 @@ fn outcome_report(
 }
 
 #[tactic(auto, using(crate::proofs::Judging::of_best))]
-/// The report of a lawful level under a cap of pushes and a limit of positions.
-fn best_of(alloc: Global, level: &Level, cap: Option<u32>, limit: u32) -> Result<Report, AllocError>
-    ensures { IfOk result (λ report. IsSearchOf (IsBest cap limit) level.now report) }
+/// The report of a lawful level.
+fn best_of<R: Threads + Sync>(
+    rt: &R,
+    alloc: Global,
+    level: &Level,
+    config: SearchConfig,
+) -> Result<Report, AllocError>
+    ensures { IfOk result (λ report. IsSearchOf (IsBest config.cap config.limit) level.now report) }
 {
-    match prover::search(alloc, level, cap, limit) {
+    let SearchConfig {
+        workers,
+        limit,
+        cap,
+    } = config;
+    match prover::search(rt, alloc, level, cap, limit, workers) {
         Ok(outcome) => outcome_report(alloc, &outcome, cap, limit),
         Err(SearchFault::TooManyBoxes) => too_many_boxes(alloc),
         Err(SearchFault::OutOfMemory) => Err(AllocError),
     }
 }
 
-/// The report of level N under a cap of pushes and a limit of positions.
-fn best_report(
+/// The report of level N.
+fn best_report<R: Threads + Sync>(
+    rt: &R,
     alloc: Global,
     chosen: &Chosen,
     number: u32,
-    cap: Option<u32>,
-    limit: u32,
+    config: SearchConfig,
 ) -> Result<Report, AllocError>
     requires { 1 ≤ number }
-    ensures { IfOk result (λ report. FindsOn cap limit number chosen.now report) }
+    ensures { IfOk result (λ report. FindsOn config.cap config.limit number chosen.now report) }
 {
     match chosen {
         None => no_level(alloc, number),
         Some(Err(fault)) => fault_report(alloc, *fault),
-        Some(Ok(level)) => best_of(alloc, level, cap, limit),
+        Some(Ok(level)) => best_of(rt, alloc, level, config),
     }
 }
 
-/// The report of level N of a collection under a cap of pushes and a limit of positions.
-pub(crate) fn best_in(
+/// The report of level N of a collection.
+pub(crate) fn best_in<R: Threads + Sync>(
+    rt: &R,
     alloc: Global,
     bytes: &[u8],
     number: u32,
-    cap: Option<u32>,
-    limit: u32,
+    config: SearchConfig,
 ) -> Result<Report, AllocError>
     requires number { 1 ≤ number }
     requires bound { length bytes.now ≤ MAX_FILE }
-    ensures { IfOk result (λ report. IsBestReport cap limit number bytes.now report) }
+    ensures { IfOk result (λ report. IsBestReport config.cap config.limit number bytes.now report) }
 {
     let chosen = level_of(alloc, bytes, number)?;
-    best_report(alloc, &chosen, number, cap, limit)
+    best_report(rt, alloc, &chosen, number, config)
 }

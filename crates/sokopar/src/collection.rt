@@ -13,6 +13,7 @@ use crate::totals::{Totals, put_totals};
 use crate::writes::write_whole;
 use grid::{Level, LevelFault};
 use std::alloc::{AllocError, Global};
+use std::thread::Threads;
 use xsb::{BoardEntry, Collection, MAX_FILE};
 
 /// Whether a number is in a range, both ends included.
@@ -66,7 +67,8 @@ fn send_finding<K: Sink>(
 }
 
 /// Searches a level, and writes its line. Returns the totals with this level.
-fn send_level<K: Sink>(
+fn send_level<R: Threads + Sync, K: Sink>(
+    rt: &R,
     alloc: Global,
     number: usize,
     board: &Result<Level, LevelFault>,
@@ -77,13 +79,14 @@ fn send_level<K: Sink>(
     requires { AreFew totals }
     ensures { SendsLevel config.cap config.limit number board.now totals (K.seen sink.old) (K.seen sink.new) result }
 {
-    let finding = find(alloc, board, config)?;
+    let finding = find(rt, alloc, board, config)?;
     send_finding(alloc, number, &finding, config, sink)?;
     Ok(totals.with(&finding))
 }
 
 /// Searches the level of a board, and writes its line. Returns the totals with this level.
-fn send_board<K: Sink>(
+fn send_board<R: Threads + Sync, K: Sink>(
+    rt: &R,
     alloc: Global,
     number: usize,
     entry: BoardEntry,
@@ -95,12 +98,13 @@ fn send_board<K: Sink>(
     ensures { SendsLevel config.cap config.limit number entry.board totals (K.seen sink.old) (K.seen sink.new) result }
 {
     let listed = entry.into_entry(alloc)?;
-    send_level(alloc, number, &listed.board, config, totals, sink)
+    send_level(rt, alloc, number, &listed.board, config, totals, sink)
 }
 
 /// Searches the levels of a request one after the other, and writes the line of each before it goes on. Returns their
 /// totals.
-fn send_levels<K: Sink>(
+fn send_levels<R: Threads + Sync, K: Sink>(
+    rt: &R,
     alloc: Global,
     bytes: &[u8],
     request: CollectionRequest,
@@ -126,7 +130,7 @@ fn send_levels<K: Sink>(
         };
         number += 1;
         if is_between(from, to, number) {
-            totals = send_board(alloc, number, entry, config, totals, sink)?;
+            totals = send_board(rt, alloc, number, entry, config, totals, sink)?;
         }
     }
     Ok(totals)
@@ -148,7 +152,8 @@ fn send_totals<K: Sink>(
 
 /// Writes the report on the levels of a request: the line of each as soon as it is known, and the totals. Returns the
 /// exit status.
-pub(crate) fn send_collection<K: Sink>(
+pub(crate) fn send_collection<R: Threads + Sync, K: Sink>(
+    rt: &R,
     alloc: Global,
     bytes: &[u8],
     request: CollectionRequest,
@@ -160,7 +165,7 @@ pub(crate) fn send_collection<K: Sink>(
         (BeginsCollectionReport request.config.cap request.config.limit request.from request.to bytes.now)
         (K.seen sink.old) (K.seen sink.new) result }
 {
-    let totals = send_levels(alloc, bytes, request, sink)?;
+    let totals = send_levels(rt, alloc, bytes, request, sink)?;
     send_totals(alloc, totals, request.config.cap, sink)?;
     Ok(totals.status())
 }

@@ -8,6 +8,7 @@ use crate::text::Text;
 use grid::{Level, LevelFault};
 use prover::{Outcome, SearchFault};
 use std::alloc::{AllocError, Global};
+use std::thread::Threads;
 
 /// What is found of a level of a collection.
 #[derive(Drop)]
@@ -22,10 +23,20 @@ pub enum Finding {
 
 #[tactic(auto, using(crate::proofs::Judging::found_on))]
 /// What is found of a lawful level.
-fn find_on(alloc: Global, level: &Level, config: SearchConfig) -> Result<Finding, AllocError>
+fn find_on<R: Threads + Sync>(
+    rt: &R,
+    alloc: Global,
+    level: &Level,
+    config: SearchConfig,
+) -> Result<Finding, AllocError>
     ensures { IfOk result (λ finding. IsFinding config.cap config.limit (Ok level.now) finding) }
 {
-    match prover::search(alloc, level, config.cap, config.limit) {
+    let SearchConfig {
+        workers,
+        limit,
+        cap,
+    } = config;
+    match prover::search(rt, alloc, level, cap, limit, workers) {
         Ok(outcome) => Ok(Finding::Searched(outcome)),
         Err(SearchFault::TooManyBoxes) => Ok(Finding::TooManyBoxes),
         Err(SearchFault::OutOfMemory) => Err(AllocError),
@@ -33,7 +44,8 @@ fn find_on(alloc: Global, level: &Level, config: SearchConfig) -> Result<Finding
 }
 
 /// What is found of a board.
-pub(crate) fn find(
+pub(crate) fn find<R: Threads + Sync>(
+    rt: &R,
     alloc: Global,
     board: &Result<Level, LevelFault>,
     config: SearchConfig,
@@ -41,7 +53,7 @@ pub(crate) fn find(
     ensures { IfOk result (λ finding. IsFinding config.cap config.limit board.now finding) }
 {
     match board {
-        Ok(level) => find_on(alloc, level, config),
+        Ok(level) => find_on(rt, alloc, level, config),
         Err(fault) => Ok(Finding::Faulty(*fault)),
     }
 }

@@ -13,6 +13,7 @@ ghost use Rattle.sokopar.specs.Runs.{ReadsIfSome, Stops};
 use crate::best::{put_optimal, put_undecided};
 use crate::fault::RunFault;
 use crate::listing::{Chosen, level_of};
+use crate::proving::ProveRequest;
 use crate::reads::read_whole;
 use crate::replay::{put_counts, text_fault_report, verdict_report};
 use crate::report::Report;
@@ -25,6 +26,7 @@ use lurd::{Verdict, parse, replay};
 use prover::laws::solutions_are_alike;
 use prover::{Outcome, SearchFault};
 use std::alloc::{AllocError, Global};
+use std::thread::Threads;
 use xsb::MAX_FILE;
 
 /// The numbers of pushes and moves of a solution.
@@ -76,10 +78,16 @@ fn undecided(alloc: Global, given: Counts, limit: u32, bound: u32) -> Result<Rep
 ///
 /// All solutions of a level have an even number of pushes, or all have an odd number. So a solution has the fewest
 /// pushes unless another one has at least two fewer.
-fn judged(alloc: Global, level: &Level, given: Counts, limit: u32) -> Result<Report, AllocError>
+fn judged<R: Threads + Sync>(
+    rt: &R,
+    alloc: Global,
+    level: &Level,
+    given: Counts,
+    request: ProveRequest,
+) -> Result<Report, AllocError>
     requires some { SomeHas level.now given.pushes }
     requires few { given.pushes ≤ MAX_MOVES }
-    ensures { IfOk result (λ report. IsSearchOf (IsJudged limit given.pushes given.moves) level.now report) }
+    ensures { IfOk result (λ report. IsSearchOf (IsJudged request.limit given.pushes given.moves) level.now report) }
 {
     level.tell();
     solutions_are_alike(level);
@@ -89,8 +97,9 @@ fn judged(alloc: Global, level: &Level, given: Counts, limit: u32) -> Result<Rep
     if given.pushes < 2 {
         return optimal(alloc, given);
     }
+    let ProveRequest { workers, limit, .. } = request;
     let most = (given.pushes - 2) as u32;
-    match prover::search(alloc, level, Some(most), limit) {
+    match prover::search(rt, alloc, level, Some(most), limit, workers) {
         Ok(Outcome::Least { moves, pushes }) => beaten(alloc, given, pushes, &moves),
         Ok(Outcome::NoneWithin) => optimal(alloc, given),
         Ok(Outcome::Unsolvable) => unreachable!(),
@@ -102,19 +111,26 @@ fn judged(alloc: Global, level: &Level, given: Counts, limit: u32) -> Result<Rep
 
 #[tactic(auto, using(crate::proofs::Judging::of_verdict))]
 /// The report of moves under a limit of positions.
-fn moves_report(
+fn moves_report<R: Threads + Sync>(
+    rt: &R,
     alloc: Global,
     level: &Level,
     moves: &Moves,
-    limit: u32,
+    request: ProveRequest,
 ) -> Result<Report, AllocError>
     requires { length moves.now ≤ MAX_MOVES }
     ensures { IfOk result (λ report. (v : Verdict) × IsVerdict level.now moves.now v ×
-        IsProvedBy limit level.now v report) }
+        IsProvedBy request.limit level.now v report) }
 {
     let verdict = replay(alloc, level, moves)?;
     match verdict {
-        Verdict::Solved { pushes, moves } => judged(alloc, level, Counts { pushes, moves }, limit),
+        Verdict::Solved { pushes, moves } => judged(
+            rt,
+            alloc,
+            level,
+            Counts { pushes, moves },
+            request,
+        ),
         Verdict::Unsolved { .. } => verdict_report(alloc, verdict),
         Verdict::Blocked { .. } => verdict_report(alloc, verdict),
         Verdict::WrongCase { .. } => verdict_report(alloc, verdict),
@@ -123,16 +139,17 @@ fn moves_report(
 
 #[tactic(auto, using(crate::proofs::Judging::of_text, crate::proofs::Judging::of_fault))]
 /// The report of proving a text on a level under a limit of positions.
-fn prove_report(
+fn prove_report<R: Threads + Sync>(
+    rt: &R,
     alloc: Global,
     level: &Level,
     solution: &[u8],
-    limit: u32,
+    request: ProveRequest,
 ) -> Result<Report, AllocError>
-    ensures { IfOk result (λ report. IsProofOf limit level.now solution.now report) }
+    ensures { IfOk result (λ report. IsProofOf request.limit level.now solution.now report) }
 {
     match parse(alloc, solution) {
-        Ok(moves) => moves_report(alloc, level, &moves, limit),
+        Ok(moves) => moves_report(rt, alloc, level, &moves, request),
         Err(fault) => text_fault_report(alloc, fault),
     }
 }
@@ -140,49 +157,49 @@ fn prove_report(
 #[tactic(auto, using(crate::proofs::Reading::stops_after))]
 /// The report of proving on level N under a limit of positions. It reads the solution to its end if the level is
 /// lawful, and not otherwise.
-fn prove_level<T: Source>(
+fn prove_level<R: Threads + Sync, T: Source>(
+    rt: &R,
     alloc: Global,
     chosen: &Chosen,
-    number: u32,
-    limit: u32,
+    request: ProveRequest,
     solution: &mut T,
 ) -> Result<Report, RunFault>
-    requires { 1 ≤ number }
+    requires { 1 ≤ request.number }
     ensures ok { IfOk result (λ report. (text : Option (List ℕ)) ×
         ReadsIfSome (T.seen solution.old) (T.seen solution.new) text
-        × ReportsOnText (IsProofOf limit) number chosen.now text report) }
+        × ReportsOnText (IsProofOf request.limit) request.number chosen.now text report) }
     ensures err { IfErr result (λ fault. ((fault ≡ RunFault.OutOfMemory) × (T.seen solution.new ≡ T.seen solution.old))
         ⊎ ((board : Board) × (chosen.now ≡ Some (Ok board)) ×
         Stops (T.seen solution.old) (T.seen solution.new) fault)) }
 {
     match chosen {
-        None => Ok(no_level(alloc, number)?),
+        None => Ok(no_level(alloc, request.number)?),
         Some(Err(fault)) => Ok(fault_report(alloc, *fault)?),
         Some(Ok(level)) => {
             let text = read_whole(alloc, solution)?;
-            Ok(prove_report(alloc, level, text.as_slice(), limit)?)
+            Ok(prove_report(rt, alloc, level, text.as_slice(), request)?)
         }
     }
 }
 
 /// The report of proving on level N of a collection under a limit of positions. It reads the solution to its end if the
 /// level is lawful, and not otherwise.
-pub(crate) fn prove_in<T: Source>(
+pub(crate) fn prove_in<R: Threads + Sync, T: Source>(
+    rt: &R,
     alloc: Global,
     bytes: &[u8],
-    number: u32,
-    limit: u32,
+    request: ProveRequest,
     solution: &mut T,
 ) -> Result<Report, RunFault>
-    requires number { 1 ≤ number }
+    requires number { 1 ≤ request.number }
     requires bound { length bytes.now ≤ MAX_FILE }
     ensures ok { IfOk result (λ report. (text : Option (List ℕ)) ×
         ReadsIfSome (T.seen solution.old) (T.seen solution.new) text
-        × IsProveReport limit number bytes.now text report) }
+        × IsProveReport request.limit request.number bytes.now text report) }
     ensures err { IfErr result (λ fault. ((fault ≡ RunFault.OutOfMemory) × (T.seen solution.new ≡ T.seen solution.old))
-        ⊎ ((board : Board) × IsLevelOf bytes.now number board ×
+        ⊎ ((board : Board) × IsLevelOf bytes.now request.number board ×
         Stops (T.seen solution.old) (T.seen solution.new) fault)) }
 {
-    let chosen = level_of(alloc, bytes, number)?;
-    prove_level(alloc, &chosen, number, limit, solution)
+    let chosen = level_of(alloc, bytes, request.number)?;
+    prove_level(rt, alloc, &chosen, request, solution)
 }

@@ -15,11 +15,14 @@ use crate::reads::read_whole;
 use crate::sink::Sink;
 use crate::source::Source;
 use std::alloc::Global;
+use std::thread::Threads;
 
-/// The bounds of a search of [`run_best`]. The search ends undecided once it has found more positions than the limit.
-/// With a cap it looks only for solutions with at most that many pushes.
+/// The settings of a search of [`run_best`]. The search ends undecided once it has found more positions than the limit.
+/// With a cap it looks only for solutions with at most that many pushes. The number of workers, from 1 to
+/// [`MAX_WORKERS`](layers::MAX_WORKERS), changes only its time and memory.
 #[derive(Clone, Copy, PartialEq, Eq, Debug)]
 pub struct SearchConfig {
+    pub workers: u8,
     pub limit: u32,
     pub cap: Option<u32>,
 }
@@ -40,11 +43,11 @@ pub struct CollectionRequest {
     pub config: SearchConfig,
 }
 
-/// The level for [`run_prove`], counted from 1. The search ends undecided once it has found more positions than the
-/// limit.
+/// The level for [`run_prove`], counted from 1, the limit of positions and the number of workers, as for [`run_best`].
 #[derive(Clone, Copy, PartialEq, Eq, Debug)]
 pub struct ProveRequest {
     pub number: u32,
+    pub workers: u8,
     pub limit: u32,
 }
 
@@ -53,7 +56,8 @@ pub struct ProveRequest {
 /// solution as LURD text; or that the level has no solution, or none with as few pushes as the cap; or that the search
 /// found more positions than the limit, and a lower bound on the pushes of every solution. Returns the exit status: 0
 /// for a solution, 4 at the limit, otherwise 1. The faults are those of [`run_check`](crate::run_check).
-pub fn run_best<S: Source, K: Sink>(
+pub fn run_best<R: Threads + Sync, S: Source, K: Sink>(
+    rt: &R,
     alloc: Global,
     source: &mut S,
     request: BestRequest,
@@ -65,7 +69,7 @@ pub fn run_best<S: Source, K: Sink>(
 {
     let BestRequest { number, config } = request;
     let bytes = read_whole(alloc, source)?;
-    let report = best_in(alloc, bytes.as_slice(), number, config.cap, config.limit)?;
+    let report = best_in(rt, alloc, bytes.as_slice(), number, config)?;
     report.send(sink)
 }
 
@@ -76,7 +80,8 @@ pub fn run_best<S: Source, K: Sink>(
 ///
 /// Fails as [`run_check`](crate::run_check) does, except that it may run out of memory after some lines; then it has
 /// written these lines whole. If a write fails, it has written all lines before whole, and a beginning of this one.
-pub fn run_best_collection<S: Source, K: Sink>(
+pub fn run_best_collection<R: Threads + Sync, S: Source, K: Sink>(
+    rt: &R,
     alloc: Global,
     source: &mut S,
     request: CollectionRequest,
@@ -88,7 +93,7 @@ pub fn run_best_collection<S: Source, K: Sink>(
         (S.seen source.old) (S.seen source.new) (K.seen sink.old) (K.seen sink.new) result }
 {
     let bytes = read_whole(alloc, source)?;
-    send_collection(alloc, bytes.as_slice(), request, sink)
+    send_collection(rt, alloc, bytes.as_slice(), request, sink)
 }
 
 #[tactic(auto, using(crate::proofs::Reading::stops_after))]
@@ -98,7 +103,8 @@ pub fn run_best_collection<S: Source, K: Sink>(
 /// otherwise 1. If the text does not solve the level, it writes what [`run_replay`](crate::run_replay) writes. It reads
 /// the collection first, and the solution only if the level is lawful. The faults are those of
 /// [`run_check`](crate::run_check).
-pub fn run_prove<S: Source, T: Source, K: Sink>(
+pub fn run_prove<R: Threads + Sync, S: Source, T: Source, K: Sink>(
+    rt: &R,
     alloc: Global,
     source: &mut S,
     solution: &mut T,
@@ -110,8 +116,7 @@ pub fn run_prove<S: Source, T: Source, K: Sink>(
         (S.seen source.new) (T.seen solution.old)
         (T.seen solution.new) (K.seen sink.old) (K.seen sink.new) result }
 {
-    let ProveRequest { number, limit } = request;
     let bytes = read_whole(alloc, source)?;
-    let report = prove_in(alloc, bytes.as_slice(), number, limit, solution)?;
+    let report = prove_in(rt, alloc, bytes.as_slice(), request, solution)?;
     report.send(sink)
 }

@@ -95,14 +95,16 @@ IsLeastOpen all place least = (x : Entry) × (slice_get all place ≡ Some x) ×
 abbrev pub IsAtPlace : List Entry → ℕ → Scene → ℕ → Type 0
 IsAtPlace all place s k = (x : Entry) × (slice_get all place ≡ Some x) × (x.position ≡ s) × (x.pushes ≡ k)
 
--- the position at the place is open with a least total of at most `reach`, and not solved
-pub record IsUnsolvedOpen (board : Board) (all : List Entry) (place reach : ℕ) : Type 0 where
+-- the position that is expanded is at its place, found with as many pushes, and open with a least total of at most
+-- `reach`
+pub record IsWaiting (all : List Entry) (from : Expanded) : Type 0 where
   pub entry : Entry
   pub least : ℕ
-  pub at : slice_get all place ≡ Some entry
+  pub at : slice_get all from.place ≡ Some entry
+  pub same : entry.position ≡ from.position
+  pub count : entry.pushes ≡ from.pushes
   pub is_open : entry.least ≡ Some least
-  pub near : least ≤ reach
-  pub unsolved : ¬ (IsSolved board entry.position)
+  pub near : least ≤ from.reach
 
 -- the new list has this least total at the place, and is the same elsewhere
 abbrev pub HasLeastAt : List Entry → ℕ → Option ℕ → List Entry → Type 0
@@ -205,6 +207,12 @@ AreEntered all opened k count = (i : ℕ) (o : Opened) → i < count → slice_g
 pub record IsInRange (from : Expanded) : Type 0 where
   pub pushes : suc from.pushes < 2 ^ 32
   pub reach : from.reach < 2 ^ 32
+
+-- the position can be expanded, and is not solved
+pub record IsReady (board : Board) (from : Expanded) : Type 0 where
+  pub expandable : IsExpandable board from
+  pub range : IsInRange from
+  pub unsolved : ¬ (IsSolved board from.position)
 
 -- ---- reading back
 

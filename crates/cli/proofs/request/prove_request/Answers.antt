@@ -1,5 +1,5 @@
 -- A level or a limit that is missing or bad leaves no settings.
-use Rattle.cli.proofs.Asking.{no_level_to_prove, no_limit_to_prove, on_err}
+use Rattle.cli.proofs.Asking.{no_level_to_prove, no_limit_to_prove, no_workers_to_prove, on_err}
 use Rattle.cli.proofs.request.prove_request.Goals as goal
 
 pub returns-in_err-number-clause-err : goal.returns-in_err-number-clause-err
@@ -7,3 +7,6 @@ returns-in_err-number-clause-err c = on_err _ _ (no_level_to_prove _ c.in_err-nu
 
 pub returns-in_err-limit-clause-err : goal.returns-in_err-limit-clause-err
 returns-in_err-limit-clause-err c = on_err _ _ (no_limit_to_prove _ c.in_err-limit.ensures.err)
+
+pub returns-in_err-workers-clause-err : goal.returns-in_err-workers-clause-err
+returns-in_err-workers-clause-err c = on_err _ _ (no_workers_to_prove _ c.in_err-workers.ensures.err)

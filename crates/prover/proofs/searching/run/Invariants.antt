@@ -1,14 +1,15 @@
 use Rattle.std.proofs.Common.{◌≡◌, ◌+◌, length, cond, nat_lt}
 use Rattle.prover.specs.Fewest.{NoneHasFewer}
+use Rattle.prover.specs.inside.Rounds.{IsDesk}
 use Rattle.prover.specs.inside.Working.{IsSearched, turns_left}
 use Rattle.prover.proofs.searching.run.Given as goal
 
-abbrev pub invariant-loop-place : goal.invariant-loop-place
-invariant-loop-place l = record {
+abbrev pub invariant-loop-desk : goal.invariant-loop-desk
+invariant-loop-desk g l = record {
   searched : IsSearched l.pruner.board l.pruner.cap l.frontier;
   told : NoneHasFewer l.pruner.board l.reach;
-  task : l.workspace.expander.task ≡ l.pruner;
+  desk : IsDesk l.pruner l.desk;
 }
 
-abbrev pub decreases-loop-place : goal.decreases-loop-place
-decreases-loop-place l = cond (nat_lt l.limit (length l.frontier.entries)) 0 (1 + turns_left l.limit l.frontier.entries)
+abbrev pub decreases-loop-desk : goal.decreases-loop-desk
+decreases-loop-desk g l = cond (nat_lt l.limit (length l.frontier.entries)) 0 (1 + turns_left l.limit l.frontier.entries)

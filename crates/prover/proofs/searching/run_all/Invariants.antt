@@ -4,7 +4,7 @@ use Rattle.prover.specs.inside.Working.{IsSearched}
 use Rattle.prover.proofs.searching.run_all.Given as goal
 
 abbrev pub invariant-loop-first : goal.invariant-loop-first
-invariant-loop-first l = record {
+invariant-loop-first g l = record {
   same : l.pruner ≡ l.fn.pruner;
   searched : IsSearched l.pruner.board l.pruner.cap l.frontier;
   told : NoneHasFewer l.pruner.board l.reach;

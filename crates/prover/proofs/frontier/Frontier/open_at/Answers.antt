@@ -1,27 +1,34 @@
 use Rattle.std.proofs.Common.{ℕ, List, Option, Some, None, refl, sym, subst}
 use Rattle.std.specs.BinaryHeap.{heap_items}
 use Rattle.store.specs.Visited.{Entry, HasEntered, VisitedView}
-use Rattle.prover.specs.declared.queue.Ticket.{Ticket}
+use Rattle.prover.specs.inside.Waiting.{tickets}
 use Rattle.prover.specs.inside.Working.{Enters, IsQueued}
 use Rattle.prover.proofs.Entering.{entered}
-use Rattle.prover.proofs.Queues.{queued_more}
+use Rattle.prover.proofs.Queues.{queued_more, queued_same, waits_front, waits_wider}
 use Rattle.prover.proofs.frontier.Frontier.open_at.Goals as goal
 
 pub invariant_of-self : goal.invariant_of-self
-invariant_of-self c = subst (λ (ts : List Ticket). IsQueued c.self.inside.visited.entries ts) (sym c.reserve.ensures.same) c.self.invariant
+invariant_of-self c =
+    queued_same c.self.inside.visited.entries (heap_items c.self.inside.queue.heap) (heap_items c.reserve.new.self.heap)
+    c.self.inside.queue.aside.items c.reserve.new.self.aside.items c.reserve.ensures.same c.reserve.ensures.aside c.self.invariant
 
 pub invariant_of-self-in_err-entered : goal.invariant_of-self-in_err-entered
-invariant_of-self-in_err-entered c = subst (λ (xs : List Entry). IsQueued xs (heap_items c.reserve.new.self.heap)) (sym c.in_err-entered.ensures.err)
-    (subst (λ (ts : List Ticket). IsQueued c.self.inside.visited.entries ts) (sym c.reserve.ensures.same) c.self.invariant)
+invariant_of-self-in_err-entered c = subst (λ (xs : List Entry). IsQueued xs (tickets c.reserve.new.self)) (sym c.in_err-entered.ensures.err)
+    (queued_same c.self.inside.visited.entries (heap_items c.self.inside.queue.heap) (heap_items c.reserve.new.self.heap)
+    c.self.inside.queue.aside.items c.reserve.new.self.aside.items c.reserve.ensures.same c.reserve.ensures.aside c.self.invariant)
 
 pub invariant_of-self-in-Some : goal.invariant_of-self-in-Some
 invariant_of-self-in-Some c =
     let old = c.self.inside.visited.entries in
     let new = c.enter.new.self.entries in
     let e : Entry = (record { position = c.args.position.now; pushes = c.args.pushes; least = Some c.args.least; parent = c.args.parent }) in
-    queued_more old new e c.in-Some.place c.args.least (heap_items c.reserve.new.self.heap) (heap_items c.insert.new.self.heap) refl
+    queued_more old new e c.in-Some.place c.args.least (tickets c.reserve.new.self) (tickets c.insert.new.self) refl
     (subst (λ (o : Option ℕ). HasEntered old new e o) c.in-Some.is c.in_ok-entered.ensures.ok)
-    (subst (λ (ts : List Ticket). IsQueued old ts) (sym c.reserve.ensures.same) c.self.invariant) c.insert.ensures.waits c.insert.ensures.others
+    (queued_same old (heap_items c.self.inside.queue.heap) (heap_items c.reserve.new.self.heap) c.self.inside.queue.aside.items
+    c.reserve.new.self.aside.items c.reserve.ensures.same c.reserve.ensures.aside c.self.invariant)
+    (waits_front (heap_items c.insert.new.self.heap) c.insert.new.self.aside.items c.args.least c.in-Some.place c.insert.ensures.waits)
+    (waits_wider (heap_items c.reserve.new.self.heap) (heap_items c.insert.new.self.heap) c.reserve.new.self.aside.items c.insert.new.self.aside.items
+    c.insert.ensures.aside c.insert.ensures.others)
 
 pub invariant_of-self-in_default : goal.invariant_of-self-in_default
 invariant_of-self-in_default c =
@@ -29,8 +36,9 @@ invariant_of-self-in_default c =
     let new = c.enter.new.self.entries in
     let e : Entry = (record { position = c.args.position.now; pushes = c.args.pushes; least = Some c.args.least; parent = c.args.parent }) in
     let none : HasEntered old new e None = subst (λ (o : Option ℕ). HasEntered old new e o) c.in_default.is c.in_ok-entered.ensures.ok in
-    subst (λ (xs : List Entry). IsQueued xs (heap_items c.reserve.new.self.heap)) (sym none.0)
-    (subst (λ (ts : List Ticket). IsQueued old ts) (sym c.reserve.ensures.same) c.self.invariant)
+    subst (λ (xs : List Entry). IsQueued xs (tickets c.reserve.new.self)) (sym none.0)
+    (queued_same old (heap_items c.self.inside.queue.heap) (heap_items c.reserve.new.self.heap) c.self.inside.queue.aside.items
+    c.reserve.new.self.aside.items c.reserve.ensures.same c.reserve.ensures.aside c.self.invariant)
 
 pub returns-in-Some-clause-enters : goal.returns-in-Some-clause-enters
 returns-in-Some-clause-enters c =

@@ -1,0 +1,84 @@
+-- Jobs that are dealt to lanes, over plain lists.
+use Rattle.std.proofs.Common.{◌≡◌, ◌∙◌, ℕ, zero, suc, ◌≤◌, ◌<◌, List, [], ◌∷◌, ◌++◌, length, get_or, set, Option, Some, inl, inr, sym, subst, ap, arith, drop, take, false, Vec, Global, Result, Ok, Err}
+use Rattle.std.proofs.lemmas.Option.{none-some, same_Some, slice_get-get_or}
+use Rattle.std.proofs.lemmas.Bool.{false≢true}
+use Rattle.std.proofs.Math.Seq.{take-append_seam}
+use Rattle.std.specs.Prelude.{◌^◌, OnOk, slice_get}
+use Rattle.std.specs.Vec.{with_items}
+use Rattle.grid.specs.Board.{Board, Scene, IsSolved}
+use Rattle.grid.specs.States.{FitsLevel}
+use Rattle.store.specs.Visited.{Entry, VisitedView}
+use Rattle.successors.specs.Tasks.{Task}
+use Rattle.prover.specs.declared.lane.Job.{Job}
+use Rattle.prover.specs.declared.pushing.Expanded.{Expanded}
+use Rattle.prover.specs.inside.Rounds.{AreJobs, IsJob}
+use Rattle.prover.specs.inside.Working.{IsLeastOpen, IsReady, IsSearched, IsWaiting}
+use Rattle.prover.proofs.Entering.{either_at}
+
+-- what holds of each element of a list, when one is another of which it holds
+pub each_set : {A : Type 0} (P : A → Type 0) (xs : List A) (i : ℕ) (y : A) → P y → ((j : ℕ) (z : A) → slice_get xs j ≡ Some z → P z) →
+    (j : ℕ) (z : A) → slice_get (set xs i y) j ≡ Some z → P z
+each_set P [] i y new each j z at = absurd (none-some z at)
+each_set P (x ∷ xs) zero y new each zero z at = subst P (same_Some y z at) new
+each_set P (x ∷ xs) zero y new each (suc j) z at = each (suc j) z at
+each_set P (x ∷ xs) (suc i) y new each zero z at = each zero z at
+each_set P (x ∷ xs) (suc i) y new each (suc j) z at = each_set P xs i y new (λ k w. each (suc k) w) j z at
+
+-- and when there is one more
+pub each_push : {A : Type 0} (P : A → Type 0) (xs : List A) (y : A) → P y → ((j : ℕ) (z : A) → slice_get xs j ≡ Some z → P z) →
+    (j : ℕ) (z : A) → slice_get (xs ++ y ∷ []) j ≡ Some z → P z
+each_push P xs y new each j z at = elim (either_at xs y j z at) [
+  | inl h ↦ each j z h
+  | inr (p, q) ↦ subst P (sym q) new
+]
+
+-- and of the one at a place
+pub each_at : {A : Type 0} (P : A → Type 0) (xs : List A) (i : ℕ) → i < length xs → ((j : ℕ) (z : A) → slice_get xs j ≡ Some z → P z) →
+    (d : A) → P (get_or xs i d)
+each_at P xs i lt each d = each i (get_or xs i d) (slice_get-get_or xs i d lt)
+
+-- one more job
+pub jobs_push : (t : Task) (old new : List Job) (job : Job) → new ≡ old ++ job ∷ [] → job.is_done ≡ false → IsReady t.board job.from →
+    AreJobs t old → AreJobs t new
+jobs_push t old new job shape undone ready jobs = subst (AreJobs t) (sym shape)
+    (each_push (IsJob t) old job (record { ready = ready; found = λ done. absurd (false≢true (sym undone ∙ done)) }) jobs)
+
+-- a position that was found and is not solved can be expanded
+pub ready_by : (board : Board) (cap : Option ℕ) (v : VisitedView) (place : ℕ) (x : Entry) (from : Expanded) → IsSearched board cap v →
+    length v.entries < 2 ^ 32 → slice_get v.entries place ≡ Some x → (from.position ≡ x.position) × (from.pushes ≡ x.pushes) → from.reach < 2 ^ 32 →
+    ¬ (IsSolved board from.position) → IsReady board from
+ready_by board cap v place x from searched few at same range unsolved =
+    let less = searched.under_way.few place x at in
+    let count = same.1 in
+    let one_more : suc from.pushes < 2 ^ 32 = omega (arith, less, count, few) in
+    record {
+      expandable = record { fits = subst (FitsLevel board) (sym same.0) (searched.under_way.sound place x at).fits; few = one_more };
+      range = record { pushes = one_more; reach = range };
+      unsolved = unsolved;
+    }
+
+-- the position that has the least total is open for each total that is not less
+pub waits_by : (all : List Entry) (place least : ℕ) (x : Entry) (from : Expanded) → slice_get all place ≡ Some x → x.least ≡ Some least → from.place ≡ place →
+    (from.position ≡ x.position) × (from.pushes ≡ x.pushes) → least ≤ from.reach → IsWaiting all from
+waits_by all place least x from at open_ here same near = record {
+  entry = x;
+  least = least;
+  at = subst (λ (p : ℕ). slice_get all p ≡ Some x) (sym here) at;
+  same = sym same.0;
+  count = sym same.1;
+  is_open = open_;
+  near = near;
+}
+
+-- what holds of each element of a slice holds of each element of the vector that it is written back to
+pub each_back : {A : Type 0} (P : A → Type 0) (v : Vec A Global) (new : List A) → length new ≡ v.len → ((j : ℕ) (z : A) → slice_get new j ≡ Some z → P z) →
+    (j : ℕ) (z : A) → slice_get (with_items v new).items j ≡ Some z → P z
+each_back {A = A} P v new long each =
+    let rest = drop (length new) v.items in
+    subst (λ (xs : List A). (j : ℕ) (z : A) → slice_get xs j ≡ Some z → P z)
+    (sym (ap (λ (n : ℕ). take n (new ++ rest)) (sym long) ∙ take-append_seam new rest)) each
+
+-- what holds anyhow holds after a call that may fail
+pub anyhow : {T E : Type 0} (result : Result T E) (P : Type 0) → P → OnOk result P
+anyhow (Ok r) P is = is
+anyhow (Err e) P is = tt

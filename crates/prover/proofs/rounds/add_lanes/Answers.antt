@@ -1,0 +1,20 @@
+use Rattle.std.proofs.Common.{[], ◌∷◌, ◌≡◌, ap, arith, length, sym, subst, List}
+use Rattle.std.proofs.lemmas.List.{length-append}
+use Rattle.prover.specs.declared.lane.Lane.{Lane}
+use Rattle.prover.specs.inside.Rounds.{AreLanes, IsLane}
+use Rattle.prover.proofs.Dealing.{each_push}
+use Rattle.prover.proofs.rounds.add_lanes.Goals as goal
+
+pub loop-preserved : goal.loop-preserved
+loop-preserved c =
+    let task = c.args.pruner.now in
+    let old = c.loop.lanes.items in
+    let lane = c.in_ok-lane.lane in
+    let items = c.in_ok-push.ensures.items in
+    let more = c.loop.invariant.more in
+    let size = ap (λ (xs : List Lane). length xs) items in
+    let long = length-append old (lane ∷ []) in
+    record {
+      lanes = subst (AreLanes task) (sym items) (each_push (IsLane task) old lane c.in_ok-lane.ensures c.loop.invariant.lanes);
+      more = omega (arith, more, size, long);
+    }

@@ -1,0 +1,15 @@
+use Rattle.std.proofs.Common.{arith, ◌∙◌}
+use Rattle.std.proofs.lemmas.List.{length-set}
+use Rattle.prover.specs.inside.Rounds.{IsLane}
+use Rattle.prover.proofs.Dealing.{each_at, each_set}
+use Rattle.prover.proofs.rounds.clear_all.Goals as goal
+
+pub loop-index-preserved : goal.loop-index-preserved
+loop-index-preserved c =
+    let all = c.loop-index.invariant.all in
+    record {
+      lanes = λ t start. each_set (IsLane t) c.loop-index.lanes c.loop-index.index c.clear.new.self
+          (c.clear.ensures t (each_at (IsLane t) c.loop-index.lanes c.loop-index.index (omega (arith, all, c.loop-index-test.true))
+          (c.loop-index.invariant.lanes t start) _)) (c.loop-index.invariant.lanes t start);
+      all = length-set c.loop-index.lanes c.loop-index.index c.clear.new.self ∙ all;
+    }
