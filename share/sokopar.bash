@@ -8,8 +8,8 @@ _sokopar() {
         dead) options="--help" ;;
         replay) options="--help" ;;
         solve) options="--workers --locks --limit --max-pushes --help" ;;
-        best) options="--from --to --limit --max-pushes --help" ;;
-        prove) options="--limit --help" ;;
+        best) options="--from --to --workers --limit --max-pushes --help" ;;
+        prove) options="--workers --limit --help" ;;
         *) options= ;;
     esac
     if [ "$COMP_CWORD" = 1 ]; then
