@@ -83,7 +83,7 @@ def limits(bench, workers, locks):
 def limits_of_best(bench, limit):
     """The same of `best`, which ends at the limit with a right bound."""
     level, pushes = greatest.crossing(6, 3, 10, 11)
-    tables = memory_stated(r"^- Tables of `best` and `prove` take up to (\d+) MB")
+    tables = memory_stated(r"Their tables take up to (\d+) MB")
     most = memory_at_limit() * limit // PLENTY + tables
     asked, got = asked_by(bench, ["best", bench.file(level), "1", "--limit", str(limit)])
     reports = [(4, b"limit %d reached, at least %d pushes\n" % (limit, it), b"") for it in (pushes, pushes + 2)]
