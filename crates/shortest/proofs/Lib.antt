@@ -1,0 +1,4 @@
+pub mod Rounds
+pub mod Layering
+pub mod Onward
+pub mod Ends

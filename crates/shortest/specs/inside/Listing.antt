@@ -1,0 +1,92 @@
+-- The states that a search lists.
+use Rattle.std.specs.Prelude.{◌≡◌, ℕ, suc, ◌+◌, ◌≤◌, ◌<◌, List, [], ◌∷◌, ◌++◌, map, length, slice_get, Option, Some, None}
+use Rattle.std.specs.Prelude.{◌⊎◌, Bool, true, false}
+use Rattle.grid.specs.declared.square.Push.{Push}
+use Rattle.grid.specs.Board.{Board, Scene, start}
+use Rattle.grid.specs.Lawful.{box_count}
+use Rattle.grid.specs.States.{FitsLevel}
+use Rattle.area.specs.Pushes.{CanPush}
+use Rattle.prices.specs.Solving.{SolvableWithin}
+use Rattle.prover.specs.Fewest.{NoneHasFewer}
+use Rattle.prover.specs.Frontier.{IsFound}
+use Rattle.successors.specs.Distances.{AreDistinct}
+use Rattle.successors.specs.Expansion.{after_push}
+use Rattle.store.specs.Visited.{Entry, VisitedView}
+use Rattle.shortest.specs.Shortest.{IsReachedBy}
+
+-- a level and the fewest pushes of its solutions
+pub record BoundsView : Type 0 where
+  pub board : Board
+  pub most : ℕ
+
+-- a play with these pushes leads to the listed state
+pub record IsListed (board : Board) (most : ℕ) (x : Entry) : Type 0 where
+  pub fits : FitsLevel board x.position
+  pub reached : IsReachedBy board x.pushes x.position
+  pub few : x.pushes ≤ most
+
+-- after k pushes and one more, no play solves the level with at most `most` pushes in all, or the state is listed
+abbrev pub IsKept : Board → ℕ → List Entry → ℕ → Scene → Push → Type 0
+IsKept board most all k s p = (m : ℕ) → k + suc m ≡ most → SolvableWithin board m (after_push board s p) →
+    IsFound all (suc k) (after_push board s p)
+
+-- so it is after each push that is possible in the listed state
+abbrev pub KeepsEach : Board → ℕ → List Entry → Entry → Type 0
+KeepsEach board most all x = (p : Push) → CanPush board x.position p → IsKept board most all x.pushes x.position p
+
+-- the states are listed by their pushes, from the start on, and the first `done` of them are expanded
+pub record AreListed (board : Board) (most done : ℕ) (all : List Entry) : Type 0 where
+  pub begun : (x : Entry) × (slice_get all 0 ≡ Some x) × (x.position ≡ start board) × (x.pushes ≡ 0)
+  pub each : (i : ℕ) (x : Entry) → slice_get all i ≡ Some x → IsListed board most x
+  pub sorted : (i j : ℕ) (x y : Entry) → i ≤ j → slice_get all i ≡ Some x → slice_get all j ≡ Some y → x.pushes ≤ y.pushes
+  pub near : (i j : ℕ) (x y : Entry) → done ≤ i → slice_get all i ≡ Some x → slice_get all j ≡ Some y →
+      y.pushes ≤ suc x.pushes
+  pub expanded : (i : ℕ) (x : Entry) → i < done → slice_get all i ≡ Some x → KeepsEach board most all x
+
+-- a list for states of the board's size, of which the first `done` are expanded
+pub record IsListing (board : Board) (most done : ℕ) (v : VisitedView) : Type 0 where
+  pub listed : AreListed board most done v.entries
+  pub boxes : v.boxes ≡ box_count board
+  pub squares : v.squares ≡ length board.cells
+
+-- how the listing ends: all are expanded, or there are more than the limit
+abbrev pub EndsListing : Board → ℕ → ℕ → VisitedView → Bool → Type 0
+EndsListing board most limit v true = IsListing board most (length v.entries) v
+EndsListing board most limit v false = (done : ℕ) × IsListing board most done v × (limit < length v.entries)
+
+-- the entry is new, or its state is listed with no more pushes and nothing changes
+abbrev pub Lists : List Entry → List Entry → Entry → Type 0
+Lists old new e = ((new ≡ old) × IsFound old e.pushes e.position) ⊎ (new ≡ old ++ e ∷ [])
+
+-- so it is with a state after `pushes` pushes, if there is one
+abbrev pub ListsIf : List Entry → List Entry → ℕ → Option Scene → Type 0
+ListsIf old new pushes None = new ≡ old
+ListsIf old new pushes (Some s) =
+    Lists old new (record { position = s; pushes = pushes; least = None; parent = None })
+
+-- the state after a push, or none if no play goes on from there and ends solved with at most `left` pushes
+abbrev pub IsAfter : Board → ℕ → Scene → Push → Option Scene → Type 0
+IsAfter board left s p None = ¬ (SolvableWithin board left (after_push board s p))
+IsAfter board left s p (Some t) = (t ≡ after_push board s p) × FitsLevel board t
+
+-- the entry at the place has this state and number of pushes
+abbrev pub IsAtPlace : List Entry → ℕ → Scene → ℕ → Type 0
+IsAtPlace all place s k = (x : Entry) × (slice_get all place ≡ Some x) × (x.position ≡ s) × (x.pushes ≡ k)
+
+-- of the first pushes, each is kept
+abbrev pub AreKept : Board → ℕ → List Entry → ℕ → Scene → List Push → ℕ → Type 0
+AreKept board most all k s pushes count =
+    (i : ℕ) (p : Push) → i < count → slice_get pushes i ≡ Some p → IsKept board most all k s p
+
+-- a level, the fewest pushes of its solutions, and the listed states
+pub record StatesView : Type 0 where
+  pub board : Board
+  pub most : ℕ
+  pub entries : List Entry
+
+-- all states are expanded, each is listed once, and no solution has fewer pushes than `most`
+pub record AreAll (v : StatesView) : Type 0 where
+  pub listed : AreListed v.board v.most (length v.entries) v.entries
+  pub distinct : AreDistinct (map (λ (x : Entry). x.position) v.entries)
+  pub fewest : NoneHasFewer v.board v.most
+  pub range : v.most < 4294967296

@@ -1,0 +1,81 @@
+-- The fewest moves from each listed state to the end.
+use Rattle.std.specs.Prelude.{◌≡◌, ℕ, suc, ◌+◌, ◌*◌, ◌≤◌, ◌<◌, List, [], ◌∷◌, ◌++◌, length, slice_get, Option, None, Some}
+use Rattle.grid.specs.declared.dir.Dir.{Dir}
+use Rattle.grid.specs.declared.square.Push.{Push}
+use Rattle.grid.specs.Board.{Board, Scene, IsSolved, next, opposite, start}
+use Rattle.grid.specs.Plays.{Play, Any}
+use Rattle.area.specs.Pushes.{CanPush}
+use Rattle.prices.specs.Solving.{SolvableWithin}
+use Rattle.successors.specs.Expansion.{after_push}
+use Rattle.store.specs.Visited.{Entry}
+use Rattle.shortest.specs.Shortest.{IsAtMost, IsRest}
+use Rattle.shortest.specs.inside.Listing.{IsAtPlace, StatesView}
+use Rattle.shortest.specs.inside.Walking.{IsWalkLength}
+use Rattle.shortest.specs.declared.ways.Way.{Way}
+
+-- the fewest moves of a listed state, and that they fit 64 bits
+pub record IsRestOf (board : Board) (m : ℕ) (s : Scene) (rest : Option ℕ) : Type 0 where
+  pub is : IsRest board m s rest
+  pub small : (v : ℕ) → rest ≡ Some v → v ≤ m * 4294967296
+
+-- the numbers are the fewest moves of the listed states from a place on
+pub record AreRests (board : Board) (most place : ℕ) (all : List Entry) (rests : List (Option ℕ)) : Type 0 where
+  pub many : length rests ≡ length all
+  pub each : (i m : ℕ) (x : Entry) (rest : Option ℕ) → place ≤ i → slice_get all i ≡ Some x → slice_get rests i ≡ Some rest →
+      x.pushes + m ≡ most → IsRestOf board m x.position rest
+
+-- the state with k pushes is listed, is not one of the last, and the fewest moves of the states behind it are known
+pub record IsOnward (v : StatesView) (rests : List (Option ℕ)) (k : ℕ) (s : Scene) : Type 0 where
+  pub place : ℕ
+  pub at_place : IsAtPlace v.entries place s k
+  pub known : AreRests v.board v.most (suc place) v.entries rests
+  pub fewer : k < v.most
+
+-- each play from s that ends solved, of which this is the first push and at most m pushes follow it, has at least as
+-- many moves; None says that there is no such play
+abbrev pub IsLeastBy : Board → ℕ → Scene → Push → Option ℕ → Type 0
+IsLeastBy board m s p moves = (ds : List Dir) (ps : List Push) (t : Scene) → Play board Any s ds (p ∷ ps) t →
+    IsSolved board t → length ps ≤ m → IsAtMost moves (length ds)
+
+-- the state after a push of a state with k pushes has the place, and this is the fewest moves from it on
+pub record LeadsOn (board : Board) (all : List Entry) (rests : List (Option ℕ)) (k : ℕ) (s : Scene) (p : Push) (place rest : ℕ) :
+    Type 0 where
+  pub entry : Entry
+  pub at : slice_get all place ≡ Some entry
+  pub there : entry.position ≡ after_push board s p
+  pub count : entry.pushes ≡ suc k
+  pub rest_is : slice_get rests place ≡ Some (Some rest)
+
+-- a way on from a state with k pushes: a shortest walk behind a box, the push, and the fewest moves after it
+pub record IsWay (board : Board) (all : List Entry) (rests : List (Option ℕ)) (k : ℕ) (s : Scene) (way : Way) : Type 0
+  where
+    pub walk : ℕ
+    pub rest : ℕ
+    pub possible : CanPush board s way.push
+    pub leads : LeadsOn board all rests k s way.push way.place rest
+    pub walked : IsWalkLength board s (next board way.push.square (opposite way.push.dir)) walk
+    pub short : walk < 4294967296
+    pub moves : way.moves ≡ walk + 1 + rest
+
+abbrev pub moves_of : Option Way → Option ℕ
+moves_of None = None
+moves_of (Some way) = Some way.moves
+
+-- of the first pushes, none begins a play with fewer moves
+abbrev pub AreLeastBy : Board → ℕ → Scene → List Push → ℕ → Option ℕ → Type 0
+AreLeastBy board m s pushes count moves =
+    (i : ℕ) (p : Push) → i < count → slice_get pushes i ≡ Some p → IsLeastBy board m s p moves
+
+-- some play with these pushes and v moves leads from s to a solved state
+abbrev pub Finishes : Board → Scene → List Push → ℕ → Type 0
+Finishes board s ps v = (ds : List Dir) × (t : Scene) × Play board Any s ds ps t × IsSolved board t × (length ds ≡ v)
+
+-- the pushes that were read lead to the state at the place, from which the fewest moves go on to the end
+pub record IsReading (board : Board) (all : List Entry) (rests : List (Option ℕ)) (total place : ℕ) (read : List Push) :
+    Type 0 where
+  pub entry : Entry
+  pub rest : ℕ
+  pub at : slice_get all place ≡ Some entry
+  pub rest_is : slice_get rests place ≡ Some (Some rest)
+  pub count : length read ≡ entry.pushes
+  pub on : (ps : List Push) → Finishes board entry.position ps rest → Finishes board (start board) (read ++ ps) total

@@ -1,0 +1,24 @@
+//! The fewest moves among the solutions with the fewest pushes.
+//!
+//! A state is the squares of the boxes and the exact square of the player, who is where the last push left him. The
+//! search takes the fewest pushes of a level as known, and has three steps:
+//!
+//! 1. It lists the states that plays from the start reach, by their numbers of pushes. It leaves a push out only if no
+//!    play goes on from there and solves the level with the pushes that are left.
+//! 2. From the last state to the first it finds the fewest moves from each state to the end: over the pushes that are
+//!    possible there, the least sum of the shortest walk behind the box, the push, and the fewest moves after it.
+//! 3. From the start on it reads the pushes of the least sums.
+#![tactic(auto)]
+
+mod bounds;
+mod listing;
+mod outcome;
+mod reading;
+mod rests;
+mod searching;
+mod states;
+mod walks;
+mod ways;
+
+pub use outcome::MovesOutcome;
+pub use searching::search_moves;

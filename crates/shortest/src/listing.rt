@@ -1,0 +1,214 @@
+//! Lists the states that plays with the fewest pushes may reach, by their numbers of pushes.
+ghost use Rattle.std.specs.Prelude.{◌≡◌, ℕ, suc, ◌<◌, ◌≤◌, IfOk, IfSome, None, OnOk, Some, length, slice_get};
+ghost use Rattle.grid.specs.Board.{start};
+ghost use Rattle.grid.specs.Lawful.{box_count};
+ghost use Rattle.grid.specs.States.{FitsLevel};
+ghost use Rattle.area.specs.Pushes.{CanPush};
+ghost use Rattle.store.specs.FoundView.{FitsGrid};
+ghost use Rattle.store.specs.Visited.{Entry};
+ghost use Rattle.successors.specs.Capping.{capped};
+ghost use Rattle.successors.specs.Expanding.{HasPushesOf};
+ghost use Rattle.shortest.specs.inside.Listing.{EndsListing, IsAfter, IsAtPlace, IsListing, ListsIf};
+
+use crate::bounds::Bounds;
+use crate::states::{Reached, reached_at};
+use grid::{Level, MAX_BOXES, Position, Push};
+use prices::{Matching, Slack};
+use std::alloc::{AllocError, Global};
+use std::sync::Arc;
+use store::{Label, Visited};
+use successors::{Expander, Problem};
+
+/// Memory to expand states: for their pushes, and for the matchings of a state and of one after it.
+#[derive(Drop)]
+struct Workspace<'a> {
+    expander: Expander<'a>,
+    matching: Matching,
+    next_matching: Matching,
+}
+
+/// A list of the start alone. Fails only if out of memory.
+pub(crate) fn begun(alloc: Global, level: &Level, first: &Position) -> Result<Visited, AllocError>
+    requires first { first.now ≡ start level.now }
+    requires fits { FitsLevel level.now (start level.now) }
+    requires few { box_count level.now ≤ MAX_BOXES }
+    ensures { IfOk result (λ listed. (most : ℕ) → IsListing level.now most 0 listed) }
+{
+    let mut listed = Visited::of(alloc, level.boxes(), level.squares());
+    let _ = listed.enter(first, label_of(0))?;
+    Ok(listed)
+}
+
+/// Lists the states that plays with at most `most` pushes may reach. Returns whether these are at most `limit`. If they are
+/// more, it stops early. Fails only if out of memory.
+pub(crate) fn list_states(
+    alloc: Global,
+    level: &Level,
+    most: u32,
+    limit: u32,
+    listed: &mut Visited,
+) -> Result<bool, AllocError>
+    requires listing { IsListing level.now most 0 listed.old }
+    requires few { box_count level.now ≤ MAX_BOXES }
+    ensures { IfOk result (λ whole. EndsListing level.now most limit listed.new whole) }
+{
+    let problem = problem_of(alloc, level)?;
+    let bounds = Bounds::of(alloc, level, most)?;
+    list_all(alloc, &problem, &bounds, limit, listed)
+}
+
+// The problem of a level, with no cap: the bounds prune in its place.
+fn problem_of(alloc: Global, level: &Level) -> Result<Problem, AllocError>
+    ensures { IfOk result (λ problem. problem ≡ capped level.now None) }
+{
+    let shared = Arc::new(alloc, level.copy()?)?;
+    Problem::of(alloc, &shared, None)
+}
+
+// Expands the states in order.
+fn list_all(
+    alloc: Global,
+    problem: &Problem,
+    bounds: &Bounds<'_>,
+    limit: u32,
+    listed: &mut Visited,
+) -> Result<bool, AllocError>
+    requires board { problem.now.board ≡ bounds.now.board }
+    requires listing { IsListing bounds.now.board bounds.now.most 0 listed.old }
+    ensures { IfOk result (λ whole. EndsListing bounds.now.board bounds.now.most limit listed.new whole) }
+{
+    let mut workspace = Workspace {
+        expander: Expander::new(alloc, problem)?,
+        matching: Matching::new(),
+        next_matching: Matching::new(),
+    };
+    let mut place = 0;
+    while place < listed.len() {
+        if listed.len() > limit as usize {
+            return Ok(false);
+        }
+        expand(bounds, listed, place, &mut workspace)?;
+        place += 1;
+    }
+    Ok(true)
+}
+
+// Lists the states that the pushes of the state at a place lead to.
+fn expand(
+    bounds: &Bounds<'_>,
+    listed: &mut Visited,
+    place: usize,
+    workspace: &mut Workspace<'_>,
+) -> Result<(), AllocError>
+    requires listing { IsListing bounds.now.board bounds.now.most place listed.old }
+    requires place { place < length listed.old.entries }
+    requires board { workspace.old.expander.task.board ≡ bounds.now.board }
+    ensures listing { OnOk result (IsListing bounds.now.board bounds.now.most (suc place) listed.new) }
+    ensures board { workspace.new.expander.task.board ≡ bounds.now.board }
+{
+    let from = reached_at(listed, place);
+    if from.pushes >= bounds.most() {
+        return Ok(());
+    }
+    list_after(bounds, &from, place, listed, workspace)
+}
+
+// Lists the states after each push of a state.
+fn list_after(
+    bounds: &Bounds<'_>,
+    from: &Reached,
+    place: usize,
+    listed: &mut Visited,
+    workspace: &mut Workspace<'_>,
+) -> Result<(), AllocError>
+    requires listing { IsListing bounds.now.board bounds.now.most place listed.old }
+    requires at_place { IsAtPlace listed.old.entries place from.now.state from.now.pushes }
+    requires fewer { from.now.pushes < bounds.now.most }
+    requires board { workspace.old.expander.task.board ≡ bounds.now.board }
+    ensures listing { OnOk result (IsListing bounds.now.board bounds.now.most (suc place) listed.new) }
+    ensures board { workspace.new.expander.task.board ≡ bounds.now.board }
+{
+    workspace.expander.find_pushes(&from.state);
+    workspace.matching = Matching::new();
+    bounds
+        .distances()
+        .meet(&from.state, &mut workspace.matching);
+    let left = bounds.most() - from.pushes - 1;
+    let slack = Slack::of(
+        bounds.distances(),
+        &from.state,
+        Some(left),
+        &workspace.matching,
+    );
+    for index in 0..workspace.expander.pushes().len() {
+        let push = workspace.expander.pushes()[index];
+        let after = state_after(bounds, from, left, push, &slack, workspace);
+        list_if_some(listed, &after, from.pushes + 1)?;
+    }
+    Ok(())
+}
+
+// The state after a push. `None` only if no play goes on from there and ends solved with at most `left` pushes.
+fn state_after(
+    bounds: &Bounds<'_>,
+    from: &Reached,
+    left: u32,
+    push: Push,
+    slack: &Slack<'_>,
+    workspace: &mut Workspace<'_>,
+) -> Option<Position>
+    requires board { workspace.old.expander.task.board ≡ bounds.now.board }
+    requires found { HasPushesOf workspace.old.expander from.now.state }
+    requires possible { CanPush bounds.now.board from.now.state push }
+    requires fits { FitsLevel bounds.now.board from.now.state }
+    requires slack { (slack.now.board ≡ bounds.now.board) × (slack.now.scene ≡ from.now.state) × (slack.now.left ≡ Some left) }
+    ensures after { IsAfter bounds.now.board left from.now.state push result }
+    ensures kept { workspace.new.expander ≡ workspace.old.expander }
+{
+    let Push { square, dir } = push;
+    if slack.never_helps(square, dir) {
+        return None;
+    }
+    let Some(mut after) = workspace
+        .expander
+        .try_push(&from.state, Push { square, dir })
+    else {
+        return None;
+    };
+    after.set_player(square);
+    workspace.next_matching.copy_from(&workspace.matching);
+    let allowed = bounds.allow(&after, left, &mut workspace.next_matching);
+    if !allowed {
+        return None;
+    }
+    Some(after)
+}
+
+// Lists a state, if there is one that is not listed yet.
+fn list_if_some(
+    listed: &mut Visited,
+    state: &Option<Position>,
+    pushes: u32,
+) -> Result<(), AllocError>
+    requires fits { IfSome state.now (λ s. FitsGrid listed.old.boxes listed.old.squares s) }
+    requires most { (i : ℕ) (x : Entry) → slice_get listed.old.entries i ≡ Some x → x.pushes ≤ pushes }
+    ensures lists { OnOk result (ListsIf listed.old.entries listed.new.entries pushes state.now) }
+    ensures size { (listed.new.boxes ≡ listed.old.boxes) × (listed.new.squares ≡ listed.old.squares) }
+{
+    let Some(state) = state else {
+        return Ok(());
+    };
+    let _ = listed.enter(state, label_of(pushes))?;
+    Ok(())
+}
+
+// The label of a state that this many pushes lead to.
+fn label_of(pushes: u32) -> Label
+    ensures { result ≡ record { pushes = pushes; least = None; parent = None } }
+{
+    Label {
+        pushes,
+        least: None,
+        parent: None,
+    }
+}

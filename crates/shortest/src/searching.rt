@@ -1,0 +1,101 @@
+ghost use Rattle.std.specs.Prelude.{◌≡◌, ◌≤◌, ◌<◌, ◌⊎◌, IfErr, IfOk, OnOk, length};
+ghost use Rattle.grid.specs.Board.{start};
+ghost use Rattle.grid.specs.Lawful.{box_count};
+ghost use Rattle.lurd.specs.Verdict.{IsVerdict};
+ghost use Rattle.lurd.specs.declared.verdict.Verdict.TheVariants.{Solved};
+ghost use Rattle.prover.specs.Fewest.{NoneHasFewer};
+ghost use Rattle.prover.specs.Parity.{SomeHas};
+ghost use Rattle.prover.specs.declared.outcome.SearchFault.{SearchFault};
+ghost use Rattle.shortest.specs.Shortest.{IsMovesOutcome, NoneIsBetter};
+ghost use Rattle.shortest.specs.inside.Listing.{IsListing};
+
+use crate::listing::{begun, list_states};
+use crate::outcome::MovesOutcome;
+use crate::reading::least_moves;
+use crate::states::States;
+use grid::{Level, MAX_BOXES, Moves, Position};
+use prover::SearchFault;
+use std::alloc::{AllocError, Global};
+use store::Visited;
+
+/// Searches for the fewest moves among the solutions with the fewest pushes. `pushes` is the fewest pushes of the
+/// level's solutions.
+///
+/// [`MovesOutcome::Limit`] means that the search listed more than `limit` states.
+///
+/// Fails with [`SearchFault::TooManyBoxes`] if the level has more than [`MAX_BOXES`](grid::MAX_BOXES) boxes, and with
+/// [`SearchFault::OutOfMemory`] if it runs out of memory.
+pub fn search_moves(
+    alloc: Global,
+    level: &Level,
+    pushes: u32,
+    limit: u32,
+) -> Result<MovesOutcome, SearchFault>
+    requires some { SomeHas level.now pushes }
+    requires fewest { NoneHasFewer level.now pushes }
+    ensures outcome { IfOk result (λ outcome. IsMovesOutcome level.now pushes limit outcome) }
+    ensures few { OnOk result (box_count level.now ≤ MAX_BOXES) }
+    ensures fault { IfErr result (λ fault. (fault ≡ SearchFault.OutOfMemory) ⊎
+        ((fault ≡ SearchFault.TooManyBoxes) × (MAX_BOXES < box_count level.now))) }
+{
+    let Some(first) = Position::start(level) else {
+        return Err(SearchFault::TooManyBoxes);
+    };
+    Ok(search_from(alloc, level, &first, pushes, limit)?)
+}
+
+// Searches from the start.
+fn search_from(
+    alloc: Global,
+    level: &Level,
+    first: &Position,
+    pushes: u32,
+    limit: u32,
+) -> Result<MovesOutcome, AllocError>
+    requires first { first.now ≡ start level.now }
+    requires few { box_count level.now ≤ MAX_BOXES }
+    requires some { SomeHas level.now pushes }
+    requires fewest { NoneHasFewer level.now pushes }
+    ensures { IfOk result (λ outcome. IsMovesOutcome level.now pushes limit outcome) }
+{
+    level.tell_start();
+    let mut listed = begun(alloc, level, first)?;
+    let outcome = search_in(alloc, level, pushes, limit, &mut listed);
+    drop(listed);
+    outcome
+}
+
+// Searches with a list of the start alone.
+fn search_in(
+    alloc: Global,
+    level: &Level,
+    pushes: u32,
+    limit: u32,
+    listed: &mut Visited,
+) -> Result<MovesOutcome, AllocError>
+    requires listing { IsListing level.now pushes 0 listed.old }
+    requires few { box_count level.now ≤ MAX_BOXES }
+    requires some { SomeHas level.now pushes }
+    requires fewest { NoneHasFewer level.now pushes }
+    ensures { IfOk result (λ outcome. IsMovesOutcome level.now pushes limit outcome) }
+{
+    let whole = list_states(alloc, level, pushes, limit, listed)?;
+    listed.tell();
+    if whole {
+        let moves = best_of(alloc, level, pushes, listed)?;
+        return Ok(MovesOutcome::Least { moves });
+    }
+    Ok(MovesOutcome::Limit)
+}
+
+// The moves of the best solution, once all states are listed.
+fn best_of(alloc: Global, level: &Level, pushes: u32, listed: &Visited) -> Result<Moves, AllocError>
+    requires listing { IsListing level.now pushes (length listed.now.entries) listed.now }
+    requires some { SomeHas level.now pushes }
+    requires fewest { NoneHasFewer level.now pushes }
+    ensures { IfOk result (λ moves. IsVerdict level.now moves (Solved pushes (length moves)) ×
+        NoneIsBetter level.now pushes (length moves)) }
+{
+    let states = States::of(level, listed, pushes);
+    least_moves(alloc, &states)
+}
