@@ -236,7 +236,7 @@ impl Frontier {
     }
 }
 
-// Puts the tickets that were set aside back in order, but for stale ones.
+// Puts the tickets that were set aside back into the queue, except stale ones.
 fn put_back(visited: &Visited, queue: &mut Queue) -> Result<(), AllocError>
     requires { IsQueued visited.now.entries (tickets queue.old) }
     ensures queued { IsQueued visited.now.entries (tickets queue.new) }

@@ -18,10 +18,11 @@ use std::thread::Threads;
 /// The number of lanes. It bounds the workers of a round.
 const LANES: usize = 16;
 
-/// A round takes one position for each so many that were found, and the greatest number that it takes. More of them
-/// keep more workers busy, but are expanded before what the first ones lead to is known.
+/// A round takes one position for each `FOUND_EACH` that were found. More of them keep more workers busy, but the search
+/// expands them before it knows what the first ones lead to.
 const FOUND_EACH: usize = 64;
 
+/// The greatest number of positions of a round.
 const MOST: usize = 64;
 
 /// The memory of a search: the caller's workspace, and the lanes once a round needs them.
