@@ -1,23 +1,22 @@
 -- The boxes that hang together with one, as the area of a player where all other squares bar the way.
-use Rattle.std.proofs.Common.{◌≡◌, ℕ, ◌+◌, ◌*◌, ◌/◌, ◌%◌, ◌^◌, ◌<◌, ◌≤◌, true, false, not, eqb, ◌&&◌, ◌↔◌, List, get_or, set, length, inl, inr, refl}
+use Rattle.std.proofs.Common.{◌≡◌, ℕ, ◌+◌, ◌*◌, ◌/◌, ◌%◌, ◌^◌, ◌<◌, ◌≤◌, true, false, not, ◌&&◌, ◌↔◌, List, get_or, set, length, inl, inr, refl}
 use Rattle.std.proofs.Common.{sym, ap, ◌∙◌, arith}
 use Rattle.std.specs.Int.{bit_not, w64}
-use Rattle.std.proofs.lemmas.Bool.{and_parts, not-true, cases_Bool, cases_eq, cases_lt, true≢false, eq-eqb}
+use Rattle.std.proofs.lemmas.Bool.{and_parts, not-true, cases_Bool, cases_eq, cases_lt, true≢false}
 use Rattle.std.proofs.lemmas.List.{get_or-set_same, get_or-set_other, length-set}
 use Rattle.grid.specs.declared.dir.Dir.{Dir}
 use Rattle.grid.specs.declared.masks.TheConstants.{WORD_BITS}
 use Rattle.grid.specs.Board.{Board, Scene, IsFree, is_wall, next}
 use Rattle.grid.specs.States.{IsScene}
-use Rattle.grid.specs.Masks.{has_bit, word_count}
+use Rattle.grid.specs.Masks.{has_bit}
 use Rattle.grid.specs.Squares.{Squares, contains}
 use Rattle.grid.specs.Rising.{is_rising}
 use Rattle.area.specs.Area.{Area}
 use Rattle.area.specs.Groups.{HangsWith, itself, onto}
 use Rattle.area.specs.Words.{passing_from, word_bit}
-use Rattle.area.specs.inside.Flooding.{IsFlooded}
+use Rattle.area.specs.inside.Flooding.{FloodsFrom}
 use Rattle.area.proofs.Detours.{area_step, along_walks}
 use Rattle.grid.proofs.lemmas.Steps.{inside_grid}
-use Rattle.area.proofs.lemmas.Flooding.{flood_found, player_alone}
 use Rattle.area.proofs.lemmas.Norms.{area_here}
 use Rattle.area.proofs.lemmas.WordBits.{has_bit-parts, word_bit-not}
 use Rattle.area.proofs.lemmas.WordSets.{passing_within, passing_past, passing_rise}
@@ -100,24 +99,23 @@ turned_bit words now index q (size, before, rest) whole lt =
 
 -- ---- the group
 
-pub group_found : (board : Board) (boxes : Squares) (square : ℕ) (barred old new : List ℕ) → ((q : ℕ) → contains boxes q ≡ true → is_wall board q ≡ false) →
-    contains boxes square ≡ true → length new ≡ word_count (length board.cells) →
-    ((q : ℕ) → q < length board.cells → has_bit barred q ≡ not (contains boxes q)) → ((q : ℕ) → has_bit old q ≡ eqb square q) →
-    IsFlooded board barred old new → (q : ℕ) → (has_bit new q ≡ true) ↔ HangsWith board boxes square q
-unfolding ring others
-group_found board boxes square barred old new clear there size stand alone flooded q = (
+-- before a flood of the boxes from one of them: all other squares are barred
+pub group_begun : (board : Board) (boxes : Squares) (square : ℕ) (barred reached : List ℕ) (clear : (q : ℕ) → contains boxes q ≡ true → is_wall board q ≡ false) →
+    contains boxes square ≡ true → ((q : ℕ) → q < length board.cells → has_bit barred q ≡ not (contains boxes q)) → ((q : ℕ) → has_bit reached q ≡ false) →
+    FloodsFrom board (ring board boxes clear square) square barred reached
+unfolding ring
+group_begun board boxes square barred reached clear there stand none = record {
+  scene = ring_scene board boxes clear square there;
+  player = refl;
+  boxes = λ x open_here. stand x (inside_grid board x open_here) ∙ sym (in_others board boxes clear x open_here);
+  within = λ x h. absurd (true≢false (sym h ∙ none x));
+}
+
+-- what it finds hangs together with that one
+pub group_found : (board : Board) (boxes : Squares) (square : ℕ) (new : List ℕ) (clear : (q : ℕ) → contains boxes q ≡ true → is_wall board q ≡ false) →
+    contains boxes square ≡ true → ((q : ℕ) → (has_bit new q ≡ true) ↔ Area board (ring board boxes clear square) q) → (q : ℕ) →
+    (has_bit new q ≡ true) ↔ HangsWith board boxes square q
+group_found board boxes square new clear there found q = (
   λ h. walk_hangs board boxes clear square q there ((found q).0 h),
   λ w. (found q).1 (hangs_walk board boxes clear w),
 )
-  where
-    bars : (x : ℕ) → is_wall board x ≡ false → has_bit barred x ≡ contains (ring board boxes clear square).boxes x
-    bars x open_here = stand x (inside_grid board x open_here) ∙ sym (in_others board boxes clear x open_here)
-
-    begun : has_bit old (ring board boxes clear square).player ≡ true
-    begun = alone square ∙ eq-eqb square square refl
-
-    within : (x : ℕ) → has_bit old x ≡ true → Area board (ring board boxes clear square) x
-    within = player_alone board (ring board boxes clear square) old square refl alone
-
-    found : (x : ℕ) → (has_bit new x ≡ true) ↔ Area board (ring board boxes clear square) x
-    found = flood_found board (ring board boxes clear square) barred old new (ring_scene board boxes clear square there) bars begun within flooded size

@@ -1,7 +1,6 @@
 pub mod lemmas
 pub mod Descents
 pub mod Detours
-pub mod Gathers
 pub mod Nearness
 pub mod Reached
 pub mod Rings
@@ -10,10 +9,10 @@ pub mod Seams
 pub mod Spreading
 pub mod UnderWay
 pub mod Visits
-pub mod Visiting
 pub mod Carries
 pub mod Widening
-pub mod OnBoards
+pub mod InRooms
+pub mod BySteps
 pub mod Chains
 pub mod PushLists
 pub mod Unused

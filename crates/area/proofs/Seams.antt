@@ -1,6 +1,6 @@
 -- What a vector holds whose items were lent and written.
-use Rattle.std.proofs.Common.{◌≡◌, ℕ, ◌<◌, ◌++◌, List, length, get_or, take, drop, sym, ap, ◌∙◌, arith}
-use Rattle.std.proofs.lemmas.List.{get_or_read}
+use Rattle.std.proofs.Common.{◌≡◌, ℕ, ◌<◌, ◌++◌, List, length, get_or, take, drop, sym, ap, ◌∙◌, length-append, arith}
+use Rattle.std.proofs.lemmas.List.{get_or_read, length-take-le, length-drop}
 use Rattle.std.proofs.Math.Seq.{take-append_seam}
 use Rattle.area.specs.inside.Written.{written_over}
 
@@ -20,3 +20,10 @@ read_written new rest len index at item e lt is same =
 -- where no fewer words were written than there were, the set holds these
 pub over : (old words : List ℕ) → length words ≡ length old → written_over old words ≡ words
 over old words e = written words (drop (length words) old) (length old) (sym e)
+
+-- it has as many words as before in any case
+pub length-written_over : (old words : List ℕ) → length (written_over old words) ≡ length old
+length-written_over old words =
+    let all = length-append words (drop (length words) old) in
+    let rest = length-drop (length words) old in
+    length-take-le (length old) (words ++ drop (length words) old) (omega (arith, all, rest))

@@ -10,12 +10,12 @@ use Rattle.std.proofs.lemmas.Nat.{le_or_l}
 use Rattle.grid.specs.declared.masks.TheConstants.{WORD_BITS}
 use Rattle.grid.specs.Masks.{has_bit}
 use Rattle.area.specs.Words.{word_bit}
-use Rattle.area.specs.inside.Flooding.{AllPass, IsGrown, PassesUp, PassesDown, PassesOn, room_left}
+use Rattle.area.specs.inside.Flooding.{AllPass, IsGrown, PassesOn, room_left}
 use Rattle.area.specs.inside.RoomFloods.{IsBeside, PassesOver, IsWidened, IsFull, IsVisit, IsPassing, IsRound}
 use Rattle.area.specs.inside.RoomFloods.{IsWidening}
 use Rattle.area.proofs.lemmas.WordBits.{word_bit-and, word_bit-not, word_bit_inside, has_bit-at, has_bit-parts}
 use Rattle.area.proofs.lemmas.WordBits.{has_bit_inside, square_parts}
-use Rattle.area.proofs.lemmas.Growing.{or_bit, and_bit, bit_or_left, bit_or_right, bit_and_from, grown_by, grown_then}
+use Rattle.area.proofs.lemmas.Growing.{or_bit, and_bit, bit_or_left, bit_or_right, bit_and_from}
 use Rattle.area.proofs.Visits.{bit_same, written_kept, written_sound, written_less, room_less}
 
 -- ---- one word
@@ -57,21 +57,6 @@ beside_bits words cols q j a b d e left none_left right up none_up down = (there
     back : (p : ℕ) × IsBeside cols p q × (has_bit words p ≡ true) → word_bit (bit_or (bit_or a b) (bit_or d e)) j ≡ true
     back w = from w.0 w.1 w.2
 
--- runs to the right, steps to the left, and then a step down and one up
-pub grown_once : (word right left row down last free by : ℕ) → IsGrown word right (λ test. PassesUp test 1 free) →
-    IsGrown right left (λ test. PassesDown test 1 free) → IsGrown left row (λ test. PassesDown test 1 free) →
-    IsGrown row down (λ test. PassesUp test by free) → IsGrown down last (λ test. PassesDown test by free) →
-    IsGrown word last (λ test. PassesOn test by free free free free)
-grown_once word right left row down last free by r l m d u =
-    grown_then word right last P (grown_by word right (λ test. PassesUp test 1 free) P (λ test pass. pass.on_right) r)
-    (grown_then right left last P (grown_by right left (λ test. PassesDown test 1 free) P (λ test pass. pass.on_left) l)
-    (grown_then left row last P (grown_by left row (λ test. PassesDown test 1 free) P (λ test pass. pass.on_left) m)
-    (grown_then row down last P (grown_by row down (λ test. PassesUp test by free) P (λ test pass. pass.on_down) d)
-    (grown_by down last (λ test. PassesDown test by free) P (λ test pass. pass.on_up) u))))
-  where
-    P : (ℕ → Bool) → Type 0
-    P = λ test. PassesOn test by free free free free
-
 -- nothing is added
 pub widened_none : (cols : ℕ) (free words : List ℕ) → IsWidened cols free words words
 widened_none cols free words = record { size = refl; kept = λ q h. h; sound = λ test passes all. all }
@@ -103,8 +88,7 @@ module _ (cols : ℕ) (free : List ℕ) (index : ℕ) (fits : get_or free index 
   onto i j near bit old = passes (WORD_BITS * index + i) (WORD_BITS * index + j) near
       (has_bit-at free index j (word_bit_inside (get_or free index 0) j fits bit) ∙ bit) old
 
-  pub all_ways : PassesOn (λ j. test (WORD_BITS * index + j)) cols (get_or free index 0) (get_or free index 0) (get_or
-      free index 0) (get_or free index 0)
+  pub all_ways : PassesOn (λ j. test (WORD_BITS * index + j)) cols (get_or free index 0)
   all_ways = record {
     on_down = λ i j e bit old. onto i j (inr (inl (omega (arith, e)))) bit old;
     on_left = λ i j e bit old. onto i j (inl (inr (omega (arith, e)))) bit old;

@@ -2,7 +2,6 @@
 pub mod WordSets
 pub mod WordBits
 pub mod Norms
-pub mod Pushing
 pub mod Growing
 pub mod Moving
 pub mod Hanging

@@ -6,7 +6,6 @@ pub mod Detours
 pub mod RingBits
 pub mod Flooding
 pub mod RoomFloods
-pub mod PushWords
 pub mod Pushable
 pub mod PushLists
 pub mod Written

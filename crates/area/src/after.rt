@@ -8,7 +8,7 @@ ghost use Rattle.area.specs.After.{IsAreaOf, IsPushed};
 ghost use Rattle.area.specs.inside.Detours.{HasMoved};
 
 use crate::bits::least_of;
-use crate::floods::flood_round;
+use crate::floods::flood_from;
 use crate::scratch::Scratch;
 use crate::set::SquareSet;
 use crate::sight::look_ahead;
@@ -69,11 +69,13 @@ fn least_again(
 {
     move_box(&scratch.boxes, square, ahead, &mut scratch.spare_boxes);
     scratch.spare.copy_if(joined, &scratch.reached, ahead);
-    flood_round(
+    flood_from(
         level,
-        position,
+        position.player(),
         &mut scratch.spare_boxes,
         &mut scratch.spare,
+        &mut scratch.marks,
+        &mut scratch.queue,
     );
     least_of(scratch.spare.as_words())
 }

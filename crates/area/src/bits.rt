@@ -183,7 +183,7 @@ fn word_at(words: &[u64], index: usize) -> u64
 
 // The upper word of two neighbours, `here` above `low`, after both were shifted up by `near` bits.
 #[inline(always)]
-pub(crate) fn slid_up(here: u64, low: u64, near: usize) -> u64
+fn slid_up(here: u64, low: u64, near: usize) -> u64
     requires { near < WORD_BITS }
     ensures here { (i j : ℕ) → j < WORD_BITS → i + near ≡ j → word_bit result j ≡ word_bit here i }
     ensures low { (i j : ℕ) → i < WORD_BITS → i + near ≡ j + WORD_BITS → word_bit result j ≡ word_bit low i }
@@ -193,7 +193,7 @@ pub(crate) fn slid_up(here: u64, low: u64, near: usize) -> u64
 
 // The lower word of two neighbours, `here` below `high`, after both were shifted down by `near` bits.
 #[inline(always)]
-pub(crate) fn slid_down(here: u64, high: u64, near: usize) -> u64
+fn slid_down(here: u64, high: u64, near: usize) -> u64
     requires { near < WORD_BITS }
     ensures here { (i j : ℕ) → i < WORD_BITS → i ≡ j + near → word_bit result j ≡ word_bit here i }
     ensures high { (i j : ℕ) → j < WORD_BITS → i + WORD_BITS ≡ j + near → word_bit result j ≡ word_bit high i }

@@ -4,8 +4,7 @@ ghost use Rattle.grid.specs.Masks.{has_bit, word_count};
 ghost use Rattle.grid.specs.Squares.{contains};
 ghost use Rattle.area.specs.Groups.{HangsWith};
 
-use crate::floods::grow;
-use crate::rooms::grow_in_room;
+use crate::floods::flood_from;
 use crate::set::SquareSet;
 use grid::{Level, Square};
 
@@ -17,11 +16,15 @@ pub(crate) fn group(
     square: Square,
     others: &mut SquareSet,
     members: &mut SquareSet,
+    marks: &mut [u16],
+    queue: &mut [Square],
 )
     requires clear { (q : ℕ) → contains boxes.now q ≡ true → is_wall level.now q ≡ false }
     requires there { contains boxes.now square ≡ true }
     requires places { length others.old ≡ word_count (length level.now.cells) }
     requires room { length members.old ≡ word_count (length level.now.cells) }
+    requires marks { length marks.old ≡ length level.now.cells }
+    requires queue { length queue.old ≡ length level.now.cells }
     ensures group { (q : ℕ) → (has_bit members.new q ≡ true) ↔ HangsWith level.now boxes.now square q }
     ensures places { length others.new ≡ length others.old }
     ensures room { length members.new ≡ length members.old }
@@ -29,10 +32,5 @@ pub(crate) fn group(
     others.put_all(boxes);
     others.turn_over();
     members.clear();
-    members.put(square);
-    if level.in_room(square) {
-        grow_in_room(level, others, members);
-    } else {
-        grow(level, others, members);
-    }
+    flood_from(level, square, others, members, marks, queue);
 }

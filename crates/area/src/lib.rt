@@ -11,9 +11,9 @@
 //! # What it costs
 //!
 //! All calls work in a [`Scratch`]: about five bytes a square, made once for levels of the same rows and columns.
-//! Beside that only [`walk`] takes memory, for its moves. A flood works on words of 64 squares and keeps rooms of
-//! up to two words in registers. After a push the flood of the position before it mostly decides, so a search makes
-//! one flood a position.
+//! Beside that only [`walk`] takes memory, for its moves. In the player's room a flood works on words of 64 squares
+//! and keeps up to two words in registers; outside the room it goes from square to square. After a push the flood
+//! of the position before it mostly decides, so a search makes one flood a position.
 //!
 //! # Example
 //!
@@ -32,12 +32,12 @@
 mod after;
 #[doc(hidden)]
 pub mod bits;
+mod fill;
 mod floods;
 mod groups;
 #[doc(hidden)]
 pub mod laws;
 mod possible;
-mod pushes;
 mod ring;
 mod rooms;
 mod route;
@@ -45,6 +45,7 @@ mod scratch;
 mod set;
 mod sight;
 mod spread;
+mod steps;
 
 pub use after::normalise_after;
 pub use floods::{flood, normal};

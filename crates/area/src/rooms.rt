@@ -2,42 +2,37 @@
 //! squares whose numbers differ by one, or by the number of columns, are adjacent if one of them is in the room,
 //! and one set of free squares serves steps in all four directions.
 ghost use Rattle.std.specs.Prelude.{◌≡◌, ℕ, ◌*◌, ◌+◌, ◌<◌, ◌≤◌, ◌&&◌, ◌↔◌, not, true, length};
-ghost use Rattle.grid.specs.Lawful.{InRoom};
 ghost use Rattle.grid.specs.Masks.{has_bit, word_count};
 ghost use Rattle.area.specs.Words.{word_bit};
-ghost use Rattle.area.specs.inside.Flooding.{IsFlooded, IsGrown, PassesOn};
-ghost use Rattle.area.specs.inside.RoomFloods.{AreUnused, IsBeside, IsRound, IsVisit, IsWidened, PassesOver};
+ghost use Rattle.area.specs.inside.RoomFloods.{AreUnused, IsBeside, IsFlooded, IsRound, IsVisit, IsWidened, PassesOver};
 
 use crate::bits::{after, before, just_after, just_before};
-use crate::floods::{fill, run_up, step_down};
+use crate::fill::{fill, fill_once};
 use crate::set::SquareSet;
-use grid::{Level, Square, WORD_BITS};
+use grid::{Level, WORD_BITS};
 
-// Adds to a set of squares of the player's room all squares that steps round the boxes lead to. Overwrites the set
-// of the boxes.
-pub(crate) fn grow_in_room(level: &Level, boxes: &mut SquareSet, reached: &mut SquareSet)
-    requires boxes { length boxes.old ≡ word_count (length level.now.cells) }
+// Adds to a set all squares of the player's room that steps round the barred ones lead to. Overwrites the set of these.
+pub(crate) fn grow_in_room(level: &Level, barred: &mut SquareSet, reached: &mut SquareSet)
+    requires barred { length barred.old ≡ word_count (length level.now.cells) }
     requires room { length reached.old ≡ word_count (length level.now.cells) }
-    requires inside { (q : ℕ) → has_bit reached.old q ≡ true → InRoom level.now q }
-    ensures flooded { IsFlooded level.now boxes.old reached.old reached.new }
-    ensures boxes { length boxes.new ≡ length boxes.old }
+    ensures flooded { IsFlooded level.now barred.old reached.old reached.new }
+    ensures barred { length barred.new ≡ length barred.old }
     ensures room { length reached.new ≡ length reached.old }
 {
-    grow_words_in_room(level, boxes.as_words_mut(), reached.as_words_mut());
+    grow_words(level, barred.as_words_mut(), reached.as_words_mut());
 }
 
 // `grow_in_room` on words.
-fn grow_words_in_room(level: &Level, boxes: &mut [u64], reached: &mut [u64])
-    requires boxes { length boxes.old ≡ word_count (length level.now.cells) }
+fn grow_words(level: &Level, barred: &mut [u64], reached: &mut [u64])
+    requires barred { length barred.old ≡ word_count (length level.now.cells) }
     requires room { length reached.old ≡ word_count (length level.now.cells) }
-    requires inside { (q : ℕ) → has_bit reached.old q ≡ true → InRoom level.now q }
-    ensures { IsFlooded level.now boxes.old reached.old reached.new }
+    ensures { IsFlooded level.now barred.old reached.old reached.new }
 {
     level.tell();
     let room = level.room_mask();
     let cols = level.cols();
-    leave_clear(room, boxes);
-    widen(cols, boxes, reached);
+    leave_clear(room, barred);
+    widen(cols, barred, reached);
 }
 
 // Replaces a set by the squares of another that it does not contain.
@@ -152,7 +147,7 @@ fn visit_few(cols: usize, free: &[u64], words: &mut [u64], index: usize) -> bool
     let old = words[index];
     let clear = free[index];
     let first = old | (just_beside(cols, words, index) & clear);
-    let new = fill_once(first, clear, cols);
+    let new = fill_once(first, clear, cols % WORD_BITS);
     words[index] = new;
     new != old
 }
@@ -178,20 +173,6 @@ fn beside(cols: usize, words: &[u64], index: usize) -> u64
 {
     (just_before(words, index, 1) | just_after(words, index, 1))
         | (before(words, index, cols) | after(words, index, cols))
-}
-
-// Adds to a word the runs to the right of its squares and two steps to the left, and then a step down and one up.
-// In a room about as high as wide, going along the rows alone takes more iterations.
-#[inline(always)]
-fn fill_once(word: u64, free: u64, cols: usize) -> u64
-    requires near { cols < WORD_BITS }
-    ensures { IsGrown word result (λ test. PassesOn test cols free free free free) }
-{
-    let right = run_up(word, free);
-    let left = step_down(right, free, 1);
-    let row = step_down(left, free, 1);
-    let down = row | ((row << cols) & free);
-    down | ((down >> cols) & free)
 }
 
 // What `widen` does, by visits to words. After a word that grew it goes back to the first word that the new numbers
@@ -231,6 +212,6 @@ fn visit(cols: usize, free: &[u64], words: &mut [u64], index: usize) -> bool
     if first == old {
         return false;
     }
-    words[index] = fill(first, clear, clear, clear, clear, cols);
+    words[index] = fill(first, clear, cols);
     true
 }

@@ -23,6 +23,7 @@ use std::marker::Model;
 /// flood: another flood with its boxes, or tests of which boxes hold one another.
 #[derive(Debug, Drop)]
 pub struct Scratch {
+    squares: usize,
     pub(crate) marks: Vec<u16>,
     pub(crate) queue: Vec<Square>,
     pub(crate) reached: SquareSet,
@@ -53,13 +54,15 @@ impl Scratch {
         ensures { IfOk result (λ s. s.size ≡ length level.now.cells) }
     {
         level.tell();
+        let squares = level.squares();
         Ok(Scratch {
-            marks: zeros(alloc, level.squares())?,
-            queue: vec![in alloc; Square(0); level.squares()]?,
-            reached: SquareSet::none(alloc, level.squares())?,
-            boxes: SquareSet::none(alloc, level.squares())?,
-            spare: SquareSet::none(alloc, level.squares())?,
-            spare_boxes: SquareSet::none(alloc, level.squares())?,
+            squares,
+            marks: zeros(alloc, squares)?,
+            queue: vec![in alloc; Square(0); squares]?,
+            reached: SquareSet::none(alloc, squares)?,
+            boxes: SquareSet::none(alloc, squares)?,
+            spare: SquareSet::none(alloc, squares)?,
+            spare_boxes: SquareSet::none(alloc, squares)?,
         })
     }
 
@@ -115,7 +118,15 @@ impl Scratch {
         ensures group { (q : ℕ) → (has_bit result.now q ≡ true) ↔ HangsWith level.now boxes.now square q }
         ensures size { length result.now ≡ word_count self.old.size }
     {
-        group(level, boxes, square, &mut self.spare_boxes, &mut self.spare);
+        group(
+            level,
+            boxes,
+            square,
+            &mut self.spare_boxes,
+            &mut self.spare,
+            &mut self.marks,
+            &mut self.queue,
+        );
         self.spare.as_words_mut()
     }
 

@@ -75,12 +75,14 @@ module _ {File Output : Type 0} (opens : List ℕ → File → Type 0) (seen : F
   RunsEngine (Solve file search) result =
       RunsOn (IsOnlySolveReport search.config.cap search.config.limit search.number) file.now result
   RunsEngine (Best file search) result =
-      RunsOn (IsBestReport search.config.cap search.config.limit search.number) file.now result
+      RunsOn (IsBestReport search.config.moves search.config.cap search.config.limit search.number) file.now result
   RunsEngine (BestCollection file search) result =
-      RunsOnByLine (IsCollectionReport search.config.cap search.config.limit search.from search.to)
-      (BeginsCollectionReport search.config.cap search.config.limit search.from search.to) file.now result
+      RunsOnByLine
+      (IsCollectionReport search.config.moves search.config.cap search.config.limit search.from search.to)
+      (BeginsCollectionReport search.config.moves search.config.cap search.config.limit search.from search.to)
+      file.now result
   RunsEngine (Prove file solution search) result =
-      RunsOnTwo (IsProveReport search.limit search.number) search.number file.now solution.now result
+      RunsOnTwo (IsProveReport search.moves search.limit search.number) search.number file.now solution.now result
 
 -- a file of the request could not be opened, or memory ran out
 abbrev pub CannotOpenOne : Request → Trouble → Type 0

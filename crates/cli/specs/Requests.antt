@@ -16,7 +16,7 @@ use Rattle.cli.specs.declared.request.Request.TheVariants.{Check, Show, Dead, Re
 use Rattle.cli.specs.declared.request.Request.TheVariants.{Prove}
 use Rattle.cli.specs.declared.subcommands.Subcommand.{Subcommand}
 use Rattle.cli.specs.declared.subcommands.Subcommand.TheVariants as subcommand
-use Rattle.cli.specs.Words.{HasNumber, HasNumberOr, HasText, LacksText, MayHaveNumber, word_of}
+use Rattle.cli.specs.Words.{HasFlag, HasNumber, HasNumberOr, HasText, LacksText, MayHaveNumber, word_of}
 
 -- the level and the settings of `solve` are the numbers of the arguments
 pub record AsksToSolve (matches : ArgMatches) (search : SolveRequest) : Type 0 where
@@ -26,11 +26,13 @@ pub record AsksToSolve (matches : ArgMatches) (search : SolveRequest) : Type 0 w
   pub limit : HasNumber matches (codes "limit") MOST search.config.limit
   pub cap : MayHaveNumber matches (codes "max-pushes") MOST search.config.cap
 
--- the settings of a search of `best` are the numbers of the arguments
+-- the settings of a search of `best` are the numbers of the arguments; it looks for the fewest moves exactly if the flag
+-- is given
 pub record HasSettings (matches : ArgMatches) (config : SearchConfig) : Type 0 where
   pub workers : HasNumber matches (codes "workers") MOST_WORKERS config.workers
   pub limit : HasNumber matches (codes "limit") MOST config.limit
   pub cap : MayHaveNumber matches (codes "max-pushes") MOST config.cap
+  pub moves : HasFlag matches (codes "moves") config.moves
 
 -- the level and the settings of `best` are the numbers of the arguments, and no range of levels is given
 pub record AsksForLevel (matches : ArgMatches) (search : BestRequest) : Type 0 where
@@ -47,11 +49,13 @@ pub record AsksForLevels (matches : ArgMatches) (search : CollectionRequest) : T
   pub last : HasNumberOr matches (codes "to") MOST MOST search.to
   pub settings : HasSettings matches search.config
 
--- the level and the settings of `prove` are the numbers of the arguments
+-- the level and the settings of `prove` are the numbers of the arguments; it looks for the fewest moves exactly if the
+-- flag is given
 pub record AsksToProve (matches : ArgMatches) (search : ProveRequest) : Type 0 where
   pub level : HasNumber matches (codes "N") MOST search.number
   pub workers : HasNumber matches (codes "workers") MOST_WORKERS search.workers
   pub limit : HasNumber matches (codes "limit") MOST search.limit
+  pub moves : HasFlag matches (codes "moves") search.moves
 
 -- the arguments of a subcommand ask for this request: its paths are their texts, its numbers their numbers
 abbrev pub Asks : Subcommand → ArgMatches → Request → Type 0

@@ -1,5 +1,5 @@
 -- What the words of the command line say.
-use Rattle.std.specs.Prelude.{◌≡◌, ◌⊎◌, ℕ, ◌≤◌, List, codes, Option, Some, None}
+use Rattle.std.specs.Prelude.{◌≡◌, ◌⊎◌, ℕ, ◌≤◌, Bool, true, false, List, codes, Option, Some, None}
 use Rattle.std.specs.Str.Parse.{IsNumeral, digits_value}
 use Rattle.clap.specs.declared.parser.matches.ArgMatches.{ArgMatches}
 use Rattle.clap.specs.Matches.{found_of, first_value}
@@ -23,6 +23,11 @@ HasText matches name text = first_value (found_of matches) name ≡ Some text
 -- no argument has this name
 abbrev pub LacksText : ArgMatches → List ℕ → Type 0
 LacksText matches name = first_value (found_of matches) name ≡ None
+
+-- whether the flag with this name is given: then its text is `true`
+abbrev pub HasFlag : ArgMatches → List ℕ → Bool → Type 0
+HasFlag matches name true = HasText matches name (codes "true")
+HasFlag matches name false = ¬ (HasText matches name (codes "true"))
 
 -- the word is this number, in decimal digits alone, and the number is in a range
 pub record IsNumber (least most : ℕ) (word : List ℕ) (n : ℕ) : Type 0 where

@@ -1,5 +1,5 @@
 //! The operands and the options of the command line.
-use clap::Arg;
+use clap::{Arg, ArgAction};
 use layers::{MAX_SHARES, MAX_WORKERS};
 use std::alloc::Global;
 
@@ -78,6 +78,14 @@ pub(crate) fn to_option<'a>(alloc: Global) -> Arg<'a> {
         .long("to")
         .value_name("B")
         .help("Without N: the last level")
+}
+
+/// The option `--moves`.
+pub(crate) fn moves_option<'a>(alloc: Global) -> Arg<'a> {
+    Arg::new(alloc, "moves")
+        .long("moves")
+        .help("Also decides which moves are the fewest")
+        .action(ArgAction::SetTrue)
 }
 
 /// The option `--workers W`.

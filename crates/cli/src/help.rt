@@ -220,6 +220,16 @@ The first line says what was found:
   limit L reached, at least P pushes     Undecided: give a greater --limit. No
                                          solution has fewer than P pushes.";
 
+/// The reports with `--moves`, in the help of `best`.
+const FEWEST_MOVES: &str = "\
+With --moves, best then looks for the fewest moves among the solutions with P
+pushes, and the first line of a solution is one of these (exit status 0 and 4):
+  optimal P pushes, optimal S moves      No solution with P pushes has fewer
+                                         moves.
+  optimal P pushes, S moves, limit L reached
+                                         The moves are undecided. The second
+                                         line is a solution with P pushes.";
+
 /// The reports on all levels, in the help of `best`.
 const ALL_LEVELS: &str = "\
 Without N, best searches all levels of FILE, or those from --from to --to, one
@@ -228,14 +238,16 @@ after the other. It prints a line as soon as a level is decided, and the totals:
   8 unsolvable                           Level 8: the first line as above.
   9 fault K WORD                         Level 9 has a fault.
   T levels, .. optimal, .. unsolvable, .. open, .. not judged
-Open are the levels at the limit, not judged those with a fault or too many
-boxes. The exit status is 0 if all are optimal, else 4 if one is open, else 1.";
+Open are the levels with 'limit L reached', not judged those with a fault or
+too many boxes. The exit status is 0 if all are optimal, else 4 if one is open,
+else 1.";
 
 /// How `best` compares with `solve`, its memory, and examples, in the help of `best`.
 const BEST: &str = "\
-Several solutions can have the fewest pushes. best writes one of them, which is
-not always the one with the fewest moves. 'sokopar solve' writes the first of
-them in a fixed order and counts positions, and usually needs more positions.
+Several solutions can have the fewest pushes. Without --moves, best writes one
+of them, which is not always the one with the fewest moves. 'sokopar solve'
+writes the first of them in a fixed order and counts positions, and usually
+needs more positions.
 
 With --max-pushes M the search looks only for solutions with at most M pushes.
 
@@ -243,10 +255,15 @@ The search counts the positions that it stores, and stops when they exceed the
 limit. In rooms of ordinary size a position takes as much memory as in 'sokopar
 solve', and tables take up to 270 MB more. A position takes 10 to 60
 microseconds, so the default limit takes up to a minute. In open rooms with 30
-boxes or more it takes up to 200 microseconds.
+boxes or more it takes up to 200 microseconds. More workers than free processors
+make the search slower.
+
+--moves may take two to five times as long, on few levels much more. Its search
+has the same limit, for positions with the exact square of the player.
 
 Examples:
   sokopar best levels.xsb 1
+  sokopar best levels.xsb 1 --moves
   sokopar best levels.xsb 1 --limit 5000000
   sokopar best levels.xsb --from 5 --to 10
   sokopar best levels.xsb 1 | tail -n +2 |
@@ -257,7 +274,7 @@ fn best_notes(alloc: Global) -> Result<String, AllocError> {
     format!(in alloc;
         "{FEWEST}\n  \
           too many boxes                         The level has more than {MAX_BOXES} boxes.\n\n\
-        {ALL_LEVELS}\n\n{BEST}"
+        {FEWEST_MOVES}\n\n{ALL_LEVELS}\n\n{BEST}"
     )
 }
 
@@ -273,6 +290,26 @@ pushes. P and S are its pushes and moves:
                                          Undecided: give a greater --limit. No
                                          solution has fewer than K pushes.";
 
+/// The reports with `--moves`, in the help of `prove`.
+const MOVES_JUDGED: &str = "\
+With --moves, it also says whether the solution has, of all with the fewest
+pushes, the fewest moves. The exit status is 0 for the first of these lines, 1
+if the line begins with 'not', else 4:
+  optimal P pushes, optimal S moves      No solution has fewer pushes, and none
+                                         with P pushes has fewer moves.
+  optimal P pushes, S moves, limit L reached
+                                         No solution has fewer pushes. The moves
+                                         are undecided.
+  not optimal P pushes, S moves, optimal F pushes, optimal T moves
+                                         The second line is a solution with F
+                                         pushes and T moves. No solution has
+                                         fewer pushes, and none with F pushes
+                                         has fewer moves.
+  not optimal P pushes, S moves, optimal F pushes, T moves, limit L reached
+                                         The second line is a solution with F
+                                         pushes. No solution has fewer. The
+                                         moves are undecided.";
+
 /// How `prove` compares with `replay` and `best`, its memory, and examples, in the help of `prove`.
 const PROOF: &str = "\
 If SOLUTION does not solve the level, prove writes what 'sokopar replay' writes,
@@ -281,10 +318,11 @@ with the same exit status.
 A known solution bounds the search: prove usually needs fewer positions than
 'sokopar best'. The search counts the positions that it stores, and stops when
 they exceed the limit. A position takes as much time and memory as in 'sokopar
-best'.
+best', and workers and --moves cost as much as there.
 
 Examples:
   sokopar prove levels.xsb 1 solution.lurd
+  sokopar prove levels.xsb 1 solution.lurd --moves
   sokopar prove levels.xsb 1 solution.lurd --limit 50000000";
 
 /// The end of the help of `prove`.
@@ -292,6 +330,6 @@ fn prove_notes(alloc: Global) -> Result<String, AllocError> {
     format!(in alloc;
         "{JUDGEMENTS}\n  \
           too many boxes                         The level has more than {MAX_BOXES} boxes.\n\n\
-        {PROOF}"
+        {MOVES_JUDGED}\n\n{PROOF}"
     )
 }

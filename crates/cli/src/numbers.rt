@@ -1,6 +1,6 @@
-//! The texts and the numbers of a command line.
+//! The texts, the numbers and the flags of a command line.
 ghost use Rattle.std.specs.Prelude.{◌≡◌, ◌==◌, ℕ, List, Option, IfOk, OnOk, OnErr, IfSome, IfNone, codes, slice_index};
-ghost use Rattle.cli.specs.Words.{HasNumber, HasNumberOr, HasText, IsNumber, LacksText, MayHaveNumber};
+ghost use Rattle.cli.specs.Words.{HasFlag, HasNumber, HasNumberOr, HasText, IsNumber, LacksText, MayHaveNumber};
 ghost use Rattle.cli.specs.declared.arguments.TheConstants.{MOST};
 
 use crate::arguments::MOST;
@@ -142,6 +142,16 @@ pub(crate) fn cap_of<'a>(matches: &ArgMatches<'a>) -> Result<Option<u32>, BadArg
             least: 0,
             most: MOST,
         }),
+    }
+}
+
+/// Whether the flag with this name is given.
+pub(crate) fn has_flag(matches: &ArgMatches<'_>, name: &str) -> bool
+    ensures { HasFlag matches.now name.now result }
+{
+    match matches.get_str(name) {
+        Some("true") => true,
+        _ => false,
     }
 }
 

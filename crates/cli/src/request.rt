@@ -7,7 +7,9 @@ ghost use Rattle.cli.specs.declared.arguments.TheConstants.{MOST, MOST_WORKERS};
 
 use crate::arguments::{MOST, MOST_LOCKS, MOST_WORKERS};
 use crate::help::Notes;
-use crate::numbers::{BadArgument, cap_of, lacks, number_of, number_or, text_of, words_of};
+use crate::numbers::{
+    BadArgument, cap_of, has_flag, lacks, number_of, number_or, text_of, words_of,
+};
 use crate::subcommands::{Subcommand, command, usage_of};
 use clap::error::ErrorKind;
 use clap::{ArgMatches, Error};
@@ -128,10 +130,12 @@ fn settings_of<'a>(matches: &ArgMatches<'a>) -> Result<SearchConfig, BadArgument
     let workers = workers_of(matches)?;
     let limit = limit_of(matches)?;
     let cap = cap_of(matches)?;
+    let moves = has_flag(matches, "moves");
     Ok(SearchConfig {
         workers: workers as u8,
         limit,
         cap,
+        moves,
     })
 }
 
@@ -186,10 +190,12 @@ fn prove_request<'a>(matches: &ArgMatches<'a>) -> Result<ProveRequest, BadArgume
     let number = level_of(matches)?;
     let workers = workers_of(matches)?;
     let limit = limit_of(matches)?;
+    let moves = has_flag(matches, "moves");
     Ok(ProveRequest {
         number,
         workers: workers as u8,
         limit,
+        moves,
     })
 }
 

@@ -3,8 +3,8 @@ ghost use Rattle.std.specs.Prelude.{◌≡◌, ◌≢◌, IfSome, IfNone};
 ghost use Rattle.cli.specs.Words.{word_of};
 
 use crate::arguments::{
-    file_operand, from_option, limit_option, locks_option, max_pushes_option, number_operand,
-    optional_number_operand, solution_operand, to_option, workers_option,
+    file_operand, from_option, limit_option, locks_option, max_pushes_option, moves_option,
+    number_operand, optional_number_operand, solution_operand, to_option, workers_option,
 };
 use crate::help;
 use crate::help::Notes;
@@ -109,7 +109,8 @@ impl Subcommand {
             Subcommand::Best => with_search(alloc, line),
             Subcommand::Prove => with_solution(alloc, line)?
                 .arg(workers_option(alloc))?
-                .arg(limit_option(alloc)),
+                .arg(limit_option(alloc))?
+                .arg(moves_option(alloc)),
         }
     }
 }
@@ -151,7 +152,8 @@ fn with_search<'a>(alloc: Global, line: Command<'a>) -> Result<Command<'a>, Allo
         .arg(to_option(alloc))?
         .arg(workers_option(alloc))?
         .arg(limit_option(alloc))?
-        .arg(max_pushes_option(alloc))
+        .arg(max_pushes_option(alloc))?
+        .arg(moves_option(alloc))
 }
 
 /// The program's command line without its subcommands.

@@ -5,7 +5,7 @@ use Rattle.layers.specs.LayerView.{LayerView}
 use Rattle.layers.specs.BookView.{BookView}
 use Rattle.layers.specs.Books.{AreAllShares, IsJoinOf, MayBegin}
 use Rattle.solo.specs.Answers.{IsAnswer}
-use Rattle.solo.specs.inside.Searched.{ComesNext, IsExamined, SearchView, with_layer}
+use Rattle.solo.specs.inside.Searched.{IsNextLayer, IsExamined, SearchView, with_layer}
 use Rattle.solo.specs.declared.answer.Answer.TheVariants.{Limit}
 use Rattle.solo.specs.declared.ranks.Worked.TheVariants.{Through, Over}
 use Rattle.solo.proofs.lemmas.Iterations as Solo
@@ -20,7 +20,7 @@ module _ (config : Config) (s : SearchView) (books : List BookView) (limits : Is
   joinable = Solo.all_shares s (config.workers + 1) config.locks books limits.locks.0 paused
 
   -- their last closed layer comes next
-  pub next_layer : (layer : LayerView) → IsJoinOf books layer → ComesNext s layer
+  pub next_layer : (layer : LayerView) → IsJoinOf books layer → IsNextLayer s layer
   next_layer layer join = Solo.next_of s (config.workers + 1) config.locks books layer limits.locks.0 paused join
 
   -- each of them may begin it
@@ -28,12 +28,12 @@ module _ (config : Config) (s : SearchView) (books : List BookView) (limits : Is
   begins layer join = Solo.may_begin s (config.workers + 1) config.locks books layer paused (next_layer layer join)
 
 -- once a layer was examined, and its ranks are done in books that came back, these are between two iterations again
-pub goes_on : (config : Config) (s : SearchView) (layer : LayerView) (after : List BookView) → ComesNext s layer → AreWorkedBy config s layer Through after →
+pub goes_on : (config : Config) (s : SearchView) (layer : LayerView) (after : List BookView) → IsNextLayer s layer → AreWorkedBy config s layer Through after →
     ArePausedBy config (with_layer s layer) after
 goes_on config s layer after next worked = Solo.goes_on s (config.workers + 1) config.locks after layer next worked
 
 -- or they pass the limit, one of them or all together, and the answer is the limit
-pub ends_over : (config : Config) (s : SearchView) (layer : LayerView) (after : List BookView) → IsWithinLimits config → ComesNext s layer →
+pub ends_over : (config : Config) (s : SearchView) (layer : LayerView) (after : List BookView) → IsWithinLimits config → IsNextLayer s layer →
     IsExamined s layer → AreWorkedBy config s layer Over after → IsAnswer s.task s.limit Limit
 ends_over config s layer after limits next examined (before, dealt, working, finished) = elim finished [
   | inl over ↦ Solo.ends_over s (config.workers + 1) config.locks after layer next examined (before, dealt, working, over)

@@ -5,7 +5,7 @@ use Rattle.grid.specs.declared.dir.Dir.TheVariants.{D, L, R, U}
 use Rattle.grid.specs.Squares.{Squares}
 use Rattle.grid.specs.Board.{Board}
 use Rattle.doom.specs.Deadlocks.{IsHeld}
-use Rattle.doom.specs.Loose.{IsBlocked}
+use Rattle.doom.specs.Loose.{IsHeldBothWays}
 use Rattle.doom.specs.inside.Locking.{AreWithin}
 
 -- what blocks a square among some blocks it among more
@@ -25,7 +25,7 @@ held_back (inr (inr (c, d))) = inr (inr (d, c))
 
 -- both axes make all directions
 pub blocked_by_axes : (board : Board) (members : Squares) (q : ℕ) → IsHeld board members q R → IsHeld board members q D
-    → IsBlocked board members q
+    → IsHeldBothWays board members q
 blocked_by_axes board members q across along D = along
 blocked_by_axes board members q across along L = held_back across
 blocked_by_axes board members q across along R = across

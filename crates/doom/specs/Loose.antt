@@ -7,14 +7,14 @@ use Rattle.grid.specs.Board.{Board}
 use Rattle.doom.specs.Deadlocks.{IsDead, IsHeld, Doomed}
 
 -- the square is held on both axes
-abbrev pub IsBlocked : Board → Squares → ℕ → Type 0
-IsBlocked board members q = (d : Dir) → IsHeld board members q d
+abbrev pub IsHeldBothWays : Board → Squares → ℕ → Type 0
+IsHeldBothWays board members q = (d : Dir) → IsHeld board members q d
 
 -- a box on the square, among these boxes: the square is not dead, and on some axis neither a wall nor one of the
 -- boxes nor two dead squares hold it
 pub record IsLoose (board : Board) (boxes : Squares) (q : ℕ) : Type 0 where
   pub live : ¬ (IsDead board q)
-  pub free : ¬ (IsBlocked board boxes q)
+  pub free : ¬ (IsHeldBothWays board boxes q)
 
 -- boxes that are not doomed still are not when one of them comes to a square where it is loose
 abbrev pub LooseDoomsNothing : Board → Type 0

@@ -4,7 +4,6 @@ ghost use Rattle.std.specs.List.{list_all};
 ghost use Rattle.grid.specs.Lawful.{row_count, box_count, HasFault, InRoom, IsLevel};
 ghost use Rattle.grid.specs.States.{FitsLevel, has_box};
 ghost use Rattle.grid.specs.inside.AroundView.{around_of};
-ghost use Rattle.grid.specs.Masks.{AreMasks};
 ghost use Rattle.grid.specs.RoomMask.{IsRoomMask};
 
 use crate::around::{Around, neighbours};
@@ -13,19 +12,18 @@ use crate::cell::Cell;
 use crate::dir::Dir;
 use crate::fault::LevelFault;
 use crate::limits::MAX_SQUARES;
-use crate::masks::{StepMasks, masks_of, room_mask_of};
+use crate::masks::room_mask_of;
 use crate::square::Square;
 use std::alloc::{AllocError, Global};
 use std::marker::Model;
 
 /// A lawful level: one player, at least one box, as many boxes as goals, and no way from the player to the edge of
 /// the grid. It is a [`Board`] with the tables that a search needs: the neighbours of each square, so that a step needs
-/// no division, and step masks and a room mask, so that a flood works on words.
+/// no division, and a mask of the player's room, so that a flood works on words.
 #[derive(Debug, Drop)]
 pub struct Level {
     board: Board,
     around: Vec<Around>,
-    masks: Vec<StepMasks>,
     room: Vec<u64>,
 }
 
@@ -61,12 +59,10 @@ impl Level {
         ensures { IfOk result (λ level. level ≡ board) }
     {
         let around = neighbours(alloc, board.cols(), board.cells())?;
-        let masks = masks_of(alloc, board.cols(), board.cells(), around.as_slice())?;
         let room = room_mask_of(alloc, &board)?;
         Ok(Level {
             board,
             around,
-            masks,
             room,
         })
     }
@@ -175,13 +171,6 @@ impl Level {
         self.around[square.0 as usize]
     }
 
-    /// The squares that a step in each direction can lead to, as bits of words.
-    pub fn step_masks(&self) -> &[StepMasks]
-        ensures { AreMasks self.now result.now }
-    {
-        self.masks.as_slice()
-    }
-
     /// The squares of the player's room as bits of words: bit i of word k is the square `WORD_BITS * k + i`.
     pub fn room_mask(&self) -> &[u64]
         ensures { IsRoomMask self.now result.now }
@@ -203,7 +192,6 @@ impl Level {
         Ok(Level {
             board: self.board.copy()?,
             around: self.around.clone()?,
-            masks: self.masks.clone()?,
             room: self.room.clone()?,
         })
     }

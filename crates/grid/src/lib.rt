@@ -37,7 +37,7 @@ pub use dir::Dir;
 pub use fault::LevelFault;
 pub use level::Level;
 pub use limits::{MAX_BOXES, MAX_COLS, MAX_ROWS, MAX_SQUARES};
-pub use masks::{StepMasks, WORD_BITS};
+pub use masks::WORD_BITS;
 pub use moves::{Letter, Moves};
 pub use position::Position;
 pub use square::{Push, Square};

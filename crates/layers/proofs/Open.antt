@@ -9,7 +9,7 @@ use Rattle.std.specs.Ordering.{ordering_reverse, is_gt, is_lt}
 use Rattle.std.specs.Cmp.{IsTotalOrder}
 use Rattle.successors.specs.Layered.{IsIn}
 use Rattle.store.specs.Entries.{Origin, origin_cmp, lesser, Entry}
-use Rattle.layers.specs.Openings.{IsNext, IsOpen}
+use Rattle.layers.specs.Openings.{IsNext, IsOpening}
 use Rattle.store.proofs.lemmas.Origins.{origin_total, best}
 
 module _ {P : Type 0} {cmp : P → P → Ordering} (total : IsTotalOrder cmp) where
@@ -59,7 +59,7 @@ module _ {P : Type 0} {cmp : P → P → Ordering} (total : IsTotalOrder cmp) wh
 pub reoffered : {N P : Type 0} {cmp : P → P → Ordering} {Edge : N → P → N → Type 0} {Kept : N → Type 0} {layer : ℕ → List N} {k : ℕ} {Offered : ℕ → P →
     Type 0} {look : N → Option (Origin P)} (Others : ℕ → P → Type 0) →
     ((r : ℕ) (p : P) → Offered r p → Others r p) → ((r : ℕ) (p : P) (n m : N) → Others r p → slice_get (layer k) r ≡ Some n → Edge n p m → Kept m →
-    Offered r p) → IsOpen cmp Edge Kept layer k Offered look → IsOpen cmp Edge Kept layer k Others look
+    Offered r p) → IsOpening cmp Edge Kept layer k Offered look → IsOpening cmp Edge Kept layer k Others look
 reoffered Others more fewer o = record {
   from = λ m r p e. (let f = o.from m r p e in (f.0, more r p f.1, f.2));
   fresh = o.fresh;
@@ -69,10 +69,10 @@ reoffered Others more fewer o = record {
 
 -- one origin more is offered
 module _ {N P : Type 0} {cmp : P → P → Ordering} {Edge : N → P → N → Type 0} {Kept : N → Type 0} {layer : ℕ → List N} {k : ℕ} {Offered : ℕ → P →
-    Type 0} {look : N → Option (Origin P)} (total : IsTotalOrder cmp) (o : IsOpen cmp Edge Kept layer k Offered look)
+    Type 0} {look : N → Option (Origin P)} (total : IsTotalOrder cmp) (o : IsOpening cmp Edge Kept layer k Offered look)
     (r₀ : ℕ) (p₀ : P) (n₀ m₀ : N) (at : slice_get (layer k) r₀ ≡ Some n₀) (edge : Edge n₀ p₀ m₀) (one : (m : N) → Edge n₀ p₀ m → m ≡ m₀) where
   -- an origin of a place that is not kept, or stands in a layer, changes nothing
-  pub offer_nothing : (Kept m₀ → (j : ℕ) × (j ≤ k) × IsIn (layer j) m₀) → IsOpen cmp Edge Kept layer k (λ r p. Offered r p ⊎ ((r ≡ r₀) × (p ≡ p₀))) look
+  pub offer_nothing : (Kept m₀ → (j : ℕ) × (j ≤ k) × IsIn (layer j) m₀) → IsOpening cmp Edge Kept layer k (λ r p. Offered r p ⊎ ((r ≡ r₀) × (p ≡ p₀))) look
   offer_nothing old = record {
     from = λ m r p e. (let f = o.from m r p e in (f.0, inl f.1, f.2));
     fresh = o.fresh;
@@ -92,7 +92,7 @@ module _ {N P : Type 0} {cmp : P → P → Ordering} {Edge : N → P → N → T
 
   -- an origin of a place that is kept and stands in no layer is entered, or lessens what is there
   pub offer_one : Kept m₀ → ((j : ℕ) → j ≤ k → ¬ (IsIn (layer j) m₀)) → (look' : N → Option (Origin P)) → look' m₀ ≡ Some (best cmp (look m₀) (r₀, p₀)) →
-      ((m : N) → (look' m ≡ look m) ⊎ (m ≡ m₀)) → IsOpen cmp Edge Kept layer k (λ r p. Offered r p ⊎ ((r ≡ r₀) × (p ≡ p₀))) look'
+      ((m : N) → (look' m ≡ look m) ⊎ (m ≡ m₀)) → IsOpening cmp Edge Kept layer k (λ r p. Offered r p ⊎ ((r ≡ r₀) × (p ≡ p₀))) look'
   offer_one kept new look' here others = record {
     from = λ m r p e. elim (others m) [
       | inl same ↦ (let f = o.from m r p (sym same ∙ e) in (f.0, inl f.1, f.2))
@@ -154,7 +154,7 @@ module _ {N P : Type 0} {cmp : P → P → Ordering} {Edge : N → P → N → T
 
 -- the open positions after every origin was offered, in the order of their origins, are the next layer
 pub closed_next : {N P : Type 0} {cmp : P → P → Ordering} {Edge : N → P → N → Type 0} {Kept : N → Type 0} {layer : ℕ → List N} {k : ℕ} {Offered : ℕ → P →
-    Type 0} {look : N → Option (Origin P)} → IsOpen cmp Edge Kept layer k Offered look →
+    Type 0} {look : N → Option (Origin P)} → IsOpening cmp Edge Kept layer k Offered look →
     ((r : ℕ) (n : N) (p : P) → slice_get (layer k) r ≡ Some n → Offered r p) → (ys : List (Entry N P)) →
     ((i : ℕ) (m : N) (p : Origin P) → slice_get ys i ≡ Some (m, p) → look m ≡ Some p) →
     ((m : N) (p : Origin P) → look m ≡ Some p → (i : ℕ) × (slice_get ys i ≡ Some (m, p))) →

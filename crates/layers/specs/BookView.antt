@@ -11,7 +11,7 @@ use Rattle.layers.specs.declared.limits.TheConstants.{MAX_WORKERS, MOST_POSITION
 use Rattle.successors.specs.Layered.{IsIn, IsLayer}
 use Rattle.store.specs.Entries.{Origin, Entry, Closed, places_of, origin_of}
 use Rattle.successors.specs.Distances.{AreDistinct, IsAtDistance}
-use Rattle.layers.specs.Openings.{IsOpen}
+use Rattle.layers.specs.Openings.{IsOpening}
 use Rattle.successors.specs.Tasks.{Task}
 use Rattle.successors.specs.Capping.{Admits}
 use Rattle.successors.specs.Reaching.{Reaches, AreLayersOf, total}
@@ -103,7 +103,7 @@ pub record IsLawfulBook (v : BookView) : Type 0 where
       × (length v.done ≡ length (slice_index_or wholes (last_layer v) []))
   pub not_begun : v.begun ≡ false → (length wholes ≡ last_layer v) × (v.claimed ≡ []) × (v.done ≡ []) × (v.waiting ≡ [])
   pub waiting : v.begun ≡ true →
-      IsOpen push_cmp (IsSuccessor v.level.board) (IsKept v) (λ j. slice_index_or wholes j []) (last_layer v)
+      IsOpening push_cmp (IsSuccessor v.level.board) (IsKept v) (λ j. slice_index_or wholes j []) (last_layer v)
       (λ r p. IsDone v r)
       (origin_of v.waiting)
   pub distinct : AreDistinct (map (λ e. e.0) v.waiting)

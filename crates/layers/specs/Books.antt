@@ -130,8 +130,8 @@ abbrev pub IsAtWork : BookView → ParcelView → Type 0
 IsAtWork v parcel = (parcel.level ≡ v.level) × (parcel.layer ≡ last_layer v) × (parcel.rank < length v.done)
 
 -- the book is over, or would hold more positions than its limit
-abbrev pub PassesLimit : BookView → ParcelView → Type 0
-PassesLimit v parcel =
+abbrev pub ExceedsLimit : BookView → ParcelView → Type 0
+ExceedsLimit v parcel =
     (v.over ≡ true) ⊎ (v.limit < total v.closed + length (all_entered v parcel.rank parcel.successors))
 
 -- only running out of memory can refuse the parcel
@@ -146,7 +146,7 @@ HandBackRefused v parcel OtherLayer = (parcel.level ≡ v.level) × (parcel.laye
 HandBackRefused v parcel NoSuchRank =
     (parcel.level ≡ v.level) × (parcel.layer ≡ last_layer v) × (length v.done ≤ parcel.rank)
 HandBackRefused v parcel Double = IsAtWork v parcel × (slice_get v.done parcel.rank ≡ Some true)
-HandBackRefused v parcel Over = IsAtWork v parcel × (slice_get v.done parcel.rank ≡ Some false) × PassesLimit v parcel
+HandBackRefused v parcel Over = IsAtWork v parcel × (slice_get v.done parcel.rank ≡ Some false) × ExceedsLimit v parcel
 HandBackRefused v parcel OutOfMemory = MayEnter v parcel
 
 -- a refused parcel changes nothing, except that Over marks the book over

@@ -26,7 +26,7 @@ pub record IsNext {N P : Type 0} (cmp : P → P → Ordering) (Edge : N → P �
 
 -- the open positions after some origins were offered: the kept successors with these origins that are in no layer up to
 -- k, each with its least origin.  look m is the origin of m, if m is open.
-pub record IsOpen {N P : Type 0} (cmp : P → P → Ordering) (Edge : N → P → N → Type 0) (Kept : N → Type 0)
+pub record IsOpening {N P : Type 0} (cmp : P → P → Ordering) (Edge : N → P → N → Type 0) (Kept : N → Type 0)
     (layer : ℕ → List N) (k : ℕ) (Offered : ℕ → P →
     Type 0) (look : N → Option (Origin P)) : Type 0 where
   pub from : (m : N) (r : ℕ) (p : P) → look m ≡ Some (r, p) → Kept m × Offered r p ×

@@ -19,6 +19,9 @@ const HALL: BoardText = (6, b"#######.$  ##    ##   @#######");
 
 const LOOP: BoardText = (8, b"############   ##.@$   #####   #########");
 
+// A corridor with floor outside it, at the left and at the right end of each row.
+const ENDS: BoardText = (7, b" #####  #@$.#  ##### ");
+
 // A hall with two boxes.
 const PAIR: BoardText = (6, b"#######@   ##$#  ## $..#######");
 
@@ -40,10 +43,12 @@ fn is_text(moves: &Moves, text: &[u8]) -> bool {
 
 #[test]
 fn normal_positions_have_the_least_square_of_the_area(rt: HostRuntime) {
-    let rows: [(BoardText, u16, u16, u16); 3] = [
+    let rows: [(BoardText, u16, u16, u16); 5] = [
         (HALL, 8, 22, 7),
         (LOOP, 21, 20, 12),
         (LOOP, 19, 18, 17),
+        (ENDS, 10, 20, 6),
+        (ENDS, 13, 20, 20),
     ];
     for (board, box_square, player, least) in rows {
         let level = level_of(&rt, rt.alloc(), board);
@@ -94,12 +99,13 @@ fn pushed(level: &Level, position: &Position, push: Push, scratch: &mut Scratch)
 
 #[test]
 fn after_a_push_the_normal_position_is_that_of_a_flood(rt: HostRuntime) {
-    let rows: [(BoardText, u16, u16, Dir, u16, u16); 5] = [
+    let rows: [(BoardText, u16, u16, Dir, u16, u16); 6] = [
         (HALL, 8, 9, Dir::L, 7, 8),
         (HALL, 9, 10, Dir::L, 8, 7),
         (HALL, 9, 7, Dir::R, 10, 7),
         (LOOP, 19, 18, Dir::R, 20, 17),
         (LOOP, 20, 19, Dir::R, 21, 12),
+        (ENDS, 13, 6, Dir::D, 20, 6),
     ];
     for (board, from, player, dir, to, least) in rows {
         let level = level_of(&rt, rt.alloc(), board);

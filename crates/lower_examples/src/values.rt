@@ -7,10 +7,9 @@ use grid::{Dir, Letter, Moves, Position, Square};
 const HALL: BoardText = (6, b"#######.$  ##    ##   @#######");
 
 #[test]
-fn levels_have_masks_and_a_room(rt: HostRuntime) {
+fn levels_have_a_room(rt: HostRuntime) {
     let level = level_of(&rt, rt.alloc(), HALL);
     assert!(&rt; level.squares() == 30);
-    assert!(&rt; !level.step_masks().is_empty());
     let room = level.room_mask();
     assert!(&rt; has(room, Square(8)) && !has(room, Square(6)));
 }

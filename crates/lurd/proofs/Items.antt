@@ -8,7 +8,7 @@ use Rattle.grid.specs.declared.moves.Letter.{Letter}
 use Rattle.counts.specs.Counts.{AreDigits, IsCount, begins_with_digit, repeats}
 use Rattle.counts.proofs.lemmas.Digits.{digit_count, digits_in_front, no_digit_behind}
 use Rattle.lurd.specs.declared.limits.TheConstants.{MAX_MOVES}
-use Rattle.lurd.specs.Text.{byte_of, is_blank, item, spelling, BeginsWithLetter, BeginsBadly, BeginsWithBadCount, BeginsWithTooMany}
+use Rattle.lurd.specs.Text.{letter_byte, is_skipped, item, spelling, BeginsWithLetter, BeginsBadly, BeginsWithBadCount, BeginsWithTooMany}
 use Rattle.lurd.specs.inside.Item.{TakesItem}
 
 no_digit_by : (n : ℕ) (v : Bool) → cond v (1 + n) 0 ≡ 0 → v ≡ false
@@ -16,7 +16,7 @@ no_digit_by n true none = absurd (omega (arith, none))
 no_digit_by n false none = refl
 
 -- a byte that is no blank, no digit and no letter is bad
-pub bad_byte : (bytes : List ℕ) → 0 < length bytes → is_blank (slice_index bytes 0) ≡ false → digit_count bytes ≡ 0 → ¬ (BeginsWithLetter bytes) →
+pub bad_byte : (bytes : List ℕ) → 0 < length bytes → is_skipped (slice_index bytes 0) ≡ false → digit_count bytes ≡ 0 → ¬ (BeginsWithLetter bytes) →
     BeginsBadly bytes
 bad_byte [] some blank none letter = absurd (omega (arith, some))
 bad_byte (b ∷ bs) some blank none letter = record {
@@ -42,13 +42,13 @@ bad_count bytes n is some bad = record {
 }
 
 -- the bytes are digits, a letter, and more
-pub cut_at_letter : (bytes : List ℕ) (n : ℕ) (letter : Letter) (more : List ℕ) → drop n bytes ≡ byte_of letter ∷ more →
+pub cut_at_letter : (bytes : List ℕ) (n : ℕ) (letter : Letter) (more : List ℕ) → drop n bytes ≡ letter_byte letter ∷ more →
     bytes ≡ spelling (item (take n bytes) letter) ++ more
 cut_at_letter bytes n letter more is =
-    sym (take-append-drop n bytes) ∙ (ap (λ ys. take n bytes ++ ys) is ∙ sym (append_assoc (take n bytes) (byte_of letter ∷ []) more))
+    sym (take-append-drop n bytes) ∙ (ap (λ ys. take n bytes ++ ys) is ∙ sym (append_assoc (take n bytes) (letter_byte letter ∷ []) more))
 
 -- a letter that brings the moves above the greatest number
-pub too_many : (bytes : List ℕ) (moves n times : ℕ) (letter : Letter) (more : List ℕ) → drop n bytes ≡ byte_of letter ∷ more → (take n bytes ≡ []) ⊎
+pub too_many : (bytes : List ℕ) (moves n times : ℕ) (letter : Letter) (more : List ℕ) → drop n bytes ≡ letter_byte letter ∷ more → (take n bytes ≡ []) ⊎
     IsCount (take n bytes) → times ≡ repeats (take n bytes) → MAX_MOVES < moves + times → BeginsWithTooMany moves bytes
 too_many bytes moves n times letter more is lawful counted above = record {
   digits = take n bytes;
@@ -60,7 +60,7 @@ too_many bytes moves n times letter more is lawful counted above = record {
 }
 
 -- a letter that does not
-pub takes_item : (bytes : List ℕ) (moves n times : ℕ) (letter : Letter) (more : List ℕ) → n ≡ digit_count bytes → drop n bytes ≡ byte_of letter ∷ more →
+pub takes_item : (bytes : List ℕ) (moves n times : ℕ) (letter : Letter) (more : List ℕ) → n ≡ digit_count bytes → drop n bytes ≡ letter_byte letter ∷ more →
     (take n bytes ≡ []) ⊎ IsCount (take n bytes) → times ≡ repeats (take n bytes) → moves + times ≤ MAX_MOVES → TakesItem moves bytes letter times (n + 1)
 takes_item bytes moves n times letter more count is lawful counted few = record {
   digits = take n bytes;
@@ -70,7 +70,7 @@ takes_item bytes moves n times letter more count is lawful counted few = record 
   counted = counted;
   taken =
       let len : length (take n bytes) ≡ n = ap (λ k. length (take k bytes)) count ∙ (length-prefix_len is_ascii_digit bytes ∙ sym count) in
-      let all = length-append (take n bytes) (byte_of letter ∷ []) in
+      let all = length-append (take n bytes) (letter_byte letter ∷ []) in
       omega arith;
   few = few;
 }

@@ -8,10 +8,10 @@ use Rattle.grid.specs.declared.dir.Dir.{Dir}
 use Rattle.grid.specs.declared.dir.Dir.TheVariants.{D, L, R, U}
 use Rattle.grid.specs.declared.moves.Letter.{Letter}
 use Rattle.lurd.specs.inside.Item.{IsLetterByte}
-use Rattle.lurd.specs.Text.{byte_of, is_blank}
+use Rattle.lurd.specs.Text.{letter_byte, is_skipped}
 use Rattle.lurd.proofs.Leading.{letter_by}
 
-no_digit_by : (d : Dir) (b : Bool) → is_ascii_digit (byte_of (letter_by d b)) ≡ false
+no_digit_by : (d : Dir) (b : Bool) → is_ascii_digit (letter_byte (letter_by d b)) ≡ false
 no_digit_by D true = refl
 no_digit_by L true = refl
 no_digit_by R true = refl
@@ -22,10 +22,10 @@ no_digit_by R false = refl
 no_digit_by U false = refl
 
 -- a letter's byte is no digit
-pub letter_no_digit : (x : Letter) → is_ascii_digit (byte_of x) ≡ false
+pub letter_no_digit : (x : Letter) → is_ascii_digit (letter_byte x) ≡ false
 letter_no_digit x = no_digit_by x.dir x.push
 
-no_blank_by : (d : Dir) (b : Bool) → is_blank (byte_of (letter_by d b)) ≡ false
+no_blank_by : (d : Dir) (b : Bool) → is_skipped (letter_byte (letter_by d b)) ≡ false
 no_blank_by D true = refl
 no_blank_by L true = refl
 no_blank_by R true = refl
@@ -36,11 +36,11 @@ no_blank_by R false = refl
 no_blank_by U false = refl
 
 -- and no blank
-pub letter_no_blank : (x : Letter) → is_blank (byte_of x) ≡ false
+pub letter_no_blank : (x : Letter) → is_skipped (letter_byte x) ≡ false
 letter_no_blank x = no_blank_by x.dir x.push
 
 -- a blank is no digit
-pub blank_no_digit : (b : ℕ) → is_blank b ≡ true → is_ascii_digit b ≡ false
+pub blank_no_digit : (b : ℕ) → is_skipped b ≡ true → is_ascii_digit b ≡ false
 blank_no_digit b is = grind (arith, nat_tests)
 
 -- the letters, and the one that a byte writes
@@ -50,9 +50,9 @@ letters_all = letter_by D true ∷ letter_by L true ∷ letter_by R true ∷ let
 
 abbrev find_letter : ℕ → List Letter → Option Letter
 find_letter b [] = None
-find_letter b (x ∷ xs) = cond (eqb (byte_of x) b) (Some x) (find_letter b xs)
+find_letter b (x ∷ xs) = cond (eqb (letter_byte x) b) (Some x) (find_letter b xs)
 
-found_by : (d : Dir) (b : Bool) → find_letter (byte_of (letter_by d b)) letters_all ≡ Some (letter_by d b)
+found_by : (d : Dir) (b : Bool) → find_letter (letter_byte (letter_by d b)) letters_all ≡ Some (letter_by d b)
 found_by D true = refl
 found_by L true = refl
 found_by R true = refl
@@ -63,25 +63,25 @@ found_by R false = refl
 found_by U false = refl
 
 -- two letters with one byte are one
-pub one_letter : (x y : Letter) → byte_of x ≡ byte_of y → x ≡ y
+pub one_letter : (x y : Letter) → letter_byte x ≡ letter_byte y → x ≡ y
 one_letter x y same =
-    let a : find_letter (byte_of x) letters_all ≡ Some x = found_by x.dir x.push in
-    let b : find_letter (byte_of y) letters_all ≡ Some y = found_by y.dir y.push in
+    let a : find_letter (letter_byte x) letters_all ≡ Some x = found_by x.dir x.push in
+    let b : find_letter (letter_byte y) letters_all ≡ Some y = found_by y.dir y.push in
     cc
 
-search_by : (b : ℕ) (x : Letter) (v : Bool) (rest : Option Letter) → eqb (byte_of x) b ≡ v → IsLetterByte b ⊎ (rest ≡ None) → IsLetterByte b ⊎
+search_by : (b : ℕ) (x : Letter) (v : Bool) (rest : Option Letter) → eqb (letter_byte x) b ≡ v → IsLetterByte b ⊎ (rest ≡ None) → IsLetterByte b ⊎
     (cond v (Some x) rest ≡ None)
-search_by b x true rest is more = inl (x, eqb-true (byte_of x) b is)
+search_by b x true rest is more = inl (x, eqb-true (letter_byte x) b is)
 search_by b x false rest is more = more
 
 search_letter : (b : ℕ) (xs : List Letter) → IsLetterByte b ⊎ (find_letter b xs ≡ None)
 search_letter b [] = inr refl
-search_letter b (x ∷ xs) = search_by b x (eqb (byte_of x) b) (find_letter b xs) refl (search_letter b xs)
+search_letter b (x ∷ xs) = search_by b x (eqb (letter_byte x) b) (find_letter b xs) refl (search_letter b xs)
 
 not_letter : (b : ℕ) → find_letter b letters_all ≡ None → ¬ (IsLetterByte b)
 not_letter b none (x, is) =
-    let there : find_letter (byte_of x) letters_all ≡ Some x = found_by x.dir x.push in
-    let here : find_letter (byte_of x) letters_all ≡ find_letter b letters_all = ap (λ c. find_letter c letters_all) is in
+    let there : find_letter (letter_byte x) letters_all ≡ Some x = found_by x.dir x.push in
+    let here : find_letter (letter_byte x) letters_all ≡ find_letter b letters_all = ap (λ c. find_letter c letters_all) is in
     cc
 
 -- a byte writes a letter or does not

@@ -14,7 +14,7 @@ use Rattle.counts.specs.NoCount.{IsNoCount}
 use Rattle.counts.proofs.lemmas.Digits.{digit_count, digits_in_front, SameRun, one_run, digits_of_count, count_or_not}
 use Rattle.lurd.specs.ExactlyOne.{ExactlyOne}
 use Rattle.lurd.specs.inside.Item.{TakesItem}
-use Rattle.lurd.specs.Text.{byte_of, is_blank, Piece, blank, item, spelling, meaning, IsPiece, IsText, BeginsWithLetter, BeginsBadly, BeginsWithBadCount}
+use Rattle.lurd.specs.Text.{letter_byte, is_skipped, Piece, blank, item, spelling, meaning, IsPiece, IsText, BeginsWithLetter, BeginsBadly, BeginsWithBadCount}
 use Rattle.lurd.specs.Text.{BeginsWithTooMany, FaultsAt}
 use Rattle.lurd.specs.Parsing.{Reads}
 use Rattle.lurd.proofs.Items.{bad_byte, bad_count, too_many, takes_item}
@@ -22,15 +22,15 @@ use Rattle.lurd.proofs.Letters.{letter_no_digit, letter_no_blank, blank_no_digit
 use Rattle.lurd.proofs.Texts.{text_of_nothing, text_and_piece}
 
 -- a piece's bytes and what follows, cut before the letter
-item_then : (ds : List ℕ) (x : Letter) (more : List ℕ) → spelling (item ds x) ++ more ≡ ds ++ byte_of x ∷ more
-item_then ds x more = append_assoc ds (byte_of x ∷ []) more
+item_then : (ds : List ℕ) (x : Letter) (more : List ℕ) → spelling (item ds x) ++ more ≡ ds ++ letter_byte x ∷ more
+item_then ds x more = append_assoc ds (letter_byte x ∷ []) more
 
 -- a blank is not the beginning of a letter and its count
-blank_or_item : (b : ℕ) (ds : List ℕ) (x : Letter) (m n : List ℕ) → is_blank b ≡ true → AreDigits ds → b ∷ m ≡ ds ++ byte_of x ∷ n → ⊥
+blank_or_item : (b : ℕ) (ds : List ℕ) (x : Letter) (m n : List ℕ) → is_skipped b ≡ true → AreDigits ds → b ∷ m ≡ ds ++ letter_byte x ∷ n → ⊥
 blank_or_item b [] x m n is all same =
-    let head : b ≡ byte_of x = cc in
+    let head : b ≡ letter_byte x = cc in
     let f = letter_no_blank x in
-    let g = ap is_blank head in
+    let g = ap is_skipped head in
     cc
 blank_or_item b (d ∷ ds) x m n is all same =
     let head : b ≡ d = cc in
@@ -51,11 +51,11 @@ one_piece (blank b) (blank c) m n is other same =
 one_piece (blank b) (item ds x) m n is other same = absurd (blank_or_item b ds x m n is (digits_of_count ds other) (same ∙ item_then ds x n))
 one_piece (item ds x) (blank c) m n is other same = absurd (blank_or_item c ds x n m other (digits_of_count ds is) (sym same ∙ item_then ds x m))
 one_piece (item ds x) (item es y) m n is other same =
-    let run = one_run ds es (byte_of x ∷ m) (byte_of y ∷ n) (digits_of_count ds is) (digits_of_count es other) (letter_no_digit x) (letter_no_digit y)
+    let run = one_run ds es (letter_byte x ∷ m) (letter_byte y ∷ n) (digits_of_count ds is) (digits_of_count es other) (letter_no_digit x) (letter_no_digit y)
     (sym (item_then ds x m) ∙ (same ∙ item_then es y n)) in
-    let left : byte_of x ∷ m ≡ byte_of y ∷ n = run.more in
+    let left : letter_byte x ∷ m ≡ letter_byte y ∷ n = run.more in
     let digits : ds ≡ es = run.digits in
-    let head : byte_of x ≡ byte_of y = cc in
+    let head : letter_byte x ≡ letter_byte y = cc in
     let letter : x ≡ y = one_letter x y head in
     record { piece = cc; more = cc }
 
@@ -63,12 +63,12 @@ bad_or_piece : (p : Piece) (bytes m : List ℕ) → BeginsBadly bytes → IsPiec
 bad_or_piece (blank b) bytes m bad is same =
     let cut = bad.cut in
     let head : bad.byte ≡ b = cc in
-    let f = ap is_blank head in
+    let f = ap is_skipped head in
     let g = bad.no_blank in
     cc
 bad_or_piece (item [] x) bytes m bad is same =
     let cut = bad.cut in
-    let head : byte_of x ≡ bad.byte = cc in
+    let head : letter_byte x ≡ bad.byte = cc in
     bad.no_letter x head
 bad_or_piece (item (d ∷ ds) x) bytes m bad is same =
     let cut = bad.cut in
@@ -89,7 +89,7 @@ bad_or_count bytes bad count =
     cc
 
 count_by_run : (digits more ds m : List ℕ) (x : Letter) → 1 ≤ length digits → (¬ (IsCount digits)) ⊎ (¬ (BeginsWithLetter more)) →
-    SameRun digits ds more (byte_of x ∷ m) → (ds ≡ []) ⊎ IsCount ds → ⊥
+    SameRun digits ds more (letter_byte x ∷ m) → (ds ≡ []) ⊎ IsCount ds → ⊥
 count_by_run digits more ds m x some bad run (inl none) = let f : length digits ≡ 0 = ap (λ (es : List ℕ). length es) (run.digits ∙ none) in omega arith
 count_by_run digits more ds m x some (inl bad) run (inr count) = bad (subst (λ (es : List ℕ). IsCount es) (sym run.digits) count)
 count_by_run digits more ds m x some (inr none) run (inr count) = none (x, m, run.more)
@@ -101,7 +101,7 @@ count_or_piece (blank b) bytes m bad is same =
     cc
 count_or_piece (item ds x) bytes m bad is same =
     count_by_run bad.digits bad.more ds m x bad.some bad.bad
-    (one_run bad.digits ds bad.more (byte_of x ∷ m) bad.all (digits_of_count ds is) bad.whole (letter_no_digit x) (sym bad.cut ∙ (same ∙ item_then ds x m))) is
+    (one_run bad.digits ds bad.more (letter_byte x ∷ m) bad.all (digits_of_count ds is) bad.whole (letter_no_digit x) (sym bad.cut ∙ (same ∙ item_then ds x m))) is
 
 many_or_piece : (p : Piece) (moves : ℕ) (bytes m : List ℕ) → BeginsWithTooMany moves bytes → IsPiece p → bytes ≡ spelling p ++ m →
     MAX_MOVES < moves + length (meaning p)
@@ -154,8 +154,8 @@ none_at_end place moves bytes (BadCount at) none fault =
     omega arith
 none_at_end place moves bytes TooManyMoves none fault =
     let cut = fault.cut ∙ item_then fault.digits fault.letter fault.more in
-    let f = length-append fault.digits (byte_of fault.letter ∷ fault.more) in
-    let g : length bytes ≡ length (fault.digits ++ byte_of fault.letter ∷ fault.more) = ap (λ (es : List ℕ). length es) cut in
+    let f = length-append fault.digits (letter_byte fault.letter ∷ fault.more) in
+    let g : length bytes ≡ length (fault.digits ++ letter_byte fault.letter ∷ fault.more) = ap (λ (es : List ℕ). length es) cut in
     let h : length bytes ≡ 0 = ap (λ (es : List ℕ). length es) none in
     omega arith
 none_at_end place moves bytes OutOfMemory none fault = fault
@@ -281,7 +281,7 @@ begins_or_not : (bytes : List ℕ) → BeginsWithLetter bytes ⊎ (¬ (BeginsWit
 begins_or_not [] = inr (λ (x, more, same). cc)
 begins_or_not (b ∷ bs) = elim (letter_or_not b) [
   | inl (x, is) ↦ inl (x, bs, ap (λ k. k ∷ bs) (sym is))
-  | inr none ↦ inr (λ (x, more, same). none (x, (let head : byte_of x ≡ b = cc in head)))
+  | inr none ↦ inr (λ (x, more, same). none (x, (let head : letter_byte x ≡ b = cc in head)))
 ]
 
 -- what stands where a letter may begin: a letter with its count, or a fault
@@ -289,12 +289,12 @@ abbrev ItemOrFault : ℕ → ℕ → List ℕ → Type 0
 ItemOrFault place moves bytes =
     ((x : Letter) × (times : ℕ) × (len : ℕ) × TakesItem moves bytes x times len) ⊎ ((fault : LurdFault) × FaultsAt place moves bytes fault)
 
-letterless : (place moves : ℕ) (b : ℕ) (bs : List ℕ) (n : ℕ) → is_blank b ≡ false → n ≡ digit_count (b ∷ bs) → ¬ (BeginsWithLetter (drop n (b ∷ bs))) →
+letterless : (place moves : ℕ) (b : ℕ) (bs : List ℕ) (n : ℕ) → is_skipped b ≡ false → n ≡ digit_count (b ∷ bs) → ¬ (BeginsWithLetter (drop n (b ∷ bs))) →
     ItemOrFault place moves (b ∷ bs)
 letterless place moves b bs zero no_blank count none = inr (BadByte place, (refl, bad_byte (b ∷ bs) (omega arith) no_blank (sym count) none))
 letterless place moves b bs (suc n) no_blank count none = inr (BadCount place, (refl, bad_count (b ∷ bs) (suc n) count (omega arith) (inr none)))
 
-with_letter : (place moves : ℕ) (bytes : List ℕ) (n : ℕ) (x : Letter) (more : List ℕ) → n ≡ digit_count bytes → drop n bytes ≡ byte_of x ∷ more →
+with_letter : (place moves : ℕ) (bytes : List ℕ) (n : ℕ) (x : Letter) (more : List ℕ) → n ≡ digit_count bytes → drop n bytes ≡ letter_byte x ∷ more →
     ((take n bytes ≡ []) ⊎ IsCount (take n bytes)) ⊎ IsNoCount (take n bytes) → ItemOrFault place moves bytes
 with_letter place moves bytes n x more count is (inl lawful) = elim (cases_lt MAX_MOVES (moves + repeats (take n bytes))) [
   | inl above ↦ inr (TooManyMoves, too_many bytes moves n (repeats (take n bytes)) x more is lawful refl above)
@@ -303,7 +303,7 @@ with_letter place moves bytes n x more count is (inl lawful) = elim (cases_lt MA
 with_letter place moves bytes n x more count is (inr bad) =
     inr (BadCount place, (refl, bad_count bytes n count (let some = bad.0 in let f = length-take n bytes in omega arith) (inl bad.1)))
 
-item_or_fault : (place moves : ℕ) (b : ℕ) (bs : List ℕ) → is_blank b ≡ false → ItemOrFault place moves (b ∷ bs)
+item_or_fault : (place moves : ℕ) (b : ℕ) (bs : List ℕ) → is_skipped b ≡ false → ItemOrFault place moves (b ∷ bs)
 item_or_fault place moves b bs no_blank =
     let n = digit_count (b ∷ bs) in
     elim (begins_or_not (drop n (b ∷ bs))) [
@@ -315,7 +315,7 @@ abbrev Read : List ℕ → Type 0
 Read bytes = (r : Result (List Letter) LurdFault) × Reads bytes r
 
 -- the text and a blank
-read_blank : (front : List ℕ) (b : ℕ) (letters : List Letter) → IsText front letters → is_blank b ≡ true → IsText (front ++ b ∷ []) letters
+read_blank : (front : List ℕ) (b : ℕ) (letters : List Letter) → IsText front letters → is_skipped b ≡ true → IsText (front ++ b ∷ []) letters
 read_blank front b letters text is =
     let few : length (letters ++ []) ≤ MAX_MOVES = (let f = length-append letters [] in let g = text.few in omega arith) in
     subst (λ (ls : List Letter). IsText (front ++ b ∷ []) ls) (append-nil letters) (text_and_piece (blank b) text is few)
@@ -335,13 +335,13 @@ read_item fuel front bs b letters enough text next (inl (x, times, len, takes)) 
     let less : length takes.more ≤ fuel =
     (let f : length (b ∷ bs) ≡ length (spelling p ++ takes.more) = ap (λ (ys : List ℕ). length ys) takes.cut in
     let g = length-append (spelling p) takes.more in
-    let h = length-append takes.digits (byte_of x ∷ []) in
+    let h = length-append takes.digits (letter_byte x ∷ []) in
     omega arith) in
     subst (λ ys. Read ys) whole (next takes.more (front ++ spelling p) (letters ++ meaning p) less (text_and_piece p text takes.lawful few))
 read_item fuel front bs b letters enough text next (inr (fault, stands)) =
     (Err fault, record { front = front; letters = letters; rest = b ∷ bs; cut = refl; text = text; stands = stands })
 
-read_by : (fuel : ℕ) (front bs : List ℕ) (b : ℕ) (letters : List Letter) (v : Bool) → is_blank b ≡ v → length (b ∷ bs) ≤ suc fuel → IsText front letters →
+read_by : (fuel : ℕ) (front bs : List ℕ) (b : ℕ) (letters : List Letter) (v : Bool) → is_skipped b ≡ v → length (b ∷ bs) ≤ suc fuel → IsText front letters →
     ReadsOn fuel → Read (front ++ b ∷ bs)
 read_by fuel front bs b letters true is enough text next =
     subst (λ ys. Read ys) (append_assoc front (b ∷ []) bs) (next bs (front ++ b ∷ []) letters (omega (arith, enough)) (read_blank front b letters text is))
@@ -352,7 +352,7 @@ read_on : (fuel : ℕ) → ReadsOn fuel
 read_on fuel [] front letters enough text = subst (λ ys. Read ys) (sym (append-nil front)) (Ok letters, text)
 read_on zero (b ∷ bs) front letters enough text = absurd (omega (arith, enough))
 read_on (suc fuel) (b ∷ bs) front letters enough text =
-    read_by fuel front bs b letters (is_blank b) refl enough text (λ rest before so_far. read_on fuel rest before so_far)
+    read_by fuel front bs b letters (is_skipped b) refl enough text (λ rest before so_far. read_on fuel rest before so_far)
 
 -- bytes are read in one way
 pub one_reading : (bytes : List ℕ) → ExactlyOne (λ r. Reads bytes r)

@@ -8,7 +8,7 @@ use Rattle.std.proofs.lemmas.List.{append-nil, take_more, length-replicate, take
 use Rattle.grid.specs.declared.moves.Letter.{Letter}
 use Rattle.lurd.specs.declared.limits.TheConstants.{MAX_MOVES}
 use Rattle.lurd.specs.declared.fault.LurdFault.{LurdFault}
-use Rattle.lurd.specs.Text.{Piece, blank, item, IsPiece, is_blank, spelling, meaning, IsText, FaultsAt, HasTextFault}
+use Rattle.lurd.specs.Text.{Piece, blank, item, IsPiece, is_skipped, spelling, meaning, IsText, FaultsAt, HasTextFault}
 use Rattle.counts.specs.Counts.{repeats}
 use Rattle.lurd.specs.inside.Item.{TakesItem}
 
@@ -37,7 +37,7 @@ text_and_piece p text one few = record {
 }
 
 -- a text and a blank
-pub text_and_blank : (bytes : List ℕ) (n : ℕ) {letters : List Letter} → n < length bytes → IsText (take n bytes) letters → is_blank (get_or bytes n 0) ≡ true →
+pub text_and_blank : (bytes : List ℕ) (n : ℕ) {letters : List Letter} → n < length bytes → IsText (take n bytes) letters → is_skipped (get_or bytes n 0) ≡ true →
     IsText (take (n + 1) bytes) letters
 text_and_blank bytes n {letters} inside text is =
     let more : IsText (take n bytes ++ get_or bytes n 0 ∷ []) (letters ++ []) =

@@ -3,7 +3,7 @@ use Rattle.std.proofs.Common.{◌≡◌, ◌≤◌, List, [], ◌∷◌, length,
 use Rattle.std.specs.List.{AllByRecursion, flat_map}
 use Rattle.grid.specs.declared.moves.Letter.{Letter}
 use Rattle.lurd.specs.declared.limits.TheConstants.{MAX_MOVES}
-use Rattle.lurd.specs.Text.{byte_of, bytes_of, Piece, item, spelling, meaning, IsPiece, IsText}
+use Rattle.lurd.specs.Text.{letter_byte, bytes_of, Piece, item, spelling, meaning, IsPiece, IsText}
 
 -- a letter without a count
 abbrev alone : Letter → Piece
@@ -15,7 +15,7 @@ each_alone (x ∷ xs) = (inl refl, each_alone xs)
 
 spelled_alone : (letters : List Letter) → bytes_of letters ≡ flat_map spelling (map alone letters)
 spelled_alone [] = refl
-spelled_alone (x ∷ xs) = ap (λ ys. byte_of x ∷ ys) (spelled_alone xs)
+spelled_alone (x ∷ xs) = ap (λ ys. letter_byte x ∷ ys) (spelled_alone xs)
 
 meant_alone : (letters : List Letter) → letters ≡ flat_map meaning (map alone letters)
 meant_alone [] = refl

@@ -20,16 +20,16 @@ lower_byte U = 117
 
 -- the byte that writes a letter: a step that pushes is written in upper case, whose bytes are 32 less, any other in
 -- lower case
-abbrev pub byte_of : Letter → ℕ
-byte_of letter = if letter.push then lower_byte letter.dir - 32 else lower_byte letter.dir
+abbrev pub letter_byte : Letter → ℕ
+letter_byte letter = if letter.push then lower_byte letter.dir - 32 else lower_byte letter.dir
 
 -- the bytes that write letters: one each, without counts or blanks
 abbrev pub bytes_of : List Letter → List ℕ
-bytes_of letters = map byte_of letters
+bytes_of letters = map letter_byte letters
 
 -- space, tab, CR and LF stand for nothing
-abbrev pub is_blank : ℕ → Bool
-is_blank b = b == 32 || b == 9 || b == 13 || b == 10
+abbrev pub is_skipped : ℕ → Bool
+is_skipped b = b == 32 || b == 9 || b == 13 || b == 10
 
 -- what a text is made of: a blank, or a letter with the digits of its count right before it, if it has one
 pub data Piece : Type 0 where
@@ -38,13 +38,13 @@ pub data Piece : Type 0 where
 
 -- a piece is a blank that is one, or a letter with a count or none
 abbrev pub IsPiece : Piece → Type 0
-IsPiece (blank b) = is_blank b ≡ true
+IsPiece (blank b) = is_skipped b ≡ true
 IsPiece (item digits letter) = (digits ≡ []) ⊎ IsCount digits
 
 -- the bytes of a piece
 abbrev pub spelling : Piece → List ℕ
 spelling (blank b) = b ∷ []
-spelling (item digits letter) = digits ++ byte_of letter ∷ []
+spelling (item digits letter) = digits ++ letter_byte letter ∷ []
 
 -- the letters that a piece stands for
 abbrev pub meaning : Piece → List Letter
@@ -61,16 +61,16 @@ pub record IsText (bytes : List ℕ) (letters : List Letter) : Type 0 where
 
 -- the bytes begin with a letter
 abbrev pub BeginsWithLetter : List ℕ → Type 0
-BeginsWithLetter bytes = (letter : Letter) × (more : List ℕ) × (bytes ≡ byte_of letter ∷ more)
+BeginsWithLetter bytes = (letter : Letter) × (more : List ℕ) × (bytes ≡ letter_byte letter ∷ more)
 
 -- the bytes begin with one that is no letter, no digit and no blank
 pub record BeginsBadly (bytes : List ℕ) : Type 0 where
   pub byte : ℕ
   pub more : List ℕ
   pub cut : bytes ≡ byte ∷ more
-  pub no_letter : (letter : Letter) → ¬ (byte_of letter ≡ byte)
+  pub no_letter : (letter : Letter) → ¬ (letter_byte letter ≡ byte)
   pub no_digit : is_ascii_digit byte ≡ false
-  pub no_blank : is_blank byte ≡ false
+  pub no_blank : is_skipped byte ≡ false
 
 -- the bytes begin with digits, as many as stand there together, that are no count, or have no letter right after them
 pub record BeginsWithBadCount (bytes : List ℕ) : Type 0 where

@@ -1,7 +1,7 @@
 ghost use Rattle.std.specs.Prelude.{◌≡◌, ℕ, ◌<◌, ◌≤◌, ◌∷◌, IfOk, IfErr, IfSome, IfNone, false, length, slice_index};
 ghost use Rattle.std.specs.Prelude.{List};
 ghost use Rattle.lurd.specs.inside.Item.{TakesItem, IsLetterByte};
-ghost use Rattle.lurd.specs.Text.{BeginsWithLetter, FaultsAt, byte_of, is_blank};
+ghost use Rattle.lurd.specs.Text.{BeginsWithLetter, FaultsAt, letter_byte, is_skipped};
 
 use crate::fault::LurdFault;
 use crate::limits::MAX_MOVES;
@@ -22,7 +22,7 @@ pub(crate) struct Item {
 /// the first byte in the text, for the fault.
 pub(crate) fn read_item(bytes: &[u8], at: usize, moves: usize) -> Result<Item, LurdFault>
     requires some { 0 < length bytes.now }
-    requires no_blank { is_blank (slice_index bytes.now 0) ≡ false }
+    requires no_blank { is_skipped (slice_index bytes.now 0) ≡ false }
     requires few { moves ≤ MAX_MOVES }
     ensures ok { IfOk result (λ item. TakesItem moves bytes.now item.letter item.times item.len) }
     ensures err { IfErr result (λ fault. FaultsAt at moves bytes.now fault) }
@@ -49,15 +49,15 @@ pub(crate) fn read_item(bytes: &[u8], at: usize, moves: usize) -> Result<Item, L
 }
 
 /// Space, tab, CR or LF.
-pub(crate) fn is_blank(byte: u8) -> bool
-    ensures { result ≡ is_blank byte }
+pub(crate) fn is_skipped(byte: u8) -> bool
+    ensures { result ≡ is_skipped byte }
 {
     matches!(byte, b' ' | b'\t' | b'\r' | b'\n')
 }
 
 /// The letter that the bytes begin with.
 fn first_letter(bytes: &[u8]) -> Option<Letter>
-    ensures some { IfSome result (λ letter. (more : List ℕ) × (bytes.now ≡ byte_of letter ∷ more)) }
+    ensures some { IfSome result (λ letter. (more : List ℕ) × (bytes.now ≡ letter_byte letter ∷ more)) }
     ensures none { IfNone result (¬ (BeginsWithLetter bytes.now)) }
 {
     letter_of(*bytes.first()?)
@@ -65,7 +65,7 @@ fn first_letter(bytes: &[u8]) -> Option<Letter>
 
 /// The letter that a byte writes.
 fn letter_of(byte: u8) -> Option<Letter>
-    ensures some { IfSome result (λ letter. byte_of letter ≡ byte) }
+    ensures some { IfSome result (λ letter. letter_byte letter ≡ byte) }
     ensures none { IfNone result (¬ (IsLetterByte byte)) }
 {
     let (dir, push) = match byte {

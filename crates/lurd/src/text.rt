@@ -1,8 +1,8 @@
 ghost use Rattle.std.specs.Prelude.{◌≡◌, ◌⊎◌, ◌++◌, IfOk, IfErr, OnOk, OnErr, replicate};
-ghost use Rattle.lurd.specs.Text.{IsText, HasTextFault, byte_of, bytes_of};
+ghost use Rattle.lurd.specs.Text.{IsText, HasTextFault, letter_byte, bytes_of};
 
 use crate::fault::LurdFault;
-use crate::item::{is_blank, read_item};
+use crate::item::{is_skipped, read_item};
 use grid::{Dir, Letter, Moves};
 use std::alloc::{AllocError, Global};
 
@@ -18,7 +18,7 @@ pub fn parse(alloc: Global, text: &[u8]) -> Result<Moves, LurdFault>
     let mut moves = Moves::new(alloc);
     let mut place = 0;
     while place < text.len() {
-        if is_blank(text[place]) {
+        if is_skipped(text[place]) {
             place += 1;
             continue;
         }
@@ -47,7 +47,7 @@ pub fn write(moves: &Moves, out: &mut Vec<u8>) -> Result<(), AllocError>
 {
     let before = out.len();
     for letter in moves.as_slice() {
-        if out.push(byte_of(*letter)).is_err() {
+        if out.push(letter_byte(*letter)).is_err() {
             out.truncate(before);
             return Err(AllocError);
         }
@@ -56,8 +56,8 @@ pub fn write(moves: &Moves, out: &mut Vec<u8>) -> Result<(), AllocError>
 }
 
 /// The byte that writes a letter.
-fn byte_of(letter: Letter) -> u8
-    ensures { result ≡ byte_of letter }
+fn letter_byte(letter: Letter) -> u8
+    ensures { result ≡ letter_byte letter }
 {
     match (letter.push, letter.dir) {
         (false, Dir::D) => b'd',

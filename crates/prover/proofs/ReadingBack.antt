@@ -99,12 +99,12 @@ solved_alike board s t same solved = subst (λ (xs : Squares). (q : ℕ) → con
 -- the least play with these pushes, which lead to a position that is solved and was found with as few pushes as any solution has
 pub solution_by : (board : Board) (cap : Option ℕ) (limit : ℕ) (all : List Entry) (place : ℕ) (x : Entry) (ps : List Push) (t : Scene)
     (moves : List Letter) (n : ℕ)
-    → n ≡ length ps → slice_get all place ≡ Some x → AreLeading board ps x.position → length ps ≤ x.pushes → WritesLeastPlay board ps t moves →
+    → n ≡ x.pushes → slice_get all place ≡ Some x → AreLeading board ps x.position → length ps ≤ x.pushes → WritesLeastPlay board ps t moves →
     IsLeastSolved board cap all place → IsOutcome board cap limit (Least moves n)
 solution_by board cap limit all place x ps t moves n count at (ds, s, play, norm) few writes least = (
   (
     record { state = t; leads = record { dirs = writes.dirs; pushes = ps; play = writes.play; written = writes.written }; end = end },
-    count ∙ (sym (count_pushes writes.play) ∙ ap (λ (xs : List Letter). count_by (λ (letter : Letter). letter.push) xs) writes.written),
+    whole ∙ (sym (count_pushes writes.play) ∙ ap (λ (xs : List Letter). count_by (λ (letter : Letter). letter.push) xs) writes.written),
     refl,
   ),
   subst (NoneHasFewer board) fewest least.fewest,
@@ -121,4 +121,7 @@ solution_by board cap limit all place x ps t moves n count at (ds, s, play, norm
     end = let (fs, ws, cut, first, rest) = writes.common ds s play in solved_alike board s t (walk_keeps_boxes rest) there
 
     fewest : least.entry.pushes ≡ n
-    fewest = let le = least.fewest ds ps (s, play, there) in let e = ap (λ (v : Entry). v.pushes) same in omega (arith, le, e, few, count)
+    fewest = ap (λ (v : Entry). v.pushes) same ∙ sym count
+
+    whole : n ≡ length ps
+    whole = let le = least.fewest ds ps (s, play, there) in omega (arith, le, fewest, few, count)

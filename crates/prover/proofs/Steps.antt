@@ -32,7 +32,7 @@ use Rattle.store.specs.Visited.{Entry, VisitedView, with_least}
 use Rattle.prover.specs.Frontier.{IsFound, IsSound, IsUnderWay, IsBound, IsTotal, IsLeast, IsSettled, ComesFrom, NoneGoesOn}
 use Rattle.prover.specs.inside.Working.{HasLeastAt, KeepPlaces, Expands, IsTaken, AreTaken, IsChosen, Enters, AreLeading, IsAtPlace, StayBelow, IsExpanding}
 use Rattle.prover.specs.inside.Working.{IsSearched, Widens, GoesOn, IsLater, lesser, openness, tighter, turns_left}
-use Rattle.prover.specs.inside.Working.{AreEntered, IsListed, IsOpenedBy, Opens}
+use Rattle.prover.specs.inside.Working.{AreEntered, IsOpenedPosition, IsOpenedBy, Opens}
 use Rattle.prover.proofs.lemmas.Pruning.{after_scene, all_suffice, keeps_so, pushed_from, pushed_push}
 use Rattle.prover.proofs.Openings.{allows_fewer, found_on, settled_open, settled_expanded, sound_on}
 use Rattle.prover.proofs.Deferring.{lesser_below}
@@ -183,14 +183,14 @@ opens_one board cap from opened new o is by = subst (Opens board cap from opened
   ];
 })
 
-pub listed_last : (opened new : List Opened) (o : Opened) → new ≡ opened ++ o ∷ [] → IsListed new o.position
-listed_last opened new o is = subst (λ (os : List Opened). IsListed os o.position) (sym is) (length opened, o, last_at opened o, refl)
+pub listed_last : (opened new : List Opened) (o : Opened) → new ≡ opened ++ o ∷ [] → IsOpenedPosition new o.position
+listed_last opened new o is = subst (λ (os : List Opened). IsOpenedPosition os o.position) (sym is) (length opened, o, last_at opened o, refl)
 
 -- where each position that was opened has entered, what the expansion keeps was found
 pub expands_found : (board : Board) (cap : Option ℕ) (opened : List Opened) (all : List Entry) (k : ℕ) (s : Scene) →
-    ((t : Scene) → IsListed opened t → IsFound all (suc k) t) → Expands board cap (IsListed opened) k s → Expands board cap (IsFound all (suc k)) k s
+    ((t : Scene) → IsOpenedPosition opened t → IsFound all (suc k) t) → Expands board cap (IsOpenedPosition opened) k s → Expands board cap (IsFound all (suc k)) k s
 expands_found board cap opened all k s entered expands most allowed =
-    keeps_so board (IsListed opened) (IsFound all (suc k)) most k s entered (expands most allowed)
+    keeps_so board (IsOpenedPosition opened) (IsFound all (suc k)) most k s entered (expands most allowed)
 
 -- the next of them has entered
 pub entered_more : (old new : List Entry) (opened : List Opened) (k i : ℕ) (o : Opened) → KeepPlaces old new → slice_get opened i ≡ Some o →
@@ -205,7 +205,7 @@ entered_more old new opened k i o still at found before j u lt there = elim (cas
 
 -- all of them have
 pub entered_all : (all : List Entry) (opened : List Opened) (k count : ℕ) → length opened ≤ count → AreEntered all opened k count →
-    (t : Scene) → IsListed opened t → IsFound all k t
+    (t : Scene) → IsOpenedPosition opened t → IsFound all k t
 entered_all all opened k count over entered t (i, o, at, same) =
     subst (IsFound all k) same (entered i o (let lt = slice_get_within opened i o at in omega (arith, lt, over)) at)
 

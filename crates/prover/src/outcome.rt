@@ -9,7 +9,7 @@ use thiserror::Error;
 #[derive(Debug, Drop)]
 pub enum Outcome {
     /// These moves solve the level with this many pushes, and no solution has fewer.
-    Least { moves: Moves, pushes: usize },
+    Least { moves: Moves, pushes: u32 },
     /// No solution has as few pushes as the cap allows.
     NoneWithin,
     /// The level has no solution.

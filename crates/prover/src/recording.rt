@@ -2,7 +2,7 @@
 ghost use Rattle.std.specs.Prelude.{◌≡◌, ℕ, suc, ◌<◌, ◌≤◌, OnOk, length};
 ghost use Rattle.grid.specs.Board.{Scene};
 ghost use Rattle.prover.specs.Frontier.{IsFound};
-ghost use Rattle.prover.specs.inside.Working.{AreOpenedBy, IsExpanding, IsExpansion, IsListed, IsOpenedBy, IsSearched};
+ghost use Rattle.prover.specs.inside.Working.{AreOpenedBy, IsExpanding, IsExpansion, IsOpenedPosition, IsOpenedBy, IsSearched};
 ghost use Rattle.prover.specs.inside.Working.{GoesOn, IsReady, IsWaiting, Widens, turns_left};
 
 use crate::frontier::Frontier;
@@ -44,7 +44,7 @@ fn enter_all(
     requires expanding { IsExpanding pruner.now.board pruner.now.cap frontier.old from.now }
     requires each { AreOpenedBy pruner.now.board pruner.now.cap from.now opened.now }
     ensures widens { OnOk result (Widens pruner.now.board pruner.now.cap from.now.pushes frontier.old frontier.new) }
-    ensures entered { OnOk result ((t : Scene) → IsListed opened.now t →
+    ensures entered { OnOk result ((t : Scene) → IsOpenedPosition opened.now t →
         IsFound frontier.new.entries (suc from.now.pushes) t) }
 {
     for index in 0..opened.len() {

@@ -25,13 +25,11 @@ pub(crate) fn solution_at(
     ensures { IfOk result (λ outcome. (cap : Option ℕ) (limit : ℕ) →
         IsLeastSolved level.now cap frontier.now.entries place → IsOutcome level.now cap limit outcome) }
 {
-    let pushes = pushes_to(alloc, frontier, place)?;
+    let leading = pushes_to(alloc, frontier, place)?;
     let mut scratch = Scratch::new(alloc, level)?;
-    let moves = play_pushes(alloc, level, pushes.as_slice(), &mut scratch)?;
-    Ok(Outcome::Least {
-        moves,
-        pushes: pushes.len(),
-    })
+    let moves = play_pushes(alloc, level, leading.as_slice(), &mut scratch)?;
+    let pushes = frontier.pushes(place);
+    Ok(Outcome::Least { moves, pushes })
 }
 
 // The pushes that lead from the start to the position at a place.

@@ -10,7 +10,7 @@ use Rattle.prices.specs.inside.Sums.{greatest}
 use Rattle.prices.specs.inside.Tables.{far_in}
 use Rattle.prices.specs.inside.Views.{DistancesView}
 use Rattle.prices.proofs.lemmas.Prices.{tolls_are_free}
-use Rattle.regions.specs.Regions.{IsPart, endless, excess_of}
+use Rattle.regions.specs.Regions.{IsRegion, endless, excess_of}
 use Rattle.regions.specs.inside.Needs.{need_under, price_of, toll_in}
 use Rattle.regions.specs.inside.Sound.{AreSound}
 use Rattle.regions.specs.inside.Tables.{said, waste_in}
@@ -45,6 +45,6 @@ first_lost v tolls t ts s far away sound fits le =
     s fits le
 
 -- what a task says of its own level it says of an equal one
-pub part_here : (t : TaskView) (board : Board) → IsPart t.board (waste_in t.wastes) (said t.table) → t.board ≡ board
-    → IsPart board (waste_in t.wastes) (said t.table)
-part_here t board is same = subst (λ (b : Board). IsPart b (waste_in t.wastes) (said t.table)) same is
+pub part_here : (t : TaskView) (board : Board) → IsRegion t.board (waste_in t.wastes) (said t.table) → t.board ≡ board
+    → IsRegion board (waste_in t.wastes) (said t.table)
+part_here t board is same = subst (λ (b : Board). IsRegion b (waste_in t.wastes) (said t.table)) same is

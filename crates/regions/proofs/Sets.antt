@@ -17,12 +17,12 @@ use Rattle.prices.proofs.lemmas.Goals.{contains-goals}
 use Rattle.prices.proofs.lemmas.Prices.{sum_inserted, sum_put_back}
 use Rattle.prices.proofs.lemmas.Solved.{solved_are_goals}
 use Rattle.regions.specs.declared.table.RegionTable.{RegionTable}
-use Rattle.regions.specs.Regions.{IsLeft, IsPart, endless}
+use Rattle.regions.specs.Regions.{IsLeft, IsRegion, endless}
 use Rattle.regions.specs.inside.Tables.{entry_at, entry_of, high_of, is_seat, low_of, place_of, row_of, says}
 use Rattle.regions.proofs.Each.{none_left}
 use Rattle.regions.proofs.Bits.{box_other, box_put, no_bit, no_box}
 use Rattle.regions.proofs.lemmas.Excess.{same_or}
-use Rattle.regions.specs.inside.Checks.{IsListed, IsOpen, Pays, SetPasses, SetsPass, one, sum_where}
+use Rattle.regions.specs.inside.Checks.{HasSteps, IsVacant, Pays, SetPasses, SetsPass, one, sum_where}
 use Rattle.regions.specs.inside.Listing.{IsApart, bit_of, box_in}
 
 -- ---- sums over the seats are sums over the boxes
@@ -163,7 +163,7 @@ no_key high low e =
 
 -- ---- the steps
 
-module _ (board : Board) (t : RegionTable) (waste : ℕ → Dir → ℕ) (seats : Squares) (rising : is_rising seats ≡ true) (listed : IsListed board t seats) where
+module _ (board : Board) (t : RegionTable) (waste : ℕ → Dir → ℕ) (seats : Squares) (rising : is_rising seats ≡ true) (listed : HasSteps board t seats) where
   no_seat : (q : ℕ) → is_wall board q ≡ false → contains seats q ≡ false → is_seat t q ≡ false
   no_seat q floor out = by (is_seat t q) refl
     where
@@ -179,7 +179,7 @@ module _ (board : Board) (t : RegionTable) (waste : ℕ → Dir → ℕ) (seats 
 
   -- no walk lessens what the row of a set says
   walk_le : (box : ℕ → Bool) (high low left p : ℕ) (d : Dir) → SetPasses board t waste seats box high low left
-      → IsOpen board box p → IsOpen board box (next board p d)
+      → IsVacant board box p → IsVacant board box (next board p d)
       → entry_at t high low p ≤ entry_at t high low (next board p d)
   walk_le box high low left p d passes here there = by (place_of t p) refl (place_of t q) refl
     where
@@ -199,7 +199,7 @@ module _ (board : Board) (t : RegionTable) (waste : ℕ → Dir → ℕ) (seats 
           omega (arith, e)
       by zero first (suc n) second =
           let listed_q = (listed q (inside_grid board q there.0)).square (λ e. omega (arith, e, second)) in
-          let keeps = passes.walk q listed_q there (opposite d) (subst (IsOpen board box) (sym back) here) in
+          let keeps = passes.walk q listed_q there (opposite d) (subst (IsVacant board box) (sym back) here) in
           subst (λ (y : ℕ). place_of t y ≡ 0 → entry_of t row y ≤ entry_of t row q) back keeps.back first
       by (suc m) first n second =
           let listed_p = (listed p (inside_grid board p here.0)).square (λ e. omega (arith, e, first)) in
@@ -214,7 +214,7 @@ module _ (board : Board) (t : RegionTable) (waste : ℕ → Dir → ℕ) (seats 
           (λ q there. seen_here seats s.boxes q there ∙ (ap (λ (xs : Squares). contains xs q) all ∙ contains-goals board q))
           s.player (inside_grid board s.player fits.scene.player.0)
 
-      player_open : IsOpen board (seen seats s.boxes) s.player
+      player_open : IsVacant board (seen seats s.boxes) s.player
       player_open = (fits.scene.player.0, not_seen seats s.boxes s.player fits.scene.player.1)
 
       says_walk : (u : Scene) (d : Dir) → Walks board s d u → says t s ≤ says t u
@@ -256,20 +256,20 @@ module _ (board : Board) (t : RegionTable) (waste : ℕ → Dir → ℕ) (seats 
           back_q : next board r (opposite d) ≡ q
           back_q = next_back board q d floor step.1.0
 
-          r_open : IsOpen board (seen seats s.boxes) r
+          r_open : IsVacant board (seen seats s.boxes) r
           r_open = (step.1.0, not_seen seats s.boxes r step.1.1)
 
           by : (m : Bool) → contains seats q ≡ m → (n : Bool) → contains seats r ≡ n
               → IsLeft (entry_at t (high_in t s) (low_in t s) p) (waste q d) (entry_at t (((high_in t s) - high_of t q) + high_of t r) (((low_in t s) - low_of t q) + low_of t r) q)
           by true there n to =
               let pays = (passes.seat q there d).push (seen_here seats s.boxes q there ∙ step.0) floor
-              (subst (IsOpen board (seen seats s.boxes)) (sym back_p) player_open) r_open in
+              (subst (IsVacant board (seen seats s.boxes)) (sym back_p) player_open) r_open in
               subst (λ (x : ℕ). Pays t waste (high_in t s) (low_in t s) x q r d) back_p pays small
           by false out true to =
               let pays = (passes.seat r to d).enter (r_open.1) (more q step.0 out) step.1.0
               (subst (λ (x : ℕ). is_wall board x ≡ false) (sym back_q) floor)
               (subst (λ (x : ℕ). is_seat t x ≡ false) (sym back_q) (no_seat q floor out))
-              (subst (λ (x : ℕ). IsOpen board (seen seats s.boxes) (next board x (opposite d))) (sym back_q) (subst (IsOpen board (seen seats s.boxes)) (sym back_p) player_open)) in
+              (subst (λ (x : ℕ). IsVacant board (seen seats s.boxes) (next board x (opposite d))) (sym back_q) (subst (IsVacant board (seen seats s.boxes)) (sym back_p) player_open)) in
               subst (λ (x : ℕ). Pays t waste (high_in t s) (low_in t s) x q r d) back_p
               (subst (λ (x : ℕ). Pays t waste (high_in t s) (low_in t s) (next board x (opposite d)) x r d) back_q pays) small
           by false out false beyond =
@@ -308,7 +308,7 @@ module _ (board : Board) (t : RegionTable) (waste : ℕ → Dir → ℕ) (seats 
         let size = fits.boxes in
         omega (arith, fewer, count, size)
 
-    pub table_is_part : IsPart board waste (says t)
+    pub table_is_part : IsRegion board waste (says t)
     table_is_part = record {
       home = λ s fits solved. says_home level s fits (room board seats s) (set_of s fits) solved;
       walk = λ s u d fits step. says_walk level s fits (room board seats s) (set_of s fits) u d step;
@@ -414,8 +414,8 @@ module _ (board : Board) (t : RegionTable) (waste : ℕ → Dir → ℕ) (seats 
 
 -- where all sets pass, the table says what is so
 pub part_of_all : (board : Board) (t : RegionTable) (waste : ℕ → Dir → ℕ) (seats rest : Squares) (bits : List ℕ) (left : ℕ) → IsLevel board → rest ≡ seats
-    → is_rising rest ≡ true → IsListed board t seats → left ≡ box_count board
-    → SetsPass board t waste seats rest (box_in bits 0) 0 0 left → IsPart board waste (says t)
+    → is_rising rest ≡ true → HasSteps board t seats → left ≡ box_count board
+    → SetsPass board t waste seats rest (box_in bits 0) 0 0 left → IsRegion board waste (says t)
 part_of_all board t waste seats rest bits left level same rises listed room_is all =
     table_is_part board t waste seats (subst (λ (xs : Squares). is_rising xs ≡ true) same rises) listed level (box_in bits 0) (no_box bits)
     (subst (λ (xs : Squares). SetsPass board t waste seats xs (box_in bits 0) 0 0 (box_count board)) same

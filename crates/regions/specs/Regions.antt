@@ -41,39 +41,39 @@ pub record IsLeft (before waste after : ℕ) : Type 0 where
 
 -- what one region says of a state, where it counts of each push of a box on a square in a direction this waste: nothing
 -- where the level is solved; no walk lessens it; a push lessens it by at most what it wastes
-pub record IsPart (board : Board) (waste : ℕ → Dir → ℕ) (excess : Scene → ℕ) : Type 0 where
+pub record IsRegion (board : Board) (waste : ℕ → Dir → ℕ) (excess : Scene → ℕ) : Type 0 where
   pub home : (s : Scene) → FitsLevel board s → IsSolved board s → excess s ≡ 0
   pub walk : (s t : Scene) (d : Dir) → FitsLevel board s → Walks board s d t → excess s ≤ excess t
   pub push : (s t : Scene) (d : Dir) → FitsLevel board s → Pushes board s d t →
       let w = waste (next board s.player d) d in w < endless → IsLeft (excess s) w (excess t)
 
 -- a region: the waste that it counts, and what it says
-pub record Part : Type 0 where
+pub record Region : Type 0 where
   pub waste : ℕ → Dir → ℕ
   pub excess : Scene → ℕ
 
 -- what all regions say, and the waste that they count, added up
-abbrev pub excess_of : List Part → Scene → ℕ
+abbrev pub excess_of : List Region → Scene → ℕ
 excess_of [] s = 0
 excess_of (p ∷ ps) s = p.excess s + excess_of ps s
 
-abbrev pub waste_of : List Part → ℕ → Dir → ℕ
+abbrev pub waste_of : List Region → ℕ → Dir → ℕ
 waste_of [] q d = 0
 waste_of (p ∷ ps) q d = p.waste q d + waste_of ps q d
 
 -- each is a part
-abbrev pub AreParts : Board → List Part → Type 0
-AreParts board [] = Unit {0}
-AreParts board (p ∷ ps) = IsPart board p.waste p.excess × AreParts board ps
+abbrev pub AreRegions : Board → List Region → Type 0
+AreRegions board [] = Unit {0}
+AreRegions board (p ∷ ps) = IsRegion board p.waste p.excess × AreRegions board ps
 
 -- none of them counts an endless waste for the push
-abbrev pub AreFinite : List Part → ℕ → Dir → Type 0
+abbrev pub AreFinite : List Region → ℕ → Dir → Type 0
 AreFinite [] q d = Unit {0}
 AreFinite (p ∷ ps) q d = (p.waste q d < endless) × AreFinite ps q d
 
 -- a push of a lone box after which it can come to a goal wastes what all regions count for it: its need becomes so much
 -- greater than one less
-abbrev pub ArePaid : Board → (ℕ → ℕ → ℕ → ℕ) → (ℕ → ℕ → ℕ) → List Part → Type 0
+abbrev pub ArePaid : Board → (ℕ → ℕ → ℕ → ℕ) → (ℕ → ℕ → ℕ) → List Region → Type 0
 ArePaid board far need ps = (p : ℕ) (d : Dir) → let q = next board p d in let r = next board q d in
     CanStand board q p → CanStand board r q → CanCome board far r q →
     AreFinite ps q d × (need q p + waste_of ps q d ≤ suc (need r q))
@@ -81,12 +81,12 @@ ArePaid board far need ps = (p : ℕ) (d : Dir) → let q = next board p d in le
 -- then what the regions say adds up to an excess
 abbrev pub PartsAddUp : Board → Type 0
 PartsAddUp board =
-    (far : ℕ → ℕ → ℕ → ℕ) (need : ℕ → ℕ → ℕ) (ps : List Part) → AreParts board ps → ArePaid board far need ps
+    (far : ℕ → ℕ → ℕ → ℕ) (need : ℕ → ℕ → ℕ) (ps : List Region) → AreRegions board ps → ArePaid board far need ps
     → IsExcess board far need (excess_of ps)
 
 -- and where one of them says that it is endless, no play ends solved
 abbrev pub EndlessIsLost : Board → Type 0
 EndlessIsLost board =
-    (far : ℕ → ℕ → ℕ → ℕ) (need : ℕ → ℕ → ℕ) (p : Part) → AreFar board far → StayAway board far
-    → IsPart board p.waste p.excess → ArePaid board far need (p ∷ []) → (s : Scene) → FitsLevel board s
+    (far : ℕ → ℕ → ℕ → ℕ) (need : ℕ → ℕ → ℕ) (p : Region) → AreFar board far → StayAway board far
+    → IsRegion board p.waste p.excess → ArePaid board far need (p ∷ []) → (s : Scene) → FitsLevel board s
     → endless ≤ p.excess s → IsLost board s

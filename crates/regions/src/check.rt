@@ -2,8 +2,8 @@
 ghost use Rattle.std.specs.Prelude.{◌≡◌, ◌<◌, ◌≤◌, ℕ, IfOk, IsTrue, true, length};
 ghost use Rattle.grid.specs.Board.{is_goal};
 ghost use Rattle.grid.specs.Squares.{contains};
-ghost use Rattle.regions.specs.Regions.{IsPart};
-ghost use Rattle.regions.specs.inside.Checks.{IsListed, IsListedAt, SetPasses, SetsPass};
+ghost use Rattle.regions.specs.Regions.{IsRegion};
+ghost use Rattle.regions.specs.inside.Checks.{HasSteps, IsListedAt, SetPasses, SetsPass};
 ghost use Rattle.regions.specs.inside.Listing.{AreListed, IsApart, box_in};
 ghost use Rattle.regions.specs.inside.Tables.{entry_of, says, waste_in};
 
@@ -20,7 +20,7 @@ pub(crate) fn passes(
     wastes: &[u8],
     table: &RegionTable,
 ) -> Result<bool, AllocError>
-    ensures { IfOk result (λ yes. IsTrue yes → IsPart level.now (waste_in wastes.now) (says table.now)) }
+    ensures { IfOk result (λ yes. IsTrue yes → IsRegion level.now (waste_in wastes.now) (says table.now)) }
 {
     let listed = seats_of(alloc, level, table)?;
     let Some(seats) = Position::of(listed.as_slice(), Square(0)) else {
@@ -54,7 +54,7 @@ fn seats_of(alloc: Global, level: &Level, table: &RegionTable) -> Result<Vec<Squ
 
 // Whether all squares and steps are listed, and all sets of boxes pass.
 fn all_pass(look: &Look<'_>, steps: &Steps) -> bool
-    ensures { IsTrue result → IsPart look.now.level.now (waste_in look.now.wastes.now) (says look.now.table.now) }
+    ensures { IsTrue result → IsRegion look.now.level.now (waste_in look.now.wastes.now) (says look.now.table.now) }
 {
     look.level.tell();
     if !are_squares_listed(look.level, look.table, look.seats) {
@@ -72,7 +72,7 @@ fn all_pass(look: &Look<'_>, steps: &Steps) -> bool
 
 // Whether the squares of the region and those where a box is seen are listed.
 fn are_squares_listed(level: &Level, table: &RegionTable, seats: &Position) -> bool
-    ensures { IsTrue result → IsListed level.now table.now seats.now.boxes }
+    ensures { IsTrue result → HasSteps level.now table.now seats.now.boxes }
 {
     level.tell();
     for index in 0..level.squares() {

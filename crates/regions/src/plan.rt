@@ -1,5 +1,5 @@
 ghost use Rattle.std.specs.Prelude.{◌≡◌, IfOk, IsTrue};
-ghost use Rattle.regions.specs.Regions.{IsPart};
+ghost use Rattle.regions.specs.Regions.{IsRegion};
 ghost use Rattle.regions.specs.inside.Tables.{said, waste_in};
 
 use crate::check::passes;
@@ -29,7 +29,7 @@ pub struct Task {
 
 impl Model for Task {
     ghost use Rattle.std.specs.Prelude.{◌≡◌};
-    ghost use Rattle.regions.specs.Regions.{IsPart};
+    ghost use Rattle.regions.specs.Regions.{IsRegion};
     ghost use Rattle.regions.specs.inside.Tables.{said, waste_in};
     ghost use Rattle.regions.specs.inside.Views.{TaskView};
 
@@ -37,7 +37,7 @@ impl Model for Task {
 
     ghost view = { λ a. record { board = a.level; wastes = a.wastes.items; table = a.table } };
 
-    ghost invariant = { λ a. IsPart a.level (waste_in a.wastes.items) (said a.table) };
+    ghost invariant = { λ a. IsRegion a.level (waste_in a.wastes.items) (said a.table) };
 }
 
 impl Plan {
@@ -63,7 +63,7 @@ impl Task {
 
     /// States that the table says nothing that is not so. It does nothing; call it in proofs.
     pub(crate) fn tell(&self)
-        ensures { IsPart self.now.board (waste_in self.now.wastes) (said self.now.table) }
+        ensures { IsRegion self.now.board (waste_in self.now.wastes) (said self.now.table) }
     {
         let _ = &self.table;
     }
@@ -101,7 +101,7 @@ fn checked(
     wastes: &[u8],
     squares: &[Square],
 ) -> Result<Option<RegionTable>, AllocError>
-    ensures { IfOk result (λ table. IsPart level.now (waste_in wastes.now) (said table)) }
+    ensures { IfOk result (λ table. IsRegion level.now (waste_in wastes.now) (said table)) }
 {
     let Some(table) = fill(alloc, level, wastes, squares)? else {
         return Ok(None);

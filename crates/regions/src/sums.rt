@@ -7,7 +7,7 @@ ghost use Rattle.grid.specs.declared.dir.Dir.{Dir};
 ghost use Rattle.prices.specs.Prices.{goals_of};
 ghost use Rattle.prices.specs.Solving.{NoneWithin};
 ghost use Rattle.prices.specs.inside.Tables.{far_in};
-ghost use Rattle.regions.specs.Regions.{AreFinite, ArePaid, AreParts, excess_of, waste_of};
+ghost use Rattle.regions.specs.Regions.{AreFinite, ArePaid, AreRegions, excess_of, waste_of};
 ghost use Rattle.regions.specs.inside.Checks.{IsPaid};
 ghost use Rattle.regions.specs.inside.Needs.{need_under};
 ghost use Rattle.regions.specs.inside.Sound.{AreSound};
@@ -31,7 +31,7 @@ pub(crate) fn are_sound(level: &Level, distances: &Distances, tolls: &[u32], tas
 
 // Whether all tasks are of this level.
 fn are_of(tasks: &[Task], level: &Level) -> bool
-    ensures { IsTrue result → AreParts level.now (parts_of tasks.now) }
+    ensures { IsTrue result → AreRegions level.now (parts_of tasks.now) }
 {
     let [first, rest @ ..] = tasks else {
         return true;

@@ -26,7 +26,8 @@ use Rattle.prover.proofs.lemmas.Pruning.{pushed_from, pushed_push}
 use Rattle.store.specs.Visited.{Entry}
 use Rattle.successors.specs.Expansion.{after_push}
 use Rattle.successors.specs.LeastPlays.{ArePlayed, WritesLeastPlay}
-use Rattle.shortest.specs.Shortest.{EndsBy, IsAtMost, NoneIsBetter}
+use Rattle.shortest.specs.Shortest.{NoneIsBetter}
+use Rattle.shortest.specs.inside.Resting.{EndsSolvedBy, IsAtMost}
 use Rattle.shortest.specs.inside.Listing.{AreAll, IsAtPlace, StatesView}
 use Rattle.shortest.specs.inside.Resting.{AreRests, Finishes, IsOnward, IsReading, IsRestOf, IsWay, LeadsOn}
 use Rattle.shortest.specs.inside.Walking.{IsWalkLength}
@@ -49,7 +50,7 @@ pub rest_some : (board : Board) (m : ℕ) (s : Scene) (rest : Option ℕ) → Is
 rest_some board m s None is (ds, ps, t, play, solved, few) = absurd (is.is.least ds ps t play solved few)
 rest_some board m s (Some v) is solvable = (v, refl)
 
-solvable_by : (board : Board) (m v : ℕ) (s : Scene) → EndsBy board m s v → SolvableWithin board m s
+solvable_by : (board : Board) (m v : ℕ) (s : Scene) → EndsSolvedBy board m s v → SolvableWithin board m s
 solvable_by board m v s (ds, ps, t, play, solved, few, many) = (ds, ps, t, play, solved, few)
 
 some_solvable : (board : Board) (most : ℕ) → SomeHas board most → SolvableWithin board most (start board)
@@ -182,7 +183,7 @@ reading_ended v rests total place k s read are is reading (x, at_x, at_s, at_k) 
     let (r, rest, on, many) = rest_here v rests total place k 0 s read is reading (x, at_x, at_s, at_k) last in
     (omega (arith, many, last), subst (λ (qs : List Push). Finishes v.board (start v.board) qs total) (append-nil read) (on [] (none_left (rest.is.some r refl))))
   where
-    none_left : {r : ℕ} → EndsBy v.board 0 s r → Finishes v.board s [] r
+    none_left : {r : ℕ} → EndsSolvedBy v.board 0 s r → Finishes v.board s [] r
     none_left (ds, [], t, play, solved, few, many) = (ds, t, play, solved, many)
     none_left (ds, p ∷ ps, t, play, solved, few, many) = absurd (omega (arith, few))
 

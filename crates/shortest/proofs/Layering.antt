@@ -31,7 +31,7 @@ use Rattle.successors.specs.Distances.{AreDistinct}
 use Rattle.successors.specs.Expansion.{after_push}
 use Rattle.successors.proofs.lemmas.Lists.{at_before, at_seam}
 use Rattle.shortest.specs.Shortest.{HasMoreStates, IsReachedBy}
-use Rattle.shortest.specs.inside.Listing.{AreKept, AreListed, EndsListing, IsAfter, IsAtPlace, IsKept, IsListed, IsListing, KeepsEach, Lists, ListsIf}
+use Rattle.shortest.specs.inside.Listing.{AreKept, AreListed, EndsListing, IsAfter, IsAtPlace, IsKept, IsReachedState, IsStateList, KeepsEach, Lists, ListsIf}
 
 -- ---- lists
 
@@ -84,7 +84,7 @@ first_listed board most old new e place none fits first zero_ entered = by (list
     alone : AreListed board most 0 (e ∷ [])
     alone = record {
       begun = (e, refl, first, zero_);
-      each = λ i x at_i. subst (IsListed board most) (sym (only i x at_i)) (record {
+      each = λ i x at_i. subst (IsReachedState board most) (sym (only i x at_i)) (record {
         fits = fits;
         reached = ([], [], subst (λ (s : Scene). Play board Any (start board) [] [] s) (sym first) (stay tt), sym zero_);
         few = omega (arith, zero_);
@@ -129,7 +129,7 @@ module _ (board : Board) (most place : ℕ) (old : List Entry) (k : ℕ) (s : Sc
     begun = (let (y, at_y, first, zero_) = listed.begun in (y, at_before old (e ∷ []) 0 y at_y, first, zero_));
     each = λ i y at_i. elim (either_at old e i y at_i) [
       | inl before ↦ listed.each i y before
-      | inr (end, is) ↦ subst (IsListed board most) (sym is) (record {
+      | inr (end, is) ↦ subst (IsReachedState board most) (sym is) (record {
         fits = fits;
         reached = subst (λ (n : ℕ). IsReachedBy board n e.position) (sym count) (subst (IsReachedBy board (suc k)) (sym there)
             (reached_after board k s p scene can (subst (λ (n : ℕ). IsReachedBy board n s) at_place.3 (subst (IsReachedBy board at_place.0.pushes) same (listed.each place at_place.0 at_place.1).reached))));

@@ -2,3 +2,4 @@ pub mod Rounds
 pub mod Layering
 pub mod Onward
 pub mod Ends
+pub mod Pieces

@@ -23,8 +23,9 @@ use Rattle.prover.proofs.lemmas.Pruning.{moved, pushed_from, pushed_push}
 use Rattle.store.specs.Places.{IsPlaceOf}
 use Rattle.store.specs.Visited.{Entry, IsNew}
 use Rattle.successors.specs.Expansion.{after_push}
-use Rattle.shortest.specs.Shortest.{EndsBy, IsAtMost, IsReachedBy, IsRest}
-use Rattle.shortest.specs.inside.Listing.{AreAll, IsAtPlace, IsKept, IsListed, StatesView}
+use Rattle.shortest.specs.Shortest.{IsReachedBy}
+use Rattle.shortest.specs.inside.Resting.{EndsSolvedBy, IsAtMost, IsRest}
+use Rattle.shortest.specs.inside.Listing.{AreAll, IsAtPlace, IsKept, IsReachedState, StatesView}
 use Rattle.shortest.specs.inside.Resting.{AreLeastBy, AreRests, IsLeastBy, IsOnward, IsRestOf, IsWay, LeadsOn, moves_of}
 use Rattle.shortest.specs.inside.Walking.{IsWalkLength}
 use Rattle.shortest.specs.declared.ways.Way.{Way}
@@ -54,7 +55,7 @@ module _ (v : StatesView) (rests : List (Option ℕ)) (k : ℕ) (s : Scene) (are
   same : onward.at_place.0.position ≡ s
   same = onward.at_place.2
 
-  listed : IsListed v.board v.most onward.at_place.0
+  listed : IsReachedState v.board v.most onward.at_place.0
   listed = are.listed.each onward.place onward.at_place.0 onward.at_place.1
 
   pub onward_fits : FitsLevel v.board s
@@ -175,7 +176,7 @@ least_more board m s pushes i p old here new at_i one two before now j q lt at_j
 
 -- the play that a way begins
 pub play_of : (board : Board) (m : ℕ) (s : Scene) (p : Push) (walk rest : ℕ) → IsScene board s → CanPush board s p →
-    IsWalkLength board s (next board p.square (opposite p.dir)) walk → EndsBy board m (after_push board s p) rest → EndsBy board (suc m) s (walk + 1 + rest)
+    IsWalkLength board s (next board p.square (opposite p.dir)) walk → EndsSolvedBy board m (after_push board s p) rest → EndsSolvedBy board (suc m) s (walk + 1 + rest)
 play_of board m s p walk rest scene can shortest (ds, ps, t, play, solved, few, many) =
     let (es, walked, long) = shortest.some in
     let e = length-append es (p.dir ∷ ds) in (
@@ -203,12 +204,12 @@ best_is v rests k m s pushes count best are onward sum all over ways least = rec
     scene : IsScene v.board s
     scene = (onward_fits v rests k s are onward).scene
 
-    some : (o : Option Way) → ((way : Way) → o ≡ Some way → IsWay v.board v.entries rests k s way) → (n : ℕ) → moves_of o ≡ Some n → EndsBy v.board (suc m) s n
+    some : (o : Option Way) → ((way : Way) → o ≡ Some way → IsWay v.board v.entries rests k s way) → (n : ℕ) → moves_of o ≡ Some n → EndsSolvedBy v.board (suc m) s n
     some None is n e = absurd (none-some n e)
     some (Some way) is n e =
         let w = is way refl in
         let there = rest_there v rests k s are onward way.push way.place w.rest m sum w.leads in
-        subst (EndsBy v.board (suc m) s) (sym w.moves ∙ same_Some way.moves n e)
+        subst (EndsSolvedBy v.board (suc m) s) (sym w.moves ∙ same_Some way.moves n e)
         (play_of v.board m s way.push w.walk w.rest scene w.possible w.walked (there.is.some w.rest refl))
 
     small : (o : Option Way) → ((way : Way) → o ≡ Some way → IsWay v.board v.entries rests k s way) → (n : ℕ) → moves_of o ≡ Some n → n ≤ suc m * 4294967296
@@ -234,7 +235,7 @@ best_is v rests k m s pushes count best are onward sum all over ways least = rec
 pub rest_solved : (board : Board) (s : Scene) → IsSolved board s → IsRestOf board 0 s (Some 0)
 rest_solved board s solved = record {
   is = record {
-    some = λ n e. (let f = same_Some 0 n e in subst (EndsBy board 0 s) f ([], [], s, stay tt, solved, omega arith, refl));
+    some = λ n e. (let f = same_Some 0 n e in subst (EndsSolvedBy board 0 s) f ([], [], s, stay tt, solved, omega arith, refl));
     least = λ ds ps t play end few. omega arith;
   };
   small = λ n e. (let f = same_Some 0 n e in omega (arith, f));

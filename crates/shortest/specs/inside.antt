@@ -2,3 +2,4 @@
 pub mod Listing
 pub mod Walking
 pub mod Resting
+pub mod Improving

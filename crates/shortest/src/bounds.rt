@@ -6,9 +6,13 @@ ghost use Rattle.prices.specs.Solving.{NoneWithin};
 
 use grid::{Level, MAX_BOXES, Position};
 use prices::{Distances, Matching};
-use regions::Regions;
+use regions::{Plan, Regions};
 use std::alloc::{AllocError, Global};
 use std::marker::Model;
+
+/// The numbers of listed states at which the listing makes tables of regions, each with the bytes that a table may
+/// take. Many lists end before. More stages, or regions chosen for the listed states, take longer than they save.
+const STAGES: [(usize, usize); 2] = [(1_000, 128_000), (3_000, 1_000_000)];
 
 /// A level, the fewest pushes of its solutions, and bounds on the pushes that states need. Contracts see the first two.
 #[derive(Drop)]
@@ -16,6 +20,8 @@ pub(crate) struct Bounds<'a> {
     level: &'a Level,
     most: u32,
     regions: Regions,
+    // how many of the stages have made their tables
+    stages: usize,
 }
 
 impl<'a> Model for Bounds<'a> {
@@ -39,7 +45,27 @@ impl<'a> Bounds<'a> {
             level,
             most,
             regions: Regions::of_prices(alloc, level)?,
+            stages: 0,
         })
+    }
+
+    /// Makes the tables of the next stage in place of those before, if the stage begins at `listed` states or fewer.
+    /// Fails only if out of memory.
+    pub(crate) fn make_tables_at(&mut self, alloc: Global, listed: usize) -> Result<(), AllocError>
+        ensures { self.new ≡ self.old }
+    {
+        let Some((first, bytes)) = STAGES.get(self.stages) else {
+            return Ok(());
+        };
+        if listed < *first {
+            return Ok(());
+        }
+        self.stages += 1;
+        let level = self.level;
+        let mut plan = self.regions.plan(alloc, level, *bytes)?;
+        run_plan(alloc, &mut plan)?;
+        self.regions.take(level, plan);
+        Ok(())
     }
 
     /// The fewest pushes of the level's solutions.
@@ -64,4 +90,12 @@ impl<'a> Bounds<'a> {
         let low = self.regions.lower(state, matching);
         low <= u64::from(left)
     }
+}
+
+// Makes the tables of a plan. Fails only if out of memory.
+fn run_plan(alloc: Global, plan: &mut Plan) -> Result<(), AllocError> {
+    for task in plan.tasks() {
+        task.run(alloc)?;
+    }
+    Ok(())
 }

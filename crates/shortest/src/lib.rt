@@ -4,13 +4,17 @@
 //! search takes the fewest pushes of a level as known, and has three steps:
 //!
 //! 1. It lists the states that plays from the start reach, by their numbers of pushes. It leaves a push out only if no
-//!    play goes on from there and solves the level with the pushes that are left.
+//!    play goes on from there and solves the level with the pushes that are left. A long list makes tables of regions
+//!    for this.
 //! 2. From the last state to the first it finds the fewest moves from each state to the end: over the pushes that are
 //!    possible there, the least sum of the shortest walk behind the box, the push, and the fewest moves after it.
 //! 3. From the start on it reads the pushes of the least sums.
+//!
+//! [`improve`] takes less time: it saves moves of a given solution, piece by piece, and does not promise the fewest.
 #![tactic(auto)]
 
 mod bounds;
+mod improving;
 mod listing;
 mod outcome;
 mod reading;
@@ -19,6 +23,8 @@ mod searching;
 mod states;
 mod walks;
 mod ways;
+mod windows;
 
+pub use improving::improve;
 pub use outcome::MovesOutcome;
 pub use searching::search_moves;

@@ -8,7 +8,7 @@ ghost use Rattle.store.specs.FoundView.{FitsGrid};
 ghost use Rattle.store.specs.Visited.{Entry};
 ghost use Rattle.successors.specs.Capping.{capped};
 ghost use Rattle.successors.specs.Expanding.{HasPushesOf};
-ghost use Rattle.shortest.specs.inside.Listing.{EndsListing, IsAfter, IsAtPlace, IsListing, ListsIf};
+ghost use Rattle.shortest.specs.inside.Listing.{EndsListing, IsAfter, IsAtPlace, IsStateList, ListsIf};
 
 use crate::bounds::Bounds;
 use crate::states::{Reached, reached_at};
@@ -32,7 +32,7 @@ pub(crate) fn begun(alloc: Global, level: &Level, first: &Position) -> Result<Vi
     requires first { first.now ≡ start level.now }
     requires fits { FitsLevel level.now (start level.now) }
     requires few { box_count level.now ≤ MAX_BOXES }
-    ensures { IfOk result (λ listed. (most : ℕ) → IsListing level.now most 0 listed) }
+    ensures { IfOk result (λ listed. (most : ℕ) → IsStateList level.now most 0 listed) }
 {
     let mut listed = Visited::of(alloc, level.boxes(), level.squares());
     let _ = listed.enter(first, label_of(0))?;
@@ -48,13 +48,13 @@ pub(crate) fn list_states(
     limit: u32,
     listed: &mut Visited,
 ) -> Result<bool, AllocError>
-    requires listing { IsListing level.now most 0 listed.old }
+    requires listing { IsStateList level.now most 0 listed.old }
     requires few { box_count level.now ≤ MAX_BOXES }
     ensures { IfOk result (λ whole. EndsListing level.now most limit listed.new whole) }
 {
     let problem = problem_of(alloc, level)?;
-    let bounds = Bounds::of(alloc, level, most)?;
-    list_all(alloc, &problem, &bounds, limit, listed)
+    let mut bounds = Bounds::of(alloc, level, most)?;
+    list_all(alloc, &problem, &mut bounds, limit, listed)
 }
 
 // The problem of a level, with no cap: the bounds prune in its place.
@@ -65,17 +65,17 @@ fn problem_of(alloc: Global, level: &Level) -> Result<Problem, AllocError>
     Problem::of(alloc, &shared, None)
 }
 
-// Expands the states in order.
+// Expands the states in order. Makes tables of larger regions the more states are listed.
 fn list_all(
     alloc: Global,
     problem: &Problem,
-    bounds: &Bounds<'_>,
+    bounds: &mut Bounds<'_>,
     limit: u32,
     listed: &mut Visited,
 ) -> Result<bool, AllocError>
-    requires board { problem.now.board ≡ bounds.now.board }
-    requires listing { IsListing bounds.now.board bounds.now.most 0 listed.old }
-    ensures { IfOk result (λ whole. EndsListing bounds.now.board bounds.now.most limit listed.new whole) }
+    requires board { problem.now.board ≡ bounds.old.board }
+    requires listing { IsStateList bounds.old.board bounds.old.most 0 listed.old }
+    ensures { IfOk result (λ whole. EndsListing bounds.old.board bounds.old.most limit listed.new whole) }
 {
     let mut workspace = Workspace {
         expander: Expander::new(alloc, problem)?,
@@ -87,6 +87,7 @@ fn list_all(
         if listed.len() > limit as usize {
             return Ok(false);
         }
+        bounds.make_tables_at(alloc, listed.len())?;
         expand(bounds, listed, place, &mut workspace)?;
         place += 1;
     }
@@ -100,10 +101,10 @@ fn expand(
     place: usize,
     workspace: &mut Workspace<'_>,
 ) -> Result<(), AllocError>
-    requires listing { IsListing bounds.now.board bounds.now.most place listed.old }
+    requires listing { IsStateList bounds.now.board bounds.now.most place listed.old }
     requires place { place < length listed.old.entries }
     requires board { workspace.old.expander.task.board ≡ bounds.now.board }
-    ensures listing { OnOk result (IsListing bounds.now.board bounds.now.most (suc place) listed.new) }
+    ensures listing { OnOk result (IsStateList bounds.now.board bounds.now.most (suc place) listed.new) }
     ensures board { workspace.new.expander.task.board ≡ bounds.now.board }
 {
     let from = reached_at(listed, place);
@@ -121,11 +122,11 @@ fn list_after(
     listed: &mut Visited,
     workspace: &mut Workspace<'_>,
 ) -> Result<(), AllocError>
-    requires listing { IsListing bounds.now.board bounds.now.most place listed.old }
+    requires listing { IsStateList bounds.now.board bounds.now.most place listed.old }
     requires at_place { IsAtPlace listed.old.entries place from.now.state from.now.pushes }
     requires fewer { from.now.pushes < bounds.now.most }
     requires board { workspace.old.expander.task.board ≡ bounds.now.board }
-    ensures listing { OnOk result (IsListing bounds.now.board bounds.now.most (suc place) listed.new) }
+    ensures listing { OnOk result (IsStateList bounds.now.board bounds.now.most (suc place) listed.new) }
     ensures board { workspace.new.expander.task.board ≡ bounds.now.board }
 {
     workspace.expander.find_pushes(&from.state);

@@ -6,8 +6,9 @@ ghost use Rattle.lurd.specs.declared.verdict.Verdict.TheVariants.{Solved};
 ghost use Rattle.prover.specs.Fewest.{NoneHasFewer};
 ghost use Rattle.prover.specs.Parity.{SomeHas};
 ghost use Rattle.prover.specs.declared.outcome.SearchFault.{SearchFault};
-ghost use Rattle.shortest.specs.Shortest.{IsMovesOutcome, NoneIsBetter};
-ghost use Rattle.shortest.specs.inside.Listing.{IsListing};
+ghost use Rattle.shortest.specs.Outcomes.{IsMovesOutcome};
+ghost use Rattle.shortest.specs.Shortest.{NoneIsBetter};
+ghost use Rattle.shortest.specs.inside.Listing.{IsStateList};
 
 use crate::listing::{begun, list_states};
 use crate::outcome::MovesOutcome;
@@ -73,7 +74,7 @@ fn search_in(
     limit: u32,
     listed: &mut Visited,
 ) -> Result<MovesOutcome, AllocError>
-    requires listing { IsListing level.now pushes 0 listed.old }
+    requires listing { IsStateList level.now pushes 0 listed.old }
     requires few { box_count level.now ≤ MAX_BOXES }
     requires some { SomeHas level.now pushes }
     requires fewest { NoneHasFewer level.now pushes }
@@ -90,7 +91,7 @@ fn search_in(
 
 // The moves of the best solution, once all states are listed.
 fn best_of(alloc: Global, level: &Level, pushes: u32, listed: &Visited) -> Result<Moves, AllocError>
-    requires listing { IsListing level.now pushes (length listed.now.entries) listed.now }
+    requires listing { IsStateList level.now pushes (length listed.now.entries) listed.now }
     requires some { SomeHas level.now pushes }
     requires fewest { NoneHasFewer level.now pushes }
     ensures { IfOk result (λ moves. IsVerdict level.now moves (Solved pushes (length moves)) ×

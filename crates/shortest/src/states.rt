@@ -3,7 +3,7 @@ ghost use Rattle.std.specs.Prelude.{◌≡◌, ◌<◌, length};
 ghost use Rattle.grid.specs.States.{FitsLevel};
 ghost use Rattle.prover.specs.Fewest.{NoneHasFewer};
 ghost use Rattle.store.specs.Places.{IsPlaceOf};
-ghost use Rattle.shortest.specs.inside.Listing.{AreAll, IsAtPlace, IsListing};
+ghost use Rattle.shortest.specs.inside.Listing.{AreAll, IsAtPlace, IsStateList};
 
 use grid::{Level, Position};
 use std::marker::Model;
@@ -41,7 +41,7 @@ impl<'a> Model for States<'a> {
 impl<'a> States<'a> {
     /// The states of a list that is all expanded. The fewest pushes of the level's solutions are `most`.
     pub(crate) fn of(level: &'a Level, listed: &'a Visited, most: u32) -> States<'a>
-        requires listing { IsListing level.now most (length listed.now.entries) listed.now }
+        requires listing { IsStateList level.now most (length listed.now.entries) listed.now }
         requires fewest { NoneHasFewer level.now most }
         ensures { result ≡ record { board = level.now; most = most; entries = listed.now.entries } }
     {

@@ -5,7 +5,7 @@ ghost use Rattle.grid.specs.States.{FitsLevel};
 ghost use Rattle.area.specs.Pushes.{CanPush};
 ghost use Rattle.prices.specs.Solving.{SolvableWithin};
 ghost use Rattle.successors.specs.Expansion.{after_push};
-ghost use Rattle.shortest.specs.Shortest.{IsAtMost};
+ghost use Rattle.shortest.specs.inside.Resting.{IsAtMost};
 ghost use Rattle.shortest.specs.inside.Listing.{AreAll};
 ghost use Rattle.shortest.specs.inside.Resting.{IsLeastBy, IsOnward, IsRestOf, IsWay, LeadsOn, moves_of};
 ghost use Rattle.shortest.specs.inside.Walking.{IsReady, IsWalkLength};

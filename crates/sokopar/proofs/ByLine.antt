@@ -24,7 +24,7 @@ use Rattle.sokopar.specs.declared.finding.Finding.{Finding}
 use Rattle.sokopar.specs.declared.totals.Totals.{Totals}
 use Rattle.sokopar.specs.inside.Sending.{SendsByLine, SendsLevel, SendsLevels, SendsLine}
 use Rattle.sokopar.specs.inside.Totals.{AreFew, counted, status_of, totals_of, line_of_totals}
-use Rattle.sokopar.proofs.Cutting.{rest_of}
+use Rattle.xsb.proofs.lemmas.Cutting.{rest_of}
 use Rattle.sokopar.proofs.Listings.{HasListed, good-first, good-on, listed-all, listed-more}
 use Rattle.sokopar.proofs.Writing.{wrote_more, wrote_none}
 
@@ -74,20 +74,20 @@ few-of reported few =
 -- ---- levels
 
 -- how far a collection was reported: the lines of its first levels
-pub record HasReported (cap : Option ℕ) (limit from to : ℕ) (bytes : List ℕ) (left : Collection) (number : ℕ) (totals : Totals) (old new : Seen) : Type 0 where
+pub record HasReported (wanted : Bool) (cap : Option ℕ) (limit from to : ℕ) (bytes : List ℕ) (left : Collection) (number : ℕ) (totals : Totals) (old new : Seen) : Type 0 where
   pub listing : List Listed
   pub so_far : HasListed bytes left listing
   pub reported : List Reported
-  pub right : AreReported cap limit from to listing reported
+  pub right : AreReported wanted cap limit from to listing reported
   pub counted_are : number ≡ length listing
   pub totals_are : totals ≡ totals_of reported
   pub few : length reported ≤ length listing
   pub written : WritesWhole old new (reported_lines cap limit reported)
   pub room : number + lines_left left ≤ MAX_FILE
 
-pub reported_none : (cap : Option ℕ) (limit from to : ℕ) (bytes : List ℕ) (left : Collection) (totals : Totals) (seen : Seen) → HasRead bytes left [] →
-    lines_left left ≤ MAX_FILE → totals ≡ totals_of [] → HasReported cap limit from to bytes left 0 totals seen seen
-reported_none cap limit from to bytes left totals seen read few is = record {
+pub reported_none : (wanted : Bool) (cap : Option ℕ) (limit from to : ℕ) (bytes : List ℕ) (left : Collection) (totals : Totals) (seen : Seen) → HasRead bytes left [] →
+    lines_left left ≤ MAX_FILE → totals ≡ totals_of [] → HasReported wanted cap limit from to bytes left 0 totals seen seen
+reported_none wanted cap limit from to bytes left totals seen read few is = record {
   listing = [];
   so_far = record { founds = []; read = read; each = tt };
   reported = [];
@@ -100,18 +100,18 @@ reported_none cap limit from to bytes left totals seen read few is = record {
 }
 
 -- the totals are few
-pub reported_few : (cap : Option ℕ) (limit from to : ℕ) (bytes : List ℕ) (left : Collection) (number : ℕ) (totals : Totals) (old new : Seen) →
-    HasReported cap limit from to bytes left number totals old new → AreFew totals
-reported_few cap limit from to bytes left number totals old new is =
+pub reported_few : (wanted : Bool) (cap : Option ℕ) (limit from to : ℕ) (bytes : List ℕ) (left : Collection) (number : ℕ) (totals : Totals) (old new : Seen) →
+    HasReported wanted cap limit from to bytes left number totals old new → AreFew totals
+reported_few wanted cap limit from to bytes left number totals old new is =
     let counted_are = is.counted_are in let few = is.few in let room = is.room in
     subst (λ (t : Totals). AreFew t) (sym is.totals_are) (few-of is.reported (omega (arith, counted_are, few, room)))
 
 -- a level more, whose number is not in the range
-pub reported_outside : {cap : Option ℕ} {limit from to : ℕ} {bytes : List ℕ} {first : Collection} {number : ℕ} {totals : Totals} {old new : Seen}
-    (last : Collection) (entry : BoardEntry) (is : HasReported cap limit from to bytes first number totals old new) →
+pub reported_outside : {wanted : Bool} {cap : Option ℕ} {limit from to : ℕ} {bytes : List ℕ} {first : Collection} {number : ℕ} {totals : Totals} {old new : Seen}
+    (last : Collection) (entry : BoardEntry) (is : HasReported wanted cap limit from to bytes first number totals old new) →
     GivesNext bytes is.so_far.founds last (Some entry) → lines_left last < lines_left first → ¬ (IsBetween from to (number + 1)) →
-    HasReported cap limit from to bytes last (number + 1) totals old new
-reported_outside {cap} {limit} {from} {to} {bytes} {first} {number} {totals} {old} {new} last entry is next fewer not =
+    HasReported wanted cap limit from to bytes last (number + 1) totals old new
+reported_outside {wanted} {cap} {limit} {from} {to} {bytes} {first} {number} {totals} {old} {new} last entry is next fewer not =
     let counted_are = is.counted_are in let long = length-append is.listing (listed_of entry ∷ []) in let room = is.room in let few = is.few in
     let at : suc (length is.listing) ≡ number + 1 = omega (arith, counted_are) in
     record {
@@ -133,21 +133,21 @@ begins-of bytes left listing is =
     record { founds = is.founds; others = rest.0; all = rest.1; each = is.each }
 
 -- what the levels have with one more
-right-more : (cap : Option ℕ) (limit from to n : ℕ) (listing : List Listed) (reported : List Reported) (listed : Listed) (finding : Finding) →
-    AreReported cap limit from to listing reported → n ≡ suc (length listing) → IsBetween from to n → IsFinding cap limit listed.board finding →
-    AreReported cap limit from to (listing ++ listed ∷ []) (reported ++ record { number = n; finding = finding } ∷ [])
-right-more cap limit from to n listing reported listed finding right at within is =
+right-more : (wanted : Bool) (cap : Option ℕ) (limit from to n : ℕ) (listing : List Listed) (reported : List Reported) (listed : Listed) (finding : Finding) →
+    AreReported wanted cap limit from to listing reported → n ≡ suc (length listing) → IsBetween from to n → IsFinding wanted cap limit listed.board finding →
+    AreReported wanted cap limit from to (listing ++ listed ∷ []) (reported ++ record { number = n; finding = finding } ∷ [])
+right-more wanted cap limit from to n listing reported listed finding right at within is =
     let P : ℕ → Type 0 = λ (k : ℕ). IsBetween from to k →
-    AreReported cap limit from to (listing ++ listed ∷ []) (reported ++ record { number = k; finding = finding } ∷ []) in
+    AreReported wanted cap limit from to (listing ++ listed ∷ []) (reported ++ record { number = k; finding = finding } ∷ []) in
     subst P (sym at) (λ inside_it. inside listed finding right inside_it is) within
 
 -- a level more, whose line was written
-pub reported_inside : {cap : Option ℕ} {limit from to : ℕ} {bytes : List ℕ} {first : Collection} {number : ℕ} {totals : Totals} {old mid : Seen}
-    (last : Collection) (entry : BoardEntry) (more : Totals) (new : Seen) (is : HasReported cap limit from to bytes first number totals old mid) →
+pub reported_inside : {wanted : Bool} {cap : Option ℕ} {limit from to : ℕ} {bytes : List ℕ} {first : Collection} {number : ℕ} {totals : Totals} {old mid : Seen}
+    (last : Collection) (entry : BoardEntry) (more : Totals) (new : Seen) (is : HasReported wanted cap limit from to bytes first number totals old mid) →
     GivesNext bytes is.so_far.founds last (Some entry) → lines_left last < lines_left first → IsBetween from to (number + 1) →
-    SendsLevel cap limit (number + 1) entry.board totals mid new (Ok more) →
-    HasReported cap limit from to bytes last (number + 1) more old new
-reported_inside {cap} {limit} {from} {to} {bytes} {first} {number} {totals} {old} {mid} last entry more new is next fewer within sends =
+    SendsLevel wanted cap limit (number + 1) entry.board totals mid new (Ok more) →
+    HasReported wanted cap limit from to bytes last (number + 1) more old new
+reported_inside {wanted} {cap} {limit} {from} {to} {bytes} {first} {number} {totals} {old} {mid} last entry more new is next fewer within sends =
     let counted_are = is.counted_are in let long = length-append is.listing (listed_of entry ∷ []) in let room = is.room in let few = is.few in
     let finding = sends.0 in
     let one : Reported = record { number = number + 1; finding = finding } in
@@ -157,7 +157,7 @@ reported_inside {cap} {limit} {from} {to} {bytes} {first} {number} {totals} {old
       listing = is.listing ++ listed_of entry ∷ [];
       so_far = listed-more last entry is.so_far next;
       reported = is.reported ++ one ∷ [];
-      right = right-more cap limit from to (number + 1) is.listing is.reported (listed_of entry) finding is.right (omega (arith, counted_are)) within sends.1;
+      right = right-more wanted cap limit from to (number + 1) is.listing is.reported (listed_of entry) finding is.right (omega (arith, counted_are)) within sends.1;
       counted_are = omega (arith, counted_are, long);
       totals_are = sends.3 ∙ ap (λ (t : Totals). counted t finding) is.totals_are ∙ totals-last is.reported (number + 1) finding;
       few = omega (arith, long, few, wider);
@@ -166,27 +166,27 @@ reported_inside {cap} {limit} {from} {to} {bytes} {first} {number} {totals} {old
     }
 
 -- memory was refused between two lines
-pub stopped_between : (cap : Option ℕ) (limit from to : ℕ) (bytes : List ℕ) (left : Collection) (number : ℕ) (totals : Totals) (old new : Seen)
-    (fault : RunFault) → HasReported cap limit from to bytes left number totals old new → fault ≡ OutOfMemory →
-    SendsByLine (IsCollectionReport cap limit from to bytes) (BeginsCollectionReport cap limit from to bytes) old new (Err fault)
-stopped_between cap limit from to bytes left number totals old new fault is e =
+pub stopped_between : (wanted : Bool) (cap : Option ℕ) (limit from to : ℕ) (bytes : List ℕ) (left : Collection) (number : ℕ) (totals : Totals) (old new : Seen)
+    (fault : RunFault) → HasReported wanted cap limit from to bytes left number totals old new → fault ≡ OutOfMemory →
+    SendsByLine (IsCollectionReport wanted cap limit from to bytes) (BeginsCollectionReport wanted cap limit from to bytes) old new (Err fault)
+stopped_between wanted cap limit from to bytes left number totals old new fault is e =
     let P : RunFault → Type 0 = λ (f : RunFault).
-    SendsByLine (IsCollectionReport cap limit from to bytes) (BeginsCollectionReport cap limit from to bytes) old new (Err f) in
+    SendsByLine (IsCollectionReport wanted cap limit from to bytes) (BeginsCollectionReport wanted cap limit from to bytes) old new (Err f) in
     subst P (sym e)
     (reported_lines cap limit is.reported, (is.listing, begins-of bytes left is.listing is.so_far, is.reported, is.right, refl), is.written)
 
 -- a level could not be reported
-pub stopped_within : {cap : Option ℕ} {limit from to : ℕ} {bytes : List ℕ} {first : Collection} {number : ℕ} {totals : Totals} {old mid : Seen}
-    (last : Collection) (entry : BoardEntry) (fault : RunFault) (new : Seen) (is : HasReported cap limit from to bytes first number totals old mid) →
+pub stopped_within : {wanted : Bool} {cap : Option ℕ} {limit from to : ℕ} {bytes : List ℕ} {first : Collection} {number : ℕ} {totals : Totals} {old mid : Seen}
+    (last : Collection) (entry : BoardEntry) (fault : RunFault) (new : Seen) (is : HasReported wanted cap limit from to bytes first number totals old mid) →
     GivesNext bytes is.so_far.founds last (Some entry) → IsBetween from to (number + 1) →
-    SendsLevel cap limit (number + 1) entry.board totals mid new (Err fault) →
-    SendsByLine (IsCollectionReport cap limit from to bytes) (BeginsCollectionReport cap limit from to bytes) old new (Err fault)
-stopped_within {cap} {limit} {from} {to} {bytes} {first} {number} {totals} {old} {mid} last entry Read new is next within sends = absurd sends
-stopped_within {cap} {limit} {from} {to} {bytes} {first} {number} {totals} {old} {mid} last entry Write new is next within sends =
+    SendsLevel wanted cap limit (number + 1) entry.board totals mid new (Err fault) →
+    SendsByLine (IsCollectionReport wanted cap limit from to bytes) (BeginsCollectionReport wanted cap limit from to bytes) old new (Err fault)
+stopped_within {wanted} {cap} {limit} {from} {to} {bytes} {first} {number} {totals} {old} {mid} last entry Read new is next within sends = absurd sends
+stopped_within {wanted} {cap} {limit} {from} {to} {bytes} {first} {number} {totals} {old} {mid} last entry Write new is next within sends =
     let counted_are = is.counted_are in
     let one : Reported = record { number = number + 1; finding = sends.0 } in
     let so_far = listed-more last entry is.so_far next in
-    let right = right-more cap limit from to (number + 1) is.listing is.reported (listed_of entry) sends.0 is.right (omega (arith, counted_are)) within sends.1 in (
+    let right = right-more wanted cap limit from to (number + 1) is.listing is.reported (listed_of entry) sends.0 is.right (omega (arith, counted_are)) within sends.1 in (
       reported_lines cap limit is.reported,
       reported_line cap limit one,
       (
@@ -201,18 +201,18 @@ stopped_within {cap} {limit} {from} {to} {bytes} {first} {number} {totals} {old}
       ),
       record { between = mid; whole = is.written; part = sends.2 },
     )
-stopped_within {cap} {limit} {from} {to} {bytes} {first} {number} {totals} {old} {mid} last entry TooLong new is next within sends = absurd sends
-stopped_within {cap} {limit} {from} {to} {bytes} {first} {number} {totals} {old} {mid} last entry OutOfMemory new is next within sends = (
+stopped_within {wanted} {cap} {limit} {from} {to} {bytes} {first} {number} {totals} {old} {mid} last entry TooLong new is next within sends = absurd sends
+stopped_within {wanted} {cap} {limit} {from} {to} {bytes} {first} {number} {totals} {old} {mid} last entry OutOfMemory new is next within sends = (
   reported_lines cap limit is.reported,
   (is.listing, begins-of bytes first is.listing is.so_far, is.reported, is.right, refl),
   subst (λ (s : Seen). WritesWhole old s (reported_lines cap limit is.reported)) (sym sends) is.written,
 )
 
 -- no board more: the lines of all levels are written
-pub reported_all : {cap : Option ℕ} {limit from to : ℕ} {bytes : List ℕ} {first : Collection} {number : ℕ} {totals : Totals} {old new : Seen}
-    (last : Collection) (is : HasReported cap limit from to bytes first number totals old new) → GivesNext bytes is.so_far.founds last None →
-    SendsLevels cap limit from to bytes totals old new
-reported_all {cap} {limit} {from} {to} {bytes} {first} {number} {totals} {old} {new} last is all = record {
+pub reported_all : {wanted : Bool} {cap : Option ℕ} {limit from to : ℕ} {bytes : List ℕ} {first : Collection} {number : ℕ} {totals : Totals} {old new : Seen}
+    (last : Collection) (is : HasReported wanted cap limit from to bytes first number totals old new) → GivesNext bytes is.so_far.founds last None →
+    SendsLevels wanted cap limit from to bytes totals old new
+reported_all {wanted} {cap} {limit} {from} {to} {bytes} {first} {number} {totals} {old} {new} last is all = record {
   listing = is.listing;
   lists = listed-all last is.so_far all;
   begins = begins-of bytes first is.listing is.so_far;
@@ -225,10 +225,10 @@ reported_all {cap} {limit} {from} {to} {bytes} {first} {number} {totals} {old} {
 -- ---- the report
 
 -- the line of totals ends the report, or is not written whole
-pub sent_all : (cap : Option ℕ) (limit from to : ℕ) (bytes : List ℕ) (totals : Totals) (old mid new : Seen) (status : ℕ) →
-    SendsLevels cap limit from to bytes totals old mid → WritesWhole mid new (line_of_totals cap totals) → status ≡ status_of totals →
-    SendsByLine (IsCollectionReport cap limit from to bytes) (BeginsCollectionReport cap limit from to bytes) old new (Ok status)
-sent_all cap limit from to bytes totals old mid new status is last e =
+pub sent_all : (wanted : Bool) (cap : Option ℕ) (limit from to : ℕ) (bytes : List ℕ) (totals : Totals) (old mid new : Seen) (status : ℕ) →
+    SendsLevels wanted cap limit from to bytes totals old mid → WritesWhole mid new (line_of_totals cap totals) → status ≡ status_of totals →
+    SendsByLine (IsCollectionReport wanted cap limit from to bytes) (BeginsCollectionReport wanted cap limit from to bytes) old new (Ok status)
+sent_all wanted cap limit from to bytes totals old mid new status is last e =
     let words = subst (λ (t : Totals). WritesWhole mid new (line_of_totals cap t)) is.totals_are last in (
       collection_report cap limit is.reported,
       (is.listing, is.lists, is.reported, is.right, refl),
@@ -236,11 +236,11 @@ sent_all cap limit from to bytes totals old mid new status is last e =
       e ∙ ap status_of is.totals_are,
     )
 
-sent_part : (cap : Option ℕ) (limit from to : ℕ) (bytes : List ℕ) (totals : Totals) (old mid new : Seen) (fault : RunFault) →
-    SendsLevels cap limit from to bytes totals old mid → SendsLine {A = Unit} (line_of_totals cap totals) mid new (Err fault) →
-    SendsByLine (IsCollectionReport cap limit from to bytes) (BeginsCollectionReport cap limit from to bytes) old new (Err fault)
-sent_part cap limit from to bytes totals old mid new Read is sends = absurd sends
-sent_part cap limit from to bytes totals old mid new Write is sends =
+sent_part : (wanted : Bool) (cap : Option ℕ) (limit from to : ℕ) (bytes : List ℕ) (totals : Totals) (old mid new : Seen) (fault : RunFault) →
+    SendsLevels wanted cap limit from to bytes totals old mid → SendsLine {A = Unit} (line_of_totals cap totals) mid new (Err fault) →
+    SendsByLine (IsCollectionReport wanted cap limit from to bytes) (BeginsCollectionReport wanted cap limit from to bytes) old new (Err fault)
+sent_part wanted cap limit from to bytes totals old mid new Read is sends = absurd sends
+sent_part wanted cap limit from to bytes totals old mid new Write is sends =
     let words = subst (λ (t : Totals). WritesPart mid new (line_of_totals cap t)) is.totals_are sends in (
       reported_lines cap limit is.reported,
       totals_line cap is.reported,
@@ -250,21 +250,21 @@ sent_part cap limit from to bytes totals old mid new Write is sends =
       ),
       record { between = mid; whole = is.written; part = words },
     )
-sent_part cap limit from to bytes totals old mid new TooLong is sends = absurd sends
-sent_part cap limit from to bytes totals old mid new OutOfMemory is sends = (
+sent_part wanted cap limit from to bytes totals old mid new TooLong is sends = absurd sends
+sent_part wanted cap limit from to bytes totals old mid new OutOfMemory is sends = (
   reported_lines cap limit is.reported,
   (is.listing, is.begins, is.reported, is.right, refl),
   subst (λ (s : Seen). WritesWhole old s (reported_lines cap limit is.reported)) (sym sends) is.written,
 )
 
-pub sent_error : (cap : Option ℕ) (limit from to : ℕ) (bytes : List ℕ) (totals : Totals) (old mid new : Seen) (fault : RunFault)
-    (result : Result ℕ RunFault) → result ≡ Err fault → SendsLevels cap limit from to bytes totals old mid →
+pub sent_error : (wanted : Bool) (cap : Option ℕ) (limit from to : ℕ) (bytes : List ℕ) (totals : Totals) (old mid new : Seen) (fault : RunFault)
+    (result : Result ℕ RunFault) → result ≡ Err fault → SendsLevels wanted cap limit from to bytes totals old mid →
     SendsLine {A = Unit} (line_of_totals cap totals) mid new (Err fault) →
-    SendsByLine (IsCollectionReport cap limit from to bytes) (BeginsCollectionReport cap limit from to bytes) old new result
-sent_error cap limit from to bytes totals old mid new fault result e is sends =
+    SendsByLine (IsCollectionReport wanted cap limit from to bytes) (BeginsCollectionReport wanted cap limit from to bytes) old new result
+sent_error wanted cap limit from to bytes totals old mid new fault result e is sends =
     let P : Result ℕ RunFault → Type 0 = λ (r : Result ℕ RunFault).
-    SendsByLine (IsCollectionReport cap limit from to bytes) (BeginsCollectionReport cap limit from to bytes) old new r in
-    subst P (sym e) (sent_part cap limit from to bytes totals old mid new fault is sends)
+    SendsByLine (IsCollectionReport wanted cap limit from to bytes) (BeginsCollectionReport wanted cap limit from to bytes) old new r in
+    subst P (sym e) (sent_part wanted cap limit from to bytes totals old mid new fault is sends)
 
 -- an error that is passed on
 pub err_is : {T E : Type 0} (P : E → Type 0) (r : Result T E) (fault : E) → r ≡ Err fault → P fault → IfErr r P

@@ -1,6 +1,5 @@
 mod Acts
 mod ByLine
-mod Cutting
 mod Judging
 mod Listings
 mod Maps

@@ -5,6 +5,7 @@ pub mod Entries
 pub mod Report
 pub mod Runs
 pub mod Solving
+pub mod Moves
 pub mod Best
 pub mod Collection
 pub mod Proving

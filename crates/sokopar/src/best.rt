@@ -1,29 +1,21 @@
 ghost use Rattle.std.specs.Prelude.{◌≡◌, ◌++◌, ◌≤◌, length, OnOk, IfOk};
-ghost use Rattle.sokopar.specs.Best.{IsBest, IsBestReport, optimal_words, outcome_report, outcome_words};
-ghost use Rattle.sokopar.specs.Best.{undecided_words};
+ghost use Rattle.sokopar.specs.Best.{IsBest, IsBestReport, outcome_report, outcome_words, undecided_words};
 ghost use Rattle.sokopar.specs.Report.{IsSearchOf};
 ghost use Rattle.sokopar.specs.inside.Parts.{FindsOn, none_words};
 
 use crate::listing::{Chosen, level_of};
+use crate::moves::put_best;
+use crate::outcome::{BestOutcome, search_best};
 use crate::proving::SearchConfig;
-use crate::replay::put_counts;
 use crate::report::Report;
 use crate::show::{fault_report, no_level};
 use crate::solve::{put_limit, too_many_boxes};
 use crate::text::Text;
 use grid::Level;
-use prover::{Outcome, SearchFault};
+use prover::SearchFault;
 use std::alloc::{AllocError, Global};
 use std::thread::Threads;
 use xsb::MAX_FILE;
-
-/// Appends the numbers of pushes and moves of a solution with the fewest pushes.
-pub(crate) fn put_optimal(text: &mut Text, pushes: usize, moves: usize) -> Result<(), AllocError>
-    ensures { OnOk result (text.new ≡ text.old ++ optimal_words pushes moves) }
-{
-    text.put(b"optimal ")?;
-    put_counts(text, pushes, moves)
-}
 
 /// Appends that no solution has as few pushes as a cap.
 pub(crate) fn put_none_within(text: &mut Text, cap: Option<u32>) -> Result<(), AllocError>
@@ -49,24 +41,24 @@ pub(crate) fn put_undecided(text: &mut Text, limit: u32, bound: u32) -> Result<(
 /// Appends an outcome in words, under a cap of pushes and a limit of positions.
 pub(crate) fn put_outcome(
     text: &mut Text,
-    outcome: &Outcome,
+    outcome: &BestOutcome,
     cap: Option<u32>,
     limit: u32,
 ) -> Result<(), AllocError>
     ensures { OnOk result (text.new ≡ text.old ++ outcome_words cap limit outcome.now) }
 {
     match outcome {
-        Outcome::Least { moves, pushes } => put_optimal(text, *pushes, moves.len()),
-        Outcome::NoneWithin => put_none_within(text, cap),
-        Outcome::Unsolvable => text.put(b"unsolvable"),
-        Outcome::Limit { at_least } => put_undecided(text, limit, *at_least),
+        BestOutcome::Least(best) => put_best(text, best, limit),
+        BestOutcome::NoneWithin => put_none_within(text, cap),
+        BestOutcome::Unsolvable => text.put(b"unsolvable"),
+        BestOutcome::Limit { at_least } => put_undecided(text, limit, *at_least),
     }
 }
 
 /// The report of an outcome under a cap of pushes and a limit of positions.
 fn outcome_report(
     alloc: Global,
-    outcome: &Outcome,
+    outcome: &BestOutcome,
     cap: Option<u32>,
     limit: u32,
 ) -> Result<Report, AllocError>
@@ -76,14 +68,14 @@ fn outcome_report(
     put_outcome(&mut text, outcome, cap, limit)?;
     text.put(b"\n")?;
     let status = match outcome {
-        Outcome::Least { moves, .. } => {
-            text.put_letters(moves)?;
+        BestOutcome::Least(best) => {
+            text.put_letters(&best.moves)?;
             text.put(b"\n")?;
-            0
+            best.claim.status()
         }
-        Outcome::NoneWithin => 1,
-        Outcome::Unsolvable => 1,
-        Outcome::Limit { .. } => 4,
+        BestOutcome::NoneWithin => 1,
+        BestOutcome::Unsolvable => 1,
+        BestOutcome::Limit { .. } => 4,
     };
     Ok(Report::new(text, status))
 }
@@ -96,15 +88,10 @@ fn best_of<R: Threads + Sync>(
     level: &Level,
     config: SearchConfig,
 ) -> Result<Report, AllocError>
-    ensures { IfOk result (λ report. IsSearchOf (IsBest config.cap config.limit) level.now report) }
+    ensures { IfOk result (λ report. IsSearchOf (IsBest config.moves config.cap config.limit) level.now report) }
 {
-    let SearchConfig {
-        workers,
-        limit,
-        cap,
-    } = config;
-    match prover::search(rt, alloc, level, cap, limit, workers) {
-        Ok(outcome) => outcome_report(alloc, &outcome, cap, limit),
+    match search_best(rt, alloc, level, config) {
+        Ok(outcome) => outcome_report(alloc, &outcome, config.cap, config.limit),
         Err(SearchFault::TooManyBoxes) => too_many_boxes(alloc),
         Err(SearchFault::OutOfMemory) => Err(AllocError),
     }
@@ -119,7 +106,7 @@ fn best_report<R: Threads + Sync>(
     config: SearchConfig,
 ) -> Result<Report, AllocError>
     requires { 1 ≤ number }
-    ensures { IfOk result (λ report. FindsOn config.cap config.limit number chosen.now report) }
+    ensures { IfOk result (λ report. FindsOn config.moves config.cap config.limit number chosen.now report) }
 {
     match chosen {
         None => no_level(alloc, number),
@@ -138,7 +125,7 @@ pub(crate) fn best_in<R: Threads + Sync>(
 ) -> Result<Report, AllocError>
     requires number { 1 ≤ number }
     requires bound { length bytes.now ≤ MAX_FILE }
-    ensures { IfOk result (λ report. IsBestReport config.cap config.limit number bytes.now report) }
+    ensures { IfOk result (λ report. IsBestReport config.moves config.cap config.limit number bytes.now report) }
 {
     let chosen = level_of(alloc, bytes, number)?;
     best_report(rt, alloc, &chosen, number, config)

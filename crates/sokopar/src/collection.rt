@@ -77,7 +77,8 @@ fn send_level<R: Threads + Sync, K: Sink>(
     sink: &mut K,
 ) -> Result<Totals, RunFault>
     requires { AreFew totals }
-    ensures { SendsLevel config.cap config.limit number board.now totals (K.seen sink.old) (K.seen sink.new) result }
+    ensures { SendsLevel config.moves config.cap config.limit number board.now totals (K.seen sink.old)
+        (K.seen sink.new) result }
 {
     let finding = find(rt, alloc, board, config)?;
     send_finding(alloc, number, &finding, config, sink)?;
@@ -95,7 +96,8 @@ fn send_board<R: Threads + Sync, K: Sink>(
     sink: &mut K,
 ) -> Result<Totals, RunFault>
     requires { AreFew totals }
-    ensures { SendsLevel config.cap config.limit number entry.board totals (K.seen sink.old) (K.seen sink.new) result }
+    ensures { SendsLevel config.moves config.cap config.limit number entry.board totals (K.seen sink.old)
+        (K.seen sink.new) result }
 {
     let listed = entry.into_entry(alloc)?;
     send_level(rt, alloc, number, &listed.board, config, totals, sink)
@@ -111,11 +113,13 @@ fn send_levels<R: Threads + Sync, K: Sink>(
     sink: &mut K,
 ) -> Result<Totals, RunFault>
     requires { length bytes.now ≤ MAX_FILE }
-    ensures ok { IfOk result (λ totals. SendsLevels request.config.cap request.config.limit request.from request.to
-        bytes.now totals (K.seen sink.old) (K.seen sink.new)) }
+    ensures ok { IfOk result (λ totals. SendsLevels request.config.moves request.config.cap request.config.limit
+        request.from request.to bytes.now totals (K.seen sink.old) (K.seen sink.new)) }
     ensures err { IfErr result (λ fault. SendsByLine
-        (IsCollectionReport request.config.cap request.config.limit request.from request.to bytes.now)
-        (BeginsCollectionReport request.config.cap request.config.limit request.from request.to bytes.now)
+        (IsCollectionReport request.config.moves request.config.cap request.config.limit request.from request.to
+        bytes.now)
+        (BeginsCollectionReport request.config.moves request.config.cap request.config.limit request.from request.to
+        bytes.now)
         (K.seen sink.old) (K.seen sink.new) (Err fault)) }
 {
     let CollectionRequest { from, to, config } = request;
@@ -161,8 +165,10 @@ pub(crate) fn send_collection<R: Threads + Sync, K: Sink>(
 ) -> Result<u8, RunFault>
     requires { length bytes.now ≤ MAX_FILE }
     ensures { SendsByLine
-        (IsCollectionReport request.config.cap request.config.limit request.from request.to bytes.now)
-        (BeginsCollectionReport request.config.cap request.config.limit request.from request.to bytes.now)
+        (IsCollectionReport request.config.moves request.config.cap request.config.limit request.from request.to
+        bytes.now)
+        (BeginsCollectionReport request.config.moves request.config.cap request.config.limit request.from request.to
+        bytes.now)
         (K.seen sink.old) (K.seen sink.new) result }
 {
     let totals = send_levels(rt, alloc, bytes, request, sink)?;

@@ -3,10 +3,11 @@ ghost use Rattle.sokopar.specs.Collection.{IsFinding, finding_words, solution_wo
 
 use crate::best::put_outcome;
 use crate::check::put_fault;
+use crate::outcome::{BestOutcome, search_best};
 use crate::proving::SearchConfig;
 use crate::text::Text;
 use grid::{Level, LevelFault};
-use prover::{Outcome, SearchFault};
+use prover::SearchFault;
 use std::alloc::{AllocError, Global};
 use std::thread::Threads;
 
@@ -14,7 +15,7 @@ use std::thread::Threads;
 #[derive(Drop)]
 pub enum Finding {
     /// The outcome of a search.
-    Searched(Outcome),
+    Searched(BestOutcome),
     /// The level has more boxes than [`MAX_BOXES`](grid::MAX_BOXES).
     TooManyBoxes,
     /// The board is no level.
@@ -29,14 +30,9 @@ fn find_on<R: Threads + Sync>(
     level: &Level,
     config: SearchConfig,
 ) -> Result<Finding, AllocError>
-    ensures { IfOk result (λ finding. IsFinding config.cap config.limit (Ok level.now) finding) }
+    ensures { IfOk result (λ finding. IsFinding config.moves config.cap config.limit (Ok level.now) finding) }
 {
-    let SearchConfig {
-        workers,
-        limit,
-        cap,
-    } = config;
-    match prover::search(rt, alloc, level, cap, limit, workers) {
+    match search_best(rt, alloc, level, config) {
         Ok(outcome) => Ok(Finding::Searched(outcome)),
         Err(SearchFault::TooManyBoxes) => Ok(Finding::TooManyBoxes),
         Err(SearchFault::OutOfMemory) => Err(AllocError),
@@ -50,7 +46,7 @@ pub(crate) fn find<R: Threads + Sync>(
     board: &Result<Level, LevelFault>,
     config: SearchConfig,
 ) -> Result<Finding, AllocError>
-    ensures { IfOk result (λ finding. IsFinding config.cap config.limit board.now finding) }
+    ensures { IfOk result (λ finding. IsFinding config.moves config.cap config.limit board.now finding) }
 {
     match board {
         Ok(level) => find_on(rt, alloc, level, config),
@@ -59,17 +55,17 @@ pub(crate) fn find<R: Threads + Sync>(
 }
 
 /// Appends the solution of an outcome after two spaces, if it has one.
-fn put_solution(text: &mut Text, outcome: &Outcome) -> Result<(), AllocError>
+fn put_solution(text: &mut Text, outcome: &BestOutcome) -> Result<(), AllocError>
     ensures { OnOk result (text.new ≡ text.old ++ solution_words outcome.now) }
 {
     match outcome {
-        Outcome::Least { moves, .. } => {
+        BestOutcome::Least(best) => {
             text.put(b"  ")?;
-            text.put_letters(moves)
+            text.put_letters(&best.moves)
         }
-        Outcome::NoneWithin => Ok(()),
-        Outcome::Unsolvable => Ok(()),
-        Outcome::Limit { .. } => Ok(()),
+        BestOutcome::NoneWithin => Ok(()),
+        BestOutcome::Unsolvable => Ok(()),
+        BestOutcome::Limit { .. } => Ok(()),
     }
 }
 

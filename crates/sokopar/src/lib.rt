@@ -27,6 +27,8 @@ mod fault;
 mod finding;
 mod laws;
 mod listing;
+mod moves;
+mod outcome;
 mod prove;
 mod proving;
 mod reads;

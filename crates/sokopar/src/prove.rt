@@ -1,18 +1,24 @@
-ghost use Rattle.std.specs.Prelude.{◌≡◌, ◌⊎◌, ◌≤◌, ℕ, List, Option, Some, Ok, length, IfOk, IfErr};
+ghost use Rattle.std.specs.Prelude.{◌≡◌, ◌⊎◌, ◌≤◌, ◌<◌, ℕ, true, List, Option, Some, Ok, length, IfOk, IfErr};
 ghost use Rattle.grid.specs.Board.{Board};
+ghost use Rattle.grid.specs.Lawful.{box_count};
 ghost use Rattle.lurd.specs.Verdict.{IsVerdict};
 ghost use Rattle.lurd.specs.declared.limits.TheConstants.{MAX_MOVES};
+ghost use Rattle.lurd.specs.declared.verdict.Verdict.TheVariants.{Solved};
+ghost use Rattle.prover.specs.Fewest.{NoneHasFewer};
 ghost use Rattle.prover.specs.Parity.{SomeHas};
-ghost use Rattle.sokopar.specs.Best.{optimal_words};
+ghost use Rattle.shortest.specs.Outcomes.{IsMovesOutcome};
 ghost use Rattle.sokopar.specs.Listing.{IsLevelOf};
-ghost use Rattle.sokopar.specs.Proving.{IsJudged, IsProofOf, IsProvedBy, IsProveReport, beaten_report};
-ghost use Rattle.sokopar.specs.Proving.{undecided_report};
-ghost use Rattle.sokopar.specs.Report.{IsSearchOf, ReportsOnText, one_line};
+ghost use Rattle.sokopar.specs.Proving.{IsProved, IsProofOf, IsProvedBy, IsProveReport, beaten_report};
+ghost use Rattle.sokopar.specs.Proving.{optimal_report, undecided_report};
+ghost use Rattle.sokopar.specs.Report.{IsSearchOf, ReportsOnText};
 ghost use Rattle.sokopar.specs.Runs.{ReadsIfSome, Stops};
 
-use crate::best::{put_optimal, put_undecided};
+use crate::best::put_undecided;
 use crate::fault::RunFault;
 use crate::listing::{Chosen, level_of};
+use crate::moves::{
+    BestSolution, MovesClaim, best_solution, put_best, put_claimed, put_optimal, search_fewest,
+};
 use crate::proving::ProveRequest;
 use crate::reads::read_whole;
 use crate::replay::{put_counts, text_fault_report, verdict_report};
@@ -25,6 +31,7 @@ use grid::{Level, MAX_BOXES, Moves};
 use lurd::{Verdict, parse, replay};
 use prover::laws::solutions_are_alike;
 use prover::{Outcome, SearchFault};
+use shortest::MovesOutcome;
 use std::alloc::{AllocError, Global};
 use std::thread::Threads;
 use xsb::MAX_FILE;
@@ -36,27 +43,37 @@ struct Counts {
     moves: usize,
 }
 
-/// The report that no solution has fewer pushes.
-fn optimal(alloc: Global, given: Counts) -> Result<Report, AllocError>
-    ensures { IfOk result (λ report. report ≡ one_line (optimal_words given.pushes given.moves) 0) }
+/// The report that no solution has fewer pushes, with a claim on the moves, under a limit of positions.
+fn optimal(
+    alloc: Global,
+    given: Counts,
+    claim: MovesClaim,
+    limit: u32,
+) -> Result<Report, AllocError>
+    ensures { IfOk result (λ report. report ≡ optimal_report limit given.pushes given.moves claim) }
 {
     let mut text = Text::new(alloc);
-    put_optimal(&mut text, given.pushes, given.moves)?;
+    put_claimed(&mut text, given.pushes, given.moves, claim, limit)?;
     text.put(b"\n")?;
-    Ok(Report::new(text, 0))
+    Ok(Report::new(text, claim.status()))
 }
 
-/// The report that a solution with the fewest pushes has fewer pushes.
-fn beaten(alloc: Global, given: Counts, fewest: usize, moves: &Moves) -> Result<Report, AllocError>
-    ensures { IfOk result (λ report. report ≡ beaten_report given.pushes given.moves fewest moves.now) }
+/// The report that another solution is better, under a limit of positions.
+fn beaten(
+    alloc: Global,
+    given: Counts,
+    best: &BestSolution,
+    limit: u32,
+) -> Result<Report, AllocError>
+    ensures { IfOk result (λ report. report ≡ beaten_report limit given.pushes given.moves best.now) }
 {
     let mut text = Text::new(alloc);
     text.put(b"not ")?;
     put_optimal(&mut text, given.pushes, given.moves)?;
     text.put(b", ")?;
-    put_optimal(&mut text, fewest, moves.len())?;
+    put_best(&mut text, best, limit)?;
     text.put(b"\n")?;
-    text.put_letters(moves)?;
+    text.put_letters(&best.moves)?;
     text.put(b"\n")?;
     Ok(Report::new(text, 1))
 }
@@ -73,6 +90,83 @@ fn undecided(alloc: Global, given: Counts, limit: u32, bound: u32) -> Result<Rep
     Ok(Report::new(text, 4))
 }
 
+/// The report of a solution with the fewest pushes, given the moves of one that has, of all these, the fewest moves.
+fn compared(
+    alloc: Global,
+    level: &Level,
+    given: Counts,
+    moves: Moves,
+    request: ProveRequest,
+) -> Result<Report, AllocError>
+    requires wanted { request.moves ≡ true }
+    requires pushes { given.pushes ≤ MAX_MOVES }
+    requires fewest { NoneHasFewer level.now given.pushes }
+    requires best { IsMovesOutcome level.now given.pushes request.limit (MovesOutcome.Least moves) }
+    ensures { IfOk result (λ report. IsProved request.moves request.limit given.pushes given.moves level.now report) }
+{
+    if moves.len() >= given.moves {
+        return optimal(alloc, given, MovesClaim::Fewest, request.limit);
+    }
+    let best = BestSolution {
+        moves,
+        pushes: given.pushes as u32,
+        claim: MovesClaim::Fewest,
+    };
+    beaten(alloc, given, &best, request.limit)
+}
+
+/// The report of a solution with the fewest pushes. If the fewest moves are wanted, it looks for them.
+fn with_fewest_pushes(
+    alloc: Global,
+    level: &Level,
+    given: Counts,
+    request: ProveRequest,
+) -> Result<Report, AllocError>
+    requires some { SomeHas level.now given.pushes }
+    requires pushes { given.pushes ≤ MAX_MOVES }
+    requires fewest { NoneHasFewer level.now given.pushes }
+    requires few { box_count level.now ≤ MAX_BOXES }
+    ensures { IfOk result (λ report. IsProved request.moves request.limit given.pushes given.moves level.now report) }
+{
+    if !request.moves {
+        return optimal(alloc, given, MovesClaim::Counted, request.limit);
+    }
+    let outcome = search_fewest(alloc, level, given.pushes as u32, request.limit)?;
+    match outcome {
+        MovesOutcome::Least { moves } => compared(alloc, level, given, moves, request),
+        MovesOutcome::Limit => optimal(alloc, given, MovesClaim::Open, request.limit),
+    }
+}
+
+/// The report of a solution, given the moves of one that has fewer pushes and, of all solutions, the fewest. If the
+/// fewest moves are wanted, it looks for them.
+fn with_more_pushes<R: Threads + Sync>(
+    rt: &R,
+    alloc: Global,
+    level: &Level,
+    given: Counts,
+    moves: Moves,
+    pushes: u32,
+    request: ProveRequest,
+) -> Result<Report, AllocError>
+    requires solved { IsVerdict level.now moves (Solved pushes (length moves)) }
+    requires fewest { NoneHasFewer level.now pushes }
+    requires fewer { pushes < given.pushes }
+    requires few { box_count level.now ≤ MAX_BOXES }
+    ensures { IfOk result (λ report. IsProved request.moves request.limit given.pushes given.moves level.now report) }
+{
+    let best = best_solution(
+        rt,
+        alloc,
+        level,
+        moves,
+        pushes,
+        request.moves,
+        request.limit,
+    )?;
+    beaten(alloc, given, &best, request.limit)
+}
+
 #[tactic(auto, using(crate::proofs::Judging::of_judged))]
 /// The report of a solution with these numbers of pushes and moves, under a limit of positions.
 ///
@@ -87,7 +181,8 @@ fn judged<R: Threads + Sync>(
 ) -> Result<Report, AllocError>
     requires some { SomeHas level.now given.pushes }
     requires few { given.pushes ≤ MAX_MOVES }
-    ensures { IfOk result (λ report. IsSearchOf (IsJudged request.limit given.pushes given.moves) level.now report) }
+    ensures { IfOk result (λ report.
+        IsSearchOf (IsProved request.moves request.limit given.pushes given.moves) level.now report) }
 {
     level.tell();
     solutions_are_alike(level);
@@ -95,13 +190,15 @@ fn judged<R: Threads + Sync>(
         return too_many_boxes(alloc);
     }
     if given.pushes < 2 {
-        return optimal(alloc, given);
+        return with_fewest_pushes(alloc, level, given, request);
     }
     let ProveRequest { workers, limit, .. } = request;
     let most = (given.pushes - 2) as u32;
     match prover::search(rt, alloc, level, Some(most), limit, workers) {
-        Ok(Outcome::Least { moves, pushes }) => beaten(alloc, given, pushes, &moves),
-        Ok(Outcome::NoneWithin) => optimal(alloc, given),
+        Ok(Outcome::Least { moves, pushes }) => with_more_pushes(
+            rt, alloc, level, given, moves, pushes, request,
+        ),
+        Ok(Outcome::NoneWithin) => with_fewest_pushes(alloc, level, given, request),
         Ok(Outcome::Unsolvable) => unreachable!(),
         Ok(Outcome::Limit { at_least }) => undecided(alloc, given, limit, at_least),
         Err(SearchFault::TooManyBoxes) => too_many_boxes(alloc),
@@ -120,7 +217,7 @@ fn moves_report<R: Threads + Sync>(
 ) -> Result<Report, AllocError>
     requires { length moves.now ≤ MAX_MOVES }
     ensures { IfOk result (λ report. (v : Verdict) × IsVerdict level.now moves.now v ×
-        IsProvedBy request.limit level.now v report) }
+        IsProvedBy request.moves request.limit level.now v report) }
 {
     let verdict = replay(alloc, level, moves)?;
     match verdict {
@@ -146,7 +243,7 @@ fn prove_report<R: Threads + Sync>(
     solution: &[u8],
     request: ProveRequest,
 ) -> Result<Report, AllocError>
-    ensures { IfOk result (λ report. IsProofOf request.limit level.now solution.now report) }
+    ensures { IfOk result (λ report. IsProofOf request.moves request.limit level.now solution.now report) }
 {
     match parse(alloc, solution) {
         Ok(moves) => moves_report(rt, alloc, level, &moves, request),
@@ -167,7 +264,7 @@ fn prove_level<R: Threads + Sync, T: Source>(
     requires { 1 ≤ request.number }
     ensures ok { IfOk result (λ report. (text : Option (List ℕ)) ×
         ReadsIfSome (T.seen solution.old) (T.seen solution.new) text
-        × ReportsOnText (IsProofOf request.limit) request.number chosen.now text report) }
+        × ReportsOnText (IsProofOf request.moves request.limit) request.number chosen.now text report) }
     ensures err { IfErr result (λ fault. ((fault ≡ RunFault.OutOfMemory) × (T.seen solution.new ≡ T.seen solution.old))
         ⊎ ((board : Board) × (chosen.now ≡ Some (Ok board)) ×
         Stops (T.seen solution.old) (T.seen solution.new) fault)) }
@@ -195,7 +292,7 @@ pub(crate) fn prove_in<R: Threads + Sync, T: Source>(
     requires bound { length bytes.now ≤ MAX_FILE }
     ensures ok { IfOk result (λ report. (text : Option (List ℕ)) ×
         ReadsIfSome (T.seen solution.old) (T.seen solution.new) text
-        × IsProveReport request.limit request.number bytes.now text report) }
+        × IsProveReport request.moves request.limit request.number bytes.now text report) }
     ensures err { IfErr result (λ fault. ((fault ≡ RunFault.OutOfMemory) × (T.seen solution.new ≡ T.seen solution.old))
         ⊎ ((board : Board) × IsLevelOf bytes.now request.number board ×
         Stops (T.seen solution.old) (T.seen solution.new) fault)) }

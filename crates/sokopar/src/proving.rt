@@ -20,11 +20,15 @@ use std::thread::Threads;
 /// The settings of a search of [`run_best`]. The search ends undecided once it has found more positions than the limit.
 /// With a cap it looks only for solutions with at most that many pushes. The number of workers, from 1 to
 /// [`MAX_WORKERS`](layers::MAX_WORKERS), changes only its time and memory.
+///
+/// With `moves` a second search, on one thread, looks for the fewest moves among the solutions with the fewest pushes.
+/// Its limit is the same number, of positions with the exact square of the player.
 #[derive(Clone, Copy, PartialEq, Eq, Debug)]
 pub struct SearchConfig {
     pub workers: u8,
     pub limit: u32,
     pub cap: Option<u32>,
+    pub moves: bool,
 }
 
 /// The level for [`run_best`], counted from 1, and the bounds of the search.
@@ -43,12 +47,14 @@ pub struct CollectionRequest {
     pub config: SearchConfig,
 }
 
-/// The level for [`run_prove`], counted from 1, the limit of positions and the number of workers, as for [`run_best`].
+/// The level for [`run_prove`], counted from 1, the limit of positions, the number of workers, and whether it also looks
+/// for the fewest moves, as for [`run_best`].
 #[derive(Clone, Copy, PartialEq, Eq, Debug)]
 pub struct ProveRequest {
     pub number: u32,
     pub workers: u8,
     pub limit: u32,
+    pub moves: bool,
 }
 
 #[tactic(auto, using(crate::proofs::Reading::stops_after))]
@@ -56,6 +62,9 @@ pub struct ProveRequest {
 /// solution as LURD text; or that the level has no solution, or none with as few pushes as the cap; or that the search
 /// found more positions than the limit, and a lower bound on the pushes of every solution. Returns the exit status: 0
 /// for a solution, 4 at the limit, otherwise 1. The faults are those of [`run_check`](crate::run_check).
+///
+/// If the request wants the fewest moves, the solution has, of all with the fewest pushes, the fewest moves. If the
+/// search for these ends at its limit, it writes another solution with the fewest pushes, says so, and returns 4.
 pub fn run_best<R: Threads + Sync, S: Source, K: Sink>(
     rt: &R,
     alloc: Global,
@@ -64,8 +73,8 @@ pub fn run_best<R: Threads + Sync, S: Source, K: Sink>(
     sink: &mut K,
 ) -> Result<u8, RunFault>
     requires { 1 ≤ request.number }
-    ensures { Runs (IsBestReport request.config.cap request.config.limit request.number) (S.seen source.old)
-        (S.seen source.new) (K.seen sink.old) (K.seen sink.new) result }
+    ensures { Runs (IsBestReport request.config.moves request.config.cap request.config.limit request.number)
+        (S.seen source.old) (S.seen source.new) (K.seen sink.old) (K.seen sink.new) result }
 {
     let BestRequest { number, config } = request;
     let bytes = read_whole(alloc, source)?;
@@ -76,7 +85,8 @@ pub fn run_best<R: Threads + Sync, S: Source, K: Sink>(
 #[tactic(auto, using(crate::proofs::ByLine::runs_by_line, crate::proofs::ByLine::stopped_reading))]
 /// Finds a solution with the fewest pushes of each level of a part of a collection, one level after the other. Writes a
 /// line for each level before it goes on to the next one, and the totals. Returns the exit status: 0 if it finds a
-/// solution for each level, else 4 if a search ended at its limit, else 1.
+/// solution for each level and no search ended at its limit, else 4 if one did, else 1. The totals count a level as open
+/// if a search ended at its limit, even if it has a solution with the fewest pushes.
 ///
 /// Fails as [`run_check`](crate::run_check) does, except that it may run out of memory after some lines; then it has
 /// written these lines whole. If a write fails, it has written all lines before whole, and a beginning of this one.
@@ -88,8 +98,8 @@ pub fn run_best_collection<R: Threads + Sync, S: Source, K: Sink>(
     sink: &mut K,
 ) -> Result<u8, RunFault>
     ensures { RunsByLine
-        (IsCollectionReport request.config.cap request.config.limit request.from request.to)
-        (BeginsCollectionReport request.config.cap request.config.limit request.from request.to)
+        (IsCollectionReport request.config.moves request.config.cap request.config.limit request.from request.to)
+        (BeginsCollectionReport request.config.moves request.config.cap request.config.limit request.from request.to)
         (S.seen source.old) (S.seen source.new) (K.seen sink.old) (K.seen sink.new) result }
 {
     let bytes = read_whole(alloc, source)?;
@@ -103,6 +113,10 @@ pub fn run_best_collection<R: Threads + Sync, S: Source, K: Sink>(
 /// otherwise 1. If the text does not solve the level, it writes what [`run_replay`](crate::run_replay) writes. It reads
 /// the collection first, and the solution only if the level is lawful. The faults are those of
 /// [`run_check`](crate::run_check).
+///
+/// If the request wants the fewest moves, it also proves that no solution with as few pushes has fewer moves. Otherwise
+/// it writes one with the fewest pushes and, of these, the fewest moves. If the search for these ends at its limit, it
+/// says so. It returns 4 then, or 1 if the given solution has more pushes than the fewest.
 pub fn run_prove<R: Threads + Sync, S: Source, T: Source, K: Sink>(
     rt: &R,
     alloc: Global,
@@ -112,8 +126,8 @@ pub fn run_prove<R: Threads + Sync, S: Source, T: Source, K: Sink>(
     sink: &mut K,
 ) -> Result<u8, RunFault>
     requires { 1 ≤ request.number }
-    ensures { RunsInTwo (IsProveReport request.limit request.number) request.number (S.seen source.old)
-        (S.seen source.new) (T.seen solution.old)
+    ensures { RunsInTwo (IsProveReport request.moves request.limit request.number) request.number
+        (S.seen source.old) (S.seen source.new) (T.seen solution.old)
         (T.seen solution.new) (K.seen sink.old) (K.seen sink.new) result }
 {
     let bytes = read_whole(alloc, source)?;

@@ -4,19 +4,19 @@ ghost use Rattle.sokopar.specs.inside.Totals.{AreFew, counted, status_of, totals
 
 use crate::best::put_none_within;
 use crate::finding::Finding;
+use crate::outcome::BestOutcome;
 use crate::text::Text;
-use prover::Outcome;
 use std::alloc::AllocError;
 
 /// How many levels were reported, and how many of them have a finding of each kind.
 #[derive(Clone, Copy)]
 pub(crate) struct Totals {
     pub(crate) levels: usize,
-    /// A solution with the fewest pushes was found.
+    /// A solution with the fewest pushes was found, and no search ended at its limit.
     pub(crate) optimal: usize,
     /// There is no solution, or none within the cap.
     pub(crate) unsolved: usize,
-    /// The search ended at its limit.
+    /// A search ended at its limit.
     pub(crate) undecided: usize,
     /// The level has a fault or too many boxes.
     pub(crate) unjudged: usize,
@@ -46,18 +46,24 @@ impl Totals {
         let levels = self.levels + 1;
         let mut totals = Totals { levels, ..self };
         match finding {
-            Finding::Searched(Outcome::Least { .. }) => totals.optimal += 1,
-            Finding::Searched(Outcome::NoneWithin) => totals.unsolved += 1,
-            Finding::Searched(Outcome::Unsolvable) => totals.unsolved += 1,
-            Finding::Searched(Outcome::Limit { .. }) => totals.undecided += 1,
+            Finding::Searched(BestOutcome::Least(best)) => {
+                if best.claim.is_open() {
+                    totals.undecided += 1;
+                } else {
+                    totals.optimal += 1;
+                }
+            }
+            Finding::Searched(BestOutcome::NoneWithin) => totals.unsolved += 1,
+            Finding::Searched(BestOutcome::Unsolvable) => totals.unsolved += 1,
+            Finding::Searched(BestOutcome::Limit { .. }) => totals.undecided += 1,
             Finding::TooManyBoxes => totals.unjudged += 1,
             Finding::Faulty(_) => totals.unjudged += 1,
         }
         totals
     }
 
-    /// The exit status: 0 if each level has a solution with the fewest pushes, else 4 if a search ended at its limit,
-    /// else 1.
+    /// The exit status: 0 if each level has a solution with the fewest pushes and no search ended at its limit, else 4
+    /// if one did, else 1.
     pub(crate) fn status(self) -> u8
         ensures { result ≡ status_of self }
     {

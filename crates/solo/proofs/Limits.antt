@@ -13,7 +13,7 @@ use Rattle.layers.proofs.lemmas.Layers.{place_unique}
 use Rattle.successors.proofs.lemmas.Lists.{take_at, take_short}
 use Rattle.layers.proofs.lemmas.Books.{level_laws, read_at, total-take_more}
 use Rattle.solo.specs.Answers.{HaveTotal, HasInAll, IsSolutionOf, PassesLimit}
-use Rattle.solo.specs.Fewest.{IsFewest, IsUnsolvable}
+use Rattle.solo.specs.Fewest.{IsFewest, HasNoneWithin}
 use Rattle.solo.proofs.Solving.{layer_distance}
 use Rattle.solo.proofs.Uniqueness.{solved_passes, unsolvable_passes}
 
@@ -48,7 +48,7 @@ limit_solved task limit pushes positions level (some, fewest) have = (
 )
 
 -- a level that is not
-pub limit_unsolvable : (task : Task) (limit positions : ℕ) → IsLevel task.board → IsUnsolvable task → HasInAll task positions →
+pub limit_unsolvable : (task : Task) (limit positions : ℕ) → IsLevel task.board → HasNoneWithin task → HasInAll task positions →
     PassesLimit task limit ↔ (limit < positions)
 limit_unsolvable task limit positions level none all = (
   λ p. unsolvable_passes task level limit positions all p,

@@ -14,7 +14,7 @@ use Rattle.layers.specs.LayerView.{LayerView, IsWhole}
 use Rattle.successors.proofs.lemmas.Lists.{at-push}
 use Rattle.solo.specs.Answers.{HasNone, IsAnswer}
 use Rattle.solo.specs.Leads.{AreUnsolved, IsFirstSolved, WritesLead}
-use Rattle.solo.specs.inside.Searched.{AreSearched, AreTrailed, ComesNext, IsExamined, IsLookedAt, IsNextOf, SearchView, places_of}
+use Rattle.solo.specs.inside.Searched.{AreSearched, AreTrailed, IsNextLayer, IsExamined, IsLookedAt, IsNextOf, SearchView, places_of}
 use Rattle.solo.specs.declared.answer.Answer.TheVariants.{Solved, Limit}
 use Rattle.solo.proofs.ReadingBack.{trail_long}
 use Rattle.solo.proofs.Solving.{searched_more, solved_answer, none_answer, limit_answer}
@@ -42,7 +42,7 @@ trailed_more task layers trail layer trailed level next whole = record {
 }
 
 -- the layer comes next after those whose origins are kept
-pub is_next : (s : SearchView) (layer : LayerView) → IsLookedAt s.task s.limit s.trail s.positions → ComesNext s layer → IsNextOf s.trail layer
+pub is_next : (s : SearchView) (layer : LayerView) → IsLookedAt s.task s.limit s.trail s.positions → IsNextLayer s layer → IsNextOf s.trail layer
 is_next s layer looked next = record {
   layers = looked.layers;
   trailed = subst (λ t. AreTrailed t looked.layers s.trail) (sym next.0) looked.trailed;
@@ -51,7 +51,7 @@ is_next s layer looked next = record {
 
 -- ---- what the layer that comes next gives
 
-module _ (s : SearchView) (layer : LayerView) (looked : IsLookedAt s.task s.limit s.trail s.positions) (next : ComesNext s layer) (whole : IsWhole layer) where
+module _ (s : SearchView) (layer : LayerView) (looked : IsLookedAt s.task s.limit s.trail s.positions) (next : IsNextLayer s layer) (whole : IsWhole layer) where
   abbrev layers : List LayerView
   layers = looked.layers
 

@@ -6,8 +6,8 @@ use Rattle.successors.specs.Tasks.{Task}
 use Rattle.solo.specs.Answers.{IsSolutionOf}
 
 -- no play solves the level within the cap
-abbrev pub IsUnsolvable : Task → Type 0
-IsUnsolvable task = (ds : List Dir) (ps : List Push) → ¬ (IsSolutionOf task ds ps)
+abbrev pub HasNoneWithin : Task → Type 0
+HasNoneWithin task = (ds : List Dir) (ps : List Push) → ¬ (IsSolutionOf task ds ps)
 
 -- k is the least number of pushes of a solution within the cap
 abbrev pub IsFewest : Task → ℕ → Type 0

@@ -7,7 +7,7 @@ use Rattle.solo.specs.declared.answer.SolveFault.{SolveFault}
 use Rattle.solo.specs.declared.answer.SolveFault.TheVariants.{TooManyBoxes, OutOfMemory, BadConfig}
 
 -- why a level is not solved at all, on one thread
-abbrev pub SolveRefused : Board → SolveFault → Type 0
-SolveRefused board TooManyBoxes = MAX_BOXES < box_count board
-SolveRefused board OutOfMemory = box_count board ≤ MAX_BOXES
-SolveRefused board BadConfig = ⊥
+abbrev pub SoloRefused : Board → SolveFault → Type 0
+SoloRefused board TooManyBoxes = MAX_BOXES < box_count board
+SoloRefused board OutOfMemory = box_count board ≤ MAX_BOXES
+SoloRefused board BadConfig = ⊥

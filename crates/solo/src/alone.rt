@@ -4,7 +4,7 @@ ghost use Rattle.grid.specs.Lawful.{box_count};
 ghost use Rattle.grid.specs.declared.limits.TheConstants.{MAX_BOXES};
 ghost use Rattle.successors.specs.Capping.{capped};
 ghost use Rattle.solo.specs.Answers.{IsAnswer};
-ghost use Rattle.solo.specs.Refusals.{SolveRefused};
+ghost use Rattle.solo.specs.Refusals.{SoloRefused};
 ghost use Rattle.solo.specs.inside.Iterations.{AreBetweenLayers, GoesOn};
 
 use crate::answer::{Answer, SolveFault};
@@ -30,7 +30,7 @@ pub fn solve_alone(
     requires { 1 ≤ limit }
     ensures answer { IfOk result (λ answer. IsAnswer (capped (arc_value level.now) cap) limit answer) }
     ensures boxes { MatchResult result (λ answer. box_count (arc_value level.now) ≤ MAX_BOXES)
-        (λ fault. SolveRefused (arc_value level.now) fault) }
+        (λ fault. SoloRefused (arc_value level.now) fault) }
 {
     if level.boxes() > MAX_BOXES {
         return Err(SolveFault::TooManyBoxes);

@@ -11,7 +11,7 @@ ghost use Rattle.grid.specs.declared.square.Push.{Push};
 ghost use Rattle.store.specs.Entries.{Origin};
 ghost use Rattle.successors.specs.Reaching.{IsLayerOf};
 ghost use Rattle.solo.specs.Answers.{HasInAll, HaveTotal, IsAnswer};
-ghost use Rattle.solo.specs.Fewest.{IsFewest, IsUnsolvable};
+ghost use Rattle.solo.specs.Fewest.{IsFewest, HasNoneWithin};
 ghost use Rattle.solo.specs.inside.Searched.{IsLookedAt};
 ghost use Rattle.solo.specs.declared.answer.Answer.TheVariants.{Limit};
 
@@ -37,7 +37,7 @@ pub fn the_limit_is_passed_by_the_positions_needed()
     ensures solved { (task : Task) (limit pushes positions : ℕ) → IsLevel task.board → IsFewest task pushes →
         HaveTotal task (suc pushes) positions →
         IsAnswer task limit Limit ↔ (limit < positions) }
-    ensures unsolvable { (task : Task) (limit positions : ℕ) → IsLevel task.board → IsUnsolvable task →
+    ensures unsolvable { (task : Task) (limit positions : ℕ) → IsLevel task.board → HasNoneWithin task →
         HasInAll task positions →
         IsAnswer task limit Limit ↔ (limit < positions) }
 {}

@@ -13,7 +13,7 @@ ghost use Rattle.solo.specs.Answers.{HasNone, IsAnswer};
 ghost use Rattle.solo.specs.Leads.{IsFirstSolved};
 ghost use Rattle.solo.specs.declared.answer.Answer.TheVariants.{Limit};
 ghost use Rattle.solo.specs.inside.Rests.{RestAnswers};
-ghost use Rattle.solo.specs.inside.Searched.{ComesNext, IsExamined, new_search, with_layer};
+ghost use Rattle.solo.specs.inside.Searched.{IsNextLayer, IsExamined, new_search, with_layer};
 ghost use Rattle.solo.specs.inside.Together.{AreAllDone, AreStill, PassTogether};
 ghost use Rattle.solo.specs.inside.Iterations.{AreDoneBy, MayBeWorked};
 
@@ -121,7 +121,7 @@ impl<'p> Search<'p> {
     /// The answer is `Limit` if this layer and those before it have more positions than the limit. It is `Solved` if
     /// the layer has a solved position. It is `Unsolvable`, or `NoneWithin` under a cap, if the layer is empty.
     pub fn look(&mut self, layer: &Layer) -> Result<Option<Answer>, AllocError>
-        requires next { ComesNext self.old layer.now }
+        requires next { IsNextLayer self.old layer.now }
         ensures answer { IfOk result (λ found. IfSome found (λ answer. IsAnswer self.old.task self.old.limit answer)) }
         ensures onward { IfOk result (λ found. IfNone found (IsExamined self.old layer.now)) }
         ensures limit { IfOk result
@@ -145,7 +145,7 @@ impl<'p> Search<'p> {
 
     // The answer if the position with rank `rank` is the first solved one of the layer that comes next.
     fn solved(&mut self, layer: &Layer, rank: u64) -> Result<Answer, AllocError>
-        requires next { ComesNext self.old layer.now }
+        requires next { IsNextLayer self.old layer.now }
         requires first { IsFirstSolved layer.now.level.board layer.now.places rank }
         requires within { self.old.positions + length layer.now.places ≤ self.old.limit }
         ensures answer { IfOk result (λ answer. IsAnswer self.old.task self.old.limit answer) }

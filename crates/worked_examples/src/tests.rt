@@ -1,6 +1,7 @@
 //! The engines over memory.
 mod failing;
 mod largest;
+mod moves;
 mod once;
 mod passed;
 mod reports;

@@ -16,7 +16,7 @@ use Rattle.xsb.specs.inside.Reading.{cut_lines}
 use Rattle.xsb.specs.inside.Gaps.{IsGap, ReadsGap, BeginsBoard, BeginsGap}
 use Rattle.xsb.specs.inside.Stretches.{ReadsBoard, ReadsNoBoard, HasRows}
 use Rattle.xsb.specs.Entries.{IsBoardEntry, IsEntry}
-use Rattle.xsb.specs.Collection.{Found, Part, IsPart, AreApart, AreFound, IsCollection, IsJudged}
+use Rattle.xsb.specs.Collection.{Found, Part, IsPart, AreSeparated, AreFound, IsCollection, IsJudged}
 use Rattle.xsb.specs.declared.reader.Collection.{Collection}
 use Rattle.xsb.specs.inside.Progress.{HasRead, GivesNext}
 use Rattle.xsb.proofs.RowLines.{AllZip-last}
@@ -54,8 +54,8 @@ apart-some rest [] parts text whole boards part next e =
     absurd (no-board part.board (part.gap ++ flat_map (λ p. p.board ++ p.gap) next) b.0.some b.0.board
     (subst BeginsGap (whole ∙ ap (flat_map (λ p. p.board ++ p.gap)) e ∙ append_assoc part.board part.gap (flat_map (λ p. p.board ++ p.gap) next)) text))
 
-apart-cons : (part : Part) (parts : List Part) → ((next : Part) (more : List Part) → parts ≡ next ∷ more → 0 < length part.gap) → AreApart parts →
-    AreApart (part ∷ parts)
+apart-cons : (part : Part) (parts : List Part) → ((next : Part) (more : List Part) → parts ≡ next ∷ more → 0 < length part.gap) → AreSeparated parts →
+    AreSeparated (part ∷ parts)
 apart-cons part [] some apart = tt
 apart-cons part (next ∷ parts) some apart = (some next parts refl, apart)
 

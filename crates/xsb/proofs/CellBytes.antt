@@ -3,20 +3,20 @@ use Rattle.std.proofs.Common.{◌≡◌, ℕ, Bool, true, false, cond, eqb, Opti
 use Rattle.std.proofs.lemmas.Bool.{eqb-true}
 use Rattle.grid.specs.declared.cell.Cell.{Cell}
 use Rattle.grid.specs.declared.cell.Cell.TheVariants.{Wall, Floor, Goal, Box, BoxOnGoal, Player, PlayerOnGoal}
-use Rattle.xsb.specs.Rows.{byte_of, StandsFor}
+use Rattle.xsb.specs.Rows.{cell_byte, StandsFor}
 use Rattle.xsb.specs.inside.Bytes.{cell_of}
 
-pub cell_of-byte_of : (c : Cell) → cell_of (byte_of c) ≡ Some c
-cell_of-byte_of Wall = refl
-cell_of-byte_of Floor = refl
-cell_of-byte_of Goal = refl
-cell_of-byte_of Box = refl
-cell_of-byte_of BoxOnGoal = refl
-cell_of-byte_of Player = refl
-cell_of-byte_of PlayerOnGoal = refl
+pub cell_of-cell_byte : (c : Cell) → cell_of (cell_byte c) ≡ Some c
+cell_of-cell_byte Wall = refl
+cell_of-cell_byte Floor = refl
+cell_of-cell_byte Goal = refl
+cell_of-cell_byte Box = refl
+cell_of-cell_byte BoxOnGoal = refl
+cell_of-cell_byte Player = refl
+cell_of-cell_byte PlayerOnGoal = refl
 
 pub cell_that_stands : (b : ℕ) (c : Cell) → StandsFor b c → cell_of b ≡ Some c
-cell_that_stands b c (inl own) = ap cell_of own ∙ cell_of-byte_of c
+cell_that_stands b c (inl own) = ap cell_of own ∙ cell_of-cell_byte c
 cell_that_stands b c (inr (inl dash, floor)) = ap cell_of dash ∙ ap (λ (d : Cell). Some d) (sym floor)
 cell_that_stands b c (inr (inr line, floor)) = ap cell_of line ∙ ap (λ (d : Cell). Some d) (sym floor)
 
@@ -25,8 +25,8 @@ first_test : (t : Bool) (x c : Cell) (rest : Option Cell) → cond t (Some x) re
 first_test true x c rest e = inl (refl, (let same : x ≡ c = cc in same))
 first_test false x c rest e = inr e
 
-own_byte : (b n : ℕ) (x c : Cell) → eqb b n ≡ true → n ≡ byte_of x → x ≡ c → StandsFor b c
-own_byte b n x c is own same = inl (eqb-true b n is ∙ own ∙ ap byte_of same)
+own_byte : (b n : ℕ) (x c : Cell) → eqb b n ≡ true → n ≡ cell_byte x → x ≡ c → StandsFor b c
+own_byte b n x c is own same = inl (eqb-true b n is ∙ own ∙ ap cell_byte same)
 
 by_low_line : (b : ℕ) (c : Cell) → cond (eqb b 95) (Some Floor) None ≡ Some c → StandsFor b c
 by_low_line b c e = elim (first_test (eqb b 95) Floor c None e) [

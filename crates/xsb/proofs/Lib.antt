@@ -1,3 +1,4 @@
+pub mod lemmas
 pub mod CellBytes
 pub mod FirstItem
 pub mod CutEnds

@@ -1,6 +1,5 @@
 -- Bytes are a collection in one way, and in no other.
 use Rattle.std.proofs.Common.{◌≡◌, ℕ, suc, ◌+◌, ◌<◌, List, [], ◌∷◌, ◌++◌, length, flat_map, refl, sym, ap, ◌∙◌, arith, length-append, append_assoc, subst}
-use Rattle.std.proofs.Common.{⊎_elim}
 use Rattle.std.specs.Bool.{⊤}
 use Rattle.std.specs.List.{AllZip, AllByRecursion}
 use Rattle.grid.specs.declared.cell.Cell.{Cell}
@@ -8,13 +7,9 @@ use Rattle.xsb.specs.Lines.{lines_of_text}
 use Rattle.xsb.specs.Boards.{board_of}
 use Rattle.xsb.specs.Names.{name_of}
 use Rattle.xsb.specs.Rows.{IsRow, IsRowLine, IsTextLine}
-use Rattle.xsb.specs.Collection.{Found, Part, IsPart, AreApart, AreParts, IsFound, AreFound, IsCollection}
+use Rattle.xsb.specs.Collection.{Found, Part, IsPart, AreSeparated, AreParts, IsFoundBoard, AreFound, IsCollection}
 use Rattle.xsb.proofs.RowItems.{same-row}
-use Rattle.xsb.proofs.RowOrText.{decide-line}
-
--- a line that is rows
-abbrev pub HasRowLine : List ℕ → Type 0
-HasRowLine line = (rows : List (List Cell)) × IsRowLine line rows
+use Rattle.xsb.proofs.lemmas.Cutting.{HasRowLine, cut-lines, find-boards}
 
 -- an element of a kind comes first, or none
 abbrev Begins : {A : Type 0} → (A → Type 0) → List A → Type 0
@@ -55,11 +50,11 @@ begins-gap [] [] texts some = tt
 begins-gap [] (next ∷ more) texts some = absurd (let l = some next more refl in omega arith)
 begins-gap (line ∷ gap) parts texts some = texts.0
 
-apart-gap : (part : Part) (parts : List Part) → AreApart (part ∷ parts) → (next : Part) (more : List Part) → parts ≡ next ∷ more → 0 < length part.gap
+apart-gap : (part : Part) (parts : List Part) → AreSeparated (part ∷ parts) → (next : Part) (more : List Part) → parts ≡ next ∷ more → 0 < length part.gap
 apart-gap part [] apart next more e = absurd (cc)
 apart-gap part (q ∷ parts) apart next more e = apart.0
 
-apart-rest : (part : Part) (parts : List Part) → AreApart (part ∷ parts) → AreApart parts
+apart-rest : (part : Part) (parts : List Part) → AreSeparated (part ∷ parts) → AreSeparated parts
 apart-rest part [] apart = tt
 apart-rest part (q ∷ parts) apart = apart.1
 
@@ -67,7 +62,7 @@ no-both : (line : List ℕ) → HasRowLine line → IsTextLine line → ⊥
 no-both line rows text = text rows.0 rows.1
 
 -- lines are cut into boards and gaps in one way
-same-parts : (ps qs : List Part) → AllByRecursion IsPart ps → AllByRecursion IsPart qs → AreApart ps → AreApart qs → lines_of_parts ps ≡ lines_of_parts qs →
+same-parts : (ps qs : List Part) → AllByRecursion IsPart ps → AllByRecursion IsPart qs → AreSeparated ps → AreSeparated qs → lines_of_parts ps ≡ lines_of_parts qs →
     ps ≡ qs
 same-parts [] [] a b f g e = refl
 same-parts [] (q ∷ qs) a b f g e = absurd (let l = ap length e in let some = b.0.some in let m = length-append (q.board ++ q.gap) (lines_of_parts qs) in
@@ -105,7 +100,7 @@ same-lines (l ∷ lines) [] others a b = absurd a
 same-lines (l ∷ lines) (r ∷ rows) [] a b = absurd b
 same-lines (l ∷ lines) (r ∷ rows) (o ∷ others) a b = ap (λ x. x ∷ rows) (same-line l r o a.0 b.0) ∙ ap (λ m. o ∷ m) (same-lines lines rows others a.1 b.1)
 
-same-found : (line : ℕ) (before : List (List ℕ)) (part : Part) (f g : Found) → IsFound line before part f → IsFound line before part g → f ≡ g
+same-found : (line : ℕ) (before : List (List ℕ)) (part : Part) (f g : Found) → IsFoundBoard line before part f → IsFoundBoard line before part g → f ≡ g
 same-found line before part f g a b =
     let name = a.name ∙ sym b.name in let first = a.first_line ∙ sym b.first_line in
     let rows = same-lines part.board a.board.0 b.board.0 a.board.1 b.board.1 in
@@ -133,75 +128,6 @@ one-collection bytes founds others a b =
     let parts = same-parts a.1 b.1 one.boards two.boards one.apart two.apart gaps.1 in
     same-founds (suc (length b.0)) b.0 b.1 founds others
     (subst (λ ps. AreFound (suc (length b.0)) b.0 ps founds) parts (subst (λ g. AreFound (suc (length g)) g a.1 founds) gaps.0 a.3)) b.3
-
--- lines can be cut
-record Cut (lines : List (List ℕ)) : Type 0 where
-  gap : List (List ℕ)
-  parts : List Part
-  is : AreParts lines gap parts
-
-cut-text : (line : List ℕ) (lines : List (List ℕ)) → IsTextLine line → Cut lines → Cut (line ∷ lines)
-cut-text line lines text cut = record {
-  gap = line ∷ cut.gap;
-  parts = cut.parts;
-  is = record { whole = ap (λ l. line ∷ l) cut.is.whole; texts = (text, cut.is.texts); boards = cut.is.boards; apart = cut.is.apart };
-}
-
-apart-grown : (line : List ℕ) (part : Part) (parts : List Part) → AreApart (part ∷ parts) →
-    AreApart (record { board = line ∷ part.board; gap = part.gap } ∷ parts)
-apart-grown line part [] apart = tt
-apart-grown line part (q ∷ parts) apart = apart
-
-apart-new : (line : List ℕ) (g : List ℕ) (gap : List (List ℕ)) (parts : List Part) → AreApart parts →
-    AreApart (record { board = line ∷ []; gap = g ∷ gap } ∷ parts)
-apart-new line g gap [] apart = tt
-apart-new line g gap (q ∷ parts) apart = (omega arith, apart)
-
-cut-row : (line : List ℕ) (lines : List (List ℕ)) → HasRowLine line → (gap : List (List ℕ)) (parts : List Part) → AreParts lines gap parts → Cut (line ∷ lines)
-cut-row line lines row [] [] is = record {
-  gap = [];
-  parts = record { board = line ∷ []; gap = [] } ∷ [];
-  is = record { whole = ap (λ l. line ∷ l) is.whole; texts = tt; boards = (record { some = omega arith; board = (row, tt); gap = tt }, tt); apart = tt };
-}
-cut-row line lines row [] (part ∷ parts) is = record {
-  gap = [];
-  parts = record { board = line ∷ part.board; gap = part.gap } ∷ parts;
-  is = record {
-    whole = ap (λ l. line ∷ l) is.whole;
-    texts = tt;
-    boards = (record { some = omega arith; board = (row, is.boards.0.board); gap = is.boards.0.gap }, is.boards.1);
-    apart = apart-grown line part parts is.apart;
-  };
-}
-cut-row line lines row (g ∷ gap) parts is = record {
-  gap = [];
-  parts = record { board = line ∷ []; gap = g ∷ gap } ∷ parts;
-  is = record {
-    whole = ap (λ l. line ∷ l) is.whole;
-    texts = tt;
-    boards = (record { some = omega arith; board = (row, tt); gap = is.texts }, is.boards);
-    apart = apart-new line g gap parts is.apart;
-  };
-}
-
-cut-lines : (lines : List (List ℕ)) → Cut lines
-cut-lines [] = record { gap = []; parts = []; is = record { whole = refl; texts = tt; boards = tt; apart = tt } }
-cut-lines (line ∷ lines) =
-    let rest = cut-lines lines in
-    ⊎_elim (λ row. cut-row line lines row rest.gap rest.parts rest.is) (λ text. cut-text line lines text rest) (decide-line line)
-
-find-rows : (board : List (List ℕ)) → AllByRecursion HasRowLine board → (rows : List (List (List Cell))) × AllZip IsRowLine board rows
-find-rows [] all = ([], tt)
-find-rows (line ∷ board) all = let rest = find-rows board all.1 in (all.0.0 ∷ rest.0, (all.0.1, rest.1))
-
-find-boards : (line : ℕ) (before : List (List ℕ)) (parts : List Part) → AllByRecursion IsPart parts → (founds : List Found) × AreFound line before parts founds
-find-boards line before [] boards = ([], tt)
-find-boards line before (part ∷ parts) boards =
-    let rows = find-rows part.board boards.0.board in
-    let rest = find-boards (line + length (part.board ++ part.gap)) part.gap parts boards.1 in (
-      record { name = name_of before part.gap; first_line = line; board = board_of (flat_map (λ r. r) rows.0) } ∷ rest.0,
-      (record { name = refl; first_line = refl; board = (rows.0, rows.1, refl) }, rest.1),
-    )
 
 -- all bytes are a collection
 pub some-collection : (bytes : List ℕ) → (founds : List Found) × IsCollection bytes founds

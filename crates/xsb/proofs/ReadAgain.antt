@@ -18,11 +18,11 @@ use Rattle.xsb.specs.inside.Bytes.{bar, wall_byte, line_feed, carriage_return, c
 use Rattle.xsb.specs.Lines.{without_mark, without_last, without_last_empty, lines_of_text}
 use Rattle.xsb.specs.Boards.{before_rest, cut_end, cut_row, is_floor, cols_of, padded, board_of}
 use Rattle.xsb.specs.Names.{name_of}
-use Rattle.xsb.specs.Rows.{counted, IsRow, done, more, IsRowLine, byte_of}
+use Rattle.xsb.specs.Rows.{counted, IsRow, done, more, IsRowLine, cell_byte}
 use Rattle.xsb.specs.Collection.{Part, IsCollection}
 use Rattle.xsb.specs.Written.{written, rows_from}
 use Rattle.xsb.specs.Rereading.{HasWallInEachRow, HasFullRow, rows_of_board}
-use Rattle.xsb.proofs.CellBytes.{cell_of-byte_of}
+use Rattle.xsb.proofs.CellBytes.{cell_of-cell_byte}
 use Rattle.xsb.proofs.CutEnds.{filled-padded, length-cut_end}
 use Rattle.xsb.proofs.RowLines.{some_of, has_byte-is}
 use Rattle.xsb.proofs.Walls.{Has, has-contains, cut-wall}
@@ -30,30 +30,30 @@ use Rattle.xsb.proofs.CellsByReaders.{rows-whole}
 
 -- the bytes of a row
 abbrev line_of : List Cell → List ℕ
-line_of row = map byte_of (cut_row row)
+line_of row = map cell_byte (cut_row row)
 
 -- ---- bytes that are written
 
-no-cell : (b : ℕ) (c : Cell) (t : Bool) → (byte_of c == b) ≡ t → cell_of b ≡ None → t ≡ false
+no-cell : (b : ℕ) (c : Cell) (t : Bool) → (cell_byte c == b) ≡ t → cell_of b ≡ None → t ≡ false
 no-cell b c false e none = refl
 no-cell b c true e none =
-    let same = eqb-true (byte_of c) b e in
-    absurd (none≢some (sym none ∙ ap cell_of (sym same) ∙ cell_of-byte_of c))
+    let same = eqb-true (cell_byte c) b e in
+    absurd (none≢some (sym none ∙ ap cell_of (sym same) ∙ cell_of-cell_byte c))
 
 -- a byte that is no cell's is not written
-other-byte : (b : ℕ) (c : Cell) → cell_of b ≡ None → (byte_of c == b) ≡ false
-other-byte b c none = no-cell b c (byte_of c == b) refl none
+other-byte : (b : ℕ) (c : Cell) → cell_of b ≡ None → (cell_byte c == b) ≡ false
+other-byte b c none = no-cell b c (cell_byte c == b) refl none
 
 other-bytes : (b : ℕ) (cells : List Cell) → cell_of b ≡ None
-    → AllByRecursion (λ x. (x == b) ≡ false) (map byte_of cells)
+    → AllByRecursion (λ x. (x == b) ≡ false) (map cell_byte cells)
 other-bytes b [] none = tt
 other-bytes b (c ∷ cells) none = (other-byte b c none, other-bytes b cells none)
 
 -- cells are read as they are written, one by one
-row-written : (cells : List Cell) → IsRow (map byte_of cells) cells
+row-written : (cells : List Cell) → IsRow (map cell_byte cells) cells
 row-written [] = done
-row-written (c ∷ cells) = more (byte_of c ∷ []) (map byte_of cells) (c ∷ []) cells
-    (counted [] 1 (byte_of c) c (inl refl, refl) (inl refl)) (row-written cells)
+row-written (c ∷ cells) = more (cell_byte c ∷ []) (map cell_byte cells) (c ∷ []) cells
+    (counted [] 1 (cell_byte c) c (inl refl, refl) (inl refl)) (row-written cells)
 
 -- ---- a written row is a row line
 
@@ -62,9 +62,9 @@ contains-here w [] h = absurd h
 contains-here w (x ∷ xs) h = ⊎_elim (λ e. (0, omega arith, e)) (λ l. let c = contains-here w xs l in
     (suc c.0, (let a = c.1 in omega arith), c.2)) h
 
-has-map : (cells : List Cell) → Has Wall cells → Has wall_byte (map byte_of cells)
+has-map : (cells : List Cell) → Has Wall cells → Has wall_byte (map cell_byte cells)
 has-map [] h = absurd h
-has-map (c ∷ cells) h = ⊎_elim (λ e. inl (ap byte_of e)) (λ l. inr (has-map cells l)) h
+has-map (c ∷ cells) h = ⊎_elim (λ e. inl (ap cell_byte e)) (λ l. inr (has-map cells l)) h
 
 has-before : (t : Bool) (c : Cell) (cells : List Cell) → Has Wall cells → Has Wall (before_rest t c cells)
 has-before true c [] h = absurd h
@@ -79,7 +79,7 @@ has-cut (c ∷ row) h = ⊎_elim
 
 row_line : (row : List Cell) → Has Wall row → IsRowLine (line_of row) (cut_row row ∷ [])
 row_line row wall =
-    let some = cut-wall row wall in let long = length-map (cut_row row) byte_of in
+    let some = cut-wall row wall in let long = length-map (cut_row row) cell_byte in
     let one : slice_split (λ b. b == bar) (line_of row) ≡ line_of row ∷ [] =
     slice_split_none (λ b. b == bar) (line_of row) (All-from_recursion _ _ (other-bytes bar (cut_row row) refl)) in
     let piece : some_of (slice_split (λ b. b == bar) (line_of row)) ≡ line_of row ∷ [] = ap some_of one ∙
@@ -139,9 +139,9 @@ no-mark : (b : ℕ) (bytes : List ℕ) → (b == 0xEF) ≡ false → without_mar
 no-mark b bytes e = ap (λ t. cond t (drop 3 (b ∷ bytes)) (b ∷ bytes)) (starts-not b bytes e)
 
 front-byte : (cells : List Cell) (rest : List ℕ) → 1 ≤ length cells
-    → without_mark (map byte_of cells ++ rest) ≡ map byte_of cells ++ rest
+    → without_mark (map cell_byte cells ++ rest) ≡ map cell_byte cells ++ rest
 front-byte [] rest some = absurd (omega arith)
-front-byte (c ∷ cells) rest some = no-mark (byte_of c) (map byte_of cells ++ rest) (other-byte 0xEF c refl)
+front-byte (c ∷ cells) rest some = no-mark (cell_byte c) (map cell_byte cells ++ rest) (other-byte 0xEF c refl)
 
 first-byte : (row : List Cell) (rest : List ℕ) → Has Wall row → without_mark (line_of row ++ rest) ≡ line_of row ++ rest
 first-byte row rest wall = front-byte (cut_row row) rest (cut-wall row wall)

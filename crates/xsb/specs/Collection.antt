@@ -28,20 +28,20 @@ pub record IsPart (part : Part) : Type 0 where
   pub gap : AllByRecursion IsTextLine part.gap
 
 -- between two boards stands a text line, so that each board is a longest run of row lines
-abbrev pub AreApart : List Part → Type 0
-AreApart (part ∷ next ∷ parts) = (0 < length part.gap) × AreApart (next ∷ parts)
-AreApart parts = ⊤
+abbrev pub AreSeparated : List Part → Type 0
+AreSeparated (part ∷ next ∷ parts) = (0 < length part.gap) × AreSeparated (next ∷ parts)
+AreSeparated parts = ⊤
 
 -- the lines are a gap, and then boards, each with the gap after it
 pub record AreParts (lines gap : List (List ℕ)) (parts : List Part) : Type 0 where
   pub whole : lines ≡ gap ++ flat_map (λ part. part.board ++ part.gap) parts
   pub texts : AllByRecursion IsTextLine gap
   pub boards : AllByRecursion IsPart parts
-  pub apart : AreApart parts
+  pub apart : AreSeparated parts
 
 -- the board found in a part that begins at `line`, after the gap `before`: its rows are those of the part's lines, in
 -- order
-pub record IsFound (line : ℕ) (before : List (List ℕ)) (part : Part) (found : Found) : Type 0 where
+pub record IsFoundBoard (line : ℕ) (before : List (List ℕ)) (part : Part) (found : Found) : Type 0 where
   pub name : found.name ≡ name_of before part.gap
   pub first_line : found.first_line ≡ line
   pub board : (rows : List (List (List Cell))) × AllZip IsRowLine part.board rows ×
@@ -51,7 +51,7 @@ pub record IsFound (line : ℕ) (before : List (List ℕ)) (part : Part) (found 
 abbrev pub AreFound : ℕ → List (List ℕ) → List Part → List Found → Type 0
 AreFound line before [] [] = ⊤
 AreFound line before (part ∷ parts) (found ∷ founds) =
-    IsFound line before part found × AreFound (line + length (part.board ++ part.gap)) part.gap parts founds
+    IsFoundBoard line before part found × AreFound (line + length (part.board ++ part.gap)) part.gap parts founds
 AreFound line before parts founds = ⊥
 
 -- the bytes are a collection of these boards: its lines are cut into gaps and boards, and these are what is found

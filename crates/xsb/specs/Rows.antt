@@ -6,19 +6,19 @@ use Rattle.grid.specs.declared.cell.Cell.TheVariants.{Wall, Floor, Goal, Box, Bo
 use Rattle.counts.specs.Counts.{Means}
 
 -- the byte that is written for a cell
-abbrev pub byte_of : Cell → ℕ
-byte_of Wall = 35
-byte_of Player = 64
-byte_of PlayerOnGoal = 43
-byte_of Box = 36
-byte_of BoxOnGoal = 42
-byte_of Goal = 46
-byte_of Floor = 32
+abbrev pub cell_byte : Cell → ℕ
+cell_byte Wall = 35
+cell_byte Player = 64
+cell_byte PlayerOnGoal = 43
+cell_byte Box = 36
+cell_byte BoxOnGoal = 42
+cell_byte Goal = 46
+cell_byte Floor = 32
 
 -- the byte stands for the cell: `#` wall, `@` player, `+` player on goal, `$` box, `*` box on goal, `.` goal; space,
 -- `-`, `_` floor
 abbrev pub StandsFor : ℕ → Cell → Type 0
-StandsFor b c = (b ≡ byte_of c) ⊎ (((b ≡ 45) ⊎ (b ≡ 95)) × (c ≡ Floor))
+StandsFor b c = (b ≡ cell_byte c) ⊎ (((b ≡ 45) ⊎ (b ≡ 95)) × (c ≡ Floor))
 
 -- an item: a cell byte, which with a count right before it stands for that many cells, and else for one
 pub data IsItem : List ℕ → List Cell → Type 0 where

@@ -2,7 +2,7 @@
 ghost use Rattle.std.specs.Prelude.{◌≡◌};
 ghost use Rattle.xsb.specs.Boards.{is_floor};
 ghost use Rattle.xsb.specs.inside.Bytes.{cell_of};
-ghost use Rattle.xsb.specs.Rows.{byte_of};
+ghost use Rattle.xsb.specs.Rows.{cell_byte};
 
 use crate::bytes::{
     BOX, BOX_ON_GOAL, FLOOR, FLOOR_DASH, FLOOR_LOW_LINE, GOAL, PLAYER, PLAYER_ON_GOAL, WALL,
@@ -26,8 +26,8 @@ pub(crate) fn cell_of(byte: u8) -> Option<Cell>
 }
 
 /// The byte of a cell.
-pub(crate) fn byte_of(cell: Cell) -> u8
-    ensures { result ≡ byte_of cell }
+pub(crate) fn cell_byte(cell: Cell) -> u8
+    ensures { result ≡ cell_byte cell }
 {
     match cell {
         Cell::Wall => WALL,

@@ -3,7 +3,7 @@ ghost use Rattle.std.specs.Prelude.{◌≡◌, ◌≤◌, ◌<◌, ◌+◌, [], 
 ghost use Rattle.bstr.specs.Text.{lines_of};
 ghost use Rattle.xsb.specs.declared.limits.TheConstants.{MAX_FILE};
 ghost use Rattle.xsb.specs.Lines.{lines_of_text, without_last, without_mark};
-ghost use Rattle.xsb.specs.inside.Reading.{ComesNext, cut_line, cut_lines};
+ghost use Rattle.xsb.specs.inside.Reading.{IsNextLine, cut_line, cut_lines};
 
 use crate::bytes::{CARRIAGE_RETURN, LINE_FEED};
 use crate::limits::MAX_FILE;
@@ -48,7 +48,7 @@ impl<'a> Lines<'a> {
 
     /// The next line, without its end.
     pub(crate) fn peek(&self) -> Option<&'a [u8]>
-        ensures { MatchOption result (self.now.rest ≡ []) (λ line. ComesNext self.now.rest line.now) }
+        ensures { MatchOption result (self.now.rest ≡ []) (λ line. IsNextLine self.now.rest line.now) }
     {
         let mut rest = self.rest.clone().unwrap();
         let raw = rest.next()?;

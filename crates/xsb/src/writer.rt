@@ -9,7 +9,7 @@ ghost use Rattle.xsb.specs.Written.{written};
 ghost use Rattle.xsb.specs.inside.Bytes.{written_row};
 
 use crate::bytes::LINE_FEED;
-use crate::cells::{byte_of, is_floor};
+use crate::cells::{cell_byte, is_floor};
 use grid::{Cell, Level, Square};
 use std::alloc::AllocError;
 
@@ -55,7 +55,7 @@ fn push_row(level: &Level, start: usize, out: &mut Vec<u8>) -> Result<(), AllocE
 {
     let kept = kept_cells(level, start);
     for col in 0..kept {
-        out.push(byte_of(cell_at(level, start + col)))?;
+        out.push(cell_byte(cell_at(level, start + col)))?;
     }
     out.push(LINE_FEED)?;
     Ok(())

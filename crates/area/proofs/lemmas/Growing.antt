@@ -66,17 +66,6 @@ grown_then a b c P g h = record {
   sound = λ test pass old. h.sound test pass (g.sound test pass old);
 }
 
--- both at once
-pub grown_both : (a b c : ℕ) (P : (ℕ → Bool) → Type 0) → IsGrown a b P → IsGrown a c P → IsGrown a (bit_or b c) P
-grown_both a b c P g h = record {
-  kept = λ j x. bit_or_left b c j (g.kept j x);
-  most = (let p = g.most in let q = le_or_l b c in omega (arith, p, q));
-  sound = λ test pass old j x. elim (or_bit b c j x) [
-    | inl y ↦ g.sound test pass old j y
-    | inr y ↦ h.sound test pass old j y
-  ];
-}
-
 -- what needs less to pass on
 pub grown_by : (a b : ℕ) (P Q : (ℕ → Bool) → Type 0) → ((test : ℕ → Bool) → Q test → P test) → IsGrown a b P → IsGrown a b Q
 grown_by a b P Q weaker g = record {
@@ -85,37 +74,17 @@ grown_by a b P Q weaker g = record {
   sound = λ test pass old. g.sound test (weaker test pass) old;
 }
 
--- where two places in a row pass a test on, it passes on over both
-pub down_twice : (test : ℕ → Bool) (by mask : ℕ) (twice : ℕ) → twice ≡ by + by → PassesDown test by mask → PassesDown test twice (bit_and mask (mask / 2 ^ by))
-down_twice test by mask twice same pass = λ i j e h start.
-    (let p = and_bit mask (mask / 2 ^ by) j h in
-    pass (j + by) j refl p.0 (pass i (j + by) (omega arith) (shr_bit mask by j p.1) start))
-
--- a run of up to three steps
-pub run_grown_down : (word one end mask : ℕ) → IsGrown word one (λ test. PassesDown test 1 mask) →
-    IsGrown one end (λ test. PassesDown test 2 (bit_and mask (mask / 2 ^ 1))) → IsGrown word end (λ test. PassesDown test 1 mask)
-run_grown_down word one end mask g h =
-    grown_then word one end (λ test. PassesDown test 1 mask) g
-    (grown_by one end (λ test. PassesDown test 2 (bit_and mask (mask / 2 ^ 1))) (λ test. PassesDown test 1 mask)
-    (λ test pass. down_twice test 1 mask 2 refl pass) h)
-
--- a round of steps in all four directions
-pub round_grown : (first word down left right up by leftward rightward downward upward : ℕ) → IsGrown first word (λ test. PassesOn test by down left right up) →
-    IsGrown word leftward (λ test. PassesDown test 1 left) → IsGrown word rightward (λ test. PassesUp test 1 right) →
-    IsGrown (bit_or leftward rightward) downward (λ test. PassesUp test by down) → IsGrown (bit_or leftward rightward) upward (λ test. PassesDown test by up) →
-    IsGrown word (bit_or downward upward) (λ test. PassesOn test by down left right up) ×
-    IsGrown first (bit_or downward upward) (λ test. PassesOn test by down left right up)
-round_grown first word down left right up by leftward rightward downward upward g l r d u = (last, grown_then first word (bit_or downward upward) P g last)
+-- runs to the right, steps to the left, and then a step down and one up
+pub grown_once : (word right left row down last free by : ℕ) → IsGrown word right (λ test. PassesUp test 1 free) →
+    IsGrown right left (λ test. PassesDown test 1 free) → IsGrown left row (λ test. PassesDown test 1 free) →
+    IsGrown row down (λ test. PassesUp test by free) → IsGrown down last (λ test. PassesDown test by free) →
+    IsGrown word last (λ test. PassesOn test by free)
+grown_once word right left row down last free by r l m d u =
+    grown_then word right last P (grown_by word right (λ test. PassesUp test 1 free) P (λ test pass. pass.on_right) r)
+    (grown_then right left last P (grown_by right left (λ test. PassesDown test 1 free) P (λ test pass. pass.on_left) l)
+    (grown_then left row last P (grown_by left row (λ test. PassesDown test 1 free) P (λ test pass. pass.on_left) m)
+    (grown_then row down last P (grown_by row down (λ test. PassesUp test by free) P (λ test pass. pass.on_down) d)
+    (grown_by down last (λ test. PassesDown test by free) P (λ test pass. pass.on_up) u))))
   where
     P : (ℕ → Bool) → Type 0
-    P = λ test. PassesOn test by down left right up
-
-    row : ℕ
-    row = bit_or leftward rightward
-
-    last : IsGrown word (bit_or downward upward) P
-    last = grown_then word row (bit_or downward upward) P
-        (grown_both word leftward rightward P (grown_by word leftward (λ test. PassesDown test 1 left) P (λ test pass. pass.on_left) l)
-        (grown_by word rightward (λ test. PassesUp test 1 right) P (λ test pass. pass.on_right) r))
-        (grown_both row downward upward P (grown_by row downward (λ test. PassesUp test by down) P (λ test pass. pass.on_down) d)
-        (grown_by row upward (λ test. PassesDown test by up) P (λ test pass. pass.on_up) u))
+    P = λ test. PassesOn test by free

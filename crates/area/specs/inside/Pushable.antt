@@ -1,10 +1,8 @@
 -- Which boxes can be pushed from a set of squares.
 use Rattle.std.specs.Prelude.{◌≡◌, ℕ, true}
 use Rattle.grid.specs.declared.dir.Dir.{Dir}
-use Rattle.grid.specs.declared.dir.Dir.TheVariants.{D, L, R, U}
 use Rattle.grid.specs.Board.{Board, IsFree, next, opposite}
 use Rattle.grid.specs.Squares.{Squares, contains}
-use Rattle.area.specs.declared.pushes.PushMasks.{PushMasks}
 
 -- someone on the reached squares can push the box on q in the direction: a box stands there, the square behind it was
 -- reached, and the square ahead has neither wall nor box
@@ -12,10 +10,3 @@ pub record IsPushable (board : Board) (boxes reached : Squares) (d : Dir) (q : �
   pub there : contains boxes q ≡ true
   pub behind : contains reached (next board q (opposite d)) ≡ true
   pub ahead : IsFree board boxes (next board q d)
-
--- the masks' word for a direction
-abbrev pub push_word : Dir → PushMasks → ℕ
-push_word D m = m.d
-push_word L m = m.l
-push_word R m = m.r
-push_word U m = m.u

@@ -6,9 +6,9 @@ use Rattle.grid.specs.Lawful.{InRoom}
 use Rattle.grid.specs.Masks.{has_bit}
 use Rattle.area.specs.inside.Flooding.{AllPass, room_left}
 
--- the squares of the player's room where no box stands
+-- the squares of the player's room that are not barred
 abbrev pub AreFree : Board → List ℕ → List ℕ → Type 0
-AreFree board boxes free = (q : ℕ) → (has_bit free q ≡ true) ↔ (InRoom board q × (has_bit boxes q ≡ false))
+AreFree board barred free = (q : ℕ) → (has_bit free q ≡ true) ↔ (InRoom board q × (has_bit barred q ≡ false))
 
 -- the numbers are one apart, or as many as there are columns
 abbrev pub IsBeside : ℕ → ℕ → ℕ → Type 0
@@ -23,6 +23,13 @@ pub record IsWidened (cols : ℕ) (free old new : List ℕ) : Type 0 where
   pub size : length new ≡ length old
   pub kept : (q : ℕ) → has_bit old q ≡ true → has_bit new q ≡ true
   pub sound : (test : ℕ → Bool) → PassesOver cols free test → AllPass test old → AllPass test new
+
+-- what a flood of the player's room round the barred squares makes of a set: no free square is beside it any more
+pub record IsFlooded (board : Board) (barred old new : List ℕ) : Type 0 where
+  pub free : List ℕ
+  pub are_free : AreFree board barred free
+  pub widened : IsWidened board.cols free old new
+  pub whole : PassesOver board.cols free (has_bit new)
 
 -- from the word at an index on, neither of two sets has a number
 abbrev pub AreUnused : ℕ → List ℕ → List ℕ → Type 0

@@ -7,13 +7,14 @@ use Rattle.area.specs.Reach.{Reach}
 use Rattle.area.specs.Words.{squares_of}
 
 abbrev pub view_of : Inside → Reach
-view_of a = record { size = length a.marks.items; reached = squares_of a.reached; boxes = squares_of a.boxes }
+view_of a = record { size = a.squares; reached = squares_of a.reached; boxes = squares_of a.boxes }
 
 -- there is a mark and a place in the queue for each square, and each set has room for the squares
 pub record IsReady (a : Inside) : Type 0 where
-  pub places : length a.queue.items ≡ length a.marks.items
-  pub small : length a.marks.items ≤ MAX_SQUARES
-  pub reached_words : length a.reached ≡ word_count (length a.marks.items)
-  pub boxes_words : length a.boxes ≡ word_count (length a.marks.items)
-  pub spare_words : length a.spare ≡ word_count (length a.marks.items)
-  pub spare_boxes_words : length a.spare_boxes ≡ word_count (length a.marks.items)
+  pub marks : length a.marks.items ≡ a.squares
+  pub queue : length a.queue.items ≡ a.squares
+  pub small : a.squares ≤ MAX_SQUARES
+  pub reached_words : length a.reached ≡ word_count a.squares
+  pub boxes_words : length a.boxes ≡ word_count a.squares
+  pub spare_words : length a.spare ≡ word_count a.squares
+  pub spare_boxes_words : length a.spare_boxes ≡ word_count a.squares

@@ -6,15 +6,15 @@ use Rattle.grid.specs.Board.{Board}
 use Rattle.grid.proofs.lemmas.Squares.{contains-insert_cases, contains-remove_parts}
 use Rattle.grid.proofs.lemmas.Steps.{inside_grid}
 use Rattle.doom.specs.Deadlocks.{IsDead, IsFrozen}
-use Rattle.doom.specs.Loose.{IsLoose, LooseDoomsNothing, IsBlocked}
+use Rattle.doom.specs.Loose.{IsLoose, LooseDoomsNothing, IsHeldBothWays}
 use Rattle.doom.proofs.Peeling.{held_by_more}
 use Rattle.doom.proofs.Ways.{live_floor}
 
 -- a box that came to rest where it is loose is in no frozen set
 free_of_frozen : (board : Board) (boxes members : Squares) (q r : ℕ) → IsLoose board boxes q → IsFrozen board boxes members → q ≡ r →
-    ¬ (IsBlocked board members r)
+    ¬ (IsHeldBothWays board members r)
 free_of_frozen board boxes members q r loose frozen same blocked =
-    loose.free (λ d. held_by_more board members boxes q d frozen.some (subst (IsBlocked board members) (sym same) blocked d))
+    loose.free (λ d. held_by_more board members boxes q d frozen.some (subst (IsHeldBothWays board members) (sym same) blocked d))
 
 -- so what dooms the boxes then doomed them before
 pub loose_dooms_nothing : (board : Board) → LooseDoomsNothing board

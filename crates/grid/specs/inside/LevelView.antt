@@ -2,7 +2,6 @@
 use Rattle.std.specs.Prelude.{◌≡◌, length}
 use Rattle.grid.specs.declared.level.Level.TheInside.{Inside}
 use Rattle.grid.specs.Board.{Board}
-use Rattle.grid.specs.Masks.{AreMasks}
 use Rattle.grid.specs.RoomMask.{IsRoomMask}
 use Rattle.grid.specs.inside.AroundView.{AreAround}
 
@@ -14,5 +13,4 @@ level_seen a = a.board
 pub record HasTables (a : Inside) : Type 0 where
   pub places : length a.around.items ≡ length a.board.cells
   pub around : AreAround a.board a.around.items
-  pub masks : AreMasks a.board a.masks.items
   pub room : IsRoomMask a.board a.room.items

@@ -13,7 +13,7 @@ use Rattle.grid.specs.Board.{Scene, push_cmp}
 use Rattle.grid.specs.States.{FitsLevel}
 use Rattle.successors.specs.Layered.{IsLayer}
 use Rattle.store.specs.Entries.{Origin, origin_cmp, Entry, Closed, places_of, origin_of}
-use Rattle.layers.specs.Openings.{IsNext, IsOpen, IsLayered}
+use Rattle.layers.specs.Openings.{IsNext, IsOpening, IsLayered}
 use Rattle.successors.specs.Capping.{Admits}
 use Rattle.successors.specs.Reaching.{Reaches, IsLayerOf, total}
 use Rattle.successors.specs.Expansion.{IsSuccessor}
@@ -21,7 +21,7 @@ use Rattle.layers.specs.Origins.{HasOrigin}
 use Rattle.layers.specs.LayerView.{LayerView, IsWhole}
 use Rattle.successors.specs.ParcelView.{ParcelView, AreSuccessors, IsParcel}
 use Rattle.layers.specs.BookView.{BookView, last_layer, InShare, IsKept, HasClosedOrigin, IsShareOfLayer, IsLawfulBook}
-use Rattle.layers.specs.Books.{MayBegin, with_begun, all_entered, with_parcel, IsAtWork, PassesLimit, MayEnter, with_reopened, AllDone, with_closed}
+use Rattle.layers.specs.Books.{MayBegin, with_begun, all_entered, with_parcel, IsAtWork, ExceedsLimit, MayEnter, with_reopened, AllDone, with_closed}
 use Rattle.layers.specs.Books.{IsSortedOpen}
 use Rattle.store.specs.Entering.{closed_entry}
 use Rattle.successors.proofs.lemmas.Lists.{at_map, map_at, Distinct, at-push, sum-set_more, count-set_true, count-all, take_short}
@@ -148,7 +148,7 @@ parcel-place v book begun parcel is work =
 
 -- the open positions after the parcel's successors have entered
 pub parcel_open : (v : BookView) (book : IsLawfulBook v) (begun : v.begun ≡ true) (parcel : ParcelView) → IsParcel parcel → IsAtWork v parcel →
-    IsOpen push_cmp (IsSuccessor v.level.board) (IsKept v) (whole_layer v book begun) (last_layer v)
+    IsOpening push_cmp (IsSuccessor v.level.board) (IsKept v) (whole_layer v book begun) (last_layer v)
     (λ r p. get_or (set v.done parcel.rank true) r false ≡ true) (origin_of (all_entered v parcel.rank parcel.successors))
 parcel_open v book begun parcel is work =
     let w = parcel-place v book begun parcel is work in
@@ -201,7 +201,7 @@ lawful_parcel v worker parcel book lt is may =
     }
 
 pub lawful_over : (v : BookView) (parcel : ParcelView) → IsLawfulBook v → IsParcel parcel → IsAtWork v parcel → slice_get v.done parcel.rank ≡ Some false →
-    PassesLimit v parcel → IsLawfulBook (record v { over = true })
+    ExceedsLimit v parcel → IsLawfulBook (record v { over = true })
 lawful_over v parcel book is work free passes =
     let begun = begun-since v book parcel.rank work.2 in
     record {

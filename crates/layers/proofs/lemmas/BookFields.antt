@@ -21,7 +21,7 @@ use Rattle.store.specs.FoundView.{AllFit, FitsGrid, FoundView}
 use Rattle.store.proofs.lemmas.Fitting.{level_fits}
 use Rattle.successors.specs.ParcelView.{ParcelView, IsParcel}
 use Rattle.layers.specs.BookView.{BookView, IsLawfulBook}
-use Rattle.layers.specs.Books.{is_wanted, all_entered, with_parcel, IsAtWork, PassesLimit, MayEnter, IsTaken, AllDone, with_closed, IsSortedOpen, IsClosedBy}
+use Rattle.layers.specs.Books.{is_wanted, all_entered, with_parcel, IsAtWork, ExceedsLimit, MayEnter, IsTaken, AllDone, with_closed, IsSortedOpen, IsClosedBy}
 use Rattle.store.specs.Entering.{is_wanted_in, entered, offered, closed_entry, RiseByOrigin, AreReordered}
 use Rattle.layers.proofs.lemmas.Exchange.{found}
 use Rattle.layers.specs.declared.book.Book.TheInside.{Inside}
@@ -68,7 +68,7 @@ limit_same a cuts now view rank ss successors same passes e =
 
 -- where the new positions pass the limit, the book would hold too many
 pub over_limit : (now : BookView) (parcel : ParcelView) → true ≡ ltb now.limit (total now.closed + length (all_entered now parcel.rank parcel.successors)) →
-    PassesLimit now parcel
+    ExceedsLimit now parcel
 over_limit now parcel more = inr (below now.limit (total now.closed + length (all_entered now parcel.rank parcel.successors)) more)
   where
     below : (x y : ℕ) → true ≡ ltb x y → x < y
@@ -113,7 +113,7 @@ module _ (a : Inside) (book : IsLawfulBook (book_view a)) (cuts : AreCuts a.star
   -- where the limit is passed the book is over
   pub over_lawful : (true ≡ ltb now.limit (total now.closed + length (all_entered now parcel.rank parcel.successors))) →
       IsLawfulBook (record (book_view a) { over = true })
-  over_lawful more = lawful_over (book_view a) parcel book is at_work.0 at_work.1 (subst (λ v. PassesLimit v parcel) (sym view) (over_limit now parcel more))
+  over_lawful more = lawful_over (book_view a) parcel book is at_work.0 at_work.1 (subst (λ v. ExceedsLimit v parcel) (sym view) (over_limit now parcel more))
 
   -- both, on lists that have names
   pub handed_all : (worker rank : ℕ) (seen : List Closed) (waiting : List (Entry Scene Push)) (done : List Bool) (tallies : List ℕ) →

@@ -16,7 +16,7 @@ use Rattle.grid.proofs.lemmas.Levels.{start_is_scene}
 use Rattle.successors.specs.declared.parcel.Successor.{Successor}
 use Rattle.successors.specs.Layered.{IsIn}
 use Rattle.store.specs.Entries.{Entry, same_scene, places_of, origin_of}
-use Rattle.layers.specs.Openings.{IsOpen, IsLayered}
+use Rattle.layers.specs.Openings.{IsOpening, IsLayered}
 use Rattle.successors.specs.Tasks.{Task}
 use Rattle.successors.specs.Capping.{Admits}
 use Rattle.successors.specs.Reaching.{Reaches, IsLayerOf, AreLayersOf, total}
@@ -94,8 +94,8 @@ module _ (v : BookView) (book : IsLawfulBook v) (begun : v.begun ≡ true) where
   module _ (rank : ℕ) (n : Scene) (at : slice_get (whole_layer (last_layer v)) rank ≡ Some n) where
     entered_open : {Offered : ℕ → Push → Type 0} (waiting : List (Entry Scene Push)) (s : Successor) →
         IsSuccessorIn v.level (last_layer v) n s.push s.position →
-        IsOpen push_cmp (IsSuccessor v.level.board) (IsKept v) whole_layer (last_layer v) Offered (origin_of waiting) →
-        IsOpen push_cmp (IsSuccessor v.level.board) (IsKept v) whole_layer (last_layer v) (λ r p. Offered r p ⊎ ((r ≡ rank) × (p ≡ s.push)))
+        IsOpening push_cmp (IsSuccessor v.level.board) (IsKept v) whole_layer (last_layer v) Offered (origin_of waiting) →
+        IsOpening push_cmp (IsSuccessor v.level.board) (IsKept v) whole_layer (last_layer v) (λ r p. Offered r p ⊎ ((r ≡ rank) × (p ≡ s.push)))
         (origin_of (entered (is_wanted v) rank waiting s))
     entered_open {Offered} waiting s (edge, adm) o = go (share_of v.shares s.position == v.share) refl (is_closed v.closed s.position) refl
       where
@@ -124,7 +124,7 @@ module _ (v : BookView) (book : IsLawfulBook v) (begun : v.begun ≡ true) where
             by false e = inl (origin_of-other waiting s.position m (rank, s.push) e)
 
         go : (a : Bool) → (share_of v.shares s.position == v.share) ≡ a → (b : Bool) → is_closed v.closed s.position ≡ b →
-            IsOpen push_cmp (IsSuccessor v.level.board) (IsKept v) whole_layer (last_layer v) (λ r p. Offered r p ⊎ ((r ≡ rank) × (p ≡ s.push)))
+            IsOpening push_cmp (IsSuccessor v.level.board) (IsKept v) whole_layer (last_layer v) (λ r p. Offered r p ⊎ ((r ≡ rank) × (p ≡ s.push)))
             (origin_of (if (share_of v.shares s.position == v.share) && not (is_closed v.closed s.position) then offered waiting s.position
             (rank, s.push) else waiting))
         go true e false f = rw (e, f)
@@ -141,8 +141,8 @@ module _ (v : BookView) (book : IsLawfulBook v) (begun : v.begun ≡ true) where
     -- the same for all successors of a rank, one after the other
     pub all_open : (ss : List Successor) {Offered : ℕ → Push → Type 0} (waiting : List (Entry Scene Push)) →
         ((i : ℕ) (s : Successor) → slice_get ss i ≡ Some s → IsSuccessorIn v.level (last_layer v) n s.push s.position) →
-        IsOpen push_cmp (IsSuccessor v.level.board) (IsKept v) whole_layer (last_layer v) Offered (origin_of waiting) →
-        IsOpen push_cmp (IsSuccessor v.level.board) (IsKept v) whole_layer (last_layer v) (λ r p. Offered r p ⊎ ((r ≡ rank) × PushOf ss p))
+        IsOpening push_cmp (IsSuccessor v.level.board) (IsKept v) whole_layer (last_layer v) Offered (origin_of waiting) →
+        IsOpening push_cmp (IsSuccessor v.level.board) (IsKept v) whole_layer (last_layer v) (λ r p. Offered r p ⊎ ((r ≡ rank) × PushOf ss p))
         (origin_of (fold (entered (is_wanted v) rank) waiting ss))
     all_open [] waiting edges o = reoffered (λ r p. _) (λ r p f. inl f) (λ r p l m f at_r edge kept. elim f
         [ inl old ↦ old | inr w ↦ absurd (none-some w.1.1 w.1.2) ]) o
@@ -203,7 +203,7 @@ few_ranks v book r lt =
 
 -- the open places of a book that has begun are at the next distance
 pub open-distance : (v : BookView) (book : IsLawfulBook v) (begun : v.begun ≡ true) {Offered : ℕ → Push → Type 0} (waiting : List (Entry Scene Push)) →
-    IsOpen push_cmp (IsSuccessor v.level.board) (IsKept v) (whole_layer v book begun) (last_layer v) Offered (origin_of waiting) →
+    IsOpening push_cmp (IsSuccessor v.level.board) (IsKept v) (whole_layer v book begun) (last_layer v) Offered (origin_of waiting) →
     Distinct (open_places waiting) → (m : Scene) → IsIn (open_places waiting) m → InShare v m × IsAtDistance v.level m (length v.closed)
 open-distance v book begun waiting o distinct m w =
     let x = at_map (λ e. e.0) waiting w.0 m w.1 in

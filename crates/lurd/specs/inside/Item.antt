@@ -3,7 +3,7 @@ use Rattle.std.specs.Prelude.{◌≡◌, ℕ, ◌+◌, ◌≤◌, List, ◌++◌
 use Rattle.grid.specs.declared.moves.Letter.{Letter}
 use Rattle.lurd.specs.declared.limits.TheConstants.{MAX_MOVES}
 use Rattle.counts.specs.Counts.{repeats}
-use Rattle.lurd.specs.Text.{byte_of, item, IsPiece, spelling}
+use Rattle.lurd.specs.Text.{letter_byte, item, IsPiece, spelling}
 
 -- the bytes begin with this letter and its count, if it has one; both take `len` bytes and mean the letter `times`
 -- times, and with the moves before them these are not too many
@@ -18,7 +18,7 @@ pub record TakesItem (moves : ℕ) (bytes : List ℕ) (letter : Letter) (times l
 
 -- the byte writes a letter
 abbrev pub IsLetterByte : ℕ → Type 0
-IsLetterByte b = (letter : Letter) × (byte_of letter ≡ b)
+IsLetterByte b = (letter : Letter) × (letter_byte letter ≡ b)
 
 -- the number of letters in upper case, which push
 abbrev pub upper_count : List Letter → ℕ

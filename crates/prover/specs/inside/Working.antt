@@ -173,8 +173,8 @@ pub record IsExpandable (board : Board) (from : Expanded) : Type 0 where
   pub few : suc from.pushes < 2 ^ 32
 
 -- the expansion has opened the position
-abbrev pub IsListed : List Opened → Scene → Type 0
-IsListed opened t = (i : ℕ) × (o : Opened) × (slice_get opened i ≡ Some o) × (o.position ≡ t)
+abbrev pub IsOpenedPosition : List Opened → Scene → Type 0
+IsOpenedPosition opened t = (i : ℕ) × (o : Opened) × (slice_get opened i ≡ Some o) × (o.position ≡ t)
 
 -- a push of the expanded position leads to the opened one, which has a true total that the cap allows
 pub record IsOpenedBy (board : Board) (cap : Option ℕ) (from : Expanded) (o : Opened) : Type 0 where
@@ -188,7 +188,7 @@ AreOpenedBy board cap from opened = (i : ℕ) (o : Opened) → slice_get opened 
 
 -- what was opened stays so, and what is new is opened by a push of the expanded position
 pub record Opens (board : Board) (cap : Option ℕ) (from : Expanded) (old new : List Opened) : Type 0 where
-  pub still : (t : Scene) → IsListed old t → IsListed new t
+  pub still : (t : Scene) → IsOpenedPosition old t → IsOpenedPosition new t
   pub each : AreOpenedBy board cap from old → AreOpenedBy board cap from new
 
 -- an expansion has opened these positions and left others for later, the least total of which is `next`. It depends on
@@ -196,7 +196,7 @@ pub record Opens (board : Board) (cap : Option ℕ) (from : Expanded) (old new :
 pub record IsExpansion (board : Board) (cap : Option ℕ) (from : Expanded) (opened : List Opened) (next : Option ℕ) : Type 0
   where
     pub each : AreOpenedBy board cap from opened
-    pub expands : Expands board (tighter cap next) (IsListed opened) from.pushes from.position
+    pub expands : Expands board (tighter cap next) (IsOpenedPosition opened) from.pushes from.position
     pub later : IsLater cap from.reach next
 
 -- the first of the opened positions were found with at most k pushes
@@ -204,14 +204,14 @@ abbrev pub AreEntered : List Entry → List Opened → ℕ → ℕ → Type 0
 AreEntered all opened k count = (i : ℕ) (o : Opened) → i < count → slice_get opened i ≡ Some o → IsFound all k o.position
 
 -- the numbers of an expansion fit their types, with one more push
-pub record IsInRange (from : Expanded) : Type 0 where
+pub record FitsTypes (from : Expanded) : Type 0 where
   pub pushes : suc from.pushes < 2 ^ 32
   pub reach : from.reach < 2 ^ 32
 
 -- the position can be expanded, and is not solved
 pub record IsReady (board : Board) (from : Expanded) : Type 0 where
   pub expandable : IsExpandable board from
-  pub range : IsInRange from
+  pub range : FitsTypes from
   pub unsolved : ¬ (IsSolved board from.position)
 
 -- ---- reading back

@@ -16,7 +16,7 @@ use Rattle.prices.specs.declared.pulls.TheConstants.{NEVER}
 use Rattle.prices.specs.inside.Checks.{StayAway}
 use Rattle.prices.specs.Prices.{AreFar, CanStand, IsNeed, goals_of, sum_over, total_need}
 use Rattle.prices.proofs.lemmas.Prices.{can_stand, needs_hold, sum_inserted, sum_le, sum_put_back}
-use Rattle.regions.specs.Regions.{AreFinite, ArePaid, AreParts, CanCome, EndlessIsLost, ExcessIsBound, IsExcess, IsPart, Part, PartsAddUp}
+use Rattle.regions.specs.Regions.{AreFinite, ArePaid, AreRegions, CanCome, EndlessIsLost, ExcessIsBound, IsExcess, IsRegion, Region, PartsAddUp}
 use Rattle.regions.specs.Regions.{endless, excess_of, waste_of}
 
 -- a pushed box and the player can stand there before and after
@@ -169,14 +169,14 @@ excess_is_bound board far toll need excess are away is has s m fits lt ds ps t p
 
 -- ---- what regions say adds up
 
-none_home : (board : Board) (ps : List Part) (s : Scene) → AreParts board ps → FitsLevel board s → IsSolved board s → excess_of ps s ≡ 0
+none_home : (board : Board) (ps : List Region) (s : Scene) → AreRegions board ps → FitsLevel board s → IsSolved board s → excess_of ps s ≡ 0
 none_home board [] s are fits solved = refl
 none_home board (p ∷ ps) s (is, are) fits solved =
     let one = is.home s fits solved in
     let rest = none_home board ps s are fits solved in
     omega (arith, one, rest)
 
-all_walk : (board : Board) (ps : List Part) (s t : Scene) (d : Dir) → AreParts board ps → FitsLevel board s → Walks board s d t
+all_walk : (board : Board) (ps : List Region) (s t : Scene) (d : Dir) → AreRegions board ps → FitsLevel board s → Walks board s d t
     → excess_of ps s ≤ excess_of ps t
 all_walk board [] s t d are fits step = omega arith
 all_walk board (p ∷ ps) s t d (is, are) fits step =
@@ -184,7 +184,7 @@ all_walk board (p ∷ ps) s t d (is, are) fits step =
     let rest = all_walk board ps s t d are fits step in
     omega (arith, one, rest)
 
-all_push : (board : Board) (ps : List Part) (s t : Scene) (d : Dir) → AreParts board ps → FitsLevel board s → Pushes board s d t
+all_push : (board : Board) (ps : List Region) (s t : Scene) (d : Dir) → AreRegions board ps → FitsLevel board s → Pushes board s d t
     → AreFinite ps (next board s.player d) d → excess_of ps s ≤ waste_of ps (next board s.player d) d + excess_of ps t
 all_push board [] s t d are fits step finite = omega arith
 all_push board (p ∷ ps) s t d (is, are) fits step (small, finite) =
@@ -206,8 +206,8 @@ parts_add_up board far need ps are paid = record {
 
 -- ---- where one of them says that it is endless
 
-module _ (board : Board) (far : ℕ → ℕ → ℕ → ℕ) (need : ℕ → ℕ → ℕ) (part : Part) (are : AreFar board far) (away : StayAway board far)
-    (is : IsPart board part.waste part.excess) (paid : ArePaid board far need (part ∷ [])) where
+module _ (board : Board) (far : ℕ → ℕ → ℕ → ℕ) (need : ℕ → ℕ → ℕ) (part : Region) (are : AreFar board far) (away : StayAway board far)
+    (is : IsRegion board part.waste part.excess) (paid : ArePaid board far need (part ∷ [])) where
   lost : (s t : Scene) (ds : List Dir) (ps : List Push) → FitsLevel board s → endless ≤ part.excess s → Play board Any s ds ps t → ¬ (IsSolved board t)
   lost s t ds ps fits le (stay ok) solved = let none = is.home s fits solved in absurd (omega (arith, le, none))
   lost s t (d ∷ ds) ps fits le (walk {m = m} ok step play) solved =

@@ -5,12 +5,12 @@ use Rattle.grid.specs.Squares.{Squares, contains}
 use Rattle.grid.specs.Board.{Board, is_goal, is_wall, next, opposite}
 use Rattle.prices.specs.Prices.{CanStand, sum_over}
 use Rattle.regions.specs.declared.table.RegionTable.{RegionTable}
-use Rattle.regions.specs.Regions.{AreFinite, CanCome, IsLeft, Part, endless, waste_of}
+use Rattle.regions.specs.Regions.{AreFinite, CanCome, IsLeft, Region, endless, waste_of}
 use Rattle.regions.specs.inside.Tables.{entry_at, entry_of, high_of, is_seat, low_of, place_of, row_of}
 
 -- neither a wall nor a box of the set
-abbrev pub IsOpen : Board → (ℕ → Bool) → ℕ → Type 0
-IsOpen board box q = (is_wall board q ≡ false) × (box q ≡ false)
+abbrev pub IsVacant : Board → (ℕ → Bool) → ℕ → Type 0
+IsVacant board box q = (is_wall board q ≡ false) × (box q ≡ false)
 
 -- a step of the player between two squares does not lessen what the row says; nor does the step back, where the second
 -- square is outside
@@ -20,8 +20,8 @@ pub record Keeps (t : RegionTable) (row z y : ℕ) : Type 0 where
 
 -- so it is with each step from the square
 abbrev pub WalksKeep : Board → RegionTable → (ℕ → Bool) → ℕ → ℕ → Type 0
-WalksKeep board t box row z = IsOpen board box z → (d : Dir) → let y = next board z d in
-    IsOpen board box y → Keeps t row z y
+WalksKeep board t box row z = IsVacant board box z → (d : Dir) → let y = next board z d in
+    IsVacant board box y → Keeps t row z y
 
 -- the player on p pushes a box from b to r: what is left pays for it, unless the box can come to no goal afterwards
 abbrev pub Pays : RegionTable → (ℕ → Dir → ℕ) → ℕ → ℕ → ℕ → ℕ → ℕ → Dir → Type 0
@@ -31,12 +31,12 @@ Pays t waste high low p b r d = waste b d < endless → IsLeft (entry_at t high 
 -- a push of a box of the set
 abbrev pub PushPays : Board → RegionTable → (ℕ → Dir → ℕ) → (ℕ → Bool) → ℕ → ℕ → ℕ → Dir → Type 0
 PushPays board t waste box high low b d = let p = next board b (opposite d) in let r = next board b d in
-    is_wall board b ≡ false → IsOpen board box p → IsOpen board box r → Pays t waste high low p b r d
+    is_wall board b ≡ false → IsVacant board box p → IsVacant board box r → Pays t waste high low p b r d
 
 -- a push of a box that isn't seen to a square where it is
 abbrev pub EntryPays : Board → RegionTable → (ℕ → Dir → ℕ) → (ℕ → Bool) → ℕ → ℕ → ℕ → Dir → Type 0
 EntryPays board t waste box high low r d = let b = next board r (opposite d) in let p = next board b (opposite d) in
-    is_wall board r ≡ false → is_wall board b ≡ false → is_seat t b ≡ false → IsOpen board box p →
+    is_wall board r ≡ false → is_wall board b ≡ false → is_seat t b ≡ false → IsVacant board box p →
     Pays t waste high low p b r d
 
 -- so it is with each push of a box on the square, or to it
@@ -73,11 +73,11 @@ pub record IsListedAt (t : RegionTable) (seats : Squares) (q : ℕ) : Type 0 whe
   pub square : place_of t q ≢ 0 → contains t.squares.items q ≡ true
 
 -- so is each square of the level
-abbrev pub IsListed : Board → RegionTable → Squares → Type 0
-IsListed board t seats = (q : ℕ) → q < length board.cells → IsListedAt t seats q
+abbrev pub HasSteps : Board → RegionTable → Squares → Type 0
+HasSteps board t seats = (q : ℕ) → q < length board.cells → IsListedAt t seats q
 
 -- the regions count for a push from the player's square no more than it wastes
-abbrev pub IsPaid : Board → (ℕ → ℕ → ℕ → ℕ) → (ℕ → ℕ → ℕ) → List Part → ℕ → Dir → Type 0
+abbrev pub IsPaid : Board → (ℕ → ℕ → ℕ → ℕ) → (ℕ → ℕ → ℕ) → List Region → ℕ → Dir → Type 0
 IsPaid board far need ps p d = let q = next board p d in let r = next board q d in
     CanStand board q p → CanStand board r q → CanCome board far r q →
     AreFinite ps q d × (need q p + waste_of ps q d ≤ suc (need r q))

@@ -3,13 +3,13 @@ use Rattle.std.specs.Prelude.{ℕ, Option, Some, None, List}
 use Rattle.prices.specs.inside.Tables.{far_in}
 use Rattle.prices.specs.inside.Views.{DistancesView}
 use Rattle.regions.specs.declared.plan.Plan.{Plan}
-use Rattle.regions.specs.Regions.{ArePaid, AreParts}
+use Rattle.regions.specs.Regions.{ArePaid, AreRegions}
 use Rattle.regions.specs.inside.Needs.{need_under}
 use Rattle.regions.specs.inside.Views.{TaskView, parts_of}
 
 -- the tables are those of the level, and count no more for a push than it wastes under the tolls
 pub record AreSound (v : DistancesView) (tolls : List ℕ) (tasks : List TaskView) : Type 0 where
-  pub parts : AreParts v.level (parts_of tasks)
+  pub parts : AreRegions v.level (parts_of tasks)
   pub paid : ArePaid v.level (far_in v.table) (need_under v tolls) (parts_of tasks)
 
 -- so it is with a plan, if there is one

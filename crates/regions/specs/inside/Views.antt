@@ -2,7 +2,7 @@
 use Rattle.std.specs.Prelude.{ℕ, Option, List, [], ◌∷◌}
 use Rattle.grid.specs.Board.{Board}
 use Rattle.regions.specs.declared.table.RegionTable.{RegionTable}
-use Rattle.regions.specs.Regions.{Part}
+use Rattle.regions.specs.Regions.{Region}
 use Rattle.regions.specs.inside.Tables.{said, waste_in}
 
 pub record TaskView : Type 0 where
@@ -10,9 +10,9 @@ pub record TaskView : Type 0 where
   pub wastes : List ℕ
   pub table : Option RegionTable
 
-abbrev pub part_of : TaskView → Part
+abbrev pub part_of : TaskView → Region
 part_of t = record { waste = waste_in t.wastes; excess = said t.table }
 
-abbrev pub parts_of : List TaskView → List Part
+abbrev pub parts_of : List TaskView → List Region
 parts_of [] = []
 parts_of (t ∷ ts) = part_of t ∷ parts_of ts

@@ -20,7 +20,7 @@ pub record BoundsView : Type 0 where
   pub most : ℕ
 
 -- a play with these pushes leads to the listed state
-pub record IsListed (board : Board) (most : ℕ) (x : Entry) : Type 0 where
+pub record IsReachedState (board : Board) (most : ℕ) (x : Entry) : Type 0 where
   pub fits : FitsLevel board x.position
   pub reached : IsReachedBy board x.pushes x.position
   pub few : x.pushes ≤ most
@@ -37,22 +37,22 @@ KeepsEach board most all x = (p : Push) → CanPush board x.position p → IsKep
 -- the states are listed by their pushes, from the start on, and the first `done` of them are expanded
 pub record AreListed (board : Board) (most done : ℕ) (all : List Entry) : Type 0 where
   pub begun : (x : Entry) × (slice_get all 0 ≡ Some x) × (x.position ≡ start board) × (x.pushes ≡ 0)
-  pub each : (i : ℕ) (x : Entry) → slice_get all i ≡ Some x → IsListed board most x
+  pub each : (i : ℕ) (x : Entry) → slice_get all i ≡ Some x → IsReachedState board most x
   pub sorted : (i j : ℕ) (x y : Entry) → i ≤ j → slice_get all i ≡ Some x → slice_get all j ≡ Some y → x.pushes ≤ y.pushes
   pub near : (i j : ℕ) (x y : Entry) → done ≤ i → slice_get all i ≡ Some x → slice_get all j ≡ Some y →
       y.pushes ≤ suc x.pushes
   pub expanded : (i : ℕ) (x : Entry) → i < done → slice_get all i ≡ Some x → KeepsEach board most all x
 
 -- a list for states of the board's size, of which the first `done` are expanded
-pub record IsListing (board : Board) (most done : ℕ) (v : VisitedView) : Type 0 where
+pub record IsStateList (board : Board) (most done : ℕ) (v : VisitedView) : Type 0 where
   pub listed : AreListed board most done v.entries
   pub boxes : v.boxes ≡ box_count board
   pub squares : v.squares ≡ length board.cells
 
 -- how the listing ends: all are expanded, or there are more than the limit
 abbrev pub EndsListing : Board → ℕ → ℕ → VisitedView → Bool → Type 0
-EndsListing board most limit v true = IsListing board most (length v.entries) v
-EndsListing board most limit v false = (done : ℕ) × IsListing board most done v × (limit < length v.entries)
+EndsListing board most limit v true = IsStateList board most (length v.entries) v
+EndsListing board most limit v false = (done : ℕ) × IsStateList board most done v × (limit < length v.entries)
 
 -- the entry is new, or its state is listed with no more pushes and nothing changes
 abbrev pub Lists : List Entry → List Entry → Entry → Type 0

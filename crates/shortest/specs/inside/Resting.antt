@@ -8,10 +8,25 @@ use Rattle.area.specs.Pushes.{CanPush}
 use Rattle.prices.specs.Solving.{SolvableWithin}
 use Rattle.successors.specs.Expansion.{after_push}
 use Rattle.store.specs.Visited.{Entry}
-use Rattle.shortest.specs.Shortest.{IsAtMost, IsRest}
 use Rattle.shortest.specs.inside.Listing.{IsAtPlace, StatesView}
 use Rattle.shortest.specs.inside.Walking.{IsWalkLength}
 use Rattle.shortest.specs.declared.ways.Way.{Way}
+
+-- the number, if there is one, is at most n
+abbrev pub IsAtMost : Option ℕ → ℕ → Type 0
+IsAtMost None n = ⊥
+IsAtMost (Some v) n = v ≤ n
+
+-- some play from s with at most m pushes ends solved and has v moves
+abbrev pub EndsSolvedBy : Board → ℕ → Scene → ℕ → Type 0
+EndsSolvedBy board m s v = (ds : List Dir) × (ps : List Push) × (t : Scene) × Play board Any s ds ps t × IsSolved board t ×
+    (length ps ≤ m) × (length ds ≡ v)
+
+-- the fewest moves of a play from s with at most m pushes that ends solved; None if there is no such play
+pub record IsRest (board : Board) (m : ℕ) (s : Scene) (rest : Option ℕ) : Type 0 where
+  pub some : (v : ℕ) → rest ≡ Some v → EndsSolvedBy board m s v
+  pub least : (ds : List Dir) (ps : List Push) (t : Scene) → Play board Any s ds ps t → IsSolved board t → length ps ≤ m →
+      IsAtMost rest (length ds)
 
 -- the fewest moves of a listed state, and that they fit 64 bits
 pub record IsRestOf (board : Board) (m : ℕ) (s : Scene) (rest : Option ℕ) : Type 0 where

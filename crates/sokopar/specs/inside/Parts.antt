@@ -23,6 +23,11 @@ level_words board =
 abbrev pub limit_words : ℕ → List ℕ
 limit_words limit = codes "limit " ++ decimal limit ++ codes " reached"
 
+-- the fewest pushes, and the fewest moves of the solutions with as few
+abbrev pub fewest_words : ℕ → ℕ → List ℕ
+fewest_words pushes moves =
+    codes "optimal " ++ decimal pushes ++ codes " pushes, optimal " ++ decimal moves ++ codes " moves"
+
 -- that no solution has as few pushes as a cap
 abbrev pub none_words : Option ℕ → List ℕ
 none_words cap = codes "none within " ++ cap_words cap ++ codes " pushes"
@@ -40,7 +45,7 @@ MapsOn n level report = ReportsOn IsMapOf n level report
 abbrev pub SolvesOn : Option ℕ → ℕ → ℕ → Option (Result Board LevelFault) → Report → Type 0
 SolvesOn cap limit n level report = ReportsOn (IsSolveOf cap limit) n level report
 
--- the report of finding a solution with the fewest pushes of level n of a listing, under a cap of pushes and a limit of
--- positions
-abbrev pub FindsOn : Option ℕ → ℕ → ℕ → Option (Result Board LevelFault) → Report → Type 0
-FindsOn cap limit n level report = ReportsOn (IsSearchOf (IsBest cap limit)) n level report
+-- the report of finding a solution with the fewest pushes of level n of a listing, as the fewest moves are wanted or
+-- not, under a cap of pushes and a limit of positions
+abbrev pub FindsOn : Bool → Option ℕ → ℕ → ℕ → Option (Result Board LevelFault) → Report → Type 0
+FindsOn wanted cap limit n level report = ReportsOn (IsSearchOf (IsBest wanted cap limit)) n level report

@@ -1,5 +1,5 @@
 -- What writing a report does.
-use Rattle.std.specs.Prelude.{◌≡◌, ℕ, List, Option, Result, Ok, Err}
+use Rattle.std.specs.Prelude.{◌≡◌, ℕ, Bool, List, Option, Result, Ok, Err}
 use Rattle.grid.specs.Board.{Board}
 use Rattle.grid.specs.declared.fault.LevelFault.{LevelFault}
 use Rattle.sokopar.specs.Collection.{AreReported, BeginsListing, IsFinding, Reported, reported_line, reported_lines}
@@ -43,26 +43,26 @@ SendsLine line old new (Err OutOfMemory) = new ≡ old
 
 -- what reporting on level n does: the sink takes the line of what is found, and the totals grow by it; or a write
 -- fails; or memory is refused, and nothing is written
-abbrev pub SendsLevel : Option ℕ → ℕ → ℕ → Result Board LevelFault → Totals → Seen → Seen → Result Totals RunFault →
-    Type 0
-SendsLevel cap limit n level totals old new (Ok more) =
-    (finding : Finding) × IsFinding cap limit level finding ×
+abbrev pub SendsLevel : Bool → Option ℕ → ℕ → ℕ → Result Board LevelFault → Totals → Seen → Seen →
+    Result Totals RunFault → Type 0
+SendsLevel wanted cap limit n level totals old new (Ok more) =
+    (finding : Finding) × IsFinding wanted cap limit level finding ×
     WritesWhole old new (reported_line cap limit (record { number = n; finding = finding })) ×
     (more ≡ counted totals finding)
-SendsLevel cap limit n level totals old new (Err Read) = ⊥
-SendsLevel cap limit n level totals old new (Err Write) =
-    (finding : Finding) × IsFinding cap limit level finding ×
+SendsLevel wanted cap limit n level totals old new (Err Read) = ⊥
+SendsLevel wanted cap limit n level totals old new (Err Write) =
+    (finding : Finding) × IsFinding wanted cap limit level finding ×
     WritesPart old new (reported_line cap limit (record { number = n; finding = finding }))
-SendsLevel cap limit n level totals old new (Err TooLong) = ⊥
-SendsLevel cap limit n level totals old new (Err OutOfMemory) = new ≡ old
+SendsLevel wanted cap limit n level totals old new (Err TooLong) = ⊥
+SendsLevel wanted cap limit n level totals old new (Err OutOfMemory) = new ≡ old
 
 -- the lines of all levels of these bytes with numbers in a range were written, and these are their totals
-pub record SendsLevels (cap : Option ℕ) (limit from to : ℕ) (bytes : List ℕ) (totals : Totals)
+pub record SendsLevels (wanted : Bool) (cap : Option ℕ) (limit from to : ℕ) (bytes : List ℕ) (totals : Totals)
     (old new : Seen) : Type 0 where
   pub listing : List Listed
   pub lists : IsListing bytes listing
   pub begins : BeginsListing bytes listing
   pub reported : List Reported
-  pub right : AreReported cap limit from to listing reported
+  pub right : AreReported wanted cap limit from to listing reported
   pub totals_are : totals ≡ totals_of reported
   pub written : WritesWhole old new (reported_lines cap limit reported)

@@ -14,7 +14,7 @@ use Rattle.successors.specs.Distances.{IsAtDistance}
 use Rattle.layers.specs.Books.{AreAllShares, IsJoinOf, IsNew, MayBegin, with_begun}
 use Rattle.layers.proofs.lemmas.Shares.{closed_upto}
 use Rattle.solo.specs.Answers.{IsAnswer}
-use Rattle.solo.specs.inside.Searched.{ComesNext, IsExamined, IsLookedAt, SearchView, new_search, places_of, with_layer}
+use Rattle.solo.specs.inside.Searched.{IsNextLayer, IsExamined, IsLookedAt, SearchView, new_search, places_of, with_layer}
 use Rattle.solo.specs.inside.Iterations.{AreBetweenLayers, AreDealt, AreWorked, AreWorkingOn, HaveBegun, IsDealt, IsWorkingOn, WorkAnswer}
 use Rattle.solo.specs.declared.answer.Answer.TheVariants.{Limit}
 use Rattle.solo.specs.declared.ranks.Worked.TheVariants.{Through, Over}
@@ -61,20 +61,20 @@ all_shares s workers shares (first ∷ books) some between =
 
 -- the layer that they have closed last comes next
 pub next_of : (s : SearchView) (workers shares : ℕ) (books : List BookView) (layer : LayerView) → 1 ≤ shares →
-    AreBetweenLayers s workers shares books → IsJoinOf books layer → ComesNext s layer
+    AreBetweenLayers s workers shares books → IsJoinOf books layer → IsNextLayer s layer
 next_of s workers shares [] layer some between join = absurd (omega (arith, between.dealt.all))
 next_of s workers shares (first ∷ books) layer some between join =
     let last = join.1 first refl in (last.0 ∙ (between.dealt.each 0 first refl).0, omega (arith, last.1, (between.paused 0 first refl).1))
 
 -- and each of them may begin it
 pub may_begin : (s : SearchView) (workers shares : ℕ) (books : List BookView) (layer : LayerView) → AreBetweenLayers s workers shares books →
-    ComesNext s layer → (i : ℕ) (v : BookView) → slice_get books i ≡ Some v → MayBegin v layer
+    IsNextLayer s layer → (i : ℕ) (v : BookView) → slice_get books i ≡ Some v → MayBegin v layer
 may_begin s workers shares books layer between next i v at =
     (next.0 ∙ sym (between.dealt.each i v at).0, omega (arith, next.1, (between.paused i v at).1), (between.paused i v at).0)
 
 -- then they are at work on it
 pub at_work : (s : SearchView) (workers shares : ℕ) (books after : List BookView) (ranks : ℕ) (layer : LayerView) →
-    AreBetweenLayers s workers shares books → ComesNext s layer → HaveBegun books ranks after →
+    AreBetweenLayers s workers shares books → IsNextLayer s layer → HaveBegun books ranks after →
     AreDealt s.task s.limit workers shares after × AreWorkingOn layer after
 at_work s workers shares books after ranks layer between next begun = (
   record {
@@ -100,7 +100,7 @@ at_work s workers shares books after ranks layer between next begun = (
     )
 
 -- once its ranks are done, the books are between two iterations again
-pub goes_on : (s : SearchView) (workers shares : ℕ) (after : List BookView) (layer : LayerView) → ComesNext s layer →
+pub goes_on : (s : SearchView) (workers shares : ℕ) (after : List BookView) (layer : LayerView) → IsNextLayer s layer →
     AreWorked s.task s.limit workers shares layer Through after → AreBetweenLayers (with_layer s layer) workers shares after
 goes_on s workers shares after layer next (before, dealt, working, (same, left)) = record {
   dealt = record { all = same ∙ dealt.all; each = λ i w at. (through i w at).0 };
@@ -148,7 +148,7 @@ over_limit task limit positions trail book looked lawful level same over long =
     }
 
 -- so it is where the ranks of the layer that was looked at last were done until one of the books was over
-pub ends_over : (s : SearchView) (workers shares : ℕ) (after : List BookView) (layer : LayerView) → ComesNext s layer → IsExamined s layer →
+pub ends_over : (s : SearchView) (workers shares : ℕ) (after : List BookView) (layer : LayerView) → IsNextLayer s layer → IsExamined s layer →
     AreWorked s.task s.limit workers shares layer Over after → IsAnswer s.task s.limit Limit
 ends_over s workers shares after layer next examined (before, dealt, working, (i, v, at, (w, there, (alike, over, closed), lawful))) =
     let d = dealt.each i v at in

@@ -15,7 +15,7 @@ use Rattle.layers.specs.Books.{AreAllShares}
 use Rattle.layers.specs.Holding.{all_held}
 use Rattle.layers.proofs.lemmas.Holdings.{held_all}
 use Rattle.solo.specs.Answers.{IsAnswer}
-use Rattle.solo.specs.inside.Searched.{ComesNext, IsExamined, IsLookedAt, SearchView, places_of}
+use Rattle.solo.specs.inside.Searched.{IsNextLayer, IsExamined, IsLookedAt, SearchView, places_of}
 use Rattle.solo.specs.inside.Iterations.{AreDealt, AreWorkingOn, WorkAnswer, WorkAnswers}
 use Rattle.solo.specs.inside.Together.{AreFinished, AreStill, IsStill, PassTogether}
 use Rattle.solo.specs.declared.answer.Answer.TheVariants.{Limit}
@@ -65,7 +65,7 @@ dealt_shares task limit workers shares (first ∷ books) layer some dealt workin
     )
 
 -- where books at work pass the limit together, and their layer was looked at, the answer is the limit
-pub together_limit : (s : SearchView) (workers shares : ℕ) (books : List BookView) (layer : LayerView) → 1 ≤ shares → ComesNext s layer →
+pub together_limit : (s : SearchView) (workers shares : ℕ) (books : List BookView) (layer : LayerView) → 1 ≤ shares → IsNextLayer s layer →
     IsExamined s layer → AreDealt s.task s.limit workers shares books → AreWorkingOn layer books → PassTogether s.limit books → IsAnswer s.task s.limit Limit
 together_limit s workers shares books layer some next examined dealt working (lawful, passed) = elim passed [
   | inl over ↦ (let i = over.0 in let v = over.1 in let d = dealt.each i v over.2 in

@@ -58,8 +58,8 @@ with_layer s layer =
     record s { trail = s.trail ++ layer.origins ∷ []; positions = s.positions + length layer.places }
 
 -- the layer comes next in the search
-abbrev pub ComesNext : SearchView → LayerView → Type 0
-ComesNext s layer = (layer.level ≡ s.task) × (layer.number ≡ length s.trail)
+abbrev pub IsNextLayer : SearchView → LayerView → Type 0
+IsNextLayer s layer = (layer.level ≡ s.task) × (layer.number ≡ length s.trail)
 
 -- the search has looked at the layer that comes next: it is not empty and has no solved position, and with it the
 -- positions are no more than the limit

@@ -13,7 +13,7 @@ use Rattle.successors.specs.declared.parcel.Successor.{Successor}
 use Rattle.successors.specs.declared.limits.TheConstants.{MAX_SHARES}
 use Rattle.successors.specs.declared.dealing.TheConstants.{MOST_DEALT}
 use Rattle.successors.specs.inside.Sums.{AreSums, scene_sum}
-use Rattle.successors.specs.inside.Dealt.{share_places, successor_places, IsListed, IsDealt}
+use Rattle.successors.specs.inside.Dealt.{share_places, successor_places, IsDealtRow, IsDealt}
 
 -- ---- the places of one share
 
@@ -204,7 +204,7 @@ pub places_there : (dealt shares share from end : ℕ) (rows lens sums : List �
     end ≡ from + get_or lens share 0 →
     between from end rows ≡ successor_places shares share ss
 places_there dealt shares share from end rows lens sums before ss lt all held are same from_is end_is =
-    let here : IsListed shares share rows lens sums = (subst (λ n. IsDealt n rows lens sums) all held).1 share lt in
+    let here : IsDealtRow shares share rows lens sums = (subst (λ n. IsDealt n rows lens sums) all held).1 share lt in
     between_is rows from end ∙ (λ i. drop (from_is i) (take ((end_is ∙ ap (λ (n : ℕ). n + get_or lens share 0) from_is) i) rows)) ∙ here.places
     ∙ ap (share_places shares share 0) (are ∙ ap sums_of same)
 

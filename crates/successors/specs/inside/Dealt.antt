@@ -17,14 +17,14 @@ abbrev pub successor_places : ℕ → ℕ → List Successor → List ℕ
 successor_places shares share ss = share_places shares share 0 (map (λ s. scene_sum s.position) ss)
 
 -- the row of a share begins with the places of its successors
-pub record IsListed (shares share : ℕ) (rows lens sums : List ℕ) : Type 0 where
+pub record IsDealtRow (shares share : ℕ) (rows lens sums : List ℕ) : Type 0 where
   pub within : get_or lens share 0 ≤ MOST_DEALT
   pub places : drop (share * MOST_DEALT) (take (share * MOST_DEALT + get_or lens share 0) rows) ≡
       share_places shares share 0 sums
 
 -- so do those of each share
 abbrev pub AllListed : ℕ → List ℕ → List ℕ → List ℕ → Type 0
-AllListed shares rows lens sums = (share : ℕ) → share < shares → IsListed shares share rows lens sums
+AllListed shares rows lens sums = (share : ℕ) → share < shares → IsDealtRow shares share rows lens sums
 
 -- successors with these sums are dealt to `shares` shares, at most MAX_SHARES; with 0 shares nothing is claimed
 abbrev pub IsDealt : ℕ → List ℕ → List ℕ → List ℕ → Type 0

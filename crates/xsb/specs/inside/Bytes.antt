@@ -3,7 +3,7 @@ use Rattle.std.specs.Prelude.{ℕ, cond, ◌==◌, List, [], ◌∷◌, ◌++◌
 use Rattle.grid.specs.declared.cell.Cell.{Cell}
 use Rattle.grid.specs.declared.cell.Cell.TheVariants.{Wall, Floor, Goal, Box, BoxOnGoal, Player, PlayerOnGoal}
 use Rattle.xsb.specs.Boards.{cut_row}
-use Rattle.xsb.specs.Rows.{byte_of}
+use Rattle.xsb.specs.Rows.{cell_byte}
 
 -- LF ends a line
 abbrev pub line_feed : ℕ
@@ -36,4 +36,4 @@ cell_of b =
 
 -- a row as it is written: without floor at its end, ended by a line feed
 abbrev pub written_row : List Cell → List ℕ
-written_row row = map byte_of (cut_row row) ++ 10 ∷ []
+written_row row = map cell_byte (cut_row row) ++ 10 ∷ []

@@ -3,7 +3,7 @@ use Rattle.std.specs.Prelude.{◌≡◌, ℕ, List, [], ◌∷◌, ◌++◌, len
 use Rattle.std.specs.List.{AllByRecursion}
 use Rattle.xsb.specs.declared.entry.BoardEntry.{BoardEntry}
 use Rattle.xsb.specs.declared.reader.Collection.{Collection}
-use Rattle.xsb.specs.Collection.{Found, Part, IsPart, AreApart, AreFound, IsCollection}
+use Rattle.xsb.specs.Collection.{Found, Part, IsPart, AreSeparated, AreFound, IsCollection}
 use Rattle.xsb.specs.Entries.{IsBoardEntry}
 use Rattle.xsb.specs.inside.Gaps.{IsGap, BeginsBoard}
 use Rattle.xsb.specs.inside.Reading.{cut_lines}
@@ -12,7 +12,7 @@ use Rattle.xsb.specs.inside.Reading.{cut_lines}
 pub record Continues (line : ℕ) (before lines : List (List ℕ)) (parts : List Part) (founds : List Found) : Type 0 where
   pub whole : lines ≡ flat_map (λ part. part.board ++ part.gap) parts
   pub boards : AllByRecursion IsPart parts
-  pub apart : AreApart parts
+  pub apart : AreSeparated parts
   pub found : AreFound line before parts founds
 
 -- the bytes were read as far as these boards, which are the first of their collection: whatever stands in the lines

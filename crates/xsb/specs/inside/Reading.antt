@@ -46,5 +46,5 @@ abbrev pub cut_lines : List (List ℕ) → List (List ℕ)
 cut_lines raw = map cut_line raw
 
 -- a line comes next, as it stands without what ends it
-abbrev pub ComesNext : List (List ℕ) → List ℕ → Type 0
-ComesNext rest line = (raw : List ℕ) × (more : List (List ℕ)) × (rest ≡ raw ∷ more) × (line ≡ cut_line raw)
+abbrev pub IsNextLine : List (List ℕ) → List ℕ → Type 0
+IsNextLine rest line = (raw : List ℕ) × (more : List (List ℕ)) × (rest ≡ raw ∷ more) × (line ≡ cut_line raw)

@@ -1,7 +1,6 @@
-use Rattle.std.proofs.Common.{◌*◌}
-use Rattle.grid.specs.declared.masks.TheConstants.{WORD_BITS}
-use Rattle.area.specs.inside.PushLists.{AreAllowedBelow}
+use Rattle.std.proofs.Common.{drop}
+use Rattle.area.specs.inside.PushLists.{IsListing}
 use Rattle.area.proofs.possible.possible_pushes.Given as goal
 
-abbrev pub invariant-loop-index : goal.invariant-loop-index
-invariant-loop-index l = AreAllowedBelow l.level l.scratch (WORD_BITS * l.index) l.pushes.items
+abbrev pub invariant-loop-square : goal.invariant-loop-square
+invariant-loop-square l = IsListing l.level l.scratch (drop l.square-index l.boxes) l.square-index l.pushes.items

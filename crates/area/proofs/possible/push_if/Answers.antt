@@ -1,21 +1,38 @@
-use Rattle.std.proofs.Common.{◌/◌, ◌^◌, ◌+◌, ◌∙◌, List, refl, sym, subst}
-use Rattle.std.specs.Int.RustNames.{bit_and}
-use Rattle.std.proofs.lemmas.Bool.{eq-eqb, ne_eqb, true≢false}
+use Rattle.std.proofs.Common.{◌+◌, List, refl, sym, ap, subst, ◌∙◌}
+use Rattle.std.proofs.lemmas.Bool.{true≢false}
 use Rattle.grid.specs.declared.square.Push.{Push}
-use Rattle.grid.specs.Board.{dir_number}
-use Rattle.area.proofs.lemmas.WordBits.{word_bit_tested}
+use Rattle.grid.specs.Board.{dir_number, is_wall, next}
+use Rattle.grid.specs.Squares.{contains}
 use Rattle.area.specs.inside.PushLists.{AreAllowedBefore}
 use Rattle.area.proofs.PushLists.{before_more, before_same}
 use Rattle.area.proofs.possible.push_if.Goals as goal
 
-pub returns-then-word-bit-eq1-clause-pushes : goal.returns-then-word-bit-eq1-clause-pushes
-returns-then-word-bit-eq1-clause-pushes c = λ board reach tells before.
-    subst (λ (ps : List Push). AreAllowedBefore board reach c.args.square (dir_number c.args.dir + 1) ps) (sym c.push.ensures.items)
-    (before_more board reach c.args.square c.args.pushes.now.items (dir_number c.args.dir) c.args.dir refl before
-    (tells.0 (sym (word_bit_tested c.args.word c.args.bit) ∙ eq-eqb (bit_and (c.args.word / 2 ^ c.args.bit) 1) 1 c.if-word-bit-eq1.true)))
+pub returns-then-not-reaches-clause-pushes : goal.returns-then-not-reaches-clause-pushes
+returns-then-not-reaches-clause-pushes c = λ before.
+    before_same c.args.level.now c.args.scratch.now c.args.square c.args.pushes.now.items (dir_number c.args.dir) c.args.dir refl before
+    (λ can. true≢false (sym can.behind ∙ (ap (λ d. contains c.args.scratch.now.reached (next c.args.level.now c.args.square d)) (sym c.opposite.ensures) ∙
+    (ap (contains c.args.scratch.now.reached) (sym c.next.ensures) ∙ (sym c.reaches.ensures ∙ c.if-not-reaches.true)))))
 
-pub returns-else-word-bit-eq1-clause-pushes : goal.returns-else-word-bit-eq1-clause-pushes
-returns-else-word-bit-eq1-clause-pushes c = λ board reach tells before.
-    before_same board reach c.args.square c.args.pushes.now.items (dir_number c.args.dir) c.args.dir refl before
-    (λ can. true≢false (sym (tells.1 can) ∙
-    (sym (word_bit_tested c.args.word c.args.bit) ∙ ne_eqb (bit_and (c.args.word / 2 ^ c.args.bit) 1) 1 c.if-word-bit-eq1.false)))
+pub returns-then-is_wall-clause-pushes : goal.returns-then-is_wall-clause-pushes
+returns-then-is_wall-clause-pushes c = λ before.
+    before_same c.args.level.now c.args.scratch.now c.args.square c.args.pushes.now.items (dir_number c.args.dir) c.args.dir refl before
+    (λ can. true≢false (sym c.if-is_wall.true ∙ (c.is_wall.ensures ∙ (ap (is_wall c.args.level.now) c.next-ahead.ensures ∙ can.ahead.0))))
+
+pub returns-then-has_box-clause-pushes : goal.returns-then-has_box-clause-pushes
+returns-then-has_box-clause-pushes c = λ before.
+    before_same c.args.level.now c.args.scratch.now c.args.square c.args.pushes.now.items (dir_number c.args.dir) c.args.dir refl before
+    (λ can. true≢false (sym c.if-has_box.true ∙ (c.has_box.ensures ∙ (ap (contains c.args.scratch.now.boxes) c.next-ahead.ensures ∙ can.ahead.1))))
+
+pub returns-clause-pushes : goal.returns-clause-pushes
+returns-clause-pushes c = λ before.
+    subst (λ (ps : List Push). AreAllowedBefore c.args.level.now c.args.scratch.now c.args.square (dir_number c.args.dir + 1) ps) (sym c.push.ensures.items)
+    (before_more c.args.level.now c.args.scratch.now c.args.square c.args.pushes.now.items (dir_number c.args.dir) c.args.dir refl before
+    (record {
+      there = c.requires.there;
+      behind = ap (λ d. contains c.args.scratch.now.reached (next c.args.level.now c.args.square d)) (sym c.opposite.ensures) ∙
+          (ap (contains c.args.scratch.now.reached) (sym c.next.ensures) ∙ (sym c.reaches.ensures ∙ c.if-not-reaches.false));
+      ahead = (
+        ap (is_wall c.args.level.now) (sym c.next-ahead.ensures) ∙ (sym c.is_wall.ensures ∙ c.if-is_wall.false),
+        ap (contains c.args.scratch.now.boxes) (sym c.next-ahead.ensures) ∙ (sym c.has_box.ensures ∙ c.if-has_box.false),
+      );
+    }))

@@ -14,5 +14,5 @@ returns-then-first-old c =
 pub returns : goal.returns
 returns c =
     visit_grown c.args.cols c.args.free.now c.args.words.now c.args.index c.beside.result (omega arith) (omega arith)
-    (omega arith) c.beside.ensures c.fill.result (λ test. PassesOn test c.args.cols _ _ _ _) (omega arith)
+    (omega arith) c.beside.ensures c.fill.result (λ test. PassesOn test c.args.cols _) (omega arith)
     (λ test passes. all_ways c.args.cols c.args.free.now c.args.index (omega arith) test passes) c.fill.ensures c.if-first-old.false

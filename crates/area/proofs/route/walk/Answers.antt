@@ -24,12 +24,12 @@ pub index-requires : goal.index-requires
 index-requires c =
     let lt = inside_grid c.args.level.now c.args.state.now.player c.requires.scene.player.0 in
     let size = ap (λ (r : Reach). r.size) c.scratch.view_is in
-    omega (arith, lt, size, c.player-player.ensures, c.player.view_is, c.requires.room)
+    omega (arith, lt, size, c.scratch.invariant.marks, c.player-player.ensures, c.player.view_is, c.requires.room)
 
 pub returns-then-index-le-BOX_MARK-clause-walk : goal.returns-then-index-le-BOX_MARK-clause-walk
 returns-then-index-le-BOX_MARK-clause-walk c =
     let inside : c.player.inside.0 < c.scratch.inside.marks.len = (let lt = inside_grid c.args.level.now c.args.state.now.player c.requires.scene.player.0 in
-    let size = ap (λ (r : Reach). r.size) c.scratch.view_is in omega (arith, lt, size, c.player-player.ensures, c.player.view_is, c.requires.room)) in
+    let size = ap (λ (r : Reach). r.size) c.scratch.view_is in omega (arith, lt, size, c.scratch.invariant.marks, c.player-player.ensures, c.player.view_is, c.requires.room)) in
     let mark = read_written c.search_from.new.marks
     (drop (length c.search_from.new.marks) c.scratch.inside.marks.items) c.scratch.inside.marks.len c.player.inside.0 c.args.state.now.player
     c.index.result.now (omega arith) inside c.index.ensures (c.player.view_is ∙ c.player-player.ensures) in (
@@ -41,7 +41,7 @@ returns-then-index-le-BOX_MARK-clause-walk c =
 pub descend-outcome-requires-clause-reached : goal.descend-outcome-requires-clause-reached
 descend-outcome-requires-clause-reached c =
     let inside : c.player.inside.0 < c.scratch.inside.marks.len = (let lt = inside_grid c.args.level.now c.args.state.now.player c.requires.scene.player.0 in
-    let size = ap (λ (r : Reach). r.size) c.scratch.view_is in omega (arith, lt, size, c.player-player.ensures, c.player.view_is, c.requires.room)) in
+    let size = ap (λ (r : Reach). r.size) c.scratch.view_is in omega (arith, lt, size, c.scratch.invariant.marks, c.player-player.ensures, c.player.view_is, c.requires.room)) in
     let mark = read_written c.search_from.new.marks
     (drop (length c.search_from.new.marks) c.scratch.inside.marks.items) c.scratch.inside.marks.len c.player.inside.0 c.player-player.result
     c.index.result.now (omega arith) inside c.index.ensures c.player.view_is in

@@ -6,10 +6,10 @@ use Rattle.lurd.specs.inside.Item.{TakesItem}
 use Rattle.lurd.proofs.Texts.{text_and_blank, text_and_item, item_within, fault_behind}
 use Rattle.lurd.proofs.text.parse.Goals as goal
 
-pub loop-place-preserved-then-is_blank : goal.loop-place-preserved-then-is_blank
-loop-place-preserved-then-is_blank c = record {
+pub loop-place-preserved-then-is_skipped : goal.loop-place-preserved-then-is_skipped
+loop-place-preserved-then-is_skipped c = record {
   within = omega arith;
-  text = text_and_blank c.args.text.now c.loop-place.place c.loop-place-test.true c.loop-place.invariant.text (sym c.is_blank.ensures ∙ c.if-is_blank.true);
+  text = text_and_blank c.args.text.now c.loop-place.place c.loop-place-test.true c.loop-place.invariant.text (sym c.is_skipped.ensures ∙ c.if-is_skipped.true);
 }
 
 pub returns-in_err-item-clause-err : goal.returns-in_err-item-clause-err

@@ -10,7 +10,7 @@ use Rattle.corrals.specs.Corrals.{IsClosure}
 use Rattle.corrals.specs.Sets.{SetsView}
 use Rattle.prices.specs.Helping.{SlackView}
 use Rattle.prices.specs.Solving.{Allows}
-use Rattle.prover.specs.inside.Working.{AreTaken, IsChosen, IsListed, tighter}
+use Rattle.prover.specs.inside.Working.{AreTaken, IsChosen, IsOpenedPosition, tighter}
 use Rattle.prover.proofs.Deferring.{loosened}
 use Rattle.prover.proofs.Steps.{are_taken_less, chosen_suffice, expands_by, read_push, taken_more}
 use Rattle.prover.proofs.expansion.open_all.Goals as goal
@@ -44,8 +44,8 @@ loop-index-preserved c =
     let p = c.index-pushes-index.result in
     let now = c.in_ok-try_push.ensures in
     let kept = c.try_push.ensures.kept in
-    let before = IsListed c.loop-index.workspace.opened.items in
-    let after = IsListed c.try_push.new.workspace.opened.items in
+    let before = IsOpenedPosition c.loop-index.workspace.opened.items in
+    let after = IsOpenedPosition c.try_push.new.workspace.opened.items in
     let workspace = c.try_push.new.workspace in
     let only = c.find-only.result in
     let end : length c.pushes-index-end.result.now ≡ length c.find_pushes.new.self.pushes = ap length c.pushes-index-end.ensures in
@@ -97,6 +97,6 @@ returns-clause-expansion c =
     record {
       each = was.each;
       later = was.later;
-      expands = expands_by board (tighter cap next) (IsListed c.loop-index.workspace.opened.items) (IsChosen only held) k s ps c.loop-index.index fits.scene pushes over
+      expands = expands_by board (tighter cap next) (IsOpenedPosition c.loop-index.workspace.opened.items) (IsChosen only held) k s ps c.loop-index.index fits.scene pushes over
           (λ m allowed. chosen_suffice board left s only held level fits closure m (c.left-left.ensures m (loosened cap next (k + suc m) allowed))) was.taken;
     }

@@ -5,7 +5,7 @@ use Rattle.successors.specs.Expansion.{after_push}
 use Rattle.successors.specs.Tasks.{Task}
 use Rattle.prover.specs.declared.pushing.Opened.{Opened}
 use Rattle.prover.specs.Frontier.{IsBound, IsTotal, NoneGoesOn}
-use Rattle.prover.specs.inside.Working.{IsListed, IsTaken, tighter}
+use Rattle.prover.specs.inside.Working.{IsOpenedPosition, IsTaken, tighter}
 use Rattle.prover.proofs.Deferring.{defers_one, loosened}
 use Rattle.prover.proofs.Steps.{listed_last, opens_one, taken_found, taken_later, taken_less, taken_none}
 use Rattle.prover.proofs.pushing.open_after.Goals as goal
@@ -22,8 +22,8 @@ returns-in_default-allowed_total-clause-taken c =
     let made : IsNorm board (after_push board s p) n × FitsLevel board n =
     subst (λ (t : Task). IsNorm t.board (after_push t.board s p) n × FitsLevel t.board n) c.requires.task c.in-Some.ensures.made in
     let one : k + 1 ≡ suc k = omega arith in
-    taken_less board cap (tighter cap c.args.workspace.now.next) (IsListed c.args.workspace.now.opened.items) k s p (loosened cap c.args.workspace.now.next)
-    (taken_none board cap (IsListed c.args.workspace.now.opened.items) k s n p scene c.requires.possible made.0
+    taken_less board cap (tighter cap c.args.workspace.now.next) (IsOpenedPosition c.args.workspace.now.opened.items) k s p (loosened cap c.args.workspace.now.next)
+    (taken_none board cap (IsOpenedPosition c.args.workspace.now.opened.items) k s n p scene c.requires.possible made.0
     (subst (λ (j : ℕ). NoneGoesOn board cap j n) one c.in_default-allowed_total.ensures.none))
 
 pub returns-then-total-from-clause-taken : goal.returns-then-total-from-clause-taken
@@ -39,8 +39,8 @@ returns-then-total-from-clause-taken c =
     let made : IsNorm board (after_push board s p) n × FitsLevel board n =
     subst (λ (t : Task). IsNorm t.board (after_push t.board s p) n × FitsLevel t.board n) c.requires.task c.in-Some.ensures.made in
     let one : k + 1 ≡ suc k = omega arith in
-    subst (λ (o : Option ℕ). IsTaken board (tighter cap o) (IsListed c.args.workspace.now.opened.items) k s p) (sym c.lesser-workspace.ensures)
-    (taken_later board cap (IsListed c.args.workspace.now.opened.items) k total s n p c.args.workspace.now.next scene c.requires.possible made.0
+    subst (λ (o : Option ℕ). IsTaken board (tighter cap o) (IsOpenedPosition c.args.workspace.now.opened.items) k s p) (sym c.lesser-workspace.ensures)
+    (taken_later board cap (IsOpenedPosition c.args.workspace.now.opened.items) k total s n p c.args.workspace.now.next scene c.requires.possible made.0
     (subst (λ (j : ℕ). IsBound board j n total) one c.in-Some-allowed_total.ensures.total.bound))
 
 pub returns-then-total-from-clause-defers : goal.returns-then-total-from-clause-defers
@@ -62,8 +62,8 @@ returns-clause-taken c =
     let made : IsNorm board (after_push board s p) n × FitsLevel board n =
     subst (λ (t : Task). IsNorm t.board (after_push t.board s p) n × FitsLevel t.board n) c.requires.task c.in-Some.ensures.made in
     let o : Opened = (record { position = n; push = p; total = c.in-Some-allowed_total.total }) in
-    taken_less board cap (tighter cap next) (IsListed new) k s p (loosened cap next)
-    (taken_found board cap (IsListed new) k s n p c.requires.expandable.fits.scene c.requires.possible made.0 (listed_last old new o c.in_ok-push.ensures.items))
+    taken_less board cap (tighter cap next) (IsOpenedPosition new) k s p (loosened cap next)
+    (taken_found board cap (IsOpenedPosition new) k s n p c.requires.expandable.fits.scene c.requires.possible made.0 (listed_last old new o c.in_ok-push.ensures.items))
 
 pub returns-clause-opens : goal.returns-clause-opens
 returns-clause-opens c =

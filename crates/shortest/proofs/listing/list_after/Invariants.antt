@@ -1,6 +1,6 @@
 use Rattle.std.proofs.Common.{◌≡◌}
 use Rattle.successors.specs.Expanding.{HasPushesOf}
-use Rattle.shortest.specs.inside.Listing.{AreKept, IsAtPlace, IsListing}
+use Rattle.shortest.specs.inside.Listing.{AreKept, IsAtPlace, IsStateList}
 use Rattle.shortest.proofs.listing.list_after.Given as goal
 
 abbrev pub invariant-loop-index : goal.invariant-loop-index
@@ -8,7 +8,7 @@ invariant-loop-index l = record {
   board : l.workspace.expander.task.board ≡ l.bounds.board;
   found : HasPushesOf l.workspace.expander l.from.state;
   same : l.workspace.expander ≡ l.initial.workspace.expander;
-  listing : IsListing l.bounds.board l.bounds.most l.place l.listed;
+  listing : IsStateList l.bounds.board l.bounds.most l.place l.listed;
   at_place : IsAtPlace l.listed.entries l.place l.from.state l.from.pushes;
   kept : AreKept l.bounds.board l.bounds.most l.listed.entries l.from.pushes l.from.state l.workspace.expander.pushes l.index;
 }

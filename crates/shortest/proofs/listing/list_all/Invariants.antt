@@ -1,11 +1,12 @@
 use Rattle.std.proofs.Common.{◌≡◌, ◌-◌}
-use Rattle.shortest.specs.inside.Listing.{IsListing}
+use Rattle.shortest.specs.inside.Listing.{IsStateList}
 use Rattle.shortest.proofs.listing.list_all.Given as goal
 
 abbrev pub invariant-loop-place : goal.invariant-loop-place
 invariant-loop-place l = record {
-  listing : IsListing l.bounds.board l.bounds.most l.place l.listed;
-  board : l.workspace.expander.task.board ≡ l.bounds.board;
+  same : l.bounds ≡ l.fn.bounds;
+  listing : IsStateList l.fn.bounds.board l.fn.bounds.most l.place l.listed;
+  board : l.workspace.expander.task.board ≡ l.fn.bounds.board;
 }
 
 abbrev pub decreases-loop-place : goal.decreases-loop-place

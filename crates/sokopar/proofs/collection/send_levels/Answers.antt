@@ -6,11 +6,11 @@ use Rattle.sokopar.proofs.ByLine.{err_is, reported_all, reported_inside, reporte
 use Rattle.sokopar.proofs.collection.send_levels.Goals as goal
 
 pub boards-init : goal.boards-init
-boards-init g c = reported_none _ _ _ _ _ _ _ _ c.in-Ok.ensures.begins c.in-Ok.ensures.bound c.new-totals.ensures
+boards-init g c = reported_none _ _ _ _ _ _ _ _ _ c.in-Ok.ensures.begins c.in-Ok.ensures.bound c.new-totals.ensures
 
 pub returns-in_err-entry-clause-err : goal.returns-in_err-entry-clause-err
 returns-in_err-entry-clause-err g c =
-    err_is _ c.from_residual.result OutOfMemory (search rules) (stopped_between _ _ _ _ _ _ _ _ _ _ OutOfMemory c.boards.invariant refl)
+    err_is _ c.from_residual.result OutOfMemory (search rules) (stopped_between _ _ _ _ _ _ _ _ _ _ _ OutOfMemory c.boards.invariant refl)
 
 pub returns-in_err-totals-clause-err : goal.returns-in_err-totals-clause-err
 returns-in_err-totals-clause-err g c =

@@ -4,7 +4,7 @@ use Rattle.sokopar.proofs.ByLine.{HasReported}
 use Rattle.sokopar.proofs.collection.send_levels.Given as goal
 
 abbrev pub invariant-boards : goal.invariant-boards
-invariant-boards g l = HasReported l.config.cap l.config.limit l.from l.to l.bytes l.collection l.number l.totals
+invariant-boards g l = HasReported l.config.moves l.config.cap l.config.limit l.from l.to l.bytes l.collection l.number l.totals
     (g.K.Sink.seen l.fn.sink) (g.K.Sink.seen l.sink)
 
 abbrev pub decreases-boards : goal.decreases-boards

@@ -11,5 +11,5 @@ judged-requires-clause-few g c κs within =
     few_pushes c.args.level.now c.args.moves.now c.in_ok-verdict.verdict c.in-Solved.pushes c.in-Solved.moves c.in-Solved.is c.in_ok-verdict.ensures c.requires
 
 pub returns-in-Solved : goal.returns-in-Solved
-returns-in-Solved g c = of_solved c.args.request.limit c.args.level.now c.args.moves.now c.in_ok-verdict.verdict c.in-Solved.pushes c.in-Solved.moves
+returns-in-Solved g c = of_solved c.args.request.moves c.args.request.limit c.args.level.now c.args.moves.now c.in_ok-verdict.verdict c.in-Solved.pushes c.in-Solved.moves
     c.judged.result c.in-Solved.is c.in_ok-verdict.ensures c.judged.ensures

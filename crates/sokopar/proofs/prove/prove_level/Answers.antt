@@ -10,7 +10,7 @@ returns-in_ok-prove_report-in-Some-Ok-clause-ok g c =
     let level = c.in-Some-Ok.level in
     let report = c.in_ok-prove_report-in-Some-Ok.field-0 in
     let is : c.args.chosen.now ≡ Some (Ok level) = search rules in
-    let P : List ℕ → Type 0 = λ text. IsProofOf c.args.request.limit level text report in
+    let P : List ℕ → Type 0 = λ text. IsProofOf c.args.request.moves c.args.request.limit level text report in
     let proved = subst P c.as_slice.ensures.value c.in_ok-prove_report-in-Some-Ok.ensures in
     let reads = c.in_ok-text-in-Some-Ok.ensures.ok in
-    text_read (IsProofOf c.args.request.limit) _ _ _ _ _ _ _ is reads proved
+    text_read (IsProofOf c.args.request.moves c.args.request.limit) _ _ _ _ _ _ _ is reads proved

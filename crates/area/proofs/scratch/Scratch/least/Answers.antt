@@ -14,7 +14,7 @@ least_of-requires-clause-some c =
 
 pub least_of-requires-clause-small : goal.least_of-requires-clause-small
 least_of-requires-clause-small c =
-    words_few (length c.self.inside.marks.items) (length c.as_words.result.now) (ap length c.as_words.ensures ∙
+    words_few c.self.inside.squares (length c.as_words.result.now) (ap length c.as_words.ensures ∙
     c.self.invariant.reached_words) c.self.invariant.small
 
 pub returns-clause-reached : goal.returns-clause-reached

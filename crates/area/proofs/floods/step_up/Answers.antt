@@ -1,6 +1,0 @@
-use Rattle.std.proofs.Common.{arith}
-use Rattle.area.proofs.lemmas.Growing.{grown_up}
-use Rattle.area.proofs.floods.step_up.Goals as goal
-
-pub returns-then-by-lt-WORD_BITS : goal.returns-then-by-lt-WORD_BITS
-returns-then-by-lt-WORD_BITS c = grown_up c.args.word c.args.mask c.args.by (omega arith)
