@@ -37,7 +37,7 @@ demo:
 	@if [ -x target/sokopar ]; then levels/demo target/sokopar; else levels/demo target/quick/sokopar; fi
 
 # the tests that run what `rt ci` built
-TESTS = cli workers prove hostile fuzz
+TESTS = cli workers prove moves hostile fuzz
 
 test: needs
 	@tests/timed believed tests/believed

@@ -26,9 +26,11 @@ COMMANDS = {
     "best": (["best", "FILE", "1"], lambda file, _: best(file)),
     "each": (["best", "FILE"], lambda file, _: each(file)),
     "prove": (["prove", "FILE", "1", "SOLUTION"], lambda file, _: proved(file)),
+    "fewest": (["best", "FILE", "1", "--moves"], lambda file, _: with_moves(best(file))),
+    "record": (["prove", "FILE", "1", "SOLUTION", "--moves"], lambda file, _: with_moves(proved(file))),
 }
 # what is read after the collection, where the level is lawful
-SECOND = {"replay": MOVES, "prove": SOLUTION}
+SECOND = {"replay": MOVES, "prove": SOLUTION, "record": SOLUTION}
 
 
 def solved(file):
@@ -48,6 +50,12 @@ def best(file):
     """The same of `best` of level 1, of which SOLUTION is the only best solution where it is one at all."""
     status, text = proved(file)
     return status, text if status else text + SOLUTION + b"\n"
+
+
+def with_moves(report):
+    """The same with --moves: no solution has fewer moves than SOLUTION."""
+    status, text = report
+    return status, text.replace(b"pushes, 1 moves", b"pushes, optimal 1 moves") if status == 0 else text
 
 
 def each(file):

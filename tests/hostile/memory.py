@@ -3,6 +3,7 @@ import itertools
 import os
 import re
 
+import formats
 import greatest
 import shims
 import worst
@@ -15,6 +16,16 @@ SOLVED = [
     (b"#####\n#.  #\n# $ #\n#  @#\n#####\n", PLENTY, 0, b"solved 2 pushes, 5 moves, 4 positions\nuLdlU\n"),
     (b"#######\n#.$@$.#\n#######\n", 4, 0, b"solved 2 pushes, 3 moves, 4 positions\nLrR\n"),
 ]
+
+# searches of `best` by several workers: how many, the number of a room of tests/prove/tables.xsb, the fewest pushes by
+# `solve`, and a limit that is passed; the last search also makes tables of regions
+SEARCHED = [(2, 7, 16, 200), (4, 7, 16, 200), (4, 5, 13, 700)]
+# a room of bench/dense.xsb that makes tables of regions, and KB of address space: the first, the last and the steps in
+# which one worker searches, and how often it reports before the end; numbers of workers, and what each has more
+SPACES = ("bench/dense.xsb", 30), 2 << 10, 64 << 10, 1 << 10, 3
+SEVERAL, MORE_SPACE = (2, 4), 8 << 10
+# a level with a solution, whose moves are the fewest, and one that has as many pushes and more moves
+RECORD = (b"########\n#. $@$.#\n#      #\n########\n", b"RlLL", b"duRlLL")
 
 # a command on a room that takes some 10^5 positions, or as many as the limit allows, and the status of its report
 SHORT = [
@@ -48,6 +59,37 @@ def memory(bench, worked, workers, locks):
     for name, fault in shims.refused(lambda env: bench.run(words, env=env), bench.refuse,
                                      lambda got, _: differs(got, (status, text, b""))):
         yield f"{words[1:]}, {name}", fault
+
+
+def searching(bench, workers, number, pushes, limit):
+    """`best` by several workers, up to its limit; each request for memory fails in turn, alone or with all later ones:
+    the report of one worker, or out of memory."""
+    with open(os.path.join(ROOT, "tests", "prove", "tables.xsb"), "rb") as file:
+        level = b"\n".join(formats.boards_of(file.read())[number - 1].rows) + b"\n"
+    words = [bench.program, "best", bench.file(level), "1", "--limit", str(limit)]
+    status, out, err = report = bench.run(words)
+    bound = re.fullmatch(rb"limit %d reached, at least (\d+) pushes\n" % limit, out)
+    is_right = (status, err) == (4, b"") and bound and int(bound[1]) <= pushes
+    yield f"{words[1:]}, one worker", None if is_right else f"gives {report}"
+    words += ["--workers", str(workers)]
+    for name, fault in shims.refused(lambda env: bench.run(words, env=env), bench.refuse,
+                                     lambda got, _: differs(got, report)):
+        yield f"{words[1:]}, {name}", fault
+
+
+def moves(bench):
+    """`best --moves`, and `prove --moves` on the best solution and on another one; each request for memory fails in
+    turn."""
+    level, solution, other = RECORD
+    fewest = b"optimal 3 pushes, optimal 4 moves\n"
+    beaten = b"not optimal 3 pushes, 6 moves, " + fewest + solution + b"\n"
+    reports = [(None, (0, fewest + solution + b"\n", b"")), (solution, (0, fewest, b"")), (other, (1, beaten, b""))]
+    for text, report in reports:
+        files = [bench.file(it) for it in (level, text) if it is not None]
+        words = [bench.program, "best" if text is None else "prove", files[0], "1", *files[1:], "--moves"]
+        for name, fault in shims.refused(lambda env: bench.run(words, env=env), bench.refuse,
+                                         lambda got, _: differs(got, report)):
+            yield f"{words[1:]}, {name}", fault
 
 
 def bounds(bench):
@@ -117,6 +159,26 @@ def short(bench, command, workers):
     for space, run in itertools.product(SHORT_SPACE, range(SHORT_RUNS)):
         got = within(bench, words, space)
         yield f"{words} within {space} KB, run {run + 1}", None if got == OUT_OF_MEMORY else differs(got, report)
+
+
+def spaces(bench, command):
+    """`best` and `prove` within ever more address space: one worker is out of memory or reports, and wherever it
+    reports, several workers with more space do the same."""
+    (collection, number), first, last, step, times = SPACES
+    words = [command, os.path.join(ROOT, collection), str(number)]
+    words += [bench.file(line_of("bench/dense.lurd", number))] if command == "prove" else []
+    report, answers = bench.run([bench.program, *words]), 0
+    for space in range(first, last, step):
+        got = within(bench, words, space)
+        answers += got == report
+        if got[0] != LOADER:
+            yield f"{words} within {space} KB", None if got == OUT_OF_MEMORY else differs(got, report)
+        for workers in SEVERAL if got == report else ():
+            several, enough = [*words, "--workers", str(workers)], space + workers * MORE_SPACE
+            yield f"{several} within {enough} KB", differs(within(bench, several, enough), report)
+        if answers == times:
+            break
+    yield f"{words} answers", differs((answers, report[0], report[2]), (times, 0, b""))
 
 
 def short_cases():
